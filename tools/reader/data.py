@@ -14,6 +14,7 @@ from check import RECURSION_LIMIT, Program, check
 from meanings import Constant
 from scan import Refusal
 from tree import walk
+from type_table import TypeTable
 
 MOST_BYTES = 1_040_384
 WORD_BYTES = 4
@@ -27,7 +28,8 @@ def text_bytes(text: bytes) -> int:
 
 def data_bytes(program: Program) -> int:
     names = [member.encode('latin-1') for declared in program.types.declared.values() for member in declared.members]
-    return _globals(program) + sum(map(text_bytes, [*GIVEN_EXCEPTIONS, *names])) + sum(map(text_bytes, _texts(program)))
+    counted = _texts(program) | _read_in_place(program)
+    return _globals(program) + sum(map(text_bytes, [*GIVEN_EXCEPTIONS, *names])) + sum(map(text_bytes, counted))
 
 
 def _globals(program: Program) -> int:
@@ -57,6 +59,36 @@ def _texts_of(value: Any) -> Iterator[bytes]:
     elif isinstance(value, list):
         for part in value:
             yield from _texts_of(part)
+
+
+class _Constants(frames.Sums):
+    """Those that are read in place, by their bytes."""
+
+    def __init__(self, types: TypeTable):
+        super().__init__(types)
+        self.found: Set[bytes] = set()
+
+    def constant(self, constant: Constant) -> int:
+        self.found.add(_bytes_of(constant.value))
+        return super().constant(constant)
+
+
+def _read_in_place(program: Program) -> Set[bytes]:
+    constants = _Constants(program.types)
+    constants.block(program.statements)
+    for procedure in program.procedures:
+        if procedure.body is not None:
+            constants.body(procedure)
+    return constants.found
+
+
+def _bytes_of(value: Any) -> bytes:
+    """A word for each number, the lowest byte first, and for what has no parts. A text has none yet."""
+    if isinstance(value, bytes):
+        return b''
+    if isinstance(value, list):
+        return b''.join(map(_bytes_of, value)) if value else bytes(WORD_BYTES)
+    return (int(value) % 2 ** (8 * WORD_BYTES)).to_bytes(WORD_BYTES, 'little')
 
 
 def answer(source: str) -> str:

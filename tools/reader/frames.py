@@ -10,7 +10,7 @@ from typing import Iterator, List, Optional
 
 import tree
 from check import RECURSION_LIMIT, Program, check
-from meanings import BuiltInCall, Conversion, DollarCall, Meaning, Procedure, ProcedureCall, Variable
+from meanings import BuiltInCall, Constant, Conversion, DollarCall, Meaning, Procedure, ProcedureCall, Variable
 from scan import Position, Refusal
 from tree import is_step, place_of, walk, without_parentheses
 from type_table import TypeTable
@@ -19,7 +19,7 @@ MOST_BYTES = 16_384
 MOST_LEVELS = 64
 
 PATH_BYTES = 8
-"""Of each node of a path that is written, or read in place."""
+"""Of each node of a path that is written, or read in place, and of a constant that such a path begins with."""
 LOOP_BYTES = 8
 """Of each `for`."""
 
@@ -33,7 +33,7 @@ def frame_fault(program: Program) -> Optional[Position]:
 
 
 def _faults(program: Program) -> Iterator[Position]:
-    sums = _Sums(program.types)
+    sums = Sums(program.types)
     if sums.block(program.statements) > MOST_BYTES:
         yield MODULE_CODE
     bodies = {id(procedure.body): procedure for procedure in program.procedures if procedure.body is not None}
@@ -85,7 +85,7 @@ def levels(types: TypeTable, type_number: int) -> int:
     return 1 + max((levels(types, part) for part in parts), default=0)
 
 
-class _Sums:
+class Sums:
     """Bytes of declared places, and of expressions that give values; a path in place has some for each of its nodes."""
 
     def __init__(self, types: TypeTable):
@@ -129,7 +129,7 @@ class _Sums:
 
     def gone_over(self, loop: tree.For) -> int:
         if loop.right is None:
-            return self.in_place(loop.left)
+            return self.begun(loop.left)
         return self.value(loop.left) + self.value(loop.right)
 
     # Expressions
@@ -143,10 +143,20 @@ class _Sums:
             return PATH_BYTES + self.step(inner)
         return self.value(inner)
 
+    def begun(self, expression: tree.Expression) -> int:
+        """The same of what a step, a length or a `for` reads: a constant is read where it stands."""
+        inner = without_parentheses(expression)
+        if isinstance(inner, tree.Name) and isinstance(inner.declaration, Constant):
+            return self.constant(inner.declaration)
+        return self.in_place(inner)
+
+    def constant(self, constant: Constant) -> int:
+        return PATH_BYTES
+
     def step(self, step: tree.Expression) -> int:
         """What stands before the step, and its index."""
         index = self.value(step.arguments[0]) if isinstance(step, tree.Index) and step.part is None else 0
-        return self.in_place(step.left) + index
+        return self.begun(step.left) + index
 
     def value(self, expression: Optional[tree.Expression]) -> int:
         if expression is None:
@@ -187,7 +197,7 @@ class _Sums:
             return 0
         arguments = list(meaning.arguments)
         paths = {'swap': 2, 'len': 1, 'high': 1, 'inc': 1, 'dec': 1, 'move': 1}.get(meaning.name, 0)
-        return sum(map(self.in_place, arguments[:paths])) + sum(map(self.value, arguments[paths:]))
+        return sum(map(self.begun, arguments[:paths])) + sum(map(self.value, arguments[paths:]))
 
 
 def has_only_written_texts(program: Program) -> bool:

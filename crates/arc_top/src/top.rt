@@ -10,6 +10,7 @@ ghost use Rattle.nim_program.specs.Typed.{IsTyped};
 ghost use Rattle.check_decls.specs.Modules.{program_in};
 ghost use Rattle.source_compiler.specs.Source.{alone, read_program, Reads};
 ghost use Rattle.program_limits.specs.Limits.{tree_limits};
+ghost use Rattle.core_compiler.specs.Compile.{MembersNamed};
 ghost use Rattle.core_compiler.specs.Limits.{build_limits, check_limits};
 ghost use Rattle.core_compiler.specs.Mean.{IsEnd};
 ghost use Rattle.source_compiler.specs.Compile.{Compiled, IsNoProgram, source_most, OnTooLong};
@@ -79,6 +80,7 @@ fn read_main<F: Files>(alloc: Global, main: &str, files: &mut F) -> Result<Progr
         × Reads (alone main.now source) (read_program program)) }
     ensures is_typed { IfOk result (λ program. IsTyped (program_in program)) }
     ensures is_numbered { IfOk result (λ program. is_numbered_program (program_in program) ≡ true) }
+    ensures is_named { IfOk result (λ program. MembersNamed (program_in program).facts) }
     ensures stops_check { IfErr result (λ answer. StopsReading (IsTurnedDown check_limits main.now) main.now answer
         (files_state (F.held files.old) (F.load_faults files.old) (F.store_faults files.old) (F.calls files.old))
         (files_state (F.held files.new) (F.load_faults files.new) (F.store_faults files.new) (F.calls files.new))) }

@@ -19,14 +19,14 @@ use Rattle.flat_code.specs.declared.block.BlockLine.{BlockLine}
 use Rattle.flat_code.specs.Codes.{flat_plain, flat_meaning, owned_meaning, block_meaning, hooks_of, AreNone}
 use Rattle.flat_code.specs.Fits.{code_fits}
 use Rattle.flat_code.specs.Scene.{known_in}
-use Rattle.word_code.specs.Words.{word_meaning, have_no_hooks}
+use Rattle.word_code.specs.Words.{word_meaning, have_no_hooks, Fresh}
 use Rattle.word_code.specs.Memory.{data_of}
 use Rattle.word_code.specs.Joined.{joined}
 use Rattle.word_code.specs.Runtime.{IsRuntime}
 use Rattle.destructor_injection.specs.Injecting.{IsOwned}
 use Rattle.goto_exceptions.specs.Branches.{IsBranched}
 use Rattle.rv32_codegen.specs.Layout.{DoesCode, IsFault, laid_out}
-use Rattle.rv32_codegen.specs.Lowering.{CanRun, most_bytes}
+use Rattle.rv32_codegen.specs.Lowering.{CanRun, most_bytes, DoesWords}
 use Rattle.rv32_codegen.specs.Stack.{stack_need}
 use Rattle.word_lowering.specs.Lowers.{Lowers, LowersWithRuntime, IsFitting, AreSilent}
 use Rattle.core_compiler.specs.Compile.{live_objects, HasCode, DoesProgram}
@@ -34,7 +34,7 @@ use Rattle.core_compiler.specs.Limits.{code_bound}
 use Rattle.rv32_codegen.specs.declared.layout.LayFault.{LayFault}
 use Rattle.rv32_codegen.specs.declared.layout.LayFault.TheVariants.{TooLarge, Memory}
 use Rattle.program_limits.specs.Data.{data_counted}
-use Rattle.core_compiler.specs.Stages.{HasLines, IsTooLarge, IsImageOf, IsFlatOf, AreWordsOf}
+use Rattle.core_compiler.specs.Stages.{HasLines, IsTooLarge, IsImageOf, IsFlatOf, AreWordsOf, DoesWith}
 use Rattle.core_compiler.proofs.Refusals.{bound_is}
 use Rattle.core_compiler.proofs.CodeSizes.{joined_bytes}
 use Rattle.core_compiler.proofs.InTime.{in_time}
@@ -97,21 +97,23 @@ module _ (law : AgreesLaw) (pace : PaceLaw) where
           Agrees (block_meaning table blocks heap input) (owned_meaning table owned heap input)
       blocks_owned heap input sound = branched.agrees table heap input (sound_low (owned_flat heap input sound))
 
-      words_agree : (heap stack : ℕ) (input : List ℕ) → heap ≤ 16777216 → Fits → AreNone (hooks_of flat) →
-          Sound (flat_meaning table flat plan heap input) → Agrees (word_meaning live_objects words heap stack input) (flat_meaning table flat plan heap input)
-      words_agree heap stack input few fits none sound =
+      words_agree : (fresh : Fresh) (heap stack : ℕ) (input : List ℕ) → heap ≤ 16777216 → Fits → AreNone (hooks_of flat) →
+          Sound (flat_meaning table flat plan heap input) →
+          Agrees (word_meaning live_objects words fresh heap stack input) (flat_meaning table flat plan heap input)
+      words_agree fresh heap stack input few fits none sound =
           let upper = owned_flat heap input sound in
           let middle = blocks_owned heap input sound in
-          let lower = low.agrees live_objects heap stack input (λ m. refl) few (blocks_fit fits) (silent blocks.procs (none_before none)) (sound_low middle) in
+          let lower = low.agrees live_objects fresh heap stack input (λ m. refl) few (blocks_fit fits) (silent blocks.procs (none_before none))
+          (sound_low middle) in
           law _ _ _ (law _ _ _ lower middle) upper
 
-      words_paced : (heap stack : ℕ) (input : List ℕ) → heap ≤ 16777216 → Fits → AreNone (hooks_of flat) →
+      words_paced : (fresh : Fresh) (heap stack : ℕ) (input : List ℕ) → heap ≤ 16777216 → Fits → AreNone (hooks_of flat) →
           Sound (flat_meaning table flat plan heap input) →
-          PacedFrom 16 1 (word_meaning live_objects words heap stack input) (flat_meaning table flat plan heap input)
-      words_paced heap stack input few fits none sound =
+          PacedFrom 16 1 (word_meaning live_objects words fresh heap stack input) (flat_meaning table flat plan heap input)
+      words_paced fresh heap stack input few fits none sound =
           let upper = injected.paced table heap input sound in
           let middle = branched.paced table heap input (sound_low (owned_flat heap input sound)) in
-          let lower = low.paced live_objects heap stack input (λ m. refl) few (blocks_fit fits) (silent blocks.procs (none_before none))
+          let lower = low.paced live_objects fresh heap stack input (λ m. refl) few (blocks_fit fits) (silent blocks.procs (none_before none))
           (sound_low (blocks_owned heap input sound)) in
           pace 16 1 1 0 _ _ _ (omega arith) (pace 16 1 1 0 _ _ _ (omega arith) lower middle) upper
 
@@ -146,31 +148,35 @@ module _ (law : AgreesLaw) (pace : PaceLaw) where
     can : CanRun words from.homes heap image.stack
     can = subst (CanRun words from.homes heap) (sym (ap (λ i. i.stack) made)) (from.code.can heap few)
 
-    image_agrees : (input : List ℕ) → Sound (word_meaning live_objects words heap image.stack input) →
-        Agrees (machine live_objects image input) (word_meaning live_objects words heap image.stack input)
-    image_agrees input sound =
-        let upper = from.code.does live_objects laid.0 heap image.stack input (λ s t e f. refl) laid.1 can sound in
-        law _ _ _ (laid.2 input (sound_low upper.agrees)).0 upper.agrees
-
-    image_paced : (input : List ℕ) → Sound (word_meaning live_objects words heap image.stack input) →
-        PacedFrom 64 2 (machine live_objects image input) (word_meaning live_objects words heap image.stack input)
-    image_paced input sound =
-        let upper = from.code.does live_objects laid.0 heap image.stack input (λ s t e f. refl) laid.1 can sound in
-        pace 2 32 1 1 _ _ _ (omega arith) (laid.2 input (sound_low upper.agrees)).1 upper.paced
+    image_does : (input : List ℕ) (fresh : Fresh) →
+        DoesWords from.lines words live_objects laid.0 fresh heap image.stack input → DoesWith words heap image input fresh
+    image_does input fresh upper =
+        let lower = laid.2 input (sound_low upper.agrees) in
+        record {
+          agrees = law _ _ _ lower.0 upper.agrees;
+          paced = pace 2 32 1 1 _ _ _ (omega arith) lower.1 upper.paced;
+        }
 
     pub image_of_code : (have_no_hooks words.procs ≡ true → image.hooks ≡ []) → IsImageOf words heap image
-    image_of_code hooks = record { from = from; made = made; agrees = image_agrees; paced = image_paced; hooks = hooks }
+    image_of_code hooks = record {
+      from = from;
+      made = made;
+      does = λ input.
+          let d = from.code.does live_objects laid.0 heap image.stack input (λ s t e f. refl) laid.1 can in
+          (d.0, λ sound. image_does input d.0 (d.1 sound));
+      hooks = hooks;
+    }
 
   -- ---- the whole
 
   module _ (program : Program) (table : List TypeDef) (plan : Plan) (flat : Code Line) (words : WordCode)
       (sound : (heap : ℕ) (input : List ℕ) → Sound (meaning program plan heap input)) (top : IsFlatOf table program plan flat)
       (middle : AreWordsOf table plan flat words) where
-    pub words_do : (heap stack : ℕ) (input : List ℕ) → heap ≤ 16777216 →
-        Agrees (word_meaning live_objects words heap stack input) (meaning program plan heap input)
-    words_do heap stack input few =
+    pub words_do : (fresh : Fresh) (heap stack : ℕ) (input : List ℕ) → heap ≤ 16777216 →
+        Agrees (word_meaning live_objects words fresh heap stack input) (meaning program plan heap input)
+    words_do fresh heap stack input few =
         let upper = top.agrees heap input in
-        law _ _ _ (middle.agrees heap stack input few top.fits top.hooks (sound_low upper)) upper
+        law _ _ _ (middle.agrees fresh heap stack input few top.fits top.hooks (sound_low upper)) upper
 
     pub code_most : (bytes : ℕ) → bytes ≤ most_bytes words.procs → bytes ≤ code_bound program
     code_most bytes few = let bound = bound_is program flat words.procs top.weight middle.code_most in omega (arith, few, bound)
@@ -184,7 +190,7 @@ module _ (law : AgreesLaw) (pace : PaceLaw) where
       homes = has.homes;
       lines = has.lines;
       code = has.code;
-      agrees = λ heap stack input can. words_do heap stack input can.heap_most;
+      agrees = λ fresh heap stack input can. words_do fresh heap stack input can.heap_most;
       size = has.size;
       bound = code_most bytes has.bound;
       data_most = data_most;
@@ -192,14 +198,18 @@ module _ (law : AgreesLaw) (pace : PaceLaw) where
 
     module _ (heap : ℕ) (few : heap ≤ 16777216) (image : Image) (low : IsImageOf words heap image) where
       does_agree : (input : List ℕ) → Agrees (machine live_objects image input) (meaning program plan heap input)
-      does_agree input = let mid = words_do heap image.stack input few in law _ _ _ (low.agrees input (sound_low mid)) mid
+      does_agree input =
+          let d = low.does input in
+          let mid = words_do d.0 heap image.stack input few in
+          law _ _ _ (d.1 (sound_low mid)).agrees mid
 
       does_paced : (input : List ℕ) → PacedFrom 12288 4 (machine live_objects image input) (meaning program plan heap input)
       does_paced input =
           let upper = top.agrees heap input in
-          let between = middle.agrees heap image.stack input few top.fits top.hooks (sound_low upper) in
-          pace 64 192 2 2 _ _ _ (omega arith) (low.paced input (sound_low between))
-          (pace 16 12 1 1 _ _ _ (omega arith) (middle.paced heap image.stack input few top.fits top.hooks (sound_low upper)) (top.paced heap input))
+          let d = low.does input in
+          let between = middle.agrees d.0 heap image.stack input few top.fits top.hooks (sound_low upper) in
+          pace 64 192 2 2 _ _ _ (omega arith) (d.1 (sound_low between)).paced
+          (pace 16 12 1 1 _ _ _ (omega arith) (middle.paced d.0 heap image.stack input few top.fits top.hooks (sound_low upper)) (top.paced heap input))
 
       pub does_program : DoesProgram program plan heap image
       does_program = record {

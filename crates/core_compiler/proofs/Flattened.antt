@@ -1,5 +1,5 @@
 -- Flat code that is that of a program does what the program means.
-use Rattle.std.proofs.Common.{◌≡◌, ◌≤◌, ℕ, ◌+◌, ◌*◌, List, [], sym, ap, subst, ◌∙◌, arith, true}
+use Rattle.std.proofs.Common.{◌≡◌, ◌≤◌, ◌<◌, ℕ, ◌+◌, ◌*◌, List, [], ◌∷◌, ◌++◌, length, sym, ap, subst, ◌∙◌, arith, true}
 use Rattle.arc_base.specs.Behaviour.{Agrees}
 use Rattle.arc_base.specs.Pace.{Paced}
 use Rattle.nim_plan.specs.declared.plan.Plan.{Plan}
@@ -9,6 +9,7 @@ use Rattle.nim_program.specs.TextSizes.{all_bytes}
 use Rattle.nim_program.specs.Program.{Program}
 use Rattle.nim_meaning.specs.Meaning.{meaning}
 use Rattle.flat_code.specs.declared.code.Code.{Code}
+use Rattle.flat_code.specs.declared.code.CodeProc.{CodeProc}
 use Rattle.flat_code.specs.declared.line.Line.{Line}
 use Rattle.flat_code.specs.Codes.{flat_plain, procs_of, hooks_of, AreNone}
 use Rattle.flat_code.specs.Fits.{code_fits, start_places}
@@ -24,9 +25,13 @@ use Rattle.flattening.specs.Flattened.{known_of, code_of, flat_meaning, IsExact}
 use Rattle.flattening.specs.Given.{flat_procs, flat_of}
 use Rattle.flattening.specs.Alike.{AllAlike}
 use Rattle.flattening.specs.PlainCode.{ArePlainProcs}
-use Rattle.core_compiler.specs.Stages.{have_members, ShowsSame, IsFlatOf}
+use Rattle.core_compiler.specs.Stages.{ShowsSame, IsFlatOf}
 use Rattle.core_compiler.proofs.ProgramTexts.{distinct_most}
 use Rattle.core_compiler.proofs.TableNames.{names_count}
+
+last_there : {A : Type 0} (xs : List A) (x : A) → 0 < length (xs ++ x ∷ [])
+last_there [] x = omega arith
+last_there (y ∷ xs) x = omega arith
 
 module _ (p : RustProgram) (plan : Plan) (flat : Code Line) (procs : flat.procs ≡ flat_procs (program_in p) plan)
     (code : procs_of (known_in p.types) flat ≡ code_of (program_in p) plan)
@@ -38,10 +43,10 @@ module _ (p : RustProgram) (plan : Plan) (flat : Code Line) (procs : flat.procs 
     (weight : code_weight flat_plain (flat_procs (program_in p) plan) ≤ 25 * program_parts (program_in p))
     (globals : globals_bytes (known_of (program_in p)) (start_places (flat_procs (program_in p) plan))
     ≤ globals_size (program_in p).facts (program_in p).globals)
-    (texts : (text : List ℕ) → times text (code_texts flat_plain (flat_procs (program_in p) plan)) ≤ program_times text (program_in p))
+    (texts : (text : List ℕ) → times text (code_texts flat_plain (flat_procs (program_in p) plan)) ≤ 2 * program_times text (program_in p))
     (forms : HaveForms p.types)
     (alike : AllAlike (flat_procs (program_in p) plan)) (plain : ArePlainProcs (known_of (program_in p)) 16384 (flat_procs (program_in p) plan))
-    (few : data_counted (program_in p) ≤ 1040384) (members : have_members p.types ≡ true)
+    (few : data_counted (program_in p) ≤ 1040384)
   where
     abbrev program : Program
     program = program_in p
@@ -85,12 +90,12 @@ module _ (p : RustProgram) (plan : Plan) (flat : Code Line) (procs : flat.procs 
       data_size = data_most;
       hooks = none;
       may = record {
+        some = subst (λ (ps : List (CodeProc Line)). 0 < length ps) (sym procs) (last_there _ _);
         alike = subst (λ ps. AllAlike ps) (sym procs) alike;
         plain = subst (λ ps. ArePlainProcs known 16384 ps) (sym procs) plain;
         fits = fit;
         hooks = none;
         data_few = let most = data_most in omega (arith, most, few);
-        members = members;
       };
       forms = forms;
     }

@@ -1,5 +1,5 @@
 -- Layouts of plain procedures: what is found in them, and how many variables and bytes they take.
-use Rattle.std.proofs.Common.{◌≡◌, ℕ, ◌+◌, ◌*◌, ◌≤◌, ◌<◌, ◌⊎◌, inl, inr, Bool, true, false, List, [], ◌∷◌, length, Some, None, refl, ap, ap₂}
+use Rattle.std.proofs.Common.{◌≡◌, ℕ, ◌+◌, ◌*◌, ◌≤◌, ◌<◌, ◌⊎◌, inl, inr, Bool, true, false, List, [], ◌∷◌, length, Some, None, refl, ap, ap₂, sym, Option}
 use Rattle.std.proofs.Common.{◌∙◌, subst, arith}
 use Rattle.std.specs.Prelude.{nat_eq, nat_lt, ◌&&◌, ◌||◌, not, if◌then◌else◌}
 use Rattle.std.proofs.lemmas.Bool.{both_ways, and_parts, and_from, eqb-true, lt-ltb}
@@ -15,7 +15,7 @@ use Rattle.flat_code.specs.declared.place.PlaceKind.TheVariants as K
 use Rattle.flat_code.specs.Fits.{Signature, is_value, is_location, is_global, place_named}
 use Rattle.flat_code.specs.Scene.{known_in}
 use Rattle.flat_code.specs.Sizes.{kind_bytes, places_bytes}
-use Rattle.flattening.specs.PlainCode.{is_counter, is_temporary, has_hooks, gets_text, IsPlainPlace, ArePlainPlaces, no_globals, params_among}
+use Rattle.flattening.specs.PlainCode.{is_counter, is_temporary, has_hooks, gets_text, IsPlainPlace, ArePlainPlaces, no_globals, params_among, handed_among}
 use Rattle.flattening.specs.PlainCode as plain
 use Rattle.flattening.proofs.ForCallers.{bytes_least}
 use Rattle.word_lowering.specs.declared.homes.Alias.{Alias}
@@ -26,8 +26,8 @@ use Rattle.word_lowering.specs.Aliases.{value_to, location_to, alias_in, alias_f
 use Rattle.word_lowering.specs.Layouts.{is_kept, is_static, home_at, home_by, free_behind, free_by, word_by, bytes_by, place_word, place_kept, place_alias}
 use Rattle.word_lowering.specs.Layouts.{housed, behind, all_housed, behind_all}
 use Rattle.word_lowering.specs.Stored.{is_word, entry_at}
-use Rattle.word_lowering.specs.Lookups.{found, is_param, params_in, kept_by, kept_in}
-use Rattle.word_lowering.specs.MayLower.{no_params, params_lead, is_hooked, is_text, is_plain, all_plain, and_placed, placed_bytes}
+use Rattle.word_lowering.specs.Lookups.{found, is_param, params_in, kept_by, kept_in, is_result, result_in}
+use Rattle.word_lowering.specs.MayLower.{no_params, params_lead, is_hooked, is_text, is_plain, all_plain, and_placed, placed_bytes, placed_end, result_end}
 use Rattle.core_compiler.proofs.LinesAgree.{Finds, never, nothing, one}
 
 -- ---- parameters lead
@@ -166,6 +166,104 @@ module _ (table : List TypeDef) (start : Bool) (lines : List Line) where
           let j : places_bytes (known_in table) (params_among (p ∷ ps)) ≡ places_bytes (known_in table) (params_among ps)
           = ap (λ c. places_bytes (known_in table) (if c then p ∷ params_among ps else params_among ps)) (same_param p.kind ∙ e) in
           omega (arith, h, j)
+
+  -- ---- the result
+
+  byte_behind : (free : Free) (p : FlatPlace) → (start ≡ false → is_global p.kind ≡ false) →
+      (behind table start lines free p).byte ≤ free.byte + one_bytes p
+  byte_behind free p g = by (place_alias table start lines p) (is_static start p.kind) refl (place_kept table start lines p) refl
+    where
+      n : ℕ
+      n = type_bytes (facts_in table) (type_at (types_in table) p.ty)
+
+      out : Bool
+      out = is_among p.number (addressed lines)
+
+      by : (alias : Alias) (static : Bool) → is_static start p.kind ≡ static → (kept : Bool) → is_kept out (place_word table start lines p) p.kind ≡ kept →
+          (free_by alias free (free_behind static kept (bytes_by p.kind n) free)).byte ≤ free.byte + kind_bytes p.kind n
+      by (Place q other) static s kept k = omega arith
+      by (Value t) static s kept k = omega arith
+      by (Text other more) static s kept k = omega arith
+      by Own true s kept k = omega arith
+      by Own false s true k = omega arith
+      by Own false s false k = let h = placed_most out (place_word table start lines p) p.kind n (of_static p.kind g s) k in omega (arith, h)
+
+  -- where one place ends
+  one_end : (free : Free) (p : FlatPlace) → plain.is_result p.kind ≡ true →
+      placed_end (housed table start lines free p).home (housed table start lines free p).bytes ≤ free.byte + one_bytes p
+  one_end free p is = of p.kind is
+    where
+      n : ℕ
+      n = type_bytes (facts_in table) (type_at (types_in table) p.ty)
+
+      by : (kept : Bool) → placed_end (home_at false kept free) n ≤ free.byte + n
+      by true = omega arith
+      by false = omega arith
+
+      of : (kind : PlaceKind) → plain.is_result kind ≡ true →
+          placed_end (home_by (alias_for kind p.number lines) (home_at (is_static start kind)
+          (is_kept (is_among p.number (addressed lines)) (word_by kind (is_word (entry_at table p.ty))) kind) free)) (bytes_by kind n)
+          ≤ free.byte + kind_bytes kind n
+      of K.Result e = by _
+      of kind e = never e
+
+  same_result : (kind : PlaceKind) → plain.is_result kind ≡ is_result kind
+  same_result K.Result = refl
+  same_result kind = refl
+
+  no_result : (ps : List FlatPlace) (free : Free) → plain.none_handed ps ≡ true → result_end (result_in (all_housed table start lines free ps)) ≤ 0
+  no_result [] free e = omega arith
+  no_result (p ∷ ps) free e =
+      let q = and_parts (not (plain.is_handed p.kind)) (plain.none_handed ps) e in
+      by (is_result p.kind) (sym (same_result p.kind)) (plain.is_param p.kind) q.0 (no_result ps (behind table start lines free p) q.1)
+    where
+      by : (b : Bool) → b ≡ plain.is_result p.kind → (c : Bool) → not (c || plain.is_result p.kind) ≡ true →
+          result_end (result_in (all_housed table start lines (behind table start lines free p) ps)) ≤ 0 →
+          result_end (if b then Some (housed table start lines free p) else result_in (all_housed table start lines (behind table start lines free p) ps)) ≤ 0
+      by true e c n go = absurd (refuted c (plain.is_result p.kind) (sym e) n)
+        where
+          refuted : (c b : Bool) → b ≡ true → not (c || b) ≡ true → ⊥
+          refuted true b e n = never n
+          refuted false true e n = never n
+          refuted false false e n = never e
+      by false e c n go = go
+
+  pub result_room : (ps : List FlatPlace) (free : Free) → Globals ps → plain.handed_lead ps ≡ true →
+      result_end (result_in (all_housed table start lines free ps)) ≤ free.byte + places_bytes (known_in table) (handed_among ps)
+  result_room [] free g lead = omega arith
+  result_room (p ∷ ps) free g lead =
+      by (plain.is_param p.kind) refl (plain.is_result p.kind) refl lead
+      (result_room ps (behind table start lines free p) (rest_globals p ps g))
+    where
+      tail : Option Housed
+      tail = result_in (all_housed table start lines (behind table start lines free p) ps)
+
+      picked : (b : Bool) → plain.is_result p.kind ≡ b →
+          result_in (all_housed table start lines free (p ∷ ps)) ≡ (if b then Some (housed table start lines free p) else tail)
+      picked b e = ap (λ c. if c then Some (housed table start lines free p) else tail) (sym (same_result p.kind) ∙ e)
+
+      by : (a : Bool) → plain.is_param p.kind ≡ a → (b : Bool) → plain.is_result p.kind ≡ b →
+          (if a || b then plain.handed_lead ps else plain.none_handed ps) ≡ true →
+          (plain.handed_lead ps ≡ true → result_end tail ≤ (behind table start lines free p).byte + places_bytes (known_in table) (handed_among ps)) →
+          result_end (result_in (all_housed table start lines free (p ∷ ps)))
+          ≤ free.byte + places_bytes (known_in table) (if a || b then p ∷ handed_among ps else handed_among ps)
+      by true is true e l go =
+          let h = one_end free p e in
+          let i = ap result_end (picked true e) in
+          omega (arith, h, i)
+      by false is true e l go =
+          let h = one_end free p e in
+          let i = ap result_end (picked true e) in
+          omega (arith, h, i)
+      by true is false e l go =
+          let h = go l in
+          let i = ap result_end (picked false e) in
+          let j = byte_behind free p (first_global p ps g) in
+          omega (arith, h, i, j)
+      by false is false e l go =
+          let h = no_result ps (behind table start lines free p) l in
+          let i = ap result_end (picked false e) in
+          omega (arith, h, i)
 
   -- ---- what is found
 

@@ -94,6 +94,7 @@ named (L.Get to from how site ty) = valued (L.Get to from how site ty) to refl r
 named (L.Look to from) = valued (L.Look to from) to refl refl refl refl
 named (L.Root to place global) = led (L.Root to place global) to refl refl refl refl
 named (L.Fresh to from) = led (L.Fresh to from) to refl refl refl refl
+named (L.Standing to ty pieces) = led (L.Standing to ty pieces) to refl refl refl refl
 named (L.Part to from field) = led (L.Part to from field) to refl refl refl refl
 named (L.Item to from index) = led (L.Item to from index) to refl refl refl refl
 named (L.Object to from) = led (L.Object to from) to refl refl refl refl

@@ -2,9 +2,9 @@
 use Rattle.std.proofs.Common.{◌≡◌, ℕ, suc, ◌+◌, ◌≤◌, ◌<◌, ◌⊎◌, inl, inr, Bool, true, false, List, [], ◌∷◌, ◌++◌, length, map, Option, Some, None, refl, sym, ap}
 use Rattle.std.proofs.Common.{ap₂, ◌∙◌, subst, arith}
 use Rattle.std.specs.Prelude.{nat_eq, nat_le, ◌&&◌, ◌||◌, not}
+use Rattle.std.proofs.lemmas.List.{length-map}
 use Rattle.std.proofs.lemmas.Bool.{both_ways, and_parts, and_from, eqb-true, eq-eqb, ne_eqb, le-leb}
 use Rattle.nim_types.specs.declared.types.TypeDef.{TypeDef}
-use Rattle.nim_types.specs.declared.types.TypeDef.TheVariants as D
 use Rattle.nim_plan.specs.declared.plan.Plan.{Plan}
 use Rattle.flat_code.specs.declared.code.CodeProc.{CodeProc}
 use Rattle.flat_code.specs.declared.code.Code.{Code}
@@ -31,15 +31,16 @@ use Rattle.word_lowering.specs.declared.homes.Housed.{Housed}
 use Rattle.word_lowering.specs.Lowered.{data_of}
 use Rattle.word_lowering.specs.Aliases.{is_it}
 use Rattle.word_lowering.specs.Layouts.{is_empty, free_at, all_housed, behind_all, layout_of, layouts, params_in, kept_in}
-use Rattle.word_lowering.specs.MayLower.{has_label, is_fresh, labels_once, labels_may, hook_may, placed_bytes, params_lead, all_plain, lines_may}
-use Rattle.word_lowering.specs.MayLower.{def_may, defs_may, has_names, have_names, proc_may, procs_may, may_lower}
+use Rattle.word_lowering.specs.MayLower.{has_label, is_fresh, labels_once, labels_may, hook_may, placed_bytes, params_lead, all_plain, lines_may, result_end}
+use Rattle.word_lowering.specs.MayLower.{defs_may, proc_may, procs_may, may_lower}
 use Rattle.word_lowering.proofs.ForCallers.{data_sized}
 use Rattle.destructor_injection.specs.Injecting.{IsOwned}
 use Rattle.goto_exceptions.specs.Branches.{IsBranched}
-use Rattle.core_compiler.specs.Stages.{has_member, have_members, MayBeLowered}
+use Rattle.core_compiler.specs.Stages.{MayBeLowered}
 use Rattle.core_compiler.proofs.LineNames.{block_line, same_or_get, IsGet, site_blind, named}
 use Rattle.core_compiler.proofs.LinesAgree.{never, or_right, may, text_named}
-use Rattle.core_compiler.proofs.LayoutRooms.{lead_same, room, params_room, finds, plain_all}
+use Rattle.core_compiler.proofs.LayoutRooms.{lead_same, room, params_room, finds, plain_all, result_room}
+use Rattle.word_lowering.specs.Lookups.{result_in}
 
 -- ---- labels
 
@@ -120,20 +121,6 @@ module _ (whole : List Line) (alike : AreAlike whole) where
 
   pub once : labels_once whole ≡ true
   once = all_once whole (λ n has b h. h)
-
--- ---- types
-
-def_may_be : (def : TypeDef) → has_member def ≡ true → has_names def ≡ true → def_may def ≡ true
-def_may_be (D.Enum name at []) member names = never member
-def_may_be (D.Enum name at (first ∷ others)) member names = names
-def_may_be def member names = refl
-
-defs_may_be : (defs : List TypeDef) → have_members defs ≡ true → have_names defs ≡ true → defs_may defs ≡ true
-defs_may_be [] members names = refl
-defs_may_be (def ∷ defs) members names =
-    let m = and_parts (has_member def) (have_members defs) members in
-    let n = and_parts (has_names def) (have_names defs) names in
-    and_from _ _ (def_may_be def m.0 n.0) (defs_may_be defs m.1 n.1)
 
 -- ---- lines of block code, by those of flat code
 
@@ -232,17 +219,22 @@ module _ (plan : Plan) where
           nat_le (behind_all table start ls (free_at datum) p.places).byte MOST_ROOM
           && (nat_le (placed_bytes (params_in (all_housed table start ls (free_at datum) p.places))) SPARE_ROOM
           && (nat_le (behind_all table start ls (free_at datum) p.places).variable MOST_VARS
-          && nat_le (6 + kept_in (params_in (all_housed table start ls (free_at datum) p.places))) MOST_ARGUMENTS)) ≡ true
+          && (nat_le (6 + kept_in (params_in (all_housed table start ls (free_at datum) p.places))) MOST_ARGUMENTS
+          && nat_le (result_end (result_in (all_housed table start ls (free_at datum) p.places))) SPARE_ROOM))) ≡ true
       sizes ls =
           let r = room table start ls p.places (free_at datum) plain.globals in
           let q = params_room table start ls p.places (free_at datum) in
           let b = plain.bytes in
           let c = plain.params_bytes in
+          let d = plain.handed_bytes in
+          let s = result_room table start ls p.places (free_at datum) plain.globals plain.handed in
+          let end_at : ℕ = result_end (result_in (all_housed table start ls (free_at datum) p.places)) in
           let end : Free = behind_all table start ls (free_at datum) p.places in
           let taken : List Housed = params_in (all_housed table start ls (free_at datum) p.places) in
           and_from _ _ (le-leb end.byte MOST_ROOM (omega (arith, r, b)))
           (and_from _ _ (le-leb (placed_bytes taken) SPARE_ROOM (omega (arith, q, c)))
-          (and_from _ _ (le-leb end.variable MOST_VARS (omega (arith, r, b))) (le-leb (6 + kept_in taken) MOST_ARGUMENTS (omega (arith, q, c)))))
+          (and_from _ _ (le-leb end.variable MOST_VARS (omega (arith, r, b)))
+          (and_from _ _ (le-leb (6 + kept_in taken) MOST_ARGUMENTS (omega (arith, q, c))) (le-leb end_at SPARE_ROOM (omega (arith, s, d))))))
 
       pub one_may : p.hook ≡ None → proc_may table (layout_of table start datum (block_of p)) (block_of p) ≡ true
       one_may none =
@@ -300,12 +292,20 @@ module _ (plan : Plan) where
   both_lines (p ∷ ps) = ap (λ bs. block_of p ∷ bs) (both_lines ps)
 
   pub may_be : (table : List TypeDef) (flat : Code Line) (owned : Code OwnedLine) (blocks : Code BlockLine) → IsOwned flat plan owned →
-      IsBranched owned blocks → MayBeLowered table flat → have_names table ≡ true → may_lower table blocks ≡ true
-  may_be table flat owned blocks injected branched h names =
+      IsBranched owned blocks → MayBeLowered table flat → defs_may table ≡ true → may_lower table blocks ≡ true
+  may_be table flat owned blocks injected branched h enums =
       let more = branched.form.statics table in
       let most = injected.form.statics table in
       let few = h.data_few in
       blocks_may table flat.procs blocks
       (branched.each ∙ ap (λ ps. map (each_line B.Plain) ps) injected.each ∙ both_lines flat.procs)
       h.plain h.alike h.hooks (branched.form.fits (known_in table) (injected.form.fits (known_in table) h.fits)) (omega (arith, more, most, few))
-      (defs_may_be table h.members names)
+      enums
+
+  -- the module's code is there
+  pub some_blocks : (table : List TypeDef) (flat : Code Line) (owned : Code OwnedLine) (blocks : Code BlockLine) → IsOwned flat plan owned →
+      IsBranched owned blocks → MayBeLowered table flat → 0 < length blocks.procs
+  some_blocks table flat owned blocks injected branched h =
+      let same = ap length (branched.each ∙ ap (λ ps. map (each_line B.Plain) ps) injected.each ∙ both_lines flat.procs) ∙ length-map flat.procs block_of in
+      let some = h.some in
+      omega (arith, same, some)

@@ -1,22 +1,23 @@
 -- The distinct texts of flat code are texts of its program.
-use Rattle.std.proofs.Common.{◌≡◌, ◌∙◌, ◌≤◌, ◌<◌, ℕ, ◌+◌, Bool, true, false, List, [], ◌∷◌, ◌++◌, Option, Some, None, refl, sym, ap, ap₂, append_assoc, append-nil, arith}
-use Rattle.std.specs.Prelude.{◌||◌, if◌then◌else◌}
+use Rattle.std.proofs.Common.{◌≡◌, ◌∙◌, ◌≤◌, ◌<◌, ℕ, ◌+◌, ◌*◌, Bool, true, false, List, [], ◌∷◌, ◌++◌, Option, Some, None, refl, sym, ap, ap₂, append_assoc}
+use Rattle.std.proofs.Common.{append-nil, arith}
+use Rattle.std.specs.Int.{w32, cast_unsigned, to_le_bytes}
+use Rattle.std.specs.Prelude.{zero, suc, ◌||◌, if◌then◌else◌}
 use Rattle.std.specs.Set.{is_member}
 use Rattle.std.proofs.lemmas.Bool.{both_ways}
 use Rattle.nim_types.specs.Types.{same_text}
 use Rattle.nim_plan.specs.declared.plan.Plan.{Plan}
-use Rattle.nim_program.specs.Program.{Literal, Literals, Number, Characters, NoObject, PartsOf, ElementsOf, NoLiteral, ALiteral, Giving, Doing, Building}
-use Rattle.nim_program.specs.Program.{Calling, Stmts, Body, Proc, Program}
-use Rattle.nim_program.specs.Folds.{Seen, AtApply, AtEarly, AtChoose, AtPath, AtStmt, AtDeclare, AtLoop, AtHandler, lists, numbers, total_of}
-use Rattle.nim_meaning.proofs.ForCallers.{Relates, related_of}
+use Rattle.nim_program.specs.Program.{Literal, Literals, Number, Characters, NoObject, PartsOf, ElementsOf, NoLiteral, ALiteral, Giving, Program}
+use Rattle.nim_program.specs.Folds.{Standing, Part, Acting, Leading, lists, numbers}
+use Rattle.nim_program.proofs.ForCallers.{Relates, related_of, related_bodies}
 use Rattle.flat_code.specs.Codes.{flat_plain}
 use Rattle.flat_code.specs.declared.line.Piece.{Piece}
 use Rattle.flat_code.specs.declared.line.Piece.TheVariants as P
-use Rattle.flat_code.specs.Pieces.{pieces_of, pieces_of_all, count_of}
+use Rattle.flat_code.specs.Pieces.{pieces_of, pieces_of_all, count_of, piece_words, words_bytes, standing_bytes}
 use Rattle.flat_code.specs.Sizes.{piece_texts, pieces_texts, code_texts}
-use Rattle.flattening.specs.Counted.{times, own_times, times_if, procs_times, program_times}
+use Rattle.flattening.specs.Counted.{times, part_texts as counted_texts, own_times, body_times, program_times}
 use Rattle.flattening.specs.Given.{flat_procs}
-use Rattle.program_limits.specs.Data.{literal_texts, all_texts, own_texts, texts_if, procs_texts, program_texts, texts_size}
+use Rattle.program_limits.specs.Data.{literal_bytes, joined_bytes, literal_texts, all_texts, part_texts, own_texts, body_texts, program_texts, texts_size}
 use Rattle.program_limits.proofs.ForCallers.{texts_most}
 
 -- ---- the texts of one constant, in the same order
@@ -41,6 +42,44 @@ mutual
   all_are (ALiteral first rest) =
       append_texts (pieces_of first) (pieces_of_all rest) ∙ ap₂ (λ ts us. ts ++ us) (pieces_are first) (all_are rest)
 
+-- ---- the bytes of one that is read in place
+
+append_words : (a b : List Piece) → piece_words (a ++ b) ≡ piece_words a ++ piece_words b
+append_words [] b = refl
+append_words (P.Ordinal z ∷ a) b = ap (λ ws. cast_unsigned w32 z ∷ ws) (append_words a b)
+append_words (P.Text t ∷ a) b = append_words a b
+append_words (P.Nil ∷ a) b = append_words a b
+append_words (P.Parts zero ∷ a) b = ap (λ ws. 0 ∷ ws) (append_words a b)
+append_words (P.Parts (suc n) ∷ a) b = append_words a b
+append_words (P.Elements zero ∷ a) b = ap (λ ws. 0 ∷ ws) (append_words a b)
+append_words (P.Elements (suc n) ∷ a) b = append_words a b
+
+append_bytes : (a b : List ℕ) → words_bytes (a ++ b) ≡ words_bytes a ++ words_bytes b
+append_bytes [] b = refl
+append_bytes (w ∷ a) b = ap (λ bs. to_le_bytes w32 w ++ bs) (append_bytes a b) ∙ sym (append_assoc (to_le_bytes w32 w) (words_bytes a) (words_bytes b))
+
+append_pieces : (a b : List Piece) → standing_bytes (a ++ b) ≡ standing_bytes a ++ standing_bytes b
+append_pieces a b = ap words_bytes (append_words a b) ∙ append_bytes (piece_words a) (piece_words b)
+
+mutual
+  bytes_are : (l : Literal) → standing_bytes (pieces_of l) ≡ literal_bytes l
+  bytes_are (Number z) = append-nil (to_le_bytes w32 (cast_unsigned w32 z))
+  bytes_are (Characters text) = refl
+  bytes_are NoObject = refl
+  bytes_are (PartsOf NoLiteral) = append-nil (to_le_bytes w32 0)
+  bytes_are (PartsOf (ALiteral first rest)) =
+      append_pieces (pieces_of_all (ALiteral first rest)) (P.Parts (suc (count_of rest)) ∷ [])
+      ∙ append-nil (standing_bytes (pieces_of_all (ALiteral first rest))) ∙ joined_are (ALiteral first rest)
+  bytes_are (ElementsOf NoLiteral) = append-nil (to_le_bytes w32 0)
+  bytes_are (ElementsOf (ALiteral first rest)) =
+      append_pieces (pieces_of_all (ALiteral first rest)) (P.Elements (suc (count_of rest)) ∷ [])
+      ∙ append-nil (standing_bytes (pieces_of_all (ALiteral first rest))) ∙ joined_are (ALiteral first rest)
+
+  joined_are : (all : Literals) → standing_bytes (pieces_of_all all) ≡ joined_bytes all
+  joined_are NoLiteral = refl
+  joined_are (ALiteral first rest) =
+      append_pieces (pieces_of first) (pieces_of_all rest) ∙ ap₂ (λ bs cs. bs ++ cs) (bytes_are first) (joined_are rest)
+
 module _ (text : List ℕ) where
   -- ---- how often it stands in the list is how often it stands in the program
 
@@ -51,41 +90,22 @@ module _ (text : List ℕ) where
   abbrev Counts : List (List ℕ) → ℕ → Type 0
   Counts texts n = times text texts ≡ n
 
-  own_counts : (seen : Seen) → Counts (own_texts seen) (own_times text seen)
-  own_counts (AtApply node ty (Giving literal)) = ap (times text) (sym (pieces_are literal))
-  own_counts (AtApply node ty (Doing operation)) = refl
-  own_counts (AtApply node ty (Building fields)) = refl
-  own_counts (AtApply node ty (Calling proc of)) = refl
-  own_counts (AtEarly node ty short) = refl
-  own_counts (AtChoose node ty chooser) = refl
-  own_counts (AtPath read node ty step) = refl
-  own_counts (AtStmt node) = refl
-  own_counts (AtDeclare node place cursor) = refl
-  own_counts (AtLoop node kind) = refl
-  own_counts (AtHandler name) = refl
+  part_counts : (part : Part) → Counts (part_texts part) (times text (counted_texts part))
+  part_counts (Acting (Giving literal)) = ap (times text) (sym (pieces_are literal))
+  part_counts (Leading read written (Standing literal)) =
+      ap₂ (λ bytes ts. times text (bytes ∷ ts)) (sym (bytes_are literal)) (sym (pieces_are literal))
+  part_counts part = refl
 
   counts : Relates lists numbers own_texts (own_times text) Counts
   counts = record {
     none = refl;
     plus = λ xs ys m n h k. both xs ys ∙ ap₂ (λ a b. a + b) h k;
-    own = own_counts;
+    own = λ seen. part_counts seen.part;
   }
 
-  block_counts : (block : Stmts) → Counts (total_of lists own_texts block) (total_of numbers (own_times text) block)
-  block_counts block = related_of lists numbers own_texts (own_times text) Counts counts block
-
-  procs_count : (procs : List Proc) → Counts (procs_texts procs) (procs_times text procs)
-  procs_count [] = refl
-  procs_count (p ∷ procs) = both (texts_if p.body) (procs_texts procs) ∙ ap₂ (λ a b. a + b) (by p.body) (procs_count procs)
-    where
-      by : (body : Option Body) → Counts (texts_if body) (times_if text body)
-      by None = refl
-      by (Some body) = block_counts body.stmts
-
   program_counts : (program : Program) → Counts (program_texts program) (program_times text program)
-  program_counts program =
-      both (procs_texts program.procs) (total_of lists own_texts program.start.stmts)
-      ∙ ap₂ (λ a b. a + b) (procs_count program.procs) (block_counts program.start.stmts)
+  program_counts program = related_bodies lists numbers body_texts (body_times text) Counts counts.none counts.plus
+      (λ body. related_of lists numbers own_texts (own_times text) Counts counts body.stmts) program
 
   -- ---- what is there stands there at least once
 
@@ -113,7 +133,7 @@ module _ (text : List ℕ) where
           ap (λ b. b || is_member same_text texts text) e ∙ later (omega (arith, h, k))
 
 module _ (program : Program) (plan : Plan)
-    (few : (text : List ℕ) → times text (code_texts flat_plain (flat_procs program plan)) ≤ program_times text program) where
+    (few : (text : List ℕ) → times text (code_texts flat_plain (flat_procs program plan)) ≤ 2 * program_times text program) where
   pub distinct_most : texts_size (code_texts flat_plain (flat_procs program plan)) ≤ texts_size (program_texts program)
   distinct_most =
       texts_most (code_texts flat_plain (flat_procs program plan)) (program_texts program) (λ text h.

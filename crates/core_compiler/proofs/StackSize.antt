@@ -5,17 +5,17 @@ use Rattle.rv32_isa.specs.declared.label.LabelLine.{LabelLine}
 use Rattle.rv32_isa.specs.Labels.{AreLines}
 use Rattle.word_code.specs.declared.word.WordProc.{WordProc}
 use Rattle.word_code.specs.declared.word.WordCode.{WordCode}
-use Rattle.word_code.specs.Words.{from_proc, longest, is_word_code}
+use Rattle.word_code.specs.Words.{from_proc, is_word_code}
 use Rattle.word_code.specs.Sizes.{longest_chain}
 use Rattle.word_code.proofs.ForCallers.{longest_times}
 use Rattle.reg_scan.specs.declared.homes.Homes.{Homes}
-use Rattle.rv32_codegen.specs.Stack.{frame_for, most_frame, stack_need}
+use Rattle.rv32_codegen.specs.Stack.{frame_for, stack_need, most_size, call_size, counted_size}
 use Rattle.rv32_codegen.specs.Layout.{code_size}
 use Rattle.rv32_codegen.specs.Lowering.{AllHomes, CanRun, AlwaysDoes, MakeFrames, most_bytes}
-use Rattle.word_code.specs.declared.routine.TheConstants.{ROUTINE_VARIABLES, ROUTINE_CHAIN}
-use Rattle.word_lowering.specs.declared.may_lower.TheConstants.{MOST_VARS}
+use Rattle.word_code.specs.declared.routine.TheConstants.{ROUTINE_VARIABLES, ROUTINE_CHAIN, ROUTINE_ROOM}
+use Rattle.word_lowering.specs.declared.may_lower.TheConstants.{MOST_VARS, MOST_ROOM}
 use Rattle.word_lowering.specs.Lowers.{AreSmall}
-use Rattle.word_lowering.proofs.ForCallers.{small_found, call_room}
+use Rattle.word_lowering.proofs.ForCallers.{small_found}
 use Rattle.core_compiler.specs.Stages.{CanLayOut, HasLines}
 
 -- ---- frames
@@ -35,30 +35,33 @@ frame_found (q ∷ procs) (own ∷ homes) all p tail e = elim (cases_Bool (q.num
       (frame_found procs homes all.1 p tail (sym (cond-false (q.number == p.number) (q ∷ procs) (from_proc p.number procs) f) ∙ e))
 ]
 
-frames : (procs : List WordProc) (homes : List Homes) → AllHomes procs homes → AreSmall procs → most_frame homes ≤ 4 * suc MOST_VARS
-frames [] [] all small = omega arith
-frames [] (own ∷ homes) all small = absurd all
-frames (p ∷ procs) [] all small = absurd all
-frames (p ∷ procs) (own ∷ homes) all small =
+-- what a call takes, its frame and its places
+calls : (procs : List WordProc) (homes : List Homes) → AllHomes procs homes → AreSmall procs → most_size procs homes ≤ 4 * suc MOST_VARS + MOST_ROOM
+calls [] [] all small = omega arith
+calls [] (own ∷ homes) all small = absurd all
+calls (p ∷ procs) [] all small = absurd all
+calls (p ∷ procs) (own ∷ homes) all small =
     let few = small.0.variables in
+    let room = small.0.room in
     let most : own.frame ≤ 4 * suc p.vars = all.0.most in
-    omega (arith, few, most, frames procs homes all.1 small.1)
+    omega (arith, few, room, most, calls procs homes all.1 small.1)
 
 -- ---- the stack
 
 module _ (procs : List WordProc) (homes : List Homes) (all : AllHomes procs homes) (small : AreSmall procs)
     (chain : longest_chain procs ≤ ROUTINE_CHAIN) where
-  -- what a call takes that counts, with the chain of calls that it may make
-  call_frame : most_frame homes + longest procs (λ p. frame_for procs homes p.number) ≤ 4 * suc MOST_VARS + 4 * suc ROUTINE_VARIABLES * ROUTINE_CHAIN
-  call_frame =
-      let own = frames procs homes all small in
-      let behind = longest_times procs (λ p. frame_for procs homes p.number) (4 * suc ROUTINE_VARIABLES) (λ p tail e f.
+  -- of one that counts, with the chain of calls that it may make
+  call_most : counted_size procs homes ≤ 4 * suc MOST_VARS + MOST_ROOM + (4 * suc ROUTINE_VARIABLES + ROUTINE_ROOM) * ROUTINE_CHAIN
+  call_most =
+      let own = calls procs homes all small in
+      let behind = longest_times procs (call_size procs homes) (4 * suc ROUTINE_VARIABLES + ROUTINE_ROOM) (λ p tail e f.
       let few = ((small_found p.number procs p tail e small).routine f).variables in
-      omega (arith, frame_found procs homes all p tail e, few)) in
+      let room = ((small_found p.number procs p tail e small).routine f).room in
+      omega (arith, frame_found procs homes all p tail e, few, room)) in
       omega (arith, own, behind, chain)
 
   pub stack_most : stack_need procs homes ≤ 268435456
-  stack_most = omega (arith, call_room procs small chain, call_frame)
+  stack_most = omega (arith, call_most)
 
 stack_whole : (procs : List WordProc) (homes : List Homes) → stack_need procs homes % 16 ≡ 0
 stack_whole procs homes = omega arith

@@ -1,10 +1,11 @@
 -- What code of a typed program does and how many bytes it has, and what its image does.
-use Rattle.std.specs.Prelude.{◌≡◌, ◌≤◌, ℕ, ◌+◌, ◌*◌, List, [], length, None, Ok, Result, Err}
+use Rattle.std.specs.Prelude.{◌≡◌, ◌≢◌, ◌≤◌, ℕ, ◌+◌, ◌*◌, All, List, [], length, Some, None, Ok, Result, Err}
 use Rattle.arc_base.specs.Event.{Event}
 use Rattle.arc_base.specs.Behaviour.{Live, Ended, Behaviour, Agrees, no_objects}
 use Rattle.arc_base.specs.Pace.{PacedFrom}
 use Rattle.arc_base.specs.declared.place.Stop.{Stop}
 use Rattle.arc_base.specs.declared.place.Stop.TheVariants.{Refused, Memory}
+use Rattle.nim_types.specs.Types.{Ty, members, Facts, fact_of}
 use Rattle.nim_plan.specs.declared.plan.Plan.{Plan}
 use Rattle.nim_program.specs.Program.{Program}
 use Rattle.nim_meaning.specs.Meaning.{meaning}
@@ -14,7 +15,7 @@ use Rattle.rv32_isa.specs.Image.{Image}
 use Rattle.rv32_isa.specs.Labels.{AreLines}
 use Rattle.rv32_isa.specs.Machine.{Lives, machine}
 use Rattle.word_code.specs.declared.word.WordCode.{WordCode}
-use Rattle.word_code.specs.Words.{word_meaning}
+use Rattle.word_code.specs.Words.{word_meaning, Fresh}
 use Rattle.word_code.specs.declared.routine.TheConstants.{RUNTIME_DATA}
 use Rattle.program_limits.specs.Data.{data_counted}
 use Rattle.word_lowering.specs.declared.lowering.TheConstants.{MOST_HEAP, MORE_DATA}
@@ -29,6 +30,10 @@ use Rattle.core_compiler.specs.Limits.{code_bound}
 -- a program has no objects yet
 abbrev pub live_objects : Lives
 live_objects state = no_objects
+
+-- each member of an enum has a name
+pub record MembersNamed (facts : Facts) : Type 0 where
+  pub names : (ty : Ty) (all : List (List ℕ)) → fact_of facts ty ≡ Some (members all) → All (λ name. name ≢ []) all
 
 -- the instructions after which a machine has exited whose program ends with so much work
 abbrev pub time_for : (work : ℕ) → ℕ
@@ -52,15 +57,15 @@ pub record IsLabelCode (words : WordCode) (homes : List Homes) (lines : List Lab
   pub can : (heap : ℕ) → heap ≤ MOST_HEAP → CanRun words homes heap (stack_need words.procs homes)
 
 -- Code of so many bytes does what the program means under a plan: label code of word code that means the same, with each heap and each stack
--- that a machine may have. The bytes are those that the lines have where they are laid out, and no more than the bound for the
+-- that a machine may have, whatever bytes new places bring. The bytes are those that the lines have where they are laid out, and no more than the bound for the
 -- program; its data are at most those of the program that count, and 4,092 bytes more.
 pub record HasCode (program : Program) (plan : Plan) (bytes : ℕ) : Type 0 where
   pub words : WordCode
   pub homes : List Homes
   pub lines : List LabelLine
   pub code : IsLabelCode words homes lines
-  pub agrees : (heap stack : ℕ) (input : List ℕ) → CanRun words homes heap stack →
-      Agrees (word_meaning live_objects words heap stack input) (meaning program plan heap input)
+  pub agrees : (fresh : Fresh) (heap stack : ℕ) (input : List ℕ) → CanRun words homes heap stack →
+      Agrees (word_meaning live_objects words fresh heap stack input) (meaning program plan heap input)
   pub size : code_size lines ≡ bytes
   pub bound : bytes ≤ code_bound program
   pub data_most : length words.statics ≤ data_counted program + (MORE_DATA + RUNTIME_DATA)

@@ -1,5 +1,5 @@
 -- What the stages of the compiler give one another. No public contract speaks of it.
-use Rattle.std.specs.Prelude.{◌≡◌, ◌≤◌, ◌<◌, ℕ, ◌+◌, ◌*◌, ◌%◌, Bool, true, false, ◌&&◌, List, [], ◌∷◌, length}
+use Rattle.std.specs.Prelude.{◌≡◌, ◌≤◌, ◌<◌, ℕ, ◌+◌, ◌*◌, ◌%◌, true, List, [], length}
 use Rattle.arc_base.specs.Event.{Event}
 use Rattle.arc_base.specs.Behaviour.{Seen, Agrees, Sound}
 use Rattle.arc_base.specs.Pace.{PacedFrom, Paced}
@@ -7,7 +7,6 @@ use Rattle.arc_base.specs.declared.place.Code.TheVariants as code
 use Rattle.arc_base.specs.declared.place.Stop.{Stop}
 use Rattle.arc_base.specs.declared.place.Stop.TheVariants as stop
 use Rattle.nim_types.specs.declared.types.TypeDef.{TypeDef}
-use Rattle.nim_types.specs.declared.types.TypeDef.TheVariants as D
 use Rattle.nim_plan.specs.declared.plan.Plan.{Plan}
 use Rattle.nim_program.specs.declared.sizes.TheConstants.{MOST_BYTES}
 use Rattle.nim_program.specs.declared.text_sizes.TheConstants.{MOST_DATA as MOST_DATA_BYTES}
@@ -25,7 +24,7 @@ use Rattle.flat_code.specs.Fits.{code_fits}
 use Rattle.flat_code.specs.Scene.{known_in}
 use Rattle.flat_code.specs.Sizes.{code_weight, data_bytes}
 use Rattle.word_code.specs.Sizes.{longest_chain, has_no_circle}
-use Rattle.word_code.specs.Words.{word_meaning, is_word_code, have_no_hooks}
+use Rattle.word_code.specs.Words.{word_meaning, is_word_code, have_no_hooks, Fresh}
 use Rattle.flat_runner.specs.Mean.{by_units}
 use Rattle.program_limits.specs.Frames.{beginning}
 use Rattle.flattening.specs.declared.laws.TheConstants.{FLAT_PACE, NODE_WEIGHT}
@@ -55,23 +54,14 @@ pub record ShowsSame (low high : Seen Event) : Type 0 where
   pub events : low.events ≡ high.events
   pub phase : low.phase ≡ high.phase
 
-abbrev pub has_member : TypeDef → Bool
-has_member (D.Enum name at []) = false
-has_member def = true
-
--- each enum has a member
-abbrev pub have_members : List TypeDef → Bool
-have_members [] = true
-have_members (def ∷ defs) = has_member def && have_members defs
-
--- what word code rests on beside that flat code fits: it has no heap, no procedure is too large, and neither are its data
+-- what word code rests on beside that flat code fits: it has the module's code, it has no heap, no procedure is too large, and neither are its data
 pub record MayBeLowered (table : List TypeDef) (flat : Code Line) : Type 0 where
+  pub some : 0 < length flat.procs
   pub alike : AllAlike flat.procs
   pub plain : ArePlainProcs (known_in table) MOST_BYTES flat.procs
   pub fits : code_fits flat_plain (known_in table) flat.procs ≡ true
   pub hooks : AreNone (hooks_of flat)
   pub data_few : data_bytes flat_plain table flat.procs ≤ MOST_DATA_BYTES
-  pub members : have_members table ≡ true
 
 -- Flat code does what the program means under the plan, and with so many units shows the same after some number of lines and ever after; its lines
 -- fit the types of its places; it weighs as much as the program's parts, and has the data that count. No type of the table contains itself.
@@ -98,15 +88,15 @@ pub record CanLayOut (words : WordCode) : Type 0 where
   pub whole : length words.statics % 4 ≡ 0
   pub statics_most : length words.statics ≤ MOST_DATA + RUNTIME_DATA
 
--- Word code, with its runtime, does what flat code does under the plan, where that is never at a fault and never wrong; and what it becomes has at
--- most so many bytes.
+-- Word code, with its runtime, does what flat code does under the plan, where that is never at a fault and never wrong, whatever bytes new places
+-- bring; and what it becomes has at most so many bytes.
 pub record AreWordsOf (table : List TypeDef) (plan : Plan) (flat : Code Line) (words : WordCode) : Type 0 where
-  pub agrees : (heap stack : ℕ) (input : List ℕ) → heap ≤ MOST_HEAP → code_fits flat_plain (known_in table) flat.procs ≡ true →
+  pub agrees : (fresh : Fresh) (heap stack : ℕ) (input : List ℕ) → heap ≤ MOST_HEAP → code_fits flat_plain (known_in table) flat.procs ≡ true →
       AreNone (hooks_of flat) → Sound (flat_meaning table flat plan heap input) →
-      Agrees (word_meaning live_objects words heap stack input) (flat_meaning table flat plan heap input)
-  pub paced : (heap stack : ℕ) (input : List ℕ) → heap ≤ MOST_HEAP → code_fits flat_plain (known_in table) flat.procs ≡ true →
+      Agrees (word_meaning live_objects words fresh heap stack input) (flat_meaning table flat plan heap input)
+  pub paced : (fresh : Fresh) (heap stack : ℕ) (input : List ℕ) → heap ≤ MOST_HEAP → code_fits flat_plain (known_in table) flat.procs ≡ true →
       AreNone (hooks_of flat) → Sound (flat_meaning table flat plan heap input) →
-      PacedFrom WORD_PACE 1 (word_meaning live_objects words heap stack input) (flat_meaning table flat plan heap input)
+      PacedFrom WORD_PACE 1 (word_meaning live_objects words fresh heap stack input) (flat_meaning table flat plan heap input)
   pub can : CanLayOut words
   pub code_most : most_bytes words.procs ≤ BYTES_OF_LINE * code_weight flat_plain flat.procs + BYTES_OF_ALL
   pub data_size : length words.statics ≤ data_bytes flat_plain table flat.procs + (MORE_DATA + RUNTIME_DATA)
@@ -122,14 +112,19 @@ pub record HasLines (words : WordCode) (bytes : ℕ) : Type 0 where
   pub size : code_size lines ≡ bytes
   pub bound : bytes ≤ most_bytes words.procs
 
--- the image is that of such label code, with the stack that it needs; it does what the word code does, which is never at a fault
+-- it does on this input what the word code does whose new places bring these bytes
+pub record DoesWith (words : WordCode) (heap : ℕ) (image : Image) (input : List ℕ) (fresh : Fresh) : Type 0 where
+  pub agrees : Agrees (machine live_objects image input) (word_meaning live_objects words fresh heap image.stack input)
+  pub paced : PacedFrom (LAYOUT_PACE * CODE_PACE) 2 (machine live_objects image input)
+      (word_meaning live_objects words fresh heap image.stack input)
+
+-- The image is that of such label code, with the stack that it needs. It does what the word code does, which is never at a fault, where new places
+-- have the bytes that are in the stack there.
 pub record IsImageOf (words : WordCode) (heap : ℕ) (image : Image) : Type 0 where
   pub from : HasLines words (length image.code)
   pub made : image ≡ laid_out from.lines words.statics heap (stack_need words.procs from.homes)
-  pub agrees : (input : List ℕ) → Sound (word_meaning live_objects words heap image.stack input) →
-      Agrees (machine live_objects image input) (word_meaning live_objects words heap image.stack input)
-  pub paced : (input : List ℕ) → Sound (word_meaning live_objects words heap image.stack input) →
-      PacedFrom (LAYOUT_PACE * CODE_PACE) 2 (machine live_objects image input) (word_meaning live_objects words heap image.stack input)
+  pub does : (input : List ℕ) → (fresh : Fresh)
+      × (Sound (word_meaning live_objects words fresh heap image.stack input) → DoesWith words heap image input fresh)
   pub hooks : have_no_hooks words.procs ≡ true → image.hooks ≡ []
 
 -- there is no image, since the label code is too large, or no memory was found

@@ -8,9 +8,10 @@ ghost use Rattle.nim_program.specs.Typed.{IsTyped};
 ghost use Rattle.rv32_isa.specs.declared.image.Image.{Image as RustImage};
 ghost use Rattle.rv32_isa.specs.Image.{image_of};
 ghost use Rattle.program_limits.specs.Limits.{program_in, tree_limits};
+ghost use Rattle.word_lowering.specs.MayLower.{defs_may};
 ghost use Rattle.core_compiler.specs.Limits.{build_limits, check_limits};
 ghost use Rattle.core_compiler.specs.Compile.{HasCodeWhereWithin, UnlessMemory, DoesProgram};
-ghost use Rattle.core_compiler.specs.Compile.{HasImageWhereBuilt};
+ghost use Rattle.core_compiler.specs.Compile.{MembersNamed, HasImageWhereBuilt};
 ghost use Rattle.core_compiler.specs.Stages.{IsFlatOf, MayBeLowered, AreWordsOf, too_large};
 
 use crate::image::image_of_words;
@@ -73,7 +74,6 @@ pub fn flat_of(alloc: Global, program: &Program, plan: &Plan) -> Result<Flat, Me
     ensures { IfOk result (λ flat.
         IsFlatOf program.now.types (program_in program.now) plan.now flat) }
 {
-    let _types = program.types.count();
     let flat = flatten(alloc, program, plan)?;
     formed();
     table_forms();
@@ -89,6 +89,7 @@ pub fn flat_of(alloc: Global, program: &Program, plan: &Plan) -> Result<Flat, Me
 fn words_of(alloc: Global, types: &TypeTable, plan: &Plan, flat: &Flat) -> Result<WordCode, Memory>
     requires forms { HaveForms types.now }
     requires ordered { IsInOrder plan.now }
+    requires enums { defs_may types.now ≡ true }
     requires may { MayBeLowered types.now flat.now }
     ensures { IfOk result (λ words. AreWordsOf types.now plan.now flat.now words) }
 {
@@ -119,6 +120,7 @@ pub fn within_core(alloc: Global, program: &Program) -> Result<(), Stop>
 pub fn compile_core(alloc: Global, program: &Program, plan: &Plan, heap: u32) -> Result<Image, Stop>
     requires typed { IsTyped (program_in program.now) }
     requires numbered { is_numbered_program (program_in program.now) ≡ true }
+    requires named { MembersNamed (program_in program.now).facts }
     requires ordered { IsInOrder plan.now }
     requires heap { heap ≤ 16777216 }
     ensures answers { (code : ℕ) × Answers (λ (image : RustImage). tt)
@@ -129,6 +131,7 @@ pub fn compile_core(alloc: Global, program: &Program, plan: &Plan, heap: u32) ->
         DoesProgram (program_in program.now) plan.now heap (image_of image)) }
 {
     within_core(alloc, program)?;
+    let _types = program.types.count();
     let flat = flat_of(alloc, program, plan)?;
     let words = words_of(alloc, &program.types, plan, &flat)?;
     agreement();
@@ -145,6 +148,7 @@ pub fn compile_core(alloc: Global, program: &Program, plan: &Plan, heap: u32) ->
 pub fn check_core(alloc: Global, program: &Program, plan: &Plan) -> Result<(), Stop>
     requires typed { IsTyped (program_in program.now) }
     requires numbered { is_numbered_program (program_in program.now) ≡ true }
+    requires named { MembersNamed (program_in program.now).facts }
     requires ordered { IsInOrder plan.now }
     ensures answers { (code : ℕ) × Answers (λ (done : Unit {0}). tt)
         (check_limits code (program_in program.now)) result

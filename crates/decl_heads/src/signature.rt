@@ -20,7 +20,7 @@ use crate::written::if_written;
 use arc_base::{Items, Stop};
 use decl_parts::heads::mode_of;
 use decl_parts::state::{State, leave};
-use decl_written::stated::written_type;
+use decl_parts::written::written_type;
 use nim_program::{Mode, Param};
 use nim_tree::{Name, Param as Group, ProcHead, TypeTree};
 use nim_types::TypeId;

@@ -8,7 +8,7 @@ ghost use Rattle.decl_parts.specs.View.{Ready, Typing};
 
 use arc_base::Stop;
 use decl_parts::state::State;
-use decl_written::stated::written_type;
+use decl_parts::written::written_type;
 use nim_tree::TypeTree;
 use nim_types::TypeId;
 use std::alloc::Global;

@@ -1,5 +1,5 @@
 -- Tables that grow under a state.
-use Rattle.std.proofs.Common.{◌≡◌, ℕ, ◌<◌, ◌≤◌, List, [], ◌∷◌, ◌++◌, length, Some, None, sym, ◌∙◌, subst, arith}
+use Rattle.std.proofs.Common.{◌≡◌, ℕ, ◌≤◌, List, [], ◌∷◌, ◌++◌, length, Some, None, sym, subst, arith}
 use Rattle.std.specs.Prelude.{Option, Result, Ok, Err, IfOk}
 use Rattle.arc_base.specs.declared.place.Stop.{Stop}
 use Rattle.nim_types.specs.declared.types.TypeDef.{TypeDef}
@@ -69,13 +69,6 @@ pub over_old : (a b : List TypeDef) (ts : List Ty) → Grown a b → Under b ts 
 over_old a b ts g u = subst (Under a ts) (facts_kept a b ts g u) (g.under ts (facts_in b) u)
 
 -- ---- values
-
--- the type of a value is one of the table
-pub type_within : {T : Type 0} (n : ℕ) (of : T → ℕ) (o p : Option ℕ) (r : Result T Stop) → o ≡ p → IsBelow n p
-    → IfOk r (λ v. o ≡ Some (of v))
-    → IfOk r (λ v. of v < n)
-type_within n of o p (Ok v) e b h = subst (IsBelow n) (sym e ∙ h) b
-type_within n of o p (Err s) e b h = tt
 
 pub ok_by : {T : Type 0} (P : T → Type 0) (x : T) (r : Result T Stop) → P x → IfOk r (λ v. v ≡ x) → IfOk r P
 ok_by P x (Ok v) p e = subst P (sym e) p

@@ -21,13 +21,12 @@ use Rattle.expr_rules.specs.Env.{Env}
 use Rattle.expr_rules.specs.Constructions.{is_among}
 use Rattle.expr_parts.specs.declared.scope.Decl.{Decl}
 use Rattle.expr_parts.specs.declared.value.Typed.{Typed as RustTyped}
-use Rattle.expr_parts.specs.View.{Under, Grown, env_of, valued_of, number_of}
+use Rattle.expr_parts.specs.View.{Under, Grown, env_of, number_of}
 use Rattle.expr_parts.specs.ViewReady.{IsReady}
 use Rattle.expr_parts.specs.ViewDecls.{declares as declares_in}
 use Rattle.decl_rules.specs.State.{ResultPlace, Inside, module_code, a_procedure, Around, Item, State, Step, does, declares, defers, Stated, stated_as}
 use Rattle.decl_rules.specs.State.{own_entries, is_declared}
-use Rattle.decl_rules.specs.Values.{Value, as_value}
-use Rattle.decl_parts.specs.declared.values.Numbered.{Numbered}
+use Rattle.decl_written.specs.declared.values.Numbered.{Numbered}
 use Rattle.decl_parts.specs.declared.state.ResultPlace.{ResultPlace as RustResultPlace}
 use Rattle.decl_parts.specs.declared.state.Inside.{Inside as RustInside}
 use Rattle.decl_parts.specs.declared.state.Inside.TheVariants as inside
@@ -35,9 +34,6 @@ use Rattle.decl_parts.specs.declared.state.Around.{Around as RustAround}
 use Rattle.decl_parts.specs.declared.state.State.{State as RustState}
 
 -- ---- values
-
-abbrev pub numbered_of : List Ty → Numbered → Value
-numbered_of ts v = as_value (valued_of ts v.value) v.next
 
 -- whether no type is written, or this one
 abbrev pub no_other_type : Option Ty → Ty → Bool

@@ -9,3 +9,4 @@ pub mod state;
 pub mod stmts;
 pub mod typing;
 pub mod values;
+pub mod written;

@@ -9,13 +9,15 @@ ghost use Rattle.expr_parts.specs.View.{typed_of, want_of};
 ghost use Rattle.expr_parts.specs.ViewReady.{WantWithin};
 ghost use Rattle.decl_rules.specs.Definitions.{definition_value};
 ghost use Rattle.decl_rules.specs.Values.{valued_term, value_as, condition};
-ghost use Rattle.decl_parts.specs.View.{numbered_of, Ready, Typing, TypedWithin};
+ghost use Rattle.decl_written.specs.ViewWritten.{numbered_of};
+ghost use Rattle.decl_parts.specs.View.{Ready, Typing, TypedWithin};
 ghost use Rattle.decl_parts.specs.View.{NumberedWithin};
 
 use crate::state::{State, after};
-use crate::values::{Numbered, is_annotated, numbered_if, result_want, valued_term};
+use crate::values::{is_annotated, numbered_if, result_want};
 use arc_base::{Code, Place, Stop};
 use check_exprs::public::{type_call, type_expr};
+use decl_written::values::{Numbered, valued_term};
 use expr_parts::kinds::is_same;
 use expr_parts::value::{Typed, Want, refusal};
 use nim_tree::Expr as Tree;

@@ -1,75 +1,31 @@
 // Values in statements.
 ghost use Rattle.std.specs.Prelude.{◌≡◌, ◌<◌, ℕ, List, length, IfOk, Ok, Some};
 ghost use Rattle.arc_base.specs.Refusal.{Answers, and_then};
-ghost use Rattle.nim_tree.specs.Terms.{term_of};
 ghost use Rattle.nim_types.specs.Types.{Ty, Facts};
 ghost use Rattle.nim_types.specs.Table.{type_at, meant, IsBelow};
 ghost use Rattle.nim_program.specs.View.{expr_of, if_type};
 ghost use Rattle.expr_rules.specs.Answers.{value_of};
 ghost use Rattle.expr_rules.specs.Demands.{is_selector};
-ghost use Rattle.expr_parts.specs.View.{Under, Grown, KindsIn, env_of, want_of, valued_of};
+ghost use Rattle.expr_parts.specs.View.{Under, KindsIn, want_of, valued_of};
 ghost use Rattle.expr_parts.specs.View.{number_of};
-ghost use Rattle.expr_parts.specs.ViewReady.{IsReady, WantWithin};
-ghost use Rattle.decl_rules.specs.Values.{as_value, valued_term, accepted_if, selector_rule};
+ghost use Rattle.expr_parts.specs.ViewReady.{WantWithin};
+ghost use Rattle.decl_rules.specs.Values.{accepted_if, selector_rule};
 ghost use Rattle.decl_rules.specs.Values.{result_want, type_given, given_want, returned, has_type};
 ghost use Rattle.decl_rules.specs.Values.{element_rule};
-ghost use Rattle.decl_parts.specs.View.{numbered_of, no_other_type, result_place, if_result};
+ghost use Rattle.decl_written.specs.ViewWritten.{numbered_of};
+ghost use Rattle.decl_parts.specs.View.{no_other_type, result_place, if_result};
 ghost use Rattle.decl_parts.specs.View.{ResultWithin};
 
 use crate::state::ResultPlace;
 use arc_base::{Code, Stop};
-use check_exprs::public::type_expr;
+use decl_written::values::Numbered;
 use expr_parts::branching::value_of;
 use expr_parts::kinds::{entry, is_ordinal, is_same, is_text};
 use expr_parts::parts::element_type;
-use expr_parts::scope::{Kinds, Scope};
-use expr_parts::value::{Typed, Value, Want, refusal};
+use expr_parts::scope::Kinds;
+use expr_parts::value::{Value, Want, refusal};
 use nim_program::Expr;
-use nim_tree::Expr as Tree;
 use nim_types::{TypeDef, TypeId, TypeTable};
-use std::alloc::Global;
-
-/// A typed value, and the first number behind its nodes.
-#[derive(Drop)]
-pub struct Numbered {
-    pub value: Value,
-    pub next: u32,
-}
-
-fn valued(typed: Typed) -> Result<Numbered, Stop>
-    ensures answers { (ts : List Ty) → Answers (numbered_of ts) (and_then
-        (value_of (expr_of ts typed.expr)) (λ v. Ok (as_value v typed.next))) result }
-    ensures number { IfOk result (λ v. number_of typed.expr ≡ Some v.value.ty) }
-{
-    let next = typed.next;
-    match value_of(typed.expr) {
-        Ok(value) => Ok(Numbered { value, next }),
-        Err(stop) => Err(stop),
-    }
-}
-
-/// A value is needed. The first number of its nodes is given.
-pub fn valued_term(
-    alloc: Global,
-    types: &mut TypeTable,
-    scope: &Scope,
-    want: Want,
-    first: u32,
-    tree: &Tree,
-) -> Result<Numbered, Stop>
-    requires ready { IsReady types.old scope.now }
-    requires want { WantWithin (length types.old) want }
-    ensures grown { Grown types.old types.new }
-    ensures answers { (ts : List Ty) (facts : Facts) → Under types.new ts facts
-        → Answers (numbered_of ts) (valued_term (env_of ts facts scope.now) (want_of ts want)
-        first (term_of tree.now)) result }
-    ensures within { IfOk result (λ v. v.value.ty < length types.new) }
-{
-    match type_expr(alloc, types, scope, want, first, tree) {
-        Ok(typed) => valued(typed),
-        Err(stop) => Err(stop),
-    }
-}
 
 /// A value that its place accepts, else no rule fits at it.
 pub fn accepted_if(accepts: bool, value: Value) -> Result<Value, Stop>

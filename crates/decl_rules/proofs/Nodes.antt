@@ -12,6 +12,7 @@ use Rattle.nim_types.specs.Types.{Ty}
 use Rattle.nim_program.specs.declared.expr.Node.{Node}
 use Rattle.nim_program.specs.Program as P
 use Rattle.nim_program.specs.Program.{Expr, Path, Args, Stmt, Stmts, Label}
+use Rattle.nim_program.proofs.ForCallers.{either_way, fresh_same}
 use Rattle.nim_program.specs.Folds.{lists, node_numbers, nodes, total_at}
 use Rattle.nim_program.specs.Nodes.{path_and_value, selecting, blocks_of}
 use Rattle.nim_program.specs.SelfAssignment.{is_itself, is_result}
@@ -81,15 +82,14 @@ returned_same (Some place) e v h = by_value (value_of e) refl h
 
 -- a path has the same nodes where it is read
 read_same : (path : Path) → total_at lists node_numbers false path ≡ total_at lists node_numbers true path
-read_same (P.Variable k ty place global) = refl
-read_same (P.Fresh a) = refl
-read_same (P.Field k ty base field) = refl
-read_same (P.Element k ty base i constant) = refl
-read_same (P.Deref ty base) = read_same base
+read_same path = sym (either_way lists node_numbers (λ node ty written step. refl) (λ ty written step. refl) path)
+
+fresh_nodes : (read : Bool) (value : Expr) → total_at lists node_numbers read (P.Fresh value) ≡ nodes value
+fresh_nodes read value = fresh_same lists node_numbers (λ ty read x. refl) (λ node ty read literal. refl) read value
 
 path_same : (e : Expr) → total_at lists node_numbers false (path_of e) ≡ nodes e
 path_same (P.Read path) = read_same path
-path_same e = refl
+path_same e = fresh_nodes false e
 
 path_run : {n m : ℕ} (e : Expr) → Run n (nodes e) m → Run n (total_at lists node_numbers false (path_of e)) m
 path_run {n} {m} e h = subst (λ ns. Run n ns m) (sym (path_same e)) h

@@ -15,7 +15,8 @@ use Rattle.nim_types.specs.Types.{Ty}
 use Rattle.nim_program.specs.declared.expr.Node.{Node}
 use Rattle.nim_program.specs.Program as P
 use Rattle.nim_program.specs.Program.{Expr, Path, Args, Stmt, Stmts, Blocks, Kind, Label}
-use Rattle.nim_program.specs.Folds.{lists, together, in_turn, own_places, total, total_at, totals, each, total_in, each_block, block_places, loop_places}
+use Rattle.nim_program.proofs.ForCallers.{declares_none, path_declares_none, all_declare_none}
+use Rattle.nim_program.specs.Folds.{lists, together, in_turn, own_places, totals, each, total_in, each_block, block_places, loop_places}
 use Rattle.nim_program.specs.Folds.{if_declared, param_places}
 use Rattle.nim_program.specs.Nodes.{one_value, two_values, one_path, path_and_value, selecting, blocks_of, discard}
 use Rattle.nim_program.specs.SelfAssignment.{is_itself, is_result}
@@ -50,30 +51,9 @@ rows_then {n} {m} {k} xs ys h i = subst (λ ns. Run n ns k) (sym (map-append (λ
 alone : {n m : ℕ} (xs : List P.Declared) → Rows n xs m → Rows n (xs ++ []) m
 alone xs h = rows_then xs [] h run_over
 
--- ---- expressions declare nothing
-
-mutual
-  none_in : (e : Expr) → total lists own_places e ≡ []
-  none_in (P.Apply node ty act operands) = none_among operands
-  none_in (P.Read path) = none_at true path
-  none_in (P.Early node ty short a b) = ap (λ xs. xs ++ total lists own_places b) (none_in a) ∙ none_in b
-  none_in (P.Choose node ty chooser parts) = none_among parts
-
-  none_at : (read : Bool) (path : Path) → total_at lists own_places read path ≡ []
-  none_at read (P.Variable node ty place global) = refl
-  none_at read (P.Fresh a) = none_in a
-  none_at read (P.Field node ty base field) = none_at false base
-  none_at read (P.Element node ty base i constant) = ap (λ xs. xs ++ total lists own_places i) (none_at false base) ∙ none_in i
-  none_at read (P.Deref ty base) = none_at read base
-
-  none_among : (args : Args) → totals lists own_places args ≡ []
-  none_among P.NoArg = refl
-  none_among (P.ByValue a rest) = ap (λ xs. xs ++ totals lists own_places rest) (none_in a) ∙ none_among rest
-  none_among (P.ByPath path rest) = ap (λ xs. xs ++ totals lists own_places rest) (none_at false path) ∙ none_among rest
-
 -- behind parts that declare nothing
 behind_parts : {n m : ℕ} (args : Args) (xs : List P.Declared) → Rows n xs m → Rows n (totals lists own_places args ++ xs) m
-behind_parts {n} {m} args xs h = subst (λ ys. Rows n (ys ++ xs) m) (sym (none_among args)) h
+behind_parts {n} {m} args xs h = subst (λ ys. Rows n (ys ++ xs) m) (sym (all_declare_none args)) h
 
 -- ---- steps as a block
 
@@ -100,7 +80,7 @@ quiet_run : {n : ℕ} (s : Stmt) → total_in lists own_places s ≡ [] → Rows
 quiet_run {n} s e = subst (λ xs. Rows n (xs ++ []) n) (sym e) run_over
 
 one_quiet : (e : Expr) → totals lists own_places (one_value e) ≡ []
-one_quiet e = none_among (one_value e)
+one_quiet e = all_declare_none (one_value e)
 
 either_quiet : (b : Bool) (s t : Stmt) → total_in lists own_places s ≡ [] → total_in lists own_places t ≡ []
     → total_in lists own_places (if b then s else t) ≡ []
@@ -108,17 +88,17 @@ either_quiet true s t e f = e
 either_quiet false s t e f = f
 
 assigned_quiet : (op : AssignOp) (n : Node) (path : Path) (e : Expr) → total_in lists own_places (assigned op n path e) ≡ []
-assigned_quiet sign.Set n path e = either_quiet (is_itself path e) _ _ (none_among (path_and_value path e)) (none_among (path_and_value path e))
-assigned_quiet sign.Plus n path e = none_among (path_and_value path e)
-assigned_quiet sign.Minus n path e = none_among (path_and_value path e)
-assigned_quiet sign.Times n path e = none_among (path_and_value path e)
-assigned_quiet sign.Join n path e = none_among (path_and_value path e)
+assigned_quiet sign.Set n path e = either_quiet (is_itself path e) _ _ (all_declare_none (path_and_value path e)) (all_declare_none (path_and_value path e))
+assigned_quiet sign.Plus n path e = all_declare_none (path_and_value path e)
+assigned_quiet sign.Minus n path e = all_declare_none (path_and_value path e)
+assigned_quiet sign.Times n path e = all_declare_none (path_and_value path e)
+assigned_quiet sign.Join n path e = all_declare_none (path_and_value path e)
 
 back_quiet : (gives : ResultPlace) (n : Node) (e : Expr) → total_in lists own_places (gives_back gives n e) ≡ []
-back_quiet gives n e = either_quiet (is_result gives e) _ _ (one_quiet e) (none_in e)
+back_quiet gives n e = either_quiet (is_result gives e) _ _ (one_quiet e) (declares_none e)
 
 last_quiet : (gives : ResultPlace) (n : Node) (e : Expr) → total_in lists own_places (gives_last gives n e) ≡ []
-last_quiet gives n e = either_quiet (is_result gives e) _ _ (one_quiet e) (none_in e)
+last_quiet gives n e = either_quiet (is_result gives e) _ _ (one_quiet e) (declares_none e)
 
 pub ok_stmt : {s t : Stmt} → ◌≡◌ {A = Answer Stmt} (Ok s) (Ok t) → s ≡ t
 ok_stmt e = cc
@@ -178,17 +158,17 @@ with_else otherwise (b_more {block = block} {rest = rest} g i) h =
 -- tests declare nothing
 none_of_each : (tests : Args) → together lists (each lists own_places tests) ≡ []
 none_of_each P.NoArg = refl
-none_of_each (P.ByValue a rest) = ap (λ xs. xs ++ together lists (each lists own_places rest)) (none_in a) ∙ none_of_each rest
-none_of_each (P.ByPath path rest) = ap (λ xs. xs ++ together lists (each lists own_places rest)) (none_at false path) ∙ none_of_each rest
+none_of_each (P.ByValue a rest) = ap (λ xs. xs ++ together lists (each lists own_places rest)) (declares_none a) ∙ none_of_each rest
+none_of_each (P.ByPath path rest) = ap (λ xs. xs ++ together lists (each lists own_places rest)) (path_declares_none false path) ∙ none_of_each rest
 
 only_blocks : (tests : Args) (blocks : List (List P.Declared)) → in_turn lists (each lists own_places tests) blocks ≡ together lists blocks
 only_blocks P.NoArg blocks = refl
 only_blocks (P.ByValue a rest) [] = none_of_each (P.ByValue a rest)
 only_blocks (P.ByValue a rest) (b ∷ blocks) =
-    ap (λ xs. xs ++ (b ++ in_turn lists (each lists own_places rest) blocks)) (none_in a) ∙ ap (λ xs. b ++ xs) (only_blocks rest blocks)
+    ap (λ xs. xs ++ (b ++ in_turn lists (each lists own_places rest) blocks)) (declares_none a) ∙ ap (λ xs. b ++ xs) (only_blocks rest blocks)
 only_blocks (P.ByPath path rest) [] = none_of_each (P.ByPath path rest)
 only_blocks (P.ByPath path rest) (b ∷ blocks) =
-    ap (λ xs. xs ++ (b ++ in_turn lists (each lists own_places rest) blocks)) (none_at false path) ∙ ap (λ xs. b ++ xs) (only_blocks rest blocks)
+    ap (λ xs. xs ++ (b ++ in_turn lists (each lists own_places rest) blocks)) (path_declares_none false path) ∙ ap (λ xs. b ++ xs) (only_blocks rest blocks)
 
 choice_run : {n m : ℕ} (node : Node) (chooser : P.Chooser) (tests : Args) (blocks : Blocks)
     → Rows n (together lists (each_block lists own_places blocks)) m
@@ -200,7 +180,7 @@ choice_run {n} {m} node chooser tests blocks h =
 loop_run : {n m : ℕ} (node : Node) (kind : Kind) (head : Args) (body : Stmts) → Rows n (loop_places kind ++ block_places body) m
     → Rows n (block_places (P.Then (P.Loop node kind head body) P.Empty)) m
 loop_run {n} {m} node kind head body h =
-    alone _ (subst (λ xs. Rows n (loop_places kind ++ (xs ++ block_places body)) m) (sym (none_among head)) h)
+    alone _ (subst (λ xs. Rows n (loop_places kind ++ (xs ++ block_places body)) m) (sym (all_declare_none head)) h)
 
 -- ---- statements
 

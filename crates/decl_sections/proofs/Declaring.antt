@@ -26,9 +26,10 @@ use Rattle.expr_parts.proofs.ForCallers.{text_sound}
 use Rattle.decl_rules.specs.State.{State, own_entries, is_declared, if_new}
 use Rattle.decl_rules.specs.Sections.{members_rule, member_of, member_names, seen_members}
 use Rattle.decl_written.specs.ViewWritten.{HasNames}
-use Rattle.decl_types.specs.declared.bodies.Declared.{Declared as Seen}
-use Rattle.decl_types.specs.ViewBodies.{IsDeclared, own_decls, member_entries}
-use Rattle.decl_sections.specs.ViewSections.{own_in, decls_by, type_decl, members_in}
+use Rattle.decl_sections.specs.declared.bodies.Declared.{Declared as Seen}
+use Rattle.decl_sections.specs.ViewBodies.{IsDeclared, own_decls, member_entries}
+use Rattle.decl_types.specs.ViewScoped.{own_in, decls_by, type_decl}
+use Rattle.decl_sections.specs.ViewSections.{members_in}
 
 no_bool : {A : Type 0} (b : Bool) → b ≡ true → b ≡ false → A
 no_bool b e f = cc

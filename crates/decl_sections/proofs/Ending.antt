@@ -23,8 +23,9 @@ use Rattle.decl_sections.specs.declared.starting.Frame.{Frame}
 use Rattle.decl_sections.specs.declared.starting.Reading.{Reading}
 use Rattle.decl_sections.specs.declared.starting.TheConstants.{MOST_DEFINITIONS}
 use Rattle.decl_sections.specs.ViewSections.{Leads}
-use Rattle.decl_sections.specs.ViewWalk.{Framed, StageOf, Whole}
-use Rattle.decl_sections.proofs.Scoping.{env_is, keys_count}
+use Rattle.decl_sections.specs.ViewWalk.{Framed, StageOf}
+use Rattle.decl_types.specs.ViewScoped.{Whole}
+use Rattle.decl_types.proofs.ForCallers.{env_is, keys_count}
 use Rattle.decl_sections.proofs.Staging.{scoped_grown}
 
 -- a part that stops, stops the whole

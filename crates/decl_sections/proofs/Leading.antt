@@ -18,15 +18,15 @@ use Rattle.decl_rules.specs.State.{State}
 use Rattle.decl_rules.specs.Meanings.{key_of, keys_of, known_of}
 use Rattle.decl_rules.specs.Written.{later}
 use Rattle.decl_rules.specs.Sections.{Section, with_definition, declaration_rule, declarations_rule}
-use Rattle.decl_types.specs.declared.bodies.Declared.{Declared as Seen}
-use Rattle.decl_types.specs.ViewBodies.{IsDeclared, Said, said_by}
+use Rattle.decl_sections.specs.declared.bodies.Declared.{Declared as Seen}
+use Rattle.decl_sections.specs.ViewBodies.{IsDeclared, Said, said_by}
 use Rattle.decl_types.specs.ViewNodes.{names_env_of}
 use Rattle.decl_sections.specs.declared.starting.Frame.{Frame}
 use Rattle.decl_sections.specs.declared.starting.Reading.{Reading}
 use Rattle.decl_sections.specs.ViewSections.{members_in, Leads}
 use Rattle.decl_sections.specs.ViewWalk.{Framed, StageOf}
-use Rattle.decl_sections.proofs.Meaning.{known_count}
-use Rattle.decl_sections.proofs.Scoping.{env_is, names_env_is, keys_count}
+use Rattle.decl_types.proofs.ForCallers.{known_count}
+use Rattle.decl_types.proofs.ForCallers.{env_is, names_env_is, keys_count}
 use Rattle.decl_sections.proofs.Declaring.{declared_is}
 use Rattle.decl_sections.proofs.Staging.{bodied, head_rule, head_behind, members_behind, said_rule, said_behind, declaration_parts, leads_stops, scoped_grown}
 

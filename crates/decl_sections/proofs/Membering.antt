@@ -10,10 +10,10 @@ use Rattle.expr_rules.specs.Constructions.{is_among}
 use Rattle.expr_rules.specs.Env.{Entry, constant}
 use Rattle.expr_parts.specs.declared.scope.Decl.{Decl}
 use Rattle.expr_parts.specs.View.{entry_of, DeclsWithin}
-use Rattle.decl_parts.proofs.ForCallers.{decls_both}
+use Rattle.decl_types.proofs.ForCallers.{decls_both}
 use Rattle.decl_rules.specs.Sections.{seen_members}
 use Rattle.decl_written.specs.ViewWritten.{HasNames}
-use Rattle.decl_types.specs.ViewBodies.{member_entries}
+use Rattle.decl_sections.specs.ViewBodies.{member_entries}
 use Rattle.decl_sections.specs.ViewWalk.{member_decl}
 
 abbrev pub one_member : {S : Type 0} → HashSet (List ℕ) S → ℕ → ℕ → List ℕ → List Decl

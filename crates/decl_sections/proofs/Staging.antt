@@ -33,14 +33,17 @@ use Rattle.decl_rules.specs.Sections.{says}
 use Rattle.decl_written.specs.ViewWritten.{HasNames}
 use Rattle.decl_types.specs.declared.known.Definition.{Definition}
 use Rattle.decl_types.specs.declared.nodes.Names.{Names}
-use Rattle.decl_types.specs.ViewBodies.{Said, said_with, said_by, member_entries}
+use Rattle.decl_sections.specs.ViewBodies.{Said, said_with, said_by, member_entries}
 use Rattle.decl_types.specs.ViewKnown.{IsSound, key_by}
 use Rattle.decl_types.specs.ViewNodes.{key_at}
 use Rattle.decl_types.specs.ViewReading.{defined_by, all_defined}
 use Rattle.decl_sections.specs.declared.starting.TheConstants.{MOST_DEFINITIONS}
-use Rattle.decl_sections.specs.ViewSections.{own_in, decls_by, members_in, said_in, Fixed, Scoped, Reads, KnowsAll, Stage, Leads}
-use Rattle.decl_sections.proofs.Meaning.{of_last}
+use Rattle.decl_types.specs.ViewScoped.{own_in, decls_by, Fixed, Scoped, Reads, KnowsAll}
+use Rattle.decl_sections.specs.ViewSections.{members_in, said_in, Stage, Leads}
+use Rattle.decl_types.proofs.ForCallers.{of_last}
 use Rattle.decl_sections.proofs.Declaring.{members_fresh, fresh_more, names_members, names_turned}
+use Rattle.std.proofs.Common.{◌+◌, ◌-◌}
+use Rattle.std.specs.Prelude.{Result, OnOk, IfErr}
 
 -- ---- answers
 
@@ -48,6 +51,12 @@ pub leads_stops : {A S : Type 0} (T : Type 0) (P : A → Type 0) (of : S → A) 
     → Leads {T = T} P said (Err s)
 leads_stops T P of said (stop.Refused code at) h = h
 leads_stops T P of said stop.Memory h = tt
+
+-- a last step that can only want memory
+pub leads_last : {A T D : Type 0} (P : A → Type 0) (said : Answer A) (r : Result T Stop) → IfErr r (λ s. s ≡ stop.Memory) → OnOk r D
+    → (D → (a : A) × (said ≡ Ok a) × P a) → Leads P said r
+leads_last {T = T} P said (Ok x) m d f = f d
+leads_last {T = T} P said (Err s) m d f = subst (λ z. Leads {T = T} P said (Err z)) (sym m) tt
 
 -- ---- the rule by parts
 

@@ -24,11 +24,12 @@ use Rattle.decl_types.specs.ViewReading.{all_defined}
 use Rattle.decl_sections.specs.declared.starting.Frame.{Frame}
 use Rattle.decl_sections.specs.declared.starting.Reading.{Reading}
 use Rattle.decl_sections.specs.declared.starting.TheConstants.{MOST_DEFINITIONS}
-use Rattle.decl_sections.specs.ViewPlaces.{Ascends, AllFar}
-use Rattle.decl_sections.specs.ViewSections.{own_in, numbers_by, decls_by, none_known, type_decl, AreKnown, Away, Reads}
+use Rattle.decl_types.specs.ViewPlaces.{Ascends, AllFar}
+use Rattle.decl_types.specs.ViewScoped.{own_in, numbers_by, decls_by, type_decl, AreKnown, Away, Reads}
+use Rattle.decl_sections.specs.ViewSections.{none_known}
 use Rattle.decl_sections.specs.ViewWalk.{own_by, Begins, Framed, StageOf}
-use Rattle.decl_sections.proofs.Positions.{all_differ, no_key_among}
-use Rattle.decl_sections.proofs.Distances.{all_away}
+use Rattle.decl_types.proofs.ForCallers.{all_differ, no_key_among}
+use Rattle.decl_types.proofs.ForCallers.{all_away}
 use Rattle.decl_sections.proofs.Declaring.{declared_as, declares_both}
 
 -- ---- one after another

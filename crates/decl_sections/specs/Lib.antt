@@ -1,5 +1,4 @@
-pub mod ViewPlaces
+pub mod ViewSpelled
+pub mod ViewBodies
 pub mod ViewSections
-pub mod ViewContained
 pub mod ViewWalk
-pub mod ViewSized

@@ -1,22 +1,20 @@
 -- The walk through a section, by what the code holds. No public contract speaks of it.
-use Rattle.std.specs.Prelude.{◌≡◌, ℕ, pos, Bool, false, List, [], ◌++◌, length, drop}
+use Rattle.std.specs.Prelude.{◌≡◌, ℕ, pos, Bool, List, [], ◌++◌, length, drop}
 use Rattle.nim_tree.specs.Types.{Declaration}
 use Rattle.nim_types.specs.declared.types.TypeDef.{TypeDef}
-use Rattle.nim_types.specs.Types.{Ty, Key}
+use Rattle.nim_types.specs.Types.{Ty}
 use Rattle.nim_program.specs.declared.expr.Literal.TheVariants as V
 use Rattle.expr_parts.specs.declared.scope.Decl.{Decl}
 use Rattle.expr_parts.specs.declared.scope.Scope.{Scope}
 use Rattle.expr_parts.specs.declared.scope.What.TheVariants as what
 use Rattle.expr_parts.specs.ViewDecls.{declares}
 use Rattle.decl_rules.specs.State.{State}
-use Rattle.decl_rules.specs.Meanings.{is_key_among}
 use Rattle.decl_rules.specs.Sections.{Section, type_names}
 use Rattle.decl_written.specs.ViewWritten.{HasNames}
-use Rattle.decl_types.specs.declared.known.Definition.{Definition}
-use Rattle.decl_types.specs.ViewNodes.{no_key}
 use Rattle.decl_sections.specs.declared.starting.Frame.{Frame}
 use Rattle.decl_sections.specs.declared.starting.Reading.{Reading}
-use Rattle.decl_sections.specs.ViewSections.{numbers_by, decls_by, none_known, Fixed, Stage, Reads, Away, Differ}
+use Rattle.decl_types.specs.ViewScoped.{numbers_by, decls_by, Fixed}
+use Rattle.decl_sections.specs.ViewSections.{none_known, Stage}
 
 abbrev pub own_by : ℕ → List Decl → List ℕ → Bool
 own_by outside decls x = declares x (drop outside decls)
@@ -52,13 +50,3 @@ StageOf ts st all old frame ds scope reading s =
 -- a member of an enum, as it is declared
 abbrev pub member_decl : ℕ → ℕ → List ℕ → Decl
 member_decl ty i x = record { name = x; what = what.Constant ty (V.Ordinal (pos i)) }
-
--- ---- all definitions
-
--- the whole section has been read
-pub record Whole (ts : List Ty) (n m : ℕ) (keys : List Key) (read : List Definition) : Type 0 where
-  pub reads : Reads n m keys read
-  pub count : length read ≡ length keys
-  pub away : Away ts n keys
-  pub differ : Differ keys
-  pub none : is_key_among no_key keys ≡ false

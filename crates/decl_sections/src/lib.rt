@@ -1,11 +1,8 @@
-//! Sections of types: the walk through their definitions, and what is known behind it.
+//! Sections of types: what their definitions say, one after another, and what is known behind them.
 #![tactic(auto)]
 
-mod containing;
-mod knowing;
-mod places;
+mod bodies;
 mod reading;
-mod sizing;
+mod spelling;
 mod starting;
-pub mod stated;
-mod walk;
+pub mod walk;

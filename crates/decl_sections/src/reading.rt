@@ -1,7 +1,7 @@
 // The definitions of a section, one after another.
 ghost use Rattle.std.specs.Prelude.{◌≡◌, ◌<◌, ◌≤◌, ◌+◌, ◌++◌, ◌∷◌, [], ℕ, List, suc, pos, drop, map};
 ghost use Rattle.std.specs.Prelude.{length, Ok};
-ghost use Rattle.std.specs.Prelude.{if◌then◌else◌, true, IfOk, IfErr, OnOk};
+ghost use Rattle.std.specs.Prelude.{if◌then◌else◌, IfOk, IfErr, OnOk};
 ghost use Rattle.std.specs.HashSet.{contains};
 ghost use Rattle.arc_base.specs.declared.place.Stop.TheVariants as Stop;
 ghost use Rattle.arc_base.specs.Refusal.{Answers, and_then};
@@ -9,7 +9,7 @@ ghost use Rattle.indent_scanner.specs.Words.{normal};
 ghost use Rattle.nim_tree.specs.Types.{Declaration, declaration_of, body_of};
 ghost use Rattle.nim_types.specs.Types as type;
 ghost use Rattle.nim_types.specs.Types.{Ty, Key, Facts, same_text};
-ghost use Rattle.nim_types.specs.Table.{type_at, meant, facts_in};
+ghost use Rattle.nim_types.specs.Table.{type_at, facts_in};
 ghost use Rattle.expr_parts.specs.declared.scope.Decl.{Decl};
 ghost use Rattle.expr_parts.specs.View.{Under, Grown, env_of, entry_of, DeclsWithin};
 ghost use Rattle.expr_parts.specs.ViewReady.{IsReady};
@@ -20,23 +20,24 @@ ghost use Rattle.decl_rules.specs.Sections.{Section, new_in_section, if_single, 
 ghost use Rattle.decl_rules.specs.Sections.{declaration_rule, declarations_rule, none_read};
 ghost use Rattle.decl_written.specs.ViewWritten.{HasNames};
 ghost use Rattle.decl_types.specs.ViewNodes.{names_env_of};
-ghost use Rattle.decl_types.specs.ViewBodies.{IsDeclared, member_entries, said_by};
+ghost use Rattle.decl_sections.specs.ViewBodies.{IsDeclared, member_entries, said_by};
 ghost use Rattle.decl_types.specs.ViewKnown.{Kept, key_by, IsSound};
 ghost use Rattle.decl_sections.specs.declared.starting.TheConstants.{MOST_DEFINITIONS};
-ghost use Rattle.decl_sections.specs.ViewSections.{members_in, said_in, type_by, Leads, KnowsAll};
+ghost use Rattle.decl_sections.specs.ViewSections.{members_in, said_in, Leads};
+ghost use Rattle.decl_types.specs.ViewScoped.{KnowsAll};
 ghost use Rattle.decl_sections.specs.ViewWalk.{Framed, StageOf, member_decl};
 
-use crate::knowing::{definition_at, know_all};
+use crate::bodies::{Declared, body, check_single, new_in_section, new_members};
 use crate::starting::{Frame, MOST_DEFINITIONS, Reading};
-use arc_base::{Bytes, Items, Memory, Place, Stop};
-use decl_parts::state::after;
-use decl_types::bodies::{Declared, Meaning, body, check_single, new_in_section, new_members};
-use decl_types::known::{Definition, is_sound};
+use arc_base::{Bytes, Items, Memory, Stop};
+use decl_types::knowing::{declared_type, definition_at, know_all};
+use decl_types::known::{Definition, Meaning, is_sound};
 use decl_types::nodes::Names;
 use expr_parts::scope::{Decl, Scope, What};
+use expr_steps::given::behind;
 use nim_program::Literal;
 use nim_tree::{TypeBody, TypeDef as Tree};
-use nim_types::{TypeDef, TypeId, TypeTable};
+use nim_types::{TypeId, TypeTable};
 use std::alloc::Global;
 use std::collections::HashSet;
 
@@ -180,55 +181,9 @@ fn declare_members(
     let mut number = 0_u32;
     for member in members {
         declare_member(alloc, scope, all, ty, number, member.as_slice())?;
-        number = after(number)?;
+        number = behind(number)?;
     }
     Ok(())
-}
-
-// Whether an entry of the table is that of a definition of an object or an enum.
-fn is_entry_of(entry: &TypeDef, definition: &Definition) -> bool
-    ensures { result ≡ true → (ts : List Ty) → meant ts entry.now
-        ≡ type_by definition.now definition.now.meaning }
-{
-    match (entry, &definition.meaning) {
-        (TypeDef::Object { name, at, args, .. }, Meaning::Object { .. }) => {
-            args.as_slice().is_empty() && is_named(name.as_slice(), *at, definition)
-        }
-        (TypeDef::Enum { name, at, .. }, Meaning::Enum(_)) => {
-            is_named(name.as_slice(), *at, definition)
-        }
-        _ => false,
-    }
-}
-
-fn is_named(name: &[u8], at: Place, definition: &Definition) -> bool
-    ensures { result ≡ true → record { name = name.now; at = at } ≡ key_by definition.now }
-{
-    name == definition.name.as_slice() && at == definition.at
-}
-
-/// The type of the definition of an object or an enum, which is known.
-pub fn declared_type(
-    types: &TypeTable,
-    known: &[Option<TypeId>],
-    number: usize,
-    definition: &Definition,
-) -> Result<TypeId, Stop>
-    ensures within { IfOk result (λ id. id < length types.now) }
-    ensures means { IfOk result (λ id. (ts : List Ty) (facts : Facts) → Under types.now ts facts
-        → type_at ts id ≡ type_by definition.now definition.now.meaning) }
-    ensures memory { IfErr result (λ stop. stop ≡ Stop.Memory) }
-{
-    let Some(Some(id)) = known.get(number) else {
-        return Err(Stop::Memory);
-    };
-    if *id >= types.count() {
-        return Err(Stop::Memory);
-    }
-    if !is_entry_of(types.get(*id), definition) {
-        return Err(Stop::Memory);
-    }
-    Ok(*id)
 }
 
 // The type of an enum.

@@ -7,15 +7,16 @@ ghost use Rattle.nim_tree.specs.Types.{declaration_of};
 ghost use Rattle.expr_parts.specs.ViewDecls.{declares};
 ghost use Rattle.decl_rules.specs.Sections.{type_names};
 ghost use Rattle.decl_written.specs.ViewWritten.{HasNames};
-ghost use Rattle.decl_sections.specs.ViewSections.{numbers_by, decls_by, none_known, type_decl};
+ghost use Rattle.decl_types.specs.ViewScoped.{numbers_by, decls_by, type_decl};
+ghost use Rattle.decl_sections.specs.ViewSections.{none_known};
 ghost use Rattle.decl_sections.specs.ViewWalk.{Begins};
 
+use crate::bodies::Declared;
 use arc_base::{Bytes, Stop};
-use decl_parts::state::after;
-use decl_types::bodies::Declared;
 use decl_types::known::Definition;
 use decl_types::nodes::Names;
 use expr_parts::scope::{Decl, Scope, What};
+use expr_steps::given::behind;
 use indent_scanner::normal_form;
 use nim_tree::TypeDef as Tree;
 use nim_types::{TypeId, TypeTable};
@@ -99,7 +100,7 @@ fn declare_types(
     let mut number = 0_u32;
     for def in defs {
         declare_type(alloc, scope, outside, &mut numbers, number, def)?;
-        number = after(number)?;
+        number = behind(number)?;
     }
     Ok(numbers)
 }

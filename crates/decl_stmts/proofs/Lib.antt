@@ -1,3 +1,4 @@
+mod Sectioning
 mod Made
 mod Scopes
 mod Defining

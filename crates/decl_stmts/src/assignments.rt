@@ -18,7 +18,8 @@ ghost use Rattle.decl_rules.specs.State.{Around as Near, ResultPlace as Gives, d
 ghost use Rattle.decl_rules.specs.Stated.{stated};
 ghost use Rattle.decl_rules.specs.Values.{is_target, target_rule, target_at, source_want};
 ghost use Rattle.decl_rules.specs.Values.{is_source, source_rule, assigned};
-ghost use Rattle.decl_parts.specs.View.{numbered_of, steps_of, Ready, AllStatedSo};
+ghost use Rattle.decl_written.specs.ViewWritten.{numbered_of};
+ghost use Rattle.decl_parts.specs.View.{steps_of, Ready, AllStatedSo};
 ghost use Rattle.decl_stmts.specs.ViewStated.{is_char, assign_source};
 ghost use Rattle.decl_stmts.specs.ViewStated.{assign_checked, assign_behind};
 
@@ -27,7 +28,8 @@ use decl_parts::nodes::{does_two, idle_with_two};
 use decl_parts::same::is_itself;
 use decl_parts::state::State;
 use decl_parts::typing::{value_at, value_first};
-use decl_parts::values::{Numbered, accepted_if};
+use decl_parts::values::accepted_if;
+use decl_written::values::Numbered;
 use expr_parts::kinds::{entry, is_int, is_same, is_text};
 use expr_parts::paths::path_of;
 use expr_parts::scope::Scope;

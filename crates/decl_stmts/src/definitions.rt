@@ -17,7 +17,8 @@ ghost use Rattle.decl_rules.specs.Definitions.{if_global, names_rule, variable_r
 ghost use Rattle.decl_rules.specs.Definitions.{variables_rule, definition_value};
 ghost use Rattle.decl_rules.specs.Definitions.{definition_rule, definitions_rule};
 ghost use Rattle.decl_rules.specs.Written.{if_written};
-ghost use Rattle.decl_parts.specs.View.{around_of, numbered_of, env_in, state_of, place_of};
+ghost use Rattle.decl_parts.specs.View.{around_of, env_in, state_of, place_of};
+ghost use Rattle.decl_written.specs.ViewWritten.{numbered_of};
 ghost use Rattle.decl_parts.specs.View.{Beside, Over, Ready, Typing, Stating, AllStatedSo};
 ghost use Rattle.decl_stmts.specs.ViewDefinitions.{counting, news_as, Kept, Still, Defining};
 
@@ -26,8 +27,8 @@ use decl_parts::names::{all_fit, check_names, is_whole, place_of};
 use decl_parts::state::{Around, State, after};
 use decl_parts::stmts::{append, list_of};
 use decl_parts::typing::definition_first;
-use decl_parts::values::Numbered;
-use decl_written::stated::written_type;
+use decl_parts::written::written_type;
+use decl_written::values::Numbered;
 use expr_parts::scope::{Decl, What};
 use expr_parts::value::refusal;
 use indent_scanner::normal_form;

@@ -5,4 +5,5 @@ pub mod assignments;
 pub mod blocks;
 pub mod constants;
 pub mod definitions;
+mod sections;
 pub mod statements;

@@ -14,14 +14,14 @@ use Rattle.expr_parts.specs.View.{Under, AllFormed, Grown}
 use Rattle.expr_parts.proofs.ForCallers.{grown_same}
 use Rattle.decl_rules.specs.Meanings.{renamed, resolved, resolved_fields, KnownType, meaning_of, facts_of}
 use Rattle.decl_types.specs.declared.nodes.Node.{Node}
-use Rattle.decl_types.specs.declared.bodies.Meaning.{Meaning}
-use Rattle.decl_types.specs.declared.bodies.Meaning.TheVariants as M
+use Rattle.decl_types.specs.declared.known.Meaning.{Meaning}
+use Rattle.decl_types.specs.declared.known.Meaning.TheVariants as M
 use Rattle.decl_types.specs.declared.known.Definition.{Definition}
 use Rattle.decl_types.specs.ViewNodes.{node_types}
-use Rattle.decl_types.specs.ViewBodies.{meant_of, typed_fields}
+use Rattle.decl_types.specs.ViewKnown.{meant_of, typed_fields}
 use Rattle.decl_types.specs.ViewKnown.{KnownAs, Untouched, NodesIn, Declares, Kept, object_def, enum_def, distinct_def, AddsMeant, Becomes}
 use Rattle.decl_types.specs.ViewKnown.{meaning_by, key_by}
-use Rattle.decl_types.proofs.Knowing.{mapped_at, number_type, below_at}
+use Rattle.decl_types.proofs.Numbering.{mapped_at, number_type, below_at}
 use Rattle.decl_types.proofs.Declaring.{FormsStay, kept_grown, kept_on, kept_declared, declared_type, declared_facts, type_front, under_declared}
 
 -- ---- fields

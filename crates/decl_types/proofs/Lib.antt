@@ -1,11 +1,15 @@
-mod Noding
-mod Seeing
-mod Listing
-mod Productions
-mod Saying
-mod Knowing
+mod Outcomes
+mod Numbering
 mod Declaring
 mod Becoming
 mod Marking
 mod Nexting
+mod Positions
+mod Distances
+mod Meaning
+mod Scoping
+mod Growing
+mod Readying
+mod Enclosing
+mod Sizes
 pub mod ForCallers

@@ -8,13 +8,13 @@ use Rattle.nim_types.specs.Table.{type_at, types_at}
 use Rattle.decl_rules.specs.Meanings.{occurs, occurs_in, occurs_in_any, made_of, field_types}
 use Rattle.decl_types.specs.declared.nodes.Node.{Node}
 use Rattle.decl_types.specs.declared.nodes.Node.TheVariants as N
-use Rattle.decl_types.specs.declared.bodies.Meaning.{Meaning}
-use Rattle.decl_types.specs.declared.bodies.Meaning.TheVariants as M
+use Rattle.decl_types.specs.declared.known.Meaning.{Meaning}
+use Rattle.decl_types.specs.declared.known.Meaning.TheVariants as M
 use Rattle.decl_types.specs.declared.known.Definition.{Definition}
 use Rattle.nim_types.specs.declared.types.FieldName.{FieldName}
 use Rattle.std.specs.Prelude.{Some}
 use Rattle.decl_types.specs.ViewNodes.{node_type, nodes_onto, node_types}
-use Rattle.decl_types.specs.ViewBodies.{meant_of, typed_fields}
+use Rattle.decl_types.specs.ViewKnown.{meant_of, typed_fields}
 use Rattle.decl_types.specs.ViewKnown.{NodeIn, NodesIn, OneEach}
 use Rattle.decl_types.specs.ViewMarks.{Marks, Apart, mark_at, any_at, node_mark, marks_onto, meaning_mark, definition_mark}
 

@@ -1,5 +1,8 @@
 pub mod ViewNodes
-pub mod ViewBodies
 pub mod ViewKnown
 pub mod ViewMarks
 pub mod ViewReading
+pub mod ViewPlaces
+pub mod ViewScoped
+pub mod ViewContained
+pub mod ViewSized

@@ -10,11 +10,24 @@ use Rattle.expr_parts.specs.View.{Under, KindsIn, AllFormed}
 use Rattle.decl_rules.specs.Meanings.{renamed, Meant, KnownType, meaning_in, or_name, meaning_of, facts_of}
 use Rattle.decl_types.specs.declared.nodes.Node.{Node}
 use Rattle.decl_types.specs.declared.nodes.Node.TheVariants as N
-use Rattle.decl_types.specs.declared.bodies.Meaning.{Meaning}
-use Rattle.decl_types.specs.declared.bodies.Meaning.TheVariants as M
+use Rattle.decl_types.specs.declared.known.Meaning.{Meaning}
+use Rattle.decl_types.specs.declared.known.Meaning.TheVariants as M
 use Rattle.decl_types.specs.declared.known.Definition.{Definition}
 use Rattle.decl_types.specs.ViewNodes.{key_at, node_types}
-use Rattle.decl_types.specs.ViewBodies.{meant_of}
+use Rattle.nim_types.specs.Types.{Field}
+use Rattle.decl_rules.specs.Meanings.{an_object, an_enum, a_distinct, an_alias}
+
+-- ---- what definitions say
+
+abbrev pub typed_fields : List FieldName → List Ty → List Field
+typed_fields (f ∷ fs) (t ∷ ts) = record { name = f.name; shown = f.shown; of = t } ∷ typed_fields fs ts
+typed_fields _ _ = []
+
+abbrev pub meant_of : List Ty → Meaning → Meant
+meant_of done (M.Object names is) = an_object (typed_fields names (map (type_at done) is))
+meant_of done (M.Enum members) = an_enum members
+meant_of done (M.Distinct i) = a_distinct (type_at done i)
+meant_of done (M.Alias i) = an_alias (type_at done i)
 
 -- each has the type that its name means
 abbrev pub KnownAs : List Ty → List Key → List (Option ℕ) → (by : Key → Ty) → Type 0

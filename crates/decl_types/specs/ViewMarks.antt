@@ -6,8 +6,8 @@ use Rattle.nim_types.specs.Table.{type_at}
 use Rattle.decl_rules.specs.Meanings.{occurs}
 use Rattle.decl_types.specs.declared.nodes.Node.{Node}
 use Rattle.decl_types.specs.declared.nodes.Node.TheVariants as N
-use Rattle.decl_types.specs.declared.bodies.Meaning.{Meaning}
-use Rattle.decl_types.specs.declared.bodies.Meaning.TheVariants as M
+use Rattle.decl_types.specs.declared.known.Meaning.{Meaning}
+use Rattle.decl_types.specs.declared.known.Meaning.TheVariants as M
 use Rattle.decl_types.specs.declared.known.Definition.{Definition}
 use Rattle.decl_types.specs.ViewNodes.{key_at}
 

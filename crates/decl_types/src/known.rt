@@ -12,12 +12,24 @@ ghost use Rattle.decl_types.specs.ViewKnown.{KnownAs, Untouched, NodeIn, NodesIn
 ghost use Rattle.decl_types.specs.ViewKnown.{OneEach, IsSound, AddsMeant, Becomes, Kept};
 ghost use Rattle.decl_types.specs.ViewKnown.{Declares, object_def, enum_def, distinct_def};
 
-use crate::bodies::Meaning;
 use crate::nodes::Node;
 use arc_base::{Bytes, Items, Memory, Place, Stop};
 use expr_parts::grow::add;
 use nim_types::{FieldName, TypeDef, TypeId, TypeTable, table_growth};
 use std::alloc::Global;
+
+/// What a definition says of its type, by its nodes.
+#[derive(Drop)]
+pub enum Meaning {
+    Object {
+        fields: Items<FieldName>,
+        types: Items<u32>,
+    },
+    /// The members as declared.
+    Enum(Items<Bytes>),
+    Distinct(u32),
+    Alias(u32),
+}
 
 /// A definition that has been read.
 #[derive(Drop)]

@@ -9,8 +9,7 @@ ghost use Rattle.decl_types.specs.ViewMarks.{mark_at, any_at, node_mark, node_ma
 ghost use Rattle.decl_types.specs.ViewMarks.{definition_mark, is_next, next_from, Marks};
 ghost use Rattle.decl_types.specs.ViewMarks.{Apart};
 
-use crate::bodies::Meaning;
-use crate::known::Definition;
+use crate::known::{Definition, Meaning};
 use crate::nodes::Node;
 use arc_base::Memory;
 use std::alloc::Global;

@@ -55,10 +55,6 @@ pub some_is : {X : Type 0} (xs : List X) (n : ℕ) → n ≡ length xs → (n ==
 some_is [] n e f = absurd (both_ways (n == 0) f (eq-eqb n 0 e))
 some_is (x ∷ xs) n e f = (x, xs, refl)
 
-pub below_last : (n i : ℕ) (is : List ℕ) → AllBelow n is → i < n → AllBelow n (is ++ i ∷ [])
-below_last n i [] h k = (k, tt)
-below_last n i (j ∷ is) h k = (h.0, below_last n i is h.1 k)
-
 -- ---- names
 
 types_once : (ts : List Ty) (is : List ℕ) → types_in (map (at_once_of ts) is) ≡ map (type_at ts) is

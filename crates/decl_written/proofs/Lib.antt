@@ -1,3 +1,4 @@
+mod Valued
 mod NameSets
 mod AtOnce
 pub mod ForCallers

@@ -16,6 +16,9 @@ use Rattle.expr_rules.specs.Constructions.{is_among}
 use Rattle.expr_parts.specs.View.{Under, env_of}
 use Rattle.decl_written.specs.declared.parts.Parts.{Parts}
 use Rattle.decl_rules.specs.Written.{Spelled, spelled_as, at_once, field_names_rule, Part, Parted, names_of, types_of, parts_spelled}
+use Rattle.expr_parts.specs.View.{valued_of}
+use Rattle.decl_rules.specs.Values.{Value, as_value}
+use Rattle.decl_written.specs.declared.values.Numbered.{Numbered}
 
 -- a type whose size has been looked at
 abbrev pub at_once_of : List Ty → ℕ → Spelled
@@ -59,3 +62,8 @@ GoesOn ds scope before f old seen new =
     (after : List (List ℕ)) × HasNames seen after × ((ts : List Ty) (facts : Facts) → Under ds ts facts → (rest : Fields)
     → PartsLeft old.names (types_at ts old.types) (parts_spelled at_once (env_of ts facts scope) before (with_field f rest))
     ≡ PartsLeft new.names (types_at ts new.types) (parts_spelled at_once (env_of ts facts scope) after rest))
+
+-- ---- values
+
+abbrev pub numbered_of : List Ty → Numbered → Value
+numbered_of ts v = as_value (valued_of ts v.value) v.next

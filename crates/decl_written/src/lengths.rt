@@ -7,8 +7,8 @@ ghost use Rattle.expr_parts.specs.View.{Under, Grown, env_of};
 ghost use Rattle.expr_parts.specs.ViewReady.{IsReady};
 ghost use Rattle.decl_rules.specs.Values.{length_value};
 
+use crate::values::valued_term;
 use arc_base::Stop;
-use decl_parts::values::valued_term;
 use expr_constants::constant_rules::length_rule;
 use expr_parts::scope::Scope;
 use expr_parts::value::Want;

@@ -1,7 +1,7 @@
-//! Types that are written, but in sections of types.
+//! Types that are written, but in sections of types, and values that are needed.
 #![tactic(auto)]
 
 pub mod lengths;
 pub mod parts;
-pub mod stated;
+pub mod values;
 pub mod written;

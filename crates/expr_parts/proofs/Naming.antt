@@ -11,7 +11,8 @@ use Rattle.arc_base.specs.Refusal.{Answers}
 use Rattle.nim_types.specs.Types.{Ty, same_text}
 use Rattle.expr_parts.specs.declared.scope.Procedure.{Procedure as RustProcedure}
 use Rattle.expr_rules.specs.Builtins.{operation_rule}
-use Rattle.expr_rules.specs.Env.{Env, Entry, Known, unknown, a_variable, a_constant, a_type, a_pending_type, procedures, the_input, known_behind, known_next, name_in}
+use Rattle.expr_rules.specs.Env.{Env, Entry, Known, unknown, a_variable, a_constant, a_type, a_pending_type, procedures, the_input, known_behind, known_next}
+use Rattle.expr_rules.specs.Env.{name_in}
 use Rattle.expr_parts.specs.declared.scope.What.{What}
 use Rattle.expr_parts.specs.declared.scope.What.TheVariants as what
 use Rattle.expr_parts.specs.declared.scope.Decl.{Decl}

@@ -2,6 +2,7 @@
 use Rattle.std.proofs.Common.{◌≡◌, ℕ, Bool, true, false, List, ◌∷◌, ◌++◌, refl, sym, ap, ◌∙◌, append_assoc}
 use Rattle.nim_program.specs.Program as P
 use Rattle.nim_program.specs.Program.{Expr, Path, Args}
+use Rattle.nim_program.proofs.ForCallers.{fresh_same}
 use Rattle.nim_program.specs.Folds.{lists, node_numbers, nodes, total_at, totals}
 use Rattle.expr_rules.specs.Numbers.{Run}
 
@@ -34,12 +35,14 @@ mutual
 
   path_are : (read : Bool) (path : Path) (rest : List ℕ) → path_numbers path rest ≡ total_at lists node_numbers read path ++ rest
   path_are read (P.Variable k ty place global) rest = refl
-  path_are read (P.Fresh a) rest = numbers_are a rest
+  path_are read (P.Fresh a) rest =
+      numbers_are a rest
+      ∙ ap (λ ns. ns ++ rest) (sym (fresh_same lists node_numbers (λ ty read x. refl) (λ node ty read literal. refl) read a))
   path_are read (P.Field k ty base field) rest = ap (λ ns. k.number ∷ ns) (path_are false base rest)
   path_are read (P.Element k ty base i constant) rest =
       ap (λ ns. k.number ∷ ns) (path_are false base (numbers i rest) ∙ ap (λ ns. total_at lists node_numbers false base ++ ns) (numbers_are i rest)
       ∙ sym (append_assoc (total_at lists node_numbers false base) (nodes i) rest))
-  path_are read (P.Deref ty base) rest = path_are read base rest
+  path_are read (P.Deref ty base) rest = path_are false base rest
 
   args_are : (args : Args) (rest : List ℕ) → args_numbers args rest ≡ totals lists node_numbers args ++ rest
   args_are P.NoArg rest = refl

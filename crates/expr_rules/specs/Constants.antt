@@ -16,7 +16,8 @@ use Rattle.nim_program.specs.declared.operation.Short.TheVariants.{And, Or}
 use Rattle.nim_program.specs.Program.{Literal, Number, Characters, PartsOf, ElementsOf, Literals, NoLiteral, ALiteral, Act, Doing, Building, Giving, Calling}
 use Rattle.nim_program.specs.Program.{Expr, Apply, Read, Early, Choose, Path, Fresh, Args, NoArg, ByValue, ByPath, types_in}
 use Rattle.nim_program.specs.Ints.{Checked, Fine, Trapped, applied, applied_to, compared, truth, is_true, within}
-use Rattle.nim_program.specs.Texts.{plain_text, below_distinct}
+use Rattle.nim_program.specs.Texts.{plain_text}
+use Rattle.nim_program.specs.Kinds.{below_distinct}
 use Rattle.nim_program.specs.Defaults.{default_literal}
 use Rattle.expr_rules.specs.declared.limits.TheConstants.{MOST_TYPE_BYTES}
 use Rattle.expr_rules.specs.Literals.{literal_bytes}

@@ -162,6 +162,15 @@ abbrev pub bumping_value : Code Line
 bumping_value = code (bump ∷ proc 1 1 (place K.Global 3 1 ∷ places K.Temp 0 (11 ∷ []))
     (L.Blank 1 3 ∷ number 11 7 ∷ L.Call 99 Owned None 0 (Value 11 ∷ []) ∷ L.Return None ∷ []) ∷ [])
 
+-- ---- a constant that stands in the data
+
+-- const c = [5, 6, 7]
+-- echo c[index]
+abbrev pub standing : (index : ℕ) → Code Line
+standing index = code (proc 0 0 (places K.Temp 0 (1 ∷ 4 ∷ []) ++ (places K.Within 3 (2 ∷ []) ++ places K.Within 0 (3 ∷ [])))
+    (number 1 index ∷ L.Standing 2 3 (P.Ordinal (pos 5) ∷ P.Ordinal (pos 6) ∷ P.Ordinal (pos 7) ∷ P.Parts 3 ∷ []) ∷ L.Item 3 2 1 ∷ get 4 3
+    ∷ echo 4 ∷ L.Return None ∷ []) ∷ [])
+
 -- ---- what is at a fault
 
 -- a temporary that got nothing is written; a place that isn't filled yet is used
@@ -216,6 +225,13 @@ writes_to kind lines = code (proc 0 1 (place K.Global 0 0 ∷ places K.Temp 0 (1
 
 abbrev pub fresh_written : Code Line
 fresh_written = writes_to K.Within (L.Fresh 3 1 ∷ [])
+
+abbrev pub standing_written : Code Line
+standing_written = writes_to K.Within (L.Standing 3 0 (P.Ordinal (pos 5) ∷ []) ∷ [])
+
+-- a constant in a place that may be written
+abbrev pub standing_as_place : Code Line
+standing_as_place = writes_to K.Location (L.Standing 3 0 (P.Ordinal (pos 5) ∷ []) ∷ [])
 
 abbrev pub place_written : Code Line
 place_written = writes_to K.Location (L.Root 3 0 true ∷ [])

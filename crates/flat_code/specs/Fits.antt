@@ -18,6 +18,7 @@ use Rattle.flat_code.specs.declared.line.From.{From}
 use Rattle.flat_code.specs.declared.line.From.TheVariants as F
 use Rattle.flat_code.specs.declared.line.Line.{Line}
 use Rattle.flat_code.specs.declared.line.Line.TheVariants as L
+use Rattle.flat_code.specs.declared.line.Piece.{Piece}
 use Rattle.flat_code.specs.declared.place.PlaceKind.{PlaceKind}
 use Rattle.flat_code.specs.declared.place.PlaceKind.TheVariants as K
 use Rattle.flat_code.specs.declared.place.FlatPlace.{FlatPlace}
@@ -206,6 +207,10 @@ module _ (known : Known) (procs : List Signature) (globals places : List FlatPla
   passes_as passed None = needs_no_type known.facts passed
   passes_as passed ty = same_value passed ty
 
+  -- the pieces of one value of a type
+  abbrev pub is_constant_of : (ty : ℕ) → List Piece → Bool
+  is_constant_of ty pieces = are_one pieces 0 && has_shape (value_of pieces) (shape_of known.facts (type_at known.types ty))
+
   -- What gives no value gives it to a number that no temporary has.
   abbrev pub fits : Line → Bool
   fits (L.Apply to operation how ty of from) =
@@ -215,15 +220,15 @@ module _ (known : Known) (procs : List Signature) (globals places : List FlatPla
   fits (L.Construct to how ty fields from) =
       (building_fits known.facts (Some (type_at known.types ty)) fields (map taken from) && are_placed zero from)
       && is_of (value to) (Some (type_at known.types ty))
-  fits (L.Constant to how ty pieces) =
-      (are_one pieces 0 && has_shape (value_of pieces) (shape_of known.facts (type_at known.types ty)))
-      && is_of (value to) (Some (type_at known.types ty))
+  fits (L.Constant to how ty pieces) = is_constant_of ty pieces && is_of (value to) (Some (type_at known.types ty))
   fits (L.Call to how ty proc from) =
       call_fits (slice_get procs proc) (if_type known.types ty) from && same_value (value to) (if_type known.types ty)
   fits (L.Get to from how site ty) = is_of (value to) (if_type known.types ty) && is_of (value to) (location from)
   fits (L.Look to from) = is_of (value to) (location from)
   fits (L.Root to place global) = is_of (location to) (any_place place global) && may_write to
   fits (L.Fresh to from) = is_of (location to) (value from) && not (may_write to)
+  fits (L.Standing to ty pieces) =
+      is_constant_of ty pieces && (is_of (location to) (Some (type_at known.types ty)) && not (may_write to))
   fits (L.Part to from field) = is_of (location to) (field_at (kind_at (location from)) field) && same_base to from
   fits (L.Item to from index) =
       is_of (location to) (element_of (kind_at (location from))) && (is_int (kind_at (value index)) && same_base to from)

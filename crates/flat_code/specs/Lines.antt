@@ -8,7 +8,8 @@ use Rattle.nim_program.specs.Traps.{LengthChanged}
 use Rattle.nim_program.specs.Ints.{truth, is_true, inside}
 use Rattle.nim_program.specs.Program.{Doing, Building}
 use Rattle.nim_program.specs.View.{if_type}
-use Rattle.nim_meaning.specs.Values.{Value, Number, nothing, number_of, length_of, bytes, default_of, Standing, Location, Holds, Operand, Given, At, slots_for}
+use Rattle.nim_meaning.specs.Values.{Value, Number, nothing, number_of, length_of, bytes, default_of, Standing, Made, Location, Holds, Operand, Given, At}
+use Rattle.nim_meaning.specs.Values.{slots_for}
 use Rattle.nim_meaning.specs.State.{World, slot_at, load}
 use Rattle.nim_meaning.specs.Acts.{branch}
 use Rattle.nim_meaning.specs.Deeds.{Deed, Opens, perform, give, ◌>>=◌, ◌>>◌, costs, looks, does as changes, stop}
@@ -16,7 +17,8 @@ use Rattle.nim_meaning.specs.Deeds as deeds
 use Rattle.nim_meaning.specs.Here.{gives_hooked}
 use Rattle.flat_code.specs.Pieces.{value_of, pieces_bytes}
 use Rattle.nim_meaning.specs.Places.{made_by, place_at, rooted, made, to_part, to_item, to_object, item_of, fetched, put}
-use Rattle.nim_meaning.specs.Meaning.{row, got_by, handed_by, handed_bytes, limit}
+use Rattle.nim_meaning.specs.Meaning.{row, got_by, handed_by, limit}
+use Rattle.nim_meaning.specs.Aims.{handed_bytes}
 use Rattle.flat_code.specs.declared.line.From.{From}
 use Rattle.flat_code.specs.declared.line.From.TheVariants as F
 use Rattle.flat_code.specs.declared.line.Line.{Line}
@@ -121,6 +123,7 @@ does known plan x (L.Root to place global) =
     if_open x.world (level_at global x.level) place
     (leads x to (Located (place_at 0 0)) (rooted (Standing (level_at global x.level) place)))
 does known plan x (L.Fresh to from) = using (x.temps.values from) (λ v. leads x to (Within from []) (made v))
+does known plan x (L.Standing to ty pieces) = leads x to (Located (place_at 0 0)) (rooted (Made (value_of pieces)))
 does known plan x (L.Part to from field) = using_place x.temps from (λ place location. leads x to place (to_part location field))
 does known plan x (L.Item to from index) =
     using_place x.temps from (λ place location. using_number x.temps index (λ z. leads x to place (to_item location z)))

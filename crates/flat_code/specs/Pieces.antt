@@ -1,4 +1,5 @@
 -- The value of a constant, from its pieces: parts stand before the whole.
+use Rattle.std.specs.Int.{w32, cast_unsigned, to_le_bytes}
 use Rattle.std.specs.Prelude.{ℕ, zero, suc, ◌-◌, nat_eq, nat_le, Bool, ◌&&◌, List, [], ◌∷◌, ◌++◌, None}
 use Rattle.nim_program.specs.Program.{Literal, Number as Ordinal, Characters, NoObject, PartsOf, ElementsOf, Literals, NoLiteral, ALiteral}
 use Rattle.nim_meaning.specs.Values.{Value, Number, Parts, Fixed, Ref, Values, Nil, More, nothing, bytes}
@@ -41,6 +42,25 @@ abbrev pub pieces_bytes : List Piece → ℕ
 pieces_bytes (P.Ordinal z ∷ []) = 0
 pieces_bytes (P.Text text ∷ []) = 0
 pieces_bytes pieces = bytes (value_of pieces)
+
+-- ---- constants that stand in the data
+
+-- The words of pieces: a value without parts has one that nobody looks at. What comes with the heap has none yet.
+abbrev pub piece_words : List Piece → List ℕ
+piece_words [] = []
+piece_words (P.Ordinal z ∷ pieces) = cast_unsigned w32 z ∷ piece_words pieces
+piece_words (P.Parts zero ∷ pieces) = 0 ∷ piece_words pieces
+piece_words (P.Elements zero ∷ pieces) = 0 ∷ piece_words pieces
+piece_words (piece ∷ pieces) = piece_words pieces
+
+-- their bytes, the lowest one of a word first
+abbrev pub words_bytes : List ℕ → List ℕ
+words_bytes [] = []
+words_bytes (word ∷ words) = to_le_bytes w32 word ++ words_bytes words
+
+-- parts stand before the whole, so the words of pieces in their order are those of the value
+abbrev pub standing_bytes : List Piece → List ℕ
+standing_bytes pieces = words_bytes (piece_words pieces)
 
 -- ---- the pieces of a constant's value
 

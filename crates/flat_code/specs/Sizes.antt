@@ -21,6 +21,7 @@ use Rattle.flat_code.specs.declared.place.PlaceKind.{PlaceKind}
 use Rattle.flat_code.specs.declared.place.PlaceKind.TheVariants.{Local, Cursor, Result, Param, ForVar, Caught, Global, Temp, Location, Within, Counter}
 use Rattle.flat_code.specs.declared.place.FlatPlace.{FlatPlace}
 use Rattle.flat_code.specs.Fits.{start_places}
+use Rattle.flat_code.specs.Pieces.{standing_bytes}
 use Rattle.flat_code.specs.Scene.{Known, known_in}
 
 -- ---- variables
@@ -105,6 +106,7 @@ weight (L.Get to from how site ty) = move_weight
 weight (L.Look to from) = move_weight
 weight (L.Root to place global) = 1
 weight (L.Fresh to from) = 1
+weight (L.Standing to ty pieces) = 1
 weight (L.Part to from field) = 2
 weight (L.Item to from index) = 6
 weight (L.Object to from) = 3
@@ -139,9 +141,10 @@ abbrev pub pieces_texts : List Piece → List (List ℕ)
 pieces_texts [] = []
 pieces_texts (piece ∷ pieces) = piece_texts piece ++ pieces_texts pieces
 
--- the texts of constants, each as often as it stands there
+-- the texts of constants, each as often as it stands there; the bytes of a constant that stands in the data are one more
 abbrev pub texts_in : Line → List (List ℕ)
 texts_in (L.Constant to how ty pieces) = pieces_texts pieces
+texts_in (L.Standing to ty pieces) = standing_bytes pieces ∷ pieces_texts pieces
 texts_in line = []
 
 abbrev pub lines_texts : List Line → List (List ℕ)

@@ -62,6 +62,10 @@ macro_rules! copy_of {
                 let pieces = pieces_copied($alloc, pieces.as_slice())?;
                 Ok(Line::Constant { to: *to, how: *how, ty: *ty, pieces })
             }
+            Line::Standing { to, ty, pieces } => {
+                let pieces = pieces_copied($alloc, pieces.as_slice())?;
+                Ok(Line::Standing { to: *to, ty: *ty, pieces })
+            }
         }
     };
 }

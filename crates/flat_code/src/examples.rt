@@ -7,7 +7,7 @@ ghost use Rattle.flat_code.specs.Examples.{Comes_to, IsAtFault, Fits_places, Fit
 ghost use Rattle.flat_code.specs.Examples.{Leads_astray};
 
 /// What small code comes to, in flat code and as owned and block code: a loop in a procedure, an
-/// element by its location, a trap; and what is at a fault: a temporary or a place that got nothing,
+/// element by its location, also of a constant, a trap; and what is at a fault: a temporary or a place that got nothing,
 /// a label that isn't there, a jump back, an element or a number that isn't there, no line more.
 pub fn flat_examples()
     ensures summing { Comes_to (code.shown (code.summing 4)) 100 [] [] 10 }
@@ -18,6 +18,9 @@ pub fn flat_examples()
     ensures summing_nothing { IsAtFault (code.shown code.summing_nothing) 1 }
     ensures bumping { Comes_to (code.shown (code.bumping 0)) 100 (codes "9\n0\n") [] 0 }
     ensures bumping_outside { Comes_to (code.shown (code.bumping 3)) 100 (codes "9\n")
+        (codes "Error: index out of bounds\n") 1 }
+    ensures standing { Comes_to (code.shown (code.standing 1)) 100 (codes "6\n") [] 0 }
+    ensures standing_outside { Comes_to (code.shown (code.standing 3)) 100 []
         (codes "Error: index out of bounds\n") 1 }
     ensures filled { Comes_to (code.shown code.filled) 6 (codes "5\n") [] 0 }
     ensures unset { IsAtFault (code.shown code.unset) 1 }
@@ -36,6 +39,9 @@ pub fn form_examples()
     ensures bumping { Fits_places (code.bumping 3) }
     ensures place_written { Fits_places code.place_written }
     ensures fresh_written { Fits_none code.fresh_written }
+    ensures standing { Fits_places (code.standing 1) }
+    ensures standing_written { Fits_none code.standing_written }
+    ensures standing_as_place { Fits_none code.standing_as_place }
     ensures bumping_value { Fits_none code.bumping_value }
     ensures int_as_char { Fits_none code.int_as_char }
     ensures int_decides { Fits_none code.int_decides }

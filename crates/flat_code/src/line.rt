@@ -89,6 +89,12 @@ pub enum Line {
         to: u32,
         from: u32,
     },
+    /// The location of a constant, which stands in the data and is never written.
+    Standing {
+        to: u32,
+        ty: TypeId,
+        pieces: Items<Piece>,
+    },
     /// The location of a field or of a part of a tuple.
     Part {
         to: u32,

@@ -1,51 +1,34 @@
 -- The texts of values, by those of numbers.
 use Rattle.std.proofs.Common.{◌≡◌, ℕ, zero, suc, pos, Bool, true, false, List, [], ◌++◌, length, refl, sym, ap, ◌∙◌, Option, Some, None}
 use Rattle.std.proofs.lemmas.Bool.{true≢false, false≢true}
-use Rattle.std.specs.Prelude.{slice_get, unsigned_abs, Result, Ok, Err, OnOk}
+use Rattle.std.specs.Prelude.{slice_get, Result, Ok, Err, OnOk}
 use Rattle.arc_base.specs.declared.bytes.Memory.{Memory}
 use Rattle.nim_types.specs.Types.{Ty, int, bool, char, text, sequence, array, tuple, parameter}
-use Rattle.nim_types.specs.Types.{enum, object, distinct, ref, exception, Field, Facts, fact_of, members_in, base_in}
+use Rattle.nim_types.specs.Types.{enum, object, distinct, ref, exception, Field, Facts, fact_of, base_in}
 use Rattle.nim_types.specs.declared.types.TypeDef.{TypeDef}
 use Rattle.nim_types.specs.declared.types.TypeDef.TheVariants as D
 use Rattle.nim_types.specs.Table.{type_at, types_in, facts_in, fields_with, fields_fact, IsTable}
 use Rattle.nim_types.specs.Entries.{meant_at, said_at}
 use Rattle.nim_types.proofs.ForCallers.{by_entry, said_by}
-use Rattle.nim_program.specs.Ints.{is_true}
-use Rattle.nim_program.specs.Texts as numbers
 use Rattle.nim_meaning.specs.Values.{Value, Values, Fixed, number_of, text_in}
 use Rattle.flat_runner.specs.View.{rowed}
-use Rattle.nim_meaning.specs.Texts.{plain_text, below_distinct, base_or, bool_text, name_in, text_at}
+use Rattle.nim_meaning.specs.Texts.{value_text, text_at}
+use Rattle.nim_program.specs.Texts.{plain_text}
+use Rattle.nim_program.specs.Kinds.{below_distinct, base_or}
 use Rattle.plain_values.specs.Values.{text_of}
 use Rattle.flat_runner.specs.Texts.{is_text}
 
-names_same : (o : Option (List ℕ)) → name_in o ≡ numbers.text_in o
-names_same None = refl
-names_same (Some name) = refl
-
-bools_same : (b : Bool) → bool_text b ≡ numbers.bool_text b
-bools_same true = refl
-bools_same false = refl
-
-below_same : (n : ℕ) (facts : Facts) (ty : Ty) → below_distinct n facts ty ≡ numbers.below_distinct n facts ty
-below_same zero facts ty = refl
-below_same (suc n) facts ty = each (λ base. below_same n facts base) (base_in (fact_of facts ty))
-  where
-    each : ((base : Ty) → below_distinct n facts base ≡ numbers.below_distinct n facts base) → (o : Option Ty)
-        → base_or (below_distinct n facts) ty o ≡ numbers.base_or (numbers.below_distinct n facts) ty o
-    each more None = refl
-    each more (Some base) = more base
-
 -- of what is no text
-plain_same : (facts : Facts) (ty : Ty) (v : Value) → text_in v ≡ [] → plain_text facts ty v ≡ numbers.plain_text facts ty (number_of v)
+plain_same : (facts : Facts) (ty : Ty) (v : Value) → text_in v ≡ [] → value_text facts ty v ≡ plain_text facts ty (number_of v)
 plain_same facts int v e = refl
-plain_same facts bool v e = bools_same (is_true (number_of v))
+plain_same facts bool v e = refl
 plain_same facts char v e = refl
 plain_same facts text v e = e
 plain_same facts (sequence t) v e = refl
 plain_same facts (array n t) v e = refl
 plain_same facts (tuple names ts) v e = refl
 plain_same facts (parameter n) v e = refl
-plain_same facts (enum key) v e = names_same (slice_get (members_in (fact_of facts (enum key))) (unsigned_abs (number_of v)))
+plain_same facts (enum key) v e = refl
 plain_same facts (object key arguments) v e = refl
 plain_same facts (distinct key) v e = refl
 plain_same facts (ref name t) v e = refl
@@ -53,12 +36,10 @@ plain_same facts (exception key) v e = refl
 
 pub text_same : (facts : Facts) (o : Option Ty) (v : Value) → text_in v ≡ [] → text_at facts o v ≡ text_of facts o (number_of v)
 text_same facts None v e = refl
-text_same facts (Some ty) v e =
-    plain_same facts (below_distinct (length facts) facts ty) v e
-    ∙ ap (λ t. numbers.plain_text facts t (number_of v)) (below_same (length facts) facts ty)
+text_same facts (Some ty) v e = plain_same facts (below_distinct (length facts) facts ty) v e
 
 -- of a text
-pub fixed_is : (facts : Facts) (ty : Ty) (t : List ℕ) → is_text ty ≡ true → plain_text facts ty (Fixed t) ≡ t
+pub fixed_is : (facts : Facts) (ty : Ty) (t : List ℕ) → is_text ty ≡ true → value_text facts ty (Fixed t) ≡ t
 fixed_is facts int t e = absurd (false≢true e)
 fixed_is facts bool t e = absurd (false≢true e)
 fixed_is facts char t e = absurd (false≢true e)
@@ -73,16 +54,16 @@ fixed_is facts (distinct key) t e = absurd (false≢true e)
 fixed_is facts (ref name u) t e = absurd (false≢true e)
 fixed_is facts (exception key) t e = absurd (false≢true e)
 
-pub fixed_number : (facts : Facts) (ty : Ty) (t : List ℕ) → is_text ty ≡ false → plain_text facts ty (Fixed t) ≡ numbers.plain_text facts ty (pos 0)
+pub fixed_number : (facts : Facts) (ty : Ty) (t : List ℕ) → is_text ty ≡ false → value_text facts ty (Fixed t) ≡ plain_text facts ty (pos 0)
 fixed_number facts int t e = refl
-fixed_number facts bool t e = bools_same (is_true (pos 0))
+fixed_number facts bool t e = refl
 fixed_number facts char t e = refl
 fixed_number facts text t e = absurd (true≢false e)
 fixed_number facts (sequence u) t e = refl
 fixed_number facts (array n u) t e = refl
 fixed_number facts (tuple names ts) t e = refl
 fixed_number facts (parameter n) t e = refl
-fixed_number facts (enum key) t e = names_same (slice_get (members_in (fact_of facts (enum key))) 0)
+fixed_number facts (enum key) t e = refl
 fixed_number facts (object key arguments) t e = refl
 fixed_number facts (distinct key) t e = refl
 fixed_number facts (ref name u) t e = refl
@@ -90,9 +71,7 @@ fixed_number facts (exception key) t e = refl
 
 pub fixed_other : (facts : Facts) (ty : Ty) (t : List ℕ) → is_text (below_distinct (length facts) facts ty) ≡ false
     → text_at facts (Some ty) (Fixed t) ≡ text_of facts (Some ty) (pos 0)
-fixed_other facts ty t e =
-    fixed_number facts (below_distinct (length facts) facts ty) t e
-    ∙ ap (λ u. numbers.plain_text facts u (pos 0)) (below_same (length facts) facts ty)
+fixed_other facts ty t e = fixed_number facts (below_distinct (length facts) facts ty) t e
 
 pub on_ok : (r : Result (Unit {0}) Memory) (new old v w : List ℕ) → OnOk r (new ≡ old ++ v) → v ≡ w → OnOk r (new ≡ old ++ w)
 on_ok (Ok x) new old v w h e = h ∙ ap (λ l. old ++ l) e

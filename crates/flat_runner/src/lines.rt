@@ -11,7 +11,7 @@ use crate::at_once::at_once;
 use crate::did::{Did, gives};
 use crate::loop_lines::{beyond, count_turn, element, fits, length, next, still, turn_if, unless};
 use crate::numbers::number_value;
-use crate::path_lines::{fresh, item, object, part, root_of};
+use crate::path_lines::{fresh, item, object, part, root_of, standing};
 use crate::place_lines::{blank, filled, returned};
 use crate::state::{Frame, Temps};
 use crate::tables::Tables;
@@ -59,6 +59,7 @@ fn goes_on(temps: &mut Temps, line: &Line) -> Did
         | Line::Look { .. }
         | Line::Root { .. }
         | Line::Fresh { .. }
+        | Line::Standing { .. }
         | Line::Part { .. }
         | Line::Item { .. }
         | Line::Object { .. }
@@ -94,6 +95,7 @@ fn leads_on(
             root_of(alloc, level, temps, frames, *to, *place, *global)
         }
         Line::Fresh { to, from } => fresh(alloc, temps, *to, *from),
+        Line::Standing { to, pieces, .. } => standing(alloc, temps, *to, pieces),
         Line::Part { to, from, field } => part(alloc, temps, *to, *from, *field),
         Line::Item { to, from, index } => item(alloc, temps, frames, *to, *from, *index),
         Line::Object { to, from } => object(alloc, temps, frames, *to, *from),

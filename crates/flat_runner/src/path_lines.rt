@@ -1,19 +1,21 @@
 // Lines of paths.
 ghost use Rattle.flat_code.specs.Lines.{level_at};
+ghost use Rattle.flat_code.specs.Pieces.{value_of};
 ghost use Rattle.flat_code.specs.Scene.{Located};
 ghost use Rattle.flat_runner.specs.Made.{LineDid};
 ghost use Rattle.flat_runner.specs.View.{found_value, where_of};
 ghost use Rattle.flat_runner.specs.declared.state.Frame.{Frame};
 ghost use Rattle.nim_meaning.specs.Deeds.{Gives, stop};
-ghost use Rattle.nim_meaning.specs.Places.{object_of};
+ghost use Rattle.nim_meaning.specs.Places.{object_of, root_of};
 ghost use Rattle.nim_meaning.specs.State.{World};
-ghost use Rattle.nim_meaning.specs.Values.{nowhere};
+ghost use Rattle.nim_meaning.specs.Values.{Made, nowhere};
 ghost use Rattle.nim_plan.specs.declared.plan.Plan.{Plan};
 ghost use Rattle.nim_program.specs.Traps.{NilDereference};
 ghost use Rattle.nim_types.specs.declared.types.TypeDef.{TypeDef};
-ghost use Rattle.std.specs.Prelude.{List, if◌then◌else◌, ℕ, ◌≡◌};
+ghost use Rattle.std.specs.Prelude.{IfOk, List, if◌then◌else◌, ℕ, ◌≡◌};
 ghost use Rattle.flat_code.specs.declared.line.Line.TheVariants as L;
 
+use crate::constant::constant;
 use crate::did::{Did, leads};
 use crate::numbers::{number_value, position};
 use crate::path::{part_of, root};
@@ -22,6 +24,8 @@ use crate::state::{Base, Frame, Location, Temps, Where};
 use crate::stop::Stop;
 use crate::temps::{number_at, place_at, value_at};
 use crate::value::{Found, Value, length_in};
+use arc_base::{Items, Memory};
+use flat_code::Piece;
 use plain_values::Trap;
 use std::alloc::Global;
 
@@ -65,6 +69,28 @@ pub fn fresh(alloc: Global, temps: &mut Temps, to: u32, from: u32) -> Did
             leads(temps, to, Ok(place))
         }
     }
+}
+
+// Where a constant is.
+fn constant_place(alloc: Global, pieces: &[Piece]) -> Result<Where, Memory>
+    ensures { (w : World) → IfOk result (λ place. where_of place
+        ≡ Located (root_of (Made (value_of pieces.now)) w)) }
+{
+    let v = constant(alloc, pieces)?;
+    Ok(Where::Located(Location {
+        base: Base::Made(v),
+        path: Vec::new(alloc),
+    }))
+}
+
+pub fn standing(alloc: Global, temps: &mut Temps, to: u32, pieces: &Items<Piece>) -> Did
+    ensures { (types : List TypeDef) (plan : Plan) (w : World) (level ty : ℕ) (frames : List Frame) →
+        LineDid types plan w level temps.old frames (L.Standing to ty pieces.now) result
+        temps.new frames }
+{
+    let pieces = pieces.as_slice();
+    let place = constant_place(alloc, pieces);
+    leads(temps, to, place)
 }
 
 pub fn part(alloc: Global, temps: &mut Temps, to: u32, from: u32, field: u32) -> Did

@@ -2,7 +2,8 @@
 ghost use Rattle.flat_runner.specs.Texts.{is_text};
 ghost use Rattle.flat_runner.specs.View.{operands_in, temps_is, value_or};
 ghost use Rattle.nim_meaning.specs.Acts.{line_of};
-ghost use Rattle.nim_meaning.specs.Texts.{below_distinct, text_at, texts_of};
+ghost use Rattle.nim_meaning.specs.Texts.{text_at, texts_of};
+ghost use Rattle.nim_program.specs.Kinds.{below_distinct};
 ghost use Rattle.nim_meaning.specs.Values.{Fixed};
 ghost use Rattle.nim_program.specs.View.{if_type};
 ghost use Rattle.nim_types.specs.Table.{facts_in, type_at, types_in};

@@ -20,7 +20,8 @@ use Rattle.nim_meaning.specs.Places.{made_by}
 use Rattle.nim_meaning.specs.Table as table
 use Rattle.nim_meaning.specs.Table.{default_for, literal_bytes, with_fields}
 use Rattle.nim_meaning.specs.Values.{values_in}
-use Rattle.nim_meaning.specs.Meaning.{handed_bytes, row, left_at, carried, handed_by, handed_on, operand_for, Value_of, fresh_root}
+use Rattle.nim_meaning.specs.Meaning.{row, left_at, carried, handed_by, handed_on}
+use Rattle.nim_meaning.specs.Aims.{handed_bytes, operand_for, Value_of, fresh_root}
 use Rattle.flat_code.specs.declared.line.Line.{Line}
 use Rattle.flat_code.specs.Pieces.{value_of, pieces_of}
 use Rattle.flat_code.specs.Scene.{Temps, with_value, Did, Calls}

@@ -16,8 +16,3 @@ behind_counted most t n w (Some u) e f l =
 -- two pieces of a whole, one behind the other
 pub two_pieces : {X : Type 0} (a x y whole b c : List X) → b ≡ a ++ x → c ≡ b ++ y → whole ≡ x ++ y → c ≡ a ++ whole
 two_pieces a x y whole b c e f g = f ∙ ap (λ z. z ++ y) e ∙ append_assoc a x y ∙ ap (λ z. a ++ z) (sym g)
-
--- the same number in other words
-pub span_by : (r : Option ℕ) (v n t w : ℕ) → v + n ≡ t + w → IfSome r (λ u. u ≡ v + n) → IfSome r (λ u. u ≡ t + w)
-span_by None v n t w e f = tt
-span_by (Some u) v n t w e f = f ∙ e

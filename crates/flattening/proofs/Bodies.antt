@@ -4,7 +4,7 @@ use Rattle.std.specs.Prelude.{◌-◌}
 use Rattle.std.proofs.lemmas.Bool.{false≢true}
 use Rattle.nim_program.specs.Program.{Declared, Body}
 use Rattle.nim_meaning.specs.State.{World, State}
-use Rattle.nim_meaning.specs.Acts.{Broke, Continued, Returned, Raised, Flow, On, Out}
+use Rattle.nim_meaning.specs.Acts.{Broke, Continued, Returned, Raised, Outcome, On, Out}
 use Rattle.nim_meaning.specs.Meaning.{exec_all}
 use Rattle.flat_code.specs.declared.line.Line.{Line}
 use Rattle.flat_code.specs.declared.line.Line.TheVariants as L
@@ -42,7 +42,7 @@ pub record ReturnsAt (c : Spot) (old new : World) (m : M) : Type 0 where
   pub since : Since c.level old new
 
 -- however control left the body
-abbrev pub Back : (c : Spot) → World → Flow (Unit {0}) → State → M → Type 0
+abbrev pub Back : (c : Spot) → World → Outcome (Unit {0}) → State → M → Type 0
 Back c old (On done) b m = ReturnsAt c old b.world m
 Back c old (Out (Broke by)) b m = ReturnsAt c old b.world m
 Back c old (Out (Continued by)) b m = ReturnsAt c old b.world m
@@ -80,7 +80,7 @@ module _ (x : Fixed) (body : Body) (level left : ℕ) (waiting : List (Waiting L
     puts = puts_no_loop body.result;
   }
 
-  returns_at : (lo hi : ℕ) (temps : Temps) (world : World) (flow : Flow (Unit {0})) (b : State) (m : M) →
+  returns_at : (lo hi : ℕ) (temps : Temps) (world : World) (flow : Outcome (Unit {0})) (b : State) (m : M) →
       Left c nothing_around (L.Return (number_of body.result) ∷ []) lo hi temps world flow b m → Back c world flow b m
   returns_at lo hi temps world (On done) b m g = record { k = []; now = g.now; is = g.is; since = g.since }
   returns_at lo hi temps world (Out (Broke by)) b m g = record { k = []; now = g.now; is = g.is; since = g.since }

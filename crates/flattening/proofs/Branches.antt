@@ -17,7 +17,7 @@ use Rattle.flat_code.specs.declared.line.Line.{Line}
 use Rattle.flat_code.specs.declared.line.Line.TheVariants as L
 use Rattle.flat_code.specs.Scene.{Temps}
 use Rattle.flattening.specs.declared.numbers.Purpose.TheVariants.{End, Arm}
-use Rattle.flattening.specs.Numbering.{width, widths, width_in, width_of, width_of_blocks, label}
+use Rattle.flattening.specs.Numbering.{width, widths, width_in, width_of, label}
 use Rattle.flattening.specs.StmtLines.{Exits, lines_of, branch_lines}
 use Rattle.flattening.specs.Flattened.{modes_of}
 use Rattle.flattening.specs.Formed.{Scope, AllFormed, BlocksFormed}
@@ -34,7 +34,7 @@ use Rattle.flattening.proofs.Choices.{unless_is}
 use Rattle.flattening.proofs.Evaluating.{expr_follows}
 use Rattle.flattening.proofs.Leaving.{Around, Reaches, reaches, reaches_later, Leads, leads_on, Left, further_left, rejoin, stays}
 use Rattle.flattening.proofs.Stmts.{StmtFollows, BlockFollows}
-use Rattle.flattening.proofs.Widths.{some_width}
+use Rattle.flattening.proofs.Widths.{some_width, width_of_blocks, turn_width}
 
 module _ (c : Spot) (top : Bool) (room : ℕ → Type 0) (names : (proc place : ℕ) → Type 0) (calls : CallsFollow c names)
     (outermost : top ≡ true → c.level ≡ 0) where
@@ -167,9 +167,10 @@ module _ (c : Spot) (top : Bool) (room : ℕ → Type 0) (names : (proc place : 
       StmtFollows c top room names calls outermost (Select node ByConditions tests blocks)
   by_conditions node tests blocks follows inside Open f exits around t k r l temps s h =
       let hi = t + width_in (Select node ByConditions tests blocks) in
+      let w = turn_width tests blocks in
       pays 12 1 (omega arith)
       (rejoin c around {lo' = suc t} {hi' = suc t + (widths tests + width_of_blocks blocks)} 1 (omega arith) (omega arith) (omega arith) (omega arith)
-      (omega arith)
+      (omega (arith, w))
       (kept_none t hi temps) (since_none c.level s.world)
       (follows inside Open f.1 f.2 exits around t (suc t) (omega arith) k
       (reaches {lo = 4 * t} {hi = 4 * t + 2} (omega arith) (omega arith) (puts_label (label End t) (omega arith) (omega arith)) r)

@@ -18,7 +18,7 @@ use Rattle.nim_meaning.specs.State.{World, State, Frame, live, load, slot_at, wi
 use Rattle.nim_meaning.specs.Ways.{Point}
 use Rattle.nim_meaning.specs.Here.{Here}
 use Rattle.nim_meaning.specs.Places.{place_at}
-use Rattle.nim_meaning.specs.Acts.{Broke, Continued, Returned, Raised, Flow, On, Out, Does}
+use Rattle.nim_meaning.specs.Acts.{Broke, Continued, Returned, Raised, Outcome, On, Out, Does}
 use Rattle.nim_meaning.specs.Acts.{onward, worked, said, left_with, with_trail, exit_of, stop, line_of}
 use Rattle.nim_meaning.specs.Acts.{spending, elsewhere, branch, change, costs}
 use Rattle.nim_meaning.specs.Acts as acting
@@ -130,11 +130,11 @@ module _ (c : Spot) (body : Body) (left : ℕ) (k : List Line) (temps : Temps) (
       (answers {P = λ v now. now.values to ≡ Some v} {p = 0} {q = 0} v d (with_value to temps v) (omega arith) (put_same temps.values to v)
       (kept_value to v (omega arith) (omega arith) (kept_none to (suc to) temps)) (since_call c.level old b.world frame framed g.since)))
 
-  abbrev LandsBack : Flow Value → State → M → Type 0
+  abbrev LandsBack : Outcome Value → State → M → Type 0
   LandsBack = Lands c k to (suc to) temps old (λ v now. now.values to ≡ Some v)
 
   -- what is handed to the caller
-  hands_back : (flow : Flow (Unit {0})) (b : State) (m : M) → Back callee (with_frame old frame) flow b m →
+  hands_back : (flow : Outcome (Unit {0})) (b : State) (m : M) → Back callee (with_frame old frame) flow b m →
       ((place : Declared) → body.result ≡ Some place → is_there (slot_at b.world (suc c.level) place.number) ≡ true) → (params : List Param) (last : ℕ)
       (trail : List Point) →
       Runs c.fixed LandsBack 1 0 m b.meter (then_do (handed params last there_here flow b) (λ flow d. Got flow (with_trail trail d)))
@@ -142,12 +142,12 @@ module _ (c : Spot) (body : Body) (left : ℕ) (k : List Line) (temps : Temps) (
       subst (λ r. Runs c.fixed LandsBack 1 0 m b.meter (then_do (then_do r (onward (behind_params flow b.world))) (λ flow d. Got flow (with_trail trail d))))
       (sym (params_are there_here params (exit_of last flow) b)) (on flow g)
     where
-      behind_params : Flow (Unit {0}) → World → Unit {0} → Does Value
+      behind_params : Outcome (Unit {0}) → World → Unit {0} → Does Value
       behind_params flow world done =
           acting.◌>>◌ (change (down_to (suc c.level)))
           (costs (result_bytes body.result (result_of body.result (suc c.level) world)) (handing flow (result_of body.result (suc c.level) world)))
 
-      on : (flow : Flow (Unit {0})) → Back callee (with_frame old frame) flow b m →
+      on : (flow : Outcome (Unit {0})) → Back callee (with_frame old frame) flow b m →
           Runs c.fixed LandsBack 1 0 m b.meter
           (then_do (behind_params flow b.world tt (worked (length params) b)) (λ flow d. Got flow (with_trail trail d)))
       on (On done) g = returned b m g opened (length params) trail
@@ -158,7 +158,7 @@ module _ (c : Spot) (body : Body) (left : ℕ) (k : List Line) (temps : Temps) (
 
 -- ---- the place of the result is open
 
-pub back_since : (c : Spot) (old : World) (flow : Flow (Unit {0})) (b : State) (m : M) → Back c old flow b m → Since c.level old b.world
+pub back_since : (c : Spot) (old : World) (flow : Outcome (Unit {0})) (b : State) (m : M) → Back c old flow b m → Since c.level old b.world
 back_since c old (On done) b m g = g.since
 back_since c old (Out (Broke by)) b m g = g.since
 back_since c old (Out (Continued by)) b m g = g.since
@@ -210,7 +210,7 @@ module _ (x : Fixed) (formed : IsFormed x.program) where
     abbrev at_body : Body → Here
     at_body = from_level x.program x.plan (suc level) (calls x.program x.plan left (suc (suc level)))
 
-    abbrev LandsHere : Flow Value → State → M → Type 0
+    abbrev LandsHere : Outcome Value → State → M → Type 0
     LandsHere = Lands c k to (suc to) temps s.world (λ v now. now.values to ≡ Some v)
 
     module _ (is : does_at c temps s.world l ≡ Calls to proc slots work) (many : length slots ≡ taken_by x.program.procs proc)

@@ -24,7 +24,7 @@ use Rattle.flat_code.specs.Scene.{Temps, with_value, location_at}
 use Rattle.flat_code.specs.Lines.{using}
 use Rattle.flat_code.specs.Lines as does
 use Rattle.flattening.specs.declared.numbers.Purpose.TheVariants.{End, Next, Arm}
-use Rattle.flattening.specs.Numbering.{width, widths, arm_count, width_in, width_of, width_of_blocks, label}
+use Rattle.flattening.specs.Numbering.{width, widths, arm_count, width_in, width_of, label, looked_from, behind_selector}
 use Rattle.flattening.specs.ExprLines.{arm_label, label_tests, find_lines}
 use Rattle.flattening.specs.StmtLines.{Exits, selector_lines, block_tests, lines_of, arm_blocks}
 use Rattle.flattening.specs.Flattened.{modes_of}
@@ -44,7 +44,7 @@ use Rattle.flattening.proofs.Arms.{found_past}
 use Rattle.flattening.proofs.Evaluating.{expr_follows, aim_follows}
 use Rattle.flattening.proofs.Leaving.{Around, Reaches, reaches, reaches_later, Leads, leads_on, Left, further_left, rejoin, stays}
 use Rattle.flattening.proofs.Stmts.{StmtFollows, BlockFollows}
-use Rattle.flattening.proofs.Widths.{same_width, some_width_at}
+use Rattle.flattening.proofs.Widths.{same_width, some_width_at, width_of_blocks, turn_width, selector_width}
 
 -- behind the last block there are no more tests
 last_block_tests : (covered : Bool) (labels : List (List Label)) (rest : Blocks) (s arm : ℕ) (k : List Line) → (covered && is_last_block rest) ≡ true →
@@ -244,7 +244,7 @@ module _ (c : Spot) (top : Bool) (room : ℕ → Type 0) (names : (proc place : 
   abbrev Selects : Args → Type 1
   Selects tests =
       (Open : Scope) → AllFormed (grounded c top room names) Open tests → (t : ℕ) (k : List Line) (temps : Temps) (s : State) → Stands c room Open s.world →
-      Runs c.fixed (Lands c k t (t + widths tests) temps s.world (λ v now. now.values t ≡ Some v)) 0 0
+      Runs c.fixed (Lands c k t (behind_selector tests t) temps s.world (λ v now. now.values t ≡ Some v)) 0 0
       (there c (selector_lines types modes c.result tests t k) temps s.world) s.meter (selector_of tests here s)
 
   selects : (labels : List (List Label)) (tests : Args) → HasSelector (ByLabels labels) tests → Selects tests
@@ -256,10 +256,10 @@ module _ (c : Spot) (top : Bool) (room : ℕ → Type 0) (names : (proc place : 
   selects labels (ByPath path rest) is Open f t k temps s h =
       let w = same_width path in
       let some = some_width_at path in
-      let hi = t + widths (ByPath path rest) in
-      after 0 (omega arith) (omega arith) (aim_follows c top room names Open calls path f.0 t (find_lines path t (L.Look t t ∷ k)) temps s h)
+      let u = looked_from path t in
+      after 0 (omega arith) (omega arith) (aim_follows c top room names Open calls path f.0 u (find_lines types path u (L.Look t u ∷ k)) temps s h)
       (λ aim b now aims kept since.
-      after 0 (omega arith) (omega arith) (find_follows c top room names Open path f.0 t (L.Look t t ∷ k) now aim aims b (stands_since h since))
+      after 0 (omega arith) (omega arith) (find_follows c top room names Open path f.0 u (L.Look t u ∷ k) now aim aims b (stands_since h since))
       (λ l d last leads kept2 since2.
       at_point (carry (fetched l)) path d (λ trail.
       further {lo' = t} {hi' = suc t} (omega arith) (omega (arith, w, some))
@@ -275,8 +275,10 @@ module _ (c : Spot) (top : Bool) (room : ℕ → Type 0) (names : (proc place : 
   by_labels node labels tests blocks follows inside Open f exits around t k r l temps s h =
       let count = arm_count (ByLabels labels) in
       let sel = suc t + count in
-      let n = sel + widths tests in
+      let n = behind_selector tests sel in
       let hi = t + width_in (Select node (ByLabels labels) tests blocks) in
+      let w = selector_width labels tests t in
+      let turns = turn_width tests blocks in
       let covered = is_covered (selector_type tests) in
       let K = L.Label (label End t) ∷ k in
       let arms = arm_blocks types modes c.result covered labels blocks exits t (suc t) n K in
@@ -285,9 +287,9 @@ module _ (c : Spot) (top : Bool) (room : ℕ → Type 0) (names : (proc place : 
       (after 12 (omega arith) (omega arith) (selects labels tests f.0 Open f.1 sel behind temps
       (with_trail (Point node.number Begins ∷ s.trail) (worked 1 s)) h)
       (λ x b now has kept since.
-      rejoin c around {lo' = n} {hi' = n + width_of_blocks blocks} 1 (omega arith) (omega arith) (omega arith) (omega arith) (omega arith)
-      (kept_wide {lo = t} {hi = hi} (omega arith) (omega arith) kept) since
-      (follows covered inside Open f.2 exits around x sel t (suc t) n (omega arith) (omega arith) k arms
+      rejoin c around {lo' = n} {hi' = n + width_of_blocks blocks} 1 (omega arith) (omega arith) (omega arith) (omega (arith, w)) (omega (arith, w, turns))
+      (kept_wide {lo = t} {hi = hi} (omega arith) (omega (arith, w, turns)) kept) since
+      (follows covered inside Open f.2 exits around x sel t (suc t) n (omega arith) (omega (arith, w)) k arms
       (reaches {lo = 4 * t} {hi = 4 * t + 2} (omega arith) (omega arith) (puts_label (label End t) (omega arith) (omega arith)) r)
       (leads_on {lo = 0} {hi = 4 * n} (omega arith) (omega arith)
       (puts_wide {lo = 0} {hi = 4 * n} (omega arith) (omega arith) (puts_selector types modes c.result tests sel)

@@ -11,12 +11,13 @@ use Rattle.nim_meaning.specs.Values.{Value, Number, number_of, Holds, Given}
 use Rattle.nim_meaning.specs.State.{World, State}
 use Rattle.nim_meaning.specs.ActTree.{Turns, Chooses, Fills, Begins}
 use Rattle.nim_meaning.specs.Ways.{At as Point}
-use Rattle.nim_meaning.specs.Acts.{Flow, On, Does, onward, branch, worked, left_with, with_trail, at_exit, costs, loop, again, no_more, next, turn_of}
+use Rattle.nim_meaning.specs.Acts.{Outcome, On, Does, onward, branch, worked, left_with, with_trail, at_exit, costs, loop, again, no_more, next, turn_of}
 use Rattle.nim_meaning.specs.Acts as acting
 use Rattle.nim_meaning.specs.Deeds.{Opens, changed}
 use Rattle.nim_meaning.specs.Deeds as deeds
 use Rattle.nim_meaning.specs.Here.{Here}
-use Rattle.nim_meaning.specs.Meaning.{Ready, Evaluated, exec_all, fill, scoped, at_node, limit, count_turn, ready_operand, ready_rest}
+use Rattle.nim_meaning.specs.Meaning.{exec_all, fill, scoped, at_node, limit, count_turn, ready_operand, ready_rest}
+use Rattle.nim_meaning.specs.Aims.{Ready, Evaluated}
 use Rattle.flat_code.specs.declared.line.Line.{Line}
 use Rattle.flat_code.specs.declared.line.Line.TheVariants as L
 use Rattle.flat_code.specs.Scene.{Temps, with_value, Did, Leaps}
@@ -178,7 +179,7 @@ module _ (c : Spot) (top : Bool) (room : ℕ → Type 0) (names : (proc place : 
       abbrev Inv : ℤ → State → M → Type 0
       Inv i b m = Counts i beginning i b m ⊎ ((j : ℤ) × (j +ℤ pos 1 ≡ i) × Counts i counting j b m)
 
-      abbrev Ends : Flow (Unit {0}) → State → M → Type 0
+      abbrev Ends : Outcome (Unit {0}) → State → M → Type 0
       Ends = Looped c around ending t hi temps world
 
       abbrev acts : ℤ → Does (Unit {0})

@@ -12,14 +12,14 @@ use Rattle.nim_program.specs.declared.operation.Short.TheVariants.{And, Or}
 use Rattle.nim_program.specs.declared.operation.Use.{Use}
 use Rattle.nim_program.specs.declared.operation.Use.TheVariants.{Owned, Looked}
 use Rattle.nim_program.specs.declared.program.Mode.{Mode}
-use Rattle.nim_program.specs.Folds.{numbers, total, total_at, totals}
+use Rattle.nim_program.specs.Folds.{numbers, total, total_at, totals, if_constant, begun_by}
 use Rattle.nim_program.specs.Program.{Number, Characters, NoObject, PartsOf, ElementsOf, Label, Ordinals, Exactly}
 use Rattle.nim_program.specs.Program.{Act, Doing, Building, Giving, Calling, ByConditions, ByLabels}
 use Rattle.nim_program.specs.Program.{Expr, Apply, Read, Early, Choose, Path, Variable, Fresh, Field, Element, Deref, Args, NoArg, ByValue, ByPath, Declared}
 use Rattle.nim_program.specs.Program.{type_of, type_at, types_in, node_at}
-use Rattle.nim_program.specs.Scopes.{is_written}
+use Rattle.nim_program.specs.Program.{is_written, Literal, constant_in, node_of}
 use Rattle.nim_program.specs.Sizes.{type_bytes, value_bytes, own_bytes}
-use Rattle.nim_program.specs.Typed.{is_fresh, behind_first}
+use Rattle.nim_program.specs.Typed.{is_fresh, behind_first, is_located}
 use Rattle.nim_program.specs.Uses.{use_of}
 use Rattle.nim_meaning.specs.Here.{is_hooked, gives_hooked}
 use Rattle.nim_meaning.specs.LeftOut.{any_hooked}
@@ -34,9 +34,9 @@ use Rattle.flat_code.specs.declared.place.PlaceKind.TheVariants as K
 use Rattle.flat_code.specs.Sizes.{kind_bytes, places_bytes}
 use Rattle.flattening.specs.declared.numbers.Purpose.TheVariants.{End, Next, Arm}
 use Rattle.flattening.specs.Alike.{value_name}
-use Rattle.flattening.specs.Numbering.{type_number, if_number, all_numbers, width, width_at, label}
+use Rattle.flattening.specs.Numbering.{type_number, if_number, all_numbers, width, width_at, label, arm_count, looked_from, selector_from}
 use Rattle.flattening.specs.ExprLines.{froms, find_lines, settle_lines, label_tests, value_tests, arm_label, act_line, none_fits, handed_on, early_lines}
-use Rattle.flattening.specs.ExprLines.{lines, aim_lines, ready_lines, choice_lines, select_lines, arm_lines}
+use Rattle.flattening.specs.ExprLines.{lines, aim_lines, ready_lines, choice_lines, select_lines, arm_lines, begin_line}
 use Rattle.flattening.specs.Places.{place, temporary, read_place, selector_place, expr_places, path_places, operand_places}
 use Rattle.flattening.specs.PlainCode.{gets_text, any_has_hooks, ArePlainPlaces, ReadsPlain}
 use Rattle.flattening.proofs.Listed.{listed}
@@ -94,7 +94,7 @@ module _ (types : List Ty) (modes : (proc position : ℕ) → Mode) (facts : Fac
   mutual
     value_among : (e : Expr) → IsSimple types facts e → IfAmong types facts (type_of e)
     value_among (Apply node ty act operands) s = text_among (act_text act) ty s.0
-    value_among (Read path) s = path_among path s
+    value_among (Read path) s = path_among path s.1
     value_among (Early node ty short left right) s = s.0.0
     value_among (Choose node ty chooser parts) s = fine_among ty s.0
 
@@ -112,7 +112,7 @@ module _ (types : List Ty) (modes : (proc position : ℕ) → Mode) (facts : Fac
   mutual
     value_fine : (e : Expr) → is_literal e ≡ false → IsSimple types facts e → IfFine types facts (type_of e)
     value_fine (Apply node ty act operands) e s = of_false (act_text act) ty e s.0
-    value_fine (Read path) e s = path_fine path s
+    value_fine (Read path) e s = path_fine path s.1
     value_fine (Early node ty short left right) e s = s.0
     value_fine (Choose node ty chooser parts) e s = s.0
 
@@ -142,14 +142,18 @@ module _ (types : List Ty) (modes : (proc position : ℕ) → Mode) (facts : Fac
   pub silent : (line : Line) → ReadsPlain (known types facts) line → C [] 0 0 (λ k. line ∷ k)
   silent line r = covers_line types facts line r
 
-  pub find : (path : Path) (t : ℕ) → C [] 0 0 (find_lines path t)
+  begin_reads : (constant : Option Literal) (ty : Option Ty) (t : ℕ) → ReadsPlain (known types facts) (begin_line types constant ty t)
+  begin_reads None ty t = tt
+  begin_reads (Some literal) ty t = tt
+
+  pub find : (path : Path) (t : ℕ) → C [] 0 0 (find_lines types path t)
   find (Variable node ty place global) t = silent (L.Root t place global) tt
-  find (Fresh value) t = silent (L.Fresh t t) tt
+  find (Fresh value) t = silent (begin_line types (constant_in value) (type_of value) t) (begin_reads (constant_in value) (type_of value) t)
   find (Field node ty base field) t = find base (suc t) ~> silent (L.Part t (suc t) field) tt
   find (Element node ty base index constant) t = find base (suc t) ~> silent (L.Item t (suc t) (suc t + width_at base)) tt
-  find (Deref ty base) t = find base t ~> silent (L.Object t t) tt
+  find (Deref ty base) t = find base (suc t) ~> silent (L.Object t (suc t)) tt
 
-  settle : (args : Args) (t : ℕ) → C [] 0 0 (settle_lines args t)
+  settle : (args : Args) (t : ℕ) → C [] 0 0 (settle_lines types args t)
   settle NoArg t = covers_none types facts
   settle (ByValue value rest) t = settle rest (t + width value)
   settle (ByPath path rest) t = find path t ~> settle rest (t + width_at path)
@@ -255,7 +259,7 @@ module _ (types : List Ty) (modes : (proc position : ℕ) → Mode) (facts : Fac
 
   abbrev path_spare : Path → ℕ
   path_spare (Variable node ty place global) = 12
-  path_spare (Fresh value) = 0
+  path_spare (Fresh value) = if_constant (constant_in value) 12 0
   path_spare (Field node ty base field) = 12
   path_spare (Element node ty base index constant) = 12
   path_spare (Deref ty base) = 0
@@ -263,41 +267,64 @@ module _ (types : List Ty) (modes : (proc position : ℕ) → Mode) (facts : Fac
   abbrev Aimed : Path → (t : ℕ) → Type 0
   Aimed path t = C (path_places types path t) (path_spare path) (2 * WP path) (aim_lines types modes path t)
 
-  -- with its value
-  looked_node : (path : Path) (t : ℕ) (node : Node) (ty : Ty) (line : Line) (spare most : ℕ) → ReadsPlain (known types facts) line → IsFine types facts ty →
+  word_most : (ty : Option Ty) → word_if ty ≤ 4
+  word_most None = omega arith
+  word_most (Some ty) = omega arith
+
+  -- what a path begins with, behind its location
+  abbrev begun_bytes : Option Literal → Expr → ℕ
+  begun_bytes constant value =
+      if_constant constant (own_bytes facts globals (begun_by constant false value)) (own_bytes facts globals (begun_by constant false value) + W value)
+
+  begun : (constant : Option Literal) (value : Expr) (t : ℕ) → is_fresh value ≡ true → IfFine types facts (type_of value) →
+      C (expr_places types value (suc t)) (led_spare value) (2 * W value) (lines types modes value Looked (suc t)) →
+      C (temporary types (node_of value) (type_of value) K.Within t ++ if_constant constant [] (expr_places types value (suc t))) (if_constant constant 12 0)
+      (2 * begun_bytes constant value) (λ k. if_constant constant k (lines types modes value Looked (suc t) k))
+  begun None value t fresh fine comes =
+      let e = fresh_spare value fresh in
+      covers_most types facts 0 _ (omega (arith, e)) (led_place (node_of value) (type_of value) false t fine >> comes)
+  begun (Some literal) value t fresh fine comes =
+      let e = word_most (type_of value) in
+      covers_most types facts 12 _ (omega (arith, e)) (led_place (node_of value) (type_of value) false t fine >> covers_none types facts)
+
+  -- with its value, in temporary s
+  looked_node : (path : Path) (s t : ℕ) (node : Node) (ty : Ty) (line : Line) (spare most : ℕ) → ReadsPlain (known types facts) line → IsFine types facts ty →
       Aimed path t → spare + (2 * WP path + type_bytes facts ty) ≤ most + path_spare path →
-      C (place types t node.at K.Temp ty ∷ path_places types path t) spare most (λ k. aim_lines types modes path t (find_lines path t (line ∷ k)))
-  looked_node path t node ty line spare most r f aimed le =
+      C (place types s node.at K.Temp ty ∷ path_places types path t) spare most (λ k. aim_lines types modes path t (find_lines types path t (line ∷ k)))
+  looked_node path s t node ty line spare most r f aimed le =
       covers_most types facts spare most (omega (arith, le))
-      (one_place t node K.Temp ty (type_bytes facts ty) f refl >> (aimed <~ (find path t ~> silent line r)))
+      (one_place s node K.Temp ty (type_bytes facts ty) f refl >> (aimed <~ (find path t ~> silent line r)))
 
   -- its value is read
-  got : (path : Path) (t : ℕ) (line : Line) → ReadsPlain (known types facts) line → IsSimplePath types facts path → Aimed path t →
-      C (read_place types path t ++ path_places types path t) 0 (2 * WR path) (λ k. aim_lines types modes path t (find_lines path t (line ∷ k)))
-  got (Variable node ty place global) t line r s aimed =
-      let l = bytes_least facts ty in looked_node (Variable node ty place global) t node ty line 0 (2 * WR (Variable node ty place global)) r s aimed
+  got : (path : Path) (t : ℕ) (line : Line) → ReadsPlain (known types facts) line → is_located path ≡ true → IsSimplePath types facts path → Aimed path t →
+      C (read_place types path t ++ path_places types path t) 0 (2 * WR path) (λ k. aim_lines types modes path t (find_lines types path t (line ∷ k)))
+  got (Variable node ty place global) t line r is s aimed =
+      let l = bytes_least facts ty in looked_node (Variable node ty place global) t t node ty line 0 (2 * WR (Variable node ty place global)) r s aimed
       (omega (arith, l))
-  got (Fresh value) t line r s aimed = covers_most types facts 0 _ (omega arith) (aimed <~ (find (Fresh value) t ~> silent line r))
-  got (Field node ty base field) t line r s aimed =
+  got (Fresh value) t line r is s aimed = never is
+  got (Field node ty base field) t line r is s aimed =
       let l = bytes_least facts ty in
-      looked_node (Field node ty base field) t node ty line 0 (2 * WR (Field node ty base field)) r s.0 aimed (omega (arith, l))
-  got (Element node ty base index constant) t line r s aimed =
+      looked_node (Field node ty base field) t t node ty line 0 (2 * WR (Field node ty base field)) r s.0 aimed (omega (arith, l))
+  got (Element node ty base index constant) t line r is s aimed =
       let l = bytes_least facts ty in
-      looked_node (Element node ty base index constant) t node ty line 0 (2 * WR (Element node ty base index constant)) r s.0 aimed (omega (arith, l))
-  got (Deref ty base) t line r s aimed = absurd s
+      looked_node (Element node ty base index constant) t t node ty line 0 (2 * WR (Element node ty base index constant)) r s.0 aimed (omega (arith, l))
+  got (Deref ty base) t line r is s aimed = absurd s
 
-  -- a selector, which is small
-  pub selected : (path : Path) (t : ℕ) (line : Line) → ReadsPlain (known types facts) line → IsSimplePath types facts path → Aimed path t →
-      IsSmall types facts (type_at path) →
-      C (read_place types path t ++ path_places types path t) 0 (2 * WP path) (λ k. aim_lines types modes path t (find_lines path t (line ∷ k)))
-  selected (Variable node ty place global) t line r s aimed small =
-      looked_node (Variable node ty place global) t node ty line 0 (2 * WP (Variable node ty place global)) r s aimed (omega (arith, small))
-  selected (Fresh value) t line r s aimed small = covers_most types facts 0 _ (omega arith) (aimed <~ (find (Fresh value) t ~> silent line r))
-  selected (Field node ty base field) t line r s aimed small =
-      looked_node (Field node ty base field) t node ty line 0 (2 * WP (Field node ty base field)) r s.0 aimed (omega (arith, small))
-  selected (Element node ty base index constant) t line r s aimed small =
-      looked_node (Element node ty base index constant) t node ty line 0 (2 * WP (Element node ty base index constant)) r s.0 aimed (omega (arith, small))
-  selected (Deref ty base) t line r s aimed small = absurd s
+  -- a selector, which is small, comes to temporary u
+  pub selected : (path : Path) (u t : ℕ) (line : Line) → ReadsPlain (known types facts) line → IsSimplePath types facts path → Aimed path t →
+      (is_located path ≡ true) × IsSmall types facts (type_at path) →
+      C (read_place types path u ++ path_places types path t) 0 (2 * WP path) (λ k. aim_lines types modes path t (find_lines types path t (line ∷ k)))
+  selected (Variable node ty place global) u t line r s aimed small =
+      let l = small.1 in
+      looked_node (Variable node ty place global) u t node ty line 0 (2 * WP (Variable node ty place global)) r s aimed (omega (arith, l))
+  selected (Fresh value) u t line r s aimed small = never small.0
+  selected (Field node ty base field) u t line r s aimed small =
+      let l = small.1 in
+      looked_node (Field node ty base field) u t node ty line 0 (2 * WP (Field node ty base field)) r s.0 aimed (omega (arith, l))
+  selected (Element node ty base index constant) u t line r s aimed small =
+      let l = small.1 in
+      looked_node (Element node ty base index constant) u t node ty line 0 (2 * WP (Element node ty base index constant)) r s.0 aimed (omega (arith, l))
+  selected (Deref ty base) u t line r s aimed small = absurd s
 
   early : (short : Short) (t s : ℕ) → C [] 0 0 (early_lines types modes short t s)
   early And t s = silent (L.Truth t false) tt ~> silent (L.Unless s (label End t)) tt
@@ -324,8 +351,8 @@ module _ (types : List Ty) (modes : (proc position : ℕ) → Mode) (facts : Fac
   arm_then false other a ys n p none q = covers_most types facts 0 _ (omega arith) (arm false other a ~> (p >> q))
 
   -- what a `case` chooses by comes to its temporary, before other values
-  abbrev Chosen : (labels : List (List Label)) (parts : Args) (u : ℕ) (front : List Line → List Line) → Type 0
-  Chosen labels parts u front = C (selector_place types (ByLabels labels) parts u ++ operand_places types parts u) 0 (2 * WA parts) front
+  abbrev Chosen : (parts : Args) (u : ℕ) (front : List Line → List Line) → Type 0
+  Chosen parts u front = C (selector_place types parts u ++ operand_places types parts (selector_from parts u)) 0 (2 * WA parts) front
 
   mutual
     pub expr : (e : Expr) (how : Use) (t : ℕ) → IsSimple types facts e → C (expr_places types e t) (led_spare e) (2 * W e) (lines types modes e how t)
@@ -334,7 +361,7 @@ module _ (types : List Ty) (modes : (proc position : ℕ) → Mode) (facts : Fac
         (covers_most types facts _ _ (omega arith)
         (ready operands (use_of modes act) 0 (suc t) s.2 >> (settle operands (suc t) ~> acted node ty act operands how t s)))
     expr (Read path) how t s =
-        got path t (L.Get t t how (node_at path).number (if_number types (type_at path))) tt s (aim path t s)
+        got path t (L.Get t t how (node_at path).number (if_number types (type_at path))) tt s.0 s.1 (aim path t s.1)
     expr (Early node ty short left right) how t s =
         covers_most types facts _ _ (omega arith)
         (value_place node (Some ty) t s.0
@@ -347,15 +374,13 @@ module _ (types : List Ty) (modes : (proc position : ℕ) → Mode) (facts : Fac
         (value_place node ty t s.0 >> (choice parts ty how t (suc t) s.1 s.2 <~ silent (L.Label (label End t)) tt))
     expr (Choose node ty (ByLabels labels) parts) how t s =
         covers_most types facts _ _ (omega arith)
-        (value_place node ty t s.0 >> (select labels parts ty how t (suc t) s.1 s.2.0 s.2.1 s.2.2 <~ silent (L.Label (label End t)) tt))
+        (value_place node ty t s.0
+        >> (select labels parts ty how t (suc t + arm_count (ByLabels labels)) s.1 s.2.0 s.2.1 s.2.2 <~ silent (L.Label (label End t)) tt))
 
     pub aim : (path : Path) (t : ℕ) → IsSimplePath types facts path → Aimed path t
     aim (Variable node ty place global) t s =
         covers_most types facts 12 _ (omega arith) (led_place node (Some ty) (is_written (Variable node ty place global)) t s)
-    aim (Fresh value) t s =
-        let e = fresh_spare value s.0 in
-        covers_most types facts 0 _ (omega (arith, e))
-        (led_place (node_at (Fresh value)) (type_of value) (is_written (Fresh value)) t (value_fine value s.1 s.2) >> expr value Looked t s.2)
+    aim (Fresh value) t s = begun (constant_in value) value t s.0 (value_fine value s.1 s.2) (expr value Looked (suc t) s.2)
     aim (Field node ty base field) t s =
         covers_most types facts 12 _ (omega arith)
         (led_place node (Some ty) (is_written (Field node ty base field)) t s.0 >> aim base (suc t) s.1)
@@ -391,7 +416,7 @@ module _ (types : List Ty) (modes : (proc position : ℕ) → Mode) (facts : Fac
 
     select : (labels : List (List Label)) (parts : Args) (ty : Option Ty) (how : Use) (t u : ℕ) → AreSimple types facts parts →
         AllValues (behind_first parts) → SmallFirst types facts parts → LabelsFit labels (behind_first parts) →
-        Chosen labels parts u (select_lines types modes labels parts ty how t u)
+        Chosen parts u (select_lines types modes labels parts ty how t u)
     select labels NoArg ty how t u s a small fit = no_fit t ty how
     select labels (ByValue selector rest) ty how t u s a small fit =
         covers_most types facts 0 _ (omega arith)
@@ -400,12 +425,13 @@ module _ (types : List Ty) (modes : (proc position : ℕ) → Mode) (facts : Fac
         ~> (silent (L.Jump (label Next t)) tt
         ~> arms (is_covered (type_of selector)) labels rest ty how t (u + width selector) s.1 a fit)))
     select labels (ByPath path rest) ty how t u s a small fit =
-        covers_as types facts (append_assoc (read_place types path u) (path_places types path u) (operand_places types rest (u + width_at path)))
+        let n = looked_from path u in
+        covers_as types facts (append_assoc (read_place types path u) (path_places types path n) (operand_places types rest (n + width_at path)))
         (covers_most types facts 0 _ (omega arith)
-        (selected path u (L.Look u u) tt s.0 (aim path u s.0) small
-        >> (all_tests labels rest u (u + width_at path)
+        (selected path u n (L.Look u n) tt s.0 (aim path n s.0) small
+        >> (all_tests labels rest u (n + width_at path)
         ~> (silent (L.Jump (label Next t)) tt
-        ~> arms (is_covered (type_at path)) labels rest ty how t (u + width_at path) s.1 a fit))))
+        ~> arms (is_covered (type_at path)) labels rest ty how t (n + width_at path) s.1 a fit))))
 
     arms : (covered : Bool) (labels : List (List Label)) (values : Args) (ty : Option Ty) (how : Use) (t u : ℕ) → AreSimple types facts values →
         AllValues values → LabelsFit labels values →

@@ -15,14 +15,14 @@ use Rattle.nim_program.specs.Program.{While, Count, Each, Stmt, Do, Idle, Give, 
 use Rattle.nim_program.specs.Program.{Stmts, Empty, Then, Declare, Defer, Blocks, Otherwise, Block}
 use Rattle.nim_program.specs.Sizes.{type_bytes, own_bytes}
 use Rattle.nim_meaning.specs.Shapes.{is_covered, selector_type, is_last_block}
-use Rattle.nim_meaning.proofs.ForCallers.{sum_of_blocks, in_turn_sum}
+use Rattle.nim_program.proofs.ForCallers.{sum_of_blocks, in_turn_sum}
 use Rattle.flat_code.specs.declared.line.Line.{Line}
 use Rattle.flat_code.specs.declared.line.Line.TheVariants as L
 use Rattle.flat_code.specs.declared.place.FlatPlace.{FlatPlace}
 use Rattle.flat_code.specs.declared.place.PlaceKind.TheVariants as kind
 use Rattle.flattening.specs.declared.numbers.Purpose.TheVariants.{End, Next, Arm, Turn}
 use Rattle.flattening.specs.ExprLines.{lines}
-use Rattle.flattening.specs.Numbering.{type_number, width, widths, arm_count, width_in, width_of, label}
+use Rattle.flattening.specs.Numbering.{type_number, width, widths, arm_count, width_in, width_of, label, looked_from, selector_from, behind_selector}
 use Rattle.flattening.specs.Places.{place, selector_place, expr_places, path_places, operand_places, read_place, loop_places, stmt_places, block_places}
 use Rattle.flattening.specs.Places.{branch_places, arm_places}
 use Rattle.flattening.specs.StmtLines.{Exits, leaving_by, in_loop, back_lines, result_line, block_tests, second, selector_lines}
@@ -93,18 +93,19 @@ module _ (types : List Ty) (modes : (proc position : ℕ) → Mode) (facts : Fac
   -- ---- heads
 
   -- what a `case` chooses by
-  selector : (labels : List (List Label)) (args : Args) (t : ℕ) → Alone args → AreSimple types facts args → SmallFirst types facts args →
-      S (selector_place types (ByLabels labels) args t ++ operand_places types args t) 0 (2 * A args) (selector_lines types modes result args t)
-  selector labels NoArg t alone s small = absurd alone
-  selector labels (ByValue e NoArg) t alone s small = covers_most types facts 0 _ (omega arith) (told e Looked t s.0 >> covers_none types facts)
-  selector labels (ByValue e (ByValue other rest)) t alone s small = absurd alone
-  selector labels (ByValue e (ByPath path rest)) t alone s small = absurd alone
-  selector labels (ByPath path NoArg) t alone s small =
-      covers_as types facts (append_assoc (read_place types path t) (path_places types path t) [])
+  selector : (args : Args) (t : ℕ) → Alone args → AreSimple types facts args → SmallFirst types facts args →
+      S (selector_place types args t ++ operand_places types args (selector_from args t)) 0 (2 * A args) (selector_lines types modes result args t)
+  selector NoArg t alone s small = absurd alone
+  selector (ByValue e NoArg) t alone s small = covers_most types facts 0 _ (omega arith) (told e Looked t s.0 >> covers_none types facts)
+  selector (ByValue e (ByValue other rest)) t alone s small = absurd alone
+  selector (ByValue e (ByPath path rest)) t alone s small = absurd alone
+  selector (ByPath path NoArg) t alone s small =
+      let n = looked_from path t in
+      covers_as types facts (append_assoc (read_place types path t) (path_places types path n) [])
       (covers_most types facts 0 _ (omega arith)
-      (selected types modes facts globals path t (L.Look t t) tt s.0 (aim types modes facts globals path t s.0) small >> covers_none types facts))
-  selector labels (ByPath path (ByValue other rest)) t alone s small = absurd alone
-  selector labels (ByPath path (ByPath other rest)) t alone s small = absurd alone
+      (selected types modes facts globals path t n (L.Look t n) tt s.0 (aim types modes facts globals path n s.0) small >> covers_none types facts))
+  selector (ByPath path (ByValue other rest)) t alone s small = absurd alone
+  selector (ByPath path (ByPath other rest)) t alone s small = absurd alone
 
   -- the condition of a `while`
   condition : (e : Expr) (rest : Args) (t : ℕ) → Alone (ByValue e rest) → AreSimple types facts (ByValue e rest) →
@@ -147,12 +148,13 @@ module _ (types : List Ty) (modes : (proc position : ℕ) → Mode) (facts : Fac
         let u = suc t + arm_count (ByLabels labels) in
         let j = in_turn_sum (own_bytes facts globals) tests blocks in
         covers_as types facts
-        (append_assoc (selector_place types (ByLabels labels) tests u) (operand_places types tests u) (arm_places types blocks (u + widths tests)))
+        (append_assoc (selector_place types tests u) (operand_places types tests (selector_from tests u)) (arm_places types blocks (behind_selector tests u)))
         (covers_most types facts 0 _ (omega (arith, j))
-        (selector labels tests u s.3.0 s.1 s.3.1
+        (selector tests u s.3.0 s.1 s.3.1
         >> (tests_of_blocks labels blocks u (suc t)
         ~> (nothing (L.Jump (label Next t)) tt
-        ~> (arms (is_covered (selector_type tests)) labels blocks exits t (suc t) (u + widths tests) s.2 s.3.2 x <~ nothing (L.Label (label End t)) tt)))))
+        ~> (arms (is_covered (selector_type tests)) labels blocks exits t (suc t) (behind_selector tests u) s.2 s.3.2 x <~ nothing
+        (L.Label (label End t)) tt)))))
     stmt (Loop node While NoArg body) exits t s x = absurd s.0
     stmt (Loop node While (ByPath path rest) body) exits t s x = absurd s.0
     stmt (Loop node While (ByValue e rest) body) exits t s x =

@@ -4,12 +4,11 @@ use Rattle.std.specs.Prelude.{nat_le, nat_lt, ◌&&◌, if◌then◌else◌, map
 use Rattle.std.proofs.lemmas.Bool.{and_parts, and_from, leb-true, ne_eqb, lt-ltb}
 use Rattle.nim_types.specs.Types.{Ty}
 use Rattle.nim_program.specs.Program.{Declared, Stmts}
-use Rattle.nim_program.specs.Folds.{Seen, AtApply, AtEarly, AtChoose, AtPath, AtStmt, AtDeclare, AtLoop, AtHandler, lists, total_of, own_places, if_declared}
-use Rattle.nim_program.specs.Folds as folds
+use Rattle.nim_program.specs.Folds.{Part, Declaring, Handling, Seen, lists, total_of, own_places}
 use Rattle.nim_program.specs.Numbering as numbering
 use Rattle.nim_program.specs.Sizes.{is_global as is_global_number}
-use Rattle.nim_program.specs.Typed.{own_types}
-use Rattle.nim_meaning.proofs.ForCallers.{related_of}
+use Rattle.nim_program.specs.Typed.{type_if, part_types, place_types, own_types}
+use Rattle.nim_program.proofs.ForCallers.{related_of}
 use Rattle.flat_code.specs.declared.place.PlaceKind.{PlaceKind}
 use Rattle.flat_code.specs.declared.place.PlaceKind.TheVariants as K
 use Rattle.flat_code.specs.declared.place.FlatPlace.{FlatPlace}
@@ -70,15 +69,15 @@ likes_both types [] qs (d ∷ ds) es h k = absurd h
 likes_both types (p ∷ ps) qs [] es h k = absurd h
 likes_both types (p ∷ ps) qs (d ∷ ds) es h k = (h.0, likes_both types ps qs ds es h.1 k)
 
-kind_block : (globals : List Declared) (seen : Seen) (d : Declared) → is_block (kind_of_declared globals seen d) ≡ true
-kind_block globals (AtDeclare node place cursor) d = by (is_global_number globals d.number) cursor
+kind_block : (globals : List Declared) (part : Part) (d : Declared) → is_block (kind_of_declared globals part d) ≡ true
+kind_block globals (Declaring cursor) d = by (is_global_number globals d.number) cursor
   where
     by : (g c : Bool) → is_block (if g then K.Global else if c then K.Cursor else K.Local) ≡ true
     by true c = refl
     by false true = refl
     by false false = refl
-kind_block globals (AtHandler name) d = refl
-kind_block globals seen d = refl
+kind_block globals Handling d = refl
+kind_block globals part d = refl
 
 all_like : (types : List Ty) (kind : Declared → PlaceKind) → ((d : Declared) → is_block (kind d) ≡ true) → (ds : List Declared) →
     Likes types (all_declared types kind ds) ds
@@ -90,7 +89,7 @@ pub block_like : (types : List Ty) (globals : List Declared) (b : Stmts) →
 block_like types globals b = related_of lists lists (own_declared types globals) own_places (Likes types) (record {
   none = tt;
   plus = λ ps qs ds es h k. likes_both types ps qs ds es h k;
-  own = λ seen. all_like types (kind_of_declared globals seen) (kind_block globals seen) (own_places seen);
+  own = λ seen. all_like types (kind_of_declared globals seen.part) (kind_block globals seen.part) seen.places;
 }) b
 
 -- the types of what a block declares stand in it
@@ -100,14 +99,7 @@ place_listed types [] h = tt
 place_listed types (d ∷ ds) h = (h.0, place_listed types ds h.1)
 
 own_listed : (types : List Ty) (seen : Seen) → Each (IsListed types) (own_types seen) → Each (λ (d : Declared). IsListed types d.of) (own_places seen)
-own_listed types (AtApply node ty act) h = tt
-own_listed types (AtEarly node ty short) h = tt
-own_listed types (AtChoose node ty chooser) h = tt
-own_listed types (AtPath read node ty step) h = tt
-own_listed types (AtStmt node) h = tt
-own_listed types (AtDeclare node place cursor) h = h
-own_listed types (AtLoop node kind) h = place_listed types (folds.loop_places kind) h
-own_listed types (AtHandler name) h = place_listed types (if_declared name) h
+own_listed types seen h = place_listed types seen.places (apart (IsListed types) (place_types seen.places) (type_if seen.ty ++ part_types seen.part) h).0
 
 pub block_listed : (types : List Ty) (b : Stmts) → Each (IsListed types) (total_of lists own_types b) →
     Each (λ (d : Declared). IsListed types d.of) (total_of lists own_places b)

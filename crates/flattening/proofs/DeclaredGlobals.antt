@@ -5,7 +5,7 @@ use Rattle.std.proofs.lemmas.Bool.{and_parts, eqb-true, eq-eqb}
 use Rattle.nim_types.specs.Types.{Ty, Facts, same}
 use Rattle.nim_types.proofs.ForCallers.{same_sound}
 use Rattle.nim_program.specs.Program.{Declared, Param, Body, Program, Stmts, Empty, Then, Declare, Defer}
-use Rattle.nim_program.specs.Folds.{AtDeclare, lists, totals, total_in, total_of, if_declared}
+use Rattle.nim_program.specs.Folds.{Declaring, lists, totals, total_in, total_of, if_declared}
 use Rattle.nim_program.specs.Kinds.{are_among_types, are_declared, is_there}
 use Rattle.nim_program.specs.Numbering.{is_numbered, are_numbered, is_numbered_program}
 use Rattle.nim_program.specs.Scopes.{Placed, placed, Here}
@@ -119,7 +119,7 @@ module _ (program : Program) where
         (apart (IsListed types) (totals lists own_types value) (total_of lists own_types rest) l.1).1)
       where
         flat : FlatPlace
-        flat = of_declared types (kind_of_declared program.globals (AtDeclare node place cursor) place) place
+        flat = of_declared types (kind_of_declared program.globals (Declaring cursor) place) place
 
         next : (o : Option Placed) → slice_get globals filled ≡ o → is_next o (placed place) ≡ true → Each Found (drop (suc filled) globals) →
             Each Found (drop filled globals)

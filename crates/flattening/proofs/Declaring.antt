@@ -1,11 +1,12 @@
 -- The places that a body declares, by a fold over all its parts and by what its statements declare.
-use Rattle.std.proofs.Common.{◌≡◌, Bool, List, [], ◌∷◌, ◌++◌, Some, None, refl, ap, ap₂, ◌∙◌}
+use Rattle.std.proofs.Common.{◌≡◌, Bool, List, [], ◌∷◌, ◌++◌, Option, Some, None, refl, ap, ap₂, ◌∙◌}
 use Rattle.std.proofs.lemmas.List.{append-nil}
 use Rattle.nim_types.specs.Types.{Ty}
 use Rattle.nim_program.specs.Program.{Expr, Apply, Read, Early, Choose, Path, Variable, Fresh, Field, Element, Deref, Args, NoArg, ByValue, ByPath}
-use Rattle.nim_program.specs.Program.{Declared, While, Count, Each, Stmt, Do, Idle, Give, Leave, Select, Loop, Raise, Try}
+use Rattle.nim_program.specs.Program.{Literal, constant_in, Declared, While, Count, Each, Stmt, Do, Idle, Give, Leave, Select, Loop, Raise, Try}
 use Rattle.nim_program.specs.Program.{Stmts, Empty, Then, Declare, Defer, Blocks, Otherwise, Block, Handlers, NoHandler, Handler}
-use Rattle.nim_program.specs.Folds.{lists, together, in_turn, total, total_at, totals, each, total_in, total_of, each_block, total_of_handlers}
+use Rattle.nim_program.specs.Folds.{if_constant, begun_by, lists, together, in_turn, total, total_at, totals, each, total_in, total_of, each_block}
+use Rattle.nim_program.specs.Folds.{total_of_handlers}
 use Rattle.nim_program.specs.Sizes.{is_global}
 use Rattle.flat_code.specs.declared.place.PlaceKind.TheVariants as K
 use Rattle.flat_code.specs.declared.place.FlatPlace.{FlatPlace}
@@ -14,6 +15,12 @@ use Rattle.flattening.specs.PlaceViews.{kind_declared, declared_by, declared_in,
 
 module _ (types : List Ty) (globals : List Declared) where
   -- ---- expressions declare nothing
+
+  none_begun : (constant : Option Literal) (read : Bool) (value : Expr) → total lists (own_declared types globals) value ≡ [] →
+      if_constant constant (own_declared types globals (begun_by constant read value))
+      (own_declared types globals (begun_by constant read value) ++ total lists (own_declared types globals) value) ≡ []
+  none_begun None read value h = h
+  none_begun (Some literal) read value h = refl
 
   mutual
     none : (e : Expr) → total lists (own_declared types globals) e ≡ []
@@ -24,10 +31,10 @@ module _ (types : List Ty) (globals : List Declared) where
 
     none_at : (read : Bool) (path : Path) → total_at lists (own_declared types globals) read path ≡ []
     none_at read (Variable node ty place global) = refl
-    none_at read (Fresh value) = none value
+    none_at read (Fresh value) = none_begun (constant_in value) read value (none value)
     none_at read (Field node ty base field) = none_at _ base
     none_at read (Element node ty base index constant) = ap₂ (λ x y. x ++ y) (none_at _ base) (none index)
-    none_at read (Deref ty base) = none_at read base
+    none_at read (Deref ty base) = none_at _ base
 
     none_of : (args : Args) → totals lists (own_declared types globals) args ≡ []
     none_of NoArg = refl

@@ -5,7 +5,7 @@ use Rattle.arc_base.specs.BigStep.{Res, Got, Over, Errs as IsWrong}
 use Rattle.nim_program.specs.Traps.{OutOfMemory}
 use Rattle.nim_meaning.specs.Heap.{Contents, has_room}
 use Rattle.nim_meaning.specs.State.{World, State, live}
-use Rattle.nim_meaning.specs.Acts.{Flow, On, Does, branch, change, stop, ◌>>◌}
+use Rattle.nim_meaning.specs.Acts.{Outcome, On, Does, branch, change, stop, ◌>>◌}
 use Rattle.nim_meaning.specs.Deeds.{changed, with_block, Deed, Gives, Ends, Errs, Works, Says, Looks, Changes, Takes, carry}
 use Rattle.nim_meaning.specs.Deeds.{Done, Answers, Finishes, Fails, behind, took, perform, ◌>>=◌}
 
@@ -14,7 +14,7 @@ abbrev pub later : State → List Event → ℕ → World → State
 later s es n world =
     record { meter = record { units = s.meter.units; out = s.meter.out ++ es; work = s.meter.work + n }; world = world; trail = s.trail }
 
-abbrev pub from : {A : Type 0} → State → Done A → Res State (Flow A)
+abbrev pub from : {A : Type 0} → State → Done A → Res State (Outcome A)
 from s (Answers es n x world) = Got (On x) (later s es n world)
 from s (Finishes es n status world) = Over status (live world) (later s es n world)
 from s (Fails es n world) = IsWrong (later s es n world)

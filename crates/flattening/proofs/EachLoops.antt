@@ -16,14 +16,15 @@ use Rattle.nim_meaning.specs.Values.{Value, Number, nothing, number_of, length_o
 use Rattle.nim_meaning.specs.State.{World, State, load}
 use Rattle.nim_meaning.specs.ActTree.{Turns, Chooses, Fills, Begins, Does as Done_by, Looks as Looks_up}
 use Rattle.nim_meaning.specs.Ways.{At as Point}
-use Rattle.nim_meaning.specs.Acts.{Flow, On, Does, onward, branch, worked, left_with, with_trail}
+use Rattle.nim_meaning.specs.Acts.{Outcome, On, Does, onward, branch, worked, left_with, with_trail}
 use Rattle.nim_meaning.specs.Acts.{at_exit, costs, loop, again, no_more, next, turn_of, give, stop}
 use Rattle.nim_meaning.specs.Acts as acting
 use Rattle.nim_meaning.specs.Deeds.{Deed, Looks, Opens, changed, carry, behind as later_done, perform, ◌>>=◌}
 use Rattle.nim_meaning.specs.Deeds as deeds
 use Rattle.nim_meaning.specs.Here.{Here}
 use Rattle.nim_meaning.specs.Places.{item_of, fetched}
-use Rattle.nim_meaning.specs.Meaning.{Aim, find, exec_all, fill, scoped, at_node, still, element_at, each_turn, ready_aim}
+use Rattle.nim_meaning.specs.Meaning.{exec_all, fill, scoped, at_node, still, element_at, each_turn, ready_aim}
+use Rattle.nim_meaning.specs.Aims.{Aim, find}
 use Rattle.flat_code.specs.declared.line.Line.{Line}
 use Rattle.flat_code.specs.declared.line.Line.TheVariants as L
 use Rattle.flat_code.specs.Scene.{Temps, with_value, location_at, Did, Passes, Leaps, Fails}
@@ -130,7 +131,7 @@ module _ (c : Spot) (top : Bool) (room : ℕ → Type 0) (names : (proc place : 
     fetching = L.Still place_at many ∷ L.Element t place_at counter ∷ L.Fill place.number t ∷ L.Turn (label Turn t) ∷ ending
 
     abbrev testing : List Line
-    testing = L.Beyond counter many false (label End t) ∷ find_lines path place_at fetching
+    testing = L.Beyond counter many false (label End t) ∷ find_lines types path place_at fetching
 
     abbrev arm : List Line
     arm = L.Label (label Arm t) ∷ testing
@@ -150,8 +151,8 @@ module _ (c : Spot) (top : Bool) (room : ℕ → Type 0) (names : (proc place : 
     abbrev around_body : Around c (in_loop exits t) true
     around_body = inner around t ending next_lines
 
-    end_is_behind : found (label End t) (find_lines path place_at fetching) ≡ Some ending
-    end_is_behind = (puts_find {lo = 0} {hi = 0} path place_at).skips (label End t) fetching (λ le. le) ∙ found_here (label End t) k
+    end_is_behind : found (label End t) (find_lines types path place_at fetching) ≡ Some ending
+    end_is_behind = (puts_find types modes {lo = 0} {hi = 0} path place_at).skips (label End t) fetching (λ le. le) ∙ found_here (label End t) k
 
     end_is_found : found (label End t) next_lines ≡ Some ending
     end_is_found =
@@ -178,13 +179,13 @@ module _ (c : Spot) (top : Bool) (room : ℕ → Type 0) (names : (proc place : 
 
     puts_head : Puts (4 * t + 4) (4 * n)
         (λ k. ready_lines types modes head (λ i. Owned) 0 place_at
-        (find_lines path place_at (L.Length many place_at ∷ L.Zero counter ∷ L.Jump (label Arm t) ∷ k)))
+        (find_lines types path place_at (L.Length many place_at ∷ L.Zero counter ∷ L.Jump (label Arm t) ∷ k)))
     puts_head =
         puts_wide (omega arith) (omega arith) (puts_ready types modes head (λ i. Owned) 0 place_at)
-        >> (puts_find path place_at >> (puts_line (L.Length many place_at) refl >>
+        >> (puts_find types modes path place_at >> (puts_line (L.Length many place_at) refl >>
         (puts_line (L.Zero counter) refl >> puts_line (L.Jump (label Arm t)) refl)))
 
-    module _ (l : Leads c t (ready_lines types modes head (λ i. Owned) 0 place_at (find_lines path place_at counting))) (temps : Temps) (world : World)
+    module _ (l : Leads c t (ready_lines types modes head (λ i. Owned) 0 place_at (find_lines types path place_at counting))) (temps : Temps) (world : World)
         (h : Stands c room Open world) (aim : Aim) (len : ℕ) where
       body_leads : Leads c n bodied
       body_leads =
@@ -209,7 +210,7 @@ module _ (c : Spot) (top : Bool) (room : ℕ → Type 0) (names : (proc place : 
         pub holds : HoldsAt i now
         pub since : Since c.level world b.world
 
-      abbrev Ends : Flow (Unit {0}) → State → M → Type 0
+      abbrev Ends : Outcome (Unit {0}) → State → M → Type 0
       Ends = Looped c around ending t hi temps world
 
       abbrev acts : Does (Unit {0})
@@ -431,11 +432,11 @@ module _ (c : Spot) (top : Bool) (room : ℕ → Type 0) (names : (proc place : 
       let finds : Aim → Does (Unit {0}) = λ aim. acting.◌>>=◌ (at_node node.number Looks_up (find aim)) (loops aim) in
       pays 12 1 (omega arith)
       (after 12 (omega arith) (omega arith)
-      (args_follow c top room names Open calls (ByPath path rest) f.1 f.2 (λ i. Owned) 0 u (find_lines path u counts) temps
+      (args_follow c top room names Open calls (ByPath path rest) f.1 f.2 (λ i. Owned) 0 u (find_lines types path u counts) temps
       (with_trail (Point node.number Begins ∷ s.trail) (worked 1 s)) h)
       (λ ready b now ready_is kept since.
       let aim = ready_is.0 in
-      subst (λ ready. Runs c.fixed (Left c around k t top_of temps s.world) 12 0 (there c (find_lines path u counts) now b.world) b.meter
+      subst (λ ready. Runs c.fixed (Left c around k t top_of temps s.world) 12 0 (there c (find_lines types path u counts) now b.world) b.meter
       (finds (ready_aim ready) b)) (sym ready_is.2)
       (after 12 (omega arith) (omega arith)
       (find_follows c top room names Open path f.2.0 u counts now aim ready_is.3 (with_trail (Point node.number Looks_up ∷ b.trail) b) (stands_since h since))

@@ -17,13 +17,14 @@ use Rattle.nim_meaning.specs.Deeds.{carry}
 use Rattle.nim_meaning.specs.Here.{Here}
 use Rattle.nim_meaning.specs.Places.{fetched}
 use Rattle.nim_meaning.specs.Shapes.{is_covered}
-use Rattle.nim_meaning.specs.Meaning.{find, at_node, at_path, handed_on, picked_value}
+use Rattle.nim_meaning.specs.Meaning.{at_node, at_path, handed_on, picked_value}
+use Rattle.nim_meaning.specs.Aims.{find}
 use Rattle.flat_code.specs.declared.line.Line.TheVariants as L
 use Rattle.flat_code.specs.Scene.{Temps, with_value, location_at}
 use Rattle.flat_code.specs.Lines.{using}
 use Rattle.flat_code.specs.Lines as does
 use Rattle.flattening.specs.declared.numbers.Purpose.TheVariants.{End, Next}
-use Rattle.flattening.specs.Numbering.{width, width_at, widths, label}
+use Rattle.flattening.specs.Numbering.{arm_count, width, width_at, widths, label, looked_from, behind_selector}
 use Rattle.flattening.specs.ExprLines.{find_lines, value_tests, arm_lines}
 use Rattle.flattening.specs.Flattened.{modes_of}
 use Rattle.flattening.specs.Formed.{Scope, Formed, PathFormed, AllFormed, AreTaken, IfListed}
@@ -38,7 +39,7 @@ use Rattle.flattening.proofs.Choices.{Has, ExprFollows, ChoiceFollows, TestsFoll
 use Rattle.flattening.proofs.Arms.{none_fits, none_by_path, otherwise, an_arm}
 use Rattle.flattening.proofs.Exprs.{AimFollows, ArgsFollow, SelectFollows, variable_follows, fresh_follows, field_follows, element_follows, deref_follows}
 use Rattle.flattening.proofs.Exprs.{value_follows, path_follows, apply_follows, read_follows, early_is}
-use Rattle.flattening.proofs.Widths.{same_width, some_width_at}
+use Rattle.flattening.proofs.Widths.{same_width, some_width_at, selector_width}
 
 module _ (c : Spot) (top : Bool) (room : ℕ → Type 0) (names : (proc place : ℕ) → Type 0) (Open : Scope) (calls : CallsFollow c names) where
   abbrev types : List Ty
@@ -66,9 +67,12 @@ module _ (c : Spot) (top : Bool) (room : ℕ → Type 0) (names : (proc place : 
       ExprFollows c top room names Open (Choose node ty (ByLabels labels) parts)
   by_labels node ty labels parts follows how t k temps s h =
       pays 12 1 (omega arith)
-      (further {lo' = t} {hi' = suc t + widths parts} (omega arith) (omega arith) (kept_none t (t + width (Choose node ty (ByLabels labels) parts)) temps)
+      (let w = selector_width labels parts t in
+      let sel = suc t + arm_count (ByLabels labels) in
+      further {lo' = t} {hi' = behind_selector parts sel} (omega arith) (omega (arith, w))
+      (kept_none t (t + width (Choose node ty (ByLabels labels) parts)) temps)
       (since_none c.level s.world) (λ v now has kept. as_value node ty (ByLabels labels) parts t v now has)
-      (follows node.number how t (suc t) (omega arith) k temps (worked 1 s) h))
+      (follows node.number how t sel (omega arith) k temps (worked 1 s) h))
 
   -- ---- the selector of a `case`
 
@@ -82,7 +86,6 @@ module _ (c : Spot) (top : Bool) (room : ℕ → Type 0) (names : (proc place : 
   selects_value labels selector rest ty follows tests node how t u less k temps s h =
       let covered = is_covered (type_of selector) in
       let u2 = u + width selector in
-      let hi = u + widths (ByValue selector rest) in
       let K = L.Label (label End t) ∷ k in
       let arms = arm_lines types modes covered labels rest ty how t u2 K in
       after_both (λ x. at_node node Chooses (picked_value covered labels rest x ty here)) (onward (handed_on here how ty)) 12 (omega arith) (omega arith)
@@ -100,18 +103,18 @@ module _ (c : Spot) (top : Bool) (room : ℕ → Type 0) (names : (proc place : 
       let covered = is_covered (type_at path) in
       let w = same_width path in
       let some = some_width_at path in
-      let u2 = u + width_at path in
-      let hi = u + widths (ByPath path rest) in
+      let n = looked_from path u in
+      let u2 = n + width_at path in
       let K = L.Label (label End t) ∷ k in
       let arms = arm_lines types modes covered labels rest ty how t u2 K in
       let behind = value_tests labels rest u u2 (L.Jump (label Next t) ∷ arms) in
       let chooses : Value → Does Value = λ x. at_node node Chooses (picked_value covered labels rest x ty here) in
       let reads : Location → Does Value = λ l s. then_do (at_path path (carry (fetched l)) s) (onward chooses) in
       after_both (λ aim s. then_do (find aim s) (onward reads)) (onward (handed_on here how ty)) 12 (omega arith) (omega arith)
-      (follows u (find_lines path u (L.Look u u ∷ behind)) temps s h)
+      (follows n (find_lines types path n (L.Look u n ∷ behind)) temps s h)
       (λ aim b now aims kept since.
       after_both reads (onward (handed_on here how ty)) 12 (omega arith) (omega arith)
-      (find_follows c top room names Open path f u (L.Look u u ∷ behind) now aim aims b (stands_since h since))
+      (find_follows c top room names Open path f n (L.Look u n ∷ behind) now aim aims b (stands_since h since))
       (λ l d last leads kept2 since2.
       after_both chooses (onward (handed_on here how ty)) 12 (omega arith) (omega arith)
       (at_point {p = 0} {q = 0} (carry (fetched l)) path d (λ trail.
@@ -119,11 +122,11 @@ module _ (c : Spot) (top : Bool) (room : ℕ → Type 0) (names : (proc place : 
       (λ world. put_same last.values u _) (λ v. kept_value u v (omega arith) (omega arith) (kept_none u (suc u) last))
       (ap (λ o. using o (λ place. does.gives (scene c last d.world) u (fetched (location_at last place)))) leads.is
       ∙ ap (λ l. does.gives (scene c last d.world) u (fetched l)) leads.at)))
-      (λ x e n has kept3 since3.
+      (λ x e m has kept3 since3.
       further {lo' = t} {hi' = u2 + widths rest} (omega arith) (omega (arith, w))
       (kept_then (kept_wide (omega (arith, less)) (omega (arith, w)) kept) (kept_then (kept_wide (omega (arith, less)) (omega (arith, w)) kept2)
       (kept_wide (omega (arith, less)) (omega (arith, w, some)) kept3))) (since_then since (since_then since2 since3)) (λ v n p kept. p)
-      (tests covered how t x u u2 (omega (arith, less)) k arms n (with_trail (Point node Chooses ∷ e.trail) e) has
+      (tests covered how t x u u2 (omega (arith, less)) k arms m (with_trail (Point node Chooses ∷ e.trail) e) has
       (stands_since h (since_then since (since_then since2 since3))) (λ name which. refl)))))
 
   -- ---- the induction

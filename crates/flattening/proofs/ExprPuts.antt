@@ -1,30 +1,32 @@
 -- What is put for an expression: the parts of each form, one after another.
 use Rattle.std.proofs.Common.{◌≡◌, ℕ, suc, ◌+◌, ◌<◌, ◌≤◌, List, [], ◌∷◌, length, drop, get_or, Option, None, Bool, true, false, ℤ}
-use Rattle.std.proofs.Common.{refl, sym, ap, ap₂, subst, ◌∙◌}
+use Rattle.std.proofs.Common.{refl, sym, ap, ap₂, subst, ◌∙◌, arith}
 use Rattle.std.specs.Prelude.{◌&&◌, if◌then◌else◌}
 use Rattle.std.proofs.lemmas.List.{drop_more, drop_all}
 use Rattle.nim_types.specs.Types.{Ty}
 use Rattle.nim_program.specs.declared.expr.Node.{Node}
 use Rattle.nim_program.specs.declared.expr.Operand.{Operand as RustOperand}
 use Rattle.nim_program.specs.declared.expr.Operand.TheVariants as A
+use Rattle.nim_program.specs.declared.expr.Pick.{Pick}
 use Rattle.nim_program.specs.declared.operation.Short.{Short}
 use Rattle.nim_program.specs.declared.operation.Use.{Use}
 use Rattle.nim_program.specs.declared.operation.Use.TheVariants.{Owned}
 use Rattle.nim_program.specs.declared.program.Mode.{Mode}
-use Rattle.nim_program.specs.Program.{Label, Act, Declared, Expr, Apply, Early, Choose, ByConditions, ByLabels, Path, Field, Element, Args, NoArg, ByValue}
-use Rattle.nim_program.specs.Program.{types_in}
+use Rattle.nim_program.specs.Program.{Label, Act, Declared, Expr, Apply, Early, Choose, ByConditions, ByLabels, Path, Fresh, Field, Element, Deref, Args, NoArg}
+use Rattle.nim_program.specs.Program.{ByValue, ByPath, types_in, type_of, type_at}
 use Rattle.nim_program.specs.Uses.{use_of}
-use Rattle.nim_program.specs.View.{path_of, operand_before}
+use Rattle.nim_program.specs.View.{expr_of, path_of, operand_before, pick_labels}
 use Rattle.nim_meaning.specs.Shapes.{is_covered, selector_type, is_last_value}
 use Rattle.flat_code.specs.declared.line.Line.{Line}
 use Rattle.flat_code.specs.declared.line.Line.TheVariants as L
 use Rattle.flattening.specs.declared.numbers.Purpose.TheVariants.{End, Next, Arm}
-use Rattle.flattening.specs.Numbering.{width, width_at, label}
+use Rattle.flattening.specs.Numbering.{width, width_at, looked_from, behind_selector, label}
 use Rattle.flattening.specs.ExprLines.{froms, find_lines, settle_lines, value_tests, act_line, early_lines}
 use Rattle.flattening.specs.ExprLines.{lines, aim_lines, ready_lines, choice_lines, arm_label, arm_lines, label_tests}
 use Rattle.flattening.specs.StmtLines.{selector_lines}
-use Rattle.flattening.specs.Views.{behind, branch_lines}
+use Rattle.flattening.specs.Views.{behind, branch_lines, fresh_lines}
 use Rattle.flattening.specs.Written.{IsPut}
+use Rattle.flattening.proofs.Widths.{same_width}
 use Rattle.flattening.proofs.Writing.{puts_two, puts_as}
 
 pub drop_next : {X : Type 0} (xs : List X) (i : ℕ) (x : X) → i < length xs → x ≡ get_or xs i x → drop i xs ≡ x ∷ drop (i + 1) xs
@@ -48,6 +50,10 @@ pub ended : {X : Type 0} (old at new : Option (List X)) (whole before left : Lis
     ((end : Option (List X)) → IsPut at end before → IsPut old end whole) → ((k : List X) → left k ≡ before k) → IsPut at new left → IsPut old new whole
 ended old at new whole before left h same put = h new (puts_as left before put same)
 
+pub pick_count : (branches : List Pick) → length (pick_labels branches) ≡ length branches
+pick_count [] = refl
+pick_count (first ∷ rest) = ap suc (pick_count rest)
+
 module _ (types : List Ty) (modes : (proc position : ℕ) → Mode) where
   -- the same of an expression in other words
   pub of_same : (e e' : Expr) (how : Use) (t : ℕ) {a b : Option (List Line)} → e ≡ e' → IsPut a b (lines types modes e' how t) →
@@ -63,6 +69,14 @@ module _ (types : List Ty) (modes : (proc position : ℕ) → Mode) where
       IsPut a b (aim_lines types modes (Field node ty base field) t)
   field_aimed node ty base field t u e put = puts_as _ _ put (λ k. ap (λ x. aim_lines types modes base x k) e)
 
+  pub deref_aimed : (ty : Ty) (base : Path) (t u : ℕ) {a b : Option (List Line)} → u ≡ suc t → IsPut a b (aim_lines types modes base u) →
+      IsPut a b (aim_lines types modes (Deref ty base) t)
+  deref_aimed ty base t u e put = puts_as _ _ put (λ k. ap (λ x. aim_lines types modes base x k) e)
+
+  pub fresh_aimed : (value : Expr) (t u : ℕ) {a b : Option (List Line)} → u ≡ suc t → IsPut a b (fresh_lines types modes value u) →
+      IsPut a b (aim_lines types modes (Fresh value) t)
+  fresh_aimed value t u e put = puts_as _ _ put (λ k. ap (λ x. fresh_lines types modes value x k) e)
+
   pub element_aimed : (node : Node) (ty : Ty) (base : Path) (index : Expr) (constant : Option ℤ) (t u v : ℕ) {a b : Option (List Line)} → u ≡ suc t →
       v ≡ u + width_at base → IsPut a b (λ k. aim_lines types modes base u (lines types modes index Owned v k)) →
       IsPut a b (aim_lines types modes (Element node ty base index constant) t)
@@ -74,13 +88,13 @@ module _ (types : List Ty) (modes : (proc position : ℕ) → Mode) where
   pub apply_put : (node : Node) (ty : Option Ty) (act : Act) (operands : Args) (how : Use) (t u : ℕ) {a b : Option (List Line)} → u ≡ suc t →
       IsPut a b (λ k.
       ready_lines types modes operands (use_of modes act) 0 u
-      (settle_lines operands u (act_line types modes t act how ty (types_in operands) (froms operands u) ∷ k))) →
+      (settle_lines types operands u (act_line types modes t act how ty (types_in operands) (froms operands u) ∷ k))) →
       IsPut a b (lines types modes (Apply node ty act operands) how t)
   apply_put node ty act operands how t u e put =
       puts_as _ _ put (λ k.
       ap (λ v.
       ready_lines types modes operands (use_of modes act) 0 v
-      (settle_lines operands v (act_line types modes t act how ty (types_in operands) (froms operands v) ∷ k)))
+      (settle_lines types operands v (act_line types modes t act how ty (types_in operands) (froms operands v) ∷ k)))
       e)
 
   pub early_put : (node : Node) (ty : Ty) (short : Short) (left right : Expr) (how : Use) (t u v : ℕ) {a b : Option (List Line)} → u ≡ suc t →
@@ -104,30 +118,49 @@ module _ (types : List Ty) (modes : (proc position : ℕ) → Mode) where
 
   module _ (result : Option Declared) where
     -- the selector, the tests of all labels, and the branches
-    abbrev selected : Args → (covered : Bool) → List (List Label) → Args → Option Ty → Use → (t u v : ℕ) → List Line → List Line
-    selected selector covered labels rest ty how t u v k =
-        selector_lines types modes result selector u
-        (value_tests labels rest u v (L.Jump (label Next t) ∷ arm_lines types modes covered labels rest ty how t v (L.Label (label End t) ∷ k)))
+    abbrev selected : Args → (covered : Bool) → List (List Label) → Args → Option Ty → Use → (t s v : ℕ) → List Line → List Line
+    selected selector covered labels rest ty how t s v k =
+        selector_lines types modes result selector s
+        (value_tests labels rest s v (L.Jump (label Next t) ∷ arm_lines types modes covered labels rest ty how t v (L.Label (label End t) ∷ k)))
+
+    -- behind the selector, in other words
+    value_end : (value : Expr) (s : ℕ) → s + width value ≡ behind_selector (ByValue value NoArg) s
+    value_end value s = omega arith
+
+    path_end : (path : Path) (s : ℕ) → looked_from path s + width_at path ≡ behind_selector (ByPath path NoArg) s
+    path_end path s = let w = same_width path in omega (arith, w)
 
     labels_same : (ts : List Ty) (node : Node) (ty : Option Ty) (labels : List (List Label)) (selector : RustOperand) (rest : Args) (how : Use) (t : ℕ)
         (k : List Line) →
-        selected (operand_before ts selector NoArg) (is_covered (selector_type (operand_before ts selector NoArg))) labels rest ty how t (suc t)
-        (behind (operand_before ts selector NoArg) (suc t)) k
+        selected (operand_before ts selector NoArg) (is_covered (selector_type (operand_before ts selector NoArg))) labels rest ty how t
+        (suc t + length labels) (behind_selector (operand_before ts selector NoArg) (suc t + length labels)) k
         ≡ lines types modes (Choose node ty (ByLabels labels) (operand_before ts selector rest)) how t k
-    labels_same ts node ty labels (A.Value value) rest how t k = refl
-    labels_same ts node ty labels (A.At path) rest how t k = refl
+    labels_same ts node ty labels (A.Value value) rest how t k =
+        ap (λ v. selected (ByValue (expr_of ts value) NoArg) (is_covered (type_of (expr_of ts value))) labels rest ty how t (suc t + length labels) v k)
+        (sym (value_end (expr_of ts value) (suc t + length labels)))
+    labels_same ts node ty labels (A.At path) rest how t k =
+        ap (λ v. selected (ByPath (path_of ts path) NoArg) (is_covered (type_at (path_of ts path))) labels rest ty how t (suc t + length labels) v k)
+        (sym (path_end (path_of ts path) (suc t + length labels)))
 
     pub labels_put : (ts : List Ty) (node : Node) (ty : Option Ty) (labels : List (List Label)) (selector : RustOperand) (rest : Args) (how : Use)
-        (t u v : ℕ) (covered : Bool) {a b : Option (List Line)} → u ≡ suc t → v ≡ behind (operand_before ts selector NoArg) u →
-        covered ≡ is_covered (selector_type (operand_before ts selector NoArg)) →
-        IsPut a b (selected (operand_before ts selector NoArg) covered labels rest ty how t u v) →
+        (n t u s v : ℕ) (covered : Bool) {a b : Option (List Line)} → u ≡ suc t → s ≡ u + n → n ≡ length labels →
+        v ≡ behind_selector (operand_before ts selector NoArg) s → covered ≡ is_covered (selector_type (operand_before ts selector NoArg)) →
+        IsPut a b (selected (operand_before ts selector NoArg) covered labels rest ty how t s v) →
         IsPut a b (lines types modes (Choose node ty (ByLabels labels) (operand_before ts selector rest)) how t)
-    labels_put ts node ty labels selector rest how t u v covered e f g put =
+    labels_put ts node ty labels selector rest how n t u s v covered e f g h i put =
         let first = operand_before ts selector NoArg in
+        let begins : s ≡ suc t + length labels = f ∙ ap₂ (λ a b. a + b) e g in
         puts_as _ _ put (λ k.
-        ap (λ c. selected first c labels rest ty how t u v k) g
-        ∙ ap₂ (λ x y. selected first (is_covered (selector_type first)) labels rest ty how t x y k) e (f ∙ ap (behind first) e)
+        ap (λ c. selected first c labels rest ty how t s v k) i
+        ∙ ap (λ y. selected first (is_covered (selector_type first)) labels rest ty how t s y k) h
+        ∙ ap (λ x. selected first (is_covered (selector_type first)) labels rest ty how t x (behind_selector first x) k) begins
         ∙ labels_same ts node ty labels selector rest how t k)
+
+    -- a selector at a path
+    pub looked_put : (path : Path) (s from : ℕ) {a b : Option (List Line)} → from ≡ looked_from path s →
+        IsPut a b (λ k. aim_lines types modes path from (find_lines types path from (L.Look s from ∷ k))) →
+        IsPut a b (selector_lines types modes result (ByPath path NoArg) s)
+    looked_put path s from e put = puts_as _ _ put (λ k. ap (λ x. aim_lines types modes path x (find_lines types path x (L.Look s x ∷ k))) e)
 
   -- ---- one more of some
 
@@ -191,19 +224,25 @@ tests_next these labels value rest selector t u e k = ap (λ v. label_tests thes
 
 -- ---- paths that are looked up
 
-pub found_same : (p p' : Path) (t : ℕ) {a b : Option (List Line)} → p ≡ p' → IsPut a b (find_lines p' t) → IsPut a b (find_lines p t)
-found_same p p' t {a} {b} same put = subst (λ x. IsPut a b (find_lines x t)) (sym same) put
+module _ (types : List Ty) where
+  pub found_same : (p p' : Path) (t : ℕ) {a b : Option (List Line)} → p ≡ p' → IsPut a b (find_lines types p' t) → IsPut a b (find_lines types p t)
+  found_same p p' t {a} {b} same put = subst (λ x. IsPut a b (find_lines types x t)) (sym same) put
 
-pub field_found : (node : Node) (ty : Ty) (base : Path) (field t u : ℕ) {a b : Option (List Line)} → u ≡ suc t →
-    IsPut a b (λ k. find_lines base u (L.Part t u field ∷ k)) → IsPut a b (find_lines (Field node ty base field) t)
-field_found node ty base field t u e put = puts_as _ _ put (λ k. ap (λ x. find_lines base x (L.Part t x field ∷ k)) e)
+  pub field_found : (node : Node) (ty : Ty) (base : Path) (field t u : ℕ) {a b : Option (List Line)} → u ≡ suc t →
+      IsPut a b (λ k. find_lines types base u (L.Part t u field ∷ k)) → IsPut a b (find_lines types (Field node ty base field) t)
+  field_found node ty base field t u e put = puts_as _ _ put (λ k. ap (λ x. find_lines types base x (L.Part t x field ∷ k)) e)
 
-pub element_found : (node : Node) (ty : Ty) (base : Path) (index : Expr) (constant : Option ℤ) (t u v : ℕ) {a b : Option (List Line)} → u ≡ suc t →
-    v ≡ u + width_at base → IsPut a b (λ k. find_lines base u (L.Item t u v ∷ k)) → IsPut a b (find_lines (Element node ty base index constant) t)
-element_found node ty base index constant t u v e f put =
-    puts_as _ _ put (λ k. ap₂ (λ x y. find_lines base x (L.Item t x y ∷ k)) e (f ∙ ap (λ x. x + width_at base) e))
+  pub deref_found : (ty : Ty) (base : Path) (t u : ℕ) {a b : Option (List Line)} → u ≡ suc t →
+      IsPut a b (λ k. find_lines types base u (L.Object t u ∷ k)) → IsPut a b (find_lines types (Deref ty base) t)
+  deref_found ty base t u e put = puts_as _ _ put (λ k. ap (λ x. find_lines types base x (L.Object t x ∷ k)) e)
 
-pub settle_next : (ts : List Ty) (x : RustOperand) (rest : Args) (u v : ℕ) → v ≡ behind (operand_before ts x NoArg) u → (k : List Line) →
-    settle_lines (operand_before ts x NoArg) u (settle_lines rest v k) ≡ settle_lines (operand_before ts x rest) u k
-settle_next ts (A.Value value) rest u v e k = ap (λ w. settle_lines rest w k) e
-settle_next ts (A.At path) rest u v e k = ap (λ w. find_lines (path_of ts path) u (settle_lines rest w k)) e
+  pub element_found : (node : Node) (ty : Ty) (base : Path) (index : Expr) (constant : Option ℤ) (t u v : ℕ) {a b : Option (List Line)} → u ≡ suc t →
+      v ≡ u + width_at base → IsPut a b (λ k. find_lines types base u (L.Item t u v ∷ k)) →
+      IsPut a b (find_lines types (Element node ty base index constant) t)
+  element_found node ty base index constant t u v e f put =
+      puts_as _ _ put (λ k. ap₂ (λ x y. find_lines types base x (L.Item t x y ∷ k)) e (f ∙ ap (λ x. x + width_at base) e))
+
+  pub settle_next : (ts : List Ty) (x : RustOperand) (rest : Args) (u v : ℕ) → v ≡ behind (operand_before ts x NoArg) u → (k : List Line) →
+      settle_lines types (operand_before ts x NoArg) u (settle_lines types rest v k) ≡ settle_lines types (operand_before ts x rest) u k
+  settle_next ts (A.Value value) rest u v e k = ap (λ w. settle_lines types rest w k) e
+  settle_next ts (A.At path) rest u v e k = ap (λ w. find_lines types (path_of ts path) u (settle_lines types rest w k)) e

@@ -1,5 +1,5 @@
 -- Flat code follows every expression.
-use Rattle.std.proofs.Common.{◌≡◌, ℕ, suc, ◌+◌, ◌<◌, Bool, true, false, List, ◌∷◌, Option, None, refl, ap, ◌∙◌, arith}
+use Rattle.std.proofs.Common.{◌≡◌, ℕ, suc, ◌+◌, ◌<◌, Bool, true, false, List, ◌∷◌, Option, Some, None, refl, ap, ◌∙◌, arith}
 use Rattle.std.specs.Prelude.{ℤ}
 use Rattle.std.proofs.lemmas.Bool.{false≢true}
 use Rattle.arc_base.specs.BigStep.{then_do}
@@ -9,39 +9,42 @@ use Rattle.nim_program.specs.declared.operation.Short.{Short}
 use Rattle.nim_program.specs.declared.operation.Use.{Use}
 use Rattle.nim_program.specs.declared.operation.Use.TheVariants.{Owned, Looked}
 use Rattle.nim_program.specs.declared.program.Mode.{Mode}
-use Rattle.nim_program.specs.Program.{Label, Act, Expr, Apply, Read, Early, Path, Variable, Fresh, Field, Element, Deref}
-use Rattle.nim_program.specs.Program.{Args, ByValue, ByPath, node_of, node_at, type_of, type_at, types_in}
+use Rattle.nim_program.specs.Program.{Literal, Label, Act, Expr, Apply, Read, Early, Path, Variable, Fresh, Field, Element, Deref}
+use Rattle.nim_program.specs.Program.{Args, ByValue, ByPath, node_of, node_at, type_of, type_at, types_in, constant_in}
 use Rattle.nim_program.specs.Uses.{use_of}
 use Rattle.nim_program.specs.View.{if_type}
-use Rattle.nim_meaning.specs.Values.{number_of, Standing}
+use Rattle.nim_program.specs.Folds.{by_constant, if_constant}
+use Rattle.nim_meaning.specs.Values.{number_of, literal_value, Standing, Made}
 use Rattle.nim_meaning.specs.State.{State}
 use Rattle.nim_meaning.specs.ActTree.{Does as Done_by, Chooses}
 use Rattle.nim_meaning.specs.Ways.{At as Point}
-use Rattle.nim_meaning.specs.Acts.{onward, worked, with_trail}
+use Rattle.nim_meaning.specs.Acts.{onward, give, ◌>>=◌, worked, with_trail}
 use Rattle.nim_meaning.specs.Here.{Here, level_of, gives_hooked, act_at}
-use Rattle.nim_meaning.specs.Meaning.{Root, PartOf, ItemOf, ObjectOf, Evaluated, Aimed, got, got_by}
-use Rattle.nim_meaning.specs.Meaning.{fresh_root, operand_for, handed_on, aimed, ready_all, selected}
+use Rattle.nim_meaning.specs.Meaning.{got, got_by}
+use Rattle.nim_meaning.specs.Aims.{Root, PartOf, ItemOf, ObjectOf, Evaluated, Aimed}
+use Rattle.nim_meaning.specs.Meaning.{eval, handed_on, aimed, ready_all, selected}
+use Rattle.nim_meaning.specs.Aims.{fresh_root, operand_for}
 use Rattle.flat_code.specs.declared.line.Line.{Line}
 use Rattle.flat_code.specs.declared.line.Line.TheVariants as L
 use Rattle.flat_code.specs.Scene.{Temps, with_value, location_at}
 use Rattle.flat_code.specs.Lines.{using, level_at}
 use Rattle.flat_code.specs.Lines as does
 use Rattle.flattening.specs.declared.numbers.Purpose.TheVariants.{End}
-use Rattle.flattening.specs.Numbering.{if_number, width, width_at, widths, label}
+use Rattle.flattening.specs.Numbering.{if_number, width, width_at, widths, label, behind_selector}
 use Rattle.flattening.specs.ExprLines.{froms, act_line, find_lines, settle_lines, early_lines}
 use Rattle.flattening.specs.ExprLines.{lines, aim_lines, ready_lines, select_lines}
 use Rattle.flattening.specs.Flattened.{modes_of}
-use Rattle.flattening.specs.Formed.{Scope, Formed, PathFormed, AreTaken}
+use Rattle.flattening.specs.Formed.{Scope, Formed, PathFormed, AreTaken, IsTaken}
 use Rattle.flattening.proofs.Runs.{Runs, pays}
 use Rattle.flattening.proofs.Worlds.{since_none, since_then}
 use Rattle.flattening.proofs.Openings.{keeps_taken}
 use Rattle.flattening.proofs.Temps.{kept_none, kept_then, kept_wide, kept_value, put_same, value_before}
 use Rattle.flattening.proofs.Spots.{Spot, here_of, there, scene, Lands, after, answers, further, performs_alone, at_point}
 use Rattle.flattening.proofs.Standing.{grounded, Stands, stands_since}
-use Rattle.flattening.proofs.Paths.{Aims, aims_kept, aim_gain, gains, find_follows, Readies, settle_follows}
+use Rattle.flattening.proofs.Paths.{Begins, Aims, aims_kept, aim_gain, gains, find_follows, Readies, settle_follows}
 use Rattle.flattening.proofs.Acting.{Comes, CallsFollow, type_is, act_follows, given_as_is, fresh_as_is}
 use Rattle.flattening.proofs.Choices.{Has, ExprFollows, early_follows}
-use Rattle.flattening.proofs.Widths.{same_width, some_width, some_width_at}
+use Rattle.flattening.proofs.Widths.{same_width, fresh_width, some_width, some_width_at}
 
 module _ (c : Spot) (top : Bool) (room : ℕ → Type 0) (names : (proc place : ℕ) → Type 0) (Open : Scope) (calls : CallsFollow c names) where
   abbrev facts : Facts
@@ -80,21 +83,33 @@ module _ (c : Spot) (top : Bool) (room : ℕ → Type 0) (names : (proc place : 
       Runs c.fixed (Lands c k t (t + widths args) temps s.world (Readies c top room names Open args t)) 0 0
       (there c (ready_lines types modes args uses i t k) temps s.world) s.meter (ready_all args uses i here s)
 
+  -- with the selector's value in temporary u
   abbrev pub SelectFollows : (labels : List (List Label)) (parts : Args) (ty : Option Ty) → Type 0
   SelectFollows labels parts ty = (node : ℕ) (how : Use) (t u : ℕ) → t < u → (k : List Line) (temps : Temps) (s : State) → Stands c room Open s.world →
-      Runs c.fixed (Lands c k t (u + widths parts) temps s.world (Has c top room names Open t)) 12 2
+      Runs c.fixed (Lands c k t (behind_selector parts u) temps s.world (Has c top room names Open t)) 12 2
       (there c (select_lines types modes labels parts ty how t u (L.Label (label End t) ∷ k)) temps s.world) s.meter
       (then_do (selected node labels parts ty here s) (onward (handed_on here how ty)))
 
   -- ---- paths
 
-  pub fresh_follows : (value : Expr) → PathFormed (grounded c top room names) Open (Fresh value) → ExprFollows c top room names Open value → AimFollows
-      (Fresh value)
-  fresh_follows value f follows t k temps s h =
-      after 2 (omega arith) (omega arith) (follows Looked t k temps s h)
+  -- a constant is where it stands, any other value comes to the next temporary
+  begin_follows : (constant : Option Literal) (value : Expr) → IsTaken facts value → ExprFollows c top room names Open value → (t : ℕ) (k : List Line)
+      (temps : Temps) (s : State) → Stands c room Open s.world →
+      Runs c.fixed (Lands c k t (t + fresh_width constant value) temps s.world (Begins constant t)) 0 (if_constant constant 0 2)
+      (there c (if_constant constant k (lines types modes value Looked (suc t) k)) temps s.world) s.meter
+      (by_constant constant (λ literal. give (Root (Made (literal_value literal)))) (eval value Looked here
+      >>= (λ v. give (fresh_root (gives_hooked facts (type_of value)) c.level (node_of value).number v))) s)
+  begin_follows None value taken follows t k temps s h =
+      after 2 (omega arith) (omega arith) (follows Looked (suc t) k temps s h)
       (λ v b now comes kept since.
       answers (fresh_root (gives_hooked facts (type_of value)) c.level (node_of value).number v) b now (omega arith)
-      (v, comes.value, fresh_as_is facts value f.0 c.level (node_of value).number v comes.text) kept since)
+      (v, comes.value, fresh_as_is facts value taken c.level (node_of value).number v comes.text) (kept_wide (omega arith) (omega arith) kept) since)
+  begin_follows (Some literal) value taken follows t k temps s h =
+      answers (Root (Made (literal_value literal))) s temps (omega arith) refl (kept_none t (t + 1) temps) (since_none c.level s.world)
+
+  pub fresh_follows : (value : Expr) → PathFormed (grounded c top room names) Open (Fresh value) → ExprFollows c top room names Open value → AimFollows
+      (Fresh value)
+  fresh_follows value f follows t k temps s h = begin_follows (constant_in value) value f.0 follows t k temps s h
 
   pub field_follows : (node : Node) (ty : Ty) (base : Path) (field : ℕ) → AimFollows base → AimFollows (Field node ty base field)
   field_follows node ty base field follows t k temps s h =
@@ -118,8 +133,9 @@ module _ (c : Spot) (top : Bool) (room : ℕ → Type 0) (names : (proc place : 
 
   pub deref_follows : (ty : Ty) (base : Path) → AimFollows base → AimFollows (Deref ty base)
   deref_follows ty base follows t k temps s h =
-      after (aim_gain base) (omega arith) (omega arith) (follows t k temps s h)
-      (λ aim b now aims kept since. answers (ObjectOf aim) b now (omega arith) (aim, refl, aims) kept since)
+      let w = same_width base in
+      after (aim_gain base) (omega arith) (omega arith) (follows (suc t) k temps s h)
+      (λ aim b now aims kept since. answers (ObjectOf aim) b now (omega arith) (aim, refl, aims) (kept_wide (omega arith) (omega (arith, w)) kept) since)
 
   -- ---- operands
 
@@ -157,7 +173,7 @@ module _ (c : Spot) (top : Bool) (room : ℕ → Type 0) (names : (proc place : 
   apply_follows node ty act operands f follows how t k temps s h =
       let u = suc t in
       let run = act_line types modes t act how ty (types_in operands) (froms operands u) ∷ k in
-      after 0 (omega arith) (omega arith) (follows (use_of modes act) 0 u (settle_lines operands u run) temps s h)
+      after 0 (omega arith) (omega arith) (follows (use_of modes act) 0 u (settle_lines types operands u run) temps s h)
       (λ ready b now r kept since.
       after 0 (omega arith) (omega arith) (settle_follows c top room names Open operands f.2 u run now ready r b (stands_since h since))
       (λ xs d last takes kept2 since2.
@@ -174,7 +190,7 @@ module _ (c : Spot) (top : Bool) (room : ℕ → Type 0) (names : (proc place : 
       let w = some_width_at path in
       let g = gains path in
       let get = L.Get t t how n (if_number types ty) ∷ k in
-      after (aim_gain path) (omega arith) (omega arith) (follows t (find_lines path t get) temps s h)
+      after (aim_gain path) (omega arith) (omega arith) (follows t (find_lines types path t get) temps s h)
       (λ aim b now aims kept since.
       after 2 (omega arith) (omega (arith, g)) (find_follows c top room names Open path f.1 t get now aim aims b (stands_since h since))
       (λ l d last leads kept2 since2.

@@ -15,7 +15,8 @@ use Rattle.nim_program.specs.Kinds.{TypeKind, is_of, same_value}
 use Rattle.nim_program.specs.Fitting as table
 use Rattle.nim_program.specs.Fitting.{building_fits, are_distinct, are_fields, places_in}
 use Rattle.nim_program.specs.Scopes as scopes
-use Rattle.nim_program.specs.Scopes.{Placed, Here, given, all_given, given_if, is_ready, is_no_hook, are_taken, call_fits, is_written}
+use Rattle.nim_program.specs.Scopes.{Placed, Here, given, all_given, given_if, is_ready, is_no_hook, are_taken, call_fits}
+use Rattle.nim_program.specs.Program.{is_written}
 use Rattle.nim_program.specs.Typed.{act_fits, are_placed, may_take_all}
 use Rattle.nim_program.specs.View.{if_type}
 use Rattle.nim_meaning.specs.Here.{gives_hooked}
@@ -25,7 +26,6 @@ use Rattle.flat_code.specs.declared.place.FlatPlace.{FlatPlace}
 use Rattle.flat_code.specs.Scene.{Known}
 use Rattle.flat_code.specs.Fits as fit
 use Rattle.flat_code.specs.Fits.{Taken, Signature, operation_fits, writes, are_arguments}
-use Rattle.flat_code.specs.Shapes.{has_shape, shape_of}
 use Rattle.flattening.specs.Formed.{IfListed, AreListed}
 use Rattle.flattening.specs.Numbering.{if_number, all_numbers, width, width_at}
 use Rattle.flattening.specs.ExprLines.{froms, act_line}
@@ -35,8 +35,6 @@ use Rattle.flattening.proofs.Fit.{Among, fitting}
 use Rattle.flattening.proofs.FitParts.{never, of_same, value_same, itself, both_are, both_some, takes_of}
 use Rattle.flattening.proofs.FitParts as parts
 use Rattle.flattening.proofs.FitPaths as paths
-use Rattle.flattening.proofs.Literals.{pieces_value}
-use Rattle.flattening.proofs.OnePiece.{is_one}
 
 -- each row of the table is one of lines
 pub operation_right : (facts : Facts) (operation : Operation) (ty : Option Ty) (of : List (Option Ty)) → table.fits facts operation ty of ≡ true →
@@ -93,10 +91,10 @@ module _ (types : List Ty) (facts : Facts) (procs : List Proc) (globals : List P
   AllStood = parts.AllStood types facts procs globals sigs start whole filled places dest
 
   abbrev taken_from : From → Option Ty
-  taken_from = paths.taken_from types facts procs globals sigs start whole filled places dest sees
+  taken_from = paths.taken_from types facts procs globals sigs start whole grounds filled places dest sees
 
   taken_are : (args : Args) (t : ℕ) → AllStood args t → map taken_from (froms args t) ≡ types_in args
-  taken_are = paths.taken_are types facts procs globals sigs start whole filled places dest sees
+  taken_are = paths.taken_are types facts procs globals sigs start whole grounds filled places dest sees
 
   -- ---- operations
 
@@ -112,11 +110,11 @@ module _ (types : List Ty) (facts : Facts) (procs : List Proc) (globals : List P
       and_from _ _
       (and_from _ _ (ap₂ (operation_fits facts operation) e es ∙ operation_right facts operation ty (types_in operands) q.0)
       (and_from _ _
-      (paths.are_of_these types facts procs globals sigs start whole filled places dest sees (froms operands (suc t)) _
+      (paths.are_of_these types facts procs globals sigs start whole grounds filled places dest sees (froms operands (suc t)) _
       (taken_are operands (suc t) all ∙ sym es))
       (and_from _ _
-      (paths.placed_same types facts procs globals sigs start whole filled places dest sees (places_in operation) operands (suc t) r.0)
-      (paths.may_be_written types facts procs globals sigs start whole filled places dest sees operation operands (suc t) all r.1))))
+      (paths.placed_same types facts procs globals sigs start whole grounds filled places dest sees (places_in operation) operands (suc t) r.0)
+      (paths.may_be_written types facts procs globals sigs start whole grounds filled places dest sees operation operands (suc t) all r.1))))
       (both_are _ _ ty is e)
 
   -- ---- objects and constants
@@ -132,7 +130,7 @@ module _ (types : List Ty) (facts : Facts) (procs : List Proc) (globals : List P
       and_from _ _
       (and_from _ _
       (ap₂ (λ u tys. building_fits facts (Some u) fields tys) listed (taken_are operands (suc t) all) ∙ q.0)
-      (paths.placed_same types facts procs globals sigs start whole filled places dest sees 0 operands (suc t) q.1))
+      (paths.placed_same types facts procs globals sigs start whole grounds filled places dest sees 0 operands (suc t) q.1))
       (both_some _ _ (Some ty) refl is (ap Some listed))
 
   giving_right : (t : ℕ) (literal : Literal) (how : Use) (ty : Option Ty) (operands : Args) → is_text literal || not (gives_hooked facts ty) ≡ true →
@@ -143,8 +141,7 @@ module _ (types : List Ty) (facts : Facts) (procs : List Proc) (globals : List P
   giving_right t literal how None NoArg d h listed is = never h
   giving_right t literal how (Some ty) NoArg d h listed is =
       and_from _ _
-      (and_from _ _ (is_one literal)
-      (ap₂ (λ v u. has_shape v (shape_of facts u)) (pieces_value literal) listed ∙ grounds.constants ty literal listed d h))
+      (paths.constant_right types facts procs globals sigs start whole grounds filled places dest sees ty literal listed d h)
       (both_some _ _ (Some ty) refl is (ap Some listed))
 
   -- ---- calls

@@ -13,13 +13,14 @@ use Rattle.nim_program.specs.Typed.{own_types, is_typed}
 use Rattle.flat_code.specs.declared.place.FlatPlace.{FlatPlace}
 use Rattle.flat_code.specs.Fits.{Signature, own}
 use Rattle.flattening.specs.Formed.{IsListed}
-use Rattle.flattening.specs.Numbering.{width, widths}
+use Rattle.flattening.specs.Numbering.{width, selector_from, behind_selector}
 use Rattle.flattening.specs.Places.{expr_places, operand_places, selector_place}
 use Rattle.flattening.proofs.Direct.{is_direct}
 use Rattle.flattening.proofs.FitParts.{never}
 use Rattle.flattening.proofs.FitParts as parts
-use Rattle.flattening.proofs.Numbered.{Numbered, ◌>>◌, Owns, owns_first, owns_second, owns_later}
-use Rattle.flattening.proofs.Owned.{locations_from, locations_later}
+use Rattle.flattening.proofs.Numbered.{Numbered, numbered_wide, ◌>>◌, Owns, owns_first, owns_second, owns_later}
+use Rattle.flattening.proofs.Owned as owned
+use Rattle.flattening.proofs.Owned.{locations_from, locations_later, selector_later}
 use Rattle.flattening.proofs.Parts.{Each, EachIn, both}
 use Rattle.flattening.proofs.PlaceNumbers.{operand_numbers, selector_number}
 
@@ -130,15 +131,18 @@ module _ (types : List Ty) (facts : Facts) (procs : List Proc) (globals : List P
         record { typed = typed; direct = direct; listed = listed; owns = owns_later (locations_from e t) (locations_later e t) owns }
 
     -- the selector of a `case`, before other places
-    pub selector_owned : (labels : List (List Label)) (selector : Args) (u v : ℕ) (more : List FlatPlace) → Numbered (u + widths selector) v more →
-        u + widths selector ≤ v →
-        Owns whole (selector_place types (ByLabels labels) selector u ++ (operand_places types selector u ++ more)) u u v →
-        Owns whole (selector_place types (ByLabels labels) selector u ++ operand_places types selector u) u u (u + widths selector)
-        × Owns whole more (u + widths selector) (u + widths selector) v
-    selector_owned labels selector u v more behind le owns =
+    pub selector_owned : (selector : Args) (u v : ℕ) (more : List FlatPlace) → Numbered (behind_selector selector u) v more → behind_selector selector u ≤ v →
+        Owns whole (selector_place types selector u ++ (operand_places types selector (selector_from selector u) ++ more)) u u v →
+        owned.ChoiceOwned (parts.known types facts procs globals sigs start whole) whole selector u
+        × Owns whole more (behind_selector selector u) (behind_selector selector u) v
+    selector_owned selector u v more behind le owns =
+        let from = selector_from selector u in
+        let end = behind_selector selector u in
+        let later = selector_later selector u in
         let joined = subst (λ all. Owns whole all u u v)
-        (sym (append_assoc (selector_place types (ByLabels labels) selector u) (operand_places types selector u) more)) owns in (
-          owns_first (u + widths selector) v le behind joined,
-          owns_second u (u + widths selector) v (omega arith) (omega arith) (omega arith)
-              (selector_number types (ByLabels labels) selector u (omega arith) (omega arith) >> operand_numbers types selector u) joined,
+        (sym (append_assoc (selector_place types selector u) (operand_places types selector from) more)) owns in (
+          owns_first end v le behind joined,
+          owns_second u end v (omega (arith, later)) (omega (arith, later)) (omega arith)
+              (selector_number types selector u (omega arith) (omega arith)
+              >> numbered_wide (omega (arith, later)) (omega arith) (operand_numbers types selector from)) joined,
         )

@@ -9,21 +9,24 @@ use Rattle.nim_program.specs.declared.operation.Use.{Use}
 use Rattle.nim_program.specs.declared.operation.Use.TheVariants.{Owned, Looked}
 use Rattle.nim_program.specs.declared.program.Mode.{Mode}
 use Rattle.nim_program.specs.Ints.{fits as is_int_value}
-use Rattle.nim_program.specs.Program.{Label, Ordinals, Exactly, ByConditions, ByLabels, Expr, Apply, Read, Early, Choose}
+use Rattle.nim_program.specs.Program.{Literal, Label, Ordinals, Exactly, ByConditions, ByLabels, Expr, Apply, Read, Early, Choose}
 use Rattle.nim_program.specs.Program.{Path, Variable, Fresh, Field, Element, Deref, Args, NoArg, ByValue, ByPath, Proc, type_of, type_at, types_in}
+use Rattle.nim_program.specs.Program.{constant_in}
+use Rattle.nim_program.specs.Folds.{if_constant}
 use Rattle.nim_program.specs.Kinds.{TypeKind, kind_of, kind_if, is_bool, is_ordinal, is_selected, is_of, same_value}
 use Rattle.nim_program.specs.Fitting.{early_fits, label_fits, labels_fit, has_label, are_labels, are_enough, conditions_fit, values_fit, chooser_fits}
 use Rattle.nim_program.specs.Scopes.{Placed, Here}
 use Rattle.nim_program.specs.Typed.{are_typed, act_fits, are_placed, is_selector, choice_is_placed}
 use Rattle.nim_program.specs.Uses.{use_of}
 use Rattle.nim_meaning.specs.Shapes.{is_covered, is_last_value}
+use Rattle.flat_code.specs.declared.line.Line.{Line}
 use Rattle.flat_code.specs.declared.line.Line.TheVariants as L
 use Rattle.flat_code.specs.declared.place.FlatPlace.{FlatPlace}
 use Rattle.flat_code.specs.Scene.{Known}
 use Rattle.flat_code.specs.Fits.{Signature, needs_no_type}
 use Rattle.flattening.specs.declared.numbers.Purpose.TheVariants.{End, Next, Arm}
 use Rattle.flattening.specs.Formed.{IfListed}
-use Rattle.flattening.specs.Numbering.{if_number, width, width_at, label}
+use Rattle.flattening.specs.Numbering.{if_number, width, width_at, arm_count, looked_from, label}
 use Rattle.flattening.specs.ExprLines.{find_lines, label_tests, value_tests, arm_label, none_fits, handed_on, early_lines}
 use Rattle.flattening.specs.ExprLines.{lines, aim_lines, ready_lines, choice_lines, arm_lines}
 use Rattle.flattening.proofs.Acting.{type_is}
@@ -63,8 +66,8 @@ module _ (types : List Ty) (facts : Facts) (procs : List Proc) (globals : List P
   value_is : (e : Expr) (t : ℕ) → Stood e t → value t ≡ type_of e
   value_is = parts.value_is types facts procs globals sigs start whole filled places dest
 
-  find_fits : (read : Bool) (path : Path) (t : ℕ) → PathStood read path t → Fit around (find_lines path t)
-  find_fits = paths.find_fits types facts procs globals sigs start whole filled places dest sees
+  find_fits : (read : Bool) (path : Path) (t : ℕ) → PathStood read path t → Fit around (find_lines types path t)
+  find_fits = paths.find_fits types facts procs globals sigs start whole grounds filled places dest sees
 
   -- ---- lines of choices
 
@@ -132,6 +135,11 @@ module _ (types : List Ty) (facts : Facts) (procs : List Proc) (globals : List P
   abbrev rest_stood : (e : Expr) (rest : Args) (t : ℕ) → AllStood (ByValue e rest) t → AllStood rest (t + width e)
   rest_stood = parts.rest_stood types facts procs globals sigs start whole filled places dest
 
+  -- what is done for a value that a path begins with, which isn't a constant
+  fit_begun : {F : List Line → List Line} (constant : Option Literal) → (constant ≡ None → Fit around F) → Fit around (λ k. if_constant constant k (F k))
+  fit_begun None fit = fit refl
+  fit_begun (Some literal) fit = fit_none
+
   mutual
     pub expr_fits : (e : Expr) (how : Use) (t : ℕ) → Stood e t → Fit around (lines types modes e how t)
     expr_fits (Apply node ty act operands) how t e =
@@ -139,7 +147,7 @@ module _ (types : List Ty) (facts : Facts) (procs : List Proc) (globals : List P
         let is = value_is (Apply node ty act operands) t e in
         let listed = parts.value_listed types facts procs globals sigs start whole (Apply node ty act operands) e.direct e.listed in
         ready_fits operands (use_of modes act) 0 (suc t) all
-        >> (paths.settle_fits types facts procs globals sigs start whole filled places dest sees operands (suc t) all
+        >> (paths.settle_fits types facts procs globals sigs start whole grounds filled places dest sees operands (suc t) all
         >> fit_line _ (acts.act_right types facts procs globals sigs start whole modes grounds filled places dest sees t act how ty operands
         (are_direct facts operands) e.direct (and_parts (act_fits here ty act operands) (are_typed here operands) e.typed).0 listed
         (parts.all_listed types facts procs globals sigs start whole operands all.direct all.listed) is all))
@@ -176,7 +184,8 @@ module _ (types : List Ty) (facts : Facts) (procs : List Proc) (globals : List P
     expr_fits (Choose node ty (ByLabels labels) NoArg) how t e =
         never (and_parts false (choice_is_placed (ByLabels labels) NoArg) (and_parts _ true e.typed).0).0
     expr_fits (Choose node ty (ByLabels labels) (ByValue selector rest)) how t e =
-        let all = parts.selected_stood types facts procs globals sigs start whole filled places dest node ty labels selector rest t e in
+        let u = suc t + arm_count (ByLabels labels) in
+        let all = parts.selected_stood types facts procs globals sigs start whole filled places dest node ty labels (ByValue selector rest) t e in
         let q = and_parts (chooser_fits facts ty (ByLabels labels) (type_of selector ∷ types_in rest))
         (choice_is_placed (ByLabels labels) (ByValue selector rest))
         (and_parts _ (are_typed here (ByValue selector rest)) e.typed).0 in
@@ -184,40 +193,44 @@ module _ (types : List Ty) (facts : Facts) (procs : List Proc) (globals : List P
         let h = and_parts (is_selected k && are_labels k labels) (values_fit facts ty (are_enough k ty labels) labels (types_in rest)) q.0 in
         let listed = parts.value_listed types facts procs globals sigs start whole
         (Choose node ty (ByLabels labels) (ByValue selector rest)) e.direct e.listed in
-        let s = first_stood selector rest (suc t) all in
-        let is = value_is selector (suc t) s in
-        expr_fits selector Looked (suc t) s
-        >> (all_tests_fit k labels rest (suc t) (suc t + width selector) (ap (kind_if facts) is) (and_parts (is_selected k) (are_labels k labels) h.0).1
+        let s = first_stood selector rest u all in
+        let is = value_is selector u s in
+        expr_fits selector Looked u s
+        >> (all_tests_fit k labels rest u (u + width selector) (ap (kind_if facts) is) (and_parts (is_selected k) (are_labels k labels) h.0).1
         >> (fit_line (L.Jump (label Next t)) refl
-        >> (arms_fit (are_enough k ty labels) (is_covered (type_of selector)) labels rest ty how t (suc t + width selector) listed
+        >> (arms_fit (are_enough k ty labels) (is_covered (type_of selector)) labels rest ty how t (u + width selector) listed
         (value_is (Choose node ty (ByLabels labels) (ByValue selector rest)) t e) h.1
-        (and_parts (is_selector (ByValue selector rest)) (are_placed 0 rest) q.1).1 (rest_stood selector rest (suc t) all)
+        (and_parts (is_selector (ByValue selector rest)) (are_placed 0 rest) q.1).1 (rest_stood selector rest u all)
         >> fit_line (L.Label (label End t)) refl)))
     expr_fits (Choose node ty (ByLabels labels) (ByPath path rest)) how t e =
-        let all = parts.selected_path types facts procs globals sigs start whole filled places dest node ty labels path rest t e in
+        let u = suc t + arm_count (ByLabels labels) in
+        let from = looked_from path u in
+        let all = parts.selected_stood types facts procs globals sigs start whole filled places dest node ty labels (ByPath path rest) t e in
         let q = and_parts (chooser_fits facts ty (ByLabels labels) (type_at path ∷ types_in rest)) (choice_is_placed (ByLabels labels) (ByPath path rest))
         (and_parts _ (are_typed here (ByPath path rest)) e.typed).0 in
         let k = kind_if facts (type_at path) in
         let h = and_parts (is_selected k && are_labels k labels) (values_fit facts ty (are_enough k ty labels) labels (types_in rest)) q.0 in
         let listed = parts.value_listed types facts procs globals sigs start whole (Choose node ty (ByLabels labels) (ByPath path rest)) e.direct e.listed in
-        let s = first_stood (Read path) rest (suc t) all in
-        let p = parts.read_stood types facts procs globals sigs start whole filled places dest path (suc t) s in
-        let l = parts.leads types facts procs globals sigs start whole filled places dest true path (suc t) p in
-        let is = value_is (Read path) (suc t) s in
-        let some = parts.path_typed types facts procs globals sigs start whole filled places dest true path (suc t) p in
-        aim_fits true path (suc t) p
-        >> (find_fits true path (suc t) p
-        >> (fit_line (L.Look (suc t) (suc t)) (parts.both_some _ _ (type_at path) some is l.type)
-        >> (all_tests_fit k labels rest (suc t) (suc t + width_at path) (ap (kind_if facts) is) (and_parts (is_selected k) (are_labels k labels) h.0).1
+        let p = parts.first_path types facts procs globals sigs start whole filled places dest path rest from all in
+        let l = parts.leads types facts procs globals sigs start whole filled places dest false path from p in
+        let is = parts.selector_is types facts procs globals sigs start whole filled places dest path rest u
+        (parts.choice_stands types facts procs globals sigs start whole filled places dest node ty labels (ByPath path rest) t e) all in
+        let some = parts.path_typed types facts procs globals sigs start whole filled places dest false path from p in
+        aim_fits false path from p
+        >> (find_fits false path from p
+        >> (fit_line (L.Look u from) (parts.both_some _ _ (type_at path) some is l.type)
+        >> (all_tests_fit k labels rest u (from + width_at path) (ap (kind_if facts) is) (and_parts (is_selected k) (are_labels k labels) h.0).1
         >> (fit_line (L.Jump (label Next t)) refl
-        >> (arms_fit (are_enough k ty labels) (is_covered (type_at path)) labels rest ty how t (suc t + width_at path) listed
-        (value_is (Choose node ty (ByLabels labels) (ByPath path rest)) t e) h.1 (and_parts true (are_placed 0 rest) q.1).1
-        (rest_stood (Read path) rest (suc t) all)
+        >> (arms_fit (are_enough k ty labels) (is_covered (type_at path)) labels rest ty how t (from + width_at path) listed
+        (value_is (Choose node ty (ByLabels labels) (ByPath path rest)) t e) h.1 (and_parts (is_selector (ByPath path rest)) (are_placed 0 rest) q.1).1
+        (parts.behind_path types facts procs globals sigs start whole filled places dest path rest from all)
         >> fit_line (L.Label (label End t)) refl)))))
 
     pub aim_fits : (read : Bool) (path : Path) (t : ℕ) → PathStood read path t → Fit around (aim_lines types modes path t)
     aim_fits read (Variable node ty place global) t p = fit_none
-    aim_fits read (Fresh v) t p = expr_fits v Looked t (parts.fresh_stood types facts procs globals sigs start whole filled places dest read v t p)
+    aim_fits read (Fresh v) t p =
+        fit_begun (constant_in v)
+        (λ none. expr_fits v Looked (suc t) (parts.fresh_stood types facts procs globals sigs start whole filled places dest read v t none p))
     aim_fits read (Field node ty base field) t p =
         aim_fits false base (suc t) (parts.base_stood types facts procs globals sigs start whole filled places dest read node ty base field t p)
     aim_fits read (Element node ty base index constant) t p =

@@ -278,7 +278,7 @@ module _ (types : List Ty) (facts : Facts) (procs : List Proc) (globals : List P
         record { typed = q.1; direct = all_direct facts false head p.0; listed = l.0; owns = o.0 } in
         let a = parts.first_path types facts procs globals sigs start whole filled places dest path NoArg u all in
         let led = parts.leads types facts procs globals sigs start whole filled places dest false path u a in
-        let found = paths.find_fits types facts procs globals sigs start whole filled places dest sees false path u a in
+        let found = paths.find_fits types facts procs globals sigs start whole grounds filled places dest sees false path u a in
         let n = owned.loop_found (parts.known types facts procs globals sigs start whole) whole node variable t _ _ (omega arith) s.listed.0 s.owns in
         let number = int_at (suc t) (Some type.int) n.1 refl in
         let many = int_at (suc (suc t)) (Some type.int) n.2 refl in

@@ -8,11 +8,12 @@ use Rattle.nim_program.specs.declared.expr.Node.{Node}
 use Rattle.nim_program.specs.declared.operation.Short.{Short}
 use Rattle.nim_program.specs.Program.{Literal, Act, Doing, Building, Giving, Calling, Label, ByConditions, ByLabels, Expr, Apply, Read, Early, Choose}
 use Rattle.nim_program.specs.Program.{Path, Variable, Fresh, Field, Element, Deref}
-use Rattle.nim_program.specs.Program.{Args, NoArg, ByValue, ByPath, Param, Body, Proc, type_of, type_at, types_in, node_of}
-use Rattle.nim_program.specs.Folds.{lists, total, total_at, totals}
+use Rattle.nim_program.specs.Program.{Args, NoArg, ByValue, ByPath, Param, Body, Proc, type_of, type_at, types_in, node_of, node_at, constant_in}
+use Rattle.nim_program.specs.Folds.{if_constant, begun_by, lists, total, total_at, totals}
 use Rattle.nim_program.specs.Kinds.{is_of, same_value, is_there, is_constant}
-use Rattle.nim_program.specs.Scopes.{Placed, Here, look, is_written}
-use Rattle.nim_program.specs.Typed.{own_types, type_if, act_types, is_typed, is_typed_path, are_typed, is_whole, is_fresh, act_fits}
+use Rattle.nim_program.specs.Scopes.{Placed, Here, look}
+use Rattle.nim_program.specs.Program.{is_written}
+use Rattle.nim_program.specs.Typed.{own_types, type_if, act_types, is_typed, is_typed_path, are_typed, is_whole, is_read, is_fresh, act_fits}
 use Rattle.nim_meaning.specs.Here.{is_hooked}
 use Rattle.nim_meaning.specs.Values.{literal_value}
 use Rattle.flat_code.specs.declared.place.FlatPlace.{FlatPlace}
@@ -20,8 +21,8 @@ use Rattle.flat_code.specs.Fits.{Taken, Signature, is_var, any_place}
 use Rattle.flat_code.specs.Scene.{Known}
 use Rattle.flat_code.specs.Shapes.{shape_of, has_shape}
 use Rattle.flattening.specs.Formed.{IsListed, IfListed, AreListed}
-use Rattle.flattening.specs.Numbering.{width, width_at, widths}
-use Rattle.flattening.specs.Places.{place, temporary, expr_places, path_places, operand_places, read_place, selector_place}
+use Rattle.flattening.specs.Numbering.{width, width_at, widths, arm_count, looked_from, selector_from}
+use Rattle.flattening.specs.Places.{temporary, path_places, operand_places, selector_place}
 use Rattle.flattening.proofs.Direct.{is_text, of_act, is_direct, is_direct_path, are_direct}
 use Rattle.flattening.proofs.Fit.{Among}
 use Rattle.flattening.proofs.Numbered.{Owns, owns_first, owns_second, owns_later}
@@ -29,7 +30,7 @@ use Rattle.flattening.proofs.Owned as owned
 use Rattle.flattening.proofs.Owned.{kind_by, locations_from, locations_later}
 use Rattle.flattening.proofs.Parts.{Each, apart}
 use Rattle.flattening.proofs.PlaceNumbers.{expr_numbers, operand_numbers}
-use Rattle.flattening.proofs.Widths.{same_width, some_width}
+use Rattle.flattening.proofs.Widths.{same_width, some_width_at}
 
 pub never : {A : Type 0} → false ≡ true → A
 never e = absurd (both_ways false refl e)
@@ -130,17 +131,31 @@ module _ (types : List Ty) (facts : Facts) (procs : List Proc) (globals : List P
   type_listed None rest h = tt
   type_listed (Some ty) rest h = h.0
 
+  -- of what a path begins with
+  abbrev begun_types : Option Literal → (read : Bool) → Expr → List Ty
+  begun_types constant read value =
+      if_constant constant (own_types (begun_by constant read value)) (own_types (begun_by constant read value) ++ total lists own_types value)
+
+  begun_typed : (constant : Option Literal) (read : Bool) (value : Expr) → Listed (begun_types constant read value) → IfListed types (type_of value)
+  begun_typed None read value h = type_listed (type_of value) [] (apart (IsListed types) (type_if (type_of value) ++ []) (total lists own_types value) h).0
+  begun_typed (Some literal) read value h = type_listed (type_of value) [] h
+
+  begun_listed : (constant : Option Literal) (read : Bool) (value : Expr) → constant ≡ None → Listed (begun_types constant read value) →
+      Listed (total lists own_types value)
+  begun_listed None read value none h = (apart (IsListed types) (type_if (type_of value) ++ []) (total lists own_types value) h).1
+  begun_listed (Some literal) read value none h = absurd cc
+
   mutual
     pub value_listed : (e : Expr) → is_direct facts e ≡ true → Listed (total lists own_types e) → IfListed types (type_of e)
     value_listed (Apply node ty act operands) d h = type_listed ty (act_types act) (apart (IsListed types) (type_if ty ++ act_types act) _ h).0
     value_listed (Read path) d h = path_listed true path d h
     value_listed (Early node ty short a b) d h = h.0
-    value_listed (Choose node ty chooser parts) d h = type_listed ty _ h
+    value_listed (Choose node ty chooser parts) d h = type_listed ty [] (apart (IsListed types) (type_if ty ++ []) _ h).0
 
     pub path_listed : (read : Bool) (path : Path) → is_direct_path facts path ≡ true → Listed (total_at lists own_types read path) →
         IfListed types (type_at path)
     path_listed read (Variable node ty place global) d h = h.0
-    path_listed read (Fresh value) d h = value_listed value d h
+    path_listed read (Fresh value) d h = begun_typed (constant_in value) read value h
     path_listed read (Field node ty base field) d h = h.0
     path_listed read (Element node ty base index constant) d h = h.0
     path_listed read (Deref ty base) d h = never d
@@ -215,20 +230,20 @@ module _ (types : List Ty) (facts : Facts) (procs : List Proc) (globals : List P
 
     pub read_stood : (path : Path) (t : ℕ) → Stood (Read path) t → PathStood true path t
     read_stood path t e = record {
-      typed = (and_parts (is_whole facts path) (is_typed_path here path) e.typed).1;
+      typed = (and_parts (is_read facts path) (is_typed_path here path) e.typed).1;
       direct = e.direct;
       listed = e.listed;
       owns = owned.read_owned known whole path t e.owns;
     }
 
-    pub fresh_stood : (read : Bool) (e : Expr) (t : ℕ) → PathStood read (Fresh e) t → Stood e t
-    fresh_stood read e t p =
+    pub fresh_stood : (read : Bool) (e : Expr) (t : ℕ) → constant_in e ≡ None → PathStood read (Fresh e) t → Stood e (suc t)
+    fresh_stood read e t none p =
         let h = and_parts (is_fresh e && is_there (type_of e)) (is_typed here e) p.typed in
         record {
           typed = h.1;
           direct = p.direct;
-          listed = p.listed;
-          owns = owned.fresh_owned known whole e t (and_parts (is_fresh e) (is_there (type_of e)) h.0).0 p.owns;
+          listed = begun_listed (constant_in e) read e none p.listed;
+          owns = owned.fresh_owned known whole e t none p.owns;
         }
 
     pub base_stood : (read : Bool) (node : Node) (ty : Ty) (base : Path) (field t : ℕ) → PathStood read (Field node ty base field) t →
@@ -296,8 +311,8 @@ module _ (types : List Ty) (facts : Facts) (procs : List Proc) (globals : List P
     }
 
     -- the parts of a choice
-    pub chosen_listed : (ty : Option Ty) (parts : Args) → Listed (type_if ty ++ totals lists own_types parts) → Listed (totals lists own_types parts)
-    chosen_listed ty parts h = (apart (IsListed types) (type_if ty) (totals lists own_types parts) h).1
+    pub chosen_listed : (ty : Option Ty) (parts : Args) → Listed ((type_if ty ++ []) ++ totals lists own_types parts) → Listed (totals lists own_types parts)
+    chosen_listed ty parts h = (apart (IsListed types) (type_if ty ++ []) (totals lists own_types parts) h).1
 
     pub conditions_stood : (node : Node) (ty : Option Ty) (parts : Args) (t : ℕ) → Stood (Choose node ty ByConditions parts) t → AllStood parts (suc t)
     conditions_stood node ty parts t e = record {
@@ -307,60 +322,56 @@ module _ (types : List Ty) (facts : Facts) (procs : List Proc) (globals : List P
       owns = owned.behind_node known whole node ty t (suc t + widths parts) (operand_places types parts (suc t)) (omega arith) (omega arith) e.owns;
     }
 
-    pub selected_stood : (node : Node) (ty : Option Ty) (labels : List (List Label)) (selector : Expr) (rest : Args) (t : ℕ) →
-        Stood (Choose node ty (ByLabels labels) (ByValue selector rest)) t → AllStood (ByValue selector rest) (suc t)
-    selected_stood node ty labels selector rest t e = record {
-      typed = (and_parts _ (are_typed here (ByValue selector rest)) e.typed).1;
+    pub selected_stood : (node : Node) (ty : Option Ty) (labels : List (List Label)) (parts : Args) (t : ℕ) →
+        Stood (Choose node ty (ByLabels labels) parts) t → AllStood parts (selector_from parts (suc t + arm_count (ByLabels labels)))
+    selected_stood node ty labels parts t e = record {
+      typed = (and_parts _ (are_typed here parts) e.typed).1;
       direct = e.direct;
-      listed = chosen_listed ty (ByValue selector rest) e.listed;
-      owns = owned.behind_node known whole node ty t (suc t + widths (ByValue selector rest)) (operand_places types (ByValue selector rest) (suc t))
-          (omega arith) (omega arith) e.owns;
+      listed = chosen_listed ty parts e.listed;
+      owns = owned.parts_owned known whole parts (suc t + arm_count (ByLabels labels)) (owned.choice_owned known whole node ty labels parts t e.owns);
     }
-
-    -- types stand in a path however it is used
-    same_types : (path : Path) → total_at lists own_types false path ≡ total_at lists own_types true path
-    same_types (Variable node ty place global) = refl
-    same_types (Fresh value) = refl
-    same_types (Field node ty base field) = refl
-    same_types (Element node ty base index constant) = refl
-    same_types (Deref ty base) = same_types base
-
-    -- a selector at a path is as one that is read
-    pub path_selected : (path : Path) (rest : Args) (u : ℕ) → are_typed here (ByPath path rest) ≡ true → are_direct facts (ByPath path rest) ≡ true →
-        Listed (totals lists own_types (ByPath path rest)) →
-        Owns whole (read_place types path u ++ (path_places types path u ++ operand_places types rest (u + width_at path))) u u
-        (u + widths (ByValue (Read path) rest)) → AllStood (ByValue (Read path) rest) u
-    path_selected path rest u typed direct listed owns = record {
-      typed = typed;
-      direct = direct;
-      listed = subst (λ tys. Listed (tys ++ totals lists own_types rest)) (same_types path) listed;
-      owns = owned.chosen_owned known whole path rest u owns;
-    }
-
-    pub selected_path : (node : Node) (ty : Option Ty) (labels : List (List Label)) (path : Path) (rest : Args) (t : ℕ) →
-        Stood (Choose node ty (ByLabels labels) (ByPath path rest)) t → AllStood (ByValue (Read path) rest) (suc t)
-    selected_path node ty labels path rest t e =
-        let w = same_width path in
-        path_selected path rest (suc t) (and_parts _ (are_typed here (ByPath path rest)) e.typed).1 e.direct (chosen_listed ty (ByPath path rest) e.listed)
-        (owned.behind_node known whole node ty t (suc t + widths (ByValue (Read path) rest)) _ (omega arith) (omega (arith, w)) e.owns)
 
     -- ---- the types of temporaries
+
+    pub path_typed : (read : Bool) (path : Path) (t : ℕ) → PathStood read path t → is_there (type_at path) ≡ true
+    path_typed read (Variable node ty place global) t p = refl
+    path_typed read (Fresh value) t p =
+        (and_parts (is_fresh value) (is_there (type_of value)) (and_parts (is_fresh value && is_there (type_of value)) (is_typed here value) p.typed).0).1
+    path_typed read (Field node ty base field) t p = refl
+    path_typed read (Element node ty base index constant) t p = refl
+    path_typed read (Deref ty base) t p = refl
 
     pub value_is : (e : Expr) (t : ℕ) → Stood e t → value t ≡ type_of e
     value_is (Apply node ty act operands) t e =
         owned.value_found known whole node ty t (operand_places types operands (suc t)) (omega arith)
         (value_listed (Apply node ty act operands) e.direct e.listed)
         ((operand_numbers types operands (suc t)).values t (λ le. absurd (omega (arith, le)))) e.owns
-    value_is (Read (Variable node ty place global)) t e = owned.value_there known whole node ty t _ (omega arith) e.listed.0 e.owns
-    value_is (Read (Fresh value)) t e = value_is value t (fresh_stood true value t (read_stood (Fresh value) t e))
-    value_is (Read (Field node ty base field)) t e = owned.value_there known whole node ty t _ (omega arith) e.listed.0 e.owns
-    value_is (Read (Element node ty base index constant)) t e = owned.value_there known whole node ty t _ (omega arith) e.listed.0 e.owns
-    value_is (Read (Deref ty base)) t e = never e.direct
+    value_is (Read path) t e =
+        let p = read_stood path t e in
+        let w = some_width_at path in
+        owned.there_found known whole (node_at path) (type_at path) t (path_places types path t) (omega (arith, w))
+        (path_listed true path e.direct e.listed) (path_typed true path t p) e.owns
     value_is (Early node ty short left right) t e = owned.value_there known whole node ty t _ (omega arith) e.listed.0 e.owns
-    value_is (Choose node ty chooser parts) t e =
-        owned.value_found known whole node ty t (selector_place types chooser parts (suc t) ++ operand_places types parts (suc t)) (omega arith)
-        (value_listed (Choose node ty chooser parts) e.direct e.listed)
-        (owned.behind_selector known whole chooser parts t) e.owns
+    value_is (Choose node ty ByConditions parts) t e =
+        owned.value_found known whole node ty t (operand_places types parts (suc t)) (omega arith)
+        (value_listed (Choose node ty ByConditions parts) e.direct e.listed)
+        ((operand_numbers types parts (suc t)).values t (λ le. absurd (omega (arith, le)))) e.owns
+    value_is (Choose node ty (ByLabels labels) parts) t e =
+        let s = suc t + arm_count (ByLabels labels) in
+        owned.value_found known whole node ty t (selector_place types parts s ++ operand_places types parts (selector_from parts s)) (omega arith)
+        (value_listed (Choose node ty (ByLabels labels) parts) e.direct e.listed) (owned.none_at_choice known whole parts t s (omega arith)) e.owns
+
+    -- the value of a selector that is read in place
+    pub selector_is : (path : Path) (rest : Args) (s : ℕ) → owned.ChoiceOwned known whole (ByPath path rest) s →
+        AllStood (ByPath path rest) (looked_from path s) →
+        value s ≡ type_at path
+    selector_is path rest s owns all =
+        let p = first_path path rest (looked_from path s) all in
+        owned.selector_found known whole path rest s (path_listed false path p.direct p.listed) (path_typed false path (looked_from path s) p) owns
+
+    pub choice_stands : (node : Node) (ty : Option Ty) (labels : List (List Label)) (parts : Args) (t : ℕ) →
+        Stood (Choose node ty (ByLabels labels) parts) t → owned.ChoiceOwned known whole parts (suc t + arm_count (ByLabels labels))
+    choice_stands node ty labels parts t e = owned.choice_owned known whole node ty labels parts t e.owns
 
     pub record Leads (path : Path) (t : ℕ) : Type 0 where
       pub type : led t ≡ type_at path
@@ -376,9 +387,9 @@ module _ (types : List Ty) (facts : Facts) (procs : List Proc) (globals : List P
         let l = owned.led_found known whole true node ty t [] (omega arith) p.listed.0 p.owns in record { type = l.0; writes = l.1 }
     leads read (Fresh value) t p =
         let h = and_parts (is_fresh value && is_there (type_of value)) (is_typed here value) p.typed in
-        let w = some_width value in
-        let l = fresh_leads value (type_of value) t (expr_places types value t) (omega arith) (and_parts (is_fresh value) (is_there (type_of value)) h.0).1
-        (value_listed value p.direct p.listed) (omega (arith, w)) p.owns in
+        let w = some_width_at (Fresh value) in
+        let l = fresh_leads value (type_of value) t _ (omega arith) (and_parts (is_fresh value) (is_there (type_of value)) h.0).1
+        (path_listed read (Fresh value) p.direct p.listed) (omega (arith, w)) p.owns in
         record { type = l.0; writes = l.1 }
     leads read (Field node ty base field) t p =
         let l = owned.led_found known whole (is_written base) node ty t (path_places types base (suc t)) (omega arith) p.listed.0 p.owns in
@@ -386,11 +397,3 @@ module _ (types : List Ty) (facts : Facts) (procs : List Proc) (globals : List P
     leads read (Element node ty base index constant) t p =
         let l = owned.led_found known whole (is_written base) node ty t _ (omega arith) p.listed.0 p.owns in record { type = l.0; writes = l.1 }
     leads read (Deref ty base) t p = never p.direct
-
-    pub path_typed : (read : Bool) (path : Path) (t : ℕ) → PathStood read path t → is_there (type_at path) ≡ true
-    path_typed read (Variable node ty place global) t p = refl
-    path_typed read (Fresh value) t p =
-        (and_parts (is_fresh value) (is_there (type_of value)) (and_parts (is_fresh value && is_there (type_of value)) (is_typed here value) p.typed).0).1
-    path_typed read (Field node ty base field) t p = refl
-    path_typed read (Element node ty base index constant) t p = refl
-    path_typed read (Deref ty base) t p = refl

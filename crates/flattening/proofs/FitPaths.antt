@@ -5,22 +5,32 @@ use Rattle.std.proofs.lemmas.Bool.{and_parts, and_from}
 use Rattle.nim_types.specs.Types.{Ty, Facts}
 use Rattle.nim_program.specs.declared.operation.Operation.{Operation}
 use Rattle.nim_program.specs.declared.operation.Operation.TheVariants as O
-use Rattle.nim_program.specs.Program.{Expr, Path, Variable, Fresh, Field, Element, Deref, Args, NoArg, ByValue, ByPath, Proc, type_of, type_at, types_in}
-use Rattle.nim_program.specs.Kinds.{kind_if, is_int, field_at, element_of, is_of, is_there}
-use Rattle.nim_program.specs.Scopes.{Placed, Here, type_in, is_written}
+use Rattle.nim_program.specs.Program.{Literal, Doing, Building, Giving, Calling, Expr, Apply, Read, Early, Choose, Path, Variable, Fresh, Field, Element}
+use Rattle.nim_program.specs.Program.{Deref, Args, NoArg, ByValue, ByPath, Proc, type_of, type_at, types_in, constant_in}
+use Rattle.nim_program.specs.Kinds.{kind_if, is_int, field_at, element_of, is_of, is_there, is_constant}
+use Rattle.nim_program.specs.Scopes.{Placed, Here, type_in}
+use Rattle.nim_program.specs.Program.{is_written}
 use Rattle.nim_program.specs.Typed.{is_typed, is_typed_path, is_fresh, is_place, are_placed, may_take, may_take_all}
+use Rattle.nim_meaning.specs.Here.{is_hooked}
 use Rattle.flat_code.specs.declared.line.From.{From}
 use Rattle.flat_code.specs.declared.line.Line.TheVariants as L
 use Rattle.flat_code.specs.declared.place.FlatPlace.{FlatPlace}
 use Rattle.flat_code.specs.Fits as fit
 use Rattle.flat_code.specs.Fits.{Signature, same_bool, writes, taken, are_of, may_write_all}
-use Rattle.flattening.specs.Numbering.{width, width_at}
-use Rattle.flattening.specs.ExprLines.{froms, find_lines, settle_lines}
-use Rattle.flattening.proofs.Fit.{Among, Fit, fit_none, fit_line, ◌>>◌}
+use Rattle.flat_code.specs.Pieces.{pieces_of}
+use Rattle.flat_code.specs.Shapes.{has_shape, shape_of}
+use Rattle.flattening.specs.Formed.{IsListed, IfListed}
+use Rattle.flattening.specs.Numbering.{type_number, width, width_at}
+use Rattle.flattening.specs.ExprLines.{begin_line, froms, find_lines, settle_lines}
+use Rattle.flattening.proofs.Direct.{is_text, is_direct}
+use Rattle.flattening.proofs.Fit.{Among, Fit, fitting, fit_none, fit_line, ◌>>◌}
 use Rattle.flattening.proofs.FitParts.{turned, never, of_same, value_same, itself, both_are, both_some}
 use Rattle.flattening.proofs.FitParts as parts
+use Rattle.flattening.proofs.Literals.{pieces_value}
+use Rattle.flattening.proofs.OnePiece.{is_one}
 
 module _ (types : List Ty) (facts : Facts) (procs : List Proc) (globals : List Placed) (sigs : List Signature) (start whole : List FlatPlace)
+    (grounds : parts.Grounds types facts procs globals sigs start whole)
     (filled : ℕ) (places : List Placed) (dest : Option ℕ) (sees : parts.Sees types facts procs globals sigs start whole filled places) where
   abbrev around : Among
   around = parts.around types facts procs globals sigs start whole
@@ -64,17 +74,54 @@ module _ (types : List Ty) (facts : Facts) (procs : List Proc) (globals : List P
   both_same : (a b c : Bool) → a ≡ c → b ≡ c → same_bool a b ≡ true
   both_same a b c e f = ap₂ same_bool e f ∙ same_itself c
 
-  pub find_fits : (read : Bool) (path : Path) (t : ℕ) → PathStood read path t → Fit around (find_lines path t)
+  -- ---- constants
+
+  pub constant_right : (ty : Ty) (literal : Literal) → IsListed types ty → is_text literal || not (is_hooked facts ty) ≡ true →
+      is_constant facts ty literal ≡ true →
+      fit.is_constant_of (parts.known types facts procs globals sigs start whole) sigs start whole (type_number types ty) (pieces_of literal) ≡ true
+  constant_right ty literal listed direct is =
+      and_from _ _ (is_one literal)
+      (ap₂ (λ v u. has_shape v (shape_of facts u)) (pieces_value literal) listed ∙ grounds.constants ty literal listed direct is)
+
+  standing_right : (value : Expr) (literal : Literal) (t : ℕ) → constant_in value ≡ Some literal → is_typed here value ≡ true →
+      is_direct facts value ≡ true → IfListed types (type_of value) → led t ≡ type_of value → may_write t ≡ false →
+      fitting around (begin_line types (Some literal) (type_of value) t) ≡ true
+  standing_right (Apply node None (Giving l) NoArg) literal t e typed direct listed is writes = never (and_parts false true typed).0
+  standing_right (Apply node (Some ty) (Giving l) NoArg) literal t e typed direct listed is writes =
+      let same : l ≡ literal = cc in
+      and_from _ _
+      (subst (λ x. fit.is_constant_of (parts.known types facts procs globals sigs start whole) sigs start whole (type_number types ty) (pieces_of x) ≡ true)
+      same (constant_right ty l listed direct (and_parts (is_constant facts ty l) true typed).0))
+      (and_from _ _ (both_some _ _ (Some ty) refl is (ap Some listed)) (ap not writes))
+  standing_right (Apply node ty (Giving l) (ByValue value rest)) literal t e typed direct listed is writes = absurd cc
+  standing_right (Apply node ty (Giving l) (ByPath path rest)) literal t e typed direct listed is writes = absurd cc
+  standing_right (Apply node ty (Doing operation) operands) literal t e typed direct listed is writes = absurd cc
+  standing_right (Apply node ty (Building fields) operands) literal t e typed direct listed is writes = absurd cc
+  standing_right (Apply node ty (Calling proc of) operands) literal t e typed direct listed is writes = absurd cc
+  standing_right (Read path) literal t e typed direct listed is writes = absurd cc
+  standing_right (Early node ty short left right) literal t e typed direct listed is writes = absurd cc
+  standing_right (Choose node ty chooser parts) literal t e typed direct listed is writes = absurd cc
+
+  -- ---- paths
+
+  begun_right : (constant : Option Literal) (read : Bool) (value : Expr) (t : ℕ) → constant_in value ≡ constant → PathStood read (Fresh value) t →
+      fitting around (begin_line types constant (type_of value) t) ≡ true
+  begun_right None read value t e p =
+      let l = leads read (Fresh value) t p in
+      let h = and_parts (is_fresh value) (is_there (type_of value)) (and_parts (is_fresh value && is_there (type_of value)) (is_typed here value) p.typed).0 in
+      let s = parts.fresh_stood types facts procs globals sigs start whole filled places dest read value t e p in
+      and_from _ _ (both_some _ _ (type_of value) h.1 l.type (value_is value (suc t) s)) (ap not l.writes)
+  begun_right (Some literal) read value t e p =
+      let l = leads read (Fresh value) t p in
+      standing_right value literal t e (and_parts (is_fresh value && is_there (type_of value)) (is_typed here value) p.typed).1 p.direct
+      (parts.path_listed types facts procs globals sigs start whole read (Fresh value) p.direct p.listed) l.type l.writes
+
+  pub find_fits : (read : Bool) (path : Path) (t : ℕ) → PathStood read path t → Fit around (find_lines types path t)
   find_fits read (Variable node ty place global) t p =
       let l = leads read (Variable node ty place global) t p in
       fit_line (L.Root t place global)
       (and_from _ _ (both_some _ _ (Some ty) refl l.type (named_is place global ty (of_same _ _ p.typed))) l.writes)
-  find_fits read (Fresh value) t p =
-      let l = leads read (Fresh value) t p in
-      let e = parts.fresh_stood types facts procs globals sigs start whole filled places dest read value t p in
-      let h = (and_parts (is_fresh value) (is_there (type_of value))
-      (and_parts (is_fresh value && is_there (type_of value)) (is_typed here value) p.typed).0).1 in
-      fit_line (L.Fresh t t) (and_from _ _ (both_some _ _ (type_of value) h l.type (value_is value t e)) (ap not l.writes))
+  find_fits read (Fresh value) t p = fit_line _ (begun_right (constant_in value) read value t refl p)
   find_fits read (Field node ty base field) t p =
       let l = leads read (Field node ty base field) t p in
       let b = parts.base_stood types facts procs globals sigs start whole filled places dest read node ty base field t p in
@@ -98,7 +145,7 @@ module _ (types : List Ty) (facts : Facts) (procs : List Proc) (globals : List P
       (both_same _ _ (is_written base) l.writes k.writes)))
   find_fits read (Deref ty base) t p = never p.direct
 
-  pub settle_fits : (args : Args) (t : ℕ) → AllStood args t → Fit around (settle_lines args t)
+  pub settle_fits : (args : Args) (t : ℕ) → AllStood args t → Fit around (settle_lines types args t)
   settle_fits NoArg t all = fit_none
   settle_fits (ByValue e rest) t all =
       settle_fits rest (t + width e) (parts.rest_stood types facts procs globals sigs start whole filled places dest e rest t all)

@@ -23,7 +23,7 @@ use Rattle.flat_code.specs.declared.place.FlatPlace.{FlatPlace}
 use Rattle.flat_code.specs.Fits.{Signature}
 use Rattle.flattening.specs.declared.numbers.Purpose.TheVariants.{End, Next, Arm, Turn}
 use Rattle.flattening.specs.Formed.{IsListed}
-use Rattle.flattening.specs.Numbering.{width, widths, arm_count, width_in, width_of, width_of_blocks, label}
+use Rattle.flattening.specs.Numbering.{width, widths, arm_count, behind_selector, width_in, width_of, label}
 use Rattle.flattening.specs.Places.{branch_places, arm_places}
 use Rattle.flattening.specs.StmtLines.{Exits, in_loop}
 use Rattle.flattening.specs.StmtLines.{lines_in, lines_of, branch_lines, arm_blocks}
@@ -37,8 +37,9 @@ use Rattle.flattening.proofs.FitParts as parts
 use Rattle.flattening.proofs.Numbered.{numbered_wide, ◌>>◌ as joined, Owns, owns_first, owns_second, owns_less, owns_inner}
 use Rattle.flattening.proofs.Parts.{Each, EachIn, apart, taking_turns}
 use Rattle.flattening.proofs.Plain.{neither, none_earlier, found}
-use Rattle.flattening.proofs.PlaceNumbers.{expr_numbers}
+use Rattle.flattening.proofs.PlaceNumbers.{selector_begins, expr_numbers}
 use Rattle.flattening.proofs.PlaceNumbers.{stmt_numbers, block_numbers, branch_numbers, arm_numbers}
+use Rattle.flattening.proofs.Widths.{width_of_blocks, turn_width}
 use Rattle.flattening.proofs.FitTests as standing
 use Rattle.flattening.proofs.FitLoops as loops
 
@@ -112,7 +113,8 @@ module _ (types : List Ty) (facts : Facts) (procs : List Proc) (globals : List P
         let d = taking_turns Held (each lists own_places tests) (each_block lists own_places bs) s.held in
         branches_fit filled places dest by tests bs exits t (suc t) sees gives fit c.0 q.1 (all_direct facts false tests p.0) l.0
         (record { typed = h.1; plain = p.1; listed = l.1; held = d.1 })
-        (owns_inner (suc t) (suc t + (widths tests + width_of_blocks bs)) (omega arith) (omega arith) (omega arith) s.owns)
+        (let w = turn_width tests bs in
+        owns_inner (suc t) (suc t + (widths tests + width_of_blocks bs)) (omega arith) (omega arith) (omega (arith, w)) s.owns)
         >> fit_line (L.Label (label End t)) refl
     stmt_fits filled places dest by (Select node (ByLabels labels) tests bs) exits t sees gives fit s =
         let h = and_parts (chooses facts (ByLabels labels) tests bs && are_typed (here filled places dest) tests)
@@ -127,16 +129,19 @@ module _ (types : List Ty) (facts : Facts) (procs : List Proc) (globals : List P
         let l = taking_turns (IsListed types) (each lists own_types tests) (each_block lists own_types bs) s.listed in
         let d = taking_turns Held (each lists own_places tests) (each_block lists own_places bs) s.held in
         let u = suc t + arm_count (ByLabels labels) in
-        let o = blocks.selector_owned types facts procs globals sigs start whole filled places dest labels tests u
-        (u + widths tests + width_of_blocks bs) (arm_places types bs (u + widths tests)) (arm_numbers types bs (u + widths tests)) (omega arith)
-        (owns_inner u (u + widths tests + width_of_blocks bs) (omega arith) (omega arith) (omega arith) s.owns) in
+        let e = selector_begins types labels tests u in
+        let w = turn_width tests bs in
+        let v = behind_selector tests u in
+        let o = blocks.selector_owned types facts procs globals sigs start whole filled places dest tests u (v + width_of_blocks bs)
+        (arm_places types bs v) (arm_numbers types bs v) (omega arith)
+        (owns_inner u (v + width_of_blocks bs) (omega arith) (omega arith) (omega (arith, e, w)) s.owns) in
         let selected = standing.selects types facts procs globals sigs start whole modes result grounds filled places dest sees labels tests bs u c.1 q.1
         p.0 (together_each (IsListed types) own_types tests l.0) o.0 in
         selected.fit
         >> (standing.block_tests_fit types facts procs globals sigs start whole modes result grounds filled places dest sees k labels bs u
         (suc t) selected.kind (and_parts (is_selected k) (are_labels k labels) n.0).1
         >> (fit_line (L.Jump (label Next t)) refl
-        >> (arms_fit filled places dest by (is_covered (selector_type tests)) labels bs exits t (suc t) (u + widths tests) sees gives fit
+        >> (arms_fit filled places dest by (is_covered (selector_type tests)) labels bs exits t (suc t) v sees gives fit
         (record { typed = h.1; plain = p.1; listed = l.1; held = d.1 }) o.1
         >> fit_line (L.Label (label End t)) refl)))
     stmt_fits filled places dest by (Loop node While (ByValue e NoArg) body) exits t sees gives fit s =

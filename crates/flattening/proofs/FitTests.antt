@@ -20,12 +20,13 @@ use Rattle.nim_meaning.specs.LeftOut.{left_out_in, left_out_in_args, left_out_in
 use Rattle.nim_meaning.specs.LeftOut.{left_out_in_block}
 use Rattle.flat_code.specs.declared.line.Line.TheVariants as L
 use Rattle.flat_code.specs.declared.place.FlatPlace.{FlatPlace}
+use Rattle.flat_code.specs.Scene.{Known}
 use Rattle.flat_code.specs.Fits.{Signature}
 use Rattle.flattening.specs.declared.numbers.Purpose.TheVariants.{End, Next, Arm}
 use Rattle.flattening.specs.Formed.{IsListed}
-use Rattle.flattening.specs.Numbering.{width, widths, width_in, width_of, label}
+use Rattle.flattening.specs.Numbering.{width, widths, looked_from, width_in, width_of, label}
 use Rattle.flattening.specs.ExprLines.{lines}
-use Rattle.flattening.specs.Places.{expr_places, operand_places, selector_place}
+use Rattle.flattening.specs.Places.{expr_places, operand_places}
 use Rattle.flattening.specs.Places.{stmt_places, block_places}
 use Rattle.flattening.specs.StmtLines.{Exits, leaving_by, in_loop, back_lines, result_line, block_tests, selector_lines}
 use Rattle.flattening.proofs.Direct.{direct, all_direct}
@@ -36,7 +37,8 @@ use Rattle.flattening.proofs.FitExprs as exprs
 use Rattle.flattening.proofs.FitParts.{turned, never, of_same, itself, both_are, both_some}
 use Rattle.flattening.proofs.FitParts as parts
 use Rattle.flattening.proofs.FitPaths as paths
-use Rattle.flattening.proofs.Numbered.{Owns, owns_less}
+use Rattle.flattening.proofs.Numbered.{Owns}
+use Rattle.flattening.proofs.Owned as owned
 use Rattle.flattening.proofs.Parts.{Each}
 
 module _ (types : List Ty) (facts : Facts) (procs : List Proc) (globals : List Placed) (sigs : List Signature) (start whole : List FlatPlace)
@@ -44,6 +46,9 @@ module _ (types : List Ty) (facts : Facts) (procs : List Proc) (globals : List P
     (grounds : parts.Grounds types facts procs globals sigs start whole) where
   abbrev around : Among
   around = parts.around types facts procs globals sigs start whole
+
+  abbrev known : Known
+  known = parts.known types facts procs globals sigs start whole
 
   abbrev value : ℕ → Option Ty
   value = parts.value types facts procs globals sigs start whole
@@ -154,25 +159,28 @@ module _ (types : List Ty) (facts : Facts) (procs : List Proc) (globals : List P
 
     pub selects : (labels : List (List Label)) (selector : Args) (bs : Blocks) (u : ℕ) → labels_select (selector_kind facts selector) labels bs ≡ true →
         are_typed at selector ≡ true → left_out_in_args facts false selector ≡ None → Listed (totals lists own_types selector) →
-        Owns whole (selector_place types (ByLabels labels) selector u ++ operand_places types selector u) u u (u + widths selector) → Selects labels selector u
+        owned.ChoiceOwned known whole selector u → Selects labels selector u
     selects labels NoArg bs u h typed plain listed owns = no_kind labels bs h
     selects labels (ByValue e NoArg) bs u h typed plain listed owns =
         let s = one_value e u typed plain listed owns in record { fit = expr_fits e Looked u s; kind = ap (kind_if facts) (value_is e u s) }
     selects labels (ByValue e (ByValue f rest)) bs u h typed plain listed owns = no_kind labels bs h
     selects labels (ByValue e (ByPath path rest)) bs u h typed plain listed owns = no_kind labels bs h
     selects labels (ByPath path NoArg) bs u h typed plain listed owns =
-        let w = parts.path_width path in
-        let all = parts.path_selected types facts procs globals sigs start whole filled places dest path NoArg u typed
-        (all_direct facts false (ByPath path NoArg) plain) listed (owns_less (u + widths (ByValue (Read path) NoArg)) (omega (arith, w)) owns) in
-        let s = first_stood (Read path) NoArg u all in
-        let p = parts.read_stood types facts procs globals sigs start whole filled places dest path u s in
-        let l = parts.leads types facts procs globals sigs start whole filled places dest true path u p in
-        let is = value_is (Read path) u s in
+        let from = looked_from path u in
+        let all : AllStood (ByPath path NoArg) from = record {
+          typed = typed;
+          direct = all_direct facts false (ByPath path NoArg) plain;
+          listed = listed;
+          owns = owned.parts_owned known whole (ByPath path NoArg) u owns;
+        } in
+        let p = parts.first_path types facts procs globals sigs start whole filled places dest path NoArg from all in
+        let l = parts.leads types facts procs globals sigs start whole filled places dest false path from p in
+        let is = parts.selector_is types facts procs globals sigs start whole filled places dest path NoArg u owns all in
         record {
-          fit = exprs.aim_fits types facts procs globals sigs start whole modes grounds filled places dest sees true path u p
-              >> (paths.find_fits types facts procs globals sigs start whole filled places dest sees true path u p
-              >> fit_line (L.Look u u)
-              (both_some _ _ (type_at path) (parts.path_typed types facts procs globals sigs start whole filled places dest true path u p) is l.type));
+          fit = exprs.aim_fits types facts procs globals sigs start whole modes grounds filled places dest sees false path from p
+              >> (paths.find_fits types facts procs globals sigs start whole grounds filled places dest sees false path from p
+              >> fit_line (L.Look u from)
+              (both_some _ _ (type_at path) (parts.path_typed types facts procs globals sigs start whole filled places dest false path from p) is l.type));
           kind = ap (kind_if facts) is;
         }
     selects labels (ByPath path (ByValue e rest)) bs u h typed plain listed owns = no_kind labels bs h

@@ -5,12 +5,12 @@ use Rattle.std.proofs.lemmas.Bool.{and_parts, and_from, eqb-true, eq-eqb, leb-tr
 use Rattle.nim_types.specs.Types.{Ty}
 use Rattle.nim_types.specs.Table.{type_at}
 use Rattle.nim_program.specs.Program.{Declared, Stmts, Program}
-use Rattle.nim_program.specs.Folds.{Seen, AtDeclare, AtHandler, lists, total_of, own_places}
+use Rattle.nim_program.specs.Folds.{Part, Declaring, Handling, lists, total_of}
 use Rattle.nim_program.specs.Numbering as numbering
 use Rattle.nim_program.specs.Scopes.{placed}
 use Rattle.nim_program.specs.Sizes.{type_bytes, is_global as is_global_number, globals_size}
 use Rattle.nim_program.specs.Typed.{IsTyped}
-use Rattle.nim_meaning.proofs.ForCallers.{related_of}
+use Rattle.nim_program.proofs.ForCallers.{kept_of}
 use Rattle.flat_code.specs.declared.place.FlatPlace.{FlatPlace}
 use Rattle.flat_code.specs.declared.place.PlaceKind.{PlaceKind}
 use Rattle.flat_code.specs.declared.place.PlaceKind.TheVariants as K
@@ -31,16 +31,16 @@ abbrev pub IsAmong : List Declared → FlatPlace → Type 0
 IsAmong globals p = is_global p.kind ≡ true → is_global_number globals p.number ≡ true
 
 module _ (types : List Ty) (globals : List Declared) where
-  kind_told : (seen : Seen) (d : Declared) → is_global (kind_of_declared globals seen d) ≡ true → is_global_number globals d.number ≡ true
-  kind_told (AtDeclare node place cursor) d h = by (is_global_number globals d.number) refl cursor h
+  kind_told : (part : Part) (d : Declared) → is_global (kind_of_declared globals part d) ≡ true → is_global_number globals d.number ≡ true
+  kind_told (Declaring cursor) d h = by (is_global_number globals d.number) refl cursor h
     where
       by : (g : Bool) → is_global_number globals d.number ≡ g → (c : Bool) → is_global (if g then K.Global else if c then K.Cursor else K.Local) ≡ true →
           is_global_number globals d.number ≡ true
       by true e c h = e
       by false e true h = never h
       by false e false h = never h
-  kind_told (AtHandler name) d h = never h
-  kind_told seen d h = never h
+  kind_told Handling d h = never h
+  kind_told part d h = never h
 
   all_told : (kind : Declared → PlaceKind) → ((d : Declared) → is_global (kind d) ≡ true → is_global_number globals d.number ≡ true) → (ds : List Declared) →
       Each (IsAmong globals) (all_declared types kind ds)
@@ -48,10 +48,10 @@ module _ (types : List Ty) (globals : List Declared) where
   all_told kind told (d ∷ ds) = (told d, all_told kind told ds)
 
   pub block_told : (b : Stmts) → Each (IsAmong globals) (total_of lists (own_declared types globals) b)
-  block_told b = related_of lists lists (own_declared types globals) own_places (λ ps ds. Each (IsAmong globals) ps) (record {
+  block_told b = kept_of lists (own_declared types globals) (Each (IsAmong globals)) (record {
     none = tt;
-    plus = λ ps qs ds es h k. both (IsAmong globals) ps qs h k;
-    own = λ seen. all_told (kind_of_declared globals seen) (kind_told seen) (own_places seen);
+    plus = λ ps qs h k. both (IsAmong globals) ps qs h k;
+    own = λ seen. all_told (kind_of_declared globals seen.part) (kind_told seen.part) seen.places;
   }) b
 
 -- ---- sums

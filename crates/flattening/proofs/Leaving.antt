@@ -7,7 +7,7 @@ use Rattle.nim_meaning.specs.Values.{Slot}
 use Rattle.nim_meaning.specs.State.{World, State, slot_at}
 use Rattle.nim_meaning.specs.Deeds.{Opens, changed}
 use Rattle.nim_meaning.specs.Here.{Here}
-use Rattle.nim_meaning.specs.Acts.{Broke, Continued, Returned, Raised, Way, Flow, On, Out}
+use Rattle.nim_meaning.specs.Acts.{Broke, Continued, Returned, Raised, Exit, Outcome, On, Out}
 use Rattle.nim_meaning.specs.Acts.{Does, onward, worked, exit_of, as_before, ◌>>◌, loop, turn_of, next}
 use Rattle.nim_meaning.specs.Meaning.{ends}
 use Rattle.flat_code.specs.declared.line.Line.{Line}
@@ -77,14 +77,14 @@ leads_on {c} {t} {t'} {lo} {hi} {F} {k} le high puts l =
 -- ---- what a statement comes to
 
 -- where control leaves, the machine stands before the lines that the way leads to
-abbrev pub Gone : (c : Spot) → {exits : Exits} → {inside : Bool} → Around c exits inside → (lo hi : ℕ) → Temps → World → Way → State → M → Type 0
+abbrev pub Gone : (c : Spot) → {exits : Exits} → {inside : Bool} → Around c exits inside → (lo hi : ℕ) → Temps → World → Exit → State → M → Type 0
 Gone c around lo hi temps world (Broke by) b m = At c around.break_to lo hi temps world (λ now. Unit {0}) b.world m
 Gone c around lo hi temps world (Continued by) b m = At c around.continue_to lo hi temps world (λ now. Unit {0}) b.world m
 Gone c around lo hi temps world (Returned by) b m =
     (k : List Line) × At c (L.Return (number_of c.result) ∷ k) lo hi temps world (λ now. Unit {0}) b.world m
 Gone c around lo hi temps world (Raised exception by) b m = ⊥
 
-abbrev pub Left : (c : Spot) → {exits : Exits} → {inside : Bool} → Around c exits inside → (k : List Line) → (lo hi : ℕ) → Temps → World → Flow (Unit {0}) →
+abbrev pub Left : (c : Spot) → {exits : Exits} → {inside : Bool} → Around c exits inside → (k : List Line) → (lo hi : ℕ) → Temps → World → Outcome (Unit {0}) →
     State →
     M → Type 0
 Left c around k lo hi temps world (On done) b m = At c k lo hi temps world (λ now. Unit {0}) b.world m
@@ -103,7 +103,7 @@ at_out c k lo hi lo' hi' temps now world mid new m low high kept since g = recor
 }
 
 module _ (c : Spot) {exits : Exits} {inside : Bool} (around : Around c exits inside) where
-  gone_out : (lo hi lo' hi' : ℕ) (temps now : Temps) (world mid : World) (way : Way) (b : State) (m : M) → lo ≤ lo' → hi' ≤ hi → Kept lo hi temps now →
+  gone_out : (lo hi lo' hi' : ℕ) (temps now : Temps) (world mid : World) (way : Exit) (b : State) (m : M) → lo ≤ lo' → hi' ≤ hi → Kept lo hi temps now →
       Since c.level world mid → Gone c around lo' hi' now mid way b m → Gone c around lo hi temps world way b m
   gone_out lo hi lo' hi' temps now world mid (Broke by) b m low high kept since g =
       at_out c _ lo hi lo' hi' temps now world mid b.world m low high kept since g
@@ -113,14 +113,14 @@ module _ (c : Spot) {exits : Exits} {inside : Bool} (around : Around c exits ins
       (g.0, at_out c _ lo hi lo' hi' temps now world mid b.world m low high kept since g.1)
   gone_out lo hi lo' hi' temps now world mid (Raised exception by) b m low high kept since g = absurd g
 
-  left_out : (k : List Line) (lo hi lo' hi' : ℕ) (temps now : Temps) (world mid : World) (flow : Flow (Unit {0})) (b : State) (m : M) → lo ≤ lo' → hi' ≤ hi →
+  left_out : (k : List Line) (lo hi lo' hi' : ℕ) (temps now : Temps) (world mid : World) (flow : Outcome (Unit {0})) (b : State) (m : M) → lo ≤ lo' → hi' ≤ hi →
       Kept lo hi temps now → Since c.level world mid → Left c around k lo' hi' now mid flow b m → Left c around k lo hi temps world flow b m
   left_out k lo hi lo' hi' temps now world mid (On done) b m low high kept since g =
       at_out c k lo hi lo' hi' temps now world mid b.world m low high kept since g
   left_out k lo hi lo' hi' temps now world mid (Out way) b m low high kept since g = gone_out lo hi lo' hi' temps now world mid way b m low high kept since g
 
   -- work of the meaning changes nothing of it
-  gone_worked : (lo hi : ℕ) (temps : Temps) (world : World) (way : Way) (b : State) (m : M) (n : ℕ) → Gone c around lo hi temps world way b m →
+  gone_worked : (lo hi : ℕ) (temps : Temps) (world : World) (way : Exit) (b : State) (m : M) (n : ℕ) → Gone c around lo hi temps world way b m →
       Gone c around lo hi temps world way (worked n b) m
   gone_worked lo hi temps world (Broke by) b m n g = g
   gone_worked lo hi temps world (Continued by) b m n g = g
@@ -129,7 +129,7 @@ module _ (c : Spot) {exits : Exits} {inside : Bool} (around : Around c exits ins
 
 module _ (c : Spot) {exits : Exits} {inside : Bool} (around : Around c exits inside) where
   pub further_left : {k : List Line} {lo hi lo' hi' : ℕ} {temps now : Temps} {world mid : World} {p q : ℕ} {m : M} {a : Meter Event}
-      {r : Res State (Flow (Unit {0}))} → lo ≤ lo' → hi' ≤ hi → Kept lo hi temps now → Since c.level world mid →
+      {r : Res State (Outcome (Unit {0}))} → lo ≤ lo' → hi' ≤ hi → Kept lo hi temps now → Since c.level world mid →
       Runs c.fixed (Left c around k lo' hi' now mid) p q m a r → Runs c.fixed (Left c around k lo hi temps world) p q m a r
   further_left {k} {lo} {hi} {lo'} {hi'} {temps} {now} {world} {mid} low high kept since f =
       weaker c f (λ flow b m g. left_out c around k lo hi lo' hi' temps now world mid flow b m low high kept since g)
@@ -137,7 +137,7 @@ module _ (c : Spot) {exits : Exits} {inside : Bool} (around : Around c exits ins
   -- ---- one statement after another
 
   pub sequel : {k k1 : List Line} {lo hi lo' hi' : ℕ} {temps now : Temps} {world mid : World} {have p q Q : ℕ} {m : M} {a : Meter Event}
-      {r : Res State (Flow (Unit {0}))} (go : Unit {0} → Does (Unit {0})) (p' : ℕ) → p ≤ have → p + p' ≤ have + q → Q ≤ p' → lo ≤ lo' → hi' ≤ hi →
+      {r : Res State (Outcome (Unit {0}))} (go : Unit {0} → Does (Unit {0})) (p' : ℕ) → p ≤ have → p + p' ≤ have + q → Q ≤ p' → lo ≤ lo' → hi' ≤ hi →
       Kept lo hi temps now → Since c.level world mid → Runs c.fixed (Left c around k1 lo' hi' now mid) p q m a r →
       ((b : State) (last : Temps) → Kept lo' hi' now last → Since c.level mid b.world →
       Runs c.fixed (Left c around k lo hi temps world) p' Q (there c k1 last b.world) b.meter (go tt b)) →
@@ -145,7 +145,7 @@ module _ (c : Spot) {exits : Exits} {inside : Bool} (around : Around c exits ins
   sequel {k} {k1} {lo} {hi} {lo'} {hi'} {temps} {now} {world} {mid} {have} {p} {q} {Q} {m} {a} {r} go p' less le enough low high kept since f more =
       follows_on p' (onward go) less le f (λ flow b m1 falls g. on flow b m1 g)
     where
-      on : (flow : Flow (Unit {0})) (b : State) (m1 : M) → Left c around k1 lo' hi' now mid flow b m1 →
+      on : (flow : Outcome (Unit {0})) (b : State) (m1 : M) → Left c around k1 lo' hi' now mid flow b m1 →
           Runs c.fixed (Left c around k lo hi temps world) p' Q m1 b.meter (onward go flow b)
       on (On done) b m1 g =
           subst (λ m. Runs c.fixed (Left c around k lo hi temps world) p' Q m b.meter (go tt b)) (sym g.is) (more b g.now g.kept g.since)
@@ -153,7 +153,7 @@ module _ (c : Spot) {exits : Exits} {inside : Bool} (around : Around c exits ins
 
   -- the same ways out, with the machine brought on where it isn't left
   pub rejoin : {k k1 : List Line} {lo hi lo' hi' : ℕ} {temps now : Temps} {world mid : World} {have p q Q : ℕ} {m : M} {a : Meter Event}
-      {r : Res State (Flow (Unit {0}))} (p' : ℕ) → p ≤ have → p + p' ≤ have + q → Q ≤ p' → lo ≤ lo' → hi' ≤ hi → Kept lo hi temps now →
+      {r : Res State (Outcome (Unit {0}))} (p' : ℕ) → p ≤ have → p + p' ≤ have + q → Q ≤ p' → lo ≤ lo' → hi' ≤ hi → Kept lo hi temps now →
       Since c.level world mid →
       Runs c.fixed (Left c around k1 lo' hi' now mid) p q m a r →
       ((b : State) (last : Temps) → Kept lo hi temps last → Since c.level world b.world →
@@ -164,7 +164,7 @@ module _ (c : Spot) {exits : Exits} {inside : Bool} (around : Around c exits ins
       (sequel (λ u s. Got (On tt) s) p' less le enough low high kept since f
       (λ b last kept2 since2. more b last (kept_then kept (kept_wide low high kept2)) (since_then since since2)))
     where
-      as_it_was : (r : Res State (Flow (Unit {0}))) → then_do r (onward (λ u s. Got (On tt) s)) ≡ r
+      as_it_was : (r : Res State (Outcome (Unit {0}))) → then_do r (onward (λ u s. Got (On tt) s)) ≡ r
       as_it_was (Got (On done) s) = refl
       as_it_was (Got (Out way) s) = refl
       as_it_was (Over status live s) = refl
@@ -177,13 +177,13 @@ module _ (c : Spot) {exits : Exits} {inside : Bool} (around : Around c exits ins
   stays b now le kept since = lands (On tt) b le (record { now = now; is = refl; has = tt; kept = kept; since = since })
 
   -- the end of a scope has no line
-  pub scope_closes : {k : List Line} {lo hi : ℕ} {temps : Temps} {world : World} {p q : ℕ} {m : M} {a : Meter Event} {r : Res State (Flow (Unit {0}))}
+  pub scope_closes : {k : List Line} {lo hi : ℕ} {temps : Temps} {world : World} {p q : ℕ} {m : M} {a : Meter Event} {r : Res State (Outcome (Unit {0}))}
       (here : Here) (place : Declared) (last : ℕ) → Runs c.fixed (Left c around k lo hi temps world) p q m a r →
       Runs c.fixed (Left c around k lo hi temps world) p q m a (then_do r (λ flow. ends here place (exit_of last flow) >> as_before flow))
   scope_closes {k} {lo} {hi} {temps} {world} {p} {q} {m} {a} {r} here place last f =
       follows_on q (λ flow. ends here place (exit_of last flow) >> as_before flow) (omega arith) (omega arith) f (λ flow b m1 falls g. on flow b m1 g)
     where
-      on : (flow : Flow (Unit {0})) (b : State) (m1 : M) → Left c around k lo hi temps world flow b m1 →
+      on : (flow : Outcome (Unit {0})) (b : State) (m1 : M) → Left c around k lo hi temps world flow b m1 →
           Runs c.fixed (Left c around k lo hi temps world) q q m1 b.meter ((ends here place (exit_of last flow) >> as_before flow) b)
       on (On done) b m1 g = pays q 1 (omega arith) (lands (On done) (worked 1 b) (omega arith) g)
       on (Out way) b m1 g = pays q 1 (omega arith) (lands (Out way) (worked 1 b) (omega arith) (gone_worked c around lo hi temps world way b m1 1 g))
@@ -222,7 +222,7 @@ pub record ExitsAt (c : Spot) (ending : List Line) (lo hi : ℕ) (temps : Temps)
 
 -- behind the last turn
 abbrev pub Looped : (c : Spot) → {exits : Exits} → {inside : Bool} → Around c exits inside → (ending : List Line) → (lo hi : ℕ) → Temps → World →
-    Flow (Unit {0}) → State → M → Type 0
+    Outcome (Unit {0}) → State → M → Type 0
 Looped c around ending lo hi temps world (On done) b m = ExitsAt c ending lo hi temps world b.world b.meter m
 Looped c around ending lo hi temps world (Out (Broke by)) b m = ⊥
 Looped c around ending lo hi temps world (Out (Continued by)) b m = ⊥
@@ -258,7 +258,7 @@ module _ (c : Spot) {exits : Exits} {inside : Bool} (around : Around c exits ins
       follows_turns Inv (Looped c around ending lo hi temps world) q (λ x s. then_do (turn x s) turn_of) h (suc b.meter.units) x b m (omega arith) i
 
   -- behind the body of a turn: at the next one, or behind the loop
-  pub body_ends : {lo' hi' : ℕ} {now : Temps} {mid : World} {p q Q : ℕ} {m : M} {a : Meter Event} {r : Res State (Flow (Unit {0}))} (x : X) (u : ℕ) → Q ≤ q →
+  pub body_ends : {lo' hi' : ℕ} {now : Temps} {mid : World} {p q Q : ℕ} {m : M} {a : Meter Event} {r : Res State (Outcome (Unit {0}))} (x : X) (u : ℕ) → Q ≤ q →
       a.units < u → lo ≤ lo' → hi' ≤ hi → Kept lo hi temps now → Since c.level world mid →
       Runs c.fixed (Left c (inner around t ending next_lines) next_lines lo' hi' now mid) p q m a r →
       ((b : State) (last : Temps) → b.meter.units < u → Kept lo' hi' now last → Since c.level mid b.world →
@@ -269,7 +269,7 @@ module _ (c : Spot) {exits : Exits} {inside : Bool} (around : Around c exits ins
       (follows_on q (λ flow s. then_do (next x flow s) turn_of) (omega arith) (omega arith) f
       (λ flow b m1 falls g. on flow b m1 (omega (arith, falls, less)) g))
     where
-      on : (flow : Flow (Unit {0})) (b : State) (m1 : M) → b.meter.units < u → Left c
+      on : (flow : Outcome (Unit {0})) (b : State) (m1 : M) → b.meter.units < u → Left c
           (inner around t ending next_lines) next_lines lo' hi' now mid flow b m1 →
           Runs c.fixed (Turned Inv (Looped c around ending lo hi temps world) u) q Q m1 b.meter (then_do (next x flow b) turn_of)
       on (On done) b m1 few g =
@@ -289,7 +289,7 @@ module _ (c : Spot) {exits : Exits} {inside : Bool} (around : Around c exits ins
       on (Out (Raised exception by)) b m1 few g = absurd g
 
   -- behind the loop
-  pub loop_ends : {k : List Line} {p q Q : ℕ} {m : M} {a : Meter Event} {r : Res State (Flow (Unit {0}))} → Q + 3 ≤ q →
+  pub loop_ends : {k : List Line} {p q Q : ℕ} {m : M} {a : Meter Event} {r : Res State (Outcome (Unit {0}))} → Q + 3 ≤ q →
       Runs c.fixed (Looped c around ending lo hi temps world) p q m a r →
       ((b : State) (last : Temps) → Kept lo hi temps last → Since c.level world b.world →
       Runs c.fixed (Left c around k lo hi temps world) (suc Q) Q (there c ending last b.world) b.meter (Got (On tt) b)) →
@@ -298,13 +298,13 @@ module _ (c : Spot) {exits : Exits} {inside : Bool} (around : Around c exits ins
       subst (λ r. Runs c.fixed (Left c around k lo hi temps world) p Q m a r) (as_it_was r)
       (follows_on q (λ flow s. Got flow s) (omega arith) (omega arith) f (λ flow b m1 falls g. on flow b m1 g))
     where
-      as_it_was : (r : Res State (Flow (Unit {0}))) → then_do r (λ flow s. Got flow s) ≡ r
+      as_it_was : (r : Res State (Outcome (Unit {0}))) → then_do r (λ flow s. Got flow s) ≡ r
       as_it_was (Got flow s) = refl
       as_it_was (Over status live s) = refl
       as_it_was (Going s) = refl
       as_it_was (IsWrong s) = refl
 
-      on : (flow : Flow (Unit {0})) (b : State) (m1 : M) → Looped c around ending lo hi temps world flow b m1 →
+      on : (flow : Outcome (Unit {0})) (b : State) (m1 : M) → Looped c around ending lo hi temps world flow b m1 →
           Runs c.fixed (Left c around k lo hi temps world) q Q m1 b.meter (Got flow b)
       on (On done) b m1 g = behind (omega (arith, le)) g.walks (more b g.now g.kept g.since)
       on (Out (Broke by)) b m1 g = absurd g

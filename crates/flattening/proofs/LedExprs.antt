@@ -9,16 +9,17 @@ use Rattle.nim_program.specs.declared.operation.Use.TheVariants.{Owned, Looked}
 use Rattle.nim_program.specs.declared.program.Mode.{Mode}
 use Rattle.nim_program.specs.Program.{Label, Ordinals, Exactly, Act, Doing, Building, Giving, Calling, ByConditions, ByLabels}
 use Rattle.nim_program.specs.Program.{Expr, Apply, Read, Early, Choose, Path, Variable, Fresh, Field, Element, Deref, Args, NoArg, ByValue, ByPath}
-use Rattle.nim_program.specs.Program.{type_of, type_at, types_in, node_at}
+use Rattle.nim_program.specs.Program.{type_of, type_at, types_in, node_at, Literal, constant_in}
 use Rattle.nim_program.specs.Uses.{use_of}
+use Rattle.nim_program.specs.Folds.{if_constant}
 use Rattle.nim_meaning.specs.Shapes.{is_covered, is_last_value}
 use Rattle.flat_code.specs.declared.line.From.{From}
 use Rattle.flat_code.specs.declared.line.Line.{Line}
 use Rattle.flat_code.specs.declared.line.Line.TheVariants as L
 use Rattle.flattening.specs.declared.numbers.Purpose.TheVariants.{End, Next, Arm}
 use Rattle.flattening.specs.ExprLines.{froms, find_lines, settle_lines, label_tests, value_tests, act_line, none_fits, handed_on, early_lines}
-use Rattle.flattening.specs.ExprLines.{lines, aim_lines, ready_lines, choice_lines, select_lines, arm_lines}
-use Rattle.flattening.specs.Numbering.{if_number, width, width_at, label}
+use Rattle.flattening.specs.ExprLines.{lines, aim_lines, ready_lines, choice_lines, select_lines, arm_lines, begin_line}
+use Rattle.flattening.specs.Numbering.{if_number, width, width_at, label, arm_count, looked_from}
 use Rattle.flattening.proofs.Led.{IsThere, past, here, Names, Also, Is, With, Led, led_none, over, ◌>>◌, silent, forward, ended, arm_then, arm_here, later_arm}
 use Rattle.flattening.proofs.Led.{other_there, either}
 
@@ -35,15 +36,19 @@ module _ (types : List Ty) (modes : (proc position : ℕ) → Mode) (whole : Lis
 
   -- ---- lines without labels
 
-  pub find : (ns bs : Names) (path : Path) (t : ℕ) → E ns bs (find_lines path t)
+  begins : (ns bs : Names) (constant : Option Literal) (ty : Option Ty) (t : ℕ) → E ns bs (λ k. begin_line types constant ty t ∷ k)
+  begins ns bs None ty t = silent whole ns bs (begin_line types None ty t) refl refl
+  begins ns bs (Some literal) ty t = silent whole ns bs (begin_line types (Some literal) ty t) refl refl
+
+  pub find : (ns bs : Names) (path : Path) (t : ℕ) → E ns bs (find_lines types path t)
   find ns bs (Variable node ty place global) t = silent whole ns bs (L.Root t place global) refl refl
-  find ns bs (Fresh value) t = silent whole ns bs (L.Fresh t t) refl refl
+  find ns bs (Fresh value) t = begins ns bs (constant_in value) (type_of value) t
   find ns bs (Field node ty base field) t = find ns bs base (suc t) >> silent whole ns bs (L.Part t (suc t) field) refl refl
   find ns bs (Element node ty base index constant) t =
       find ns bs base (suc t) >> silent whole ns bs (L.Item t (suc t) (suc t + width_at base)) refl refl
-  find ns bs (Deref ty base) t = find ns bs base t >> silent whole ns bs (L.Object t t) refl refl
+  find ns bs (Deref ty base) t = find ns bs base (suc t) >> silent whole ns bs (L.Object t (suc t)) refl refl
 
-  settle : (ns bs : Names) (args : Args) (t : ℕ) → E ns bs (settle_lines args t)
+  settle : (ns bs : Names) (args : Args) (t : ℕ) → E ns bs (settle_lines types args t)
   settle ns bs NoArg t = led_none whole ns bs
   settle ns bs (ByValue value rest) t = settle ns bs rest (t + width value)
   settle ns bs (ByPath path rest) t = find ns bs path t >> settle ns bs rest (t + width_at path)
@@ -104,6 +109,11 @@ module _ (types : List Ty) (modes : (proc position : ℕ) → Mode) (whole : Lis
 
   -- ---- expressions
 
+  fresh : (ns bs : Names) (constant : Option Literal) (value : Expr) (t : ℕ) → E ns bs (lines types modes value Looked (suc t)) →
+      E ns bs (λ k. if_constant constant k (lines types modes value Looked (suc t) k))
+  fresh ns bs None value t comes = comes
+  fresh ns bs (Some literal) value t comes = led_none whole ns bs
+
   mutual
     pub expr : (ns bs : Names) (e : Expr) (how : Use) (t : ℕ) → E ns bs (lines types modes e how t)
     expr ns bs (Apply node ty act operands) how t =
@@ -121,14 +131,14 @@ module _ (types : List Ty) (modes : (proc position : ℕ) → Mode) (whole : Lis
     expr ns bs (Choose node ty ByConditions parts) how t =
         ended whole ns bs (label End t) (choices (With (label End t) ns) bs parts ty how t (suc t) (inl refl))
     expr ns bs (Choose node ty (ByLabels labels) parts) how t =
-        ended whole ns bs (label End t) (selects (With (label End t) ns) bs labels parts ty how t (suc t) (inl refl))
+        ended whole ns bs (label End t) (selects (With (label End t) ns) bs labels parts ty how t (suc t + arm_count (ByLabels labels)) (inl refl))
 
     pub aim : (ns bs : Names) (path : Path) (t : ℕ) → E ns bs (aim_lines types modes path t)
     aim ns bs (Variable node ty place global) t = led_none whole ns bs
-    aim ns bs (Fresh value) t = expr ns bs value Looked t
+    aim ns bs (Fresh value) t = fresh ns bs (constant_in value) value t (expr ns bs value Looked (suc t))
     aim ns bs (Field node ty base field) t = aim ns bs base (suc t)
     aim ns bs (Element node ty base index constant) t = aim ns bs base (suc t) >> expr ns bs index Owned (suc t + width_at base)
-    aim ns bs (Deref ty base) t = aim ns bs base t
+    aim ns bs (Deref ty base) t = aim ns bs base (suc t)
 
     pub ready : (ns bs : Names) (args : Args) (uses : (position : ℕ) → Use) (i t : ℕ) → E ns bs (ready_lines types modes args uses i t)
     ready ns bs NoArg uses i t = led_none whole ns bs
@@ -158,12 +168,13 @@ module _ (types : List Ty) (modes : (proc position : ℕ) → Mode) (whole : Lis
         (next_there ns bs (is_covered (type_of selector)) labels rest ty how t (u + width selector))
         (arm_there ns bs (is_covered (type_of selector)) labels rest ty how t (u + width selector))
     selects ns bs labels (ByPath path rest) ty how t u need =
-        aim ns bs path u
-        >> (find ns bs path u
-        >> (silent whole ns bs (L.Look u u) refl refl
-        >> chosen ns bs labels rest t u (u + width_at path) (arms ns bs (is_covered (type_at path)) labels rest ty how t (u + width_at path) need)
-        (next_there ns bs (is_covered (type_at path)) labels rest ty how t (u + width_at path))
-        (arm_there ns bs (is_covered (type_at path)) labels rest ty how t (u + width_at path))))
+        let n = looked_from path u in
+        aim ns bs path n
+        >> (find ns bs path n
+        >> (silent whole ns bs (L.Look u n) refl refl
+        >> chosen ns bs labels rest t u (n + width_at path) (arms ns bs (is_covered (type_at path)) labels rest ty how t (n + width_at path) need)
+        (next_there ns bs (is_covered (type_at path)) labels rest ty how t (n + width_at path))
+        (arm_there ns bs (is_covered (type_at path)) labels rest ty how t (n + width_at path))))
 
     arms : (ns bs : Names) (covered : Bool) (labels : List (List Label)) (values : Args) (ty : Option Ty) (how : Use) (t u : ℕ) → ns (label End t) →
         E ns bs (arm_lines types modes covered labels values ty how t u)

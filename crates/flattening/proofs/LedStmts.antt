@@ -22,7 +22,7 @@ use Rattle.flat_code.specs.Whole.{label_in, all_lead, are_whole}
 use Rattle.flattening.specs.declared.numbers.Purpose.TheVariants.{End, Next, Arm, Turn}
 use Rattle.flattening.specs.Flattened.{modes_of}
 use Rattle.flattening.specs.Given.{flat_body, flat_proc, flat_of}
-use Rattle.flattening.specs.Numbering.{type_number, width, widths, arm_count, width_in, width_of, label}
+use Rattle.flattening.specs.Numbering.{type_number, width, arm_count, width_in, width_of, label, looked_from, behind_selector, widths}
 use Rattle.flattening.specs.StmtLines.{Exits, leaving_by, in_loop, back_lines, result_line, block_tests, second, selector_lines, test_lines, look_up}
 use Rattle.flattening.specs.StmtLines.{lines_in, lines_of, branch_lines, arm_blocks, number_of, outermost, returned, body_lines}
 use Rattle.flattening.proofs.Led.{either, IsThere, past, here, Names, Also, Is, With, Led, led_none, led_more, over, ◌>>◌, silent, forward, backward, ended}
@@ -99,7 +99,8 @@ module _ (types : List Ty) (modes : (proc position : ℕ) → Mode) (result : Op
   selects ns bs NoArg t = silent whole ns bs (L.Zero t) refl refl
   selects ns bs (ByValue selector rest) t = expr types modes whole ns bs selector Looked t
   selects ns bs (ByPath path rest) t =
-      aim types modes whole ns bs path t >> (find types modes whole ns bs path t >> silent whole ns bs (L.Look t t) refl refl)
+      let n = looked_from path t in
+      aim types modes whole ns bs path n >> (find types modes whole ns bs path n >> silent whole ns bs (L.Look t n) refl refl)
 
   condition : (ns bs : Names) (args : Args) (t : ℕ) → S ns bs (test_lines types modes result args t)
   condition ns bs NoArg t = silent whole ns bs (L.Zero t) refl refl
@@ -129,13 +130,14 @@ module _ (types : List Ty) (modes : (proc position : ℕ) → Mode) (result : Op
         let more = Also (Is (label Next t)) (TestedBlocks labels blocks (suc t)) in
         let inside = Also more inner in
         let covered = is_covered (selector_type tests) in
+        let v = behind_selector tests u in
         ended whole ns bs (label End t)
         (selects inner bs tests u
         >> over whole inner bs more
         (tests_of_blocks inside bs labels blocks u (suc t) (λ n h. inl (inr h)) >> quiet_jump inside bs (label Next t) (inl (inl refl)))
-        (arms inner bs covered labels blocks exits t (suc t) (u + widths tests) (inl refl) (out_more ns bs inner exits (λ n h. inr h) x))
-        (λ n h k. either (λ e. (next_there covered labels blocks exits t (suc t) (u + widths tests) n k ns bs x e).found)
-        (λ tested. (arm_there covered labels blocks exits t (suc t) (u + widths tests) n k ns bs x tested).found) h))
+        (arms inner bs covered labels blocks exits t (suc t) v (inl refl) (out_more ns bs inner exits (λ n h. inr h) x))
+        (λ n h k. either (λ e. (next_there covered labels blocks exits t (suc t) v n k ns bs x e).found)
+        (λ tested. (arm_there covered labels blocks exits t (suc t) v n k ns bs x tested).found) h))
     stmt ns bs (Loop node While head body) exits t x =
         let inner = With (label End t) ns in
         let turning = With (label Turn t) bs in

@@ -74,7 +74,6 @@ mod Texts
 mod GlobalSizes
 mod DataSizes
 mod LastOnes
-mod StmtWidths
 mod Simple
 mod Simples
 mod Tallies

@@ -11,19 +11,23 @@ use Rattle.nim_program.specs.declared.stmt.Leaving.TheVariants as K
 use Rattle.nim_program.specs.Program.{Literal, Label, Ordinals, Exactly, Act, ByConditions, ByLabels, Expr, Apply, Read, Early, Choose}
 use Rattle.nim_program.specs.Program.{Path, Variable, Fresh, Field, Element, Deref, Args, NoArg, ByValue, ByPath, Declared, type_of, type_at, types_in, node_at}
 use Rattle.nim_program.specs.Program.{While, Count, Each, Stmt, Do, Idle, Give, Leave, Select, Loop, Raise, Try}
-use Rattle.nim_program.specs.Program.{Stmts, Empty, Then, Declare, Defer, Blocks, Otherwise, Block}
+use Rattle.nim_program.specs.Program.{Stmts, Empty, Then, Declare, Defer, Blocks, Otherwise, Block, constant_in, Kind}
 use Rattle.nim_program.specs.Uses.{use_of}
+use Rattle.nim_program.specs.Folds.{numbers, if_constant, begun_by, Step, Named, Standing, Begun, ToField, ToElement, ToObject, Leading, Looping, is_headed}
+use Rattle.nim_program.proofs.ForCallers.{either_way, in_turn_sum}
 use Rattle.nim_meaning.specs.Shapes.{is_covered, is_last_value, selector_type, is_last_block}
 use Rattle.flat_code.specs.declared.line.Line.{Line}
 use Rattle.flat_code.specs.declared.line.Line.TheVariants as L
+use Rattle.flat_code.specs.Pieces.{pieces_of}
 use Rattle.flattening.specs.declared.numbers.Purpose.TheVariants.{End, Next, Arm, Turn}
-use Rattle.flattening.specs.Numbering.{type_number, if_number, width, width_at, widths, arm_count, width_in, width_of, label}
+use Rattle.flattening.specs.Numbering.{type_number, if_number, width, width_at, widths, arm_count, width_in, width_of, label, number_or, looked_from}
+use Rattle.flattening.specs.Numbering.{behind_selector}
 use Rattle.flattening.specs.ExprLines.{froms, find_lines, settle_lines, label_tests, value_tests, arm_label, act_line, none_fits, handed_on}
-use Rattle.flattening.specs.ExprLines.{lines, aim_lines, ready_lines, choice_lines, select_lines, arm_lines}
+use Rattle.flattening.specs.ExprLines.{lines, aim_lines, ready_lines, choice_lines, select_lines, arm_lines, begin_line}
 use Rattle.flattening.specs.StmtLines.{Exits, leaving_by, in_loop, back_lines, result_line, block_tests, second, selector_lines, test_lines, look_up}
 use Rattle.flattening.specs.StmtLines.{lines_in, lines_of, branch_lines, arm_blocks}
-use Rattle.flattening.proofs.Amounts.{act_counted, labels_counted, branches_counted, expr_counted, path_counted, args_counted}
-use Rattle.flattening.proofs.Amounts.{head_counted, stmt_counted, block_counted, blocks_counted}
+use Rattle.flattening.proofs.Amounts.{part_counted, own_counted, act_counted, labels_counted, branches_counted, expr_counted, path_counted, args_counted}
+use Rattle.flattening.proofs.Amounts.{stmt_counted, block_counted, blocks_counted}
 use Rattle.flattening.proofs.Spares.{Spare, spare_none, spare_line, ◌>>◌, spare_most, spare_if}
 
 -- so much for each operand
@@ -33,17 +37,19 @@ reserved operand (ByValue value rest) = operand + reserved operand rest
 reserved operand (ByPath path rest) = operand + reserved operand rest
 
 -- What lines may take where a part may take so much: of this so much is for the operation that it is an operand of, and so much for reading at a path.
-pub record Bounds (types : List Ty) (modes : (proc position : ℕ) → Mode) (m : Line → ℕ) (part : ℕ) (of_literal : Literal →
-    ℕ) (operand get exit : ℕ) : Type 0 where
+pub record Bounds (types : List Ty) (modes : (proc position : ℕ) → Mode) (m : Line → ℕ) (part : ℕ) (built standing : Literal → ℕ)
+    (operand get exit : ℕ) : Type 0 where
   pub act : (t : ℕ) (act : Act) (how : Use) (ty : Option Ty) (operands : Args) →
-      m (act_line types modes t act how ty (types_in operands) (froms operands (suc t))) + operand ≤ act_counted part of_literal act + reserved operand operands
+      m (act_line types modes t act how ty (types_in operands) (froms operands (suc t))) + operand ≤ act_counted part built standing act + reserved operand
+      operands
   pub root : (t place : ℕ) (global : Bool) → 2 * m (L.Root t place global) + get + operand ≤ part
-  pub fresh : (t : ℕ) → 2 * m (L.Fresh t t) + get + operand ≤ part
+  pub fresh : (t : ℕ) → 2 * m (L.Fresh t (suc t)) + get + operand ≤ part
+  pub in_place : (t ty : ℕ) (literal : Literal) → 2 * m (L.Standing t ty (pieces_of literal)) + get + operand ≤ part + standing literal
   pub field : (t field : ℕ) → 2 * m (L.Part t (suc t) field) ≤ part
   pub item : (t index : ℕ) → 2 * m (L.Item t (suc t) index) ≤ part
-  pub object : (t : ℕ) → 2 * m (L.Object t t) ≤ part
+  pub object : (t : ℕ) → 2 * m (L.Object t (suc t)) ≤ part
   pub got : (t site : ℕ) (how : Use) (ty : Option ℕ) → m (L.Get t t how site ty) ≤ get
-  pub looked : (t : ℕ) → m (L.Look t t) ≤ get
+  pub looked : (s t : ℕ) → m (L.Look s t) ≤ get
   pub both : (t s from l : ℕ) (how : Use) →
       m (L.Truth t false) + m (L.Unless s l) + m (L.Pass t from how None) + m (L.Label l) + operand ≤ part
   pub either : (t s from l next : ℕ) (how : Use) →
@@ -71,31 +77,31 @@ pub record Bounds (types : List Ty) (modes : (proc position : ℕ) → Mode) (m 
   pub blank : (place ty : ℕ) → m (L.Blank place ty) ≤ part
   pub filled : (place from : ℕ) → m (L.Fill place from) ≤ part
 
-module _ (types : List Ty) (modes : (proc position : ℕ) → Mode) (m : Line → ℕ) (part : ℕ) (of_literal : Literal → ℕ) (operand get exit : ℕ)
-    (b : Bounds types modes m part of_literal operand get exit) where
+module _ (types : List Ty) (modes : (proc position : ℕ) → Mode) (m : Line → ℕ) (part : ℕ) (built standing : Literal → ℕ) (operand get exit : ℕ)
+    (b : Bounds types modes m part built standing operand get exit) where
   -- ---- paths
 
   abbrev find_cost : Path → ℕ → ℕ
   find_cost (Variable node ty place global) t = m (L.Root t place global)
-  find_cost (Fresh value) t = m (L.Fresh t t)
+  find_cost (Fresh value) t = m (begin_line types (constant_in value) (type_of value) t)
   find_cost (Field node ty base field) t = find_cost base (suc t) + m (L.Part t (suc t) field)
   find_cost (Element node ty base index constant) t = find_cost base (suc t) + m (L.Item t (suc t) (suc t + width_at base))
-  find_cost (Deref ty base) t = find_cost base t + m (L.Object t t)
+  find_cost (Deref ty base) t = find_cost base (suc t) + m (L.Object t (suc t))
 
-  find_spare : (path : Path) (t : ℕ) → Spare m 0 (find_cost path t) (find_lines path t)
+  find_spare : (path : Path) (t : ℕ) → Spare m 0 (find_cost path t) (find_lines types path t)
   find_spare (Variable node ty place global) t = spare_line _
   find_spare (Fresh value) t = spare_line _
   find_spare (Field node ty base field) t = spare_most 0 _ (omega arith) (find_spare base (suc t) >> spare_line (L.Part t (suc t) field))
   find_spare (Element node ty base index constant) t =
       spare_most 0 _ (omega arith) (find_spare base (suc t) >> spare_line (L.Item t (suc t) (suc t + width_at base)))
-  find_spare (Deref ty base) t = spare_most 0 _ (omega arith) (find_spare base t >> spare_line (L.Object t t))
+  find_spare (Deref ty base) t = spare_most 0 _ (omega arith) (find_spare base (suc t) >> spare_line (L.Object t (suc t)))
 
   abbrev settle_cost : Args → ℕ → ℕ
   settle_cost NoArg t = 0
   settle_cost (ByValue value rest) t = settle_cost rest (t + width value)
   settle_cost (ByPath path rest) t = find_cost path t + settle_cost rest (t + width_at path)
 
-  settle_spare : (args : Args) (t : ℕ) → Spare m 0 (settle_cost args t) (settle_lines args t)
+  settle_spare : (args : Args) (t : ℕ) → Spare m 0 (settle_cost args t) (settle_lines types args t)
   settle_spare NoArg t = spare_none
   settle_spare (ByValue value rest) t = settle_spare rest (t + width value)
   settle_spare (ByPath path rest) t = spare_most 0 _ (omega arith) (find_spare path t >> settle_spare rest (t + width_at path))
@@ -105,17 +111,17 @@ module _ (types : List Ty) (modes : (proc position : ℕ) → Mode) (m : Line �
   -- what is counted of branches: their labels, and themselves
   abbrev all_labels : List (List Label) → ℕ
   all_labels [] = 0
-  all_labels (labels ∷ rest) = labels_counted part of_literal labels + all_labels rest
+  all_labels (labels ∷ rest) = labels_counted part built standing labels + all_labels rest
 
   abbrev all_branches : List (List Label) → ℕ
   all_branches [] = 0
   all_branches (labels ∷ rest) = part + all_branches rest
 
-  both_counted : (labels : List (List Label)) → branches_counted part of_literal labels ≡ all_labels labels + all_branches labels
+  both_counted : (labels : List (List Label)) → branches_counted part built standing labels ≡ all_labels labels + all_branches labels
   both_counted [] = refl
   both_counted (labels ∷ rest) = let h = both_counted rest in omega (arith, h)
 
-  tests_spare : (labels : List Label) (s arm : ℕ) → Spare m 0 (labels_counted part of_literal labels) (label_tests labels s arm)
+  tests_spare : (labels : List Label) (s arm : ℕ) → Spare m 0 (labels_counted part built standing labels) (label_tests labels s arm)
   tests_spare [] s arm = spare_none
   tests_spare (Ordinals low high ∷ labels) s arm =
       let h = b.test s arm low high in spare_most 0 _ (omega (arith, h)) (spare_line (L.Fits s low high arm) >> tests_spare labels s arm)
@@ -141,10 +147,37 @@ module _ (types : List Ty) (modes : (proc position : ℕ) → Mode) (m : Line �
   -- ---- expressions
 
   abbrev E : Expr → ℕ
-  E = expr_counted part of_literal
+  E = expr_counted part built standing
 
   abbrev A : Args → ℕ
-  A = args_counted part of_literal
+  A = args_counted part built standing
+
+  -- a path counts as much where it is read
+  read_same : (written : Bool) (step : Step) →
+      part_counted part built standing (Leading true written step) ≡ part_counted part built standing (Leading false written step)
+  read_same written (Named place global) = refl
+  read_same written (Standing literal) = refl
+  read_same written Begun = refl
+  read_same written (ToField field) = refl
+  read_same written (ToElement constant) = refl
+  read_same written ToObject = refl
+
+  read_counted : (path : Path) → E (Read path) ≡ path_counted part built standing path
+  read_counted path =
+      either_way numbers (own_counted part built standing) (λ node ty written step. read_same written step) (λ ty written step. read_same written step) path
+
+  -- what a path begins with
+  abbrev begun_counted : Option Literal → Expr → ℕ
+  begun_counted constant value =
+      if_constant constant (own_counted part built standing (begun_by constant false value))
+      (own_counted part built standing (begun_by constant false value) + E value)
+
+  begun_spare : (constant : Option Literal) (value : Expr) (t : ℕ) → Spare m operand (E value) (lines types modes value Looked (suc t)) →
+      Spare m (2 * m (begin_line types constant (type_of value) t) + get + operand) (begun_counted constant value)
+      (λ k. if_constant constant k (lines types modes value Looked (suc t) k))
+  begun_spare None value t s = let h = b.fresh t in spare_most _ _ (omega (arith, h)) s
+  begun_spare (Some literal) value t s =
+      let h = b.in_place t (number_or types (type_of value)) literal in spare_most _ _ (omega (arith, h)) spare_none
 
   none_most : (t : ℕ) (how : Use) (ty : Option Ty) →
       m (none_fits types modes t ty how) + m (L.Label (label Next t)) + m (L.Jump (label Next t)) + m (L.Label (label End t)) + operand ≤ part
@@ -159,7 +192,8 @@ module _ (types : List Ty) (modes : (proc position : ℕ) → Mode) (m : Line �
         >> (settle_spare operands (suc t) >> spare_line (act_line types modes t act how ty (types_in operands) (froms operands (suc t)))))
     expr_spare (Read path) how t =
         let h = b.got t (node_at path).number how (if_number types (type_at path)) in
-        spare_most operand _ (omega (arith, h))
+        let e = read_counted path in
+        spare_most operand _ (omega (arith, h, e))
         (aim_spare path t >> (find_spare path t >> spare_line (L.Get t t how (node_at path).number (if_number types (type_at path)))))
     expr_spare (Early node ty And left right) how t =
         let h = b.both t (suc t) (suc t + width left) (label End t) how in
@@ -185,17 +219,19 @@ module _ (types : List Ty) (modes : (proc position : ℕ) → Mode) (m : Line �
     expr_spare (Choose node ty (ByLabels labels) parts) how t =
         let h = none_most t how ty in
         let c = both_counted labels in
-        spare_most operand _ (omega (arith, h, c)) (select_spare labels parts ty how t (suc t) >> spare_line (L.Label (label End t)))
+        spare_most operand _ (omega (arith, h, c))
+        (select_spare labels parts ty how t (suc t + arm_count (ByLabels labels)) >> spare_line (L.Label (label End t)))
 
     -- a path may be looked up twice, and read
-    pub aim_spare : (path : Path) (t : ℕ) → Spare m (2 * find_cost path t + get + operand) (path_counted part of_literal path) (aim_lines types modes path t)
+    pub aim_spare : (path : Path) (t : ℕ) →
+        Spare m (2 * find_cost path t + get + operand) (path_counted part built standing path) (aim_lines types modes path t)
     aim_spare (Variable node ty place global) t = let h = b.root t place global in spare_most _ _ (omega (arith, h)) spare_none
-    aim_spare (Fresh value) t = let h = b.fresh t in spare_most _ _ (omega (arith, h)) (expr_spare value Looked t)
+    aim_spare (Fresh value) t = begun_spare (constant_in value) value t (expr_spare value Looked (suc t))
     aim_spare (Field node ty base field) t = let h = b.field t field in spare_most _ _ (omega (arith, h)) (aim_spare base (suc t))
     aim_spare (Element node ty base index constant) t =
         let h = b.item t (suc t + width_at base) in
         spare_most _ _ (omega (arith, h)) (aim_spare base (suc t) >> expr_spare index Owned (suc t + width_at base))
-    aim_spare (Deref ty base) t = let h = b.object t in spare_most _ _ (omega (arith, h)) (aim_spare base t)
+    aim_spare (Deref ty base) t = let h = b.object t in spare_most _ _ (omega (arith, h)) (aim_spare base (suc t))
 
     pub ready_spare : (args : Args) (uses : ℕ → Use) (i t : ℕ) →
         Spare m (settle_cost args t + reserved operand args) (A args) (ready_lines types modes args uses i t)
@@ -234,13 +270,14 @@ module _ (types : List Ty) (modes : (proc position : ℕ) → Mode) (m : Line �
         >> (all_tests_spare labels rest u (u + width selector)
         >> (spare_line (L.Jump (label Next t)) >> arms_spare (is_covered (type_of selector)) labels rest ty how t (u + width selector))))
     select_spare labels (ByPath path rest) ty how t u =
-        let h = b.looked u in
+        let n = looked_from path u in
+        let h = b.looked u n in
         spare_most 0 _ (omega (arith, h))
-        (aim_spare path u
-        >> (find_spare path u
-        >> (spare_line (L.Look u u)
-        >> (all_tests_spare labels rest u (u + width_at path)
-        >> (spare_line (L.Jump (label Next t)) >> arms_spare (is_covered (type_at path)) labels rest ty how t (u + width_at path))))))
+        (aim_spare path n
+        >> (find_spare path n
+        >> (spare_line (L.Look u n)
+        >> (all_tests_spare labels rest u (n + width_at path)
+        >> (spare_line (L.Jump (label Next t)) >> arms_spare (is_covered (type_at path)) labels rest ty how t (n + width_at path))))))
 
     arms_spare : (covered : Bool) (labels : List (List Label)) (args : Args) (ty : Option Ty) (how : Use) (t u : ℕ) →
         Spare m 0 (all_branches labels + A args + m (none_fits types modes t ty how) + m (L.Label (label Next t)))
@@ -273,7 +310,7 @@ module _ (types : List Ty) (modes : (proc position : ℕ) → Mode) (m : Line �
   look_cost (ByPath path rest) t = find_cost path t
 
   abbrev B : Stmts → ℕ
-  B = block_counted part of_literal
+  B = block_counted part built standing
 
   module _ (result : Option Declared) where
     pub record ExitsSpare (exits : Exits) : Type 0 where
@@ -312,16 +349,24 @@ module _ (types : List Ty) (modes : (proc position : ℕ) → Mode) (m : Line �
     selector_spare NoArg t = spare_most 0 _ (omega arith) (spare_line (L.Zero t))
     selector_spare (ByValue selector rest) t = spare_most 0 _ (omega arith) (expr_spare selector Looked t)
     selector_spare (ByPath path rest) t =
-        let h = b.looked t in
-        spare_most 0 _ (omega (arith, h)) (aim_spare path t >> (find_spare path t >> spare_line (L.Look t t)))
+        let n = looked_from path t in
+        let h = b.looked t n in
+        spare_most 0 _ (omega (arith, h)) (aim_spare path n >> (find_spare path n >> spare_line (L.Look t n)))
 
     test_spare : (args : Args) (t : ℕ) → Spare m 0 (A args + m (L.Zero t)) (test_lines types modes result args t)
     test_spare NoArg t = spare_most 0 _ (omega arith) (spare_line (L.Zero t))
     test_spare (ByValue condition rest) t = spare_most 0 _ (omega arith) (expr_spare condition Owned t)
     test_spare (ByPath path rest) t = spare_most 0 _ (omega arith) (spare_line (L.Zero t))
 
+    -- a loop without a head counts once more
     abbrev H : Args → ℕ
-    H = head_counted part of_literal
+    H NoArg = part
+    H head = A head
+
+    loop_counted : (kind : Kind) (head : Args) → part_counted part built standing (Looping kind (is_headed head)) + A head ≡ part + H head
+    loop_counted kind NoArg = omega arith
+    loop_counted kind (ByValue value rest) = refl
+    loop_counted kind (ByPath path rest) = refl
 
     head_least : (args : Args) → A args ≤ H args
     head_least NoArg = omega arith
@@ -341,7 +386,7 @@ module _ (types : List Ty) (modes : (proc position : ℕ) → Mode) (m : Line �
 
     mutual
       pub stmt_spare : (s : Stmt) (exits : Exits) (t : ℕ) → ExitsSpare exits →
-          Spare m 0 (stmt_counted part of_literal s) (lines_in types modes result s exits t)
+          Spare m 0 (stmt_counted part built standing s) (lines_in types modes result s exits t)
       stmt_spare (Do value) exits t x = spare_most 0 _ (omega arith) (expr_spare value Owned t)
       stmt_spare (Idle node parts) exits t x = spare_most 0 _ (omega arith) spare_none
       stmt_spare (Give node back value) exits t x =
@@ -350,20 +395,24 @@ module _ (types : List Ty) (modes : (proc position : ℕ) → Mode) (m : Line �
           let h = b.given 0 0 in spare_most 0 _ (omega (arith, h)) (leaving_spare exits leaving x)
       stmt_spare (Select node ByConditions tests blocks) exits t x =
           let h = b.selected 0 0 (label End t) in
-          spare_most 0 _ (omega (arith, h)) (branches_spare tests blocks exits t (suc t) x >> spare_line (L.Label (label End t)))
+          let j = in_turn_sum (own_counted part built standing) tests blocks in
+          spare_most 0 _ (omega (arith, h, j)) (branches_spare tests blocks exits t (suc t) x >> spare_line (L.Label (label End t)))
       stmt_spare (Select node (ByLabels labels) tests blocks) exits t x =
           let u = suc t + arm_count (ByLabels labels) in
           let h = b.selected u (label Next t) (label End t) in
           let c = both_counted labels in
-          spare_most 0 _ (omega (arith, h, c))
+          let j = in_turn_sum (own_counted part built standing) tests blocks in
+          spare_most 0 _ (omega (arith, h, c, j))
           (selector_spare tests u
           >> (block_tests_spare labels blocks u (suc t)
           >> (spare_line (L.Jump (label Next t))
-          >> (arm_blocks_spare (is_covered (selector_type tests)) labels blocks exits t (suc t) (u + widths tests) x >> spare_line (L.Label (label End t))))))
+          >> (arm_blocks_spare (is_covered (selector_type tests)) labels blocks exits t (suc t) (behind_selector tests u) x >> spare_line
+          (L.Label (label End t))))))
       stmt_spare (Loop node While head body) exits t x =
           let h = b.while t (suc t) (label Turn t) (label Next t) (label End t) in
           let a = head_least head in
-          spare_most 0 _ (omega (arith, h, a))
+          let l = loop_counted While head in
+          spare_most 0 _ (omega (arith, h, a, l))
           (spare_line (L.Jump (label Next t))
           >> (spare_line (L.Label (label Turn t))
           >> (block_spare body (in_loop exits t) (suc t + widths head) (in_loop_spare exits t x)
@@ -373,7 +422,8 @@ module _ (types : List Ty) (modes : (proc position : ℕ) → Mode) (m : Line �
           let last = second head (suc t) in
           let h = b.count (suc t) last place.number (label Turn t) (label Next t) (label End t) inclusive in
           let a = head_least head in
-          spare_most 0 _ (omega (arith, h, a))
+          let l = loop_counted (Count place inclusive) head in
+          spare_most 0 _ (omega (arith, h, a, l))
           (ready_spare head (λ i. Owned) 0 (suc t)
           >> (spare_line (L.Beyond (suc t) last inclusive (label End t))
           >> (spare_line L.Enter
@@ -385,7 +435,8 @@ module _ (types : List Ty) (modes : (proc position : ℕ) → Mode) (m : Line �
       stmt_spare (Loop node (Each place) head body) exits t x =
           let at = suc t + 2 in
           let h = b.elements t (suc t) (suc (suc t)) at place.number (label Turn t) (label Next t) (label Arm t) (label End t) in
-          spare_most 0 _ (omega (arith, h))
+          let l = loop_counted (Each place) head in
+          spare_most 0 _ (omega (arith, h, l))
           (head_spare head at
           >> (look_up_spare head at
           >> (spare_line (L.Length (suc (suc t)) at)
@@ -420,7 +471,7 @@ module _ (types : List Ty) (modes : (proc position : ℕ) → Mode) (m : Line �
       block_spare (Defer node last rest) exits t x = spare_most 0 _ (omega arith) spare_none
 
       branches_spare : (tests : Args) (blocks : Blocks) (exits : Exits) (t u : ℕ) → ExitsSpare exits →
-          Spare m 0 (A tests + blocks_counted part of_literal blocks) (branch_lines types modes result tests blocks exits t u)
+          Spare m 0 (A tests + blocks_counted part built standing blocks) (branch_lines types modes result tests blocks exits t u)
       branches_spare NoArg (Otherwise block) exits t u x = spare_most 0 _ (omega arith) (block_spare block exits u x)
       branches_spare NoArg (Block first rest) exits t u x = spare_most 0 _ (omega arith) (block_spare first exits u x)
       branches_spare (ByPath path tests) (Otherwise block) exits t u x = spare_most 0 _ (omega arith) spare_none
@@ -436,7 +487,7 @@ module _ (types : List Ty) (modes : (proc position : ℕ) → Mode) (m : Line �
           >> (spare_line (L.Label (label Arm u)) >> branches_spare tests rest exits t (u + width condition + width_of first) x)))))
 
       arm_blocks_spare : (covered : Bool) (labels : List (List Label)) (blocks : Blocks) (exits : Exits) (t arm u : ℕ) → ExitsSpare exits →
-          Spare m 0 (all_branches labels + blocks_counted part of_literal blocks + m (L.Label (label Next t)))
+          Spare m 0 (all_branches labels + blocks_counted part built standing blocks + m (L.Label (label Next t)))
           (arm_blocks types modes result covered labels blocks exits t arm u)
       arm_blocks_spare covered labels (Otherwise block) exits t arm u x =
           spare_most 0 _ (omega arith) (spare_line (L.Label (label Next t)) >> block_spare block exits u x)
@@ -447,6 +498,6 @@ module _ (types : List Ty) (modes : (proc position : ℕ) → Mode) (m : Line �
           spare_most 0 _ (omega (arith, i))
           (arm_spare (covered && is_last_block rest) (label Next t) (label Arm arm)
           >> (block_spare first exits u x
-          >> spare_if {r = 0} {a = m (L.Jump (label End t)) + (all_branches labels + blocks_counted part of_literal rest + m (L.Label (label Next t)))}
+          >> spare_if {r = 0} {a = m (L.Jump (label End t)) + (all_branches labels + blocks_counted part built standing rest + m (L.Label (label Next t)))}
           (covered && is_last_block rest) (spare_most 0 _ (omega arith) spare_none)
           (spare_most 0 _ (omega arith) (spare_line (L.Jump (label End t)) >> arm_blocks_spare covered labels rest exits t (suc arm) (u + width_of first) x))))

@@ -147,11 +147,3 @@ owns_behind_value {whole} {ys} {t} {hi} p apart_kind is owns = record {
   values = λ n low high. owns.values n (omega (arith, low)) high ∙ other_number is_value p ys t n is low;
   locations = λ n low high. owns.locations n low high ∙ named_past is_location p ys n apart_kind;
 }
-
--- behind a location of the first number
-pub owns_behind_location : {whole ys : List FlatPlace} {v t hi : ℕ} (p : FlatPlace) → is_value p.kind ≡ false → p.number ≡ t →
-    Owns whole (p ∷ ys) v t hi → Owns whole ys v (suc t) hi
-owns_behind_location {whole} {ys} {v} {t} {hi} p apart_kind is owns = record {
-  values = λ n low high. owns.values n low high ∙ named_past is_value p ys n apart_kind;
-  locations = λ n low high. owns.locations n (omega (arith, low)) high ∙ other_number is_location p ys t n is low;
-}

@@ -6,7 +6,7 @@ use Rattle.arc_base.specs.BigStep.{Meter, Res, then_do}
 use Rattle.nim_program.specs.Program.{Label, Ordinals, Exactly}
 use Rattle.nim_meaning.specs.Values.{Value, number_of}
 use Rattle.nim_meaning.specs.State.{State}
-use Rattle.nim_meaning.specs.Acts.{Flow, Does, branch, worked}
+use Rattle.nim_meaning.specs.Acts.{Outcome, Does, branch, worked}
 use Rattle.nim_meaning.specs.Meaning.{fits_label, picked}
 use Rattle.flat_code.specs.declared.line.Line.{Line}
 use Rattle.flat_code.specs.declared.line.Line.TheVariants as L
@@ -19,7 +19,7 @@ use Rattle.flattening.proofs.PutsExprs.{puts_labels}
 use Rattle.flattening.proofs.Spots.{Spot, there, scene, goes, leaps}
 
 -- what is done behind a choice is done behind each of its ends
-branch_then : {A B : Type 0} (b : Bool) (holds fails : Does A) (go : Flow A → State → Res State (Flow B)) (s : State) →
+branch_then : {A B : Type 0} (b : Bool) (holds fails : Does A) (go : Outcome A → State → Res State (Outcome B)) (s : State) →
     then_do (branch {A = Does A} b holds fails s) go ≡ branch {A = Does B} b (λ s. then_do (holds s) go) (λ s. then_do (fails s) go) s
 branch_then true holds fails go s = refl
 branch_then false holds fails go s = refl
@@ -29,7 +29,7 @@ branch_same : {A : Type 0} (b : Bool) (holds fails fails' : Does A) (s : State) 
 branch_same true holds fails fails' s e = refl
 branch_same false holds fails fails' s e = e
 
-pub picked_then : {A B : Type 0} (labels : List Label) (x : Value) (holds fails : Does A) (go : Flow A → State → Res State (Flow B)) (s : State) →
+pub picked_then : {A B : Type 0} (labels : List Label) (x : Value) (holds fails : Does A) (go : Outcome A → State → Res State (Outcome B)) (s : State) →
     then_do (picked labels x holds fails s) go ≡ picked labels x (λ s. then_do (holds s) go) (λ s. then_do (fails s) go) s
 picked_then [] x holds fails go s = refl
 picked_then (label ∷ labels) x holds fails go s =
@@ -46,7 +46,7 @@ abbrev pub at_meter : State → Meter Event → State
 at_meter s meter = record s { meter = meter }
 
 -- a label is tried
-module _ (c : Spot) {A : Type 0} {Good : Flow A → State → M → Type 0} {q : ℕ} {temps : Temps} {x : Value} (t arm : ℕ) {target : List Line} where
+module _ (c : Spot) {A : Type 0} {Good : Outcome A → State → M → Type 0} {q : ℕ} {temps : Temps} {x : Value} (t arm : ℕ) {target : List Line} where
   tried : {k : List Line} (low high : ℤ) (b : Bool) (holds fails : Does A) (s : State) → temps.values t ≡ Some x → fits_label (Ordinals low high) x ≡ b →
       found arm k ≡ Some target → Runs c.fixed Good 12 q (there c target temps s.world) s.meter (holds s) →
       Runs c.fixed Good 12 q (there c k temps s.world) s.meter (fails s) →

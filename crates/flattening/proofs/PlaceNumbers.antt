@@ -1,5 +1,5 @@
 -- The temporaries of a part have its numbers.
-use Rattle.std.proofs.Common.{◌≡◌, ℕ, suc, ◌+◌, ◌<◌, ◌≤◌, Bool, true, false, List, Option, Some, None, refl, arith}
+use Rattle.std.proofs.Common.{◌≡◌, ℕ, suc, ◌+◌, ◌<◌, ◌≤◌, Bool, true, false, List, [], Option, Some, None, refl, arith}
 use Rattle.std.specs.Prelude.{if◌then◌else◌}
 use Rattle.nim_types.specs.Types.{Ty}
 use Rattle.nim_program.specs.declared.expr.Node.{Node}
@@ -7,15 +7,16 @@ use Rattle.nim_program.specs.Program.{Chooser, ByConditions, ByLabels, Expr, App
 use Rattle.nim_program.specs.Program.{Path, Variable, Fresh, Field, Element, Deref, Args, NoArg, ByValue, ByPath, type_at, node_at}
 use Rattle.nim_program.specs.Program.{Kind, While, Count, Each as OfEach, Stmt, Do, Idle, Give, Leave, Select, Loop, Raise, Try}
 use Rattle.nim_program.specs.Program.{Stmts, Empty, Then, Declare, Defer, Blocks, Otherwise, Block}
-use Rattle.nim_program.specs.Scopes.{is_written}
+use Rattle.nim_program.specs.Program.{Literal, Label, is_written, constant_in}
+use Rattle.nim_program.specs.Folds.{if_constant, begun_by, looked_type}
 use Rattle.flat_code.specs.declared.place.PlaceKind.{PlaceKind}
 use Rattle.flat_code.specs.declared.place.PlaceKind.TheVariants as K
 use Rattle.flat_code.specs.Fits.{is_declared}
-use Rattle.flattening.specs.Numbering.{width, width_at, widths, arm_count, width_in, width_of, width_of_blocks}
+use Rattle.flattening.specs.Numbering.{own_width, width, width_at, widths, arm_count, looked_count, selector_from, behind_selector, width_in, width_of}
 use Rattle.flattening.specs.Places.{kind_of_path, head_from, temporary, read_place, location, selector_place, expr_places, path_places, operand_places}
 use Rattle.flattening.specs.Places.{loop_places, value_places, behind_value, stmt_places, block_places, branch_places, arm_places}
 use Rattle.flattening.proofs.Numbered.{Numbered, numbered_none, numbered_one, ◌>>◌, numbered_wide}
-use Rattle.flattening.proofs.Widths.{same_width, some_width_at}
+use Rattle.flattening.proofs.Widths.{same_width, some_width_at, width_of_blocks, turn_width}
 
 module _ (types : List Ty) where
   pub temporary_number : {lo hi : ℕ} (node : Node) (ty : Option Ty) (kind : PlaceKind) (t : ℕ) → is_declared kind ≡ false → lo ≤ t → t < hi →
@@ -24,19 +25,31 @@ module _ (types : List Ty) where
   temporary_number node (Some ty) kind t e low high = numbered_one _ e low high
 
   pub read_number : {lo hi : ℕ} (path : Path) (t : ℕ) → lo ≤ t → t < hi → Numbered lo hi (read_place types path t)
-  read_number (Variable node ty place global) t low high = numbered_one _ refl low high
-  read_number (Fresh value) t low high = numbered_none
-  read_number (Field node ty base field) t low high = numbered_one _ refl low high
-  read_number (Element node ty base index constant) t low high = numbered_one _ refl low high
-  read_number (Deref ty base) t low high = numbered_none
+  read_number path t low high = temporary_number (node_at path) (type_at path) K.Temp t refl low high
 
-  pub selector_number : {lo hi : ℕ} (chooser : Chooser) (parts : Args) (t : ℕ) → lo ≤ t → t + widths parts ≤ hi →
-      Numbered lo hi (selector_place types chooser parts t)
-  selector_number ByConditions parts t low high = numbered_none
-  selector_number (ByLabels labels) NoArg t low high = numbered_none
-  selector_number (ByLabels labels) (ByValue value rest) t low high = numbered_none
-  selector_number (ByLabels labels) (ByPath path rest) t low high =
-      let w = some_width_at path in let e = same_width path in read_number path t low (omega (arith, w, e, high))
+  looked_number : {lo hi : ℕ} (node : Node) (ty : Option Ty) (s : ℕ) → lo ≤ s → s + looked_count ty ≤ hi → Numbered lo hi (temporary types node ty K.Temp s)
+  looked_number node None s low high = numbered_none
+  looked_number node (Some ty) s low high = numbered_one _ refl low (omega (arith, high))
+
+  -- the value of a selector that is read in place, before its path
+  pub selector_number : {lo hi : ℕ} (parts : Args) (s : ℕ) → lo ≤ s → selector_from parts s ≤ hi → Numbered lo hi (selector_place types parts s)
+  selector_number NoArg s low high = numbered_none
+  selector_number (ByValue value rest) s low high = numbered_none
+  selector_number (ByPath path rest) s low high = looked_number (node_at path) (type_at path) s low high
+
+  -- where the parts of a choice by labels begin
+  pub selector_begins : (labels : List (List Label)) (parts : Args) (s : ℕ) →
+      selector_from parts s ≡ s + looked_count (looked_type (ByLabels labels) parts)
+  selector_begins labels NoArg s = omega arith
+  selector_begins labels (ByValue value rest) s = omega arith
+  selector_begins labels (ByPath path rest) s = refl
+
+  -- of what a path begins with, behind its location
+  begun_number : (constant : Option Literal) (value : Expr) (t : ℕ) → Numbered (suc t) (suc t + width value) (expr_places types value (suc t)) →
+      Numbered t (t + if_constant constant (own_width (begun_by constant true value)) (own_width (begun_by constant true value) + width value))
+      (if_constant constant [] (expr_places types value (suc t)))
+  begun_number None value t numbers = numbered_wide (omega arith) (omega arith) numbers
+  begun_number (Some literal) value t numbers = numbered_none
 
   -- no location of a path is a declared place
   by_written : (b : Bool) → is_declared (if b then K.Location else K.Within) ≡ false
@@ -57,15 +70,20 @@ module _ (types : List Ty) where
         temporary_number node (Some ty) K.Temp t refl (omega arith) (omega arith)
         >> (numbered_wide (omega arith) (omega arith) (expr_numbers left (suc t))
         >> numbered_wide (omega arith) (omega arith) (expr_numbers right (suc t + width left)))
-    expr_numbers (Choose node ty chooser parts) t =
+    expr_numbers (Choose node ty ByConditions parts) t =
+        temporary_number node ty K.Temp t refl (omega arith) (omega arith) >> numbered_wide (omega arith) (omega arith) (operand_numbers parts (suc t))
+    expr_numbers (Choose node ty (ByLabels labels) parts) t =
+        let s = suc t + arm_count (ByLabels labels) in
+        let e = selector_begins labels parts s in
         temporary_number node ty K.Temp t refl (omega arith) (omega arith)
-        >> (selector_number chooser parts (suc t) (omega arith) (omega arith)
-        >> numbered_wide (omega arith) (omega arith) (operand_numbers parts (suc t)))
+        >> (selector_number parts s (omega arith) (omega (arith, e)) >> numbered_wide (omega (arith, e)) (omega (arith, e))
+        (operand_numbers parts (selector_from parts s)))
 
     pub path_numbers : (path : Path) (t : ℕ) → Numbered t (t + width_at path) (path_places types path t)
     path_numbers (Variable node ty place global) t = location_number (Variable node ty place global) t (omega arith) (omega arith)
     path_numbers (Fresh value) t =
-        let w = some_width_at (Fresh value) in location_number (Fresh value) t (omega arith) (omega (arith, w)) >> expr_numbers value t
+        let w = some_width_at (Fresh value) in
+        location_number (Fresh value) t (omega arith) (omega (arith, w)) >> begun_number (constant_in value) value t (expr_numbers value (suc t))
     path_numbers (Field node ty base field) t =
         let w = same_width base in
         location_number (Field node ty base field) t (omega arith) (omega arith) >> numbered_wide (omega arith) (omega (arith, w)) (path_numbers base (suc t))
@@ -74,7 +92,9 @@ module _ (types : List Ty) where
         location_number (Element node ty base index constant) t (omega arith) (omega arith)
         >> (numbered_wide (omega arith) (omega (arith, w)) (path_numbers base (suc t))
         >> numbered_wide (omega arith) (omega (arith, w)) (expr_numbers index (suc t + width_at base)))
-    path_numbers (Deref ty base) t = path_numbers base t
+    path_numbers (Deref ty base) t =
+        let w = same_width base in
+        location_number (Deref ty base) t (omega arith) (omega arith) >> numbered_wide (omega arith) (omega (arith, w)) (path_numbers base (suc t))
 
     pub operand_numbers : (args : Args) (t : ℕ) → Numbered t (t + widths args) (operand_places types args t)
     operand_numbers NoArg t = numbered_none
@@ -122,11 +142,15 @@ module _ (types : List Ty) where
     stmt_numbers (Idle node parts) t = numbered_none
     stmt_numbers (Give node back value) t = numbered_wide (omega arith) (omega arith) (expr_numbers value (suc t))
     stmt_numbers (Leave node leaving parts) t = numbered_none
-    stmt_numbers (Select node ByConditions tests blocks) t = numbered_wide (omega arith) (omega arith) (branch_numbers tests blocks (suc t))
+    stmt_numbers (Select node ByConditions tests blocks) t =
+        let w = turn_width tests blocks in numbered_wide (omega arith) (omega (arith, w)) (branch_numbers tests blocks (suc t))
     stmt_numbers (Select node (ByLabels labels) tests blocks) t =
-        selector_number (ByLabels labels) tests (suc t + arm_count (ByLabels labels)) (omega arith) (omega arith)
-        >> (numbered_wide (omega arith) (omega arith) (operand_numbers tests (suc t + arm_count (ByLabels labels)))
-        >> numbered_wide (omega arith) (omega arith) (arm_numbers blocks (suc t + arm_count (ByLabels labels) + widths tests)))
+        let s = suc t + arm_count (ByLabels labels) in
+        let e = selector_begins labels tests s in
+        let w = turn_width tests blocks in
+        selector_number tests s (omega arith) (omega (arith, e, w))
+        >> (numbered_wide (omega (arith, e)) (omega (arith, e, w)) (operand_numbers tests (selector_from tests s))
+        >> numbered_wide (omega (arith, e)) (omega (arith, e, w)) (arm_numbers blocks (behind_selector tests s)))
     stmt_numbers (Loop node kind head body) t =
         let h = head_after kind t in
         let e = head_width node kind head body t in

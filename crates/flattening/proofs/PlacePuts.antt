@@ -18,14 +18,14 @@ use Rattle.nim_program.specs.declared.operation.Short.{Short}
 use Rattle.nim_program.specs.View.{expr_of, if_type, if_value, operand_before, operands_of, stmt_before}
 use Rattle.flat_code.specs.declared.place.PlaceKind.TheVariants as K
 use Rattle.flat_code.specs.declared.place.FlatPlace.{FlatPlace}
-use Rattle.flattening.specs.Numbering.{width, width_at, widths, width_in, width_of, arm_count}
+use Rattle.flattening.specs.Numbering.{width, width_at, widths, width_in, width_of, arm_count, selector_from, behind_selector}
 use Rattle.flattening.specs.Places.{temporary, selector_place, location, expr_places, path_places, operand_places, block_places, branch_places, arm_places}
 use Rattle.flattening.specs.Places.{stmt_places}
 use Rattle.flattening.specs.Views.{behind, is_defer}
-use Rattle.flattening.specs.PlaceViews.{in_front, first_places, read_in_place, places_of_first, declared_in, declared_first}
+use Rattle.flattening.specs.PlaceViews.{in_front, first_places, fresh_places, places_of_first, declared_in, declared_first}
 use Rattle.flattening.specs.Written.{IsPut}
 use Rattle.flattening.proofs.Writing.{puts_two, puts_as, finished}
-use Rattle.flattening.proofs.StmtPuts.{first_of}
+use Rattle.flattening.proofs.StmtPuts.{first_of, behind_is}
 
 module _ {X : Type 0} where
   pub joined : {a b c : Option (List X)} (xs ys : List X) → IsPut a b (in_front xs) → IsPut b c (in_front ys) → IsPut a c (in_front (xs ++ ys))
@@ -89,20 +89,35 @@ module _ (types : List Ty) where
   operands_list ts (A.Value value) rest t u e = ap (λ y. expr_places types (expr_of ts value) t ++ operand_places types rest y) (sym e)
   operands_list ts (A.At path) rest t u e = ap (λ y. first_places types (operand_before ts (A.At path) NoArg) t ++ operand_places types rest y) (sym e)
 
-  selectors : (ts : List Ty) (labels : List (List Label)) (x : RustOperand) (rest : Args) (t : ℕ) →
-      selector_place types (ByLabels labels) (operand_before ts x rest) t ≡ read_in_place types (operand_before ts x NoArg) t
-  selectors ts labels (A.Value value) rest t = refl
-  selectors ts labels (A.At path) rest t = refl
+  selectors : (ts : List Ty) (x : RustOperand) (rest : Args) (s : ℕ) →
+      selector_place types (operand_before ts x rest) s ≡ selector_place types (operand_before ts x NoArg) s
+  selectors ts (A.Value value) rest s = refl
+  selectors ts (A.At path) rest s = refl
 
-  pub selected_list : (ts : List Ty) (node : Node) (ty : Option Ty) (labels : List (List Label)) (x : RustOperand) (rest : Args) (t u v : ℕ) → u ≡ suc t →
-      v ≡ behind (operand_before ts x NoArg) u →
+  selectors_begin : (ts : List Ty) (x : RustOperand) (rest : Args) (s : ℕ) →
+      selector_from (operand_before ts x rest) s ≡ selector_from (operand_before ts x NoArg) s
+  selectors_begin ts (A.Value value) rest s = refl
+  selectors_begin ts (A.At path) rest s = refl
+
+  -- behind a selector, whose part has numbers from one on
+  selector_end : (ts : List Ty) (x : RustOperand) (s from v : ℕ) → from ≡ selector_from (operand_before ts x NoArg) s →
+      v ≡ behind_selector (operand_before ts x NoArg) s → v ≡ from + widths (operand_before ts x NoArg)
+  selector_end ts x s from v e f = f ∙ ap (λ y. y + widths (operand_before ts x NoArg)) (sym e)
+
+  pub selected_list : (ts : List Ty) (node : Node) (ty : Option Ty) (labels : List (List Label)) (x : RustOperand) (rest : Args) (n t u s from v : ℕ) →
+      u ≡ suc t → s ≡ u + n → n ≡ arm_count (ByLabels labels) → from ≡ selector_from (operand_before ts x NoArg) s →
+      v ≡ behind_selector (operand_before ts x NoArg) s →
       expr_places types (Choose node ty (ByLabels labels) (operand_before ts x rest)) t
       ≡ temporary types node ty K.Temp t
-      ++ (read_in_place types (operand_before ts x NoArg) u ++ (first_places types (operand_before ts x NoArg) u ++ operand_places types rest v))
-  selected_list ts node ty labels x rest t u v e f =
+      ++ (selector_place types (operand_before ts x NoArg) s ++ (first_places types (operand_before ts x NoArg) from ++ operand_places types rest v))
+  selected_list ts node ty labels x rest n t u s from v e f g h i =
       let own = temporary types node ty K.Temp t in
-      ap (λ y. own ++ (selector_place types (ByLabels labels) (operand_before ts x rest) y ++ operand_places types (operand_before ts x rest) y)) (sym e)
-      ∙ ap₂ (λ p q. own ++ (p ++ q)) (selectors ts labels x rest u) (operands_list ts x rest u v f)
+      let parts = operand_before ts x rest in
+      let begin = selector_place types (operand_before ts x NoArg) s in
+      let k : s ≡ suc t + arm_count (ByLabels labels) = f ∙ ap₂ (λ a b. a + b) e g in
+      ap (λ y. own ++ (selector_place types parts y ++ operand_places types parts (selector_from parts y))) (sym k)
+      ∙ ap₂ (λ p y. own ++ (p ++ operand_places types parts y)) (selectors ts x rest s) (selectors_begin ts x rest s ∙ sym h)
+      ∙ ap (λ q. own ++ (begin ++ q)) (operands_list ts x rest from v (selector_end ts x s from v h i ∙ sym (behind_is ts x from)))
 
   -- the last value
   pub last_list : (value : Expr) (t : ℕ) → operand_places types (ByValue value NoArg) t ≡ expr_places types value t
@@ -131,6 +146,14 @@ module _ (types : List Ty) where
   element_list node ty base index constant t u v e f =
       sym (ap₂ (λ x y. location types (Element node ty base index constant) t ++ (path_places types base x ++ expr_places types index y)) e
       (f ∙ ap (λ x. x + width_at base) e))
+
+  pub deref_list : (ty : Ty) (base : Path) (t u : ℕ) → u ≡ suc t →
+      path_places types (Deref ty base) t ≡ location types (Deref ty base) t ++ path_places types base u
+  deref_list ty base t u e = ap (λ x. location types (Deref ty base) t ++ path_places types base x) (sym e)
+
+  pub fresh_list : (value : Expr) (t u : ℕ) → u ≡ suc t →
+      path_places types (Fresh value) t ≡ location types (Fresh value) t ++ fresh_places types value u
+  fresh_list value t u e = ap (λ x. location types (Fresh value) t ++ fresh_places types value x) (sym e)
 
   -- ---- statements
 
@@ -190,16 +213,17 @@ module _ (types : List Ty) where
   alone_list ts (A.Value value) t = append-nil _
   alone_list ts (A.At path) t = append-nil _
 
-  pub cases_list : (ts : List Ty) (node : Node) (labels : List (List Label)) (x : RustOperand) (blocks : Blocks) (n t u s v : ℕ) → u ≡ suc t → s ≡ u + n →
-      n ≡ arm_count (ByLabels labels) → v ≡ s + widths (operand_before ts x NoArg) →
+  pub cases_list : (ts : List Ty) (node : Node) (labels : List (List Label)) (x : RustOperand) (blocks : Blocks) (n t u s from v : ℕ) → u ≡ suc t →
+      s ≡ u + n → n ≡ arm_count (ByLabels labels) → from ≡ selector_from (operand_before ts x NoArg) s →
+      v ≡ behind_selector (operand_before ts x NoArg) s →
       places_of_first types (Then (Select node (ByLabels labels) (operand_before ts x NoArg) blocks) Empty) t
-      ≡ read_in_place types (operand_before ts x NoArg) s ++ (first_places types (operand_before ts x NoArg) s ++ arm_places types blocks v)
-  cases_list ts node labels x blocks n t u s v e f g h =
+      ≡ selector_place types (operand_before ts x NoArg) s ++ (first_places types (operand_before ts x NoArg) from ++ arm_places types blocks v)
+  cases_list ts node labels x blocks n t u s from v e f g h i =
       let tests = operand_before ts x NoArg in
-      let all = λ (y z : ℕ). selector_place types (ByLabels labels) tests y ++ (operand_places types tests y ++ arm_places types blocks z) in
+      let all = λ (y a z : ℕ). selector_place types tests y ++ (operand_places types tests a ++ arm_places types blocks z) in
       let k : s ≡ suc t + arm_count (ByLabels labels) = f ∙ ap₂ (λ a b. a + b) e g in
-      sym (ap (λ y. all y (y + widths tests)) k) ∙ ap (λ z. all s z) (sym h)
-      ∙ ap₂ (λ p q. p ++ (q ++ arm_places types blocks v)) (selectors ts labels x NoArg s) (alone_list ts x s)
+      sym (ap (λ y. all y (selector_from tests y) (behind_selector tests y)) k) ∙ ap₂ (λ a z. all s a z) (sym h) (sym i)
+      ∙ ap (λ q. selector_place types tests s ++ (q ++ arm_places types blocks v)) (alone_list ts x from)
 
   pub branches_list : (condition : Expr) (body : Stmts) (tests : Args) (rest : Blocks) (t u v : ℕ) → u ≡ t + width condition → v ≡ u + width_of body →
       branch_places types (ByValue condition tests) (Block body rest) t

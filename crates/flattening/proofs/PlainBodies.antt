@@ -12,7 +12,7 @@ use Rattle.nim_program.specs.Program.{Declared, While, Count, Each, Stmt, Do, Id
 use Rattle.nim_program.specs.Program.{Stmts, Empty, Then, Declare, Defer, Blocks, Otherwise, Block, Param}
 use Rattle.nim_program.specs.Sizes.{type_bytes, own_bytes, is_global, params_sum, if_place_bytes}
 use Rattle.nim_program.specs.Typed.{param_declared}
-use Rattle.nim_meaning.proofs.ForCallers.{sum_of_blocks, in_turn_sum}
+use Rattle.nim_program.proofs.ForCallers.{sum_of_blocks, in_turn_sum}
 use Rattle.flat_code.specs.declared.line.Line.{Line}
 use Rattle.flat_code.specs.declared.place.FlatPlace.{FlatPlace}
 use Rattle.flat_code.specs.declared.place.PlaceKind.{PlaceKind}
@@ -21,7 +21,7 @@ use Rattle.flat_code.specs.Sizes.{kind_bytes, places_bytes}
 use Rattle.flattening.specs.PlaceViews.{kind_declared, declared_by, declared_in, declared_in_blocks}
 use Rattle.flattening.specs.Places.{of_declared, param_places, result_places}
 use Rattle.flattening.specs.Numbering.{type_number}
-use Rattle.flattening.specs.PlainCode.{ArePlainPlaces, is_param, params_among, no_params, params_lead}
+use Rattle.flattening.specs.PlainCode.{ArePlainPlaces, is_param, params_among, no_params, params_lead, is_handed, handed_among, none_handed, handed_lead}
 use Rattle.flattening.proofs.FitBodies as bodies
 use Rattle.flattening.proofs.Parts.{Each as EachOf}
 use Rattle.flattening.proofs.Simple.{IsFine, IsSimpleStmt, AreSimpleStmts, AreSimpleBlocks}
@@ -178,3 +178,51 @@ module _ (types : List Ty) (facts : Facts) (globals : List Declared) where
       params_among (param_places types params ++ ps) ≡ param_places types params
   params_are [] ps h = among_none ps h
   params_are (p ∷ params) ps h = ap (λ qs. of_declared types (K.Param p.mode) p.place ∷ qs) (params_are params ps h)
+
+  -- ---- which a call hands on and back
+
+  pub others_apart : (ps : List FlatPlace) → bodies.Others ps → none_handed ps ≡ true
+  others_apart [] h = refl
+  others_apart (p ∷ ps) h = and_from _ _ (other p.kind h.0) (others_apart ps h.1)
+    where
+      other : (kind : PlaceKind) → bodies.is_other kind ≡ true → not (is_handed kind) ≡ true
+      other (K.Param mode) e = absurd (both_ways false refl e)
+      other K.Result e = absurd (both_ways false refl e)
+      other K.Local e = refl
+      other K.Cursor e = refl
+      other K.ForVar e = refl
+      other K.Caught e = refl
+      other K.Global e = refl
+      other K.Temp e = refl
+      other K.Location e = refl
+      other K.Within e = refl
+      other K.Counter e = refl
+
+  none_lead : (ps : List FlatPlace) → none_handed ps ≡ true → handed_lead ps ≡ true
+  none_lead [] h = refl
+  none_lead (p ∷ ps) h = at (is_handed p.kind) h
+    where
+      at : (b : Bool) → not b && none_handed ps ≡ true → (if b then handed_lead ps else none_handed ps) ≡ true
+      at true e = absurd (both_ways false refl e)
+      at false e = e
+
+  none_among : (ps : List FlatPlace) → none_handed ps ≡ true → handed_among ps ≡ []
+  none_among [] h = refl
+  none_among (p ∷ ps) h = at (is_handed p.kind) h (λ e. none_among ps e)
+    where
+      at : (b : Bool) → not b && none_handed ps ≡ true → (none_handed ps ≡ true → handed_among ps ≡ []) →
+          (if b then p ∷ handed_among ps else handed_among ps) ≡ []
+      at true e rest = absurd (both_ways false refl e)
+      at false e rest = rest e
+
+  pub handed_first : (params : List Param) (result : Option Declared) (ps : List FlatPlace) → none_handed ps ≡ true →
+      handed_lead (param_places types params ++ (result_places types result ++ ps)) ≡ true
+  handed_first [] None ps h = none_lead ps h
+  handed_first [] (Some d) ps h = none_lead ps h
+  handed_first (p ∷ params) result ps h = handed_first params result ps h
+
+  pub handed_are : (params : List Param) (result : Option Declared) (ps : List FlatPlace) → none_handed ps ≡ true →
+      handed_among (param_places types params ++ (result_places types result ++ ps)) ≡ param_places types params ++ result_places types result
+  handed_are [] None ps h = none_among ps h
+  handed_are [] (Some d) ps h = ap (λ qs. of_declared types K.Result d ∷ qs) (none_among ps h)
+  handed_are (p ∷ params) result ps h = ap (λ qs. of_declared types (K.Param p.mode) p.place ∷ qs) (handed_are params result ps h)

@@ -41,7 +41,7 @@ use Rattle.flattening.proofs.GlobalSizes.{IsAmong, block_told}
 use Rattle.flattening.proofs.Parts.{Each, apart}
 use Rattle.flattening.proofs.Plain.{kept, neither, none_earlier}
 use Rattle.flattening.proofs.PlaceNumbers.{block_numbers}
-use Rattle.flattening.proofs.PlainBodies.{block_small, params_small, result_small, others_none, result_none, params_first, params_are}
+use Rattle.flattening.proofs.PlainBodies.{block_small, params_small, result_small, others_none, result_none, params_first, params_are, others_apart, handed_first, handed_are}
 use Rattle.flattening.proofs.Simple.{IsFine, AreSimpleStmts}
 
 -- ---- declared places are within those of the call
@@ -193,6 +193,9 @@ module _ (program : Program) (plan : Plan) where
       let b2 = bytes_both types facts declared temps in
       let b3 : places_bytes (known_of program) declared ≡ places_bytes (known_of program) _ = ap (places_bytes (known_of program)) e in
       let b4 = ap (places_bytes (known_of program)) are in
+      let apart_others = others_apart types facts program.globals (declared ++ temps) (bodies.others types facts program.globals params body) in
+      let handed_over = handed_are types facts program.globals params body.result (declared ++ temps) apart_others in
+      let b6 = bytes_both types facts (param_places types params) (result_places types body.result) in
       let p1 = ps.1 in
       let r1 = rs.1 in
       let d1 = small.1 in
@@ -206,6 +209,8 @@ module _ (program : Program) (plan : Plan) where
         lead = params_first types facts program.globals params (result_places types body.result ++ (declared ++ temps)) others;
         globals = λ n. no_globals_of params body numbered (same n);
         params_bytes = omega (arith, b4, p1, sum);
+        handed = handed_first types facts program.globals params body.result (declared ++ temps) apart_others;
+        handed_bytes = (let b5 = ap (places_bytes (known_of program)) handed_over in omega (arith, b5, b6, p1, r1, sum));
         bytes = omega (arith, b0, b1, b2, b3, p1, r1, d1, t1, sum);
       }
     where
@@ -262,7 +267,7 @@ module _ (program : Program) (plan : Plan) where
         left_out_in_proc facts params body ≡ None → sum_if program params body ≤ most →
         IsPlainProc (known_of program) most start (flat_proc program plan hook params body)
     proc_plain start hook params gives None h n p sum =
-        record { places = tt; lines = tt; lead = refl; globals = λ e. refl; params_bytes = omega arith; bytes = omega arith }
+        record { places = tt; lines = tt; lead = refl; globals = λ e. refl; params_bytes = omega arith; handed = refl; handed_bytes = omega arith; bytes = omega arith }
     proc_plain start hook params gives (Some body) h n p sum =
         let q = and_parts (are_among_types types (body_types params body) && _) _ h in
         let r = and_parts (are_among_types types (body_types params body)) _ q.0 in

@@ -13,7 +13,7 @@ use Rattle.nim_program.specs.Program.{Body, Program}
 use Rattle.nim_program.specs.Sizes.{body_sum}
 use Rattle.nim_meaning.specs.Values.{nothing}
 use Rattle.nim_meaning.specs.State.{World, State, Frame, live, world_of}
-use Rattle.nim_meaning.specs.Acts.{Broke, Continued, Returned, Raised, Flow, On, Out, worked}
+use Rattle.nim_meaning.specs.Acts.{Broke, Continued, Returned, Raised, Outcome, On, Out, worked}
 use Rattle.nim_meaning.specs.Meaning.{frame_of, at_first, reported, goes_through, meaning}
 use Rattle.flat_code.specs.declared.line.Line.{Line}
 use Rattle.flat_code.specs.declared.line.Line.TheVariants as L
@@ -39,7 +39,7 @@ ahead_is : (n k : ℕ) → ahead n k ≡ n + k
 ahead_is zero k = omega arith
 ahead_is (suc n) k = let e = ahead_is n k in omega (arith, e)
 
-back_at : (c : Spot) (old : World) (flow : Flow (Unit {0})) (b : State) (m : M) → Back c old flow b m → ReturnsAt c old b.world m
+back_at : (c : Spot) (old : World) (flow : Outcome (Unit {0})) (b : State) (m : M) → Back c old flow b m → ReturnsAt c old b.world m
 back_at c old (On done) b m g = g
 back_at c old (Out (Broke by)) b m g = g
 back_at c old (Out (Continued by)) b m g = g
@@ -75,7 +75,7 @@ module _ (program : Program) (plan : Plan) (formed : IsFormed program) (heap : �
 
   -- ---- the start code comes to its end
 
-  abbrev Ends : Flow (Unit {0}) → State → M → Type 0
+  abbrev Ends : Outcome (Unit {0}) → State → M → Type 0
   Ends flow b m = Stops x 1 m b.meter (Ended 0 (live b.world)) b.meter
 
   ends : (old : World) (b : State) (m : M) → ReturnsAt c old b.world m → Stops x 1 m b.meter (Ended 0 (live b.world)) b.meter
@@ -102,7 +102,7 @@ module _ (program : Program) (plan : Plan) (formed : IsFormed program) (heap : �
 
   -- ---- what is seen by so many units
 
-  abbrev status : Flow (Unit {0}) → ℕ
+  abbrev status : Outcome (Unit {0}) → ℕ
   status flow = 0
 
   record Shown (n : ℕ) : Type 0 where
@@ -111,7 +111,7 @@ module _ (program : Program) (plan : Plan) (formed : IsFormed program) (heap : �
     paid : work ≤ 12 * ((high n).work + 1)
     by : (k w : ℕ) → by_units x (ahead lines k) (flat_start program plan heap input) n [] w ≡ seen (high n).events (high n).phase (w + work)
 
-  shown_of : (n : ℕ) (r : Res State (Flow (Unit {0}))) → ((seen_of (λ (s : State). s.meter) status (λ s. live s.world) r).phase ≢ Wrong) →
+  shown_of : (n : ℕ) (r : Res State (Outcome (Unit {0}))) → ((seen_of (λ (s : State). s.meter) status (λ s. live s.world) r).phase ≢ Wrong) →
       Shows x Ends 12 12 (flat_start program plan heap input) (begun n) r →
       (lines : ℕ) × (work : ℕ) × (work ≤ 12 * ((seen_of (λ (s : State). s.meter) status (λ s. live s.world) r).work + 1)) × ((k w : ℕ) →
       by_units x (ahead lines k) (flat_start program plan heap input) n [] w ≡

@@ -8,31 +8,20 @@ use Rattle.nim_program.specs.declared.operation.Use.TheVariants.{Owned, Looked}
 use Rattle.nim_program.specs.declared.program.Mode.{Mode}
 use Rattle.nim_program.specs.Program.{Label, Ordinals, Exactly, Act, Doing, Building, Giving, Calling, ByConditions, ByLabels}
 use Rattle.nim_program.specs.Program.{Expr, Apply, Read, Early, Choose, Path, Variable, Fresh, Field, Element, Deref, Args, NoArg, ByValue, ByPath}
-use Rattle.nim_program.specs.Program.{type_of, type_at, types_in}
+use Rattle.nim_program.specs.Program.{type_of, type_at, types_in, Literal, constant_in}
 use Rattle.nim_program.specs.Uses.{use_of}
+use Rattle.nim_program.specs.Folds.{if_constant}
 use Rattle.nim_meaning.specs.Shapes.{is_covered, is_last_value}
 use Rattle.flat_code.specs.declared.line.From.{From}
 use Rattle.flat_code.specs.Whole.{label_in}
 use Rattle.flattening.specs.declared.numbers.Purpose.TheVariants.{End, Next, Arm}
-use Rattle.flattening.specs.Numbering.{width, width_at, widths, label}
+use Rattle.flattening.specs.Numbering.{width, width_at, widths, label, arm_count, looked_from, behind_selector}
 use Rattle.flattening.specs.ExprLines.{find_lines, settle_lines, label_tests, value_tests, arm_label, act_line, early_lines}
-use Rattle.flattening.specs.ExprLines.{lines, aim_lines, ready_lines, choice_lines, select_lines, arm_lines}
+use Rattle.flattening.specs.ExprLines.{lines, aim_lines, ready_lines, choice_lines, select_lines, arm_lines, begin_line}
 use Rattle.flattening.proofs.Puts.{Puts, puts_none, puts_line, puts_label, ◌>>◌, puts_wide, puts_if}
-use Rattle.flattening.proofs.Widths.{same_width, some_width}
+use Rattle.flattening.proofs.Widths.{same_width, some_width, selector_width, fresh_width}
 
 -- ---- lines without labels
-
-pub puts_find : {lo hi : ℕ} (path : Path) (t : ℕ) → Puts lo hi (find_lines path t)
-puts_find (Variable node ty place global) t = puts_line _ refl
-puts_find (Fresh value) t = puts_line _ refl
-puts_find (Field node ty base field) t = puts_find base (suc t) >> puts_line _ refl
-puts_find (Element node ty base index constant) t = puts_find base (suc t) >> puts_line _ refl
-puts_find (Deref ty base) t = puts_find base t >> puts_line _ refl
-
-pub puts_settle : {lo hi : ℕ} (args : Args) (t : ℕ) → Puts lo hi (settle_lines args t)
-puts_settle NoArg t = puts_none
-puts_settle (ByValue value rest) t = puts_settle rest (t + width value)
-puts_settle (ByPath path rest) t = puts_find path t >> puts_settle rest (t + width_at path)
 
 pub puts_labels : {lo hi : ℕ} (labels : List Label) (s arm : ℕ) → Puts lo hi (label_tests labels s arm)
 puts_labels [] s arm = puts_none
@@ -50,6 +39,22 @@ puts_arm true other arm lo hi low high = puts_label other lo hi >> puts_label ar
 puts_arm false other arm lo hi low high = puts_label arm low high
 
 module _ (types : List Ty) (modes : (proc position : ℕ) → Mode) where
+  plain_begin : (constant : Option Literal) (ty : Option Ty) (t : ℕ) → label_in (begin_line types constant ty t) ≡ None
+  plain_begin None ty t = refl
+  plain_begin (Some literal) ty t = refl
+
+  pub puts_find : {lo hi : ℕ} (path : Path) (t : ℕ) → Puts lo hi (find_lines types path t)
+  puts_find (Variable node ty place global) t = puts_line _ refl
+  puts_find (Fresh value) t = puts_line _ (plain_begin (constant_in value) (type_of value) t)
+  puts_find (Field node ty base field) t = puts_find base (suc t) >> puts_line _ refl
+  puts_find (Element node ty base index constant) t = puts_find base (suc t) >> puts_line _ refl
+  puts_find (Deref ty base) t = puts_find base (suc t) >> puts_line _ refl
+
+  pub puts_settle : {lo hi : ℕ} (args : Args) (t : ℕ) → Puts lo hi (settle_lines types args t)
+  puts_settle NoArg t = puts_none
+  puts_settle (ByValue value rest) t = puts_settle rest (t + width value)
+  puts_settle (ByPath path rest) t = puts_find path t >> puts_settle rest (t + width_at path)
+
   pub plain_act : (t : ℕ) (act : Act) (how : Use) (ty : Option Ty) (of : List (Option Ty)) (from : List From) → label_in
       (act_line types modes t act how ty of from) ≡ None
   plain_act t (Doing operation) how ty of from = refl
@@ -62,6 +67,11 @@ module _ (types : List Ty) (modes : (proc position : ℕ) → Mode) where
   puts_early : {lo hi : ℕ} (short : Short) (t s : ℕ) → lo ≤ 4 * t + 2 → 4 * t + 2 < hi → Puts lo hi (early_lines types modes short t s)
   puts_early And t s lo hi = puts_line _ refl >> puts_line _ refl
   puts_early Or t s lo hi = puts_line _ refl >> (puts_line _ refl >> (puts_line _ refl >> puts_label (label Next t) lo hi))
+
+  puts_begin : (constant : Option Literal) (value : Expr) (t : ℕ) → Puts (4 * suc t + 1) (4 * (suc t + width value)) (lines types modes value Looked (suc t)) →
+      Puts (4 * t + 1) (4 * (t + fresh_width constant value)) (λ k. if_constant constant k (lines types modes value Looked (suc t) k))
+  puts_begin None value t h = puts_wide (omega arith) (omega arith) h
+  puts_begin (Some literal) value t h = puts_none
 
   mutual
     pub puts_expr : (e : Expr) (how : Use) (t : ℕ) → Puts (4 * t + 1) (4 * (t + width e)) (lines types modes e how t)
@@ -77,18 +87,19 @@ module _ (types : List Ty) (modes : (proc position : ℕ) → Mode) where
     puts_expr (Choose node ty ByConditions parts) how t =
         puts_wide (omega arith) (omega arith) (puts_choice parts ty how t (suc t)) >> puts_label (label End t) (omega arith) (omega arith)
     puts_expr (Choose node ty (ByLabels labels) parts) how t =
-        puts_wide (omega arith) (omega arith) (puts_select labels parts ty how t (suc t) (omega arith)) >> puts_label (label End t) (omega arith)
-        (omega arith)
+        let w = selector_width labels parts t in
+        puts_wide (omega arith) (omega (arith, w)) (puts_select labels parts ty how t (suc t + arm_count (ByLabels labels)) (omega arith))
+        >> puts_label (label End t) (omega arith) (omega arith)
 
     pub puts_aim : (path : Path) (t : ℕ) → Puts (4 * t + 1) (4 * (t + width_at path)) (aim_lines types modes path t)
     puts_aim (Variable node ty place global) t = puts_none
-    puts_aim (Fresh value) t = puts_expr value Looked t
+    puts_aim (Fresh value) t = puts_begin (constant_in value) value t (puts_expr value Looked (suc t))
     puts_aim (Field node ty base field) t = let w = same_width base in puts_wide (omega arith) (omega (arith, w)) (puts_aim base (suc t))
     puts_aim (Element node ty base index constant) t =
         let w = same_width base in
         puts_wide (omega arith) (omega (arith, w)) (puts_aim base (suc t))
         >> puts_wide (omega arith) (omega (arith, w)) (puts_expr index Owned (suc t + width_at base))
-    puts_aim (Deref ty base) t = puts_aim base t
+    puts_aim (Deref ty base) t = let w = same_width base in puts_wide (omega arith) (omega (arith, w)) (puts_aim base (suc t))
 
     pub puts_ready : (args : Args) (uses : ℕ → Use) (i t : ℕ) → Puts (4 * t + 1) (4 * (t + widths args)) (ready_lines types modes args uses i t)
     puts_ready NoArg uses i t = puts_none
@@ -117,7 +128,7 @@ module _ (types : List Ty) (modes : (proc position : ℕ) → Mode) where
         >> puts_wide (omega arith) (omega arith) (puts_choice rest ty how t (u + width condition + width value)))))))
 
     puts_select : (labels : List (List Label)) (parts : Args) (ty : Option Ty) (how : Use) (t u : ℕ) → t < u →
-        Puts (4 * t + 1) (4 * (u + widths parts)) (select_lines types modes labels parts ty how t u)
+        Puts (4 * t + 1) (4 * behind_selector parts u) (select_lines types modes labels parts ty how t u)
     puts_select labels NoArg ty how t u less = puts_line _ refl
     puts_select labels (ByValue selector rest) ty how t u less =
         puts_wide (omega (arith, less)) (omega arith) (puts_expr selector Looked u)
@@ -126,12 +137,13 @@ module _ (types : List Ty) (modes : (proc position : ℕ) → Mode) where
         >> puts_wide (omega arith) (omega arith) (puts_arms (is_covered (type_of selector)) labels rest ty how t (u + width selector) (omega (arith, less)))))
     puts_select labels (ByPath path rest) ty how t u less =
         let w = same_width path in
-        puts_wide (omega (arith, less)) (omega (arith, w)) (puts_aim path u)
-        >> (puts_find path u
+        let n = looked_from path u in
+        puts_wide (omega (arith, less)) (omega (arith, w)) (puts_aim path n)
+        >> (puts_find path n
         >> (puts_line _ refl
-        >> (puts_tests labels rest u (u + width_at path)
+        >> (puts_tests labels rest u (n + width_at path)
         >> (puts_line _ refl
-        >> puts_wide (omega arith) (omega (arith, w)) (puts_arms (is_covered (type_at path)) labels rest ty how t (u + width_at path)
+        >> puts_wide (omega arith) (omega (arith, w)) (puts_arms (is_covered (type_at path)) labels rest ty how t (n + width_at path)
         (omega (arith, less)))))))
 
     pub puts_arms : (covered : Bool) (labels : List (List Label)) (values : Args) (ty : Option Ty) (how : Use) (t u : ℕ) → t < u →

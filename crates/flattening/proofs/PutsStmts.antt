@@ -10,12 +10,12 @@ use Rattle.nim_program.specs.Program.{While, Count, Each, Stmt, Do, Idle, Give, 
 use Rattle.nim_program.specs.Program.{Stmts, Empty, Then, Declare, Defer, Blocks, Otherwise, Block}
 use Rattle.nim_meaning.specs.Shapes.{is_covered, selector_type, is_last_block}
 use Rattle.flattening.specs.declared.numbers.Purpose.TheVariants.{End, Next, Arm, Turn}
-use Rattle.flattening.specs.Numbering.{width, widths, arm_count, width_in, width_of, width_of_blocks, label}
+use Rattle.flattening.specs.Numbering.{width, widths, arm_count, width_in, width_of, label, looked_from, behind_selector}
 use Rattle.flattening.specs.StmtLines.{Exits, leaving_by, in_loop, back_lines, result_line, block_tests, selector_lines, test_lines, look_up}
 use Rattle.flattening.specs.StmtLines.{lines_in, lines_of, branch_lines, arm_blocks}
 use Rattle.flattening.proofs.Puts.{Puts, puts_none, puts_line, puts_label, ◌>>◌, puts_wide, puts_if}
 use Rattle.flattening.proofs.PutsExprs.{puts_expr, puts_aim, puts_ready, puts_find, puts_labels, puts_arm}
-use Rattle.flattening.proofs.Widths.{same_width, some_width}
+use Rattle.flattening.proofs.Widths.{same_width, some_width, width_of_blocks, turn_width, selector_width}
 
 -- ways out have no labels
 pub record PutsExits (exits : Exits) : Type 0 where
@@ -45,12 +45,13 @@ puts_block_tests [] (Block first rest) s arm = puts_none
 puts_block_tests (these ∷ labels) (Block first rest) s arm = puts_labels these s (label Arm arm) >> puts_block_tests labels rest s (suc arm)
 
 module _ (types : List Ty) (modes : (proc position : ℕ) → Mode) (result : Option Declared) where
-  pub puts_selector : (args : Args) (t : ℕ) → Puts (4 * t + 1) (4 * (t + widths args)) (selector_lines types modes result args t)
+  pub puts_selector : (args : Args) (t : ℕ) → Puts (4 * t + 1) (4 * behind_selector args t) (selector_lines types modes result args t)
   puts_selector NoArg t = puts_line _ refl
   puts_selector (ByValue selector rest) t = puts_wide (omega arith) (omega arith) (puts_expr types modes selector Looked t)
   puts_selector (ByPath path rest) t =
       let w = same_width path in
-      puts_wide (omega arith) (omega (arith, w)) (puts_aim types modes path t) >> (puts_find path t >> puts_line _ refl)
+      let u = looked_from path t in
+      puts_wide (omega arith) (omega (arith, w)) (puts_aim types modes path u) >> (puts_find types modes path u >> puts_line _ refl)
 
   pub puts_test : (args : Args) (t : ℕ) → Puts (4 * t + 1) (4 * (t + widths args)) (test_lines types modes result args t)
   puts_test NoArg t = puts_line _ refl
@@ -60,7 +61,7 @@ module _ (types : List Ty) (modes : (proc position : ℕ) → Mode) (result : Op
   pub puts_look_up : {lo hi : ℕ} (args : Args) (t : ℕ) → Puts lo hi (look_up types modes result args t)
   puts_look_up NoArg t = puts_none
   puts_look_up (ByValue value rest) t = puts_none
-  puts_look_up (ByPath path rest) t = puts_find path t
+  puts_look_up (ByPath path rest) t = puts_find types modes path t
 
   mutual
     pub puts_stmt : (stmt : Stmt) (exits : Exits) (t : ℕ) → PutsExits exits → Puts (4 * t) (4 * (t + width_in stmt))
@@ -71,14 +72,18 @@ module _ (types : List Ty) (modes : (proc position : ℕ) → Mode) (result : Op
         puts_wide (omega arith) (omega arith) (puts_expr types modes value Given (suc t)) >> (puts_result result (suc t) >> puts_back exits h back)
     puts_stmt (Leave node leaving parts) exits t h = puts_leaving exits h leaving
     puts_stmt (Select node ByConditions tests blocks) exits t h =
-        puts_wide (omega arith) (omega arith) (puts_branches tests blocks exits t (suc t) h) >> puts_label (label End t) (omega arith) (omega arith)
+        let w = turn_width tests blocks in
+        puts_wide (omega arith) (omega (arith, w)) (puts_branches tests blocks exits t (suc t) h) >> puts_label (label End t) (omega arith) (omega arith)
     puts_stmt (Select node (ByLabels labels) tests blocks) exits t h =
         let n = arm_count (ByLabels labels) in
-        puts_wide (omega arith) (omega arith) (puts_selector tests (suc t + n))
+        let w = selector_width labels tests t in
+        let turns = turn_width tests blocks in
+        puts_wide (omega arith) (omega (arith, w, turns)) (puts_selector tests (suc t + n))
         >> (puts_block_tests labels blocks (suc t + n) (suc t)
         >> (puts_line _ refl
-        >> (puts_wide (omega arith) (omega arith)
-        (puts_arm_blocks (is_covered (selector_type tests)) labels blocks exits t (suc t) (suc t + n + widths tests) (omega arith) (omega arith) h)
+        >> (puts_wide (omega arith) (omega (arith, w, turns))
+        (puts_arm_blocks (is_covered (selector_type tests)) labels blocks exits t (suc t) (behind_selector tests (suc t + n)) (omega arith)
+        (omega (arith, w)) h)
         >> puts_label (label End t) (omega arith) (omega arith))))
     puts_stmt (Loop node While head body) exits t h =
         puts_line _ refl

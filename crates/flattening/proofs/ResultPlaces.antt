@@ -7,14 +7,13 @@ use Rattle.nim_types.specs.Table.{type_at}
 use Rattle.nim_types.proofs.ForCallers.{same_sound, same_refl}
 use Rattle.nim_program.specs.declared.expr.Node.{Node}
 use Rattle.nim_program.specs.Program.{Expr, Apply, Read, Early, Choose, Path, Variable, Fresh, Field, Element, Deref, Args, NoArg, ByValue, ByPath}
-use Rattle.nim_program.specs.Program.{Chooser, ByConditions, ByLabels, Declared, Kind, While, Count, Each, node_at, type_at as path_type}
+use Rattle.nim_program.specs.Program.{ByConditions, ByLabels, Declared, Kind, While, Count, Each, node_at, type_at as path_type}
 use Rattle.nim_program.specs.Program.{Stmt, Do, Idle, Give, Leave, Select, Loop, Raise, Try, Param, Body}
 use Rattle.nim_program.specs.Program.{Stmts, Empty, Then, Declare, Defer, Blocks, Otherwise, Block, Handlers, NoHandler, Handler}
-use Rattle.nim_program.specs.Folds.{lists, total_of}
-use Rattle.nim_program.specs.Scopes.{is_written}
+use Rattle.nim_program.specs.Program.{Literal, is_written, constant_in}
+use Rattle.nim_program.specs.Folds.{if_constant, lists, total_of}
 use Rattle.nim_program.specs.Sizes.{is_global}
 use Rattle.nim_meaning.specs.Values.{Slot, Holds, default_of}
-use Rattle.nim_meaning.specs.Shapes.{has_node}
 use Rattle.nim_meaning.specs.Meaning.{result_slots}
 use Rattle.flat_code.specs.declared.place.PlaceKind.{PlaceKind}
 use Rattle.flat_code.specs.declared.place.PlaceKind.TheVariants as K
@@ -72,21 +71,20 @@ module _ (known : Known) (types : List Ty) where
   value_skips : (node : Node) (ty : Option Ty) (t : ℕ) → Skips known (temporary types node ty K.Temp t)
   value_skips node ty t = temporary_skips node ty K.Temp t (λ slots rest. refl)
 
-  read_by : (b : Bool) (node : Node) (ty : Option Ty) (t : ℕ) → Skips known (if b then temporary types node ty K.Temp t else [])
-  read_by true node ty t = value_skips node ty t
-  read_by false node ty t = none known
-
   read_skips : (path : Path) (t : ℕ) → Skips known (read_place types path t)
-  read_skips path t = read_by (has_node path) (node_at path) (path_type path) t
+  read_skips path t = value_skips (node_at path) (path_type path) t
 
-  selector_skips : (chooser : Chooser) (parts : Args) (t : ℕ) → Skips known (selector_place types chooser parts t)
-  selector_skips ByConditions parts t = none known
-  selector_skips (ByLabels labels) NoArg t = none known
-  selector_skips (ByLabels labels) (ByValue value rest) t = none known
-  selector_skips (ByLabels labels) (ByPath path rest) t = read_skips path t
+  selector_skips : (parts : Args) (s : ℕ) → Skips known (selector_place types parts s)
+  selector_skips NoArg s = none known
+  selector_skips (ByValue value rest) s = none known
+  selector_skips (ByPath path rest) s = read_skips path s
 
   location_skips : (path : Path) (t : ℕ) → Skips known (temporary types (node_at path) (path_type path) (kind_of_path path) t)
   location_skips path t = temporary_skips (node_at path) (path_type path) (kind_of_path path) t (path_kind (is_written path))
+
+  begun_skips : (constant : Option Literal) (places : List FlatPlace) → Skips known places → Skips known (if_constant constant [] places)
+  begun_skips None places skips = skips
+  begun_skips (Some literal) places skips = none known
 
   mutual
     pub expr_skips : (e : Expr) (t : ℕ) → Skips known (expr_places types e t)
@@ -94,16 +92,17 @@ module _ (known : Known) (types : List Ty) where
     expr_skips (Read path) t = both known _ _ (read_skips path t) (path_skips path t)
     expr_skips (Early node ty short left right) t =
         both known _ _ (value_skips node (Some ty) t) (both known _ _ (expr_skips left _) (expr_skips right _))
-    expr_skips (Choose node ty chooser parts) t =
-        both known _ _ (value_skips node ty t) (both known _ _ (selector_skips chooser parts _) (operands_skip parts _))
+    expr_skips (Choose node ty ByConditions parts) t = both known _ _ (value_skips node ty t) (operands_skip parts _)
+    expr_skips (Choose node ty (ByLabels labels) parts) t =
+        both known _ _ (value_skips node ty t) (both known _ _ (selector_skips parts _) (operands_skip parts _))
 
     pub path_skips : (path : Path) (t : ℕ) → Skips known (path_places types path t)
     path_skips (Variable node ty place global) t = location_skips (Variable node ty place global) t
-    path_skips (Fresh value) t = both known _ _ (location_skips (Fresh value) t) (expr_skips value t)
+    path_skips (Fresh value) t = both known _ _ (location_skips (Fresh value) t) (begun_skips (constant_in value) _ (expr_skips value (suc t)))
     path_skips (Field node ty base field) t = both known _ _ (location_skips (Field node ty base field) t) (path_skips base _)
     path_skips (Element node ty base index constant) t =
         both known _ _ (location_skips (Element node ty base index constant) t) (both known _ _ (path_skips base _) (expr_skips index _))
-    path_skips (Deref ty base) t = path_skips base t
+    path_skips (Deref ty base) t = both known _ _ (location_skips (Deref ty base) t) (path_skips base _)
 
     pub operands_skip : (args : Args) (t : ℕ) → Skips known (operand_places types args t)
     operands_skip NoArg t = none known
@@ -123,7 +122,7 @@ module _ (known : Known) (types : List Ty) where
     stmt_skips (Leave node leaving parts) t = none known
     stmt_skips (Select node ByConditions tests blocks) t = branches_skip tests blocks _
     stmt_skips (Select node (ByLabels labels) tests blocks) t =
-        both known _ _ (selector_skips (ByLabels labels) tests _) (both known _ _ (operands_skip tests _) (arms_skip blocks _))
+        both known _ _ (selector_skips tests _) (both known _ _ (operands_skip tests _) (arms_skip blocks _))
     stmt_skips (Loop node kind head body) t =
         both known _ _ (counters_skip node kind t) (both known _ _ (operands_skip head _) (block_skips body _))
     stmt_skips (Raise node exception message) t = none known

@@ -1,5 +1,5 @@
 -- Code of types of the table without hooks, but for texts that `echo` writes; without dereferences; in which no path begins with a path that is read or
--- with a text, and no loop counts from a text: what is plain and typed.
+-- with a text, nor ends where it begins with a value, and no loop counts from a text: what is plain and typed.
 use Rattle.std.proofs.Common.{◌≡◌, ◌≤◌, ◌⊎◌, Bool, true, false, List, [], ◌∷◌, Option, Some, None, refl}
 use Rattle.std.proofs.lemmas.Bool.{both_ways}
 use Rattle.nim_types.specs.Types.{Ty, Facts}
@@ -9,7 +9,7 @@ use Rattle.nim_program.specs.Program.{Path, Variable, Fresh, Field, Element, Der
 use Rattle.nim_program.specs.Program.{Args, NoArg, ByValue, ByPath, Kind, While, Count, Each, Stmt, Do, Idle, Give, Leave, Select, Loop, Raise, Try}
 use Rattle.nim_program.specs.Program.{Stmts, Empty, Then, Declare, Defer, Blocks, Otherwise, Block, types_in, type_at}
 use Rattle.nim_program.specs.Sizes.{type_bytes}
-use Rattle.nim_program.specs.Typed.{is_fresh, behind_first}
+use Rattle.nim_program.specs.Typed.{is_fresh, is_located, behind_first}
 use Rattle.nim_meaning.specs.Here.{is_hooked}
 use Rattle.nim_meaning.specs.LeftOut.{any_hooked, writes_literals}
 use Rattle.flattening.specs.Formed.{HasSelector, HeadFits}
@@ -74,7 +74,7 @@ module _ (types : List Ty) (facts : Facts) where
 
   -- what a selector at a path has
   abbrev pub SmallFirst : Args → Type 0
-  SmallFirst (ByPath path rest) = IsSmall (type_at path)
+  SmallFirst (ByPath path rest) = (is_located path ≡ true) × IsSmall (type_at path)
   SmallFirst args = Unit {0}
 
   -- what chooses among values, and among blocks
@@ -112,7 +112,7 @@ module _ (types : List Ty) (facts : Facts) where
   abbrev mutual
     pub IsSimple : Expr → Type 0
     IsSimple (Apply node ty act operands) = OfText (act_text act) ty × Reads act (types_in operands) × AreSimple operands
-    IsSimple (Read path) = IsSimplePath path
+    IsSimple (Read path) = (is_located path ≡ true) × IsSimplePath path
     IsSimple (Early node ty short left right) = IsFine ty × IsSimple left × IsSimple right
     IsSimple (Choose node ty chooser parts) = IfFine ty × AreSimple parts × ChoosesBy chooser parts
 

@@ -19,7 +19,8 @@ use Rattle.nim_program.specs.Typed.{own_types, place_types, type_if, act_types, 
 use Rattle.nim_program.specs.Typed.{choice_is_placed, are_placed}
 use Rattle.nim_program.specs.Typed.{is_selector, behind_first, is_one, are_blocks, labels_select, selector_kind}
 use Rattle.nim_program.specs.Typed.{Around, module_code, looping, is_empty, chooses, head_fits, with_places, starts}
-use Rattle.nim_program.specs.Typed.{is_typed_stmt, is_typed_block, are_typed_blocks, is_next, is_typed_code}
+use Rattle.nim_program.specs.Typed.{is_typed_stmt, is_typed_block, are_typed_blocks, is_next, is_typed_code, is_read, is_located}
+use Rattle.nim_program.proofs.ForCallers.{in_fresh}
 use Rattle.nim_meaning.specs.Here.{is_hooked, gives_hooked}
 use Rattle.nim_meaning.specs.LeftOut.{out_if, any_hooked, writes_literals, unless_literal, is_act_built, first_hooked, any_place_hooked}
 use Rattle.nim_meaning.specs.LeftOut.{left_out_in, left_out_in_path, left_out_in_args, left_out_in_stmt, left_out_in_block, left_out_in_blocks}
@@ -192,18 +193,19 @@ module _ (types : List Ty) (facts : Facts) (forms : (ty : Ty) → is_among_types
   selects_by ByConditions tests blocks h = tt
   selects_by (ByLabels labels) tests blocks h =
       let k = selector_kind facts tests in
-      let l = (and_parts (is_selector tests) (labels_select k labels blocks) h).1 in
+      let q = and_parts (is_selector tests) (labels_select k labels blocks) h in
+      let l = q.1 in
       let b = and_parts (is_selected k && are_labels k labels) (are_blocks labels blocks)
       (and_parts ((is_selected k && are_labels k labels) && are_blocks labels blocks) _ l).0 in
       let s = (and_parts (is_selected k) (are_labels k labels) b.0).0 in
-      (one_selector facts tests s, small_selector tests s, labelled labels blocks b.1)
+      (one_selector facts tests s, small_selector tests q.0 s, labelled labels blocks b.1)
     where
-      small_selector : (tests : Args) → is_selected (selector_kind facts tests) ≡ true → SmallFirst types facts tests
-      small_selector NoArg s = tt
-      small_selector (ByValue value rest) s = tt
-      small_selector (ByPath path NoArg) s = small_path (type_at path) s
-      small_selector (ByPath path (ByValue value rest)) s = never s
-      small_selector (ByPath path (ByPath other rest)) s = never s
+      small_selector : (tests : Args) → is_selector tests ≡ true → is_selected (selector_kind facts tests) ≡ true → SmallFirst types facts tests
+      small_selector NoArg i s = tt
+      small_selector (ByValue value rest) i s = tt
+      small_selector (ByPath path NoArg) i s = (i, small_path (type_at path) s)
+      small_selector (ByPath path (ByValue value rest)) i s = never s
+      small_selector (ByPath path (ByPath other rest)) i s = never s
 
   module _ (filled : ℕ) (places : List Placed) (dest : Option ℕ) where
     abbrev here : Here
@@ -215,7 +217,7 @@ module _ (types : List Ty) (facts : Facts) (forms : (ty : Ty) → is_among_types
       unhooked : (e : Expr) → is_typed here e ≡ true → left_out_in facts e ≡ None → gives_hooked facts (type_of e) ≡ false
       unhooked (P.Apply node ty act operands) h p =
           (or_parts (gives_hooked facts ty) (not (is_act_built act facts (types_in operands))) (kept _ node (neither _ _ p).0)).0
-      unhooked (P.Read path) h p = unhooked_path path (and_parts (is_whole facts path) (is_typed_path here path) h).1 p
+      unhooked (P.Read path) h p = unhooked_path path (and_parts (is_read facts path) (is_typed_path here path) h).1 p
       unhooked (P.Early node ty short a b) h p =
           let is : ty ≡ type.bool =
           the_bool facts ty (and_parts (is_bool (kind_if facts (Some ty))) _ (and_parts (early_fits facts ty (type_of a) (type_of b)) _ h).0).0 in
@@ -305,12 +307,14 @@ module _ (types : List Ty) (facts : Facts) (forms : (ty : Ty) → is_among_types
     -- ---- what chooses
 
     small_first : (ty : Option Ty) (labels : List (List P.Label)) (parts : Args) → chooser_fits facts ty (ByLabels labels) (types_in parts) ≡ true →
-        SmallFirst types facts parts
-    small_first ty labels NoArg h = tt
-    small_first ty labels (ByValue value rest) h = tt
-    small_first ty labels (ByPath path rest) h =
-        small_path (type_at path) (and_parts (is_selected (kind_if facts (type_at path))) (are_labels (kind_if facts (type_at path)) labels)
-        (and_parts _ _ h).0).0
+        is_selector parts ≡ true → SmallFirst types facts parts
+    small_first ty labels NoArg h i = tt
+    small_first ty labels (ByValue value rest) h i = tt
+    small_first ty labels (ByPath path rest) h i = (
+      i,
+      small_path (type_at path) (and_parts (is_selected (kind_if facts (type_at path))) (are_labels (kind_if facts (type_at path)) labels)
+          (and_parts _ _ h).0).0,
+    )
 
     behind_labels : (ty : Option Ty) (labels : List (List P.Label)) (parts : Args) → chooser_fits facts ty (ByLabels labels) (types_in parts) ≡ true →
         AllValues (behind_first parts) → LabelsFit labels (behind_first parts)
@@ -322,10 +326,18 @@ module _ (types : List Ty) (facts : Facts) (forms : (ty : Ty) → is_among_types
         choice_is_placed chooser parts ≡ true → ChoosesBy types facts chooser parts
     chooses_by ty ByConditions parts h c = all_values parts c
     chooses_by ty (ByLabels labels) parts h c =
-        let a = all_values (behind_first parts) (and_parts (is_selector parts) (are_placed 0 (behind_first parts)) c).1 in
-        (a, small_first ty labels parts h, behind_labels ty labels parts h a)
+        let q = and_parts (is_selector parts) (are_placed 0 (behind_first parts)) c in
+        let a = all_values (behind_first parts) q.1 in
+        (a, small_first ty labels parts h q.0, behind_labels ty labels parts h a)
 
     -- ---- expressions
+
+    -- the types in a value that a path begins with
+    value_types : (read : Bool) (value : Expr) → Among (total_at lists own_types read (P.Fresh value)) → Among (total lists own_types value)
+    value_types read value l =
+        in_fresh own_types (λ node ty read literal. refl) Among
+        (λ xs ys h. (apart (λ (t : Ty). is_among_types types t ≡ true) xs ys h).1)
+        (λ xs h. both (λ (t : Ty). is_among_types types t ≡ true) xs [] h tt) read value l
 
     mutual
       pub simple : (e : Expr) → is_typed here e ≡ true → left_out_in facts e ≡ None → Among (total lists own_types e) → IsSimple types facts e
@@ -338,7 +350,9 @@ module _ (types : List Ty) (facts : Facts) (forms : (ty : Ty) → is_among_types
             reads act operands t.1 q.1,
             simples (writes_literals act) operands t.1 q.1 k.1,
           )
-      simple (P.Read path) h p l = simple_path true path (and_parts (is_whole facts path) (is_typed_path here path) h).1 p l
+      simple (P.Read path) h p l =
+          let q = and_parts (is_read facts path) (is_typed_path here path) h in
+          ((and_parts (is_located path) (is_whole facts path) q.0).0, simple_path true path q.1 p l)
       simple (P.Early node ty short a b) h p l =
           let t = and_parts (early_fits facts ty (type_of a) (type_of b)) (is_typed here a && is_typed here b) h in
           let u = and_parts (is_typed here a) (is_typed here b) t.1 in
@@ -348,20 +362,17 @@ module _ (types : List Ty) (facts : Facts) (forms : (ty : Ty) → is_among_types
       simple (P.Choose node ty chooser parts) h p l =
           let t = and_parts (chooser_fits facts ty chooser (types_in parts) && choice_is_placed chooser parts) (are_typed here parts) h in
           let q = neither (out_if (gives_hooked facts ty || first_hooked facts (types_in parts)) node) (left_out_in_args facts false parts) p in
-          let k = apart (λ (t : Ty). is_among_types types t ≡ true) (type_if ty) (totals lists own_types parts) l in
+          let k = apart (λ (t : Ty). is_among_types types t ≡ true) (type_if ty ++ []) (totals lists own_types parts) l in
           let c = and_parts (chooser_fits facts ty chooser (types_in parts)) (choice_is_placed chooser parts) t.0 in
-          (fine ty (unhooked (P.Choose node ty chooser parts) h p) (only_among ty k.0), simples false parts t.1 q.1 k.1, chooses_by ty chooser parts c.0 c.1)
-        where
-          only_among : (ty : Option Ty) → Among (type_if ty) → IfAmong types facts ty
-          only_among None h = tt
-          only_among (Some ty) h = h.0
+          (fine ty (unhooked (P.Choose node ty chooser parts) h p) (if_among ty [] k.0), simples false parts t.1 q.1 k.1, chooses_by ty chooser parts c.0 c.1)
 
       pub simple_path : (read : Bool) (path : Path) → is_typed_path here path ≡ true → left_out_in_path facts path ≡ None →
           Among (total_at lists own_types read path) → IsSimplePath types facts path
       simple_path read (P.Variable node ty place global) h p l = (l.0, kept _ node p)
       simple_path read (P.Fresh value) h p l =
           let t = and_parts (is_fresh value && is_there (type_of value)) (is_typed here value) h in
-          ((and_parts (is_fresh value) (is_there (type_of value)) t.0).0, no_literal value t.1 p l, simple value t.1 p l)
+          let k = value_types read value l in
+          ((and_parts (is_fresh value) (is_there (type_of value)) t.0).0, no_literal value t.1 p k, simple value t.1 p k)
       simple_path read (P.Field node ty base field) h p l =
           let t = and_parts (is_of (field_at (kind_if facts (type_at base)) field) (Some ty)) (is_typed_path here base) h in
           let q = neither (out_if (is_hooked facts ty) node) (left_out_in_path facts base) p in
@@ -400,7 +411,7 @@ module _ (types : List Ty) (facts : Facts) (forms : (ty : Ty) → is_among_types
       (of_each rest h.1)
 
   -- a loop's place
-  loop_fine : (kind : Kind) (rest : List Ty) → any_place_hooked facts (loop_places kind) ≡ false → Among (place_types (loop_places kind) ++ rest) →
+  loop_fine : (kind : Kind) (rest : List Ty) → any_place_hooked facts (loop_places kind) ≡ false → Among ((place_types (loop_places kind) ++ []) ++ rest) →
       LoopFine types facts kind × Among rest
   loop_fine While rest h l = (tt, l)
   loop_fine (Count place inclusive) rest h l = ((l.0, (or_parts (is_hooked facts place.of) _ h).0), l.1)

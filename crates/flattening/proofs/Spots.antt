@@ -5,7 +5,7 @@ use Rattle.arc_base.specs.Stepping.{Goes}
 use Rattle.arc_base.specs.BigStep.{Meter, Res, Got, Over, Going, Errs as IsWrong, then_do, spend, with_units, charged}
 use Rattle.nim_program.specs.Program.{Declared, Path, node_at}
 use Rattle.nim_meaning.specs.State.{World, State, live}
-use Rattle.nim_meaning.specs.Acts.{Flow, On, Out, Does, onward, worked, with_trail, branch}
+use Rattle.nim_meaning.specs.Acts.{Outcome, On, Out, Does, onward, worked, with_trail, branch}
 use Rattle.nim_meaning.specs.Here.{Here}
 use Rattle.nim_meaning.specs.Deeds.{Deed, Works, carry, Done, Answers, Finishes, Fails, behind as later_done, perform, give, ◌>>=◌}
 use Rattle.nim_meaning.specs.ActTree.{Does as Done_by}
@@ -70,7 +70,7 @@ pub record At (c : Spot) (k : List Line) (lo hi : ℕ) (temps : Temps) (world : 
   pub since : Since c.level world new
 
 -- at an answer; the part isn't left
-abbrev pub Lands : {A : Type 0} → Spot → List Line → (lo hi : ℕ) → Temps → World → (A → Temps → Type 0) → Flow A → State → M → Type 0
+abbrev pub Lands : {A : Type 0} → Spot → List Line → (lo hi : ℕ) → Temps → World → (A → Temps → Type 0) → Outcome A → State → M → Type 0
 Lands c k lo hi temps world P (On v) b m = At c k lo hi temps world (P v) b.world m
 Lands c k lo hi temps world P (Out way) b m = ⊥
 
@@ -96,28 +96,28 @@ module _ (c : Spot) where
 module _ {c : Spot} where
   -- what comes first isn't left, and then whatever follows, with no more units
   pub past_falling : {A B : Type 0} {k : List Line} {lo hi : ℕ} {temps : Temps} {world : World} {P : A → Temps → Type 0} {Good : B → State → M → Type 0}
-      {have p q q' : ℕ} {m : M} {a : Meter Event} {r : Res State (Flow A)} (go : Flow A → State → Res State B) (p' : ℕ) → p ≤ have → p + p' ≤ have + q →
+      {have p q q' : ℕ} {m : M} {a : Meter Event} {r : Res State (Outcome A)} (go : Outcome A → State → Res State B) (p' : ℕ) → p ≤ have → p + p' ≤ have + q →
       Runs c.fixed (Lands c k lo hi temps world P) p q m a r →
       ((v : A) (b : State) (now : Temps) → b.meter.units ≤ a.units → P v now → Kept lo hi temps now → Since c.level world b.world →
       Runs c.fixed Good p' q' (there c k now b.world) b.meter (go (On v) b)) → Runs c.fixed Good have q' m a (then_do r go)
   past_falling {A} {B} {k} {lo} {hi} {temps} {world} {P} {Good} {have} {p} {q} {q'} {m} {a} {r} go p' less le f next =
       follows_on p' go less le f (λ flow b m1 falls h. on flow b m1 falls h)
     where
-      on : (flow : Flow A) (b : State) (m1 : M) → b.meter.units ≤ a.units → Lands c k lo hi temps world P flow b m1 →
+      on : (flow : Outcome A) (b : State) (m1 : M) → b.meter.units ≤ a.units → Lands c k lo hi temps world P flow b m1 →
           Runs c.fixed Good p' q' m1 b.meter (go flow b)
       on (On v) b m1 falls h = subst (λ m. Runs c.fixed Good p' q' m b.meter (go (On v) b)) (sym h.is) (next v b h.now falls h.has h.kept h.since)
       on (Out way) b m1 falls h = absurd h
 
   pub past : {A B : Type 0} {k : List Line} {lo hi : ℕ} {temps : Temps} {world : World} {P : A → Temps → Type 0} {Good : B → State → M → Type 0}
-      {have p q q' : ℕ} {m : M} {a : Meter Event} {r : Res State (Flow A)} (go : Flow A → State → Res State B) (p' : ℕ) → p ≤ have → p + p' ≤ have + q →
+      {have p q q' : ℕ} {m : M} {a : Meter Event} {r : Res State (Outcome A)} (go : Outcome A → State → Res State B) (p' : ℕ) → p ≤ have → p + p' ≤ have + q →
       Runs c.fixed (Lands c k lo hi temps world P) p q m a r →
       ((v : A) (b : State) (now : Temps) → P v now → Kept lo hi temps now → Since c.level world b.world →
       Runs c.fixed Good p' q' (there c k now b.world) b.meter (go (On v) b)) → Runs c.fixed Good have q' m a (then_do r go)
   past go p' less le f next = past_falling go p' less le f (λ v b now falls has kept since. next v b now has kept since)
 
   -- and then the rest
-  pub after : {A B : Type 0} {k : List Line} {lo hi : ℕ} {temps : Temps} {world : World} {P : A → Temps → Type 0} {Good : Flow B → State → M → Type 0}
-      {have p q q' : ℕ} {m : M} {a : Meter Event} {r : Res State (Flow A)} {go : A → Does B} (p' : ℕ) → p ≤ have → p + p' ≤ have + q →
+  pub after : {A B : Type 0} {k : List Line} {lo hi : ℕ} {temps : Temps} {world : World} {P : A → Temps → Type 0} {Good : Outcome B → State → M → Type 0}
+      {have p q q' : ℕ} {m : M} {a : Meter Event} {r : Res State (Outcome A)} {go : A → Does B} (p' : ℕ) → p ≤ have → p + p' ≤ have + q →
       Runs c.fixed (Lands c k lo hi temps world P) p q m a r →
       ((v : A) (b : State) (now : Temps) → P v now → Kept lo hi temps now → Since c.level world b.world →
       Runs c.fixed Good p' q' (there c k now b.world) b.meter (go v b)) → Runs c.fixed Good have q' m a (then_do r (onward go))
@@ -125,7 +125,7 @@ module _ {c : Spot} where
 
   -- and then something, and the rest behind that
   pub both_falling : {A B C : Type 0} {k : List Line} {lo hi : ℕ} {temps : Temps} {world : World} {P : A → Temps → Type 0} {Good : C → State → M → Type 0}
-      {have p q q' : ℕ} {m : M} {a : Meter Event} {r : Res State (Flow A)} (go : A → Does B) (more : Flow B → State → Res State C) (p' : ℕ) → p ≤ have →
+      {have p q q' : ℕ} {m : M} {a : Meter Event} {r : Res State (Outcome A)} (go : A → Does B) (more : Outcome B → State → Res State C) (p' : ℕ) → p ≤ have →
       p + p' ≤ have + q → Runs c.fixed (Lands c k lo hi temps world P) p q m a r →
       ((v : A) (b : State) (now : Temps) → b.meter.units ≤ a.units → P v now → Kept lo hi temps now → Since c.level world b.world →
       Runs c.fixed Good p' q' (there c k now b.world) b.meter (then_do (go v b) more)) → Runs c.fixed Good have q' m a (then_do (then_do r (onward go)) more)
@@ -134,7 +134,7 @@ module _ {c : Spot} where
       (past_falling (λ flow s. then_do (onward go flow s) more) p' less le f next)
 
   pub after_both : {A B C : Type 0} {k : List Line} {lo hi : ℕ} {temps : Temps} {world : World} {P : A → Temps → Type 0} {Good : C → State → M → Type 0}
-      {have p q q' : ℕ} {m : M} {a : Meter Event} {r : Res State (Flow A)} (go : A → Does B) (more : Flow B → State → Res State C) (p' : ℕ) → p ≤ have →
+      {have p q q' : ℕ} {m : M} {a : Meter Event} {r : Res State (Outcome A)} (go : A → Does B) (more : Outcome B → State → Res State C) (p' : ℕ) → p ≤ have →
       p + p' ≤ have + q → Runs c.fixed (Lands c k lo hi temps world P) p q m a r →
       ((v : A) (b : State) (now : Temps) → P v now → Kept lo hi temps now → Since c.level world b.world →
       Runs c.fixed Good p' q' (there c k now b.world) b.meter (then_do (go v b) more)) → Runs c.fixed Good have q' m a (then_do (then_do r (onward go)) more)
@@ -150,14 +150,14 @@ module _ {c : Spot} where
   -- the same answer, with the machine brought on
   pub brings : {A : Type 0} {k k' : List Line} {lo hi lo' hi' : ℕ} {temps temps' : Temps} {world world' : World} {P P' : A → Temps →
       Type 0} {have p q q' : ℕ} {m : M}
-      {a : Meter Event} {r : Res State (Flow A)} (p' : ℕ) → p ≤ have → p + p' ≤ have + q → Runs c.fixed (Lands c k lo hi temps world P) p q m a r →
+      {a : Meter Event} {r : Res State (Outcome A)} (p' : ℕ) → p ≤ have → p + p' ≤ have + q → Runs c.fixed (Lands c k lo hi temps world P) p q m a r →
       ((v : A) (b : State) (now : Temps) → P v now → Kept lo hi temps now → Since c.level world b.world →
       Runs c.fixed (Lands c k' lo' hi' temps' world' P') p' q' (there c k now b.world) b.meter (Got (On v) b)) →
       Runs c.fixed (Lands c k' lo' hi' temps' world' P') have q' m a r
   brings {A} {k} {k'} {lo} {hi} {lo'} {hi'} {temps} {temps'} {world} {world'} {P} {P'} {have} {p} {q} {q'} {m} {a} {r} p' less le f next =
       subst (λ r. Runs c.fixed (Lands c k' lo' hi' temps' world' P') have q' m a r) (as_it_was r) (after {go = λ v s. Got (On v) s} p' less le f next)
     where
-      as_it_was : (r : Res State (Flow A)) → then_do r (onward (λ v s. Got (On v) s)) ≡ r
+      as_it_was : (r : Res State (Outcome A)) → then_do r (onward (λ v s. Got (On v) s)) ≡ r
       as_it_was (Got (On v) s) = refl
       as_it_was (Got (Out way) s) = refl
       as_it_was (Over status live s) = refl
@@ -166,12 +166,12 @@ module _ {c : Spot} where
 
   -- seen from further out, and from before
   pub further : {A : Type 0} {k : List Line} {lo hi lo' hi' : ℕ} {temps now : Temps} {world mid : World} {P P' : A → Temps → Type 0} {p q : ℕ} {m : M}
-      {a : Meter Event} {r : Res State (Flow A)} → lo ≤ lo' → hi' ≤ hi → Kept lo hi temps now → Since c.level world mid →
+      {a : Meter Event} {r : Res State (Outcome A)} → lo ≤ lo' → hi' ≤ hi → Kept lo hi temps now → Since c.level world mid →
       ((v : A) (last : Temps) → P' v last → Kept lo' hi' now last → P v last) → Runs c.fixed (Lands c k lo' hi' now mid P') p q m a r →
       Runs c.fixed (Lands c k lo hi temps world P) p q m a r
   further {A} {k} {lo} {hi} {lo'} {hi'} {temps} {now} {world} {mid} {P} {P'} {p} {q} {m} {a} {r} low high kept since h f = weaker c f on
     where
-      on : (flow : Flow A) (b : State) (m : M) → Lands c k lo' hi' now mid P' flow b m → Lands c k lo hi temps world P flow b m
+      on : (flow : Outcome A) (b : State) (m : M) → Lands c k lo' hi' now mid P' flow b m → Lands c k lo hi temps world P flow b m
       on (On v) b m g = record {
         now = g.now;
         is = g.is;
@@ -290,7 +290,7 @@ module _ (c : Spot) where
 
 -- ---- points
 
-pub at_point : {x : Fixed} {A : Type 0} {Good : Flow A → State → M → Type 0} {p q : ℕ} {m : M} (act : Does A) (path : Path) (s : State) →
+pub at_point : {x : Fixed} {A : Type 0} {Good : Outcome A → State → M → Type 0} {p q : ℕ} {m : M} (act : Does A) (path : Path) (s : State) →
     ((trail : List Point) → Runs x Good p q m s.meter (act (with_trail trail s))) → Runs x Good p q m s.meter (at_path path act s)
 at_point {x} {A} {Good} {p} {q} {m} act path s h = on (has_node path)
   where

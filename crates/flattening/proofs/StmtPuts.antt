@@ -2,7 +2,7 @@
 use Rattle.arc_base.specs.declared.bytes.Memory.{Memory}
 use Rattle.std.proofs.Common.{◌≡◌, ℕ, suc, ◌+◌, ◌<◌, List, [], ◌∷◌, length, Bool, true, false, Option, Some, None, Result, Ok, Err, IfOk, refl, sym, ap, subst}
 use Rattle.std.proofs.Common.{◌∙◌, arith}
-use Rattle.std.specs.Prelude.{◌&&◌, if◌then◌else◌}
+use Rattle.std.specs.Prelude.{◌&&◌, if◌then◌else◌, IfSome}
 use Rattle.nim_types.specs.Types.{Ty}
 use Rattle.nim_program.specs.declared.expr.Node.{Node}
 use Rattle.nim_program.specs.declared.expr.Operand.{Operand as RustOperand}
@@ -17,17 +17,18 @@ use Rattle.nim_program.specs.Program as T
 use Rattle.nim_program.specs.Program.{Label, Declared, ByConditions, ByLabels, Expr, Args, NoArg, ByValue, Stmt, Give, Select, Loop, While, Count, Each}
 use Rattle.nim_program.specs.Program.{Stmts, Empty, Then, Declare, Blocks, Block}
 use Rattle.nim_program.specs.View.{expr_of, path_of, declared_of, if_type, if_value, operand_before, operands_of, stmt_before, stmts_of, branch_labels}
-use Rattle.nim_program.specs.Folds.{numbers, total_at}
+use Rattle.nim_program.specs.Folds.{numbers, looked_type, total_at}
 use Rattle.nim_meaning.specs.Shapes.{is_covered, selector_type, is_empty, is_last_block}
 use Rattle.flat_code.specs.declared.line.Line.{Line}
 use Rattle.flat_code.specs.declared.line.Line.TheVariants as L
 use Rattle.flattening.specs.declared.numbers.Purpose.TheVariants.{End, Next, Arm, Turn}
-use Rattle.flattening.specs.Numbering.{one, type_number, width, widths, width_in, width_of, label}
+use Rattle.flattening.specs.Numbering.{own_width, type_number, width, widths, width_in, width_of, looked_count, selector_from, behind_selector, label}
 use Rattle.flattening.specs.ExprLines.{lines, ready_lines, arm_label, label_tests}
 use Rattle.flattening.specs.StmtLines.{Exits, outermost, returned, second, result_line, back_lines, selector_lines, test_lines, lines_in, lines_of}
 use Rattle.flattening.specs.StmtLines.{branch_lines, block_tests, arm_blocks}
 use Rattle.flattening.specs.Views.{behind, is_defer, exits_of, loop_lines, turn_lines, before_turns, element_lines}
 use Rattle.flattening.specs.Written.{IsPut}
+use Rattle.flattening.proofs.PlaceNumbers.{selector_begins}
 use Rattle.flattening.proofs.Widths.{same_width}
 use Rattle.flattening.proofs.Writing.{puts_as, finished}
 
@@ -43,7 +44,18 @@ plus_none n = omega arith
 
 pub behind_is : (ts : List Ty) (x : RustOperand) (t : ℕ) → behind (operand_before ts x NoArg) t ≡ t + widths (operand_before ts x NoArg)
 behind_is ts (A.Value value) t = ap (λ n. t + n) (plus_none (width (expr_of ts value)))
-behind_is ts (A.At path) t = ap (λ n. t + n) (sym (same_width (path_of ts path)) ∙ plus_none (total_at numbers one false (path_of ts path)))
+behind_is ts (A.At path) t = ap (λ n. t + n) (sym (same_width (path_of ts path)) ∙ plus_none (total_at numbers own_width false (path_of ts path)))
+
+pub selector_at : (ts : List Ty) (x : RustOperand) (s w : ℕ) (r : Option ℕ) →
+    w ≡ looked_count (looked_type (ByLabels []) (operand_before ts x NoArg)) → IfSome r (λ u. u ≡ s + w) →
+    IfSome r (λ u. u ≡ selector_from (operand_before ts x NoArg) s)
+selector_at ts x s w None e h = tt
+selector_at ts x s w (Some u) e h = h ∙ ap (λ n. s + n) e ∙ sym (selector_begins ts [] (operand_before ts x NoArg) s)
+
+pub selector_spans : (ts : List Ty) (x : RustOperand) (s from : ℕ) (r : Option ℕ) → from ≡ selector_from (operand_before ts x NoArg) s →
+    IfSome r (λ u. u ≡ behind (operand_before ts x NoArg) from) → IfSome r (λ u. u ≡ behind_selector (operand_before ts x NoArg) s)
+selector_spans ts x s from None e h = tt
+selector_spans ts x s from (Some u) e h = h ∙ behind_is ts x from ∙ ap (λ y. y + widths (operand_before ts x NoArg)) e
 
 pub label_count : (branches : List CaseBranch) → length (branch_labels branches) ≡ length branches
 label_count [] = refl
@@ -177,7 +189,7 @@ module _ (types : List Ty) (modes : (proc position : ℕ) → Mode) (result : Op
         (L.Jump (label Next t) ∷ arm_blocks types modes result covered labels blocks exits t u v (L.Label (label End t) ∷ k)))
 
     pub selected_put : (ts : List Ty) (node : Node) (branches : List CaseBranch) (selector : RustOperand) (blocks : Blocks) (t u s v : ℕ)
-        (covered : Bool) {a b : Option (List Line)} → u ≡ suc t → s ≡ u + length branches → v ≡ behind (operand_before ts selector NoArg) s →
+        (covered : Bool) {a b : Option (List Line)} → u ≡ suc t → s ≡ u + length branches → v ≡ behind_selector (operand_before ts selector NoArg) s →
         covered ≡ is_covered (selector_type (operand_before ts selector NoArg)) →
         IsPut a b (selected (operand_before ts selector NoArg) covered (branch_labels branches) blocks t u s v) →
         IsPut a b (block (Then (Select node (ByLabels (branch_labels branches)) (operand_before ts selector NoArg) blocks) Empty) t)
@@ -186,12 +198,11 @@ module _ (types : List Ty) (modes : (proc position : ℕ) → Mode) (result : Op
         let labels = branch_labels branches in
         let all = selected first in
         let f' : s ≡ u + length labels = f ∙ ap (λ n. u + n) (sym (label_count branches)) in
-        let g' : v ≡ s + widths first = g ∙ behind_is ts selector s in
         puts_as _ _ put (λ k.
         ap (λ c. all c labels blocks t u s v k) h
-        ∙ ap (λ x. all (is_covered (selector_type first)) labels blocks t u s x k) g'
-        ∙ ap (λ x. all (is_covered (selector_type first)) labels blocks t u x (x + widths first) k) f'
-        ∙ ap (λ x. all (is_covered (selector_type first)) labels blocks t x (x + length labels) (x + length labels + widths first) k) e)
+        ∙ ap (λ x. all (is_covered (selector_type first)) labels blocks t u s x k) g
+        ∙ ap (λ x. all (is_covered (selector_type first)) labels blocks t u x (behind_selector first x) k) f'
+        ∙ ap (λ x. all (is_covered (selector_type first)) labels blocks t x (x + length labels) (behind_selector first (x + length labels)) k) e)
 
   -- ---- loops
 

@@ -80,8 +80,9 @@ module _ (c : Spot) (top : Bool) (room : ℕ → Type 0) (names : (proc place : 
 
   pub does_nothing : (node : Node) (parts : Args) → StmtFollows (Idle node parts)
   does_nothing node parts inside Open f exits around t k r l temps s h =
-      pays 0 1 (omega arith) (stays c around (with_trail (Point node.number Done_by ∷ s.trail) (worked 1 s)) temps (omega arith) (kept_none t (t + 1) temps)
-      (since_none c.level s.world))
+      pays 0 1 (omega arith)
+      (stays c around (with_trail (Point node.number Done_by ∷ s.trail) (worked 1 s)) temps (omega arith)
+      (kept_none t (t + width_in (Idle node parts)) temps) (since_none c.level s.world))
 
   pub raises : (node : Node) (exception : Option Ty) (message : Args) → StmtFollows (Raise node exception message)
   raises node exception message inside Open f exits around t k r l temps s h =
@@ -130,25 +131,28 @@ module _ (c : Spot) (top : Bool) (room : ℕ → Type 0) (names : (proc place : 
 
   pub leaves : (node : Node) (leaving : Leaving) (parts : Args) → StmtFollows (Leave node leaving parts)
   leaves node K.Break parts inside Open f exits around t k r l temps s h =
-      subst (λ k'. Runs c.fixed (Left c around k t (t + 1) temps s.world) 0 0 (there c k' temps s.world) s.meter (exec (Leave node K.Break parts) here s))
+      let hi = t + width_in (Leave node K.Break parts) in
+      subst (λ k'. Runs c.fixed (Left c around k t hi temps s.world) 0 0 (there c k' temps s.world) s.meter (exec (Leave node K.Break parts) here s))
       (sym (around.breaks f k))
       (pays 12 1 (omega arith)
       (leaps c 11 around.break_at (omega arith) refl (r.breaks f)
       (lands (Out (Broke node.number)) (with_trail _ (worked 1 s)) (omega arith)
-      (record { now = temps; is = refl; has = tt; kept = kept_none t (t + 1) temps; since = since_none c.level s.world }))))
+      (record { now = temps; is = refl; has = tt; kept = kept_none t hi temps; since = since_none c.level s.world }))))
   leaves node K.Continue parts inside Open f exits around t k r l temps s h =
-      subst (λ k'. Runs c.fixed (Left c around k t (t + 1) temps s.world) 0 0 (there c k' temps s.world) s.meter (exec (Leave node K.Continue parts) here s))
+      let hi = t + width_in (Leave node K.Continue parts) in
+      subst (λ k'. Runs c.fixed (Left c around k t hi temps s.world) 0 0 (there c k' temps s.world) s.meter (exec (Leave node K.Continue parts) here s))
       (sym (around.continues f k))
       (pays 12 1 (omega arith)
       (leaps c 11 around.continue_at (omega arith) refl (r.continues f)
       (lands (Out (Continued node.number)) (with_trail _ (worked 1 s)) (omega arith)
-      (record { now = temps; is = refl; has = tt; kept = kept_none t (t + 1) temps; since = since_none c.level s.world }))))
+      (record { now = temps; is = refl; has = tt; kept = kept_none t hi temps; since = since_none c.level s.world }))))
   leaves node K.Return parts inside Open f exits around t k r l temps s h =
-      subst (λ k'. Runs c.fixed (Left c around k t (t + 1) temps s.world) 0 0 (there c k' temps s.world) s.meter (exec (Leave node K.Return parts) here s))
+      let hi = t + width_in (Leave node K.Return parts) in
+      subst (λ k'. Runs c.fixed (Left c around k t hi temps s.world) 0 0 (there c k' temps s.world) s.meter (exec (Leave node K.Return parts) here s))
       (sym (around.returns k))
       (pays 0 1 (omega arith)
       (lands (Out (Returned node.number)) (with_trail _ (worked 1 s)) (omega arith)
-      (k, record { now = temps; is = refl; has = tt; kept = kept_none t (t + 1) temps; since = since_none c.level s.world })))
+      (k, record { now = temps; is = refl; has = tt; kept = kept_none t hi temps; since = since_none c.level s.world })))
 
   -- ---- blocks
 

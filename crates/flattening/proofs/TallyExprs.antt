@@ -1,5 +1,5 @@
 -- The names that the lines of an expression give are those of its numbers, but for the first one's `Arm`; and each is given alike.
-use Rattle.std.proofs.Common.{◌≡◌, ℕ, suc, ◌+◌, ◌≤◌, Bool, true, false, ◌&&◌, List, [], ◌∷◌, ◌++◌, Option, Some, None, refl, arith}
+use Rattle.std.proofs.Common.{◌≡◌, ℕ, suc, ◌+◌, ◌≤◌, Bool, true, false, ◌&&◌, List, [], ◌∷◌, ◌++◌, Option, Some, None, refl, arith, subst, sym}
 use Rattle.std.specs.Prelude.{if◌then◌else◌}
 use Rattle.nim_types.specs.Types.{Ty, Facts}
 use Rattle.nim_program.specs.declared.expr.Node.{Node}
@@ -11,9 +11,9 @@ use Rattle.nim_program.specs.declared.program.Mode.{Mode}
 use Rattle.nim_program.specs.Program.{Literal, Number, Characters, NoObject, PartsOf, ElementsOf, Label, Ordinals, Exactly}
 use Rattle.nim_program.specs.Program.{Act, Doing, Building, Giving, Calling, ByConditions, ByLabels}
 use Rattle.nim_program.specs.Program.{Expr, Apply, Read, Early, Choose, Path, Variable, Fresh, Field, Element, Deref, Args, NoArg, ByValue, ByPath}
-use Rattle.nim_program.specs.Program.{type_of, type_at, types_in, node_at}
-use Rattle.nim_program.specs.Typed.{is_fresh}
+use Rattle.nim_program.specs.Program.{type_of, type_at, types_in, node_at, constant_in}
 use Rattle.nim_program.specs.Uses.{use_of}
+use Rattle.nim_program.specs.Folds.{if_constant}
 use Rattle.nim_meaning.specs.Shapes.{is_covered, is_last_value}
 use Rattle.flat_code.specs.declared.line.From.{From}
 use Rattle.flat_code.specs.declared.line.Line.{Line}
@@ -23,13 +23,13 @@ use Rattle.flat_code.specs.declared.line.Piece.TheVariants as P
 use Rattle.flat_code.specs.Pieces.{pieces_of, pieces_of_all, count_of}
 use Rattle.flattening.specs.declared.numbers.Purpose.TheVariants.{End, Next, Arm}
 use Rattle.flattening.specs.Alike.{value_name, location_name, label_name, name_of, is_one_text, gives_text, IsProperty}
-use Rattle.flattening.specs.Numbering.{if_number, width, width_at, widths, label}
+use Rattle.flattening.specs.Numbering.{if_number, width, width_at, widths, label, looked_count, arm_count, looked_from, behind_selector}
 use Rattle.flattening.specs.ExprLines.{froms, find_lines, settle_lines, label_tests, value_tests, arm_label, act_line, none_fits, handed_on, early_lines}
-use Rattle.flattening.specs.ExprLines.{lines, aim_lines, ready_lines, choice_lines, select_lines, arm_lines}
+use Rattle.flattening.specs.ExprLines.{lines, aim_lines, ready_lines, choice_lines, select_lines, arm_lines, begin_line}
 use Rattle.flattening.proofs.Simple.{never, act_text, is_literal, IsSimple, IsSimplePath, AreSimple}
 use Rattle.flattening.proofs.Tallies.{Tally, tally_none, ◌>>◌, tally_most, Flags, is_it, upto, value, led, arm, next, upto_more, all_names}
 use Rattle.flattening.proofs.Tallies.{tally, Free, tally_plain, tally_line, tally_free, once}
-use Rattle.flattening.proofs.Widths.{same_width}
+use Rattle.flattening.proofs.Widths.{same_width, selector_width, fresh_width}
 
 -- ---- the line of what is done gives its temporary
 
@@ -45,9 +45,6 @@ no_text (P.Elements n ∷ pieces) piece e = refl
 literal_no_text : (literal : Literal) → act_text (Giving literal) ≡ false → is_one_text (pieces_of literal) ≡ false
 literal_no_text (Number z) e = refl
 literal_no_text (Characters text) e = never (sym e)
-  where
-    sym : true ≡ false → false ≡ true
-    sym e = cc
 literal_no_text NoObject e = refl
 literal_no_text (PartsOf all) e = no_text (pieces_of_all all) (P.Parts (count_of all)) refl
 literal_no_text (ElementsOf all) e = no_text (pieces_of_all all) (P.Elements (count_of all)) refl
@@ -70,6 +67,10 @@ module _ (types : List Ty) (modes : (proc position : ℕ) → Mode) where
   act_no_text t (Giving literal) how None of from e = literal_no_text literal e
   act_no_text t (Giving literal) how (Some ty) of from e = literal_no_text literal e
   act_no_text t (Calling proc of_params) how ty of from e = refl
+
+  pub begins : (constant : Option Literal) (ty : Option Ty) (t : ℕ) → name_of (begin_line types constant ty t) ≡ Some (location_name t)
+  begins None ty t = refl
+  begins (Some literal) ty t = refl
 
   module _ (facts : Facts) (name : ℕ) (has : Line → (behind : List Line) → Bool) (of_values : Bool) (is : IsProperty has of_values) where
     -- so much to spare, and at most so much
@@ -113,22 +114,22 @@ module _ (types : List Ty) (modes : (proc position : ℕ) → Mode) where
     find_cost (Fresh value) t = led name t
     find_cost (Field node ty base field) t = find_cost base (suc t) + led name t
     find_cost (Element node ty base index constant) t = find_cost base (suc t) + led name t
-    find_cost (Deref ty base) t = find_cost base t + led name t
+    find_cost (Deref ty base) t = find_cost base (suc t) + led name t
 
-    pub find : (z : Flags) (path : Path) (t : ℕ) → T z 0 (find_cost path t) (find_lines path t)
+    pub find : (z : Flags) (path : Path) (t : ℕ) → T z 0 (find_cost path t) (find_lines types path t)
     find z (Variable node ty place global) t = leads z (L.Root t place global) t refl
-    find z (Fresh value) t = leads z (L.Fresh t t) t refl
+    find z (Fresh value) t = leads z (begin_line types (constant_in value) (type_of value) t) t (begins (constant_in value) (type_of value) t)
     find z (Field node ty base field) t = tally_most 0 _ (omega arith) (find z base (suc t) >> leads z (L.Part t (suc t) field) t refl)
     find z (Element node ty base index constant) t =
         tally_most 0 _ (omega arith) (find z base (suc t) >> leads z (L.Item t (suc t) (suc t + width_at base)) t refl)
-    find z (Deref ty base) t = tally_most 0 _ (omega arith) (find z base t >> leads z (L.Object t t) t refl)
+    find z (Deref ty base) t = tally_most 0 _ (omega arith) (find z base (suc t) >> leads z (L.Object t (suc t)) t refl)
 
     abbrev pub settle_cost : Args → (t : ℕ) → ℕ
     settle_cost NoArg t = 0
     settle_cost (ByValue value rest) t = settle_cost rest (t + width value)
     settle_cost (ByPath path rest) t = find_cost path t + settle_cost rest (t + width_at path)
 
-    settle : (z : Flags) (args : Args) (t : ℕ) → T z 0 (settle_cost args t) (settle_lines args t)
+    settle : (z : Flags) (args : Args) (t : ℕ) → T z 0 (settle_cost args t) (settle_lines types args t)
     settle z NoArg t = tally_none
     settle z (ByValue value rest) t = settle z rest (t + width value)
     settle z (ByPath path rest) t = tally_most 0 _ (omega arith) (find z path t >> settle z rest (t + width_at path))
@@ -156,31 +157,18 @@ module _ (types : List Ty) (modes : (proc position : ℕ) → Mode) where
 
     -- ---- expressions
 
-    -- where a value is that no path begins with, its location is left over
-    abbrev pub led_left : Expr → (t : ℕ) → ℕ
-    led_left (Read path) t = 0
-    led_left (Apply node ty act operands) t = led name t
-    led_left (Early node ty short left right) t = led name t
-    led_left (Choose node ty chooser parts) t = led name t
-
-    fresh_left : (e : Expr) (t : ℕ) → is_fresh e ≡ true → led_left e t ≡ led name t
-    fresh_left (Read path) t h = never h
-    fresh_left (Apply node ty act operands) t h = refl
-    fresh_left (Early node ty short left right) t h = refl
-    fresh_left (Choose node ty chooser parts) t h = refl
-
     -- Its own value is free where it is given so already, and is given once otherwise.
     pub record Tallied (e : Expr) (how : Use) (t : ℕ) : Type 0 where
       pub inner : (z : Flags) → is_literal e ≡ false → IsFree z t →
-          T z (upto name t + arm name t + value name t + led_left e t) (upto name (t + width e)) (lines types modes e how t)
+          T z (upto name t + arm name t + value name t) (upto name (t + width e)) (lines types modes e how t)
       pub outer : (z : Flags) → T z (upto name t + arm name t) (upto name (t + width e)) (lines types modes e how t)
 
     by_inner : (e : Expr) (how : Use) (t : ℕ) → ((z : Flags) → IsFree z t →
-        T z (upto name t + arm name t + value name t + led_left e t) (upto name (t + width e)) (lines types modes e how t)) → Tallied e how t
+        T z (upto name t + arm name t + value name t) (upto name (t + width e)) (lines types modes e how t)) → Tallied e how t
     by_inner e how t go = record {
       inner = λ z bare f. go z f;
       outer = λ z. tally_most (Z t + A t) (Z (t + width e)) (omega arith)
-          (once name has of_values is z t (Z t + A t + V t + led_left e t) (Z (t + width e)) (λ z' keeps f. go z' f));
+          (once name has of_values is z t (Z t + A t + V t) (Z (t + width e)) (λ z' keeps f. go z' f));
     }
 
     -- a path before it is looked up, whose own value is free
@@ -197,14 +185,35 @@ module _ (types : List Ty) (modes : (proc position : ℕ) → Mode) where
     -- a path is looked up, and its value comes to its temporary
     pub looked_up : (path : Path) (t : ℕ) (line : Line) → name_of line ≡ Some (value_name t) → gives_text line ≡ false → Aimed path t →
         (z : Flags) → IsFree z t →
-        T z (upto name t + arm name t + value name t) (upto name (t + width_at path)) (λ k. aim_lines types modes path t (find_lines path t (line ∷ k)))
+        T z (upto name t + arm name t + value name t) (upto name (t + width_at path)) (λ k. aim_lines types modes path t (find_lines types path t (line ∷ k)))
     looked_up path t line e bare go z f = tally_most _ _ (omega arith) (go z f >> (find z path t >> free z line t e bare f))
 
-    pub looked_once : (path : Path) (t : ℕ) (line : Line) → name_of line ≡ Some (value_name t) → gives_text line ≡ false → Aimed path t → (z : Flags) →
-        T z (upto name t + arm name t) (upto name (t + width_at path)) (λ k. aim_lines types modes path t (find_lines path t (line ∷ k)))
+    looked_once : (path : Path) (t : ℕ) (line : Line) → name_of line ≡ Some (value_name t) → gives_text line ≡ false → Aimed path t → (z : Flags) →
+        T z (upto name t + arm name t) (upto name (t + width_at path)) (λ k. aim_lines types modes path t (find_lines types path t (line ∷ k)))
     looked_once path t line e bare go z =
         tally_most (Z t + A t) (Z (t + width_at path)) (omega arith)
         (once name has of_values is z t (Z t + A t + V t) (Z (t + width_at path)) (λ z' keeps f. looked_up path t line e bare go z' f))
+
+    none_before : (path : Path) (u n : ℕ) → n ≡ u → Aimed path n → (z : Flags) →
+        T z (upto name u + arm name u) (upto name (n + width_at path)) (λ k. aim_lines types modes path n (find_lines types path n (L.Look u n ∷ k)))
+    none_before path u n e go z =
+        subst (λ n. Aimed path n →
+        T z (Z u + A u) (Z (n + width_at path)) (λ k. aim_lines types modes path n (find_lines types path n (L.Look u n ∷ k)))) (sym e)
+        (λ go. looked_once path u (L.Look u u) refl refl go z) go
+
+    one_before : (path : Path) (u n : ℕ) → n ≡ suc u → Aimed path n → (z : Flags) →
+        T z (upto name u + arm name u) (upto name (n + width_at path)) (λ k. aim_lines types modes path n (find_lines types path n (L.Look u n ∷ k)))
+    one_before path u n e go z =
+        let a = all_names name u in
+        let m = upto_more name (suc u) n (omega (arith, e)) in
+        tally_most _ _ (omega (arith, a, m)) (outer_aim path n go z >> (find z path n >> given z (L.Look u n) u refl))
+
+    -- a selector at a path comes to the temporary before those of the path, if it has a type
+    pub looked_before : (path : Path) (ty : Option Ty) (u : ℕ) → Aimed path (u + looked_count ty) → (z : Flags) →
+        T z (upto name u + arm name u) (upto name (u + looked_count ty + width_at path))
+        (λ k. aim_lines types modes path (u + looked_count ty) (find_lines types path (u + looked_count ty) (L.Look u (u + looked_count ty) ∷ k)))
+    looked_before path None u go z = none_before path u (u + 0) (omega arith) go z
+    looked_before path (Some ty) u go z = one_before path u (u + 1) (omega arith) go z
 
     abbrev pub Readied : Args → (uses : (position : ℕ) → Use) → (position t : ℕ) → Type 0
     Readied args uses i t = (z : Flags) → T z (upto name t + settle_cost args t) (upto name (t + widths args)) (ready_lines types modes args uses i t)
@@ -218,7 +227,7 @@ module _ (types : List Ty) (modes : (proc position : ℕ) → Mode) where
         line = act_line types modes t act how ty (types_in operands) (froms operands (suc t))
 
         inside : (z : Flags) → act_text act ≡ false → IsFree z t →
-            T z (Z t + A t + V t + D t) (Z (t + width (Apply node ty act operands))) (lines types modes (Apply node ty act operands) how t)
+            T z (Z t + A t + V t) (Z (t + width (Apply node ty act operands))) (lines types modes (Apply node ty act operands) how t)
         inside z bare f =
             let n = all_names name t in
             let m = upto_more name (suc t + widths operands) (t + width (Apply node ty act operands)) (omega arith) in
@@ -235,7 +244,7 @@ module _ (types : List Ty) (modes : (proc position : ℕ) → Mode) where
             (go z >> (settle z operands (suc t) >> given z line t (act_name t act how ty (types_in operands) _)))
         at false e z =
             tally_most (Z t + A t) (Z (t + width (Apply node ty act operands))) (omega arith)
-            (once name has of_values is z t (Z t + A t + V t + D t) (Z (t + width (Apply node ty act operands))) (λ z' keeps f. inside z' e f))
+            (once name has of_values is z t (Z t + A t + V t) (Z (t + width (Apply node ty act operands))) (λ z' keeps f. inside z' e f))
 
     early : (z : Flags) (short : Short) (t s : ℕ) → IsFree z t → T z 0 (next name t) (early_lines types modes short t s)
     early z And t s f =
@@ -251,13 +260,26 @@ module _ (types : List Ty) (modes : (proc position : ℕ) → Mode) where
     handed : (z : Flags) (t from : ℕ) (how : Use) (ty : Option Ty) → IsFree z t → T z 0 0 (λ k. handed_on types modes t from how ty ∷ k)
     handed z t from how ty f = free z (handed_on types modes t from how ty) t refl refl f
 
+    -- what a path begins with
+    begun : (constant : Option Literal) (e : Expr) (t : ℕ) → Tallied e Looked (suc t) → (z : Flags) →
+        T z (upto name t + arm name t + V t + led name t) (upto name (t + fresh_width constant e))
+        (λ k. if_constant constant k (lines types modes e Looked (suc t) k))
+    begun None e t go z =
+        let n = all_names name t in
+        let m = upto_more name (suc t + width e) (t + fresh_width None e) (omega arith) in
+        tally_most _ _ (omega (arith, n, m)) (go.outer z)
+    begun (Some literal) e t go z =
+        let n = all_names name t in
+        let m = upto_more name (suc t) (t + fresh_width (Some literal) e) (omega arith) in
+        tally_most _ _ (omega (arith, n, m)) tally_none
+
     mutual
       pub expr : (e : Expr) (how : Use) (t : ℕ) → IsSimple types facts e → Tallied e how t
       expr (Apply node ty act operands) how t s = applied node ty act operands how t (λ z. ready operands (use_of modes act) 0 (suc t) s.2 z)
       expr (Read path) how t s =
           by_inner (Read path) how t (λ z f.
           tally_most _ _ (omega arith)
-          (looked_up path t (L.Get t t how (node_at path).number (if_number types (type_at path))) refl refl (λ z f. aim path t s z f) z f))
+          (looked_up path t (L.Get t t how (node_at path).number (if_number types (type_at path))) refl refl (λ z f. aim path t s.1 z f) z f))
       expr (Early node ty short left right) how t s =
           by_inner (Early node ty short left right) how t (λ z f.
           let n = all_names name t in
@@ -275,17 +297,18 @@ module _ (types : List Ty) (modes : (proc position : ℕ) → Mode) where
       expr (Choose node ty (ByLabels labels) parts) how t s =
           by_inner (Choose node ty (ByLabels labels) parts) how t (λ z f.
           let n = all_names name t in
-          let m = upto_more name (suc t + widths parts) (t + width (Choose node ty (ByLabels labels) parts)) (omega arith) in
-          tally_most _ _ (omega (arith, n, m)) (select labels parts ty how t (suc t) s.1 z f >> labelled z (label End t)))
+          let sel = suc t + arm_count (ByLabels labels) in
+          let w = selector_width labels parts t in
+          let l = upto_more name (suc t) sel (omega arith) in
+          let m = upto_more name (behind_selector parts sel) (t + width (Choose node ty (ByLabels labels) parts)) (omega (arith, w)) in
+          tally_most _ _ (omega (arith, n, l, m)) (select labels parts ty how t sel s.1 z f >> labelled z (label End t)))
 
       pub aim : (path : Path) (t : ℕ) → IsSimplePath types facts path → Aimed path t
       aim (Variable node ty place global) t s z f =
           let n = all_names name t in
           let m = upto_more name (suc t) (t + width_at (Variable node ty place global)) (omega arith) in
           tally_most _ _ (omega (arith, n, m)) tally_none
-      aim (Fresh value) t s z f =
-          let l = fresh_left value t s.0 in
-          tally_most _ _ (omega (arith, l)) ((expr value Looked t s.2).inner z s.1 f)
+      aim (Fresh value) t s z f = begun (constant_in value) value t (expr value Looked (suc t) s.2) z
       aim (Field node ty base field) t s z f =
           let n = all_names name t in
           let w = same_width base in
@@ -331,7 +354,7 @@ module _ (types : List Ty) (modes : (proc position : ℕ) → Mode) where
           >> (labelled z (label Arm u) >> choice rest ty how t (u + width condition + width e) s.1.1 z f))))))
 
       select : (labels : List (List Label)) (parts : Args) (ty : Option Ty) (how : Use) (t u : ℕ) → AreSimple types facts parts → (z : Flags) → IsFree z t →
-          T z (upto name u) (upto name (u + widths parts) + next name t) (select_lines types modes labels parts ty how t u)
+          T z (upto name u) (upto name (behind_selector parts u) + next name t) (select_lines types modes labels parts ty how t u)
       select labels NoArg ty how t u s z f = let m = upto_more name u (u + 0) (omega arith) in tally_most _ _ (omega (arith, m)) (no_fit z t ty how f)
       select labels (ByValue selector rest) ty how t u s z f =
           let m = upto_more name (u + width selector + widths rest) (u + widths (ByValue selector rest)) (omega arith) in
@@ -342,12 +365,13 @@ module _ (types : List Ty) (modes : (proc position : ℕ) → Mode) where
           >> arms (is_covered (type_of selector)) labels rest ty how t (u + width selector) s.1 z f)))
       select labels (ByPath path rest) ty how t u s z f =
           let w = same_width path in
-          let m = upto_more name (u + width_at path + widths rest) (u + widths (ByPath path rest)) (omega (arith, w)) in
+          let n = looked_from path u in
+          let m = upto_more name (n + width_at path + widths rest) (behind_selector (ByPath path rest) u) (omega (arith, w)) in
           tally_most _ _ (omega (arith, m))
-          (looked_once path u (L.Look u u) refl refl (λ z f. aim path u s.0 z f) z
-          >> (all_tests z labels rest u (u + width_at path)
+          (looked_before path (type_at path) u (λ z f. aim path n s.0 z f) z
+          >> (all_tests z labels rest u (n + width_at path)
           >> (plain z (L.Jump (label Next t)) refl
-          >> arms (is_covered (type_at path)) labels rest ty how t (u + width_at path) s.1 z f)))
+          >> arms (is_covered (type_at path)) labels rest ty how t (n + width_at path) s.1 z f)))
 
       arms : (covered : Bool) (labels : List (List Label)) (values : Args) (ty : Option Ty) (how : Use) (t u : ℕ) → AreSimple types facts values → (z : Flags) →
           IsFree z t →

@@ -11,23 +11,23 @@ use Rattle.nim_program.specs.declared.stmt.Leaving.{Leaving}
 use Rattle.nim_program.specs.declared.stmt.Leaving.TheVariants as K
 use Rattle.nim_program.specs.Program.{Label, ByConditions, ByLabels, Path, Variable, Fresh, Field, Element, Deref, Expr, Args, NoArg, ByValue, ByPath, Declared}
 use Rattle.nim_program.specs.Program.{While, Count, Each, Stmt, Do, Idle, Give, Leave, Select, Loop, Raise, Try}
-use Rattle.nim_program.specs.Program.{Stmts, Empty, Then, Declare, Defer, Blocks, Otherwise, Block}
+use Rattle.nim_program.specs.Program.{Stmts, Empty, Then, Declare, Defer, Blocks, Otherwise, Block, constant_in, type_of, type_at}
 use Rattle.nim_meaning.specs.Shapes.{is_covered, selector_type, is_last_block}
 use Rattle.flat_code.specs.declared.line.Line.{Line}
 use Rattle.flat_code.specs.declared.line.Line.TheVariants as L
 use Rattle.flattening.specs.declared.numbers.Purpose.TheVariants.{End, Next, Arm, Turn}
 use Rattle.flattening.specs.Alike.{value_name, location_name, label_name, name_of, IsProperty}
-use Rattle.flattening.specs.ExprLines.{find_lines}
+use Rattle.flattening.specs.ExprLines.{find_lines, begin_line}
 use Rattle.flattening.specs.Formed.{HasSelector}
-use Rattle.flattening.specs.Numbering.{type_number, width, width_at, widths, arm_count, width_in, width_of, width_of_blocks, label}
+use Rattle.flattening.specs.Numbering.{type_number, width, width_at, widths, arm_count, width_in, width_of, label, looked_from, behind_selector}
 use Rattle.flattening.specs.StmtLines.{Exits, leaving_by, in_loop, back_lines, result_line, block_tests, second, selector_lines}
 use Rattle.flattening.specs.StmtLines.{lines_in, lines_of, branch_lines, arm_blocks, number_of, outermost}
 use Rattle.flattening.proofs.Simple.{is_literal, IsSimple, IsSimplePath, AreSimple, IsSimpleStmt, AreSimpleStmts, AreSimpleBlocks}
 use Rattle.flattening.proofs.Tallies.{tally_none, ◌>>◌, tally_most, Flags, flag, count, is_it, upto, value, led, next, upto_more, all_names}
 use Rattle.flattening.proofs.Tallies.{tally_led, once, once_as}
 use Rattle.flattening.proofs.TallyExprs.{T, IsFree, plain, given, leads, labelled, free, find_cost, find, tests, arm_then, Tallied, outer_aim}
-use Rattle.flattening.proofs.TallyExprs.{looked_once, expr, aim, ready}
-use Rattle.flattening.proofs.Widths.{same_width}
+use Rattle.flattening.proofs.TallyExprs.{begins, looked_before, expr, aim, ready}
+use Rattle.flattening.proofs.Widths.{same_width, width_of_blocks, turn_width, selector_width}
 
 module _ (types : List Ty) (modes : (proc position : ℕ) → Mode) (facts : Facts) (name : ℕ) (has : Line → (behind : List Line) → Bool) (of_values : Bool)
     (is : IsProperty has of_values) where
@@ -76,16 +76,16 @@ module _ (types : List Ty) (modes : (proc position : ℕ) → Mode) (facts : Fac
 
   -- its lines are free where a flag says that what they give is given so
   abbrev Found : Path → (t : ℕ) → Type 0
-  Found path t = (b : Bool) × ((z : Flags) → flag z b ≡ true → M z 0 0 (find_lines path t))
+  Found path t = (b : Bool) × ((z : Flags) → flag z b ≡ true → M z 0 0 (find_lines types path t))
 
   -- one more step
   step_found : (base : Path) (t : ℕ) (line : Line) → name_of line ≡ Some (location_name t) → IsSimplePath types facts base → Found base (suc t) →
-      (b : Bool) × ((z : Flags) → flag z b ≡ true → M z 0 0 (λ k. find_lines base (suc t) (line ∷ k)))
+      (b : Bool) × ((z : Flags) → flag z b ≡ true → M z 0 0 (λ k. find_lines types base (suc t) (line ∷ k)))
   unfolding is_it
   step_found base t line e s found = at (nat_eq (location_name t) name) refl
     where
       at : (c : Bool) → nat_eq (location_name t) name ≡ c →
-          (b : Bool) × ((z : Flags) → flag z b ≡ true → M z 0 0 (λ k. find_lines base (suc t) (line ∷ k)))
+          (b : Bool) × ((z : Flags) → flag z b ≡ true → M z 0 0 (λ k. find_lines types base (suc t) (line ∷ k)))
       at true same =
           let n = eqb-true (location_name t) name same in
           let h = find_zero base (suc t) s (omega (arith, n)) in (
@@ -101,7 +101,9 @@ module _ (types : List Ty) (modes : (proc position : ℕ) → Mode) (facts : Fac
   find_found : (path : Path) (t : ℕ) → IsSimplePath types facts path → Found path t
   find_found (Variable node ty place global) t s =
       (has (L.Root t place global) [], λ z flagged. tally_led name has of_values is z (L.Root t place global) t refl flagged)
-  find_found (Fresh e) t s = (has (L.Fresh t t) [], λ z flagged. tally_led name has of_values is z (L.Fresh t t) t refl flagged)
+  find_found (Fresh e) t s =
+      let line = begin_line types (constant_in e) (type_of e) t in
+      (has line [], λ z flagged. tally_led name has of_values is z line t (begins types modes (constant_in e) (type_of e) t) flagged)
   find_found (Field node ty base field) t s = step_found base t (L.Part t (suc t) field) refl s.1 (find_found base (suc t) s.1)
   find_found (Element node ty base index constant) t s =
       step_found base t (L.Item t (suc t) (suc t + width_at base)) refl s.1 (find_found base (suc t) s.1)
@@ -142,21 +144,22 @@ module _ (types : List Ty) (modes : (proc position : ℕ) → Mode) (facts : Fac
 
   module _ (result : Option Declared) where
     selector : (labels : List (List Label)) (args : Args) (t : ℕ) → HasSelector (ByLabels labels) args → AreSimple types facts args → (z : Flags) →
-        M z (upto name t) (upto name (t + widths args)) (selector_lines types modes result args t)
+        M z (upto name t) (upto name (behind_selector args t)) (selector_lines types modes result args t)
     selector labels NoArg t h s z = absurd h
     selector labels (ByValue e rest) t h s z =
         let m = upto_more name (t + width e) (t + widths (ByValue e rest)) (omega arith) in
         tally_most _ _ (omega (arith, m)) ((told e Looked t s.0).outer z)
     selector labels (ByPath path rest) t h s z =
         let w = same_width path in
-        let m = upto_more name (t + width_at path) (t + widths (ByPath path rest)) (omega (arith, w)) in
+        let n = looked_from path t in
+        let m = upto_more name (n + width_at path) (behind_selector (ByPath path rest) t) (omega (arith, w)) in
         tally_most _ _ (omega (arith, m))
-        (looked_once types modes facts name has of_values is path t (L.Look t t) refl refl
-        (λ z f. aim types modes facts name has of_values is path t s.0 z f) z)
+        (looked_before types modes facts name has of_values is path (type_at path) t
+        (λ z f. aim types modes facts name has of_values is path n s.0 z f) z)
 
     -- a loop over elements, whose path is looked up twice by lines that give nothing new
     each_inside : (node : Node) (place : Declared) (path : Path) (rest : Args) (body : Stmts) (exits : Exits) (t : ℕ) (z : Flags) →
-        AreSimple types facts (ByPath path rest) → F z (suc t) → M z 0 0 (find_lines path (suc t + 2)) →
+        AreSimple types facts (ByPath path rest) → F z (suc t) → M z 0 0 (find_lines types path (suc t + 2)) →
         M z (upto name (suc t + 2 + widths (ByPath path rest))) (upto name (suc t + 2 + widths (ByPath path rest) + width_of body))
         (lines_of types modes result body (in_loop exits t) (suc t + 2 + widths (ByPath path rest))) →
         M z (upto name t + value name (suc t) + cost path (suc t + 2)) (upto name (t + width_in (Loop node (Each place) (ByPath path rest) body)))
@@ -251,26 +254,31 @@ module _ (types : List Ty) (modes : (proc position : ℕ) → Mode) (facts : Fac
       pub stmt : (s : Stmt) (exits : Exits) (t : ℕ) → IsSimpleStmt types facts s → NameNone exits → (z : Flags) →
           M z (upto name t) (upto name (t + width_in s)) (lines_in types modes result s exits t)
       stmt (Do e) exits t s x z = tally_most _ _ (omega arith) ((told e Owned t s).outer z)
-      stmt (Idle node parts) exits t s x z = let m = upto_more name t (t + 1) (omega arith) in tally_most _ _ (omega (arith, m)) tally_none
+      stmt (Idle node parts) exits t s x z =
+          let m = upto_more name t (t + width_in (Idle node parts)) (omega arith) in tally_most _ _ (omega (arith, m)) tally_none
       stmt (Give node b e) exits t s x z =
           let m = upto_more name t (suc t) (omega arith) in
           let i = upto_more name (suc t + width e) (t + width_in (Give node b e)) (omega arith) in
           tally_most _ _ (omega (arith, m, i)) ((told e Given (suc t) s).outer z >> (result_given z result (suc t) >> back exits b x z))
       stmt (Leave node way parts) exits t s x z =
-          let m = upto_more name t (t + 1) (omega arith) in tally_most _ _ (omega (arith, m)) (leaving exits way x z)
+          let m = upto_more name t (t + width_in (Leave node way parts)) (omega arith) in tally_most _ _ (omega (arith, m)) (leaving exits way x z)
       stmt (Select node ByConditions tests blocks) exits t s x z =
           let n = all_names name t in
-          let m = upto_more name (suc t + (widths tests + width_of_blocks blocks)) (t + width_in (Select node ByConditions tests blocks)) (omega arith) in
+          let w = turn_width tests blocks in
+          let m = upto_more name (suc t + (widths tests + width_of_blocks blocks)) (t + width_in (Select node ByConditions tests blocks)) (omega (arith, w)) in
           tally_most _ _ (omega (arith, n, m)) (branches tests blocks exits t (suc t) s.1 s.2 x z >> marked z (label End t))
       stmt (Select node (ByLabels labels) tests blocks) exits t s x z =
           let u = suc t + arm_count (ByLabels labels) in
           let n = all_names name t in
-          let m = upto_more name (u + widths tests + width_of_blocks blocks) (t + width_in (Select node (ByLabels labels) tests blocks)) (omega arith) in
+          let v = behind_selector tests u in
+          let w = selector_width labels tests t in
+          let turns = turn_width tests blocks in
+          let m = upto_more name (v + width_of_blocks blocks) (t + width_in (Select node (ByLabels labels) tests blocks)) (omega (arith, w, turns)) in
           tally_most _ _ (omega (arith, n, m))
           (selector labels tests u s.0 s.1 z
           >> (tests_of_blocks z labels blocks u (suc t)
           >> (nothing z (L.Jump (label Next t)) refl
-          >> (arms (is_covered (selector_type tests)) labels blocks exits t (suc t) (u + widths tests) s.2 x z >> marked z (label End t)))))
+          >> (arms (is_covered (selector_type tests)) labels blocks exits t (suc t) v s.2 x z >> marked z (label End t)))))
       stmt (Loop node While NoArg body) exits t s x z = absurd s.0
       stmt (Loop node While (ByPath path rest) body) exits t s x z = absurd s.0
       stmt (Loop node While (ByValue e rest) body) exits t s x z =

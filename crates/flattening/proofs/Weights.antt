@@ -25,7 +25,7 @@ use Rattle.flattening.specs.Flattened.{modes_of}
 use Rattle.flattening.specs.Given.{flat_body, flat_proc, flat_procs}
 use Rattle.flattening.specs.Numbering.{width, width_at}
 use Rattle.flattening.specs.StmtLines.{outermost, returned, number_of, body_lines}
-use Rattle.flattening.proofs.Amounts.{act_counted, body_counted, if_counted, procs_counted, taken, program_scaled}
+use Rattle.flattening.proofs.Amounts.{act_counted, body_counted, if_counted, procs_counted, taken, program_scaled, none_of}
 use Rattle.flattening.proofs.FitPrograms.{map_same}
 use Rattle.flattening.proofs.Measures.{reserved, Bounds, ExitsSpare, block_spare}
 use Rattle.flattening.proofs.Spares.{spare_none, spare_line, spare_most}
@@ -80,7 +80,7 @@ reserves (ByPath path rest) t = let h = reserves rest (t + width_at path) in ome
 
 module _ (types : List Ty) (modes : (proc position : ℕ) → Mode) where
   act_most : (t : ℕ) (act : Act) (how : Use) (ty : Option Ty) (operands : Args) →
-      weight (act_line types modes t act how ty (types_in operands) (froms operands (suc t))) + 12 ≤ act_counted 25 taken act + reserved 12 operands
+      weight (act_line types modes t act how ty (types_in operands) (froms operands (suc t))) + 12 ≤ act_counted 25 taken none_of act + reserved 12 operands
   act_most t (Doing operation) how ty operands =
       let h = operation_most operation (length (froms operands (suc t))) in let r = reserves operands (suc t) in omega (arith, h, r)
   act_most t (Building fields) how None operands = let r = reserves operands (suc t) in omega (arith, r)
@@ -89,16 +89,17 @@ module _ (types : List Ty) (modes : (proc position : ℕ) → Mode) where
   act_most t (Giving literal) how (Some ty) operands = let h = literal_most literal in omega (arith, h)
   act_most t (Calling proc of) how ty operands = let r = reserves operands (suc t) in omega (arith, r)
 
-  weight_bounds : Bounds types modes weight 25 taken 12 7 3
+  weight_bounds : Bounds types modes weight 25 taken none_of 12 7 3
   weight_bounds = record {
     act = act_most;
     root = λ t place global. omega arith;
     fresh = λ t. omega arith;
+    in_place = λ t ty literal. omega arith;
     field = λ t field. omega arith;
     item = λ t index. omega arith;
     object = λ t. omega arith;
     got = λ t site how ty. omega arith;
-    looked = λ t. omega arith;
+    looked = λ s t. omega arith;
     both = λ t s from l how. omega arith;
     either = λ t s from l next how. omega arith;
     handed = λ t from how ty. omega arith;
@@ -119,7 +120,7 @@ module _ (types : List Ty) (modes : (proc position : ℕ) → Mode) where
   }
 
 module _ (program : Program) (plan : Plan) where
-  exits_spare : (result : Option Declared) → ExitsSpare program.types (modes_of program plan) weight 25 taken 12 7 3
+  exits_spare : (result : Option Declared) → ExitsSpare program.types (modes_of program plan) weight 25 taken none_of 12 7 3
       (weight_bounds program.types (modes_of program plan)) result (outermost result)
   exits_spare result = record {
     breaks = spare_most 0 3 (omega arith) spare_none;
@@ -132,10 +133,10 @@ module _ (program : Program) (plan : Plan) where
   some_most (l ∷ lines) = omega arith
 
   body_most : (hook : Option HookOf) (params : List Param) (body : Body) →
-      proc_weight (map flat_plain (flat_body program plan hook params body).lines) ≤ body_counted 25 taken body
+      proc_weight (map flat_plain (flat_body program plan hook params body).lines) ≤ body_counted 25 taken none_of body
   body_most hook params body =
       let lines = body_lines program.types (modes_of program plan) body in
-      let s = (block_spare program.types (modes_of program plan) weight 25 taken 12 7 3 (weight_bounds program.types (modes_of program plan))
+      let s = (block_spare program.types (modes_of program plan) weight 25 taken none_of 12 7 3 (weight_bounds program.types (modes_of program plan))
       body.result body.stmts (outermost body.result) 0 (exits_spare body.result)).all (returned body.result []) in
       let a = some_most lines in
       let e = ap proc_weight (map_same lines) in
@@ -143,14 +144,14 @@ module _ (program : Program) (plan : Plan) where
 
   procs_most : (procs : List Proc) (more : List (CodeProc Line)) →
       code_weight flat_plain (map (λ (p : Proc). flat_proc program plan p.hook p.params p.body) procs ++ more)
-      ≤ procs_counted 25 taken procs + code_weight flat_plain more
+      ≤ procs_counted 25 taken none_of procs + code_weight flat_plain more
   procs_most [] more = omega arith
   procs_most (p ∷ procs) more =
       let h = of_body p.body in
       let i = procs_most procs more in
       omega (arith, h, i)
     where
-      of_body : (body : Option Body) → proc_weight (map flat_plain (flat_proc program plan p.hook p.params body).lines) ≤ if_counted 25 taken body
+      of_body : (body : Option Body) → proc_weight (map flat_plain (flat_proc program plan p.hook p.params body).lines) ≤ if_counted 25 taken none_of body
       of_body None = omega arith
       of_body (Some body) = body_most p.hook p.params body
 

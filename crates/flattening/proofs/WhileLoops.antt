@@ -11,7 +11,7 @@ use Rattle.nim_meaning.specs.Values.{Value, number_of}
 use Rattle.nim_meaning.specs.State.{State}
 use Rattle.nim_meaning.specs.ActTree.{Turns, Chooses}
 use Rattle.nim_meaning.specs.Ways.{At as Point}
-use Rattle.nim_meaning.specs.Acts.{Flow, On, Does, branch, worked, left_with, with_trail, at_exit, costs, again, no_more, next, turn_of}
+use Rattle.nim_meaning.specs.Acts.{Outcome, On, Does, branch, worked, left_with, with_trail, at_exit, costs, again, no_more, next, turn_of}
 use Rattle.nim_meaning.specs.Here.{Here}
 use Rattle.nim_meaning.specs.Meaning.{eval, exec_all, at_node, while_turn}
 use Rattle.flat_code.specs.declared.line.Line.{Line}
@@ -109,7 +109,7 @@ module _ (c : Spot) (top : Bool) (room : ℕ → Type 0) (names : (proc place : 
       abbrev Inv : Unit {0} → State → M → Type 0
       Inv u b m = At c tested t hi temps s.world (λ now. Unit {0}) b.world m
 
-      abbrev Ends : Flow (Unit {0}) → State → M → Type 0
+      abbrev Ends : Outcome (Unit {0}) → State → M → Type 0
       Ends = Looped c around ending t hi temps s.world
 
       chosen : (b : Bool) (u : ℕ) (x : Value) (now : Temps) (d : State) → is_true (number_of x) ≡ b → now.values (suc t) ≡ Some x → d.meter.units ≤ u →

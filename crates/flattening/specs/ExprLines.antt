@@ -7,9 +7,10 @@ use Rattle.nim_program.specs.declared.operation.Short.TheVariants.{And, Or}
 use Rattle.nim_program.specs.declared.operation.Use.{Use}
 use Rattle.nim_program.specs.declared.operation.Use.TheVariants.{Owned, Looked}
 use Rattle.nim_program.specs.declared.program.Mode.{Mode}
-use Rattle.nim_program.specs.Program.{Label, Ordinals, Exactly, Act, Doing, Building, Giving, Calling, ByConditions, ByLabels}
+use Rattle.nim_program.specs.Program.{Literal, Label, Ordinals, Exactly, Act, Doing, Building, Giving, Calling, ByConditions, ByLabels}
 use Rattle.nim_program.specs.Program.{Expr, Apply, Read, Early, Choose, Path, Variable, Fresh, Field, Element, Deref, Args, NoArg, ByValue, ByPath}
-use Rattle.nim_program.specs.Program.{type_of, type_at, node_at, types_in}
+use Rattle.nim_program.specs.Program.{type_of, type_at, node_at, types_in, constant_in}
+use Rattle.nim_program.specs.Folds.{if_constant}
 use Rattle.nim_program.specs.Uses.{use_of}
 use Rattle.flat_code.specs.declared.line.From.{From}
 use Rattle.flat_code.specs.declared.line.From.TheVariants as F
@@ -18,7 +19,7 @@ use Rattle.flat_code.specs.declared.line.Line.TheVariants as L
 use Rattle.nim_meaning.specs.Shapes.{is_covered, is_last_value}
 use Rattle.flat_code.specs.Pieces.{pieces_of}
 use Rattle.flattening.specs.declared.numbers.Purpose.TheVariants.{End, Next, Arm}
-use Rattle.flattening.specs.Numbering.{type_number, if_number, all_numbers, width, width_at, label}
+use Rattle.flattening.specs.Numbering.{type_number, number_or, if_number, all_numbers, arm_count, looked_from, width, width_at, label}
 
 -- ---- operands, whose numbers begin with t
 
@@ -27,19 +28,25 @@ froms NoArg t = []
 froms (ByValue value rest) t = F.Value t ∷ froms rest (t + width value)
 froms (ByPath path rest) t = F.Place t ∷ froms rest (t + width_at path)
 
--- a path whose indexes are evaluated is looked up: a line for each of its steps, which leads to temporary t
-abbrev pub find_lines : Path → (t : ℕ) → List Line → List Line
-find_lines (Variable node ty place global) t k = L.Root t place global ∷ k
-find_lines (Fresh value) t k = L.Fresh t t ∷ k
-find_lines (Field node ty base field) t k = find_lines base (suc t) (L.Part t (suc t) field ∷ k)
-find_lines (Element node ty base index constant) t k = find_lines base (suc t) (L.Item t (suc t) (suc t + width_at base) ∷ k)
-find_lines (Deref ty base) t k = find_lines base t (L.Object t t ∷ k)
+module _ (types : List Ty) where
+  -- a path begins that no name begins: at a constant of a type, where it stands, or at the value in the next temporary
+  abbrev pub begin_line : Option Literal → Option Ty → (t : ℕ) → Line
+  begin_line None ty t = L.Fresh t (suc t)
+  begin_line (Some literal) ty t = L.Standing t (number_or types ty) (pieces_of literal)
 
--- the places of operands, behind the last operand
-abbrev pub settle_lines : Args → (t : ℕ) → List Line → List Line
-settle_lines NoArg t k = k
-settle_lines (ByValue value rest) t k = settle_lines rest (t + width value) k
-settle_lines (ByPath path rest) t k = find_lines path t (settle_lines rest (t + width_at path) k)
+  -- a path whose indexes are evaluated is looked up: a line for each of its steps, which leads to temporary t
+  abbrev pub find_lines : Path → (t : ℕ) → List Line → List Line
+  find_lines (Variable node ty place global) t k = L.Root t place global ∷ k
+  find_lines (Fresh value) t k = begin_line (constant_in value) (type_of value) t ∷ k
+  find_lines (Field node ty base field) t k = find_lines base (suc t) (L.Part t (suc t) field ∷ k)
+  find_lines (Element node ty base index constant) t k = find_lines base (suc t) (L.Item t (suc t) (suc t + width_at base) ∷ k)
+  find_lines (Deref ty base) t k = find_lines base (suc t) (L.Object t (suc t) ∷ k)
+
+  -- the places of operands, behind the last operand
+  abbrev pub settle_lines : Args → (t : ℕ) → List Line → List Line
+  settle_lines NoArg t k = k
+  settle_lines (ByValue value rest) t k = settle_lines rest (t + width value) k
+  settle_lines (ByPath path rest) t k = find_lines path t (settle_lines rest (t + width_at path) k)
 
 -- the tests of a branch's labels; texts come with the heap
 abbrev pub label_tests : List Label → (selector arm : ℕ) → List Line → List Line
@@ -87,23 +94,24 @@ module _ (types : List Ty) (modes : (proc position : ℕ) → Mode) where
     -- The value of an expression comes to temporary t. The numbers of its parts follow.
     pub lines : Expr → Use → (t : ℕ) → List Line → List Line
     lines (Apply node ty act operands) how t k =
-        ready_lines operands (use_of modes act) 0 (suc t) (settle_lines operands (suc t)
+        ready_lines operands (use_of modes act) 0 (suc t) (settle_lines types operands (suc t)
         (act_line t act how ty (types_in operands) (froms operands (suc t)) ∷ k))
-    lines (Read path) how t k = aim_lines path t (find_lines path t (L.Get t t how (node_at path).number (if_number types (type_at path)) ∷ k))
+    lines (Read path) how t k = aim_lines path t (find_lines types path t (L.Get t t how (node_at path).number (if_number types (type_at path)) ∷ k))
     lines (Early node ty short left right) how t k =
         lines left Owned (suc t)
         (early_lines short t (suc t)
         (lines right Owned (suc t + width left) (L.Pass t (suc t + width left) how None ∷ L.Label (label End t) ∷ k)))
     lines (Choose node ty ByConditions parts) how t k = choice_lines parts ty how t (suc t) (L.Label (label End t) ∷ k)
-    lines (Choose node ty (ByLabels labels) parts) how t k = select_lines labels parts ty how t (suc t) (L.Label (label End t) ∷ k)
+    lines (Choose node ty (ByLabels labels) parts) how t k =
+        select_lines labels parts ty how t (suc t + arm_count (ByLabels labels)) (L.Label (label End t) ∷ k)
 
     -- what a path needs before it is looked up: the fresh value that it begins with, and its indexes
     pub aim_lines : Path → (t : ℕ) → List Line → List Line
     aim_lines (Variable node ty place global) t k = k
-    aim_lines (Fresh value) t k = lines value Looked t k
+    aim_lines (Fresh value) t k = if_constant (constant_in value) k (lines value Looked (suc t) k)
     aim_lines (Field node ty base field) t k = aim_lines base (suc t) k
     aim_lines (Element node ty base index constant) t k = aim_lines base (suc t) (lines index Owned (suc t + width_at base) k)
-    aim_lines (Deref ty base) t k = aim_lines base t k
+    aim_lines (Deref ty base) t k = aim_lines base (suc t) k
 
     -- operands from a position on, before places are looked up
     pub ready_lines : Args → (uses : (position : ℕ) → Use) → (position t : ℕ) → List Line → List Line
@@ -126,19 +134,19 @@ module _ (types : List Ty) (modes : (proc position : ℕ) → Mode) where
         ∷ L.Label (label Arm u)
         ∷ choice_lines rest ty how t (u + width condition + width value) k))
 
-    -- the selector, the tests of all labels, and the branches
-    pub select_lines : List (List Label) → Args → Option Ty → Use → (t u : ℕ) → List Line → List Line
-    select_lines labels NoArg ty how t u k = none_fits t ty how ∷ k
-    select_lines labels (ByValue selector rest) ty how t u k =
-        lines selector Looked u
-        (value_tests labels rest u (u + width selector)
-        (L.Jump (label Next t) ∷ arm_lines (is_covered (type_of selector)) labels rest ty how t (u + width selector) k))
-    select_lines labels (ByPath path rest) ty how t u k =
-        aim_lines path u
-        (find_lines path u
-        (L.Look u u
-        ∷ value_tests labels rest u (u + width_at path) (L.Jump (label Next t) ∷ arm_lines (is_covered (type_at path)) labels rest ty how t
-        (u + width_at path) k)))
+    -- the selector, whose value comes to temporary s, the tests of all labels, and the branches
+    pub select_lines : List (List Label) → Args → Option Ty → Use → (t s : ℕ) → List Line → List Line
+    select_lines labels NoArg ty how t s k = none_fits t ty how ∷ k
+    select_lines labels (ByValue selector rest) ty how t s k =
+        lines selector Looked s
+        (value_tests labels rest s (s + width selector)
+        (L.Jump (label Next t) ∷ arm_lines (is_covered (type_of selector)) labels rest ty how t (s + width selector) k))
+    select_lines labels (ByPath path rest) ty how t s k =
+        aim_lines path (looked_from path s)
+        (find_lines types path (looked_from path s)
+        (L.Look s (looked_from path s)
+        ∷ value_tests labels rest s (looked_from path s + width_at path) (L.Jump (label Next t) ∷ arm_lines (is_covered (type_at path)) labels rest ty how t
+        (looked_from path s + width_at path) k)))
 
     -- The branches, and at last what is done where no label fits. Where the labels cover the type, that is the last branch.
     pub arm_lines : (covered : Bool) → List (List Label) → Args → Option Ty → Use → (t u : ℕ) → List Line → List Line

@@ -1,7 +1,8 @@
 -- What single parts add to the places of a body. It serves proofs alone: the promise of `flatten` doesn't speak of it.
 use Rattle.std.specs.Prelude.{ℕ, suc, ◌+◌, Bool, false, if◌then◌else◌, List, [], ◌∷◌, ◌++◌, Option, Some, None, slice_index_or}
 use Rattle.nim_types.specs.Types.{Ty}
-use Rattle.nim_program.specs.Program.{Args, NoArg, ByValue, ByPath, Declared, Kind, While, Count, Each}
+use Rattle.nim_program.specs.Program.{Expr, Args, NoArg, ByValue, ByPath, Declared, Kind, While, Count, Each, constant_in}
+use Rattle.nim_program.specs.Folds.{if_constant}
 use Rattle.nim_program.specs.Program.{Stmt, Do, Idle, Give, Leave, Select, Loop, Raise, Try}
 use Rattle.nim_program.specs.Program.{Stmts, Empty, Then, Declare, Defer, Blocks, Otherwise, Block, Handlers, NoHandler, Handler}
 use Rattle.nim_program.specs.Program.{Param, Body}
@@ -13,7 +14,7 @@ use Rattle.flat_code.specs.declared.place.PlaceKind.{PlaceKind}
 use Rattle.flat_code.specs.declared.place.PlaceKind.TheVariants as K
 use Rattle.flat_code.specs.declared.place.FlatPlace.{FlatPlace}
 use Rattle.flattening.specs.Numbering.{widths}
-use Rattle.flattening.specs.Places.{head_from, of_declared, expr_places, path_places, operand_places, read_place, value_places, stmt_places, block_places}
+use Rattle.flattening.specs.Places.{head_from, of_declared, expr_places, path_places, operand_places, value_places, stmt_places, block_places}
 use Rattle.flattening.specs.Places.{param_places, result_places}
 use Rattle.flattening.specs.StmtLines.{body_lines}
 
@@ -30,10 +31,9 @@ module _ (types : List Ty) where
   first_places (ByValue value rest) t = expr_places types value t
   first_places (ByPath path rest) t = path_places types path t
 
-  -- of a selector at a path, which is read in place
-  abbrev pub read_in_place : Args → (t : ℕ) → List FlatPlace
-  read_in_place (ByPath path rest) t = read_place types path t
-  read_in_place selector t = []
+  -- of a value that a path begins with
+  abbrev pub fresh_places : Expr → (t : ℕ) → List FlatPlace
+  fresh_places value t = if_constant (constant_in value) [] (expr_places types value t)
 
   -- of the first statement of a block alone
   abbrev pub places_of_first : Stmts → (t : ℕ) → List FlatPlace

@@ -1,5 +1,5 @@
--- The places of flat code, in order of text: what a body declares, and the temporaries of its parts by their numbers: one for the value of each node that
--- gives one, and one for where each path leads that is looked up.
+-- The places of flat code, in order of text: what a body declares, and the temporaries of its parts by their numbers: one for each value that is given or
+-- read, and one for where each part of a path leads that is looked up.
 use Rattle.std.specs.Prelude.{ℕ, suc, ◌+◌, true, false, if◌then◌else◌, List, [], ◌∷◌, ◌++◌, Option, Some, None}
 use Rattle.arc_base.specs.declared.place.Place.{Place}
 use Rattle.nim_types.specs.Types.{Ty, int}
@@ -8,22 +8,21 @@ use Rattle.nim_program.specs.Program.{Chooser, ByConditions, ByLabels, Expr, App
 use Rattle.nim_program.specs.Program.{Path, Variable, Fresh, Field, Element, Deref, Args, NoArg, ByValue, ByPath, type_at, node_at}
 use Rattle.nim_program.specs.Program.{Declared, Kind, While, Count, Each, Stmt, Do, Idle, Give, Leave, Select, Loop, Raise, Try}
 use Rattle.nim_program.specs.Program.{Stmts, Empty, Then, Declare, Defer, Blocks, Otherwise, Block, Param, Body}
-use Rattle.nim_program.specs.Folds.{Seen, AtDeclare, AtHandler, lists, total_of, own_places}
-use Rattle.nim_program.specs.Scopes.{is_written}
+use Rattle.nim_program.specs.Program.{is_written, constant_in}
+use Rattle.nim_program.specs.Folds.{Seen, Part, Declaring, Handling, if_constant, lists, total_of}
 use Rattle.nim_program.specs.Sizes.{is_global}
-use Rattle.nim_meaning.specs.Shapes.{has_node}
 use Rattle.flat_code.specs.declared.place.PlaceKind.{PlaceKind}
 use Rattle.flat_code.specs.declared.place.PlaceKind.TheVariants as K
 use Rattle.flat_code.specs.declared.place.FlatPlace.{FlatPlace}
-use Rattle.flattening.specs.Numbering.{type_number, width, width_at, widths, arm_count, width_in, width_of}
+use Rattle.flattening.specs.Numbering.{type_number, width, width_at, widths, arm_count, selector_from, behind_selector, width_in, width_of}
 
 -- ---- declared places
 
 -- in a body of a program with these globals
-abbrev pub kind_of_declared : List Declared → Seen → Declared → PlaceKind
-kind_of_declared globals (AtDeclare node place cursor) d = if is_global globals d.number then K.Global else if cursor then K.Cursor else K.Local
-kind_of_declared globals (AtHandler name) d = K.Caught
-kind_of_declared globals seen d = K.ForVar
+abbrev pub kind_of_declared : List Declared → Part → Declared → PlaceKind
+kind_of_declared globals (Declaring cursor) d = if is_global globals d.number then K.Global else if cursor then K.Cursor else K.Local
+kind_of_declared globals Handling d = K.Caught
+kind_of_declared globals part d = K.ForVar
 
 -- where a path leads: to a place, or into a value that no place holds
 abbrev pub kind_of_path : Path → PlaceKind
@@ -49,7 +48,7 @@ module _ (types : List Ty) where
   all_declared kind (d ∷ ds) = of_declared (kind d) d ∷ all_declared kind ds
 
   abbrev pub own_declared : List Declared → Seen → List FlatPlace
-  own_declared globals seen = all_declared (kind_of_declared globals seen) (own_places seen)
+  own_declared globals seen = all_declared (kind_of_declared globals seen.part) seen.places
 
   abbrev pub param_places : List Param → List FlatPlace
   param_places [] = []
@@ -65,17 +64,17 @@ module _ (types : List Ty) where
   temporary node None kind t = []
   temporary node (Some ty) kind t = place t node.at kind ty ∷ []
 
-  -- the value at a path; a fresh one has a temporary already
+  -- the value at a path that is read
   abbrev pub read_place : Path → (t : ℕ) → List FlatPlace
-  read_place path t = if has_node path then temporary (node_at path) (type_at path) K.Temp t else []
+  read_place path t = temporary (node_at path) (type_at path) K.Temp t
 
   abbrev pub location : Path → (t : ℕ) → List FlatPlace
   location path t = temporary (node_at path) (type_at path) (kind_of_path path) t
 
-  -- a selector at a path is read in place
-  abbrev pub selector_place : Chooser → Args → (t : ℕ) → List FlatPlace
-  selector_place (ByLabels labels) (ByPath path rest) t = read_place path t
-  selector_place chooser parts t = []
+  -- the value of a selector that is read in place
+  abbrev pub selector_place : Args → (s : ℕ) → List FlatPlace
+  selector_place (ByPath path rest) s = read_place path s
+  selector_place parts s = []
 
   abbrev mutual
     pub expr_places : Expr → (t : ℕ) → List FlatPlace
@@ -83,17 +82,19 @@ module _ (types : List Ty) where
     expr_places (Read path) t = read_place path t ++ path_places path t
     expr_places (Early node ty short left right) t =
         temporary node (Some ty) K.Temp t ++ (expr_places left (suc t) ++ expr_places right (suc t + width left))
-    expr_places (Choose node ty chooser parts) t =
-        temporary node ty K.Temp t ++ (selector_place chooser parts (suc t) ++ operand_places parts (suc t))
+    expr_places (Choose node ty ByConditions parts) t = temporary node ty K.Temp t ++ operand_places parts (suc t)
+    expr_places (Choose node ty (ByLabels labels) parts) t =
+        temporary node ty K.Temp t
+        ++ (selector_place parts (suc t + arm_count (ByLabels labels))
+        ++ operand_places parts (selector_from parts (suc t + arm_count (ByLabels labels))))
 
     pub path_places : Path → (t : ℕ) → List FlatPlace
     path_places (Variable node ty place global) t = location (Variable node ty place global) t
-    path_places (Fresh value) t = location (Fresh value) t ++ expr_places value t
+    path_places (Fresh value) t = location (Fresh value) t ++ if_constant (constant_in value) [] (expr_places value (suc t))
     path_places (Field node ty base field) t = location (Field node ty base field) t ++ path_places base (suc t)
     path_places (Element node ty base index constant) t =
         location (Element node ty base index constant) t ++ (path_places base (suc t) ++ expr_places index (suc t + width_at base))
-    -- the object of a ref has no temporary yet
-    path_places (Deref ty base) t = path_places base t
+    path_places (Deref ty base) t = location (Deref ty base) t ++ path_places base (suc t)
 
     pub operand_places : Args → (t : ℕ) → List FlatPlace
     operand_places NoArg t = []
@@ -126,9 +127,9 @@ module _ (types : List Ty) where
     stmt_places (Leave node leaving parts) t = []
     stmt_places (Select node ByConditions tests blocks) t = branch_places tests blocks (suc t)
     stmt_places (Select node (ByLabels labels) tests blocks) t =
-        selector_place (ByLabels labels) tests (suc t + arm_count (ByLabels labels))
-        ++ (operand_places tests (suc t + arm_count (ByLabels labels))
-        ++ arm_places blocks (suc t + arm_count (ByLabels labels) + widths tests))
+        selector_place tests (suc t + arm_count (ByLabels labels))
+        ++ (operand_places tests (selector_from tests (suc t + arm_count (ByLabels labels)))
+        ++ arm_places blocks (behind_selector tests (suc t + arm_count (ByLabels labels))))
     stmt_places (Loop node kind head body) t =
         loop_places node kind t ++ (operand_places head (head_from kind t) ++ block_places body (head_from kind t + widths head))
     -- exceptions have no lines yet

@@ -81,6 +81,29 @@ abbrev pub no_globals : List FlatPlace → Bool
 no_globals [] = true
 no_globals (p ∷ places) = not (is_global p.kind) && no_globals places
 
+-- ---- what a call hands on and back
+
+abbrev pub is_result : PlaceKind → Bool
+is_result K.Result = true
+is_result kind = false
+
+-- parameters and the result
+abbrev pub is_handed : PlaceKind → Bool
+is_handed kind = is_param kind || is_result kind
+
+abbrev pub handed_among : List FlatPlace → List FlatPlace
+handed_among [] = []
+handed_among (p ∷ places) = if is_handed p.kind then p ∷ handed_among places else handed_among places
+
+abbrev pub none_handed : List FlatPlace → Bool
+none_handed [] = true
+none_handed (p ∷ places) = not (is_handed p.kind) && none_handed places
+
+-- they come before all else
+abbrev pub handed_lead : List FlatPlace → Bool
+handed_lead [] = true
+handed_lead (p ∷ places) = if is_handed p.kind then handed_lead places else none_handed places
+
 -- ---- procedures
 
 -- A procedure whose sum is at most so many bytes, or the start code, which alone has globals. Beside the sum's there is a location for each path that is
@@ -91,6 +114,8 @@ pub record IsPlainProc (known : Known) (most : ℕ) (start : Bool) (p : CodeProc
   pub lead : params_lead p.places ≡ true
   pub globals : start ≡ false → no_globals p.places ≡ true
   pub params_bytes : places_bytes known (params_among p.places) ≤ most
+  pub handed : handed_lead p.places ≡ true
+  pub handed_bytes : places_bytes known (handed_among p.places) ≤ most
   pub bytes : places_bytes known p.places ≤ 3 * most
 
 -- the start code is the last one

@@ -12,7 +12,7 @@ use Rattle.nim_meaning.specs.Shapes.{is_covered, selector_type, is_last_block}
 use Rattle.flat_code.specs.declared.line.Line.{Line}
 use Rattle.flat_code.specs.declared.line.Line.TheVariants as L
 use Rattle.flattening.specs.declared.numbers.Purpose.TheVariants.{End, Next, Arm, Turn}
-use Rattle.flattening.specs.Numbering.{type_number, width, widths, arm_count, width_in, width_of, label}
+use Rattle.flattening.specs.Numbering.{type_number, width, widths, arm_count, looked_from, behind_selector, width_in, width_of, label}
 use Rattle.flattening.specs.ExprLines.{arm_label, label_tests, find_lines, lines, aim_lines, ready_lines}
 
 -- What is around a statement: the lines by which control leaves by a `break`, a `continue` and a `return`, before the lines behind.
@@ -52,10 +52,11 @@ second _ t = t
 
 module _ (types : List Ty) (modes : (proc position : ℕ) → Mode) (result : Option Declared) where
   -- the selector of a `case` comes to its temporary
-  abbrev pub selector_lines : Args → (t : ℕ) → List Line → List Line
-  selector_lines (ByValue selector rest) t k = lines types modes selector Looked t k
-  selector_lines (ByPath path rest) t k = aim_lines types modes path t (find_lines path t (L.Look t t ∷ k))
-  selector_lines NoArg t k = L.Zero t ∷ k
+  abbrev pub selector_lines : Args → (s : ℕ) → List Line → List Line
+  selector_lines (ByValue selector rest) s k = lines types modes selector Looked s k
+  selector_lines (ByPath path rest) s k =
+      aim_lines types modes path (looked_from path s) (find_lines types path (looked_from path s) (L.Look s (looked_from path s) ∷ k))
+  selector_lines NoArg s k = L.Zero s ∷ k
 
   -- the condition of a `while`
   abbrev pub test_lines : Args → (t : ℕ) → List Line → List Line
@@ -64,7 +65,7 @@ module _ (types : List Ty) (modes : (proc position : ℕ) → Mode) (result : Op
 
   -- the path of a head is looked up
   abbrev pub look_up : Args → (t : ℕ) → List Line → List Line
-  look_up (ByPath path rest) t k = find_lines path t k
+  look_up (ByPath path rest) t k = find_lines types path t k
   look_up _ t k = k
 
   abbrev mutual
@@ -79,7 +80,7 @@ module _ (types : List Ty) (modes : (proc position : ℕ) → Mode) (result : Op
         selector_lines tests (suc t + arm_count (ByLabels labels))
         (block_tests labels blocks (suc t + arm_count (ByLabels labels)) (suc t)
         (L.Jump (label Next t)
-        ∷ arm_blocks (is_covered (selector_type tests)) labels blocks exits t (suc t) (suc t + arm_count (ByLabels labels) + widths tests)
+        ∷ arm_blocks (is_covered (selector_type tests)) labels blocks exits t (suc t) (behind_selector tests (suc t + arm_count (ByLabels labels)))
         (L.Label (label End t) ∷ k)))
     lines_in (Loop node While head body) exits t k =
         L.Jump (label Next t)

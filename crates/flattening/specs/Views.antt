@@ -3,11 +3,12 @@ use Rattle.std.specs.Prelude.{◌≡◌, ℕ, ◌+◌, Bool, true, false, ◌&&�
 use Rattle.nim_types.specs.Types.{Ty}
 use Rattle.nim_types.specs.Table.{types_in}
 use Rattle.nim_program.specs.declared.operation.Use.{Use}
-use Rattle.nim_program.specs.declared.operation.Use.TheVariants.{Owned}
+use Rattle.nim_program.specs.declared.operation.Use.TheVariants.{Owned, Looked}
 use Rattle.nim_program.specs.declared.program.Mode.{Mode}
 use Rattle.nim_program.specs.declared.stmt.Stmt.{Stmt as RustStmt}
 use Rattle.nim_program.specs.declared.stmt.Stmt.TheVariants as S
-use Rattle.nim_program.specs.Program.{Declared, Expr, Path, node_at, type_at, Args, NoArg, ByValue, ByPath, Kind, Loop, Stmts}
+use Rattle.nim_program.specs.Program.{Declared, Expr, Path, node_at, type_at, constant_in, Args, NoArg, ByValue, ByPath, Kind, Loop, Stmts}
+use Rattle.nim_program.specs.Folds.{if_constant}
 use Rattle.nim_program.specs.Uses.{use_by, use_for}
 use Rattle.nim_program.specs.View.{proc_of, declared_of}
 use Rattle.nim_meaning.specs.Shapes.{modes_in, is_last_value, is_empty}
@@ -53,6 +54,10 @@ exits_of result ways = record { breaks = λ k. jump_if ways.breaks k; continues 
 -- the value of a branch, which becomes that of the whole
 abbrev pub branch_lines : List Ty → (modes : (proc position : ℕ) → Mode) → Expr → Option Ty → Use → (t from : ℕ) → List Line → List Line
 branch_lines types modes value ty how t from k = lines types modes value Owned from (handed_on types modes t from how ty ∷ k)
+
+-- what is done for a value that a path begins with
+abbrev pub fresh_lines : List Ty → (modes : (proc position : ℕ) → Mode) → Expr → (t : ℕ) → List Line → List Line
+fresh_lines types modes value t k = if_constant (constant_in value) k (lines types modes value Looked t k)
 
 -- the value at a path
 abbrev pub get_line : List Ty → Path → Use → (t : ℕ) → Line

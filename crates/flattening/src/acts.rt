@@ -17,7 +17,7 @@ use crate::pieces::add_pieces;
 use crate::spans::behind_operand;
 use crate::written::Written;
 use arc_base::{Items, Memory};
-use flat_code::{From, Line};
+use flat_code::{From, Line, Piece};
 use nim_program::{Literal, Operand, Operation, Path, Use};
 use nim_types::TypeId;
 use std::alloc::Global;
@@ -238,6 +238,14 @@ pub fn put_object(
     put_made(code, made)
 }
 
+fn pieces_of(alloc: Global, literal: &Literal) -> Result<Items<Piece>, Memory>
+    ensures { IfOk result (λ pieces. pieces ≡ pieces_of (literal_of literal.now)) }
+{
+    let mut pieces = Items::new(alloc);
+    add_pieces(alloc, &mut pieces, literal)?;
+    Ok(pieces)
+}
+
 fn constant_line(
     alloc: Global,
     around: &Around,
@@ -251,8 +259,7 @@ fn constant_line(
         (pieces_of (literal_of literal.now))) }
 {
     let ty = type_number(around, ty);
-    let mut pieces = Items::new(alloc);
-    add_pieces(alloc, &mut pieces, literal)?;
+    let pieces = pieces_of(alloc, literal)?;
     Ok(Line::Constant {
         to: t,
         how,
@@ -276,6 +283,39 @@ pub fn put_constant(
         (pieces_of (literal_of literal.now)))) }
 {
     let made = constant_line(alloc, around, t, literal, how, ty);
+    put_made(code, made)
+}
+
+fn standing_line(
+    alloc: Global,
+    around: &Around,
+    t: u32,
+    literal: &Literal,
+    ty: TypeId,
+) -> Result<Line, Memory>
+    ensures { IfOk result (λ line. line ≡ L.Standing t
+        (type_number (types_of around.now) (type_at (types_of around.now) ty))
+        (pieces_of (literal_of literal.now))) }
+{
+    let ty = type_number(around, ty);
+    let pieces = pieces_of(alloc, literal)?;
+    Ok(Line::Standing { to: t, ty, pieces })
+}
+
+/// A constant where it stands.
+pub fn put_standing(
+    alloc: Global,
+    code: &mut Written<Line>,
+    around: &Around,
+    t: u32,
+    literal: &Literal,
+    ty: TypeId,
+)
+    ensures { IsPut code.old code.new (one (L.Standing t
+        (type_number (types_of around.now) (type_at (types_of around.now) ty))
+        (pieces_of (literal_of literal.now)))) }
+{
+    let made = standing_line(alloc, around, t, literal, ty);
     put_made(code, made)
 }
 

@@ -10,6 +10,7 @@ ghost use Rattle.flattening.specs.ExprLines.{lines, aim_lines, ready_lines, choi
 ghost use Rattle.flattening.specs.ExprLines.{arm_lines, value_tests};
 ghost use Rattle.flattening.specs.StmtLines.{selector_lines};
 ghost use Rattle.flattening.specs.Views.{types_of, modes_of, result_of, uses_of, branch_lines};
+ghost use Rattle.flattening.specs.Views.{fresh_lines};
 ghost use Rattle.flattening.specs.Views.{ArmsLast, other_lines};
 ghost use Rattle.flattening.specs.Written.{IsPut, GoesOnAt, ArmsPut};
 
@@ -20,7 +21,9 @@ use crate::around::{Around, Uses, is_covered, is_last, use_at};
 use crate::finds::{add_found, add_settled};
 use crate::marks::{put_arm_label, put_early, put_jump, put_label, put_label_tests, put_unless};
 use crate::numbers::Purpose;
-use crate::spans::{behind_operand, behind_path, behind_value, next};
+use crate::spans::{
+    behind_operand, behind_path, behind_picks, behind_selector, behind_value, next, selector_from,
+};
 use crate::written::{Arms, Written};
 use flat_code::Line;
 use nim_program::{Choice, Expr, Operand, Path, Pick, Use};
@@ -51,7 +54,7 @@ pub fn add_expr(
             ..
         } => {
             add_ready(alloc, code, around, operands, Uses::Of(*operation), u);
-            add_settled(code, around, operands, u);
+            add_settled(alloc, code, around, operands, u);
             put_operation(alloc, code, around, t, *operation, how, *ty, operands, u)
         }
         Expr::Call {
@@ -61,7 +64,7 @@ pub fn add_expr(
             ..
         } => {
             add_ready(alloc, code, around, operands, Uses::OfParams(*proc), u);
-            add_settled(code, around, operands, u);
+            add_settled(alloc, code, around, operands, u);
             put_call(alloc, code, around, t, *proc, how, *ty, operands, u)
         }
         Expr::Construct {
@@ -71,7 +74,7 @@ pub fn add_expr(
             ..
         } => {
             add_ready(alloc, code, around, operands, Uses::All(Use::Held), u);
-            add_settled(code, around, operands, u);
+            add_settled(alloc, code, around, operands, u);
             put_object(alloc, code, around, t, fields, how, *ty, operands, u)
         }
         Expr::Constant { ty, value, .. } => {
@@ -79,7 +82,7 @@ pub fn add_expr(
         }
         Expr::Read { path } => {
             add_aim(alloc, code, around, path, t);
-            add_found(code, around, path, t);
+            add_found(alloc, code, around, path, t);
             put_get(code, around, path, how, t)
         }
         Expr::Early { .. } => add_early(alloc, code, around, expr, how, t, u),
@@ -187,11 +190,14 @@ fn add_case(
             ..
         } => {
             let selector = &**selector;
-            let Some(v) = behind_operand(around, u, selector) else {
+            let Some(s) = behind_picks(u, branches) else {
                 return code.lose();
             };
-            add_selector(alloc, code, around, selector, u);
-            add_value_tests(code, around, branches, u, v);
+            let Some(v) = behind_selector(around, s, selector) else {
+                return code.lose();
+            };
+            add_selector(alloc, code, around, selector, s);
+            add_value_tests(code, around, branches, s, v);
             put_jump(code, Purpose::Next, t);
             let closes = may_close(around, selector, otherwise);
             match add_arms(alloc, code, around, closes, branches, *ty, how, t, v) {
@@ -213,29 +219,35 @@ pub fn add_aim(alloc: Global, code: &mut Written<Line>, around: &Around, path: &
     ensures { IsPut code.old code.new (aim_lines (types_of around.now) (modes_of around.now)
         (path_of (types_of around.now) path.now) t) }
 {
+    let Some(u) = next(t) else {
+        return code.lose();
+    };
     match path {
         Path::Variable { .. } => {}
-        Path::Fresh { value } => add_expr(alloc, code, around, &**value, Use::Looked, t),
-        Path::Field { base, .. } => {
-            let base = &**base;
-            let Some(u) = next(t) else {
-                return code.lose();
-            };
-            add_aim(alloc, code, around, base, u)
-        }
+        Path::Fresh { value } => add_fresh(alloc, code, around, &**value, u),
+        Path::Field { base, .. } => add_aim(alloc, code, around, &**base, u),
+        Path::Deref { base, .. } => add_aim(alloc, code, around, &**base, u),
         Path::Element { base, index, .. } => {
             let base = &**base;
             let index = &**index;
-            let Some(u) = next(t) else {
-                return code.lose();
-            };
             let Some(v) = behind_path(around, u, base) else {
                 return code.lose();
             };
             add_aim(alloc, code, around, base, u);
             add_expr(alloc, code, around, index, Use::Owned, v)
         }
-        Path::Deref { base, .. } => add_aim(alloc, code, around, &**base, t),
+    }
+}
+
+// A value that a path begins with. A constant stands in the data, and nothing is to be done for it.
+#[cycle(exprs)]
+fn add_fresh(alloc: Global, code: &mut Written<Line>, around: &Around, value: &Expr, t: u32)
+    ensures { IsPut code.old code.new (fresh_lines (types_of around.now) (modes_of around.now)
+        (expr_of (types_of around.now) value.now) t) }
+{
+    match value {
+        Expr::Constant { .. } => {}
+        _ => add_expr(alloc, code, around, value, Use::Looked, t),
     }
 }
 
@@ -285,24 +297,27 @@ pub fn add_ready(
     }
 }
 
-/// Adds the selector of a `case`, which comes to temporary t.
+/// Adds the selector of a `case`, whose value comes to temporary s.
 #[cycle(exprs)]
 pub fn add_selector(
     alloc: Global,
     code: &mut Written<Line>,
     around: &Around,
     selector: &Operand,
-    t: u32,
+    s: u32,
 )
     ensures { IsPut code.old code.new (selector_lines (types_of around.now) (modes_of around.now)
-        (result_of around.now) (operand_before (types_of around.now) selector.now NoArg) t) }
+        (result_of around.now) (operand_before (types_of around.now) selector.now NoArg) s) }
 {
     match selector {
-        Operand::Value(value) => add_expr(alloc, code, around, value, Use::Looked, t),
+        Operand::Value(value) => add_expr(alloc, code, around, value, Use::Looked, s),
         Operand::At(path) => {
-            add_aim(alloc, code, around, path, t);
-            add_found(code, around, path, t);
-            code.put(Line::Look { to: t, from: t })
+            let Some(from) = selector_from(s, selector) else {
+                return code.lose();
+            };
+            add_aim(alloc, code, around, path, from);
+            add_found(alloc, code, around, path, from);
+            code.put(Line::Look { to: s, from })
         }
     }
 }

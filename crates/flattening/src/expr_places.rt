@@ -6,12 +6,14 @@ ghost use Rattle.nim_program.specs.View.{choices_of, picks_of, if_value};
 ghost use Rattle.flattening.specs.Forms.{IsEarly, IsCase};
 ghost use Rattle.flattening.specs.Places.{expr_places, path_places, operand_places};
 ghost use Rattle.flattening.specs.Views.{types_of};
-ghost use Rattle.flattening.specs.PlaceViews.{first_places};
+ghost use Rattle.flattening.specs.PlaceViews.{first_places, fresh_places};
 ghost use Rattle.flattening.specs.Written.{IsPut, GoesOnAt};
 ghost use Rattle.flattening.specs.PlaceViews.{in_front};
 
 use crate::around::Around;
-use crate::spans::{behind_operand, behind_path, behind_value, next};
+use crate::spans::{
+    behind_operand, behind_path, behind_picks, behind_selector, behind_value, next, selector_from,
+};
 use crate::temporaries::{put_location, put_read, put_selector, put_temporary};
 use crate::written::Written;
 use flat_code::{FlatPlace, PlaceKind};
@@ -123,12 +125,18 @@ fn list_case(places: &mut Written<FlatPlace>, around: &Around, expr: &Expr, t: u
             otherwise,
         } => {
             let selector = &**selector;
-            let Some(v) = behind_operand(around, u, selector) else {
+            let Some(s) = behind_picks(u, branches) else {
+                return places.lose();
+            };
+            let Some(from) = selector_from(s, selector) else {
+                return places.lose();
+            };
+            let Some(v) = behind_selector(around, s, selector) else {
                 return places.lose();
             };
             put_temporary(places, around, *node, *ty, PlaceKind::Temp, t);
-            put_selector(places, around, selector, u);
-            list_operand(places, around, selector, u);
+            put_selector(places, around, selector, s);
+            list_operand(places, around, selector, from);
             let Some(w) = list_picks(places, around, branches, v) else {
                 return;
             };
@@ -144,27 +152,29 @@ fn list_path(places: &mut Written<FlatPlace>, around: &Around, path: &Path, t: u
     ensures { IsPut places.old places.new (in_front (path_places (types_of around.now)
         (path_of (types_of around.now) path.now) t)) }
 {
+    let Some(u) = next(t) else {
+        return places.lose();
+    };
     match path {
         Path::Variable { .. } => put_location(places, around, path, t),
         Path::Fresh { value } => {
             let value = &**value;
             put_location(places, around, path, t);
-            list_expr(places, around, value, t)
+            list_fresh(places, around, value, u)
         }
         Path::Field { base, .. } => {
             let base = &**base;
-            let Some(u) = next(t) else {
-                return places.lose();
-            };
+            put_location(places, around, path, t);
+            list_path(places, around, base, u)
+        }
+        Path::Deref { base, .. } => {
+            let base = &**base;
             put_location(places, around, path, t);
             list_path(places, around, base, u)
         }
         Path::Element { base, index, .. } => {
             let base = &**base;
             let index = &**index;
-            let Some(u) = next(t) else {
-                return places.lose();
-            };
             let Some(v) = behind_path(around, u, base) else {
                 return places.lose();
             };
@@ -172,7 +182,18 @@ fn list_path(places: &mut Written<FlatPlace>, around: &Around, path: &Path, t: u
             list_path(places, around, base, u);
             list_expr(places, around, index, v)
         }
-        Path::Deref { base, .. } => list_path(places, around, &**base, t),
+    }
+}
+
+// The temporaries of a value that a path begins with, none of a constant.
+#[cycle(temporaries)]
+fn list_fresh(places: &mut Written<FlatPlace>, around: &Around, value: &Expr, t: u32)
+    ensures { IsPut places.old places.new (in_front (fresh_places (types_of around.now)
+        (expr_of (types_of around.now) value.now) t)) }
+{
+    match value {
+        Expr::Constant { .. } => {}
+        _ => list_expr(places, around, value, t),
     }
 }
 

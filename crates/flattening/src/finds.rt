@@ -1,22 +1,24 @@
 // The lines by which paths are looked up.
-ghost use Rattle.nim_program.specs.View.{path_of, operand_before, operands_of};
-ghost use Rattle.nim_program.specs.Program.{NoArg};
+ghost use Rattle.nim_program.specs.View.{expr_of, path_of, operand_before, operands_of};
+ghost use Rattle.nim_program.specs.Program.{Fresh, NoArg};
 ghost use Rattle.flattening.specs.ExprLines.{find_lines, settle_lines};
 ghost use Rattle.flattening.specs.StmtLines.{look_up};
 ghost use Rattle.flattening.specs.Views.{types_of, modes_of, result_of};
 ghost use Rattle.flattening.specs.Written.{IsPut};
 
+use crate::acts::put_standing;
 use crate::around::Around;
 use crate::spans::{behind_operand, behind_path, next};
 use crate::written::Written;
 use flat_code::Line;
-use nim_program::{Operand, Path};
+use nim_program::{Expr, Operand, Path};
+use std::alloc::Global;
 
 /// A path whose indexes are evaluated is looked up: a line for each of its steps.
 #[cycle(finds)]
-pub fn add_found(code: &mut Written<Line>, around: &Around, path: &Path, t: u32)
+pub fn add_found(alloc: Global, code: &mut Written<Line>, around: &Around, path: &Path, t: u32)
     ensures { IsPut code.old code.new
-        (find_lines (path_of (types_of around.now) path.now) t) }
+        (find_lines (types_of around.now) (path_of (types_of around.now) path.now) t) }
 {
     match path {
         Path::Variable { place, global, .. } => code.put(Line::Root {
@@ -24,13 +26,13 @@ pub fn add_found(code: &mut Written<Line>, around: &Around, path: &Path, t: u32)
             place: *place,
             global: *global,
         }),
-        Path::Fresh { .. } => code.put(Line::Fresh { to: t, from: t }),
+        Path::Fresh { value } => put_begun(alloc, code, around, &**value, t),
         Path::Field { base, field, .. } => {
             let base = &**base;
             let Some(u) = next(t) else {
                 return code.lose();
             };
-            add_found(code, around, base, u);
+            add_found(alloc, code, around, base, u);
             code.put(Line::Part {
                 to: t,
                 from: u,
@@ -45,7 +47,7 @@ pub fn add_found(code: &mut Written<Line>, around: &Around, path: &Path, t: u32)
             let Some(index) = behind_path(around, u, base) else {
                 return code.lose();
             };
-            add_found(code, around, base, u);
+            add_found(alloc, code, around, base, u);
             code.put(Line::Item {
                 to: t,
                 from: u,
@@ -53,45 +55,75 @@ pub fn add_found(code: &mut Written<Line>, around: &Around, path: &Path, t: u32)
             })
         }
         Path::Deref { base, .. } => {
-            add_found(code, around, &**base, t);
-            code.put(Line::Object { to: t, from: t })
+            let base = &**base;
+            let Some(u) = next(t) else {
+                return code.lose();
+            };
+            add_found(alloc, code, around, base, u);
+            code.put(Line::Object { to: t, from: u })
         }
     }
 }
 
+// What a path begins with: a constant where it stands, or another value.
+fn put_begun(alloc: Global, code: &mut Written<Line>, around: &Around, value: &Expr, t: u32)
+    ensures { IsPut code.old code.new (find_lines (types_of around.now)
+        (Fresh (expr_of (types_of around.now) value.now)) t) }
+{
+    match value {
+        Expr::Constant { ty, value, .. } => put_standing(alloc, code, around, t, value, *ty),
+        _ => match next(t) {
+            None => code.lose(),
+            Some(from) => code.put(Line::Fresh { to: t, from }),
+        },
+    }
+}
+
 /// The places of operands are looked up, behind the last operand.
-pub fn add_settled(code: &mut Written<Line>, around: &Around, operands: &Vec<Operand>, t: u32)
+pub fn add_settled(
+    alloc: Global,
+    code: &mut Written<Line>,
+    around: &Around,
+    operands: &Vec<Operand>,
+    t: u32,
+)
     ensures { IsPut code.old code.new
-        (settle_lines (operands_of (types_of around.now) operands.now.items) t) }
+        (settle_lines (types_of around.now) (operands_of (types_of around.now) operands.now.items) t) }
 {
     let mut u = t;
     for operand in operands {
         let Some(following) = behind_operand(around, u, operand) else {
             return code.lose();
         };
-        add_place(code, around, operand, u);
+        add_place(alloc, code, around, operand, u);
         u = following;
     }
 }
 
 // The place of an operand, where it is a place.
-fn add_place(code: &mut Written<Line>, around: &Around, operand: &Operand, t: u32)
+fn add_place(alloc: Global, code: &mut Written<Line>, around: &Around, operand: &Operand, t: u32)
     ensures { IsPut code.old code.new
-        (settle_lines (operand_before (types_of around.now) operand.now NoArg) t) }
+        (settle_lines (types_of around.now) (operand_before (types_of around.now) operand.now NoArg) t) }
 {
     match operand {
         Operand::Value(_) => {}
-        Operand::At(path) => add_found(code, around, path, t),
+        Operand::At(path) => add_found(alloc, code, around, path, t),
     }
 }
 
 /// The path of a loop's head is looked up.
-pub fn add_head_place(code: &mut Written<Line>, around: &Around, head: &Vec<Operand>, t: u32)
+pub fn add_head_place(
+    alloc: Global,
+    code: &mut Written<Line>,
+    around: &Around,
+    head: &Vec<Operand>,
+    t: u32,
+)
     ensures { IsPut code.old code.new (look_up (types_of around.now) (modes_of around.now)
         (result_of around.now) (operands_of (types_of around.now) head.now.items) t) }
 {
     match head.first() {
-        Some(Operand::At(path)) => add_found(code, around, path, t),
+        Some(Operand::At(path)) => add_found(alloc, code, around, path, t),
         _ => {}
     }
 }

@@ -16,7 +16,6 @@ mod spans;
 mod stmt_acts;
 mod stmt_code;
 mod stmt_places;
-mod stmt_spans;
 mod temporaries;
 mod written;
 

@@ -23,9 +23,11 @@ use crate::marks::{
     put_unless,
 };
 use crate::numbers::Purpose;
-use crate::spans::{behind, behind_operand, behind_operands, behind_value, label, next};
+use crate::spans::{
+    behind, behind_block, behind_cases, behind_operands, behind_selector, behind_stmt,
+    behind_value, is_defer, label, next,
+};
 use crate::stmt_acts::{put_back, put_blank, put_block_tests, put_fill, put_leave, put_result};
-use crate::stmt_spans::{behind_block, behind_count, behind_stmt, is_defer};
 use crate::written::{Arms, Written};
 use flat_code::Line;
 use nim_program::{Branch, CaseBranch, Kind, Operand, PlaceDecl, Stmt, Use};
@@ -142,10 +144,10 @@ fn add_select(
             otherwise,
             ..
         } => {
-            let Some(s) = behind_count(u, branches) else {
+            let Some(s) = behind_cases(u, branches) else {
                 return code.lose();
             };
-            let Some(v) = behind_operand(around, s, selector) else {
+            let Some(v) = behind_selector(around, s, selector) else {
                 return code.lose();
             };
             add_selector(alloc, code, around, selector, s);
@@ -307,13 +309,14 @@ fn add_each(
         return code.lose();
     };
     add_ready(alloc, code, around, head, Uses::All(Use::Owned), place);
-    put_before_turns(code, around, head, t, u, length, place);
+    put_before_turns(alloc, code, around, head, t, u, length, place);
     add_turn(alloc, code, around, body, t, first);
-    put_element(code, around, variable, head, t, u, length, place)
+    put_element(alloc, code, around, variable, head, t, u, length, place)
 }
 
 // How many elements there are, and that their first one is next.
 fn put_before_turns(
+    alloc: Global,
     code: &mut Written<Line>,
     around: &Around,
     head: &Vec<Operand>,
@@ -326,7 +329,7 @@ fn put_before_turns(
         (result_of around.now) (operands_of (types_of around.now) head.now.items)
         t counter length place) }
 {
-    add_head_place(code, around, head, place);
+    add_head_place(alloc, code, around, head, place);
     code.put(Line::Length {
         to: length,
         from: place,
@@ -338,6 +341,7 @@ fn put_before_turns(
 
 // The next element, where there is one.
 fn put_element(
+    alloc: Global,
     code: &mut Written<Line>,
     around: &Around,
     variable: &PlaceDecl,
@@ -357,7 +361,7 @@ fn put_element(
     });
     put_label(code, Purpose::Arm, t);
     put_beyond(code, counter, length, false, t);
-    add_head_place(code, around, head, place);
+    add_head_place(alloc, code, around, head, place);
     code.put(Line::Still {
         from: place,
         length,

@@ -2,9 +2,9 @@
 ghost use Rattle.std.specs.Prelude.{◌≡◌, suc, List, IfSome};
 ghost use Rattle.nim_types.specs.Types.{Ty, int};
 ghost use Rattle.nim_program.specs.Program.{Empty, Stmts};
-ghost use Rattle.nim_program.specs.View.{stmt_before, stmts_of, operands_of, kind_of};
+ghost use Rattle.nim_program.specs.View.{stmt_before, stmts_of, operands_of, kind_of, if_value};
 ghost use Rattle.nim_program.specs.View.{branch_conditions, branch_blocks, case_blocks};
-ghost use Rattle.flattening.specs.Places.{place, head_from, loop_places, block_places};
+ghost use Rattle.flattening.specs.Places.{place, head_from, loop_places, value_places, block_places};
 ghost use Rattle.flattening.specs.Places.{branch_places, arm_places};
 ghost use Rattle.flattening.specs.Views.{types_of};
 ghost use Rattle.flattening.specs.PlaceViews.{places_of_first, places_of_loop};
@@ -13,12 +13,14 @@ ghost use Rattle.flattening.specs.PlaceViews.{in_front};
 
 use crate::around::{Around, int_number};
 use crate::expr_places::{list_expr, list_operand, list_operands};
-use crate::spans::{behind, behind_operand, behind_operands, behind_value, next};
-use crate::stmt_spans::{behind_block, behind_count, behind_stmt, is_defer};
+use crate::spans::{
+    behind, behind_block, behind_cases, behind_operands, behind_selector, behind_stmt,
+    behind_value, is_defer, next, selector_from,
+};
 use crate::temporaries::{put_place, put_selector};
 use crate::written::Written;
 use flat_code::{FlatPlace, PlaceKind};
-use nim_program::{Branch, CaseBranch, Kind, Node, Operand, Stmt};
+use nim_program::{Branch, CaseBranch, Expr, Kind, Node, Operand, Stmt};
 
 /// Adds the temporaries of a block, whose numbers begin with t. Behind a `defer` nothing has lines
 /// yet.
@@ -52,10 +54,7 @@ fn list_stmt(places: &mut Written<FlatPlace>, around: &Around, stmt: &Stmt, t: u
     match stmt {
         Stmt::Do { value } => list_expr(places, around, value, t),
         Stmt::Give { value, .. } => list_expr(places, around, value, u),
-        Stmt::Declare { value, .. } => match value {
-            None => {}
-            Some(value) => list_expr(places, around, value, u),
-        },
+        Stmt::Declare { value, .. } => list_if(places, around, value, u),
         Stmt::If {
             branches,
             otherwise,
@@ -72,14 +71,17 @@ fn list_stmt(places: &mut Written<FlatPlace>, around: &Around, stmt: &Stmt, t: u
             otherwise,
             ..
         } => {
-            let Some(s) = behind_count(u, branches) else {
+            let Some(s) = behind_cases(u, branches) else {
                 return places.lose();
             };
-            let Some(v) = behind_operand(around, s, selector) else {
+            let Some(from) = selector_from(s, selector) else {
+                return places.lose();
+            };
+            let Some(v) = behind_selector(around, s, selector) else {
                 return places.lose();
             };
             put_selector(places, around, selector, s);
-            list_operand(places, around, selector, s);
+            list_operand(places, around, selector, from);
             let Some(w) = list_arms(places, around, branches, v) else {
                 return;
             };
@@ -99,6 +101,17 @@ fn list_stmt(places: &mut Written<FlatPlace>, around: &Around, stmt: &Stmt, t: u
         | Stmt::Raise { .. }
         | Stmt::Try { .. }
         | Stmt::Defer { .. } => {}
+    }
+}
+
+// The temporaries of a value, where there is one.
+fn list_if(places: &mut Written<FlatPlace>, around: &Around, value: &Option<Expr>, t: u32)
+    ensures { IsPut places.old places.new (in_front (value_places (types_of around.now)
+        (if_value (types_of around.now) value.now) t)) }
+{
+    match value {
+        None => {}
+        Some(value) => list_expr(places, around, value, t),
     }
 }
 

@@ -2,15 +2,14 @@
 ghost use Rattle.std.specs.Prelude.{◌≡◌, List};
 ghost use Rattle.nim_types.specs.Types.{Ty};
 ghost use Rattle.nim_types.specs.Table.{type_at};
-ghost use Rattle.nim_program.specs.Scopes.{is_written};
+ghost use Rattle.nim_program.specs.Program.{is_written};
 ghost use Rattle.nim_program.specs.Program.{NoArg};
 ghost use Rattle.nim_program.specs.View.{path_of, operand_before, if_type};
-ghost use Rattle.nim_meaning.specs.Shapes.{has_node};
 ghost use Rattle.flattening.specs.Places.{kind_of_path, place, temporary, read_place, location};
+ghost use Rattle.flattening.specs.Places.{selector_place};
 ghost use Rattle.flattening.specs.Views.{types_of};
-ghost use Rattle.flattening.specs.PlaceViews.{read_in_place};
-ghost use Rattle.flattening.specs.Written.{IsPut, one};
 ghost use Rattle.flattening.specs.PlaceViews.{in_front};
+ghost use Rattle.flattening.specs.Written.{IsPut, one};
 
 use crate::around::{Around, type_number};
 use crate::written::Written;
@@ -82,20 +81,12 @@ fn kind_of_path(path: &Path) -> PlaceKind
     }
 }
 
-fn has_node(path: &Path) -> bool
-    ensures { (ts : List Ty) → result ≡ has_node (path_of ts path.now) }
-{
-    !matches!(path, Path::Fresh { .. } | Path::Deref { .. })
-}
-
 /// The value at a path that is read.
 pub fn put_read(places: &mut Written<FlatPlace>, around: &Around, path: &Path, t: u32)
     ensures { IsPut places.old places.new (in_front (read_place (types_of around.now)
         (path_of (types_of around.now) path.now) t)) }
 {
-    if has_node(path) {
-        put_temporary(places, around, path.node(), path.ty(), PlaceKind::Temp, t)
-    }
+    put_temporary(places, around, path.node(), path.ty(), PlaceKind::Temp, t)
 }
 
 /// Where a path leads.
@@ -114,12 +105,12 @@ pub fn put_location(places: &mut Written<FlatPlace>, around: &Around, path: &Pat
 }
 
 /// The value of a selector that is read in place.
-pub fn put_selector(places: &mut Written<FlatPlace>, around: &Around, selector: &Operand, t: u32)
-    ensures { IsPut places.old places.new (in_front (read_in_place (types_of around.now)
-        (operand_before (types_of around.now) selector.now NoArg) t)) }
+pub fn put_selector(places: &mut Written<FlatPlace>, around: &Around, selector: &Operand, s: u32)
+    ensures { IsPut places.old places.new (in_front (selector_place (types_of around.now)
+        (operand_before (types_of around.now) selector.now NoArg) s)) }
 {
     match selector {
         Operand::Value(_) => {}
-        Operand::At(path) => put_read(places, around, path, t),
+        Operand::At(path) => put_read(places, around, path, s),
     }
 }

@@ -7,18 +7,19 @@ use Rattle.nim_types.specs.Types as type
 use Rattle.nim_program.specs.declared.expr.Node.{Node}
 use Rattle.nim_program.specs.Program as P
 use Rattle.nim_program.specs.Program.{Literal, Act, Doing, Building, Giving, Calling, Chooser, Expr, Path, Args, NoArg, ByValue, ByPath, Proc, type_of, type_at}
-use Rattle.nim_program.specs.Program.{types_in, node_at}
-use Rattle.nim_program.specs.Folds.{lists, total, total_at, totals}
+use Rattle.nim_program.specs.Program.{types_in, node_at, constant_in}
+use Rattle.nim_program.specs.Folds.{if_constant, begun_by, lists, total, total_at, totals}
+use Rattle.nim_program.proofs.ForCallers.{in_fresh}
 use Rattle.nim_program.specs.Kinds.{kind_if, is_bool, is_of, is_there, field_at}
 use Rattle.nim_program.specs.Fitting.{early_fits, building_fits, chooser_fits}
 use Rattle.nim_program.specs.Scopes.{Placed, Here, type_in}
 use Rattle.nim_program.specs.Typed.{own_types, type_if, act_types, act_fits, is_typed, is_typed_path, are_typed, is_whole, is_fresh}
-use Rattle.nim_program.specs.Typed.{choice_is_placed}
+use Rattle.nim_program.specs.Typed.{choice_is_placed, is_read}
 use Rattle.nim_meaning.specs.Here.{is_hooked, gives_hooked}
 use Rattle.nim_meaning.specs.LeftOut.{out_if, writes_literals, unless_literal, left_out_in, left_out_in_path, left_out_in_args, is_act_built, first_hooked}
 use Rattle.flattening.specs.Formed.{Ground, Scope, IsListed, IfListed, HasListed, AreListed, IsTaken, AreTaken, ActFormed, Formed, PathFormed, AllFormed}
 use Rattle.flattening.specs.Formed.{taken_by, named_in}
-use Rattle.formed_programs.proofs.Parts.{Each, apart}
+use Rattle.formed_programs.proofs.Parts.{Each, apart, both}
 use Rattle.formed_programs.proofs.Plain.{kept, neither}
 use Rattle.formed_programs.proofs.Listed.{the_bool}
 use Rattle.formed_programs.proofs.Seen.{Sees, named_by, looked, as_many, all_open}
@@ -67,7 +68,7 @@ module _ (types : List Ty) (facts : Facts) (procs : List Proc) (globals : List P
       unhooked : (e : Expr) → is_typed here e ≡ true → left_out_in facts e ≡ None → gives_hooked facts (type_of e) ≡ false
       unhooked (P.Apply node ty act operands) h p =
           (or_parts (gives_hooked facts ty) (not (is_act_built act facts (types_in operands))) (kept _ node (neither _ _ p).0)).0
-      unhooked (P.Read path) h p = unhooked_path path (and_parts (is_whole facts path) (is_typed_path here path) h).1 p
+      unhooked (P.Read path) h p = unhooked_path path (and_parts (is_read facts path) (is_typed_path here path) h).1 p
       unhooked (P.Early node ty short a b) h p =
           let is : ty ≡ type.bool =
           the_bool facts ty (and_parts (is_bool (kind_if facts (Some ty))) _ (and_parts (early_fits facts ty (type_of a) (type_of b)) _ h).0).0 in
@@ -84,17 +85,23 @@ module _ (types : List Ty) (facts : Facts) (procs : List Proc) (globals : List P
 
     -- ---- types of operands
 
+    begun_listed : (c : Option P.Literal) (read : Bool) (value : Expr) →
+        Listed (if_constant c (own_types (begun_by c read value)) (own_types (begun_by c read value) ++ total lists own_types value)) →
+        IfListed types (type_of value)
+    begun_listed None read value h = type_listed (type_of value) [] (apart (IsListed types) (type_if (type_of value) ++ []) _ h).0
+    begun_listed (Some literal) read value h = type_listed (type_of value) [] h
+
     mutual
       value_listed : (e : Expr) → left_out_in facts e ≡ None → Listed (total lists own_types e) → IfListed types (type_of e)
       value_listed (P.Apply node ty act operands) p h = type_listed ty (act_types act) (apart (IsListed types) (type_if ty ++ act_types act) _ h).0
       value_listed (P.Read path) p h = path_listed true path p h
       value_listed (P.Early node ty short a b) p h = h.0
-      value_listed (P.Choose node ty chooser parts) p h = type_listed ty _ h
+      value_listed (P.Choose node ty chooser parts) p h = type_listed ty [] (apart (IsListed types) (type_if ty ++ []) _ h).0
 
       path_listed : (read : Bool) (path : Path) → left_out_in_path facts path ≡ None → Listed (total_at lists own_types read path)
           → IfListed types (type_at path)
       path_listed read (P.Variable node ty place global) p h = h.0
-      path_listed read (P.Fresh value) p h = value_listed value p h
+      path_listed read (P.Fresh value) p h = begun_listed (constant_in value) read value h
       path_listed read (P.Field node ty base field) p h = h.0
       path_listed read (P.Element node ty base index constant) p h = h.0
       path_listed read (P.Deref ty base) p h = left p
@@ -203,7 +210,7 @@ module _ (types : List Ty) (facts : Facts) (procs : List Proc) (globals : List P
               all_taken (writes_literals act) operands t.1 q.1,
               all_formed (writes_literals act) operands t.1 q.1 k.1,
             )
-        formed (P.Read path) h p l = (path_listed true path p l, path_formed true path (and_parts (is_whole facts path) (is_typed_path here path) h).1 p l)
+        formed (P.Read path) h p l = (path_listed true path p l, path_formed true path (and_parts (is_read facts path) (is_typed_path here path) h).1 p l)
         formed (P.Early node ty short a b) h p l =
             let t = and_parts (is_typed here a) (is_typed here b) (and_parts (early_fits facts ty (type_of a) (type_of b)) _ h).1 in
             let q = neither (left_out_in facts a) (left_out_in facts b) p in
@@ -212,14 +219,17 @@ module _ (types : List Ty) (facts : Facts) (procs : List Proc) (globals : List P
         formed (P.Choose node ty chooser parts) h p l =
             let t = and_parts (chooser_fits facts ty chooser (types_in parts) && choice_is_placed chooser parts) (are_typed here parts) h in
             let q = neither (out_if (gives_hooked facts ty || first_hooked facts (types_in parts)) node) (left_out_in_args facts false parts) p in
-            let k = apart (IsListed types) (type_if ty) (totals lists own_types parts) l in
-            (type_listed ty _ l, all_formed false parts t.1 q.1 k.1)
+            let k = apart (IsListed types) (type_if ty ++ []) (totals lists own_types parts) l in
+            (type_listed ty [] k.0, all_formed false parts t.1 q.1 k.1)
 
         path_formed : (read : Bool) (path : Path) → is_typed_path here path ≡ true → left_out_in_path facts path ≡ None
             → Listed (total_at lists own_types read path) → PathFormed ground Open path
         path_formed read (P.Variable node ty place global) h p l = opened global place ty (type_in here global place) refl h
         path_formed read (P.Fresh value) h p l =
-            let t = (and_parts (is_fresh value && is_there (type_of value)) (is_typed here value) h).1 in (inl (unhooked value t p), formed value t p l)
+            let t = (and_parts (is_fresh value && is_there (type_of value)) (is_typed here value) h).1 in
+            let k = in_fresh own_types (λ node ty read literal. refl) Listed (λ xs ys h. (apart (IsListed types) xs ys h).1)
+            (λ xs h. both (IsListed types) xs [] h tt) read value l in
+            (inl (unhooked value t p), formed value t p k)
         path_formed read (P.Field node ty base field) h p l =
             path_formed false base (and_parts (is_of (field_at (kind_if facts (type_at base)) field) (Some ty)) (is_typed_path here base) h).1
             (neither _ _ p).1 l.1

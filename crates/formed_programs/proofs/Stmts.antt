@@ -109,7 +109,7 @@ module _ (types : List Ty) (facts : Facts) (procs : List Proc) (globals : List P
           let t = and_parts (head_fits facts kind operands && are_typed (here places) operands) _ h in
           let u = and_parts (head_fits facts kind operands) (are_typed (here places) operands) t.0 in
           let q = neither (left_out_in_args facts false operands) (left_out_in_block facts body) (neither (out_if _ node) _ p).1 in
-          let k = apart (IsListed types) (place_types (loop_places kind)) _ l in
+          let k = apart (IsListed types) (place_types (loop_places kind) ++ []) _ l in
           let j = apart (IsListed types) (totals lists own_types operands) (total_of lists own_types body) k.1 in
           let m = has_room kind _ r in
           let n = apart (λ d. room d.number) (totals lists own_places operands) (total_of lists own_places body) m.1 in

@@ -13,7 +13,7 @@ use Rattle.nim_program.specs.Fitting.{early_fits}
 use Rattle.nim_program.specs.Scopes.{Here, with_place, with_global}
 use Rattle.nim_program.specs.Typed.{IsTyped, Around, looping, procedure, module_code, in_body, before, dest_of, act_fits, is_typed, is_typed_path, are_typed}
 use Rattle.nim_program.specs.Typed.{is_whole, is_fresh, is_empty, chooses, head_fits, with_places, starts, is_typed_stmt, is_typed_block, are_typed_blocks}
-use Rattle.nim_program.specs.Typed.{is_typed_code, is_typed_body, is_typed_if, is_typed_proc, are_typed_procs, is_typed_start, hook_fits}
+use Rattle.nim_program.specs.Typed.{is_typed_code, is_typed_body, is_typed_if, is_typed_proc, are_typed_procs, is_typed_start, hook_fits, is_read}
 use Rattle.nim_program.specs.Kinds.{are_declared}
 use Rattle.nim_meaning.specs.Here.{is_hooked, gives_hooked}
 use Rattle.nim_meaning.specs.LeftOut.{IsPlain, out_if, unless_literal, writes_literals, is_act_built, first_hooked, any_place_hooked, first_of, left_out_in}
@@ -66,7 +66,7 @@ module _ (facts : Facts) where
           (left_out_in_args facts (writes_literals act) operands) p in
           let r = or_parts (gives_hooked facts ty) (not (is_act_built act facts (types_in operands))) (kept _ node q.0) in
           both (type_plain ty r.0) (values_plain (writes_literals act) operands (and_parts (act_fits here ty act operands) (are_typed here operands) h).1 q.1)
-      value_plain (P.Read path) h p = path_plain path (and_parts (is_whole facts path) (is_typed_path here path) h).1 p
+      value_plain (P.Read path) h p = path_plain path (and_parts (is_read facts path) (is_typed_path here path) h).1 p
       value_plain (P.Early node ty short a b) h p =
           let t = and_parts (early_fits facts ty (type_of a) (type_of b)) (is_typed here a && is_typed here b) h in
           let u = and_parts (is_typed here a) (is_typed here b) t.1 in

@@ -6,11 +6,11 @@ use Rattle.arc_base.specs.Behaviour.{Phase, Running, Ended, no_objects}
 use Rattle.nim_types.specs.Types.{Ty, int, bool, char, text, array, tuple, no_types, types}
 use Rattle.nim_plan.specs.declared.plan.Plan.{Plan}
 use Rattle.nim_program.specs.declared.operation.Operator.TheVariants.{Add}
-use Rattle.nim_program.specs.Program.{Read, Path, Field, Program}
-use Rattle.nim_meaning.specs.Trees.{node, number, literal, made, global_of, value_of, element, field, echoes, swap, update, each, place, does, var_as}
+use Rattle.nim_program.specs.Program.{Read, Path, Fresh, Field, Program}
+use Rattle.nim_meaning.specs.Trees.{node, number, literal, made, global_of, value_of, element, field, echo, echoes, swap, update, each, place, does, var_as}
 use Rattle.nim_meaning.specs.Trees.{program, sight_of}
 use Rattle.nim_meaning.specs.NumberExamples.{color, meters, pair}
-use Rattle.nim_meaning.specs.PlaceExamples.{triple}
+use Rattle.nim_meaning.specs.PlaceExamples.{triple, powers}
 use Rattle.flattening.specs.Flattened.{flat_by_units}
 
 -- ---- a tuple
@@ -37,6 +37,13 @@ gathering = program [] 2
     ∷ does (swap (field whole 0) (element second (number 1)))
     ∷ does (each 1 second (does (update Add (field whole 0) (value_of 1)) ∷ []))
     ∷ does (echoes (Read (field whole 0) ∷ literal (codes " ") ∷ Read (element second (number 1)) ∷ [])) ∷ [])
+
+-- ---- a constant
+
+-- const c = [1, 2, 4]
+-- for x in c: echo x
+abbrev pub listing : Program
+listing = program [] 1 (does (each 0 (Fresh powers) (does (echo (value_of 0)) ∷ [])) ∷ [])
 
 -- ---- what is seen of their flat code
 

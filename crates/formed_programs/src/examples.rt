@@ -3,7 +3,7 @@ ghost use Rattle.std.specs.Prelude.{◌≡◌, codes};
 ghost use Rattle.nim_meaning.specs.NumberExamples as numbers;
 ghost use Rattle.nim_meaning.specs.PlaceExamples as places;
 ghost use Rattle.nim_meaning.specs.LoopExamples as loops;
-ghost use Rattle.formed_programs.specs.Examples.{gathering, Flat_prints, Flat_quits};
+ghost use Rattle.formed_programs.specs.Examples.{gathering, listing, Flat_prints, Flat_quits};
 ghost use Rattle.formed_programs.specs.Examples.{Flat_fails, Flat_runs};
 
 /// The flat code of small programs: elements, `var` parameters, objects, tuples, constants,
@@ -21,6 +21,8 @@ pub fn flat_examples()
     ensures gathering { Flat_prints gathering 2 (codes "18 5\n") }
     ensures moving { Flat_prints places.moving 0 (codes "20 0\n") }
     ensures constants { Flat_prints places.constants 0 (codes "2 4\n") }
+    ensures constant_in_place { Flat_prints places.constant_in_place 0 (codes "2\n") }
+    ensures listing { Flat_prints listing 3 (codes "1\n2\n4\n") }
     ensures converting { Flat_fails numbers.converting 0 (codes "A65green7\n")
         (codes "Error: value out of range\n") }
     ensures stopping_early { Flat_fails numbers.stopping_early 0 (codes "falsetrue\n")

@@ -6,18 +6,18 @@ use Rattle.nim_program.specs.declared.program.Mode.{Mode}
 use Rattle.nim_program.specs.declared.stmt.Leaving.{Leaving}
 use Rattle.nim_program.specs.declared.stmt.Leaving.TheVariants as K
 use Rattle.nim_program.specs.Program as T
-use Rattle.nim_program.specs.Program.{Label, Expr, Args, Declared, Stmt, Stmts, Blocks, node_of, last_after, last_of}
-use Rattle.nim_program.specs.Folds.{numbers, total_in, total_of}
-use Rattle.nim_meaning.proofs.BlockSums.{sum_of_blocks, in_turn_sum}
+use Rattle.nim_program.specs.Program.{Label, Args, Declared, Stmt, Stmts, Blocks, node_of, last_after, last_of}
+use Rattle.nim_program.specs.Folds.{loop_places, numbers, total_in, total_of}
+use Rattle.nim_program.proofs.ForCallers.{sum_of_blocks, in_turn_sum}
 use Rattle.nim_meaning.specs.ActTree.{Path, Named, Begins, Does, Fills, Looks, Chooses, Turns, Asks, Decides, Leaves, Pass, Fill, Lend, Index, Bind, Acts, Then}
 use Rattle.nim_meaning.specs.Shapes.{selector_type, is_covered, is_last_block}
-use Rattle.nim_meaning.specs.ActsOf.{made_by, ended, result_act, result_root, back_or_on, left, looked_up, path_before, site_at, scope, element_act}
+use Rattle.nim_meaning.specs.ActsOf.{makes, ended, result_act, result_root, back_or_on, left, looked_up, path_before, site_at, scope, element_act}
 use Rattle.nim_meaning.specs.ActsOf.{condition_acts, head_acts, loop_acts}
 use Rattle.nim_meaning.specs.ActsOf.{selector_acts, stmt_acts, stmts_acts, first_block_acts, block_arms}
 use Rattle.nim_meaning.specs.Marks.{Mark, Spot}
-use Rattle.nim_meaning.proofs.RunBlocks.{looked_makes_none, result_makes_none}
+use Rattle.nim_meaning.proofs.RunParts.{looked_makes_none, result_makes_none}
 use Rattle.nim_meaning.proofs.MarkCounts.{one, marked_within}
-use Rattle.nim_meaning.proofs.MarkWeights.{inner, node_weight, place_weight, loop_weight, own, inner_roles, outer_roles}
+use Rattle.nim_meaning.proofs.MarkWeights.{inner, node_weight, place_weight, with_places, own, inner_roles, outer_roles}
 use Rattle.nim_meaning.proofs.ValueMarks.{Puts, Holds, ArmsHold, puts_none, puts_at_most, puts_then, puts_control, holds_all, holds_then, holds_at_most}
 use Rattle.nim_meaning.proofs.ValueMarks.{holds_ended}
 use Rattle.nim_meaning.proofs.ValueMarks.{puts_group, puts_choice, puts_loop, no_arm_holds, arm_holds, arms_if, done_holds, either_holds, puts_act, of_value}
@@ -44,21 +44,21 @@ module _ (m : Mark) (hooked : Ty → Bool) (at_call : ℕ → ℕ → Mode) wher
       (alone m condition (puts_value m hooked at_call Owned None condition))
   test_holds (T.ByPath path rest) = done_holds m (of_args m (T.ByPath path rest))
 
-  either_makes_none : (c : Bool) (site : Option ℕ) (place : ℕ) (path : Path) → made_by (if c then Lend site (Named place) path else Fill (Named place)) ≡ []
+  either_makes_none : (c : Bool) (site : Option ℕ) (place : ℕ) (path : Path) → makes (if c then Lend site (Named place) path else Fill (Named place)) ≡ []
   either_makes_none true site place path = refl
   either_makes_none false site place path = refl
 
-  element_makes_none : (variable : Declared) (head : Args) → made_by (element_act hooked at_call variable head) ≡ []
+  element_makes_none : (variable : Declared) (head : Args) → makes (element_act hooked at_call variable head) ≡ []
   element_makes_none variable T.NoArg = refl
   element_makes_none variable (T.ByValue value rest) = refl
   element_makes_none variable (T.ByPath path rest) =
       either_makes_none (hooked variable.of) (site_at path) variable.number (path_before path (Index None ∷ []))
 
   loop_puts : {b : Acts} (n : ℕ) (kind : T.Kind) (head : Args) (last w : ℕ) → Holds m w b →
-      Puts m ((node_weight m n + loop_weight m kind) + (of_args m head + w)) (loop_acts hooked at_call n kind head last b)
+      Puts m (with_places m (loop_places kind) (node_weight m n) + (of_args m head + w)) (loop_acts hooked at_call n kind head last b)
   loop_puts n T.While head last w f =
       let r = inner_roles m n in
-      puts_at_most m (one m (Spot n Turns) + (one m (Spot n Chooses) + (of_args m head + w))) ((node_weight m n + 0) + (of_args m head + w))
+      puts_at_most m (one m (Spot n Turns) + (one m (Spot n Chooses) + (of_args m head + w))) (node_weight m n + (of_args m head + w))
       (omega (arith, r)) (puts_loop m n (of_args m head) w (test_holds head) f)
   loop_puts n (T.Count variable inclusive) head last w f =
       let r = inner_roles m n in
@@ -66,7 +66,7 @@ module _ (m : Mark) (hooked : Ty → Bool) (at_call : ℕ → ℕ → Mode) wher
       let v = place_weight m variable in
       let turn = one m (Spot n Fills) + (v + w) in
       let loop = one m (Spot n Turns) + (one m (Spot n Chooses) + (0 + turn)) in
-      puts_at_most m (one m (Spot n Begins) + (of_args m head + loop)) ((node_weight m n + v) + (of_args m head + w)) (omega (arith, r, o))
+      puts_at_most m (one m (Spot n Begins) + (of_args m head + loop)) ((v + node_weight m n) + (of_args m head + w)) (omega (arith, r, o))
       (puts_group m n Begins (of_args m head + loop) (holds_ended m (of_args m head + loop) (holds_all m (of_args m head + loop)
       (puts_then m (of_args m head) loop (of_args m head + loop) (omega arith) (head_puts head)
       (puts_loop m n 0 turn (done_holds m 0)
@@ -79,7 +79,7 @@ module _ (m : Mark) (hooked : Ty → Bool) (at_call : ℕ → ℕ → Mode) wher
       let turn = one m (Spot n Does) + (one m (Spot n Fills) + (v + w)) in
       let loop = one m (Spot n Turns) + (one m (Spot n Chooses) + (0 + turn)) in
       let looks = one m (Spot n Looks) + loop in
-      puts_at_most m (one m (Spot n Begins) + (of_args m head + looks)) ((node_weight m n + v) + (of_args m head + w)) (omega (arith, r, o))
+      puts_at_most m (one m (Spot n Begins) + (of_args m head + looks)) ((v + node_weight m n) + (of_args m head + w)) (omega (arith, r, o))
       (puts_group m n Begins (of_args m head + looks) (holds_ended m (of_args m head + looks) (holds_all m (of_args m head + looks)
       (puts_then m (of_args m head) looks (of_args m head + looks) (omega arith) (head_puts head)
       (puts_then m (one m (Spot n Looks)) loop looks (omega arith) (puts_act m n Looks (looked_up head []) (looked_makes_none head []))
@@ -174,7 +174,7 @@ module _ (m : Mark) (hooked : Ty → Bool) (at_call : ℕ → ℕ → Mode) wher
       block_holds (T.Declare node place cursor T.NoArg rest) =
           let r = inner_roles m node.number in
           holds_then m (one m (Spot node.number Does)) (place_weight m place + of_block rest)
-          ((node_weight m node.number + place_weight m place) + (0 + of_block rest)) (omega (arith, r))
+          ((place_weight m place + node_weight m node.number) + (0 + of_block rest)) (omega (arith, r))
           (puts_act m node.number Does (Fill (Named place.number)) refl)
           (scope_holds place (last_after node.number rest) (of_block rest) (block_holds rest))
       block_holds (T.Declare node place cursor (T.ByValue value more) rest) =
@@ -183,7 +183,7 @@ module _ (m : Mark) (hooked : Ty → Bool) (at_call : ℕ → ℕ → Mode) wher
           let o = outer_roles m n in
           let fills = of_value m value + one m (Spot n Does) in
           holds_then m (one m (Spot n Begins) + fills) (place_weight m place + of_block rest)
-          ((node_weight m n + place_weight m place) + ((of_value m value + of_args m more) + of_block rest)) (omega (arith, r, o))
+          ((place_weight m place + node_weight m n) + ((of_value m value + of_args m more) + of_block rest)) (omega (arith, r, o))
           (puts_group m n Begins fills (holds_ended m fills (holds_all m fills
           (puts_then m (of_value m value) (one m (Spot n Does)) fills (omega arith)
           (entire m value (puts_value m hooked at_call Given (Some (Named place.number)) value)) (puts_act m n Does (Fill (Named place.number)) refl)))))

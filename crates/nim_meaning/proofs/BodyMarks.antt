@@ -1,22 +1,22 @@
 -- Where nodes and places have numbers of their own, each point and each scope of a body's acts stands there once.
-use Rattle.std.proofs.Common.{◌≡◌, refl, sym, ap, subst, ◌∙◌, arith, ◌≤◌, ℕ, suc, ◌+◌, nat_eq, Bool, true, false, ◌&&◌, if◌then◌else◌, List, [], ◌∷◌, ◌++◌}
+use Rattle.std.proofs.Common.{◌≡◌, refl, sym, ap, subst, arith, ◌≤◌, ℕ, suc, ◌+◌, nat_eq, Bool, true, false, ◌&&◌, if◌then◌else◌, List, [], ◌∷◌, ◌++◌}
 use Rattle.std.proofs.Common.{Option, Some, None}
 use Rattle.std.proofs.lemmas.Bool.{eqb-true}
 use Rattle.nim_types.specs.Types.{Ty}
 use Rattle.nim_program.specs.declared.operation.Use.{Use}
 use Rattle.nim_program.specs.declared.program.Mode.{Mode}
 use Rattle.nim_program.specs.declared.program.Mode.TheVariants as M
-use Rattle.nim_program.specs.Program as T
-use Rattle.nim_program.specs.Program.{Expr, Declared, Stmts, Param, Body, node_of, last_of}
-use Rattle.nim_program.specs.Folds.{Seen, AtApply, AtEarly, AtChoose, AtPath, AtStmt, AtDeclare, AtLoop, AtHandler, numbers, lists, total, total_at, totals}
+use Rattle.nim_program.specs.declared.expr.Node.{Node}
+use Rattle.nim_program.specs.Program.{Expr, Declared, Stmts, Param, Body, last_of}
+use Rattle.nim_program.specs.Folds.{Seen, number_if, numbers, lists, total}
 use Rattle.nim_program.specs.Folds.{total_of}
-use Rattle.nim_program.specs.Folds.{node_numbers, nodes, block_nodes, if_declared, loop_places, own_places, block_places, param_places, body_places}
+use Rattle.nim_program.specs.Folds.{node_numbers, nodes, block_nodes, if_declared, own_places, block_places, param_places, body_places}
 use Rattle.nim_meaning.specs.ActTree.{Root, Named, Temporary, Literal, Role, Acts, Done, Result}
 use Rattle.nim_meaning.specs.ActsOf.{acts_of, stmts_acts, owned, with_result, all_owned, proc_acts}
 use Rattle.nim_meaning.specs.Marks.{Distinct, place_numbers, Mark, Spot, Scope, all_marks}
-use Rattle.nim_meaning.proofs.FoldRelations.{Relates, related, related_of}
+use Rattle.nim_program.proofs.ForCallers.{Relates, related, related_of, declares_none}
 use Rattle.nim_meaning.proofs.MarkCounts.{bit, count, count_both, distinct_by, at_most_once, same_mark, self_mark, all_marked_is, marked_within}
-use Rattle.nim_meaning.proofs.MarkWeights.{is_outer, node_weight, place_weight, if_place_weight, loop_weight, own}
+use Rattle.nim_meaning.proofs.MarkWeights.{is_outer, node_weight, place_weight, with_places, if_place_weight, weight_if, own}
 use Rattle.nim_meaning.proofs.ValueMarks.{Holds, holds_all, holds_at_most, of_value, entire, puts_value}
 use Rattle.nim_meaning.proofs.BlockMarks.{scope_holds, block_holds}
 
@@ -38,24 +38,16 @@ within_both n xs ys v w h g = let e = count_both nat_eq n xs ys in omega (arith,
 
 -- a mark that weighs one at most for one number of a node, and nothing for places
 module _ (m : Mark) (n : ℕ) (at_node : (k : ℕ) → node_weight m k ≤ bit (nat_eq k n)) (no_place : (place : Declared) → place_weight m place ≡ 0) where
-  no_places : (name : Option Declared) → if_place_weight m name ≡ 0
-  no_places None = refl
-  no_places (Some place) = no_place place
+  no_places : (places : List Declared) (w : ℕ) → with_places m places w ≡ w
+  no_places [] w = refl
+  no_places (place ∷ places) w = let e = no_place place in let f = no_places places w in omega (arith, e, f)
 
-  no_variable : (kind : T.Kind) → loop_weight m kind ≡ 0
-  no_variable T.While = refl
-  no_variable (T.Count variable inclusive) = no_place variable
-  no_variable (T.Each variable) = no_place variable
+  if_node : (node : Option Node) → Within n (number_if node) (weight_if m node)
+  if_node None = omega arith
+  if_node (Some node) = let h = at_node node.number in omega (arith, h)
 
   own_nodes : (seen : Seen) → Within n (node_numbers seen) (own m seen)
-  own_nodes (AtApply node ty act) = let h = at_node node.number in omega (arith, h)
-  own_nodes (AtEarly node ty short) = let h = at_node node.number in omega (arith, h)
-  own_nodes (AtChoose node ty chooser) = let h = at_node node.number in omega (arith, h)
-  own_nodes (AtPath read node ty step) = let h = at_node node.number in omega (arith, h)
-  own_nodes (AtStmt node) = let h = at_node node.number in omega (arith, h)
-  own_nodes (AtDeclare node place cursor) = let h = at_node node.number in let e = no_place place in omega (arith, h, e)
-  own_nodes (AtLoop node kind) = let h = at_node node.number in let e = no_variable kind in omega (arith, h, e)
-  own_nodes (AtHandler name) = let e = no_places name in omega (arith, e)
+  own_nodes seen = let h = if_node seen.node in let e = no_places seen.places (weight_if m seen.node) in omega (arith, h, e)
 
   by_nodes : Relates lists numbers node_numbers (own m) (Within n)
   by_nodes = record { none = omega arith; plus = λ x y u v h g. within_both n x y u v h g; own = own_nodes }
@@ -94,54 +86,22 @@ module _ (p : ℕ) where
   if_placed None = omega arith
   if_placed (Some place) = omega arith
 
-  loop_placed : (kind : T.Kind) → Placed p (loop_places kind) (loop_weight named kind)
-  loop_placed T.While = omega arith
-  loop_placed (T.Count variable inclusive) = omega arith
-  loop_placed (T.Each variable) = omega arith
+  all_placed : (places : List Declared) (w : ℕ) → w ≡ 0 → Placed p places (with_places named places w)
+  all_placed [] w e = omega (arith, e)
+  all_placed (place ∷ places) w e = let h = all_placed places w e in omega (arith, h)
+
+  node_unplaced : (node : Option Node) → weight_if named node ≡ 0
+  node_unplaced None = refl
+  node_unplaced (Some node) = omega arith
 
   own_placed : (seen : Seen) → Placed p (own_places seen) (own named seen)
-  own_placed (AtApply node ty act) = omega arith
-  own_placed (AtEarly node ty short) = omega arith
-  own_placed (AtChoose node ty chooser) = omega arith
-  own_placed (AtPath read node ty step) = omega arith
-  own_placed (AtStmt node) = omega arith
-  own_placed (AtDeclare node place cursor) = omega arith
-  own_placed (AtLoop node kind) = let h = loop_placed kind in omega (arith, h)
-  own_placed (AtHandler name) = if_placed name
+  own_placed seen = all_placed seen.places (weight_if named seen.node) (node_unplaced seen.node)
 
   by_places : Relates lists numbers own_places (own named) (Placed p)
   by_places = record { none = omega arith; plus = λ x y u v h g. placed_both p x y u v h g; own = own_placed }
 
   block_placed : (b : Stmts) → Placed p (block_places b) (total_of numbers (own named) b)
   block_placed b = related_of lists numbers own_places (own named) (Placed p) by_places b
-
--- ---- expressions declare no places
-
-both_none : (xs ys : List Declared) → xs ≡ [] → ys ≡ [] → xs ++ ys ≡ []
-both_none xs ys e f = ap (λ zs. zs ++ ys) e ∙ f
-
-mutual
-  declares_none : (e : Expr) → total lists own_places e ≡ []
-  declares_none (T.Apply node ty act operands) = all_declare_none operands
-  declares_none (T.Read path) = path_declares_none true path
-  declares_none (T.Early node ty short left right) =
-      both_none (total lists own_places left) (total lists own_places right) (declares_none left) (declares_none right)
-  declares_none (T.Choose node ty chooser parts) = all_declare_none parts
-
-  path_declares_none : (read : Bool) (path : T.Path) → total_at lists own_places read path ≡ []
-  path_declares_none read (T.Variable node ty place global) = refl
-  path_declares_none read (T.Fresh value) = declares_none value
-  path_declares_none read (T.Field node ty base field) = path_declares_none false base
-  path_declares_none read (T.Element node ty base index constant) =
-      both_none (total_at lists own_places false base) (total lists own_places index) (path_declares_none false base) (declares_none index)
-  path_declares_none read (T.Deref ty base) = path_declares_none read base
-
-  all_declare_none : (args : T.Args) → totals lists own_places args ≡ []
-  all_declare_none T.NoArg = refl
-  all_declare_none (T.ByValue value rest) =
-      both_none (total lists own_places value) (totals lists own_places rest) (declares_none value) (all_declare_none rest)
-  all_declare_none (T.ByPath path rest) =
-      both_none (total_at lists own_places false path) (totals lists own_places rest) (path_declares_none false path) (all_declare_none rest)
 
 -- ---- a literal is no scope
 

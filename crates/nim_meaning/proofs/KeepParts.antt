@@ -5,7 +5,7 @@ use Rattle.nim_program.specs.Program.{Param, Body, Program, last_of}
 use Rattle.nim_meaning.specs.Heap.{Contents, has_room}
 use Rattle.nim_meaning.specs.Values.{Value, Slot}
 use Rattle.nim_meaning.specs.State.{Frame, World, with_frame, down_to}
-use Rattle.nim_meaning.specs.Acts.{Broke, Continued, Returned, Raised, Flow, On, Out, exit_of, change}
+use Rattle.nim_meaning.specs.Acts.{Broke, Continued, Returned, Raised, Outcome, On, Out, exit_of, change}
 use Rattle.nim_meaning.specs.Deeds.{Change, changed, with_block}
 use Rattle.nim_meaning.specs.Here.{Calls, Here}
 use Rattle.nim_meaning.specs.Meaning.{exec_all, frame_of, params_end, handing, handed, entered_body, from_level, goes_through}
@@ -57,7 +57,7 @@ module _ (K : World → Type 0) (I : ℕ → World → Type 0) (inv : Invariant 
   params_stay at here (param ∷ params) exit =
       keeps_past K (I at) (I at) (Only K (I at)) (params_end here params exit) _ (params_stay at here params exit) (record { at = λ s i. i })
 
-  handing_stays : (level : ℕ) (flow : Flow (Unit {0})) (v : Value) → Stays K (I level) (handing flow v)
+  handing_stays : (level : ℕ) (flow : Outcome (Unit {0})) (v : Value) → Stays K (I level) (handing flow v)
   handing_stays level (On x) v = record { at = λ s i. i }
   handing_stays level (Out (Broke by)) v = record { at = λ s i. i }
   handing_stays level (Out (Continued by)) v = record { at = λ s i. i }
@@ -68,7 +68,7 @@ module _ (K : World → Type 0) (I : ℕ → World → Type 0) (inv : Invariant 
     abbrev here : Here
     here = from_level program plan (suc level) call body
 
-    handed_back : (flow : Flow (Unit {0})) → Keeps K (I (suc level)) (handed params (last_of body.stmts) here flow) (λ x. I level)
+    handed_back : (flow : Outcome (Unit {0})) → Keeps K (I (suc level)) (handed params (last_of body.stmts) here flow) (λ x. I level)
     handed_back flow =
         let exit = exit_of (last_of body.stmts) flow in
         keeps_looks K (I (suc level)) (λ x. I level) _

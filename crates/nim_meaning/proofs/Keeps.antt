@@ -5,7 +5,7 @@ use Rattle.arc_base.specs.BigStep.{Res, Got, Over, Going, Errs, then_do, spend, 
 use Rattle.nim_meaning.specs.Ways.{Point}
 use Rattle.nim_meaning.specs.Heap.{Contents, has_room}
 use Rattle.nim_meaning.specs.State.{World, State}
-use Rattle.nim_meaning.specs.Acts.{Broke, Continued, Returned, Raised, Flow, On, Out, Does, onward, ◌>>=◌, ◌>>◌, at_exit, branch, worked, say, costs}
+use Rattle.nim_meaning.specs.Acts.{Broke, Continued, Returned, Raised, Outcome, On, Out, Does, onward, ◌>>=◌, ◌>>◌, at_exit, branch, worked, say, costs}
 use Rattle.nim_meaning.specs.Acts.{spending, end}
 use Rattle.nim_meaning.specs.Acts.{looks, change, left_with, with_trail, passing, elsewhere, turn_of, loop, next, again}
 use Rattle.nim_meaning.specs.Deeds.{with_block}
@@ -31,23 +31,23 @@ module _ (K : World → Type 0) where
       Keeps K I (λ s. act (worked n s)) J
   keeps_costs I J n act h = record { at = λ s i. h.at (worked n s) i }
 
-  pub keeps_looks : {A : Type 0} (I : World → Type 0) (J : Flow A → World → Type 0) (act : World → Does A) → ((world : World) → Keeps K I (act world) J) →
+  pub keeps_looks : {A : Type 0} (I : World → Type 0) (J : Outcome A → World → Type 0) (act : World → Does A) → ((world : World) → Keeps K I (act world) J) →
       Keeps K I (looks act) J
   keeps_looks I J act h = record { at = λ s i. (h s.world).at s i }
 
   -- it comes to J, and isn't left
-  abbrev pub Only : {A : Type 0} → (World → Type 0) → Flow A → World → Type 0
+  abbrev pub Only : {A : Type 0} → (World → Type 0) → Outcome A → World → Type 0
   Only J (On x) world = J world
   Only J (Out way) world = ⊥
 
   pub keeps_on : (I J : World → Type 0) (f : World → World) → ((world : World) → I world → J (f world)) → Keeps K I (change f) (Only J)
   keeps_on I J f h = record { at = λ s i. h s.world i }
 
-  pub keeps_past : {A B : Type 0} (I J : World → Type 0) (M : Flow B → World → Type 0) (act : Does A) (rest : Does B) → Keeps K I act (Only J) →
+  pub keeps_past : {A B : Type 0} (I J : World → Type 0) (M : Outcome B → World → Type 0) (act : Does A) (rest : Does B) → Keeps K I act (Only J) →
       Keeps K J rest M → Keeps K I (act >> rest) M
   keeps_past {A} I J M act rest h g = keeps_then I (Only J) M act (onward (λ _. rest)) h on
     where
-      on : (flow : Flow A) → Keeps K (Only J flow) (onward (λ _. rest) flow) M
+      on : (flow : Outcome A) → Keeps K (Only J flow) (onward (λ _. rest) flow) M
       on (On x) = g
       on (Out way) = record { at = λ s i. absurd i }
 
@@ -66,7 +66,7 @@ module _ (K : World → Type 0) where
         Stays I (λ s. then_do (act s) go)
     stays_then act go h g = keeps_then I (λ x. I) (λ x. I) act go h g
 
-    on_flow : {A B : Type 0} (rest : A → Does B) → ((x : A) → Stays I (rest x)) → (flow : Flow A) → Stays I (onward rest flow)
+    on_flow : {A B : Type 0} (rest : A → Does B) → ((x : A) → Stays I (rest x)) → (flow : Outcome A) → Stays I (onward rest flow)
     on_flow rest h (On x) = h x
     on_flow rest h (Out way) = stays_got (Out way)
 
@@ -128,7 +128,7 @@ module _ (K : World → Type 0) where
       turns_stay zero x = record { at = λ s i. within s.world i }
       turns_stay (suc n) x = stays_then (turn x) (next_turn (turns n turn)) (each x) (next_stays n (turns_stay n))
 
-    turn_of_stays : {X Y : Type 0} (flow : Flow (Turn X Y)) → Stays I (turn_of flow)
+    turn_of_stays : {X Y : Type 0} (flow : Outcome (Turn X Y)) → Stays I (turn_of flow)
     turn_of_stays (On (Again x)) = stays_got (Again x)
     turn_of_stays (On (Leave y)) = stays_got (Leave (On y))
     turn_of_stays (Out way) = stays_got (Leave (Out way))
@@ -140,7 +140,7 @@ module _ (K : World → Type 0) where
               (turns_stay (λ x s. then_do (turn x s) turn_of) (λ x. stays_then (turn x) turn_of (h x) turn_of_stays) (suc s.meter.units) x).at s i;
         }
 
-    next_leaves : {X : Type 0} (x : X) (flow : Flow (Unit {0})) → Stays I (next x flow)
+    next_leaves : {X : Type 0} (x : X) (flow : Outcome (Unit {0})) → Stays I (next x flow)
     next_leaves x (On done) = stays_got (On (Again x))
     next_leaves x (Out (Continued by)) = stays_got (On (Again x))
     next_leaves x (Out (Broke by)) = stays_got (On (Leave tt))

@@ -2,13 +2,12 @@
 use Rattle.std.proofs.Common.{◌≡◌, refl, sym, subst, inl, inr, ◌∙◌, ap, nat_eq, ℕ, suc, Bool, false, if◌then◌else◌, List, [], ◌∷◌, ◌++◌, Option, Some, None}
 use Rattle.std.proofs.lemmas.Bool.{eq-eqb, ne_eqb}
 use Rattle.nim_program.specs.declared.program.Mode.{Mode}
-use Rattle.nim_program.specs.Program as T
 use Rattle.nim_program.specs.Program.{Stmts, Declared, Param, Body}
-use Rattle.nim_program.specs.Folds.{Seen, AtApply, AtEarly, AtChoose, AtPath, AtStmt, AtDeclare, AtLoop, AtHandler, lists}
+use Rattle.nim_program.specs.Folds.{Seen, lists}
 use Rattle.nim_program.specs.Folds.{if_declared, own_places, block_places, param_places, body_places}
 use Rattle.nim_meaning.specs.Marks.{Member, Distinct, place_numbers}
-use Rattle.nim_meaning.specs.PlaceKinds.{Kind, Kinded, numbers, if_kinded, own_kinds, block_kinds, param_kinds, body_kinds, kind_in}
-use Rattle.nim_meaning.proofs.FoldRelations.{Relates, related_of}
+use Rattle.nim_meaning.specs.PlaceKinds.{DeclaredAs, Kinded, numbers, if_kinded, all_kinded, place_of, own_kinds, block_kinds, param_kinds, body_kinds, kind_in}
+use Rattle.nim_program.proofs.ForCallers.{Relates, related_of}
 
 -- as many kinds as places, by the same numbers
 abbrev Same : List Kinded → List Declared → Type 0
@@ -26,23 +25,17 @@ same_both : (ks ls : List Kinded) (xs ys : List Declared) → Same ks xs → Sam
 same_both ks ls xs ys h g =
     numbers_both ks ls ∙ ap (λ ns. ns ++ numbers ls) h ∙ ap (λ ns. place_numbers xs ++ ns) g ∙ sym (places_both xs ys)
 
-if_same : (name : Option Declared) (kind : Kind) → Same (if_kinded name kind) (if_declared name)
+if_same : (name : Option Declared) (kind : DeclaredAs) → Same (if_kinded name kind) (if_declared name)
 if_same None kind = refl
 if_same (Some place) kind = refl
 
+all_same : (kind : Declared → DeclaredAs) (places : List Declared) → Same (all_kinded kind places) places
+all_same kind [] = refl
+all_same kind (place ∷ places) = ap (λ ns. place.number ∷ ns) (all_same kind places)
+
 module _ (globals : List Declared) where
   own_same : (seen : Seen) → Same (own_kinds globals seen) (own_places seen)
-  own_same (AtApply node ty act) = refl
-  own_same (AtEarly node ty short) = refl
-  own_same (AtChoose node ty chooser) = refl
-  own_same (AtPath read node ty step) = refl
-  own_same (AtStmt node) = refl
-  own_same (AtDeclare node place cursor) = refl
-  own_same (AtLoop node T.While) = refl
-  own_same (AtLoop node (T.Count variable inclusive)) = refl
-  own_same (AtLoop node (T.Each variable)) = refl
-  own_same (AtHandler None) = refl
-  own_same (AtHandler (Some place)) = refl
+  own_same seen = all_same (place_of globals seen.part) seen.places
 
   by_parts : Relates lists lists (own_kinds globals) own_places Same
   by_parts = record { none = refl; plus = λ x y u v h g. same_both x y u v h g; own = own_same }
@@ -71,7 +64,7 @@ is_place k (j ∷ ks) (inr h) = inr (is_place k ks h)
 is_place k [] h = h
 
 -- the first entry of a number, where another one is looked for behind it
-behind : (j : Kinded) (ks : List Kinded) (n : ℕ) (kind : Option Kind) (b : Bool) → nat_eq j.place n ≡ b → b ≡ false → kind_in ks n ≡ kind →
+behind : (j : Kinded) (ks : List Kinded) (n : ℕ) (kind : Option DeclaredAs) (b : Bool) → nat_eq j.place n ≡ b → b ≡ false → kind_in ks n ≡ kind →
     kind_in (j ∷ ks) n ≡ kind
 behind j ks n kind b e h i = ap (λ c. if c then Some j.kind else kind_in ks n) (e ∙ h) ∙ i
 

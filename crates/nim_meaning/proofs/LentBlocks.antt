@@ -6,7 +6,7 @@ use Rattle.nim_program.specs.declared.program.Mode.TheVariants as M
 use Rattle.nim_program.specs.declared.stmt.Leaving.{Leaving}
 use Rattle.nim_program.specs.declared.stmt.Leaving.TheVariants as K
 use Rattle.nim_program.specs.Program as T
-use Rattle.nim_program.specs.Program.{Label, Expr, Args, Declared, Stmt, Stmts, Blocks, Param, Body, node_of, last_after, last_of}
+use Rattle.nim_program.specs.Program.{Label, Args, Declared, Stmt, Stmts, Blocks, Param, Body, last_after, last_of}
 use Rattle.nim_meaning.specs.ActTree.{Root, Named, Begins, Does, Fills, Looks, Chooses, Lend, Fill, Index, Control, Do, Loop, Acts, Done, Then, Bind, Result}
 use Rattle.nim_meaning.specs.ActTree.{Path, is_read_by, until_read}
 use Rattle.nim_meaning.specs.Shapes.{selector_type, is_covered, is_last_block}

@@ -1,6 +1,6 @@
 -- Each value that is lent to a temporary is read behind: expressions.
 use Rattle.std.proofs.Common.{◌≡◌, refl, sym, subst, ◌∙◌, inl, inr, ⊎_elim, ◌⊎◌, ℕ, suc, Bool, true, false, ◌&&◌, if◌then◌else◌, nat_eq, List, [], ◌∷◌}
-use Rattle.std.proofs.Common.{Option, None}
+use Rattle.std.proofs.Common.{Option, Some, None}
 use Rattle.std.proofs.lemmas.Bool.{false≢true, eq-eqb, or_left, or_right}
 use Rattle.nim_types.specs.Types.{Ty}
 use Rattle.nim_program.specs.declared.operation.Operation.{Operation}
@@ -11,7 +11,8 @@ use Rattle.nim_program.specs.declared.operation.Use.{Use}
 use Rattle.nim_program.specs.declared.operation.Use.TheVariants.{Owned, Given, Held, Lent, Looked}
 use Rattle.nim_program.specs.declared.program.Mode.{Mode}
 use Rattle.nim_program.specs.Program as T
-use Rattle.nim_program.specs.Program.{Label, Expr, Args, type_of, node_of, node_at}
+use Rattle.nim_program.specs.Program.{Label, Expr, Args, type_of, node_of, constant_in}
+use Rattle.nim_program.specs.Folds.{by_constant}
 use Rattle.nim_program.specs.Uses.{use_by, use_of}
 use Rattle.nim_meaning.specs.ActTree.{Root, Temporary, same_root, Path, Operands, Does, Chooses, Operate, is_among, is_read_by}
 use Rattle.nim_meaning.specs.ActTree.{Control, Do, Choose, Group, Arms, No_arm, Acts, Done, Then}
@@ -30,7 +31,6 @@ Reads x b = reads_later x b ≡ true
 lends_none : (operation : Operation) (operands : Args) (on : Operands) (n : ℕ) → lent_to (Do n Does (act_by operation operands on)) ≡ None
 lends_none O.Assign (T.ByPath path rest) on n = refl
 lends_none (O.Measure measure) (T.ByPath path rest) on n = refl
-lends_none O.IsNil (T.ByPath path rest) on n = refl
 lends_none _ operands on n = refl
 
 abbrev is_lent : Use → Bool
@@ -44,7 +44,6 @@ is_lent Looked = false
 lent_operates : (operation : Operation) (operands : Args) (on : Operands) → is_lent (use_by operation) ≡ true → act_by operation operands on ≡ Operate on
 lent_operates O.Assign (T.ByPath path rest) on h = absurd (false≢true h)
 lent_operates (O.Measure measure) (T.ByPath path rest) on h = absurd (false≢true h)
-lent_operates O.IsNil (T.ByPath path rest) on h = absurd (false≢true h)
 lent_operates _ operands on h = refl
 
 -- ---- parts that keep what is read behind them, and in which all that is lent is read
@@ -285,6 +284,10 @@ module _ (hooked : Ty → Bool) (at_call : ℕ → ℕ → Mode) where
   abbrev looked : {F : Acts → Acts} (e : Expr) → Value Looked e F → Free F
   looked e f = value_free Looked e refl f
 
+  unless_constant : {F : Acts → Acts} (c : Option T.Literal) → Free F → Free (λ r. by_constant c (λ literal. r) (F r))
+  unless_constant None f = f
+  unless_constant (Some literal) f = free_none
+
   mutual
     pub value_lent : (how : Use) (to : Option Root) (e : Expr) → Value how e (acts_of hooked at_call how to e)
     value_lent how to (T.Apply node ty act operands) =
@@ -307,7 +310,7 @@ module _ (hooked : Ty → Bool) (at_call : ℕ → ℕ → Mode) where
 
     pub aimed_free : (path : T.Path) → Free (aimed hooked at_call path)
     aimed_free (T.Variable node ty place global) = free_none
-    aimed_free (T.Fresh value) = looked value (value_lent Looked None value)
+    aimed_free (T.Fresh value) = unless_constant (constant_in value) (looked value (value_lent Looked None value))
     aimed_free (T.Field node ty base field) = aimed_free base
     aimed_free (T.Element node ty base index constant) = free_then (aimed_free base) (owned index (value_lent Owned None index))
     aimed_free (T.Deref ty base) = aimed_free base

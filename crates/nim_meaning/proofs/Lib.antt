@@ -1,15 +1,16 @@
-mod BlockSums
 mod ArrowLemmas
 mod ScopeLemmas
 mod DeedLemmas
+mod RowPlaces
+mod AimLemmas
 mod RunLemmas
 mod RunLoops
+mod RunDeeds
 mod StillLemmas
 mod RunParts
 mod RunValues
 mod RunBlocks
 mod RunPrograms
-mod FoldRelations
 mod MarkCounts
 mod MarkWeights
 mod ValueMarks
@@ -29,4 +30,3 @@ mod Rows
 mod Tame
 mod TameParts
 mod Whole
-pub mod ForCallers

@@ -3,7 +3,7 @@ use Rattle.std.proofs.Common.{◌≡◌, refl, sym, ap, ap₂, subst, inl, inr, 
 use Rattle.std.proofs.Common.{List, [], ◌∷◌, ◌++◌}
 use Rattle.nim_meaning.specs.ActTree.{Named, Temporary, Literal, same_root, Role, Begins, Does, Fills, Looks, Chooses, Turns, Asks, Decides, Leaves}
 use Rattle.nim_meaning.specs.ActTree.{Control, Do, Choose, Loop, Break, Continue, Return, Call, Group, Arms, No_arm, An_arm, Acts, Done, Then, Bind, Result}
-use Rattle.nim_meaning.specs.ActsOf.{made_by, made, made_in, all_made, bound, ended}
+use Rattle.nim_meaning.specs.ActsOf.{makes, made, made_in, all_made, bound, ended}
 use Rattle.nim_meaning.specs.Marks.{Member, Distinct, Mark, Spot, Scope, marks, arm_marks, all_marks}
 
 -- ---- lists
@@ -161,7 +161,7 @@ module _ (m : Mark) where
   -- with the scopes of the temporaries that they make
   abbrev mutual
     pub weight : Control → ℕ
-    weight (Do n r a) = one (Spot n r) + scopes_of (made_by a)
+    weight (Do n r a) = one (Spot n r) + scopes_of (makes a)
     weight (Choose n r arms) = one (Spot n r) + arms_weight arms
     weight (Loop n c b) = marked (Loop n c b)
     weight (Break n) = one (Spot n Leaves)

@@ -1,8 +1,8 @@
 -- What each part of the tree weighs at most: how often a mark may stand in its acts.
-use Rattle.std.proofs.Common.{◌≡◌, refl, arith, ◌≤◌, ℕ, ◌+◌, nat_eq, Bool, true, false, ◌&&◌, if◌then◌else◌, Option, Some, None}
-use Rattle.nim_program.specs.Program as T
-use Rattle.nim_program.specs.Program.{Expr, Declared, node_of, node_at}
-use Rattle.nim_program.specs.Folds.{Seen, AtApply, AtEarly, AtChoose, AtPath, AtStmt, AtDeclare, AtLoop, AtHandler}
+use Rattle.std.proofs.Common.{◌≡◌, refl, arith, ◌≤◌, ℕ, ◌+◌, nat_eq, Bool, true, false, ◌&&◌, if◌then◌else◌, List, [], ◌∷◌, Option, Some, None}
+use Rattle.nim_program.specs.declared.expr.Node.{Node}
+use Rattle.nim_program.specs.Program.{Declared}
+use Rattle.nim_program.specs.Folds.{Seen}
 use Rattle.nim_meaning.specs.ActTree.{Named, Temporary, Literal, Role, Begins, Does, Fills, Looks, Chooses, Turns, Asks, Decides, Leaves}
 use Rattle.nim_meaning.specs.Marks.{Mark, Spot, Scope}
 use Rattle.nim_meaning.proofs.MarkCounts.{bit, same_role, one}
@@ -50,21 +50,17 @@ module _ (m : Mark) where
   if_place_weight None = 0
   if_place_weight (Some place) = place_weight place
 
-  abbrev pub loop_weight : T.Kind → ℕ
-  loop_weight T.While = 0
-  loop_weight (T.Count variable inclusive) = place_weight variable
-  loop_weight (T.Each variable) = place_weight variable
+  abbrev pub with_places : List Declared → (weight : ℕ) → ℕ
+  with_places [] weight = weight
+  with_places (place ∷ places) weight = place_weight place + with_places places weight
+
+  abbrev pub weight_if : Option Node → ℕ
+  weight_if None = 0
+  weight_if (Some node) = node_weight node.number
 
   -- of a part of the tree
   abbrev pub own : Seen → ℕ
-  own (AtApply node ty act) = node_weight node.number
-  own (AtEarly node ty short) = node_weight node.number
-  own (AtChoose node ty chooser) = node_weight node.number
-  own (AtPath read node ty step) = node_weight node.number
-  own (AtStmt node) = node_weight node.number
-  own (AtDeclare node place cursor) = node_weight node.number + place_weight place
-  own (AtLoop node kind) = node_weight node.number + loop_weight kind
-  own (AtHandler name) = if_place_weight name
+  own seen = with_places seen.places (weight_if seen.node)
 
 -- ---- the roles of one node
 

@@ -7,10 +7,11 @@ use Rattle.arc_base.specs.BigStep.{Res, Got, then_do, Turn}
 use Rattle.nim_types.specs.Types.{Ty}
 use Rattle.nim_program.specs.declared.operation.Short.{Short}
 use Rattle.nim_program.specs.declared.operation.Short.TheVariants.{And, Or}
-use Rattle.nim_program.specs.Program.{Label, Act, Doing, Building, Giving, Calling, ByConditions, ByLabels, Expr, Apply, Read, Early, Choose}
+use Rattle.nim_program.specs.Program.{Label, Literal, Act, Doing, Building, Giving, Calling, ByConditions, ByLabels, Expr, Apply, Read, Early, Choose}
 use Rattle.nim_program.specs.Program.{Path, Variable, Fresh, Field, Element, Deref, Args, NoArg, ByValue, ByPath, Declared, Kind, While, Count, Each}
 use Rattle.nim_program.specs.Program.{Stmt, Do, Idle, Give, Leave, Select, Loop, Raise, Try, Stmts, Empty, Then, Declare, Defer, Blocks, Otherwise, Block}
-use Rattle.nim_program.specs.Program.{type_of, type_at, node_of, node_at, types_in, last_after, last_of}
+use Rattle.nim_program.specs.Program.{type_of, type_at, node_of, node_at, constant_in, types_in, last_after, last_of}
+use Rattle.nim_program.specs.Folds.{by_constant}
 use Rattle.nim_program.specs.Traps.{Trap, OutOfMemory, LengthChanged}
 use Rattle.nim_program.specs.declared.operation.Use.{Use}
 use Rattle.nim_program.specs.declared.operation.Use.TheVariants.{Owned, Given as ToPlace, Looked}
@@ -21,19 +22,20 @@ use Rattle.nim_meaning.specs.Ways.{Point, At as Spot}
 use Rattle.nim_meaning.specs.Heap.{Contents, has_room}
 use Rattle.nim_meaning.specs.Values.{Value, Number, number_of, length_of, default_of, Location, Slot, Holds, Operand, slots_for}
 use Rattle.nim_meaning.specs.State.{World, State, load}
-use Rattle.nim_meaning.specs.Acts.{Broke, Continued, Returned, Raised, Flow, On, Out, Does, exit_of, wrong, onward, ◌>>=◌, ◌>>◌, branch, costs, say}
+use Rattle.nim_meaning.specs.Acts.{Broke, Continued, Returned, Raised, Outcome, On, Out, Does, exit_of, wrong, onward, ◌>>=◌, ◌>>◌, branch, costs, say}
 use Rattle.nim_meaning.specs.Acts.{write, end, stop}
 use Rattle.nim_meaning.specs.Acts.{looks, change, passing, again, no_more, loop}
 use Rattle.nim_meaning.specs.Deeds.{Change, Opens, changed, with_block, Deed, Gives, Ends, Errs, Works, Says, Looks, Changes, Takes, carry}
 use Rattle.nim_meaning.specs.Here.{Here, gives_hooked}
 use Rattle.nim_meaning.specs.Places.{place_at, rooted, made, to_part, to_item, to_object, item_of, made_by, fetched, put}
 use Rattle.nim_meaning.specs.Shapes.{has_node, selector_type, is_covered, is_last_value, is_last_block}
-use Rattle.nim_meaning.specs.Meaning.{at_node, at_path, Aim, Root, Value_of, PartOf, ItemOf, ObjectOf, find, Ready, Evaluated, Aimed, settle, row}
+use Rattle.nim_meaning.specs.Meaning.{at_node, at_path, row}
+use Rattle.nim_meaning.specs.Aims.{Aim, Root, Value_of, PartOf, ItemOf, ObjectOf, find, Ready, Evaluated, Aimed, settle}
 use Rattle.nim_meaning.specs.Meaning.{left_at, carried, got_by, early}
 use Rattle.nim_meaning.specs.Meaning.{picked, handed_by, handed_on, eval, aimed, ready_all, first_value, selected, picked_value, fill, ends, scoped}
 use Rattle.nim_meaning.specs.Meaning.{while_turn, limit}
 use Rattle.nim_meaning.specs.Meaning.{count_turn, still, element_at, each_turn, result_gets, back_or_on, head_values, ready_operand, ready_rest, ready_aim}
-use Rattle.nim_meaning.specs.Meaning.{test_of, selector_of, repeated, exec, exec_all, first_block, picked_block}
+use Rattle.nim_meaning.specs.Meaning.{test_of, selector_of, loop_over, exec, exec_all, first_block, picked_block}
 use Rattle.nim_meaning.proofs.Rows.{ErrsIf, errs_to_item, errs_to_object, errs_taken, errs_made, errs_row, errs_handed}
 
 -- What may be said of what a part of a program does, and of a turn of a loop; and what is known where the plan has made the run wrong.
@@ -67,7 +69,7 @@ pub record Closed (P : Said) : Type 1 where
   pub loops : {X Y : Type 0} (turn : X → Does (Turn X Y)) → ((x : X) → P.turn (turn x)) → (x : X) → P.of (loop turn x)
 
 module _ (P : Said) (closed : Closed P) where
-  on : {A B : Type 0} (rest : A → Does B) → ((x : A) → P.of (rest x)) → (flow : Flow A) → P.of (onward rest flow)
+  on : {A B : Type 0} (rest : A → Does B) → ((x : A) → P.of (rest x)) → (flow : Outcome A) → P.of (onward rest flow)
   on rest h (On x) = h x
   on rest h (Out way) = closed.got (Out way)
 
@@ -144,7 +146,7 @@ module _ (P : Said) (closed : Closed P) where
   path_at path act h = chosen (has_node path) (at_node (node_at path).number Done_by act) act (at (node_at path).number Done_by act h) h
 
   -- what passes a call
-  left : {A : Type 0} (node : ℕ) (flow : Flow A) → P.of (left_at node flow)
+  left : {A : Type 0} (node : ℕ) (flow : Outcome A) → P.of (left_at node flow)
   left node (On x) = closed.got _
   left node (Out (Broke by)) = closed.got _
   left node (Out (Continued by)) = closed.got _
@@ -203,6 +205,11 @@ module _ (P : Said) (closed : Closed P) where
     acted node (Calling proc types) how ty of xs =
         seq _ _ (closed.costs _ _ (closed.then _ _ (call proc (slots_for xs)) (left node))) (makes here how ty)
 
+    unless_constant : {A : Type 0} (c : Option Literal) (x : Literal → Does A) (y : Does A) → ((literal : Literal) → P.of (x literal)) → P.of y →
+        P.of (by_constant c x y)
+    unless_constant None x y h k = k
+    unless_constant (Some literal) x y h k = h literal
+
     mutual
       pub all_eval : (expr : Expr) (how : Use) → P.of (eval expr how here)
       all_eval (Apply node ty act operands) how =
@@ -223,7 +230,9 @@ module _ (P : Said) (closed : Closed P) where
 
       pub all_aimed : (path : Path) → P.of (aimed path here)
       all_aimed (Variable node ty place global) = closed.got _
-      all_aimed (Fresh value) = seq (eval value Looked here) _ (all_eval value Looked) (λ v. closed.got _)
+      all_aimed (Fresh value) =
+          unless_constant (constant_in value) _ _ (λ literal. closed.got _)
+          (seq (eval value Looked here) _ (all_eval value Looked) (λ v. closed.got _))
       all_aimed (Field node ty base field) = seq (aimed base here) _ (all_aimed base) (λ aim. closed.got _)
       all_aimed (Element node ty base index constant) =
           seq (aimed base here) _ (all_aimed base) (λ aim. seq (eval index Owned here) _ (all_eval index Owned) (λ z. closed.got _))
@@ -274,7 +283,7 @@ module _ (P : Said) (closed : Closed P) where
     selectors (ByPath path rest) =
         seq (aimed path here) _ (all_aimed path) (λ aim. seq (find aim) _ (finds aim) (λ location. path_at path _ (fetches location)))
 
-    pub repetitions : (kind : Kind) (node : ℕ) (head : Args) (last : ℕ) (body : Does (Unit {0})) → P.of body → P.of (repeated kind node head last body here)
+    pub repetitions : (kind : Kind) (node : ℕ) (head : Args) (last : ℕ) (body : Does (Unit {0})) → P.of body → P.of (loop_over kind node head last body here)
     repetitions While node head last body b = closed.loops (while_turn node (test_of head here) body) (turn_while node _ body (tests head) b) tt
     repetitions (Count place inclusive) node head last body b =
         at node _ _ (seq (head_values head here) _ (all_args head (λ i. Owned) 0)

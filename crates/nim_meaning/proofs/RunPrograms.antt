@@ -1,4 +1,4 @@
--- Each run of a program without hooks goes by ways through the acts of its bodies.
+-- Each run of a program without hooks goes by ways through the acts of its bodies, and does these acts.
 use Rattle.std.proofs.Common.{◌≡◌, refl, sym, ap, subst, ◌∙◌, inl, inr, ◌⊎◌, ℕ, zero, suc, ◌+◌, Bool, true, false, not, if◌then◌else◌, List, [], ◌∷◌}
 use Rattle.std.proofs.Common.{Option, Some, None, slice_get}
 use Rattle.std.proofs.lemmas.Bool.{and_parts}
@@ -17,7 +17,7 @@ use Rattle.nim_meaning.specs.ActTree.{Root, On as GoesOn, Out, Turn_over, Back, 
 use Rattle.nim_meaning.specs.Ways.{Point, Stop, Exits, Graph, Raises, Edges, entry, onto, follows, start}
 use Rattle.nim_meaning.specs.Values.{Value, Slot}
 use Rattle.nim_meaning.specs.State.{State, with_frame}
-use Rattle.nim_meaning.specs.Acts.{Broke, Continued, Returned, Raised, Flow, On, Out as LeftBy, Does, with_trail, give, ◌>>◌, exit_of, worked, say, said}
+use Rattle.nim_meaning.specs.Acts.{Broke, Continued, Returned, Raised, Outcome, On, Out as LeftBy, Does, with_trail, give, ◌>>◌, exit_of, worked, say, said}
 use Rattle.nim_meaning.specs.Acts.{change, elsewhere, stop}
 use Rattle.nim_meaning.specs.Here.{Here, is_hooked}
 use Rattle.nim_meaning.specs.Shapes.{modes_in}
@@ -26,7 +26,9 @@ use Rattle.nim_meaning.specs.Meaning.{ends, eval, exec_all, params_end, result_o
 use Rattle.nim_meaning.specs.Meaning.{at_top, at_first, reported, goes_through}
 use Rattle.nim_meaning.specs.Runs.{GoesBy, is_plain_value, is_plain_place, is_plain_block, is_plain_body, are_plain_params}
 use Rattle.nim_meaning.specs.Runs.{is_plain_if_body, are_plain_procs, has_no_hooks, start_graph, first_point, procedure_graph, first_point_of, StandsInCall}
+use Rattle.nim_meaning.specs.AtPoints.{A_value, Nothing, DoesBy}
 use Rattle.nim_meaning.proofs.RunLemmas.{PassesNone, AreElsewhere, Still}
+use Rattle.nim_meaning.proofs.RunDeeds.{goes}
 use Rattle.nim_meaning.proofs.StillLemmas.{still_both, still_give, still_costs, still_looks, still_change, still_stop, still_spending}
 use Rattle.nim_meaning.proofs.RunValues.{not_true, eval_part}
 use Rattle.nim_meaning.proofs.RunBlocks.{exec_block}
@@ -72,7 +74,8 @@ module _ (hooked : Ty → Bool) (at_call in_body : ℕ → ℕ → Mode) where
       let is = same_Some other body f in (
         params_acts at 0 params (last_of other.stmts) (body_acts hooked at_call other) p.0 ∙ plain_body other p.1
             ∙ ap (λ (x : Body). stmts_acts hooked at_call x.result x.stmts) is,
-        subst (λ (x : Body). is_plain_block hooked x.stmts ≡ true) is (and_parts (is_plain_place hooked other.result) (is_plain_block hooked other.stmts) p.1).1,
+        subst (λ (x : Body). is_plain_block hooked x.stmts ≡ true) is
+            (and_parts (is_plain_place hooked other.result) (is_plain_block hooked other.stmts) p.1).1,
       )
 
   pub found : (at proc : ℕ) (procs : List Proc) (p : Proc) (body : Body) → are_plain_procs hooked procs ≡ true → slice_get procs proc ≡ Some p →
@@ -102,16 +105,29 @@ module _ (raises : Raises) (program : Program) (plan : Plan) where
   from left level = from_level program plan level (calls program plan left (suc level))
 
   -- the statements of a body, where its acts are those
-  body_goes : (here : Here) → AreElsewhere other here.calls → (body : Body) (b : Acts) → b ≡ stmts_acts hooks modes body.result body.stmts →
-      is_plain_block hooks body.stmts ≡ true → (s : State) →
-      GoesBy (follows raises b) (start b) Stop other s.trail (exec_all body.stmts here s)
-  body_goes here h body b e plain s =
-      let a : Acts = stmts_acts hooks modes body.result body.stmts in
-      subst (λ c. GoesBy (follows raises c) (start c) Stop other s.trail (exec_all body.stmts here s)) (sym e)
-      (((exec_block raises (follows raises a) other hooks modes here h body.result body.stmts plain).runs Stop (λ p d q x. x)).at s)
+  body_does : (here : Here) (block : Stmts) (b : Acts) → b ≡ stmts_acts (is_hooked here.facts) modes here.result block →
+      is_plain_block (is_hooked here.facts) block ≡ true →
+      DoesBy (follows raises b) here Nothing (start b) Stop (exec_all block here)
+  body_does here block b e plain =
+      let a : Acts = stmts_acts (is_hooked here.facts) modes here.result block in
+      subst (λ c. DoesBy (follows raises c) here Nothing (start c) Stop (exec_all block here)) (sym e)
+      ((exec_block raises (follows raises a) modes here block plain).does Stop (λ p d q x. x))
+
+  -- an expression and a block of any body
+  pub value_does : (left level : ℕ) (body : Body) (how : Use) (to : Option Root) (e : Expr) (rest : Acts) (k : Exits) → is_plain_value hooks e ≡ true →
+      DoesBy (Edges raises (acts_of hooks modes how to e rest) k) (from left level body) A_value (entry (acts_of hooks modes how to e rest) (k GoesOn))
+      (onto (entry rest (k GoesOn)) k) (eval e how (from left level body))
+  value_does left level body how to e rest k h =
+      (eval_part raises (Edges raises (acts_of hooks modes how to e rest) k) modes (from left level body) how to e how h).does rest k (λ p d q x. x)
+
+  pub block_does : (left level : ℕ) (body : Body) (b : Stmts) (k : Exits) → is_plain_block hooks b ≡ true →
+      DoesBy (Edges raises (stmts_acts hooks modes body.result b) k) (from left level body) Nothing
+      (entry (stmts_acts hooks modes body.result b) (k GoesOn)) k (exec_all b (from left level body))
+  block_does left level body b k h =
+      (exec_block raises (Edges raises (stmts_acts hooks modes body.result b) k) modes (from left level body) b h).does k (λ p d q x. x)
 
   -- what comes of a call: it goes on, or stops in the call
-  abbrev Returns : {A : Type 0} → Res State (Flow A) → Type 0
+  abbrev Returns : {A : Type 0} → Res State (Outcome A) → Type 0
   Returns (Got (On x) s) = Unit {0}
   Returns (Got (LeftBy way) s) = ⊥
   Returns (Over status live s) = other s.trail
@@ -122,7 +138,7 @@ module _ (raises : Raises) (program : Program) (plan : Plan) where
   inside t u h (inl e) = subst (λ v. other v) (sym e) h
   inside t u h (inr g) = g
 
-  still_returns : {A : Type 0} (t : List Point) (r : Res State (Flow A)) → other t → PassesNone other t r → Returns r
+  still_returns : {A : Type 0} (t : List Point) (r : Res State (Outcome A)) → other t → PassesNone other t r → Returns r
   still_returns t (Got (On x) s) h g = tt
   still_returns t (Got (LeftBy way) s) h g = g
   still_returns t (Over status live s) h g = inside t s.trail h g
@@ -136,14 +152,14 @@ module _ (raises : Raises) (program : Program) (plan : Plan) where
       (still_costs other 1 (give tt) (still_give other tt))
 
   -- the end of a call that no exception leaves
-  still_end : (here : Here) (params : List Param) (last : ℕ) (flow : Flow (Unit {0})) → ((v : Value) → Still other (handing flow v)) →
+  still_end : (here : Here) (params : List Param) (last : ℕ) (flow : Outcome (Unit {0})) → ((v : Value) → Still other (handing flow v)) →
       Still other (handed params last here flow)
   still_end here params last flow h =
       still_looks other _
       (λ world. still_both other (params_end here params (exit_of last flow)) _ (still_params here params (exit_of last flow))
       (still_both other (change _) _ (still_change other _) (still_costs other _ (handing flow (result_of here.result here.level world)) (h _))))
 
-  body_returns : (proc : ℕ) (here : Here) (params : List Param) (last : ℕ) (r : Res State (Flow (Unit {0}))) →
+  body_returns : (proc : ℕ) (here : Here) (params : List Param) (last : ℕ) (r : Res State (Outcome (Unit {0}))) →
       GoesBy (procedure_graph raises plan.sinks program proc) (first_point_of raises plan.sinks program proc) Stop other [] r →
       Returns (then_do r (handed params last here))
   body_returns proc here params last (Got (On done) s) h =
@@ -168,7 +184,7 @@ module _ (raises : Raises) (program : Program) (plan : Plan) where
   body_returns proc here params last (Errs s) (inr h) = h
 
   -- the points of a call are its own
-  apart : {A : Type 0} (t : List Point) (r : Res State (Flow A)) → Returns r → PassesNone other t (then_do r (λ flow d. Got flow (with_trail t d)))
+  apart : {A : Type 0} (t : List Point) (r : Res State (Outcome A)) → Returns r → PassesNone other t (then_do r (λ flow d. Got flow (with_trail t d)))
   apart t (Got (On x) s) h = refl
   apart t (Got (LeftBy way) s) h = h
   apart t (Over status live s) h = inr h
@@ -181,12 +197,19 @@ module _ (raises : Raises) (program : Program) (plan : Plan) where
     procs_plain : are_plain_procs hooks program.procs ≡ true
     procs_plain = (and_parts (are_plain_procs hooks program.procs) (is_plain_body hooks program.start) plain).0
 
-    goes_in : (proc : ℕ) (p : Proc) (body : Body) (here : Here) → AreElsewhere other here.calls → slice_get program.procs proc ≡ Some p →
-        p.body ≡ Some body → (s : State) →
-        GoesBy (procedure_graph raises plan.sinks program proc) (first_point_of raises plan.sinks program proc) Stop other s.trail (exec_all body.stmts here s)
-    goes_in proc p body here h e f s =
+    pub procedure_does : (proc : ℕ) (p : Proc) (body : Body) (left level : ℕ) → slice_get program.procs proc ≡ Some p → p.body ≡ Some body →
+        DoesBy (procedure_graph raises plan.sinks program proc) (from left level body) Nothing (first_point_of raises plan.sinks program proc) Stop
+        (exec_all body.stmts (from left level body))
+    procedure_does proc p body left level e f =
         let it = found hooks modes modes 0 proc program.procs p body procs_plain e f in
-        body_goes here h body (procedure_acts hooks plan.sinks program proc) it.acts it.plain s
+        body_does (from left level body) body.stmts (procedure_acts hooks plan.sinks program proc) it.acts it.plain
+
+    goes_in : (proc : ℕ) (p : Proc) (body : Body) (left level : ℕ) → AreElsewhere other (calls program plan left (suc level)) →
+        slice_get program.procs proc ≡ Some p → p.body ≡ Some body → (s : State) →
+        GoesBy (procedure_graph raises plan.sinks program proc) (first_point_of raises plan.sinks program proc) Stop other s.trail
+        (exec_all body.stmts (from left level body) s)
+    goes_in proc p body left level h e f s =
+        goes (procedure_graph raises plan.sinks program proc) (from left level body) other h (procedure_does proc p body left level e f) s
 
     -- where the statements of a body that is called begin
     abbrev begins_at : Proc → Body → List Slot → State → State
@@ -201,7 +224,7 @@ module _ (raises : Raises) (program : Program) (plan : Plan) where
     entered_returns left level proc p slots h e None f s = tt
     entered_returns left level proc p slots h e (Some body) f s =
         body_returns proc (from left level body) p.params (last_of body.stmts) (exec_all body.stmts (from left level body) (begins_at p body slots s))
-        (goes_in proc p body (from left level body) h e f (begins_at p body slots s))
+        (goes_in proc p body left level h e f (begins_at p body slots s))
 
     called_returns : (left level proc : ℕ) (slots : List Slot) → AreElsewhere other (calls program plan left (suc level)) →
         (p : Option Proc) → slice_get program.procs proc ≡ p → (s : State) → Returns (called program.globals p slots (from left level) (with_trail [] s))
@@ -222,9 +245,9 @@ module _ (raises : Raises) (program : Program) (plan : Plan) where
     pub procedure_goes : (proc : ℕ) (p : Proc) (body : Body) (left level : ℕ) (s : State) → slice_get program.procs proc ≡ Some p → p.body ≡ Some body →
         GoesBy (procedure_graph raises plan.sinks program proc) (first_point_of raises plan.sinks program proc) Stop other s.trail
         (exec_all body.stmts (from_level program plan level (calls program plan left (suc level)) body) s)
-    procedure_goes proc p body left level s e f = goes_in proc p body (from left level body) (are_elsewhere left (suc level)) e f s
+    procedure_goes proc p body left level s e f = goes_in proc p body left level (are_elsewhere left (suc level)) e f s
 
-    reports : (E : Graph) (p : Point) (t : List Point) (r : Res State (Flow (Unit {0}))) → GoesBy E p Stop other t r →
+    reports : (E : Graph) (p : Point) (t : List Point) (r : Res State (Outcome (Unit {0}))) → GoesBy E p Stop other t r →
         GoesBy E p Stop other t (then_do r reported)
     reports E p t (Got (On x) s) h = h
     reports E p t (Got (LeftBy way) s) h = h
@@ -233,16 +256,20 @@ module _ (raises : Raises) (program : Program) (plan : Plan) where
     reports E p t (Errs s) h = h
 
     -- the start code
+    pub start_does : DoesBy (start_graph raises plan.sinks program) (at_top program plan) Nothing (first_point raises plan.sinks program) Stop
+        (exec_all program.start.stmts (at_top program plan))
+    start_does =
+        let start_plain = (and_parts (are_plain_procs hooks program.procs) (is_plain_body hooks program.start) plain).1 in
+        body_does (at_top program plan) program.start.stmts (start_acts hooks plan.sinks program) (plain_body hooks modes modes program.start start_plain)
+        (and_parts (is_plain_place hooks program.start.result) (is_plain_block hooks program.start.stmts) start_plain).1
+
     pub program_goes : (heap : ℕ) (input : List ℕ) (n : ℕ) →
         GoesBy (start_graph raises plan.sinks program) (first_point raises plan.sinks program) Stop other []
         (goes_through program plan (at_first program heap input n))
     program_goes heap input n =
-        let start_plain = (and_parts (are_plain_procs hooks program.procs) (is_plain_body hooks program.start) plain).1 in
         let s = worked (body_sum program.facts program.globals [] program.start) (at_first program heap input n) in
         reports (start_graph raises plan.sinks program) (first_point raises plan.sinks program) [] (exec_all program.start.stmts (at_top program plan) s)
-        (body_goes (at_top program plan) (are_elsewhere ACTIVE_CALLS 1) program.start (start_acts hooks plan.sinks program)
-        (plain_body hooks modes modes program.start start_plain)
-        (and_parts (is_plain_place hooks program.start.result) (is_plain_block hooks program.start.stmts) start_plain).1 s)
+        (goes (start_graph raises plan.sinks program) (at_top program plan) other (are_elsewhere ACTIVE_CALLS 1) start_does s)
 
     -- an expression and a block of any body, from wherever it is called
     pub value_goes : (left level : ℕ) (body : Body) (how : Use) (to : Option Root) (e : Expr) (rest : Acts) (k : Exits) (s : State) →
@@ -250,12 +277,12 @@ module _ (raises : Raises) (program : Program) (plan : Plan) where
         GoesBy (Edges raises (acts_of hooks modes how to e rest) k) (entry (acts_of hooks modes how to e rest) (k GoesOn)) (onto (entry rest (k GoesOn)) k)
         other s.trail (eval e how (from left level body) s)
     value_goes left level body how to e rest k s h =
-        ((eval_part raises (Edges raises (acts_of hooks modes how to e rest) k) other hooks modes (from left level body) (are_elsewhere left (suc level))
-        how to e how h).runs rest k (λ p d q x. x)).at s
+        goes (Edges raises (acts_of hooks modes how to e rest) k) (from left level body) other (are_elsewhere left (suc level))
+        (value_does left level body how to e rest k h) s
 
     pub block_goes : (left level : ℕ) (body : Body) (b : Stmts) (k : Exits) (s : State) → is_plain_block hooks b ≡ true →
         GoesBy (Edges raises (stmts_acts hooks modes body.result b) k) (entry (stmts_acts hooks modes body.result b) (k GoesOn)) k other s.trail
         (exec_all b (from left level body) s)
     block_goes left level body b k s h =
-        ((exec_block raises (Edges raises (stmts_acts hooks modes body.result b) k) other hooks modes (from left level body) (are_elsewhere left (suc level))
-        body.result b h).runs k (λ p d q x. x)).at s
+        goes (Edges raises (stmts_acts hooks modes body.result b) k) (from left level body) other (are_elsewhere left (suc level))
+        (block_does left level body b k h) s

@@ -1,6 +1,7 @@
--- Each run of an expression goes by a way through its acts.
+-- Expressions go by ways through their acts, and do these acts.
 use Rattle.std.proofs.Common.{◌≡◌, refl, sym, subst, ℕ, suc, Bool, true, false, not, ◌&&◌, ◌||◌, List, [], ◌∷◌, Option, Some, None}
 use Rattle.std.proofs.lemmas.Bool.{false≢true, and_parts}
+use Rattle.arc_base.specs.BigStep.{Res, Got, Over, Going, Errs, then_do}
 use Rattle.nim_types.specs.Types.{Ty}
 use Rattle.nim_program.specs.declared.expr.Node.{Node}
 use Rattle.nim_program.specs.declared.operation.Operation.TheVariants as O
@@ -10,45 +11,62 @@ use Rattle.nim_program.specs.declared.operation.Use.{Use}
 use Rattle.nim_program.specs.declared.operation.Use.TheVariants.{Owned, Looked}
 use Rattle.nim_program.specs.declared.program.Mode.{Mode}
 use Rattle.nim_program.specs.Program as T
-use Rattle.nim_program.specs.Program.{Label, Expr, Args, type_of, node_of, node_at, types_in}
+use Rattle.nim_program.specs.Program.{Label, Literal, Expr, Args, type_of, node_of, node_at, constant_in, types_in}
+use Rattle.nim_program.specs.Folds.{by_constant}
 use Rattle.nim_program.specs.Uses.{use_of}
 use Rattle.nim_program.specs.Ints.{is_true}
-use Rattle.nim_meaning.specs.ActTree.{Root, Does as Done_by, Chooses, Asks, Decides, Look, Acts, Done, Then}
-use Rattle.nim_meaning.specs.Ways.{Point, Graph, Raises}
-use Rattle.nim_meaning.specs.Values.{Value, nothing, number_of, nowhere}
-use Rattle.nim_meaning.specs.Acts.{Does, give}
-use Rattle.nim_meaning.specs.Here.{Here}
-use Rattle.nim_meaning.specs.Places.{fetched}
-use Rattle.nim_meaning.specs.Shapes.{is_covered, is_last_value}
-use Rattle.nim_meaning.specs.ActsOf.{path_of, waits, waits_from, is_held, read_act, made_by, ended, early_arms, receiver, looked_at, is_hooked}
-use Rattle.nim_meaning.specs.ActsOf.{used, done_by, no_operands}
+use Rattle.nim_meaning.specs.ActTree.{Root, Path, Operands, Does as Done_by, Chooses, Asks, Decides, Look, Operate, Acts, Done, Then, Do}
+use Rattle.nim_meaning.specs.Ways.{Graph, Raises}
+use Rattle.nim_meaning.specs.Values.{Value, Made, Location, nothing, number_of, literal_value}
+use Rattle.nim_meaning.specs.State.{State}
+use Rattle.nim_meaning.specs.Acts.{Outcome, On, Out as LeftBy, Does, give, onward, ◌>>=◌}
+use Rattle.nim_meaning.specs.Deeds.{Deed, carry}
+use Rattle.nim_meaning.specs.Here.{Here, gives_hooked, is_hooked as type_hooked, act_at}
+use Rattle.nim_meaning.specs.Places.{taken_by, fetched}
+use Rattle.nim_meaning.specs.Shapes.{has_node, is_covered, is_last_value}
+use Rattle.nim_meaning.specs.ActsOf.{path_of, waits, waits_from, is_held, read_act, ended, early_arms, receiver, looked_at, is_hooked}
+use Rattle.nim_meaning.specs.ActsOf.{used, one_act, done_by, act_by, no_operands}
 use Rattle.nim_meaning.specs.ActsOf.{works_on, read_acts, acts_of, aimed, ready_acts, first_acts, selected_acts, value_arms}
-use Rattle.nim_meaning.specs.Meaning.{at_node, at_path, Value_of, carried, got_by, early, handed_by, eval, first_value}
+use Rattle.nim_meaning.specs.Meaning.{at_node, at_path, carried, got_by, early, handed_by, eval, first_value, row}
+use Rattle.nim_meaning.specs.Aims.{Aim, Root as At_root, fresh_root, find, Ready, settle}
 use Rattle.nim_meaning.specs.Meaning.{selected, picked_value}
 use Rattle.nim_meaning.specs.Meaning.{ready_all}
 use Rattle.nim_meaning.specs.Meaning as M
 use Rattle.nim_meaning.specs.LeftOut.{writes_literals}
 use Rattle.nim_meaning.specs.Runs.{is_plain_type, is_written, is_plain_value, is_plain_path, are_plain}
-use Rattle.nim_meaning.proofs.RunLemmas.{AreElsewhere, Still}
-use Rattle.nim_meaning.proofs.StillLemmas.{still_give, still_carry, still_find, still_settle, still_carried}
-use Rattle.nim_meaning.proofs.RunParts.{Part, Block, Chosen, part_still, part_then, part_costs, part_used, part_block, block_still, block_then, block_ended}
-use Rattle.nim_meaning.proofs.RunParts.{part_do, part_done, part_group, part_choose, chosen_last, chosen_two, chosen_picked, block_either}
+use Rattle.nim_meaning.specs.AtPoints.{Answer, answer, A_value, An_aim, The_operands, begins, at_place, Leads, AllLead, none_leads, value_leads, path_leads}
+use Rattle.nim_meaning.specs.AtPoints.{Within, At_none}
+use Rattle.nim_meaning.specs.AtPoints.{reads, reads_alone, works_on as works_there, calls as calls_there, paths_among}
+use Rattle.nim_meaning.proofs.RowPlaces.{paths_in, within_fetched, within_got, within_handed, done_as, building_as, giving_as}
+use Rattle.nim_meaning.proofs.AimLemmas.{lead_field, lead_element, lead_object, lead_fresh, lead_constant, some_aim, some_operands, works_alters}
+use Rattle.nim_meaning.proofs.RunParts.{Part, Block, Chosen, act_makes_none, part_apart, part_same, part_gives, part_hands, part_then, part_costs, part_used}
+use Rattle.nim_meaning.proofs.RunParts.{part_block}
+use Rattle.nim_meaning.proofs.RunParts.{block_gives, block_then, block_ended, part_do, part_call, part_group, part_choose, chosen_last, chosen_two}
+use Rattle.nim_meaning.proofs.RunParts.{chosen_picked}
+use Rattle.nim_meaning.proofs.RunParts.{block_either}
 
 pub not_true : (b : Bool) → not b ≡ true → b ≡ false
 not_true true h = absurd (false≢true h)
 not_true false h = refl
 
--- what a read does makes no temporary, where it has no hooks
-read_makes_none : (hook : Bool) (how : Use) (to : Option Root) (n : ℕ) (path : _) → hook ≡ false → made_by (read_act hook how to n path) ≡ []
-read_makes_none hook how to n path e = subst (λ b. made_by (read_act b how to n path) ≡ []) (sym e) refl
+-- one after another, however they are grouped
+regrouped : {A B C : Type 0} (r : Res State (Outcome A)) (go : A → Does B) (rest : B → Does C) →
+    then_do (then_do r (onward go)) (onward rest) ≡ then_do r (onward (λ x. go x >>= rest))
+regrouped (Got (On x) s) go rest = refl
+regrouped (Got (LeftBy way) s) go rest = refl
+regrouped (Over status live s) go rest = refl
+regrouped (Going s) go rest = refl
+regrouped (Errs s) go rest = refl
 
-module _ (raises : Raises) (E : Graph) (elsewhere : List Point → Type 0) (hooked : Ty → Bool) (at_call : ℕ → ℕ → Mode) (here : Here)
-    (calls : AreElsewhere elsewhere here.calls) where
-  abbrev P : {A : Type 0} → (Acts → Acts) → Does A → Type 0
-  P F act = Part raises E elsewhere F act
+module _ (raises : Raises) (E : Graph) (at_call : ℕ → ℕ → Mode) (here : Here) where
+  abbrev hooked : Ty → Bool
+  hooked = type_hooked here.facts
 
-  abbrev B : {A : Type 0} → Acts → Does A → Type 0
-  B b act = Block raises E elsewhere b act
+  abbrev P : (a : Answer) → (Acts → Acts) → Does (answer a) → Type 0
+  P a F act = Part raises E here a F act
+
+  abbrev B : (a : Answer) → Acts → Does (answer a) → Type 0
+  B a b act = Block raises E here a b act
 
   abbrev Plain : Expr → Type 0
   Plain e = is_plain_value hooked e ≡ true
@@ -63,49 +81,85 @@ module _ (raises : Raises) (E : Graph) (elsewhere : List Point → Type 0) (hook
   plain_type None h = refl
   plain_type (Some ty) h = not_true (hooked ty) h
 
+  -- ---- paths that are read
+
+  look_part : (n : ℕ) (z : Path) (aim : Aim) → Leads here z aim →
+      P A_value (λ r. Then (Do n Done_by (Look z)) r) (find aim >>= (λ found. at_node n Done_by (carry (fetched found))))
+  look_part n z aim l = part_do raises E here n Done_by (Look z) refl (λ k e. reads e l)
+
+  alone_part : {deed : Location → Deed Value} (path : T.Path) (aim : Aim) → has_node path ≡ false → Leads here (path_of path) aim →
+      ((found : Location) → Within Value (λ l. l ≡ found) At_none (deed found)) → P A_value (λ r. r) (find aim >>= (λ found. carry (deed found)))
+  alone_part path aim e l w = part_apart raises E here (λ k. reads_alone path e l w)
+
+  -- without hooks what is read is what stands there, and isn't handed on by the plan
+  as_look : (ty : Ty) (how uses : Use) (to : Option Root) (n : ℕ) (z : Path) (aim : Aim) → hooked ty ≡ false → Leads here z aim →
+      P A_value (λ r. one_act n Done_by (read_act (hooked ty) how to n z) (used (hooked ty && is_held how) n r))
+      (find aim >>= (λ found. at_node n Done_by (carry (got_by here.facts here.plan uses n (Some ty) found))))
+  as_look ty how uses to n z aim e l =
+      subst (λ b. P A_value (λ r. one_act n Done_by (read_act b how to n z) (used (b && is_held how) n r))
+      (find aim >>= (λ found. at_node n Done_by (carry (taken_by b uses (act_at here.plan n) found))))) (sym e) (look_part n z aim l)
+
   -- a path that is read passes its point, where it has one
-  read_part : (how : Use) (to : Option Root) (path : T.Path) {act : Does Value} → PlainPath path → Still elsewhere act →
-      P (read_acts hooked at_call how to path) (at_path path act)
-  read_part how to (T.Variable node ty place global) h s =
-      part_used raises E elsewhere (hooked ty) (is_held how) node.number (not_true (hooked ty) h)
-      (part_do raises E elsewhere node.number Done_by (read_act (hooked ty) how to node.number (path_of (T.Variable node ty place global)))
-      (read_makes_none (hooked ty) how to node.number (path_of (T.Variable node ty place global)) (not_true (hooked ty) h)) s)
-  read_part how to (T.Fresh value) h s = part_still raises E elsewhere s
-  read_part how to (T.Field node ty base field) h s =
-      let e = not_true (hooked ty) (and_parts (not (hooked ty)) (is_plain_path hooked base) h).0 in
-      part_used raises E elsewhere (hooked ty) (is_held how) node.number e
-      (part_do raises E elsewhere node.number Done_by (read_act (hooked ty) how to node.number (path_of (T.Field node ty base field)))
-      (read_makes_none (hooked ty) how to node.number (path_of (T.Field node ty base field)) e) s)
-  read_part how to (T.Element node ty base index constant) h s =
-      let e = not_true (hooked ty)
-      (and_parts (not (hooked ty)) (is_plain_path hooked base && is_plain_value hooked index) h).0 in
-      part_used raises E elsewhere (hooked ty) (is_held how) node.number e
-      (part_do raises E elsewhere node.number Done_by (read_act (hooked ty) how to node.number (path_of (T.Element node ty base index constant)))
-      (read_makes_none (hooked ty) how to node.number (path_of (T.Element node ty base index constant)) e) s)
-  read_part how to (T.Deref ty base) h s = part_still raises E elsewhere s
+  read_part : (how uses : Use) (to : Option Root) (path : T.Path) (aim : Aim) → PlainPath path → Leads here (path_of path) aim →
+      P A_value (read_acts hooked at_call how to path)
+      (find aim >>= (λ found. at_path path (carry (got_by here.facts here.plan uses (node_at path).number (T.type_at path) found))))
+  read_part how uses to (T.Variable node ty place global) aim h l =
+      as_look ty how uses to node.number (path_of (T.Variable node ty place global)) aim (not_true (hooked ty) h) l
+  read_part how uses to (T.Fresh value) aim h l =
+      alone_part {deed = λ found. got_by here.facts here.plan uses (node_of value).number (type_of value) found} (T.Fresh value) aim refl l
+      (λ found. within_got here.facts here.plan uses (node_of value).number (type_of value) found)
+  read_part how uses to (T.Field node ty base field) aim h l =
+      as_look ty how uses to node.number (path_of (T.Field node ty base field)) aim
+      (not_true (hooked ty) (and_parts (not (hooked ty)) (is_plain_path hooked base) h).0) l
+  read_part how uses to (T.Element node ty base index constant) aim h l =
+      as_look ty how uses to node.number (path_of (T.Element node ty base index constant)) aim
+      (not_true (hooked ty) (and_parts (not (hooked ty)) (is_plain_path hooked base && is_plain_value hooked index) h).0) l
+  read_part how uses to (T.Deref ty base) aim h l =
+      alone_part {deed = λ found. got_by here.facts here.plan uses (node_at base).number (Some ty) found} (T.Deref ty base) aim refl l
+      (λ found. within_got here.facts here.plan uses (node_at base).number (Some ty) found)
 
-  pub looked_part : (path : T.Path) {act : Does Value} → Still elsewhere act → P (looked_at path) (at_path path act)
-  looked_part (T.Variable node ty place global) s =
-      part_do raises E elsewhere node.number Done_by (Look (path_of (T.Variable node ty place global))) refl s
-  looked_part (T.Fresh value) s = part_still raises E elsewhere s
-  looked_part (T.Field node ty base field) s = part_do raises E elsewhere node.number Done_by (Look (path_of (T.Field node ty base field))) refl s
-  looked_part (T.Element node ty base index constant) s =
-      part_do raises E elsewhere node.number Done_by (Look (path_of (T.Element node ty base index constant))) refl s
-  looked_part (T.Deref ty base) s = part_still raises E elsewhere s
+  pub looked_part : (path : T.Path) (aim : Aim) → Leads here (path_of path) aim →
+      P A_value (looked_at path) (find aim >>= (λ found. at_path path (carry (fetched found))))
+  looked_part (T.Variable node ty place global) aim l = look_part node.number (path_of (T.Variable node ty place global)) aim l
+  looked_part (T.Fresh value) aim l = alone_part {deed = fetched} (T.Fresh value) aim refl l within_fetched
+  looked_part (T.Field node ty base field) aim l = look_part node.number (path_of (T.Field node ty base field)) aim l
+  looked_part (T.Element node ty base index constant) aim l = look_part node.number (path_of (T.Element node ty base index constant)) aim l
+  looked_part (T.Deref ty base) aim l = alone_part {deed = fetched} (T.Deref ty base) aim refl l within_fetched
 
-  given : {A : Type 0} (x : A) → P (λ r. r) (give x)
-  given x = part_still raises E elsewhere (still_give elsewhere x)
+  -- ---- operands that are worked on
 
-  no_value : {A : Type 0} (x : A) → B Done (give x)
-  no_value x = block_still raises E elsewhere (still_give elsewhere x)
+  done_part : (n : ℕ) (act : T.Act) (operands : Args) (on : Operands) (how : Use) (ty : Option Ty) (of : List (Option Ty)) (ready : List Ready) →
+      on.alters ≡ paths_among (paths_in operands) → AllLead here (paths_in operands) ready →
+      P A_value (λ r. Then (done_by n act operands on) r) (settle ready >>= (λ xs. at_node n Done_by (carried here n act how ty of xs)))
+  done_part n (T.Doing operation) operands on how ty of ready e l =
+      part_do raises E here n Done_by (act_by operation operands on) (act_makes_none operation operands on)
+      (λ k i. works_there {deed = λ xs. row here.facts (T.Doing operation) how ty of xs} i (done_as here.facts how ty of operation operands on e) l)
+  done_part n (T.Building fields) operands on how ty of ready e l =
+      part_do raises E here n Done_by (Operate on) refl
+      (λ k i. works_there {deed = λ xs. row here.facts (T.Building fields) how ty of xs} i
+      (building_as here.facts fields how ty of on (paths_in operands) e) l)
+  done_part n (T.Giving literal) operands on how ty of ready e l =
+      part_do raises E here n Done_by (Operate on) refl
+      (λ k i. works_there {deed = λ xs. row here.facts (T.Giving literal) how ty of xs} i
+      (giving_as here.facts literal how ty of on (paths_in operands) e) l)
+  done_part n (T.Calling proc types) operands on how ty of ready e l = part_call raises E here n proc on (λ k i. calls_there n types how ty of i e l)
 
-  early_chosen : (short : Short) (holds : Bool) {b : Acts} {act : Does Value} → B b act → Chosen raises E elsewhere (early_arms short b) (early short holds act)
-  early_chosen And holds f = chosen_two raises E elsewhere holds f (chosen_last raises E elsewhere (no_value _))
-  early_chosen Or holds f = chosen_two raises E elsewhere holds (no_value _) (chosen_last raises E elsewhere f)
+  -- ---- values
+
+  handed_part : (how : Use) (ty : Option Ty) (v : Value) → P A_value (λ r. r) (carry (handed_by here.facts how ty v))
+  handed_part how ty v = part_hands raises E here (within_handed here.facts how ty v)
+
+  no_value : (v : Value) → B A_value Done (give v)
+  no_value v = block_gives raises E here tt
+
+  early_chosen : (short : Short) (holds : Bool) {b : Acts} {act : Does Value} → B A_value b act →
+      Chosen raises E here A_value (early_arms short b) (early short holds act)
+  early_chosen And holds f = chosen_two raises E here holds f (chosen_last raises E here (no_value _))
+  early_chosen Or holds f = chosen_two raises E here holds (no_value _) (chosen_last raises E here f)
 
   -- a value whose temporaries end with it
-  pub alone : {A : Type 0} {F : Acts → Acts} {act : Does A} → P F act → B (ended (F Done)) act
-  alone f = block_ended raises E elsewhere (part_block raises E elsewhere f)
+  pub alone : {a : Answer} {F : Acts → Acts} {act : Does (answer a)} → P a F act → B a (ended (F Done)) act
+  alone f = block_ended raises E here (part_block raises E here f)
 
   -- `echo` holds nothing
   echo_lends : (act : T.Act) → writes_literals act ≡ true → (j : ℕ) → is_held (use_of at_call act j) ≡ false
@@ -116,89 +170,109 @@ module _ (raises : Raises) (E : Graph) (elsewhere : List Point → Type 0) (hook
   echo_lends (T.Calling proc types) h j = absurd (false≢true h)
 
   -- what doesn't wait makes no temporary
-  none_waits : {A : Type 0} {F : Acts → Acts} {act : Does A} (b : Bool) (n : ℕ) → P F act → P (λ r. F (used (b && false) n r)) act
+  none_waits : {F : Acts → Acts} {act : Does Value} (b : Bool) (n : ℕ) → P A_value F act → P A_value (λ r. F (used (b && false) n r)) act
   none_waits true n f = f
   none_waits false n f = f
 
   -- a literal that is written, whether its type has hooks or not
   literal_part : (how : Use) (to : Option Root) (node : Node) (ty : Option Ty) (text : List ℕ) (uses : Use) → is_held how ≡ false →
-      P (acts_of hooked at_call how to (T.Apply node ty (T.Giving (T.Characters text)) T.NoArg))
+      P A_value (acts_of hooked at_call how to (T.Apply node ty (T.Giving (T.Characters text)) T.NoArg))
       (eval (T.Apply node ty (T.Giving (T.Characters text)) T.NoArg) uses here)
   literal_part how to node ty text uses e =
       let act = T.Giving (T.Characters text) in
-      part_then raises E elsewhere [] (given [])
-      (λ ready. part_then raises E elsewhere [] (part_still raises E elsewhere (still_settle elsewhere ready))
-      (λ xs. subst (λ w. P (λ r. Then (done_by node.number act T.NoArg no_operands) (used (is_hooked hooked at_call ty && w) node.number r))
-      (at_node node.number Done_by (carried here node.number act uses ty [] xs))) (sym e)
-      (none_waits (is_hooked hooked at_call ty) node.number
-      (part_done raises E elsewhere node.number act T.NoArg no_operands (still_carried elsewhere here node.number act uses ty [] xs calls)))))
+      part_then raises E here {a = The_operands []} [] none_leads (part_gives raises E here none_leads)
+      (λ ready l. subst (λ w. P A_value (λ r. Then (done_by node.number act T.NoArg no_operands) (used (is_hooked hooked at_call ty && w) node.number r))
+      (settle ready >>= (λ xs. at_node node.number Done_by (carried here node.number act uses ty [] xs)))) (sym e)
+      (none_waits (is_hooked hooked at_call ty) node.number (done_part node.number act T.NoArg no_operands uses ty [] ready refl l)))
 
   -- an operand, which may be a literal that is written
   operand_part : (written : Bool) (how : Use) (to : Option Root) (value : Expr) (uses : Use) → (written ≡ true → is_held how ≡ false) →
-      (Plain value → P (acts_of hooked at_call how to value) (eval value uses here)) →
-      (is_written hooked written value || is_plain_value hooked value) ≡ true → P (acts_of hooked at_call how to value) (eval value uses here)
+      (Plain value → P A_value (acts_of hooked at_call how to value) (eval value uses here)) →
+      (is_written hooked written value || is_plain_value hooked value) ≡ true → P A_value (acts_of hooked at_call how to value) (eval value uses here)
   operand_part true how to (T.Apply node ty (T.Giving (T.Characters text)) T.NoArg) uses lends plain h = literal_part how to node ty text uses (lends refl)
   operand_part written how to value uses lends plain h = plain h
 
+  -- what a path begins with: a constant, which is where it stands, or another value
+  fresh_part : (value : Expr) (c : Option Literal) → constant_in value ≡ c → P A_value (acts_of hooked at_call Looked None value) (eval value Looked here) →
+      P (An_aim (path_of (T.Fresh value))) (λ r. by_constant c (λ literal. r) (acts_of hooked at_call Looked None value r))
+      (by_constant c (λ literal. give (At_root (Made (literal_value literal)))) (eval value Looked here
+      >>= (λ v. give (fresh_root (gives_hooked here.facts (type_of value)) here.level (node_of value).number v))))
+  fresh_part value None e f =
+      part_then raises E here {a = A_value} {b = An_aim (path_of (T.Fresh value))} nothing tt f (λ v u. part_gives raises E here (lead_fresh here value v))
+  fresh_part value (Some literal) e f =
+      part_gives raises E here {a = An_aim (path_of (T.Fresh value))} (lead_constant here value literal (literal_value literal) e)
+
   mutual
-    pub eval_part : (how : Use) (to : Option Root) (e : Expr) (uses : Use) → Plain e → P (acts_of hooked at_call how to e) (eval e uses here)
+    pub eval_part : (how : Use) (to : Option Root) (e : Expr) (uses : Use) → Plain e → P A_value (acts_of hooked at_call how to e) (eval e uses here)
     eval_part how to (T.Apply node ty act operands) uses h =
         let p = and_parts (is_plain_type hooked ty) (are_plain hooked (writes_literals act) operands) h in
-        part_then raises E elsewhere []
+        let it = some_operands here operands in
+        part_then raises E here {a = The_operands (paths_in operands)} it.ready it.lead
         (ready_part (writes_literals act) (use_of at_call act) (echo_lends act) 0 (receiver operands) operands (use_of here.modes act) p.1)
-        (λ ready. part_then raises E elsewhere [] (part_still raises E elsewhere (still_settle elsewhere ready))
-        (λ xs. part_used raises E elsewhere (is_hooked hooked at_call ty) (waits_from act how) node.number (plain_type ty p.0)
-        (part_done raises E elsewhere node.number act operands (works_on hooked at_call act 0 operands)
-        (still_carried elsewhere here node.number act uses ty (types_in operands) xs calls))))
+        (λ ready l. part_used raises E here (is_hooked hooked at_call ty) (waits_from act how) node.number (plain_type ty p.0)
+        (done_part node.number act operands (works_on hooked at_call act 0 operands) uses ty (types_in operands) ready
+        (works_alters hooked at_call act 0 operands) l))
     eval_part how to (T.Read path) uses h =
-        part_then raises E elsewhere (Value_of nothing) (aimed_part path h)
-        (λ aim. part_then raises E elsewhere nowhere (part_still raises E elsewhere (still_find elsewhere aim))
-        (λ location. read_part how to path h (still_carry elsewhere (got_by here.facts here.plan uses (node_at path).number (T.type_at path) location))))
+        let it = some_aim here path in
+        part_then raises E here {a = An_aim (path_of path)} it.aim it.leads (aimed_part path h)
+        (λ aim l. read_part how uses to path aim h l)
     eval_part how to (T.Early node ty short left right) uses h =
         let p = and_parts (not (hooked ty)) (is_plain_value hooked left && is_plain_value hooked right) h in
         let q = and_parts (is_plain_value hooked left) (is_plain_value hooked right) p.1 in
-        part_costs raises E elsewhere 1 (part_then raises E elsewhere nothing (eval_part Owned None left Owned q.0)
-        (λ x. part_choose raises E elsewhere node.number Chooses (early_chosen short (is_true (number_of x))
-        (part_block raises E elsewhere (eval_part Owned None right Owned q.1)))))
+        part_costs raises E here 1 (part_then raises E here {a = A_value} nothing tt (eval_part Owned None left Owned q.0)
+        (λ x u. part_choose raises E here node.number Chooses (early_chosen short (is_true (number_of x))
+        (part_block raises E here (eval_part Owned None right Owned q.1)))))
     eval_part how to (T.Choose node ty T.ByConditions parts) uses h =
         let p = and_parts (is_plain_type hooked ty) (are_plain hooked false parts) h in
-        part_costs raises E elsewhere 1 (part_then raises E elsewhere nothing
-        (part_group raises E elsewhere node.number Chooses (first_part parts ty p.1))
-        (λ v. part_used raises E elsewhere (is_hooked hooked at_call ty) (waits how) node.number (plain_type ty p.0)
-        (part_still raises E elsewhere (still_carry elsewhere (handed_by here.facts uses ty v)))))
+        part_costs raises E here 1 (part_then raises E here {a = A_value} nothing tt
+        (part_group raises E here node.number Chooses (first_part parts ty p.1))
+        (λ v u. part_used raises E here (is_hooked hooked at_call ty) (waits how) node.number (plain_type ty p.0) (handed_part uses ty v)))
     eval_part how to (T.Choose node ty (T.ByLabels labels) parts) uses h =
         let p = and_parts (is_plain_type hooked ty) (are_plain hooked false parts) h in
-        part_costs raises E elsewhere 1 (part_then raises E elsewhere nothing (selected_part node.number labels parts ty p.1)
-        (λ v. part_used raises E elsewhere (is_hooked hooked at_call ty) (waits how) node.number (plain_type ty p.0)
-        (part_still raises E elsewhere (still_carry elsewhere (handed_by here.facts uses ty v)))))
+        part_costs raises E here 1 (part_then raises E here {a = A_value} nothing tt (selected_part node.number labels parts ty p.1)
+        (λ v u. part_used raises E here (is_hooked hooked at_call ty) (waits how) node.number (plain_type ty p.0) (handed_part uses ty v)))
 
-    pub aimed_part : (path : T.Path) → PlainPath path → P (aimed hooked at_call path) (M.aimed path here)
-    aimed_part (T.Variable node ty place global) h = given _
-    aimed_part (T.Fresh value) h = part_then raises E elsewhere nothing (eval_part Looked None value Looked h) (λ v. given _)
+    pub aimed_part : (path : T.Path) → PlainPath path → P (An_aim (path_of path)) (aimed hooked at_call path) (M.aimed path here)
+    aimed_part (T.Variable node ty place global) h = part_gives raises E here (begins (at_place global))
+    aimed_part (T.Fresh value) h = fresh_part value (constant_in value) refl (eval_part Looked None value Looked h)
     aimed_part (T.Field node ty base field) h =
         let p = and_parts (not (hooked ty)) (is_plain_path hooked base) h in
-        part_then raises E elsewhere (Value_of nothing) (aimed_part base p.1) (λ aim. given _)
+        let it = some_aim here base in
+        part_then raises E here {a = An_aim (path_of base)} it.aim it.leads (aimed_part base p.1)
+        (λ aim l. part_gives raises E here (lead_field here base field aim l))
     aimed_part (T.Element node ty base index constant) h =
         let p = and_parts (not (hooked ty)) (is_plain_path hooked base && is_plain_value hooked index) h in
         let q = and_parts (is_plain_path hooked base) (is_plain_value hooked index) p.1 in
-        part_then raises E elsewhere (Value_of nothing) (aimed_part base q.0)
-        (λ aim. part_then raises E elsewhere nothing (eval_part Owned None index Owned q.1) (λ z. given _))
-    aimed_part (T.Deref ty base) h = part_then raises E elsewhere (Value_of nothing) (aimed_part base h) (λ aim. given _)
+        let it = some_aim here base in
+        part_then raises E here {a = An_aim (path_of base)} it.aim it.leads (aimed_part base q.0)
+        (λ aim l. part_then raises E here {a = A_value} nothing tt (eval_part Owned None index Owned q.1)
+        (λ z u. part_gives raises E here (lead_element here base constant (number_of z) aim l)))
+    aimed_part (T.Deref ty base) h =
+        let it = some_aim here base in
+        part_then raises E here {a = An_aim (path_of base)} it.aim it.leads (aimed_part base h)
+        (λ aim l. part_gives raises E here (lead_object here base aim l))
 
     pub ready_part : (written : Bool) (uses : ℕ → Use) → (written ≡ true → (j : ℕ) → is_held (uses j) ≡ false) → (i : ℕ) (to : Option Root) (args : Args)
-        (hows : ℕ → Use) → are_plain hooked written args ≡ true → P (ready_acts hooked at_call uses i to args) (ready_all args hows i here)
-    ready_part written uses lends i to T.NoArg hows h = given []
+        (hows : ℕ → Use) → are_plain hooked written args ≡ true →
+        P (The_operands (paths_in args)) (ready_acts hooked at_call uses i to args) (ready_all args hows i here)
+    ready_part written uses lends i to T.NoArg hows h = part_gives raises E here none_leads
     ready_part written uses lends i to (T.ByValue value rest) hows h =
         let p = and_parts (is_written hooked written value || is_plain_value hooked value) (are_plain hooked written rest) h in
-        part_then raises E elsewhere nothing
+        let more = some_operands here rest in
+        part_then raises E here {a = A_value} nothing tt
         (operand_part written (uses i) to value (hows i) (λ e. lends e i) (λ g. eval_part (uses i) to value (hows i) g) p.0)
-        (λ v. part_then raises E elsewhere [] (ready_part written uses lends (suc i) to rest hows p.1) (λ ready. given _))
+        (λ v u. part_then raises E here {a = The_operands (paths_in rest)} more.ready more.lead (ready_part written uses lends (suc i) to rest hows p.1)
+        (λ ready l. part_gives raises E here
+        (value_leads (gives_hooked here.facts (type_of value)) (node_of value).number v l)))
     ready_part written uses lends i to (T.ByPath path rest) hows h =
         let p = and_parts (is_plain_path hooked path) (are_plain hooked written rest) h in
-        part_then raises E elsewhere (Value_of nothing) (aimed_part path p.0)
-        (λ aim. part_then raises E elsewhere [] (ready_part written uses lends (suc i) to rest hows p.1) (λ ready. given _))
+        let it = some_aim here path in
+        let more = some_operands here rest in
+        part_then raises E here {a = An_aim (path_of path)} it.aim it.leads (aimed_part path p.0)
+        (λ aim m. part_then raises E here {a = The_operands (paths_in rest)} more.ready more.lead (ready_part written uses lends (suc i) to rest hows p.1)
+        (λ ready l. part_gives raises E here (path_leads m l)))
 
-    first_part : (parts : Args) (ty : Option Ty) → PlainArgs parts → B (first_acts hooked at_call parts) (first_value parts ty here)
+    first_part : (parts : Args) (ty : Option Ty) → PlainArgs parts → B A_value (first_acts hooked at_call parts) (first_value parts ty here)
     first_part T.NoArg ty h = no_value _
     first_part (T.ByPath path rest) ty h = no_value _
     first_part (T.ByValue last T.NoArg) ty h =
@@ -208,32 +282,36 @@ module _ (raises : Raises) (E : Graph) (elsewhere : List Point → Type 0) (hook
         let behind = is_plain_value hooked value && are_plain hooked false rest in
         let p = and_parts (is_plain_value hooked condition) behind h in
         let q = and_parts (is_plain_value hooked value) (are_plain hooked false rest) p.1 in
-        block_then raises E elsewhere nothing (part_group raises E elsewhere (node_of condition).number Asks (alone (eval_part Owned None condition Owned p.0)))
-        (λ x. block_either raises E elsewhere (node_of condition).number Decides (is_true (number_of x)) (alone (eval_part Owned None value Owned q.0))
+        block_then raises E here {a = A_value} nothing tt
+        (part_group raises E here (node_of condition).number Asks (alone (eval_part Owned None condition Owned p.0)))
+        (λ x u. block_either raises E here (node_of condition).number Decides (is_true (number_of x)) (alone (eval_part Owned None value Owned q.0))
         (first_part rest ty q.1))
 
     selected_part : (n : ℕ) (labels : List (List Label)) (parts : Args) (ty : Option Ty) → PlainArgs parts →
-        P (selected_acts hooked at_call n labels parts) (selected n labels parts ty here)
-    selected_part n labels T.NoArg ty h = given _
+        P A_value (selected_acts hooked at_call n labels parts) (selected n labels parts ty here)
+    selected_part n labels T.NoArg ty h = part_gives raises E here tt
     selected_part n labels (T.ByValue selector values) ty h =
         let p = and_parts (is_plain_value hooked selector) (are_plain hooked false values) h in
-        part_then raises E elsewhere nothing (eval_part Looked None selector Looked p.0)
-        (λ x. part_choose raises E elsewhere n Chooses (value_chosen (is_covered (type_of selector)) labels values x ty p.1))
+        part_then raises E here {a = A_value} nothing tt (eval_part Looked None selector Looked p.0)
+        (λ x u. part_choose raises E here n Chooses (value_chosen (is_covered (type_of selector)) labels values x ty p.1))
     selected_part n labels (T.ByPath path values) ty h =
         let p = and_parts (is_plain_path hooked path) (are_plain hooked false values) h in
-        part_then raises E elsewhere (Value_of nothing) (aimed_part path p.0)
-        (λ aim. part_then raises E elsewhere nowhere (part_still raises E elsewhere (still_find elsewhere aim))
-        (λ location. part_then raises E elsewhere nothing (looked_part path (still_carry elsewhere (fetched location)))
-        (λ x. part_choose raises E elsewhere n Chooses (value_chosen (is_covered (T.type_at path)) labels values x ty p.1))))
+        let it = some_aim here path in
+        part_then raises E here {a = An_aim (path_of path)} it.aim it.leads (aimed_part path p.0)
+        (λ aim l. part_same raises E here
+        (λ s. regrouped (find aim s) (λ found. at_path path (carry (fetched found)))
+        (λ x. at_node n Chooses (picked_value (is_covered (T.type_at path)) labels values x ty here)))
+        (part_then raises E here {a = A_value} nothing tt (looked_part path aim l)
+        (λ x u. part_choose raises E here n Chooses (value_chosen (is_covered (T.type_at path)) labels values x ty p.1))))
 
     value_chosen : (covered : Bool) (labels : List (List Label)) (values : Args) (x : Value) (ty : Option Ty) → PlainArgs values →
-        Chosen raises E elsewhere (value_arms hooked at_call covered labels values) (picked_value covered labels values x ty here)
-    value_chosen covered labels T.NoArg x ty h = chosen_last raises E elsewhere (no_value _)
-    value_chosen covered labels (T.ByPath path rest) x ty h = chosen_last raises E elsewhere (no_value _)
+        Chosen raises E here A_value (value_arms hooked at_call covered labels values) (picked_value covered labels values x ty here)
+    value_chosen covered labels T.NoArg x ty h = chosen_last raises E here (no_value _)
+    value_chosen covered labels (T.ByPath path rest) x ty h = chosen_last raises E here (no_value _)
     value_chosen covered [] (T.ByValue value rest) x ty h =
-        chosen_last raises E elsewhere
+        chosen_last raises E here
         (alone (eval_part Owned None value Owned (and_parts (is_plain_value hooked value) (are_plain hooked false rest) h).0))
     value_chosen covered (these ∷ labels) (T.ByValue value rest) x ty h =
         let p = and_parts (is_plain_value hooked value) (are_plain hooked false rest) h in
-        chosen_picked raises E elsewhere these x (covered && is_last_value rest) (alone (eval_part Owned None value Owned p.0))
+        chosen_picked raises E here these x (covered && is_last_value rest) (alone (eval_part Owned None value Owned p.0))
         (value_chosen covered labels rest x ty p.1)

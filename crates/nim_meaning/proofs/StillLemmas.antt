@@ -10,12 +10,13 @@ use Rattle.nim_meaning.specs.Ways.{Point}
 use Rattle.nim_meaning.specs.Heap.{has_room}
 use Rattle.nim_meaning.specs.Values.{Operand, slots_for}
 use Rattle.nim_meaning.specs.State.{World, State}
-use Rattle.nim_meaning.specs.Acts.{Flow, On, Out as LeftBy, Does, give, onward, ◌>>=◌, ◌>>◌, at_exit, branch, costs, spending, left_with, worked, say, end}
+use Rattle.nim_meaning.specs.Acts.{Outcome, On, Out as LeftBy, Does, give, onward, ◌>>=◌, ◌>>◌, at_exit, branch, costs, spending, left_with, worked, say, end}
 use Rattle.nim_meaning.specs.Acts.{stop, looks, change}
 use Rattle.nim_meaning.specs.Deeds.{Deed, Gives, Ends, Errs as Wrong, Works, Says, Looks, Changes, Takes, carry, changed, with_block}
 use Rattle.nim_meaning.specs.Here.{Here, gives_hooked}
 use Rattle.nim_meaning.specs.Places.{rooted, made, to_part, to_item, to_object, made_by}
-use Rattle.nim_meaning.specs.Meaning.{Aim, Root, Value_of, PartOf, ItemOf, ObjectOf, find, Ready, Evaluated, Aimed, settle, row, left_at, carried}
+use Rattle.nim_meaning.specs.Meaning.{row, left_at, carried}
+use Rattle.nim_meaning.specs.Aims.{Aim, Root, Value_of, PartOf, ItemOf, ObjectOf, find, Ready, Evaluated, Aimed, settle}
 use Rattle.nim_meaning.proofs.RunLemmas.{PassesNone, AreElsewhere, Still}
 
 module _ (elsewhere : List Point → Type 0) where
@@ -26,14 +27,14 @@ module _ (elsewhere : List Point → Type 0) where
   after t u v (inl h) g = inl (h ∙ g)
   after t u v (inr h) g = inr h
 
-  passes_after : {A : Type 0} (t u : List Point) (r : Res State (Flow A)) → PassesNone elsewhere u r → u ≡ t → PassesNone elsewhere t r
+  passes_after : {A : Type 0} (t u : List Point) (r : Res State (Outcome A)) → PassesNone elsewhere u r → u ≡ t → PassesNone elsewhere t r
   passes_after t u (Got (On x) s) h g = h ∙ g
   passes_after t u (Got (LeftBy way) s) h g = h
   passes_after t u (Over status live s) h g = after t u s.trail h g
   passes_after t u (Going s) h g = after t u s.trail h g
   passes_after t u (Errs s) h g = after t u s.trail h g
 
-  then_passes : {A B : Type 0} (t : List Point) (r : Res State (Flow A)) (go : A → Does B) → PassesNone elsewhere t r → ((x : A) → S (go x)) →
+  then_passes : {A B : Type 0} (t : List Point) (r : Res State (Outcome A)) (go : A → Does B) → PassesNone elsewhere t r → ((x : A) → S (go x)) →
       PassesNone elsewhere t (then_do r (onward go))
   then_passes t (Got (On x) s) go h g = passes_after t s.trail (go x s) ((g x).at s) h
   then_passes t (Got (LeftBy way) s) go h g = absurd h
@@ -99,7 +100,7 @@ module _ (elsewhere : List Point → Type 0) where
   still_settle (Aimed aim ∷ rest) =
       still_then (find aim) _ (still_find aim) (λ location. still_then (settle rest) _ (still_settle rest) (λ xs. still_give _))
 
-  exit_passes : {A B : Type 0} (t : List Point) (r : Res State (Flow A)) (go : Flow A → Does B) → PassesNone elsewhere t r →
+  exit_passes : {A B : Type 0} (t : List Point) (r : Res State (Outcome A)) (go : Outcome A → Does B) → PassesNone elsewhere t r →
       ((x : A) → S (go (On x))) → PassesNone elsewhere t (then_do r go)
   exit_passes t (Got (On x) s) go h g = passes_after t s.trail (go (On x) s) ((g x).at s) h
   exit_passes t (Got (LeftBy way) s) go h g = absurd h
@@ -108,7 +109,7 @@ module _ (elsewhere : List Point → Type 0) where
   exit_passes t (Errs s) go h g = h
 
   -- it goes on, whatever looks at a way out
-  pub still_exit : {A B : Type 0} (act : Does A) (go : Flow A → Does B) → S act → ((x : A) → S (go (On x))) → S (at_exit act go)
+  pub still_exit : {A B : Type 0} (act : Does A) (go : Outcome A → Does B) → S act → ((x : A) → S (go (On x))) → S (at_exit act go)
   still_exit act go h g = record { at = λ s. exit_passes s.trail (act s) go (h.at s) g }
 
   pub still_carried : (here : Here) (node : ℕ) (act : Act) (how : Use) (ty : Option Ty) (of : List (Option Ty)) (xs : List Operand) →

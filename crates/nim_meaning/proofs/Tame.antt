@@ -9,7 +9,7 @@ use Rattle.arc_base.proofs.ForCallers.{adds_charged, adds_told, tame_got as grow
 use Rattle.arc_base.proofs.ForCallers.{tame_then as grows_then, tame_spend as grows_spend, tame_loop as grows_loop}
 use Rattle.nim_meaning.specs.State.{World, State, live}
 use Rattle.nim_meaning.specs.Ways.{Point}
-use Rattle.nim_meaning.specs.Acts.{Broke, Continued, Returned, Raised, Flow, On, Out, Does, give, wrong, onward, ◌>>=◌, ◌>>◌, at_exit, with_meter}
+use Rattle.nim_meaning.specs.Acts.{Broke, Continued, Returned, Raised, Outcome, On, Out, Does, give, wrong, onward, ◌>>=◌, ◌>>◌, at_exit, with_meter}
 use Rattle.nim_meaning.specs.Acts.{worked, said, left_with}
 use Rattle.nim_meaning.specs.Acts.{costs, say, spending, end, looks, change, with_trail, passing, elsewhere, turn_of, loop, next, again, no_more, on_turn}
 
@@ -78,7 +78,7 @@ tame_then act go t h = record {
 pub tame_got : {A : Type 0} (x : A) → Tame (λ (s : State). Got x s)
 tame_got x = record { units = grows_got metered x; shift = λ es w s. refl }
 
-on_flow : {A B : Type 0} (rest : A → Does B) → ((x : A) → Tame (rest x)) → (flow : Flow A) → Tame (onward rest flow)
+on_flow : {A B : Type 0} (rest : A → Does B) → ((x : A) → Tame (rest x)) → (flow : Outcome A) → Tame (onward rest flow)
 on_flow rest h (On x) = h x
 on_flow rest h (Out way) = tame_got (Out way)
 
@@ -192,17 +192,17 @@ module _ {X Y : Type 0} (turn : X → State → Res State (Turn X Y)) (tame : (x
   turns_enough (suc n) zero x s lt lt' = absurd (omega (arith, lt'))
   turns_enough (suc n) (suc m) x s lt lt' = next_enough n m s.meter.units lt lt' (turns_enough n m) (turn x s) (spends x s)
 
-tame_turn_of : {X Y : Type 0} (flow : Flow (Turn X Y)) → Tame (turn_of flow)
+tame_turn_of : {X Y : Type 0} (flow : Outcome (Turn X Y)) → Tame (turn_of flow)
 tame_turn_of (On (Again x)) = tame_got (Again x)
 tame_turn_of (On (Leave y)) = tame_got (Leave (On y))
 tame_turn_of (Out way) = tame_got (Leave (Out way))
 
 -- of a turn as the rules give it: another turn has spent a unit
-abbrev pub SpendsFlow : {X Y : Type 0} → ℕ → Res State (Flow (Turn X Y)) → Type 0
+abbrev pub SpendsFlow : {X Y : Type 0} → ℕ → Res State (Outcome (Turn X Y)) → Type 0
 SpendsFlow u (Got (On (Again x)) b) = b.meter.units < u
 SpendsFlow u r = Unit {0}
 
-pub spends_turn : {X Y : Type 0} (u : ℕ) (r : Res State (Flow (Turn X Y))) → SpendsFlow u r → Spends metered u (then_do r turn_of)
+pub spends_turn : {X Y : Type 0} (u : ℕ) (r : Res State (Outcome (Turn X Y))) → SpendsFlow u r → Spends metered u (then_do r turn_of)
 spends_turn u (Got (On (Again x)) b) h = h
 spends_turn u (Got (On (Leave y)) b) h = tt
 spends_turn u (Got (Out way) b) h = tt
@@ -216,7 +216,7 @@ pub record TameTurn {X Y : Type 0} (act : Does (Turn X Y)) : Type 0 where
   pub spends : (s : State) → SpendsFlow s.meter.units (act s)
 
 module _ {X Y : Type 0} (turn : X → Does (Turn X Y)) (t : (x : X) → TameTurn (turn x)) where
-  abbrev each : X → State → Res State (Turn X (Flow Y))
+  abbrev each : X → State → Res State (Turn X (Outcome Y))
   each x s = then_do (turn x s) turn_of
 
   each_tame : (x : X) → Tame (each x)
@@ -229,7 +229,7 @@ module _ {X Y : Type 0} (turn : X → Does (Turn X Y)) (t : (x : X) → TameTurn
   tame_loop x = tame_turns each each_tame each_spends x
 
   -- a loop is its first turn, and then the loop anew
-  first_turn : (u : ℕ) (r : Res State (Flow (Turn X Y))) → SpendsFlow u r →
+  first_turn : (u : ℕ) (r : Res State (Outcome (Turn X Y))) → SpendsFlow u r →
       then_do (then_do r turn_of) (next_turn (turns u each)) ≡ then_do r (on_turn (loop turn))
   first_turn u (Got (On (Again x)) b) lt = turns_enough each each_tame each_spends u (suc b.meter.units) x b lt (omega arith)
   first_turn u (Got (On (Leave y)) b) lt = refl
@@ -241,7 +241,7 @@ module _ {X Y : Type 0} (turn : X → Does (Turn X Y)) (t : (x : X) → TameTurn
   pub loop_unfolds : (x : X) (s : State) → loop turn x s ≡ then_do (turn x s) (on_turn (loop turn))
   loop_unfolds x s = first_turn s.meter.units (turn x s) ((t x).spends s)
 
-pub tame_next : {X : Type 0} (x : X) (flow : Flow (Unit {0})) → Tame (next x flow)
+pub tame_next : {X : Type 0} (x : X) (flow : Outcome (Unit {0})) → Tame (next x flow)
 tame_next x (On done) = tame_got (On (Again x))
 tame_next x (Out (Continued by)) = tame_got (On (Again x))
 tame_next x (Out (Broke by)) = tame_got (On (Leave tt))
@@ -251,7 +251,7 @@ tame_next x (Out (Raised exception by)) = tame_got (Out (Raised exception by))
 pub tame_again : {X : Type 0} (body : Does (Unit {0})) (x : X) → Tame body → Tame (again body x)
 tame_again body x t = tame_spending (costs 1 (at_exit body (next x))) (tame_costs 1 (at_exit body (next x)) (tame_then body (next x) t (tame_next x)))
 
-pub tame_on_turn : {X Y : Type 0} (anew : X → Does Y) → ((x : X) → Tame (anew x)) → (flow : Flow (Turn X Y)) → Tame (on_turn anew flow)
+pub tame_on_turn : {X Y : Type 0} (anew : X → Does Y) → ((x : X) → Tame (anew x)) → (flow : Outcome (Turn X Y)) → Tame (on_turn anew flow)
 tame_on_turn anew h (On (Again x)) = h x
 tame_on_turn anew h (On (Leave y)) = tame_got (On y)
 tame_on_turn anew h (Out way) = tame_got (Out way)
@@ -259,7 +259,7 @@ tame_on_turn anew h (Out way) = tame_got (Out way)
 -- ---- what turns are put together by
 
 -- with more units to begin with, another turn has spent one all the more
-spends_more : {X Y : Type 0} (u v : ℕ) (r : Res State (Flow (Turn X Y))) → u ≤ v → SpendsFlow u r → SpendsFlow v r
+spends_more : {X Y : Type 0} (u v : ℕ) (r : Res State (Outcome (Turn X Y))) → u ≤ v → SpendsFlow u r → SpendsFlow v r
 spends_more u v (Got (On (Again x)) b) le h = omega (arith, le, h)
 spends_more u v (Got (On (Leave y)) b) le h = tt
 spends_more u v (Got (Out way) b) le h = tt
@@ -267,7 +267,7 @@ spends_more u v (Over status live b) le h = tt
 spends_more u v (Going b) le h = tt
 spends_more u v (Errs b) le h = tt
 
-next_spends : {X : Type 0} (u v : ℕ) (x : X) (r : Res State (Flow (Unit {0}))) → u < v → Falls metered u r → SpendsFlow v (then_do r (next x))
+next_spends : {X : Type 0} (u v : ℕ) (x : X) (r : Res State (Outcome (Unit {0}))) → u < v → Falls metered u r → SpendsFlow v (then_do r (next x))
 next_spends u v x (Got (On done) b) lt f = omega (arith, lt, f)
 next_spends u v x (Got (Out (Continued by)) b) lt f = omega (arith, lt, f)
 next_spends u v x (Got (Out (Broke by)) b) lt f = tt
@@ -289,7 +289,7 @@ pub turn_last : {X : Type 0} → TameTurn (no_more {X = X})
 turn_last = record { tame = tame_got (On (Leave tt)); spends = λ s. tt }
 
 -- what comes before a turn spends no more than there is
-spends_then : {A X Y : Type 0} (u : ℕ) (r : Res State (Flow A)) (rest : A → Does (Turn X Y)) → Falls metered u r → ((x : A) → TameTurn (rest x)) →
+spends_then : {A X Y : Type 0} (u : ℕ) (r : Res State (Outcome A)) (rest : A → Does (Turn X Y)) → Falls metered u r → ((x : A) → TameTurn (rest x)) →
     SpendsFlow u (then_do r (onward rest))
 spends_then u (Got (On x) b) rest f h = spends_more b.meter.units u (rest x b) f ((h x).spends b)
 spends_then u (Got (Out way) b) rest f h = tt

@@ -5,7 +5,7 @@ use Rattle.nim_program.specs.Program.{Param, Body, Program, last_of}
 use Rattle.nim_meaning.specs.Heap.{Contents, has_room}
 use Rattle.nim_meaning.specs.Values.{Value, Slot}
 use Rattle.nim_meaning.specs.State.{World, with_frame, down_to}
-use Rattle.nim_meaning.specs.Acts.{Broke, Continued, Returned, Raised, Flow, On, Out, Does, exit_of, ◌>>◌, branch, change}
+use Rattle.nim_meaning.specs.Acts.{Broke, Continued, Returned, Raised, Outcome, On, Out, Does, exit_of, ◌>>◌, branch, change}
 use Rattle.nim_meaning.specs.Deeds.{changed, with_block}
 use Rattle.nim_meaning.specs.Here.{Calls, Here}
 use Rattle.nim_meaning.specs.Meaning.{exec_all, frame_of, params_end, handing, handed, entered_body, from_level, goes_through}
@@ -51,14 +51,14 @@ tame_params here [] exit = tame_got _
 tame_params here (param ∷ params) exit =
     tame_past (params_end here params exit) _ (tame_params here params exit) (tame_costs 1 _ (tame_got _))
 
-tame_handing : (flow : Flow (Unit {0})) (v : Value) → Tame (handing flow v)
+tame_handing : (flow : Outcome (Unit {0})) (v : Value) → Tame (handing flow v)
 tame_handing (On x) v = tame_got _
 tame_handing (Out (Broke by)) v = tame_got _
 tame_handing (Out (Continued by)) v = tame_got _
 tame_handing (Out (Returned by)) v = tame_got _
 tame_handing (Out (Raised exception by)) v = tame_got _
 
-pub tame_handed : (params : List Param) (last : ℕ) (here : Here) (flow : Flow (Unit {0})) → Tame (handed params last here flow)
+pub tame_handed : (params : List Param) (last : ℕ) (here : Here) (flow : Outcome (Unit {0})) → Tame (handed params last here flow)
 tame_handed params last here flow =
     tame_looks _ (λ world. tame_past (params_end here params (exit_of last flow)) _ (tame_params here params (exit_of last flow))
     (tame_past (change (down_to here.level)) _ (tame_change (down_to here.level)) (tame_costs _ _ (tame_handing flow _))))

@@ -1,5 +1,5 @@
 -- In an expression's acts no mark stands oftener than the expression weighs.
-use Rattle.std.proofs.Common.{◌≡◌, refl, ap, arith, ◌≤◌, ℕ, suc, ◌+◌, Bool, true, false, ◌&&◌, if◌then◌else◌, List, [], ◌∷◌, Option, None}
+use Rattle.std.proofs.Common.{◌≡◌, refl, ap, arith, ◌≤◌, ℕ, suc, ◌+◌, Bool, true, false, ◌&&◌, if◌then◌else◌, List, [], ◌∷◌, Option, Some, None}
 use Rattle.nim_types.specs.Types.{Ty}
 use Rattle.nim_program.specs.declared.operation.Short.{Short}
 use Rattle.nim_program.specs.declared.operation.Short.TheVariants.{And, Or}
@@ -7,13 +7,13 @@ use Rattle.nim_program.specs.declared.operation.Use.{Use}
 use Rattle.nim_program.specs.declared.operation.Use.TheVariants.{Owned, Given, Held, Lent, Looked}
 use Rattle.nim_program.specs.declared.program.Mode.{Mode}
 use Rattle.nim_program.specs.Program as T
-use Rattle.nim_program.specs.Program.{Label, Expr, Args, type_of, node_of, node_at}
-use Rattle.nim_program.specs.Folds.{numbers, total, total_at, totals}
+use Rattle.nim_program.specs.Program.{Label, Literal, Expr, Args, type_of, node_of, node_at, constant_in}
+use Rattle.nim_program.specs.Folds.{by_constant, if_constant, begun_by, numbers, total, total_at, totals}
 use Rattle.nim_program.specs.Uses.{use_of}
 use Rattle.nim_meaning.specs.ActTree.{Root, Temporary, Path, Operands, Role, Does, Fills, Chooses, Turns, Asks, Decides}
 use Rattle.nim_meaning.specs.ActTree.{Act, Look, Operate, Control, Do, Choose, Loop, Group, Arms, No_arm, An_arm, Acts, Done, Then}
 use Rattle.nim_meaning.specs.Shapes.{is_covered, is_last_value}
-use Rattle.nim_meaning.specs.ActsOf.{path_of, one_act, used, is_held, waits, waits_from, read_act, made_by, ended, either, early_arms, act_by, done_by}
+use Rattle.nim_meaning.specs.ActsOf.{path_of, one_act, used, is_held, waits, waits_from, read_act, makes, ended, either, early_arms, act_by, done_by}
 use Rattle.nim_meaning.specs.ActsOf.{receiver, looked_at, is_hooked, works_on, read_acts, acts_of, aimed, ready_acts, first_acts, selected_acts, value_arms}
 use Rattle.nim_meaning.specs.Marks.{Mark, Spot, Scope}
 use Rattle.nim_meaning.proofs.RunParts.{act_makes_none}
@@ -87,8 +87,8 @@ module _ (m : Mark) where
   -- ---- what a node does
 
   -- an act that makes no temporary
-  pub puts_act : (n : ℕ) (r : Role) (a : Act) → made_by a ≡ [] → Puts (one m (Spot n r)) (λ b. Then (Do n r a) b)
-  puts_act n r a e = puts_control (Do n r a) (one m (Spot n r)) (let f : scopes_of m (made_by a) ≡ 0 = ap (scopes_of m) e in omega (arith, f))
+  pub puts_act : (n : ℕ) (r : Role) (a : Act) → makes a ≡ [] → Puts (one m (Spot n r)) (λ b. Then (Do n r a) b)
+  puts_act n r a e = puts_control (Do n r a) (one m (Spot n r)) (let f : scopes_of m (makes a) ≡ 0 = ap (scopes_of m) e in omega (arith, f))
 
   puts_done : (n : ℕ) (a : T.Act) (operands : Args) (on : Operands) → Puts (one m (Spot n Does)) (λ b. Then (done_by n a operands on) b)
   puts_done n (T.Doing operation) operands on = puts_act n Does (act_by operation operands on) (act_makes_none operation operands on)
@@ -106,7 +106,7 @@ module _ (m : Mark) where
   abbrev Reads : Bool → Use → Option Root → ℕ → Path → Type 0
   Reads hook how to n path = Puts (one m (Spot n Does) + temporary n) (λ r. one_act n Does (read_act hook how to n path) (used (hook && is_held how) n r))
 
-  looks_only : (n : ℕ) (a : Act) → made_by a ≡ [] → Puts (one m (Spot n Does) + temporary n) (λ b. Then (Do n Does a) b)
+  looks_only : (n : ℕ) (a : Act) → makes a ≡ [] → Puts (one m (Spot n Does) + temporary n) (λ b. Then (Do n Does a) b)
   looks_only n a e = puts_at_most (one m (Spot n Does)) (one m (Spot n Does) + temporary n) (omega arith) (puts_act n Does a e)
 
   puts_read : (hook : Bool) (how : Use) (to : Option Root) (n : ℕ) (path : Path) → Reads hook how to n path
@@ -140,10 +140,16 @@ module _ (m : Mark) where
 
     pub behind_at : T.Path → ℕ
     behind_at (T.Variable node ty place global) = 0
-    behind_at (T.Fresh value) = behind value
+    behind_at (T.Fresh value) = by_constant (constant_in value) (λ literal. 0) (behind value)
     behind_at (T.Field node ty base field) = of_path false base
     behind_at (T.Element node ty base index constant) = of_path false base + of_value index
     behind_at (T.Deref ty base) = behind_at base
+
+  with_constant : (c : Option Literal) (read : Bool) (value : Expr) → of_value value ≡ node_weight m (node_of value).number + behind value →
+      if_constant c (own m (begun_by c read value)) (own m (begun_by c read value) + of_value value)
+      ≡ node_weight m (node_of value).number + by_constant c (λ literal. 0) (behind value)
+  with_constant None read value e = omega (arith, e)
+  with_constant (Some literal) read value e = omega arith
 
   mutual
     pub with_node : (e : Expr) → of_value e ≡ node_weight m (node_of e).number + behind e
@@ -154,10 +160,10 @@ module _ (m : Mark) where
 
     pub with_node_at : (read : Bool) (path : T.Path) → of_path read path ≡ node_weight m (node_at path).number + behind_at path
     with_node_at read (T.Variable node ty place global) = omega arith
-    with_node_at read (T.Fresh value) = with_node value
+    with_node_at read (T.Fresh value) = with_constant (constant_in value) read value (with_node value)
     with_node_at read (T.Field node ty base field) = refl
     with_node_at read (T.Element node ty base index constant) = refl
-    with_node_at read (T.Deref ty base) = with_node_at read base
+    with_node_at read (T.Deref ty base) = let e = with_node_at false base in omega (arith, e)
 
   -- ---- expressions
 
@@ -203,6 +209,20 @@ module _ (m : Mark) where
         let r = inner_roles m n in
         puts_at_most (one m (Spot n Does) + temporary n) (inner m n) (omega (arith, r)) (puts_read hook how to n path)
 
+    -- a constant that a path begins with is read where it stands, and another value is evaluated
+    aimed_from : (c : Option Literal) (value : Expr) → Puts (of_value value) (acts_of hooked at_call Looked None value) →
+        Puts (if_constant c (own m (begun_by c false value)) (own m (begun_by c false value) + of_value value))
+        (λ r. by_constant c (λ literal. r) (acts_of hooked at_call Looked None value r))
+    aimed_from None value f = puts_at_most (of_value value) (0 + of_value value) (omega arith) f
+    aimed_from (Some literal) value f = puts_at_most 0 (node_weight m (node_of value).number) (omega arith) puts_none
+
+    aimed_whole : (c : Option Literal) (value : Expr) →
+        Puts (inner m (node_of value).number + behind value) (acts_of hooked at_call Looked None value) →
+        Puts (inner m (node_of value).number + by_constant c (λ literal. 0) (behind value))
+        (λ r. by_constant c (λ literal. r) (acts_of hooked at_call Looked None value r))
+    aimed_whole None value f = f
+    aimed_whole (Some literal) value f = puts_at_most 0 (inner m (node_of value).number + 0) (omega arith) puts_none
+
     mutual
       -- a node's own marks, and those of what is behind it
       pub puts_value : (how : Use) (to : Option Root) (e : Expr) → Puts (inner m (node_of e).number + behind e) (acts_of hooked at_call how to e)
@@ -233,7 +253,7 @@ module _ (m : Mark) where
       puts_path how to (T.Variable node ty place global) =
           puts_at_most (inner m node.number) (inner m node.number + 0) (omega arith)
           (read_at_node node.number (hooked ty) how to (path_of (T.Variable node ty place global)))
-      puts_path how to (T.Fresh value) = puts_value Looked None value
+      puts_path how to (T.Fresh value) = aimed_whole (constant_in value) value (puts_value Looked None value)
       puts_path how to (T.Field node ty base field) =
           puts_then (of_path false base) (inner m node.number) (inner m node.number + of_path false base) (omega arith) (puts_aimed base)
           (read_at_node node.number (hooked ty) how to (path_of (T.Field node ty base field)))
@@ -247,7 +267,7 @@ module _ (m : Mark) where
       -- what a path needs, within the marks of its last node
       aimed_at_node : (path : T.Path) → Puts (inner m (node_at path).number + behind_at path) (aimed hooked at_call path)
       aimed_at_node (T.Variable node ty place global) = puts_at_most 0 (inner m node.number + 0) (omega arith) puts_none
-      aimed_at_node (T.Fresh value) = puts_value Looked None value
+      aimed_at_node (T.Fresh value) = aimed_whole (constant_in value) value (puts_value Looked None value)
       aimed_at_node (T.Field node ty base field) =
           puts_at_most (of_path false base) (inner m node.number + of_path false base) (omega arith) (puts_aimed base)
       aimed_at_node (T.Element node ty base index constant) =
@@ -258,13 +278,13 @@ module _ (m : Mark) where
       pub puts_aimed : (path : T.Path) → Puts (of_path false path) (aimed hooked at_call path)
       puts_aimed (T.Variable node ty place global) = puts_at_most 0 (node_weight m node.number) (omega arith) puts_none
       puts_aimed (T.Fresh value) =
-          entire value (puts_value Looked None value)
+          aimed_from (constant_in value) value (entire value (puts_value Looked None value))
       puts_aimed (T.Field node ty base field) =
           puts_at_most (of_path false base) (node_weight m node.number + of_path false base) (omega arith) (puts_aimed base)
       puts_aimed (T.Element node ty base index constant) =
           puts_then (of_path false base) (of_value index) (node_weight m node.number + (of_path false base + of_value index)) (omega arith)
           (puts_aimed base) (entire index (puts_value Owned None index))
-      puts_aimed (T.Deref ty base) = puts_aimed base
+      puts_aimed (T.Deref ty base) = puts_at_most (of_path false base) (0 + of_path false base) (omega arith) (puts_aimed base)
 
       pub puts_ready : (uses : ℕ → Use) (i : ℕ) (to : Option Root) (args : Args) → Puts (of_args args) (ready_acts hooked at_call uses i to args)
       puts_ready uses i to T.NoArg = puts_none
@@ -308,7 +328,7 @@ module _ (m : Mark) where
       pub puts_in_place : (path : T.Path) → Puts (of_path false path) (λ r. aimed hooked at_call path (looked_at path r))
       puts_in_place (T.Variable node ty place global) =
           puts_at_most (inner m node.number) (node_weight m node.number) (omega arith) (puts_looked (T.Variable node ty place global))
-      puts_in_place (T.Fresh value) = entire value (puts_value Looked None value)
+      puts_in_place (T.Fresh value) = aimed_from (constant_in value) value (entire value (puts_value Looked None value))
       puts_in_place (T.Field node ty base field) =
           puts_then (of_path false base) (inner m node.number) (node_weight m node.number + of_path false base) (omega arith) (puts_aimed base)
           (puts_looked (T.Field node ty base field))
@@ -318,7 +338,7 @@ module _ (m : Mark) where
           (puts_then (of_path false base) (of_value index) (of_path false base + of_value index) (omega arith) (puts_aimed base)
           (entire index (puts_value Owned None index)))
           (puts_looked (T.Element node ty base index constant))
-      puts_in_place (T.Deref ty base) = puts_aimed base
+      puts_in_place (T.Deref ty base) = puts_at_most (of_path false base) (0 + of_path false base) (omega arith) (puts_aimed base)
 
       arms_hold : (covered : Bool) (labels : List (List Label)) (values : Args) → ArmsHold (of_args values) (value_arms hooked at_call covered labels values)
       arms_hold covered labels T.NoArg = arm_holds 0 0 0 (omega arith) (done_holds 0) no_arm_holds

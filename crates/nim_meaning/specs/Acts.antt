@@ -10,51 +10,51 @@ use Rattle.nim_meaning.specs.State.{World, State, live}
 
 -- How control leaves a part of a program before its end, with the number of the statement or call by which it does: it goes on behind a
 -- loop, at its next turn, or at the end of a body; or an exception leaves.
-pub data Way : Type 0 where
-  Broke : (by : ℕ) → Way
-  Continued : (by : ℕ) → Way
-  Returned : (by : ℕ) → Way
-  Raised : (exception by : ℕ) → Way
+pub data Exit : Type 0 where
+  Broke : (by : ℕ) → Exit
+  Continued : (by : ℕ) → Exit
+  Returned : (by : ℕ) → Exit
+  Raised : (exception by : ℕ) → Exit
 
--- a part goes on with an answer, or is left by a way out
-pub data Flow (A : Type 0) : Type 0 where
-  On : (answer : A) → Flow A
-  Out : (way : Way) → Flow A
+-- a part goes on with an answer, or is left by an exit
+pub data Outcome (A : Type 0) : Type 0 where
+  On : (answer : A) → Outcome A
+  Out : (exit : Exit) → Outcome A
 
-abbrev pub by_of : Way → ℕ
+abbrev pub by_of : Exit → ℕ
 by_of (Broke by) = by
 by_of (Continued by) = by
 by_of (Returned by) = by
 by_of (Raised exception by) = by
 
 -- the exit by which a part was left, whose normal end has a number
-abbrev pub exit_of : {A : Type 0} → (last : ℕ) → Flow A → ℕ
+abbrev pub exit_of : {A : Type 0} → (last : ℕ) → Outcome A → ℕ
 exit_of last (On x) = last
-exit_of last (Out way) = by_of way
+exit_of last (Out exit) = by_of exit
 
 -- what a part of a program does in a state
 abbrev pub Does : Type 0 → Type 0
-Does A = State → Res State (Flow A)
+Does A = State → Res State (Outcome A)
 
 abbrev pub give : {A : Type 0} → A → Does A
 give x s = Got (On x) s
 
-abbrev pub leave : {A : Type 0} → Way → Does A
-leave way s = Got (Out way) s
+abbrev pub leave : {A : Type 0} → Exit → Does A
+leave exit s = Got (Out exit) s
 
 -- a run that the plan has made wrong
 abbrev pub wrong : {A : Type 0} → Does A
 wrong s = Errs s
 
 -- it goes on, or is left, as something before it did
-abbrev pub as_before : {A : Type 0} → Flow A → Does A
+abbrev pub as_before : {A : Type 0} → Outcome A → Does A
 as_before flow s = Got flow s
 
-abbrev pub onward : {A B : Type 0} → (A → Does B) → Flow A → Does B
+abbrev pub onward : {A B : Type 0} → (A → Does B) → Outcome A → Does B
 onward rest (On x) s = rest x s
-onward rest (Out way) s = Got (Out way) s
+onward rest (Out exit) s = Got (Out exit) s
 
--- one thing, and then what follows of its answer; a way out is passed on
+-- one thing, and then what follows of its answer; an exit is passed on
 infixl 10 ◌>>=◌
 abbrev pub ◌>>=◌ : {A B : Type 0} → Does A → (A → Does B) → Does B
 act >>= rest = λ s. then_do (act s) (onward rest)
@@ -63,8 +63,8 @@ infixl 10 ◌>>◌
 abbrev pub ◌>>◌ : {A B : Type 0} → Does A → Does B → Does B
 act >> rest = λ s. then_do (act s) (onward (λ _. rest))
 
--- what looks at a way out: the exit of a loop's body, of a scope, of a call
-abbrev pub at_exit : {A B : Type 0} → Does A → (Flow A → Does B) → Does B
+-- what looks at an exit: the exit of a loop's body, of a scope, of a call
+abbrev pub at_exit : {A B : Type 0} → Does A → (Outcome A → Does B) → Does B
 at_exit act rest = λ s. then_do (act s) rest
 
 -- what is done where a condition holds, and where it fails
@@ -135,10 +135,10 @@ elsewhere act = λ s. then_do (act (with_trail [] s)) (λ flow d. Got flow (with
 
 -- ---- loops
 
-abbrev pub turn_of : {X Y : Type 0} → Flow (Turn X Y) → State → Res State (Turn X (Flow Y))
+abbrev pub turn_of : {X Y : Type 0} → Outcome (Turn X Y) → State → Res State (Turn X (Outcome Y))
 turn_of (On (Again x)) s = Got (Again x) s
 turn_of (On (Leave y)) s = Got (Leave (On y)) s
-turn_of (Out way) s = Got (Leave (Out way)) s
+turn_of (Out exit) s = Got (Leave (Out exit)) s
 
 -- Turns until one says that it is the last, or is left. Each turn that another follows has spent a unit, so there are
 -- at most one more than units.
@@ -146,7 +146,7 @@ abbrev pub loop : {X Y : Type 0} → (X → Does (Turn X Y)) → X → Does Y
 loop turn x s = turns (suc s.meter.units) (λ x s. then_do (turn x s) turn_of) x s
 
 -- a body was gone through: the loop goes on with x, or ends
-abbrev pub next : {X : Type 0} → X → Flow (Unit {0}) → Does (Turn X (Unit {0}))
+abbrev pub next : {X : Type 0} → X → Outcome (Unit {0}) → Does (Turn X (Unit {0}))
 next x (On done) s = Got (On (Again x)) s
 next x (Out (Continued by)) s = Got (On (Again x)) s
 next x (Out (Broke by)) s = Got (On (Leave tt)) s
@@ -161,7 +161,7 @@ abbrev pub no_more : {X : Type 0} → Does (Turn X (Unit {0}))
 no_more = give (Leave tt)
 
 -- what a turn says, where the loop begins anew
-abbrev pub on_turn : {X Y : Type 0} → (X → Does Y) → Flow (Turn X Y) → Does Y
+abbrev pub on_turn : {X Y : Type 0} → (X → Does Y) → Outcome (Turn X Y) → Does Y
 on_turn anew (On (Again x)) = anew x
 on_turn anew (On (Leave y)) = give y
-on_turn anew (Out way) = leave way
+on_turn anew (Out exit) = leave exit

@@ -13,8 +13,9 @@ use Rattle.nim_program.specs.declared.program.Mode.TheVariants as M
 use Rattle.nim_program.specs.declared.stmt.Leaving.{Leaving}
 use Rattle.nim_program.specs.declared.stmt.Leaving.TheVariants as K
 use Rattle.nim_program.specs.Program as T
-use Rattle.nim_program.specs.Program.{Label, Expr, Args, Declared, Stmt, Stmts, Blocks, Param, Body, Proc, Program, type_of, node_of, node_at, last_after}
-use Rattle.nim_program.specs.Program.{last_of}
+use Rattle.nim_program.specs.Program.{Label, Expr, Args, Declared, Stmt, Stmts, Blocks, Param, Body, Proc, Program, type_of, node_of, node_at, constant_in}
+use Rattle.nim_program.specs.Folds.{by_constant}
+use Rattle.nim_program.specs.Program.{last_after, last_of}
 use Rattle.nim_program.specs.Uses.{use_of}
 use Rattle.nim_meaning.specs.Shapes.{has_node, selector_type, is_covered, is_last_value, is_last_block, modes_in}
 use Rattle.nim_meaning.specs.ActTree.{Root, Named, Temporary, Literal, Step, Field, Index, Path, Operands, whole}
@@ -96,14 +97,14 @@ looked_at path rest = if has_node path then one_act (node_at path).number Does (
 -- ---- groups
 
 -- the temporaries that an act makes, and those of a part, in order; what a group makes ends with it
-abbrev pub made_by : Act → List ℕ
-made_by (Fill (Temporary n)) = n ∷ []
-made_by (Lend site (Temporary n) path) = n ∷ []
-made_by _ = []
+abbrev pub makes : Act → List ℕ
+makes (Fill (Temporary n)) = n ∷ []
+makes (Lend site (Temporary n) path) = n ∷ []
+makes _ = []
 
 abbrev mutual
   pub made : Control → List ℕ
-  made (Do n r a) = made_by a
+  made (Do n r a) = makes a
   made (Choose n r arms) = made_in arms
   made (Loop n c b) = []
   made (Break n) = []
@@ -156,11 +157,10 @@ reading x on = record { alters = on.alters; reads = x ∷ on.reads; takes = on.t
 abbrev pub taking : Root → Operands → Operands
 taking x on = record { alters = on.alters; reads = on.reads; takes = x ∷ on.takes }
 
--- `=` assigns to the place, `len`, `high` and `isNil` look at it, and all else works on what it has
+-- `=` assigns to the place, `len` and `high` look at it, and all else works on what it has
 abbrev pub act_by : Operation → Args → Operands → Act
 act_by O.Assign (T.ByPath path rest) on = Give (path_of path)
 act_by (O.Measure measure) (T.ByPath path rest) on = Look (path_of path)
-act_by O.IsNil (T.ByPath path rest) on = Look (path_of path)
 act_by _ operands on = Operate on
 
 -- what an act with operands does, at the point behind the last one
@@ -259,10 +259,10 @@ module _ (hooked : Ty → Bool) (at_call : ℕ → ℕ → Mode) where
     acts_of how to (T.Choose node ty (T.ByLabels labels) parts) rest =
         selected_acts node.number labels parts (used (is_hooked ty && waits how) node.number rest)
 
-    -- what a path needs before it is looked up: the fresh value that it begins with, and its indexes
+    -- what a path needs before it is looked up: the fresh value that it begins with, unless it is a constant, and its indexes
     pub aimed : T.Path → Acts → Acts
     aimed (T.Variable node ty place global) rest = rest
-    aimed (T.Fresh value) rest = acts_of Looked None value rest
+    aimed (T.Fresh value) rest = by_constant (constant_in value) (λ literal. rest) (acts_of Looked None value rest)
     aimed (T.Field node ty base field) rest = aimed base rest
     aimed (T.Element node ty base index constant) rest = aimed base (acts_of Owned None index rest)
     aimed (T.Deref ty base) rest = aimed base rest

@@ -1,5 +1,5 @@
 -- The ways as a list, computed by cases on the tree. The families of edges are their definition; this list is what computes.
-use Rattle.std.specs.Prelude.{◌≡◌, ℕ, List, [], ◌∷◌, ◌++◌, Bool, true, false, ◌&&◌, ◌||◌, if◌then◌else◌, ◌⊎◌}
+use Rattle.std.specs.Prelude.{◌≡◌, ℕ, List, [], ◌∷◌, ◌++◌, ◌⊎◌}
 use Rattle.nim_meaning.specs.ActTree.{Root, Flow, On, Out, Turn_over, Back, Act, Pass, Fill, Invoke, Turns, Chooses, Leaves, Does, leaving, closing}
 use Rattle.nim_meaning.specs.ActTree.{Control, Do, Choose, Loop, Break, Continue, Return, Call, Group, Arms, No_arm, An_arm, Acts, Done, Then, Bind, Result}
 use Rattle.nim_meaning.specs.Ways.{Point, At, Enter, Leave, Exits, Raises, entry, onto, looped, scoped}

@@ -8,12 +8,12 @@ use Rattle.nim_program.specs.declared.stmt.Leaving.TheVariants as K
 use Rattle.nim_program.specs.Program.{Number, Giving, ByConditions, Expr, Apply, NoArg, ByValue, While, Count, Stmt, Idle, Give, Leave, Select, Loop}
 use Rattle.nim_program.specs.Program.{Stmts, Empty, Then, Declare, Otherwise, Block, Program, last_of}
 use Rattle.nim_program.specs.Ints.{truth}
-use Rattle.nim_meaning.specs.Acts.{Flow, exit_of}
+use Rattle.nim_meaning.specs.Acts.{Outcome, exit_of}
 use Rattle.nim_meaning.specs.State.{State}
 use Rattle.nim_meaning.specs.Meaning.{exec_all, at_top, at_first}
 use Rattle.nim_meaning.specs.LeftOutExamples.{at, place, number, one, starting}
 
-abbrev pub flow_of : Res State (Flow (Unit {0})) → Option (Flow (Unit {0}))
+abbrev pub flow_of : Res State (Outcome (Unit {0})) → Option (Outcome (Unit {0}))
 flow_of (Got flow s) = Some flow
 flow_of (Over status live s) = None
 flow_of (Going s) = None

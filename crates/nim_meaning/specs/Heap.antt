@@ -1,5 +1,5 @@
 -- The heap: blocks by identity, the demand, and what happened to what is owned.
-use Rattle.std.specs.Prelude.{ℕ, zero, suc, ◌+◌, ◌*◌, ◌-◌, Bool, true, false, nat_le, nat_lt, if◌then◌else◌, List, [], ◌∷◌, ◌++◌, length, max}
+use Rattle.std.specs.Prelude.{ℕ, zero, suc, ◌+◌, ◌*◌, ◌-◌, Bool, false, nat_le, nat_lt, if◌then◌else◌, List, [], ◌∷◌, ◌++◌, length, max}
 use Rattle.std.specs.Prelude.{Option, Some, None, slice_get, slice_set}
 use Rattle.nim_types.specs.Types.{Ty}
 use Rattle.nim_types.specs.declared.blocks.TheConstants.{HEADER_BYTES, LEAST_BLOCK}

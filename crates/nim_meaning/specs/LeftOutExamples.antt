@@ -10,6 +10,7 @@ use Rattle.nim_program.specs.declared.operation.Measure.TheVariants.{Len}
 use Rattle.nim_program.specs.Program.{Exactly, Number, Characters, NoObject, Doing, Building, Giving, Calling, ByConditions, ByLabels, Expr, Apply, Read}
 use Rattle.nim_program.specs.Program.{Path, Variable, Field, Element, Deref, Args, NoArg, ByValue, ByPath, Declared, Each, Stmt, Do, Select, Loop, Raise, Try}
 use Rattle.nim_program.specs.Program.{Stmts, Empty, Then, Declare, Defer, Otherwise, Block, NoHandler, Param, Proc, Program}
+use Rattle.nim_program.specs.Nodes.{one_path}
 use Rattle.nim_meaning.specs.Trees.{plain}
 use Rattle.nim_meaning.specs.LeftOut.{first_left_out}
 
@@ -37,9 +38,6 @@ global n ty = Variable (at n) ty 0 true
 
 abbrev pub one : Expr → Args
 one value = ByValue value NoArg
-
-abbrev pub at_path : Path → Args
-at_path path = ByPath path NoArg
 
 -- an operation with a value of a type, and one without
 abbrev pub operated : ℕ → Ty → Operation → Args → Expr
@@ -115,17 +113,17 @@ empty = starting (Declare (at 1) (place 2 (array 0 text)) false NoArg (alone (ec
 
 -- the path that a `for` goes over, and its element
 abbrev pub going_over : Program
-going_over = starting (alone (Loop (at 1) (Each (place 2 int)) (at_path (global 3 (sequence int))) Empty))
+going_over = starting (alone (Loop (at 1) (Each (place 2 int)) (one_path (global 3 (sequence int))) Empty))
 
 abbrev pub measuring : Program
-measuring = starting (alone (echo 1 (operated 2 int (O.Measure Len) (at_path (global 3 text)))))
+measuring = starting (alone (echo 1 (operated 2 int (O.Measure Len) (one_path (global 3 text)))))
 
 abbrev pub indexing : Program
 indexing = starting (alone (echo 1 (Read (Element (at 2) int (global 3 (sequence int)) (number 4) None))))
 
 -- places of other operations are left out where they stand
 abbrev pub swapping : Program
-swapping = starting (alone (operate 1 O.Swap (ByPath (global 2 int) (at_path (global 3 text)))))
+swapping = starting (alone (operate 1 O.Swap (ByPath (global 2 int) (one_path (global 3 text)))))
 
 abbrev pub adding : Program
 adding = starting (alone (operate 1 O.Append (ByPath (global 2 text) (one (literal 3)))))
@@ -150,7 +148,7 @@ abbrev pub discarding_nil : Program
 discarding_nil = starting (alone (letting_go 1 (Apply (at 2) (Some pointer) (Giving NoObject) NoArg)))
 
 abbrev pub asking_nil : Program
-asking_nil = starting (alone (echo 1 (operated 2 bool O.IsNil (at_path (global 3 pointer)))))
+asking_nil = starting (alone (echo 1 (operated 2 bool O.IsNil (one (Read (global 3 pointer))))))
 
 abbrev pub building : Program
 building = starting (alone (letting_go 1 (Apply (at 2) (Some pointer) (Building (0 ∷ [])) (one (number 3)))))
@@ -169,7 +167,7 @@ abbrev pub deferring : Program
 deferring = starting (Then (echo 1 (number 2)) (Defer (at 3) (alone (echo 4 (number 5))) Empty))
 
 abbrev pub destroying : Program
-destroying = starting (alone (operate 1 O.Destroy (at_path (global 2 int))))
+destroying = starting (alone (operate 1 O.Destroy (one_path (global 2 int))))
 
 -- a cursor
 abbrev pub lending : Program

@@ -11,11 +11,13 @@ pub mod Places
 pub mod Texts
 pub mod Table
 pub mod Shapes
+pub mod Aims
 pub mod Meaning
 pub mod Kept
 pub mod LeftOut
 pub mod ActsOf
 pub mod Runs
+pub mod AtPoints
 pub mod Marks
 pub mod Lent
 pub mod PlaceKinds

@@ -5,7 +5,8 @@ use Rattle.nim_program.specs.declared.operation.Operator.TheVariants as O
 use Rattle.nim_program.specs.declared.operation.Comparison.TheVariants.{Equal, Less, Greater, AtLeast}
 use Rattle.nim_program.specs.declared.stmt.Leaving.TheVariants as K
 use Rattle.nim_program.specs.Program.{Ordinals, ByConditions, ByLabels, Expr, Read, Choose, NoArg, ByPath, Select, Empty, Otherwise, Block, Proc, Program}
-use Rattle.nim_meaning.specs.Trees.{node, values, at_path, number, minus, letter, truth_value, literal, binary, comparing, made, call, global_of, global, local}
+use Rattle.nim_meaning.specs.Trees.{node, values, number, minus, letter, truth_value, literal, binary, comparing, made, call, global_of, global, local}
+use Rattle.nim_program.specs.Nodes.{one_path}
 use Rattle.nim_meaning.specs.Trees.{value_of, value_here, perform, echoes, echo, assign, update, letting_go, quits, give, give_back, leave}
 use Rattle.nim_meaning.specs.Trees.{place, does, var, var_as, block, when, loops, counts, over, each, plain, proc, program, script}
 use Rattle.nim_meaning.specs.NumberExamples.{greatest, least}
@@ -125,7 +126,7 @@ returning = program (searching ∷ []) 8
 abbrev pub kinds : Proc
 kinds = proc 5 2 (plain (place 5 int) ∷ []) (Some (place 6 int))
     (does (Select node (ByLabels ((Ordinals (pos 0) (pos 0) ∷ []) ∷ (Ordinals (pos 1) (pos 1) ∷ Ordinals (pos 3) (pos 5) ∷ []) ∷ []))
-    (at_path (local 5))
+    (one_path (local 5))
     (Block (block (does (assign (local 6) (number 10)) ∷ [])) (Block (block (does (assign (local 6) (number 20)) ∷ []))
     (Otherwise (block (does (leave K.Return) ∷ []))))))
     ∷ does (assign (local 6) (binary O.Add (value_here 6) (number 1))) ∷ [])
@@ -163,7 +164,7 @@ covering = program [] 1
     (var_as (place 0 bool) (truth_value true)
     ∷ does (echo (Choose node (Some int) (ByLabels ((Ordinals (pos 0) (pos 0) ∷ []) ∷ (Ordinals (pos 1) (pos 1) ∷ []) ∷ []))
     (ByPath (global_of bool 0) (values (number 1 ∷ number 2 ∷ [])))))
-    ∷ does (Select node (ByLabels ((Ordinals (pos 0) (pos 0) ∷ []) ∷ (Ordinals (pos 1) (pos 1) ∷ []) ∷ [])) (at_path (global_of bool 0))
+    ∷ does (Select node (ByLabels ((Ordinals (pos 0) (pos 0) ∷ []) ∷ (Ordinals (pos 1) (pos 1) ∷ []) ∷ [])) (one_path (global_of bool 0))
     (Block (block (does (echo (number 3)) ∷ [])) (Block (block (does (echo (number 4)) ∷ [])) (Otherwise Empty)))) ∷ [])
 
 -- var x = 0

@@ -12,30 +12,31 @@ use Rattle.nim_program.specs.declared.operation.Short.{Short}
 use Rattle.nim_program.specs.declared.operation.Short.TheVariants.{And, Or}
 use Rattle.nim_program.specs.declared.stmt.Leaving.{Leaving}
 use Rattle.nim_program.specs.declared.stmt.Leaving.TheVariants as K
-use Rattle.nim_program.specs.Program.{Label, Ordinals, Exactly, Act, Doing, Building, Giving, Calling, Chooser, ByConditions, ByLabels}
+use Rattle.nim_program.specs.Program.{Label, Ordinals, Exactly, Act, Doing, Building, Giving, Calling, ByConditions, ByLabels}
 use Rattle.nim_program.specs.Program.{Expr, Apply, Read, Early, Choose, Path, Variable, Fresh, Field, Element, Deref, Args, NoArg, ByValue, ByPath}
 use Rattle.nim_program.specs.Program.{Declared, Kind, While, Count, Each, Stmt, Do, Idle, Give, Leave, Select, Loop, Raise, Try}
-use Rattle.nim_program.specs.Program.{Stmts, Empty, Then, Declare, Defer, Blocks, Otherwise, Block, Handlers, Param, Body, Proc, Program}
-use Rattle.nim_program.specs.Program.{type_of, type_at, node_of, node_at, types_in, last_after, last_of}
-use Rattle.nim_program.specs.Sizes.{value_bytes, if_place_bytes, body_sum}
+use Rattle.nim_program.specs.Program.{Stmts, Empty, Then, Declare, Defer, Blocks, Otherwise, Block, Param, Body, Proc, Program}
+use Rattle.nim_program.specs.Program.{type_of, type_at, node_of, node_at, constant_in, types_in, last_after, last_of}
+use Rattle.nim_program.specs.Folds.{by_constant}
+use Rattle.nim_program.specs.Sizes.{if_place_bytes, body_sum}
 use Rattle.nim_program.specs.declared.operation.Use.{Use}
-use Rattle.nim_program.specs.declared.operation.Use.TheVariants.{Owned, Given as ToPlace, Held, Lent, Looked}
+use Rattle.nim_program.specs.declared.operation.Use.TheVariants.{Owned, Given as ToPlace, Looked}
 use Rattle.nim_program.specs.Uses.{use_of}
 use Rattle.nim_program.specs.Traps.{LengthChanged, CallDepth}
 use Rattle.nim_program.specs.Ints.{truth, is_true}
-use Rattle.nim_meaning.specs.Values.{Value, Number, Fixed, nothing, number_of, length_of, bytes, default_of}
-use Rattle.nim_meaning.specs.Values.{Base, Standing, Waiting, at_base, Location, Slot, Holds, value_in, Operand, Given, At, value_of, slots_for}
+use Rattle.nim_meaning.specs.Values.{Value, Number, nothing, number_of, length_of, bytes, default_of, literal_value}
+use Rattle.nim_meaning.specs.Values.{Standing, Made, Location, Slot, Holds, Operand, value_of, slots_for}
 use Rattle.nim_meaning.specs.State.{Frame, World, State, live, load, with_frame, down_to, world_of}
 use Rattle.nim_meaning.specs.ActTree as points
-use Rattle.nim_meaning.specs.ActTree.{Named, Begins, Does as Done_by, Fills, Looks as Looks_up, Chooses, Turns, Asks, Decides, Leaves}
-use Rattle.nim_meaning.specs.Ways.{Point, At as Spot, Enter}
-use Rattle.nim_meaning.specs.Ways as ways
-use Rattle.nim_meaning.specs.Acts.{Broke, Continued, Returned, Raised, Way, Flow, On, Out, Does, exit_of, give, leave, as_before, ◌>>=◌, ◌>>◌, at_exit}
+use Rattle.nim_meaning.specs.ActTree.{Begins, Does as Done_by, Fills, Looks as Looks_up, Chooses, Turns, Asks, Decides, Leaves}
+use Rattle.nim_meaning.specs.Ways.{At as Spot}
+use Rattle.nim_meaning.specs.Acts.{Broke, Continued, Returned, Raised, Exit, Outcome, On, Out, Does, exit_of, give, leave, as_before, ◌>>=◌, ◌>>◌, at_exit}
 use Rattle.nim_meaning.specs.Acts.{branch, costs, say, spending, stop, looks, change, passing, elsewhere, loop, again, no_more}
 use Rattle.nim_meaning.specs.Deeds as deeds
 use Rattle.nim_meaning.specs.Deeds.{Deed, Opens, changed, carry, ◌>>=◌ as then_deed}
-use Rattle.nim_meaning.specs.Here.{Calls, Here, level_of, is_hooked, gives_hooked, act_at}
-use Rattle.nim_meaning.specs.Places.{place_at, rooted, made, to_part, to_item, to_object, item_of, taken_by, made_by, fetched, put}
+use Rattle.nim_meaning.specs.Here.{Calls, Here, level_of, gives_hooked, act_at}
+use Rattle.nim_meaning.specs.Aims.{Aim, Root, Value_of, PartOf, ItemOf, ObjectOf, find, fresh_root, Ready, Evaluated, Aimed, operand_for, settle, handed_bytes}
+use Rattle.nim_meaning.specs.Places.{place_at, item_of, taken_by, made_by, fetched, put}
 use Rattle.nim_meaning.specs.Table.{acts, moved, default_for}
 use Rattle.nim_meaning.specs.Shapes.{has_node, selector_type, is_covered, is_last_value, is_last_block, modes_in}
 
@@ -51,66 +52,12 @@ at_path path act = branch (has_node path) (at_node (node_at path).number Done_by
 abbrev pub grouped : {A : Type 0} → (node : ℕ) → Does A → Does A
 grouped node part = at_node node Begins part
 
--- ---- paths
-
--- a path whose indexes are evaluated, before it is looked up
-pub data Aim : Type 0 where
-  Root : (base : Base) → Aim
-  Value_of : (value : Value) → Aim
-  PartOf : (aim : Aim) (part : ℕ) → Aim
-  ItemOf : (aim : Aim) (index : ℤ) → Aim
-  ObjectOf : (aim : Aim) → Aim
-
--- it is looked up in the present state
-abbrev pub find : Aim → Does Location
-find (Root base) = carry (rooted base)
-find (Value_of v) = carry (made v)
-find (PartOf aim i) = find aim >>= (λ location. carry (to_part location i))
-find (ItemOf aim z) = find aim >>= (λ location. carry (to_item location z))
-find (ObjectOf aim) = find aim >>= (λ location. carry (to_object location))
-
--- where a path leads that begins with a fresh value: one with hooks waits for the end of its statement, unless nobody owns it
-abbrev pub fresh_root : (hooked : Bool) → (level node : ℕ) → Value → Aim
-fresh_root false level node v = Value_of v
-fresh_root true level node (Fixed t) = Value_of (Fixed t)
-fresh_root true level node v = Root (Waiting level node)
-
--- ---- operands
-
--- an operand that is evaluated, and one whose place is looked up behind the last operand
-pub data Ready : Type 0 where
-  Evaluated : (operand : Operand) → Ready
-  Aimed : (aim : Aim) → Ready
-
--- a value without hooks, and a text that nobody owns, is handed over; one with hooks waits where it is
-abbrev pub operand_for : (hooked : Bool) → (level node : ℕ) → Value → Operand
-operand_for false level node v = Given v
-operand_for true level node (Fixed t) = Given (Fixed t)
-operand_for true level node v = At (at_base (Waiting level node))
-
--- the places are looked up now, in their order
-abbrev pub settle : List Ready → Does (List Operand)
-settle [] = give []
-settle (Evaluated x ∷ rest) = do
-  xs ← settle rest
-  give (x ∷ xs)
-settle (Aimed aim ∷ rest) = do
-  location ← find aim
-  xs ← settle rest
-  give (At location ∷ xs)
-
--- what is handed over to a call: values, and a word for each location
-abbrev pub handed_bytes : List Operand → ℕ
-handed_bytes [] = 0
-handed_bytes (Given v ∷ xs) = bytes v + handed_bytes xs
-handed_bytes (At location ∷ xs) = 4 + handed_bytes xs
-
 -- a row of the table, and what becomes of the value that it gives
 abbrev pub row : Facts → Act → Use → Option Ty → List (Option Ty) → List Operand → Deed Value
 row facts act how ty of xs = then_deed (acts act facts ty of xs) (made_by (gives_hooked facts ty) how)
 
 -- an exception that passes a call leaves by the call's node
-abbrev pub left_at : {A : Type 0} → (node : ℕ) → Flow A → Does A
+abbrev pub left_at : {A : Type 0} → (node : ℕ) → Outcome A → Does A
 left_at node (On x) = give x
 left_at node (Out (Broke by)) = leave (Broke by)
 left_at node (Out (Continued by)) = leave (Continued by)
@@ -188,7 +135,8 @@ abbrev mutual
   -- the index expressions of a path, in their turn
   pub aimed : Path → Here → Does Aim
   aimed (Variable node ty place global) here = give (Root (Standing (level_of global here) place))
-  aimed (Fresh value) here = do
+  -- a constant is read where it stands, and so nothing is built
+  aimed (Fresh value) here = by_constant (constant_in value) (λ literal. give (Root (Made (literal_value literal)))) do
     v ← eval value Looked here
     give (fresh_root (gives_hooked here.facts (type_of value)) here.level (node_of value).number v)
   aimed (Field node ty base field) here = do
@@ -300,10 +248,10 @@ abbrev pub result_gets : Option Declared → Here → Value → Does Value
 result_gets None here v = give nothing
 result_gets (Some place) here v = carry (put (place_at here.level place.number) v)
 
-abbrev pub way_of : Leaving → (by : ℕ) → Way
-way_of K.Break by = Broke by
-way_of K.Continue by = Continued by
-way_of K.Return by = Returned by
+abbrev pub exit_by : Leaving → (by : ℕ) → Exit
+exit_by K.Break by = Broke by
+exit_by K.Continue by = Continued by
+exit_by K.Return by = Returned by
 
 -- control goes back to the caller, or on
 abbrev pub back_or_on : (back : Bool) → (node : ℕ) → Does (Unit {0})
@@ -346,12 +294,12 @@ selector_of (ByPath path rest) here = do
   at_path path (carry (fetched location))
 
 -- Loops, over what their heads give.
-abbrev pub repeated : Kind → (node : ℕ) → Args → (last : ℕ) → Does (Unit {0}) → Here → Does (Unit {0})
-repeated While node head last body here = loop (while_turn node (test_of head here) body) tt
-repeated (Count place inclusive) node head last body here = grouped node do
+abbrev pub loop_over : Kind → (node : ℕ) → Args → (last : ℕ) → Does (Unit {0}) → Here → Does (Unit {0})
+loop_over While node head last body here = loop (while_turn node (test_of head here) body) tt
+loop_over (Count place inclusive) node head last body here = grouped node do
   ready ← head_values head here
   loop (count_turn node here place last body (limit inclusive (number_of (ready_operand (ready_rest ready))))) (number_of (ready_operand ready))
-repeated (Each place) node head last body here = grouped node do
+loop_over (Each place) node head last body here = grouped node do
   ready ← head_values head here
   location ← at_node node Looks_up (find (ready_aim ready))
   looks (λ world. loop (each_turn node here place last body (ready_aim ready) (length_of (load world location))) 0)
@@ -365,12 +313,12 @@ abbrev mutual
     v ← eval value ToPlace here
     given ← at_node node.number Done_by (result_gets here.result here v)
     back_or_on back node.number)
-  exec (Leave node leaving parts) here = costs 1 (at_node node.number Leaves (leave (way_of leaving node.number)))
+  exec (Leave node leaving parts) here = costs 1 (at_node node.number Leaves (leave (exit_by leaving node.number)))
   exec (Select node ByConditions tests blocks) here = costs 1 (grouped node.number (first_block tests blocks here))
   exec (Select node (ByLabels labels) tests blocks) here = costs 1 (grouped node.number do
     x ← selector_of tests here
     at_node node.number Chooses (picked_block (is_covered (selector_type tests)) labels blocks x here))
-  exec (Loop node kind head body) here = costs 1 (repeated kind node.number head (last_of body) (exec_all body here) here)
+  exec (Loop node kind head body) here = costs 1 (loop_over kind node.number head (last_of body) (exec_all body here) here)
   exec (Raise node exception message) here = from_exceptions
   exec (Try node body handlers last) here = from_exceptions
 
@@ -439,14 +387,14 @@ result_bytes None v = 0
 result_bytes (Some place) v = bytes v
 
 -- a call that came to its end gives its result; an exception leaves it
-abbrev pub handing : Flow (Unit {0}) → Value → Does Value
+abbrev pub handing : Outcome (Unit {0}) → Value → Does Value
 handing (On x) v = give v
 handing (Out (Broke by)) v = give v
 handing (Out (Continued by)) v = give v
 handing (Out (Returned by)) v = give v
 handing (Out (Raised exception by)) v = leave (Raised exception by)
 
-abbrev pub handed : List Param → (last : ℕ) → Here → Flow (Unit {0}) → Does Value
+abbrev pub handed : List Param → (last : ℕ) → Here → Outcome (Unit {0}) → Does Value
 handed params last here flow =
     looks (λ world. params_end here params (exit_of last flow)
     >> (change (down_to here.level)
@@ -504,7 +452,7 @@ at_first program heap input n = record {
 }
 
 -- the start code came to its end
-abbrev pub reported : Flow (Unit {0}) → Does (Unit {0})
+abbrev pub reported : Outcome (Unit {0}) → Does (Unit {0})
 reported flow = as_before flow
 
 abbrev pub goes_through : Program → Plan → Does (Unit {0})

@@ -6,7 +6,8 @@ use Rattle.nim_program.specs.declared.operation.Measure.TheVariants.{Len, High}
 use Rattle.nim_program.specs.declared.operation.Operation.TheVariants as P
 use Rattle.nim_program.specs.Program.{Number as OfOrdinal, PartsOf, NoLiteral, ALiteral, Building, Expr, Apply, Read, Path, Fresh, Element}
 use Rattle.nim_program.specs.Program.{NoArg, ByValue, ByPath, Stmt, Idle, Proc, Program}
-use Rattle.nim_meaning.specs.Trees.{node, one, at_path, constant, number, minus, literal, operated, binary, made, measured, call, global_of, local_of, global}
+use Rattle.nim_meaning.specs.Trees.{node, one, constant, number, minus, literal, operated, binary, made, measured, call, global_of, local_of, global}
+use Rattle.nim_program.specs.Nodes.{one_path}
 use Rattle.nim_meaning.specs.Trees.{local, element, field, value_of, value_here, perform, echoes, echo, assign, update, swap, letting_go, place}
 use Rattle.nim_meaning.specs.Trees.{does, var, var_as}
 use Rattle.nim_meaning.specs.Trees.{plain, by_var, proc, program_with, program}
@@ -214,7 +215,7 @@ building = program_with known [] 2
 -- echo b[1], " ", a[1]
 abbrev pub moving : Program
 moving = program [] 2
-    (var_as (place 0 triple) tens ∷ var_as (place 1 triple) (operated triple P.Move (at_path (global_of triple 0)))
+    (var_as (place 0 triple) tens ∷ var_as (place 1 triple) (operated triple P.Move (one_path (global_of triple 0)))
     ∷ does (echoes (Read (element (global_of triple 1) (number 1)) ∷ literal (codes " ") ∷ value_at (number 1) ∷ [])) ∷ [])
 
 abbrev pub powers : Expr
@@ -228,6 +229,11 @@ abbrev pub constants : Program
 constants = program [] 1
     (var_as (place 0 triple) powers ∷ does (assign (at (number 0)) (number 7))
     ∷ does (echoes (Read (element (Fresh powers) (number 1)) ∷ literal (codes " ") ∷ Read (element (Fresh powers) (number 2)) ∷ [])) ∷ [])
+
+-- const c = [1, 2, 4]
+-- echo c[1]
+abbrev pub constant_in_place : Program
+constant_in_place = program [] 0 (does (echo (Read (element (Fresh powers) (number 1)))) ∷ [])
 
 -- what is assigned to itself
 abbrev pub idle : Path → Expr → Stmt

@@ -3,25 +3,24 @@ use Rattle.std.specs.Prelude.{ℕ, suc, nat_eq, Bool, true, false, ◌&&◌, if�
 use Rattle.nim_program.specs.declared.program.Mode.{Mode}
 use Rattle.nim_program.specs.declared.program.Mode.TheVariants as M
 use Rattle.nim_program.specs.Program.{Stmts, Declared, Param, Body, Proc, Program}
-use Rattle.nim_program.specs.Program as T
-use Rattle.nim_program.specs.Folds.{Seen, AtApply, AtEarly, AtChoose, AtPath, AtStmt, AtDeclare, AtLoop, AtHandler, lists, total_of}
+use Rattle.nim_program.specs.Folds.{Seen, Part, Looping, Handling, lists, total_of}
 use Rattle.nim_program.specs.Sizes.{is_global}
 use Rattle.nim_meaning.specs.ActTree.{Root, Named, Temporary, Literal, Step, Field, Index, Path}
 
-pub data Kind : Type 0 where
-  Local : Kind
-  Global : Kind
-  For_variable : Kind
-  Parameter : (mode : Mode) → Kind
-  Result_place : Kind
+pub data DeclaredAs : Type 0 where
+  Local : DeclaredAs
+  Global : DeclaredAs
+  For_variable : DeclaredAs
+  Parameter : (mode : Mode) → DeclaredAs
+  Result_place : DeclaredAs
   -- the name of the exception that a handler handles
-  Handled : Kind
+  Handled : DeclaredAs
 
 pub record Kinded : Type 0 where
   pub place : ℕ
-  pub kind : Kind
+  pub kind : DeclaredAs
 
-abbrev pub kinded : Declared → Kind → Kinded
+abbrev pub kinded : Declared → DeclaredAs → Kinded
 kinded place kind = record { place = place.number; kind = kind }
 
 abbrev pub numbers : List Kinded → List ℕ
@@ -30,29 +29,26 @@ numbers (k ∷ ks) = k.place ∷ numbers ks
 
 -- ---- in order of text
 
-abbrev pub if_kinded : Option Declared → Kind → List Kinded
+abbrev pub if_kinded : Option Declared → DeclaredAs → List Kinded
 if_kinded None kind = []
 if_kinded (Some place) kind = kinded place kind ∷ []
 
-abbrev pub loop_kinds : T.Kind → List Kinded
-loop_kinds T.While = []
-loop_kinds (T.Count variable inclusive) = kinded variable For_variable ∷ []
-loop_kinds (T.Each variable) = kinded variable For_variable ∷ []
+abbrev pub all_kinded : (Declared → DeclaredAs) → List Declared → List Kinded
+all_kinded kind [] = []
+all_kinded kind (place ∷ places) = kinded place (kind place) ∷ all_kinded kind places
 
 module _ (globals : List Declared) where
-  abbrev pub declared_kind : Declared → Kind
+  abbrev pub declared_kind : Declared → DeclaredAs
   declared_kind place = if is_global globals place.number then Global else Local
 
-  -- the places that a part declares
+  -- what the places of a part are
+  abbrev pub place_of : Part → Declared → DeclaredAs
+  place_of Handling place = Handled
+  place_of (Looping kind headed) place = For_variable
+  place_of part place = declared_kind place
+
   abbrev pub own_kinds : Seen → List Kinded
-  own_kinds (AtApply node ty act) = []
-  own_kinds (AtEarly node ty short) = []
-  own_kinds (AtChoose node ty chooser) = []
-  own_kinds (AtPath read node ty step) = []
-  own_kinds (AtStmt node) = []
-  own_kinds (AtDeclare node place cursor) = kinded place (declared_kind place) ∷ []
-  own_kinds (AtLoop node kind) = loop_kinds kind
-  own_kinds (AtHandler name) = if_kinded name Handled
+  own_kinds seen = all_kinded (place_of seen.part) seen.places
 
   abbrev pub block_kinds : Stmts → List Kinded
   block_kinds = total_of lists own_kinds
@@ -79,22 +75,22 @@ module _ (globals : List Declared) where
 abbrev pub all_kinds : (in_body : ℕ → ℕ → Mode) → Program → List Kinded
 all_kinds in_body program = proc_kinds program.globals in_body 0 program.procs ++ block_kinds program.globals program.start.stmts
 
-abbrev pub kind_in : List Kinded → ℕ → Option Kind
+abbrev pub kind_in : List Kinded → ℕ → Option DeclaredAs
 kind_in [] n = None
 kind_in (k ∷ ks) n = if nat_eq k.place n then Some k.kind else kind_in ks n
 
-abbrev pub kind_of : (in_body : ℕ → ℕ → Mode) → Program → ℕ → Option Kind
-kind_of in_body program = kind_in (all_kinds in_body program)
+abbrev pub declared_as : (in_body : ℕ → ℕ → Mode) → Program → ℕ → Option DeclaredAs
+declared_as in_body program = kind_in (all_kinds in_body program)
 
 -- ---- movable paths
 
-abbrev pub is_owner : Option Kind → Bool
+abbrev pub is_owner : Option DeclaredAs → Bool
 is_owner (Some Local) = true
 is_owner (Some (Parameter M.Sink)) = true
 is_owner (Some Result_place) = true
 is_owner _ = false
 
-abbrev pub kind_at : (ℕ → Option Kind) → Root → Option Kind
+abbrev pub kind_at : (ℕ → Option DeclaredAs) → Root → Option DeclaredAs
 kind_at kind (Named place) = kind place
 kind_at kind (Temporary node) = None
 kind_at kind (Literal node) = None
@@ -106,5 +102,5 @@ all_fields (Index constant ∷ rest) = false
 
 -- A local, a parameter that its procedure owns, or the result, or a field of such a path: no element, nothing behind a ref, and nothing that a
 -- temporary holds.
-abbrev pub movable : (kind : ℕ → Option Kind) → Path → Bool
+abbrev pub movable : (kind : ℕ → Option DeclaredAs) → Path → Bool
 movable kind path = is_owner (kind_at kind path.root) && all_fields path.steps

@@ -1,14 +1,14 @@
 -- How places are found, read and written.
-use Rattle.std.specs.Prelude.{ℕ, ℤ, unsigned_abs, Bool, true, false, List, [], ◌∷◌, Option, Some, None}
+use Rattle.std.specs.Prelude.{ℕ, ℤ, unsigned_abs, Bool, true, false, [], ◌∷◌, Option, Some, None}
 use Rattle.nim_plan.specs.declared.plan.Act.{Act}
 use Rattle.nim_program.specs.Traps.{IndexOutOfBounds, NilDereference}
 use Rattle.nim_program.specs.Ints.{inside}
 use Rattle.nim_program.specs.declared.operation.Use.{Use}
-use Rattle.nim_meaning.specs.Values.{Value, Parts, Handle, Fixed, Ref, nothing, length_of, bytes, Base, Standing, Waiting, InBlock, Made, Location, at_base}
+use Rattle.nim_meaning.specs.Values.{Value, Handle, Fixed, Ref, nothing, length_of, bytes, Base, Standing, Waiting, InBlock, Made, Location, at_base}
 use Rattle.nim_meaning.specs.Values.{deeper, nowhere, through}
 use Rattle.nim_meaning.specs.State.{World, slot_at, temporary_at, load}
 use Rattle.nim_meaning.specs.Values.{Slot}
-use Rattle.nim_meaning.specs.Deeds.{Deed, Gives, Works, Looks, Errs, Stores, does, give, ◌>>=◌, ◌>>◌, branch, costs, looks, stop}
+use Rattle.nim_meaning.specs.Deeds.{Deed, Gives, Stores, does, give, ◌>>◌, branch, costs, looks, stop}
 
 -- ---- paths
 

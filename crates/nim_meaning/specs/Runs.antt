@@ -1,5 +1,5 @@
--- That each run does the acts of a way through the tree of acts, in order. The trail of a state has the points that the running call came by, the last
--- one first; a run puts the points in front of it that it passes.
+-- That each run goes by a way through the tree of acts: it passes the points of one, in order. The trail of a state has the points that the running call
+-- came by, the last one first; a run puts the points in front of it that it passes.
 use Rattle.std.specs.Prelude.{◌≡◌, ℕ, Bool, true, false, not, ◌&&◌, ◌||◌, ◌⊎◌, List, [], ◌∷◌, ◌++◌, Option, Some, None}
 use Rattle.arc_base.specs.BigStep.{Res, Got, Over, Going, Errs}
 use Rattle.nim_types.specs.Types.{Ty}
@@ -10,7 +10,7 @@ use Rattle.nim_meaning.specs.ActTree as tree
 use Rattle.nim_meaning.specs.ActTree.{Out, Turn_over, Back}
 use Rattle.nim_meaning.specs.Ways.{Point, Exits, Raises, Graph, Behind, Trail, follows, start}
 use Rattle.nim_meaning.specs.State.{State}
-use Rattle.nim_meaning.specs.Acts.{Way, Broke, Continued, Returned, Raised, Flow, On, Out as LeftBy}
+use Rattle.nim_meaning.specs.Acts.{Exit, Broke, Continued, Returned, Raised, Outcome, On, Out as LeftBy}
 use Rattle.nim_meaning.specs.Here.{is_hooked}
 use Rattle.nim_meaning.specs.LeftOut.{writes_literals}
 use Rattle.nim_meaning.specs.ActsOf.{start_acts, procedure_acts}
@@ -27,7 +27,7 @@ pub record GoneBy (E : Graph) (p : Point) (before after : List Point) (q : Point
   pub is : Trail E p way q
 
 -- It came out of a part, to where this flow leads. No exception leaves, since no construct raises one yet.
-abbrev pub LeavesBy : (E : Graph) (p : Point) (exits : Exits) (before after : List Point) → Way → Type 0
+abbrev pub LeavesBy : (E : Graph) (p : Point) (exits : Exits) (before after : List Point) → Exit → Type 0
 LeavesBy E p exits before after (Broke by) = GoneBy E p before after (exits (Out by))
 LeavesBy E p exits before after (Continued by) = GoneBy E p before after (exits (Turn_over by))
 LeavesBy E p exits before after (Returned by) = GoneBy E p before after (exits (Back by))
@@ -43,7 +43,8 @@ abbrev pub StopsBy : (E : Graph) (p : Point) (elsewhere : List Point → Type 0)
 StopsBy E p elsewhere before after = StandsBy E p before after ⊎ elsewhere after
 
 -- From p on, what a part came to went by a way: to where its flow leads, or as far as it came.
-abbrev pub GoesBy : {A : Type 0} (E : Graph) (p : Point) (exits : Exits) (elsewhere : List Point → Type 0) (before : List Point) → Res State (Flow A) → Type 0
+abbrev pub GoesBy : {A : Type 0} (E : Graph) (p : Point) (exits : Exits) (elsewhere : List Point → Type 0) (before : List Point) → Res State (Outcome A) →
+    Type 0
 GoesBy E p exits elsewhere before (Got (On x) s) = GoneBy E p before s.trail (exits tree.On)
 GoesBy E p exits elsewhere before (Got (LeftBy way) s) = LeavesBy E p exits before s.trail way
 GoesBy E p exits elsewhere before (Over status live s) = StopsBy E p elsewhere before s.trail

@@ -1,5 +1,5 @@
 -- What the meaning and the acts both ask of parts of the tree: which paths are nodes, where a `case` ends, and how parameters take arguments.
-use Rattle.std.specs.Prelude.{ℕ, zero, suc, Bool, true, false, ◌&&◌, ◌||◌, nat_eq, if◌then◌else◌, List, [], ◌∷◌, Option, Some, None}
+use Rattle.std.specs.Prelude.{ℕ, zero, suc, Bool, true, false, ◌||◌, nat_eq, if◌then◌else◌, List, [], ◌∷◌, Option, Some, None}
 use Rattle.nim_types.specs.Types.{Ty, text}
 use Rattle.nim_program.specs.declared.program.Mode.{Mode}
 use Rattle.nim_program.specs.declared.program.Mode.TheVariants.{Plain, Sink}

@@ -1,14 +1,16 @@
 -- More programs with their acts: lent arguments, literals, what gets a value, temporaries of what may not be evaluated, branches, kinds of places.
 use Rattle.std.specs.Prelude.{pos, true, false, List, [], ◌∷◌, Some, None}
-use Rattle.nim_types.specs.Types.{int, bool, text}
+use Rattle.nim_types.specs.Types.{int, bool, text, array}
 use Rattle.nim_program.specs.declared.operation.Operation.TheVariants as O
 use Rattle.nim_program.specs.declared.operation.Measure.TheVariants as E
 use Rattle.nim_program.specs.declared.operation.Short.TheVariants as S
 use Rattle.nim_program.specs.declared.program.Mode.TheVariants as M
 use Rattle.nim_program.specs.Program as T
 use Rattle.nim_program.specs.Program.{Expr, Stmts, Program}
-use Rattle.nim_meaning.specs.ActTree.{Named, Temporary, Literal, Path, Operands, Pass, Look, Take, Lend, Fill, Give, Operate}
-use Rattle.nim_meaning.specs.ActTree.{Begins, Fills, Chooses, Asks, Decides, Do, Call, Group, Acts, Done, Bind, Result}
+use Rattle.nim_meaning.specs.ActTree.{Named, Temporary, Literal, Index, Path, Operands, On, Pass, Look, Take, Lend, Fill, Give, Operate}
+use Rattle.nim_meaning.specs.ActTree.{Begins, Does, Fills, Chooses, Turns, Asks, Decides, Do, Call, Group, Acts, Done, Bind, Result}
+use Rattle.nim_meaning.specs.Ways.{At, Stop}
+use Rattle.nim_meaning.specs.Arrows.{Arrow, arrow}
 use Rattle.nim_meaning.specs.PlaceKinds.{Kinded, kinded, Local, Global, For_variable, Parameter, Result_place}
 use Rattle.nim_meaning.specs.ActExamples.{node, number, written, name, read, equal, values, operation, assigned, echoed, declared, declare, when, block}
 use Rattle.nim_meaning.specs.ActExamples.{body, proc, param, program, of, does, nothing, reading, works, fork, ◌▸◌}
@@ -85,12 +87,12 @@ owning_kinds = kinded (declared 0 text) (Parameter M.Sink) ∷ kinded (declared 
 abbrev pub moved : Path
 moved = of 0
 
--- a literal that a path begins with: nobody owns it
+-- a literal that a path begins with: it is read where it stands, and nobody owns it
 abbrev pub literal_length : Expr
 literal_length = operation 7 (Some int) (O.Measure E.Len) (T.ByPath (T.Fresh (written 8)) T.NoArg)
 
 abbrev pub literal_length_acts : Acts
-literal_length_acts = works 8 ▸ does 7 (Look (record { root = Literal 8; steps = [] })) ▸ Done
+literal_length_acts = does 7 (Look (record { root = Literal 8; steps = [] })) ▸ Done
 
 -- let t = x
 abbrev pub given_to_t : Stmts
@@ -141,3 +143,31 @@ covered_acts =
     Group 6 Asks (does 6 (Look (of 0)) ▸ Done) ▸
     fork 6 Decides (does 7 (Take 7 None (of 1)) ▸ Done) (does 8 (Take 8 None (of 2)) ▸ Done) ▸ Done) ▸
     Do 5 Fills (Fill (Temporary 5)) ▸ does 4 (Operate (reading 5)) ▸ Done)) ▸ Done) ▸ Done) ▸ Done
+
+-- t = b[1]
+abbrev pub taking_part : Stmts
+taking_part =
+    block (assigned 1 (name 2 int 1) (T.Read (T.Element (node 3) int (name 4 (array 2 int) 0) (number 5 1) (Some (pos 1)))) ∷ [])
+
+-- the index is evaluated, the element read and then given
+abbrev pub taking_part_ways : List Arrow
+taking_part_ways =
+    arrow (At 1 Begins) Pass (At 5 Does) ∷ arrow (At 5 Does) (Operate nothing) (At 3 Does)
+    ∷ arrow (At 3 Does) (Look (record { root = Named 0; steps = Index (Some (pos 1)) ∷ [] })) (At 1 Does)
+    ∷ arrow (At 1 Does) (Give (of 1)) (Stop On) ∷ []
+
+-- for i in 0..1:
+--   t = i
+abbrev pub giving_number : Stmts
+giving_number =
+    block (
+    T.Loop (node 1) (T.Count (declared 2 int) true) (values (number 2 0 ∷ number 3 1 ∷ []))
+    (block (assigned 4 (name 5 int 1) (read 6 int 2) ∷ [])) ∷ [])
+
+-- each turn fills i, reads it and gives t its value
+abbrev pub giving_number_ways : List Arrow
+giving_number_ways =
+    arrow (At 1 Begins) Pass (At 2 Does) ∷ arrow (At 2 Does) (Operate nothing) (At 3 Does) ∷ arrow (At 3 Does) (Operate nothing) (At 1 Turns)
+    ∷ arrow (At 1 Turns) Pass (At 1 Chooses) ∷ arrow (At 1 Chooses) Pass (At 1 Fills) ∷ arrow (At 1 Chooses) Pass (Stop On)
+    ∷ arrow (At 1 Fills) (Fill (Named 2)) (At 4 Begins) ∷ arrow (At 4 Begins) Pass (At 6 Does)
+    ∷ arrow (At 6 Does) (Look (of 2)) (At 4 Does) ∷ arrow (At 4 Does) (Give (of 1)) (At 1 Turns) ∷ []

@@ -1,5 +1,5 @@
 -- The table of operations, by what each does with its operands.
-use Rattle.std.specs.Prelude.{ℕ, zero, suc, ◌+◌, ℤ, pos, ◌-ℤ◌, Bool, true, false, List, [], ◌∷◌, length, Option, Some, None}
+use Rattle.std.specs.Prelude.{ℕ, ℤ, pos, ◌-ℤ◌, List, [], ◌∷◌, length, Option, Some, None}
 use Rattle.arc_base.specs.declared.outside.Stream.TheVariants.{Out as Output}
 use Rattle.nim_types.specs.Types.{Ty, int, char, enum, Facts, fact_of, members_in}
 use Rattle.nim_program.specs.declared.operation.Operation.{Operation}
@@ -11,7 +11,7 @@ use Rattle.nim_program.specs.Ints.{Checked, Fine, Trapped, applied, applied_to, 
 use Rattle.nim_program.specs.Program.{Act, Doing, Building, Giving, Calling, Literal}
 use Rattle.nim_program.specs.Program as P
 use Rattle.nim_meaning.specs.Values.{Value, Number, Parts, Values, Nil, More, nothing, number_of, length_of, with_part, bytes, default_of, literal_value}
-use Rattle.nim_meaning.specs.Values.{Operand, Given, At, Location, value, number, location, value_of, values_in}
+use Rattle.nim_meaning.specs.Values.{Operand, Location, value, number, location, value_of, values_in}
 use Rattle.nim_meaning.specs.State.{load}
 use Rattle.nim_meaning.specs.Acts.{line_of}
 use Rattle.nim_meaning.specs.Texts.{texts_of}

@@ -21,6 +21,7 @@ use Rattle.nim_program.specs.declared.program.Mode.TheVariants as M
 use Rattle.nim_program.specs.Program.{Literal, Number, Characters, Doing, Giving, Calling, ByConditions, Expr, Apply, Read, Early, Path, Variable, Field}
 use Rattle.nim_program.specs.Program.{Element, Args, NoArg, ByValue, ByPath, Declared, While, Count, Each, Stmt, Do, Give, Leave, Select, Loop}
 use Rattle.nim_program.specs.Program.{Stmts, Empty, Then, Declare, Otherwise, Block, Param, Proc, Program}
+use Rattle.nim_program.specs.Nodes.{one_path}
 use Rattle.nim_program.specs.Ints.{truth}
 use Rattle.nim_meaning.specs.Meaning.{meaning}
 use Rattle.nim_meaning.specs.LeftOut.{IsPlain}
@@ -39,9 +40,6 @@ values (first ∷ rest) = ByValue first (values rest)
 
 abbrev pub one : Expr → Args
 one value = ByValue value NoArg
-
-abbrev pub at_path : Path → Args
-at_path path = ByPath path NoArg
 
 -- ---- expressions
 
@@ -83,7 +81,7 @@ abbrev pub made : Ty → List Expr → Expr
 made ty parts = operated ty O.Make (values parts)
 
 abbrev pub measured : Measure → Path → Expr
-measured measure path = operated int (O.Measure measure) (at_path path)
+measured measure path = operated int (O.Measure measure) (one_path path)
 
 abbrev pub both : Expr → Expr → Expr
 both left right = Early node bool And left right
@@ -143,10 +141,10 @@ abbrev pub update : Operator → Path → Expr → Stmt
 update operator path value = operate (O.Update operator) (ByPath path (one value))
 
 abbrev pub step : Operator → Path → Stmt
-step operator path = operate (O.Update operator) (at_path path)
+step operator path = operate (O.Update operator) (one_path path)
 
 abbrev pub swap : Path → Path → Stmt
-swap left right = operate O.Swap (ByPath left (at_path right))
+swap left right = operate O.Swap (ByPath left (one_path right))
 
 abbrev pub letting_go : Expr → Stmt
 letting_go value = operate O.Discard (one value)
@@ -196,7 +194,7 @@ over variable first last body = counts true variable first last body
 
 -- over the ints in an array
 abbrev pub each : ℕ → Path → List Line → Stmt
-each variable path body = Loop node (Each (place variable int)) (at_path path) (block body)
+each variable path body = Loop node (Each (place variable int)) (one_path path) (block body)
 
 -- what is declared outside of all blocks
 abbrev pub declared : List Line → List Declared

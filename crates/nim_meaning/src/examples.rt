@@ -15,7 +15,7 @@ ghost use Rattle.nim_meaning.specs.PlaceExamples.{constants, placing, reading_at
 ghost use Rattle.nim_meaning.specs.PlaceExamples.{value_before_place, index_before_value, above_array};
 ghost use Rattle.nim_meaning.specs.PlaceExamples.{below_array, argument_before_place, aiming_in_turn};
 ghost use Rattle.nim_meaning.specs.PlaceExamples.{handing_on, one_place, copying, nesting, building};
-ghost use Rattle.nim_meaning.specs.PlaceExamples.{moving};
+ghost use Rattle.nim_meaning.specs.PlaceExamples.{moving, constant_in_place};
 ghost use Rattle.nim_meaning.specs.LoopExamples.{choosing_in_turn};
 ghost use Rattle.nim_meaning.specs.LoopExamples.{up_to_greatest, below_last, ends_once, breaking};
 ghost use Rattle.nim_meaning.specs.LoopExamples.{anew_each_turn, found_anew, aimed_once, shortening};
@@ -77,6 +77,8 @@ pub fn place_examples()
     ensures building { Prints building 0 (codes "04\n4334\n") }
     ensures moving { Prints moving 0 (codes "20 0\n") }
     ensures constants { Prints constants 0 (codes "2 4\n") }
+    // It is read where it stands, so its bytes are no work and no part of the sum.
+    ensures constant_in_place { Works constant_in_place 0 (codes "2\n") 26 }
     ensures to_itself { Fails to_itself 0 (codes "20\n") (codes "Error: index out of bounds\n") }
 {}
 

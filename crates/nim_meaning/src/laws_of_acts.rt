@@ -10,22 +10,23 @@ ghost use Rattle.nim_program.specs.declared.program.Mode.{Mode};
 ghost use Rattle.nim_program.specs.Program.{Expr, Stmts, Declared, Param, Body, Proc, Program};
 ghost use Rattle.nim_program.specs.Folds.{nodes, block_nodes, block_places, body_places};
 ghost use Rattle.nim_meaning.specs.ActTree.{Root, Flow, On, Act, Acts, Bind, Result, leaving};
-ghost use Rattle.nim_meaning.specs.ActTree.{closing};
+ghost use Rattle.nim_meaning.specs.ActTree.{Begins, closing};
 ghost use Rattle.nim_meaning.specs.ActTree.{Done, Temporary, until_read};
 ghost use Rattle.nim_meaning.specs.Ways.{Point, Leave, Exits, Raises, MayEnd, Edges, all_scopes};
-ghost use Rattle.nim_meaning.specs.Ways.{Stop, entry, onto};
+ghost use Rattle.nim_meaning.specs.Ways.{At, Stop, entry, onto};
 ghost use Rattle.nim_meaning.specs.Arrows.{flows, all_arrows, Among, Is_flow};
 ghost use Rattle.nim_meaning.specs.State.{State};
-ghost use Rattle.nim_meaning.specs.Here.{is_hooked};
+ghost use Rattle.nim_meaning.specs.Here.{Here, is_hooked};
 ghost use Rattle.nim_meaning.specs.Shapes.{modes_in};
 ghost use Rattle.nim_meaning.specs.Meaning.{eval, exec_all, from_level, calls, goes_through};
-ghost use Rattle.nim_meaning.specs.Meaning.{at_first};
+ghost use Rattle.nim_meaning.specs.Meaning.{at_first, at_top};
+ghost use Rattle.nim_meaning.specs.AtPoints.{A_value, Nothing, DoesBy};
 ghost use Rattle.nim_meaning.specs.ActsOf.{acts_of, stmts_acts, proc_acts, start_acts};
 ghost use Rattle.nim_meaning.specs.ActsOf.{procedure_acts};
 ghost use Rattle.nim_meaning.specs.Marks.{Member, Distinct, place_numbers, all_marks};
 ghost use Rattle.nim_meaning.specs.Lent.{All_read, reads_later, ends_reading};
 ghost use Rattle.nim_meaning.specs.PlaceKinds.{Kinded, numbers, body_kinds, all_kinds, kind_in};
-ghost use Rattle.nim_meaning.specs.PlaceKinds.{kind_of, movable};
+ghost use Rattle.nim_meaning.specs.PlaceKinds.{declared_as, movable};
 ghost use Rattle.nim_meaning.specs.Runs.{GoesBy, is_plain_value, is_plain_block};
 ghost use Rattle.nim_meaning.specs.Runs.{has_no_hooks, start_graph, first_point, procedure_graph};
 ghost use Rattle.nim_meaning.specs.Runs.{first_point_of, StandsInCall};
@@ -42,7 +43,8 @@ ghost use Rattle.nim_meaning.specs.SiteExamples.{giving_acts, lending_kinds, own
 ghost use Rattle.nim_meaning.specs.SiteExamples.{moved, given_to_t, given_to_t_acts};
 ghost use Rattle.nim_meaning.specs.SiteExamples.{literal_length, literal_length_acts};
 ghost use Rattle.nim_meaning.specs.SiteExamples.{maybe_joined, maybe_joined_acts, covered};
-ghost use Rattle.nim_meaning.specs.SiteExamples.{covered_acts};
+ghost use Rattle.nim_meaning.specs.SiteExamples.{covered_acts, taking_part, taking_part_ways};
+ghost use Rattle.nim_meaning.specs.SiteExamples.{giving_number, giving_number_ways};
 
 /// The ways as a family of edges are those of a list that is computed.
 pub fn ways()
@@ -65,10 +67,11 @@ pub fn exits()
         ↔ (MayEnd raises b f × (d ≡ closing x last f) × (q ≡ k f)) }
 {}
 
-/// Each run does the acts of a way through the tree of acts, in order. An expression leads from its
-/// first point to that of what follows, in front of any rest, and a block to where its flow leads;
-/// a run that is over, or that has no unit left, has come by a way so far. So does each run of a
-/// program without hooks, but for literals that `echo` writes, in its start code and in each call.
+/// Each run passes, in order, the points of a way through the tree of acts; which place is read or
+/// written at a point is no part of this. An expression leads from its first point to that of what
+/// follows, in front of any rest, and a block to where its flow leads; a run that is over, or that
+/// has no unit left, has come by a way so far. So does each run of a program without hooks, but for
+/// literals that `echo` writes, in its start code and in each call.
 pub fn runs()
     ensures value { (raises : Raises) (program : Program) (plan : Plan) (left level : ℕ)
         (body : Body) (how : Use) (to : Option Root) (e : Expr) (rest : Acts) (exits : Exits)
@@ -103,6 +106,40 @@ pub fn runs()
         (first_point raises plan.sinks program)
         Stop (StandsInCall raises plan.sinks program) []
         (goes_through program plan (at_first program heap input units)) }
+{}
+
+/// What a run does with places is what the acts of its way say. An expression, a block, and the
+/// statements of a procedure and of the start code look up, read, fill and write at each point the
+/// places that the act there names, along its paths, and no others.
+pub fn deeds()
+    ensures value { (raises : Raises) (program : Program) (plan : Plan) (left level : ℕ)
+        (body : Body) (how : Use) (to : Option Root) (e : Expr) (rest : Acts) (exits : Exits) →
+        is_plain_value (is_hooked program.facts) e ≡ true →
+        let acts = acts_of (is_hooked program.facts) (modes_in plan.sinks program.procs) how to e
+        rest in
+        let here = from_level program plan level (calls program plan left (suc level)) body in
+        DoesBy (Edges raises acts exits) here A_value (entry acts (exits On))
+        (onto (entry rest (exits On)) exits) (eval e how here) }
+    ensures block { (raises : Raises) (program : Program) (plan : Plan) (left level : ℕ)
+        (body : Body) (b : Stmts) (exits : Exits) →
+        is_plain_block (is_hooked program.facts) b ≡ true →
+        let acts = stmts_acts (is_hooked program.facts) (modes_in plan.sinks program.procs)
+        body.result b in
+        let here = from_level program plan level (calls program plan left (suc level)) body in
+        DoesBy (Edges raises acts exits) here Nothing (entry acts (exits On)) exits
+        (exec_all b here) }
+    ensures procedure { (raises : Raises) (program : Program) (plan : Plan) (proc : ℕ) (p : Proc)
+        (body : Body) (left level : ℕ) →
+        has_no_hooks program ≡ true → slice_get program.procs proc ≡ Some p →
+        p.body ≡ Some body →
+        let here = from_level program plan level (calls program plan left (suc level)) body in
+        DoesBy (procedure_graph raises plan.sinks program proc) here Nothing
+        (first_point_of raises plan.sinks program proc) Stop (exec_all body.stmts here) }
+    ensures start { (raises : Raises) (program : Program) (plan : Plan) →
+        has_no_hooks program ≡ true →
+        DoesBy (start_graph raises plan.sinks program) (at_top program plan) Nothing
+        (first_point raises plan.sinks program) Stop
+        (exec_all program.start.stmts (at_top program plan)) }
 {}
 
 /// Each place that a procedure declares has a kind, in order of text. By its number each is found,
@@ -170,8 +207,8 @@ pub fn sites()
     ensures giving { procedure_acts text_hooks [] lending 0 ≡ giving_acts }
     ensures kinds { all_kinds (modes_in [] lending.procs) lending ≡ lending_kinds }
     ensures owning { all_kinds (modes_in [] owning.procs) owning ≡ owning_kinds }
-    ensures sink { movable (kind_of (modes_in [] owning.procs) owning) moved ≡ true }
-    ensures global { movable (kind_of (modes_in [] lending.procs) lending) moved ≡ false }
+    ensures sink { movable (declared_as (modes_in [] owning.procs) owning) moved ≡ true }
+    ensures global { movable (declared_as (modes_in [] lending.procs) lending) moved ≡ false }
     ensures declared { stmts_acts text_hooks (modes_in [] owning.procs) None given_to_t
         ≡ given_to_t_acts }
     ensures literal { acts_of text_hooks (modes_in [] owning.procs) Looked None literal_length Done
@@ -180,4 +217,12 @@ pub fn sites()
         ≡ maybe_joined_acts }
     ensures covered { stmts_acts text_hooks (modes_in [] owning.procs) None covered
         ≡ covered_acts }
+{}
+
+/// What small blocks do at the points of ways that are written out.
+pub fn at_points()
+    ensures part { (here : Here) → DoesBy (λ p d q. Among p d q taking_part_ways) here Nothing
+        (At 1 Begins) Stop (exec_all taking_part here) }
+    ensures number { (here : Here) → DoesBy (λ p d q. Among p d q giving_number_ways) here Nothing
+        (At 1 Begins) Stop (exec_all giving_number here) }
 {}

@@ -134,6 +134,7 @@ module _ (facts : Facts) where
   fits O.Pop ty (a ∷ []) = is_sequence (kind a) && is_of (element_of (kind a)) ty
   fits O.Move ty (a ∷ []) = is_of a ty
   fits O.Swap None (a ∷ b ∷ []) = is_of a b
+  -- a value, or what a call gives that is a statement, which may be none
   fits O.Discard None (a ∷ []) = true
   fits O.Destroy None (a ∷ []) = is_resource (kind a)
   fits O.Blank None (a ∷ []) = is_resource (kind a)

@@ -1,15 +1,13 @@
 -- A few folds, worked out by hand.
-use Rattle.std.specs.Prelude.{ℕ, pos, Bool, false, [], ◌∷◌, codes, None, Some}
+use Rattle.std.specs.Prelude.{ℕ, pos, Bool, false, [], ◌∷◌, None, Some}
 use Rattle.nim_types.specs.Types as type
-use Rattle.nim_types.specs.Types.{Ty}
 use Rattle.nim_program.specs.declared.operation.Operation.TheVariants as O
 use Rattle.nim_program.specs.declared.operation.Measure.TheVariants.{Len}
-use Rattle.nim_program.specs.Program.{Number, Characters, ElementsOf, NoLiteral, ALiteral, Ordinals, Expr, Apply, Read, Doing, Giving}
-use Rattle.nim_program.specs.Program.{ByConditions, ByLabels, Field, Deref, NoArg, Count, Stmt, Do, Select, Loop, Try}
+use Rattle.nim_program.specs.Program.{Number, PartsOf, NoLiteral, ALiteral, Ordinals, Expr, Apply, Read, Doing, Giving}
+use Rattle.nim_program.specs.Program.{ByConditions, ByLabels, Fresh, Field, Element, Deref, NoArg, Count, Stmt, Do, Select, Loop, Try}
 use Rattle.nim_program.specs.Program.{Stmts, Empty, Declare, Defer, Otherwise, Block, NoHandler, Handler}
 use Rattle.nim_program.specs.Folds.{numbers, total, total_of}
 use Rattle.nim_program.specs.Sizes.{own_bytes}
-use Rattle.nim_program.specs.TextSizes.{own_texts}
 use Rattle.nim_program.specs.ExampleParts.{at, item, facts, value, place, place_value, values, gives, acts, number, declared, x, q, n, p, block}
 
 -- with numbers in order of text: `echo`, and a constant
@@ -55,18 +53,16 @@ length_of = gives type.int (O.Measure Len) (place q)
 abbrev pub assigned : Expr
 assigned = acts O.Assign (place_value x (Read x))
 
+-- c[1] of a constant, which is read in place
+abbrev pub constant_element : Expr
+constant_element =
+    Read (Element (at 0) type.int
+    (Fresh (Apply (at 1) (Some (type.array 3 type.int))
+    (Giving (PartsOf (ALiteral (Number (pos 1)) (ALiteral (Number (pos 2)) (ALiteral (Number (pos 4)) NoLiteral))))) NoArg)) (holds 2) None)
+
 -- for i in 0..1: var a: int, where another place is a global
 abbrev pub counting : Stmts
 counting = block (Loop (at 0) (Count (declared 3 type.int) Bool.true) (values (number 0) (number 1)) (Declare (at 0) (declared 4 type.text) false NoArg Empty))
 
 abbrev pub counting_bytes : (global : ℕ) → ℕ
 counting_bytes global = total_of numbers (own_bytes facts (declared global type.text ∷ [])) counting
-
--- ---- texts: @["a", "hello"], a use of a constant
-
-abbrev pub greeting : Expr
-greeting =
-    Apply (at 0) (Some (type.sequence type.text)) (Giving (ElementsOf (ALiteral (Characters (codes "a")) (ALiteral (Characters (codes "hello")) NoLiteral)))) NoArg
-
-abbrev pub texts_of : Expr → ℕ
-texts_of = total numbers own_texts

@@ -1,37 +1,46 @@
 -- What folds are of a part alone, as the code tells it for each part that it folds, and of one with its parts.
-use Rattle.std.specs.Prelude.{Bool, true, false}
-use Rattle.nim_program.specs.Program.{Expr, Apply, Read, Early, Choose, Path, Variable, Fresh, Field, Element, Deref, Stmt, Do, Loop}
-use Rattle.nim_program.specs.Program.{Stmts, Empty, Then, Declare, Defer, node_in}
-use Rattle.nim_program.specs.Folds.{Seen, AtApply, AtEarly, AtChoose, AtPath, AtStmt, AtDeclare, AtLoop, Named, ToField, ToElement}
-use Rattle.nim_program.specs.Folds.{Sum, total, total_at, totals}
+use Rattle.std.specs.Prelude.{Bool, true, false, [], ◌∷◌, Option, Some, None}
+use Rattle.nim_program.specs.Program.{Expr, Apply, Read, Early, Choose, Path, Variable, Fresh, Field, Element, Deref, is_written, constant_in}
+use Rattle.nim_program.specs.Program.{Stmt, Do, Idle, Give, Leave, Select, Loop, Raise, Try, Stmts, Empty, Then, Declare, Defer}
+use Rattle.nim_program.specs.Folds.{Seen, Sum, Named, ToField, ToElement, ToObject, Acting, Stopping, Choosing, Leading, Stating}
+use Rattle.nim_program.specs.Folds.{Declaring, Looping, valued, stated, led, loop_places, looked_type, is_headed, if_constant, begun_by, total, total_at, totals}
+
+-- ---- a part alone, none of one that is seen by its parts
+
+abbrev pub seen_of : Expr → Option Seen
+seen_of (Apply node ty act operands) = Some (valued node ty (Acting act))
+seen_of (Read path) = None
+seen_of (Early node ty short left right) = Some (valued node (Some ty) (Stopping short))
+seen_of (Choose node ty chooser parts) = Some (valued node ty (Choosing chooser (looked_type chooser parts)))
+
+abbrev pub seen_at : (read : Bool) → Path → Seen
+seen_at read (Variable node ty place global) = valued node (Some ty) (Leading read true (Named place global))
+seen_at read (Fresh value) = begun_by (constant_in value) read value
+seen_at read (Field node ty base field) = valued node (Some ty) (Leading read (is_written base) (ToField field))
+seen_at read (Element node ty base index constant) = valued node (Some ty) (Leading read (is_written base) (ToElement constant))
+seen_at read (Deref ty base) = led (Some ty) read true ToObject
+
+abbrev pub seen_in : Stmt → Option Seen
+seen_in (Do value) = None
+seen_in (Idle node parts) = Some (stated node [] Stating)
+seen_in (Give node back value) = Some (stated node [] Stating)
+seen_in (Leave node leaving parts) = Some (stated node [] Stating)
+seen_in (Select node chooser tests blocks) = Some (stated node [] (Choosing chooser (looked_type chooser tests)))
+seen_in (Loop node kind head body) = Some (stated node (loop_places kind) (Looping kind (is_headed head)))
+seen_in (Raise node exception message) = Some (stated node [] Stating)
+seen_in (Try node body handlers last) = Some (stated node [] Stating)
+
+-- the first statement of a block
+abbrev pub seen_first : Stmts → Option Seen
+seen_first Empty = None
+seen_first (Then first rest) = seen_in first
+seen_first (Declare node place cursor value rest) = Some (stated node (place ∷ []) (Declaring cursor))
+seen_first (Defer node last rest) = Some (stated node [] Stating)
 
 module _ {A : Type 0} (sum : Sum A) (own : Seen → A) where
-  -- ---- a part alone, none of one that is seen by its parts
-
-  abbrev pub own_of : Expr → A
-  own_of (Apply node ty act operands) = own (AtApply node ty act)
-  own_of (Read path) = sum.none
-  own_of (Early node ty short left right) = own (AtEarly node ty short)
-  own_of (Choose node ty chooser parts) = own (AtChoose node ty chooser)
-
-  abbrev pub own_at : (read : Bool) → Path → A
-  own_at read (Variable node ty place global) = own (AtPath read node ty (Named place global))
-  own_at read (Fresh value) = sum.none
-  own_at read (Field node ty base field) = own (AtPath read node ty (ToField field))
-  own_at read (Element node ty base index constant) = own (AtPath read node ty (ToElement constant))
-  own_at read (Deref ty base) = sum.none
-
-  abbrev own_in : Stmt → A
-  own_in (Do value) = sum.none
-  own_in (Loop node kind head body) = own (AtLoop node kind)
-  own_in stmt = own (AtStmt (node_in stmt))
-
-  -- of the first statement of a block
-  abbrev pub own_first : Stmts → A
-  own_first Empty = sum.none
-  own_first (Then first rest) = own_in first
-  own_first (Declare node place cursor value rest) = own (AtDeclare node place cursor)
-  own_first (Defer node last rest) = own (AtStmt node)
+  abbrev pub own_if : Option Seen → A
+  own_if None = sum.none
+  own_if (Some seen) = own seen
 
   -- ---- a part that is this alone, with its parts
 
@@ -43,7 +52,7 @@ module _ {A : Type 0} (sum : Sum A) (own : Seen → A) where
 
   abbrev pub with_base : (read : Bool) → A → Path → A
   with_base read a (Variable node ty place global) = a
-  with_base read a (Fresh value) = total sum own value
+  with_base read a (Fresh value) = if_constant (constant_in value) a (sum.plus a (total sum own value))
   with_base read a (Field node ty base field) = sum.plus a (total_at sum own false base)
   with_base read a (Element node ty base index constant) = sum.plus a (sum.plus (total_at sum own false base) (total sum own index))
-  with_base read a (Deref ty base) = total_at sum own read base
+  with_base read a (Deref ty base) = sum.plus a (total_at sum own false base)

@@ -1,5 +1,5 @@
 -- A typed program as definitions speak of it: a tree without boxes, capacities and tables, with the types in place.
-use Rattle.std.specs.Prelude.{ℕ, ℤ, Bool, List, [], ◌∷◌, Option, Some, None}
+use Rattle.std.specs.Prelude.{ℕ, ℤ, Bool, true, false, List, [], ◌∷◌, Option, Some, None}
 use Rattle.arc_base.specs.declared.place.Place.{Place}
 use Rattle.nim_types.specs.Types.{Ty, Facts}
 use Rattle.nim_program.specs.declared.expr.Node.{Node}
@@ -179,6 +179,19 @@ abbrev mutual
   node_at (Field node ty base field) = node
   node_at (Element node ty base index constant) = node
   node_at (Deref ty base) = node_at base
+
+-- A path that can be written begins at a place, or passes through a ref.
+abbrev pub is_written : Path → Bool
+is_written (Variable node ty place global) = true
+is_written (Fresh value) = false
+is_written (Field node ty base field) = is_written base
+is_written (Element node ty base index constant) = is_written base
+is_written (Deref ty base) = true
+
+-- a constant: where a path begins with one, it is read where it stands
+abbrev pub constant_in : Expr → Option Literal
+constant_in (Apply node ty (Giving literal) NoArg) = Some literal
+constant_in value = None
 
 -- of operands, in order
 abbrev pub types_in : Args → List (Option Ty)

@@ -6,7 +6,7 @@ use Rattle.nim_types.specs.Types.{Facts}
 use Rattle.nim_program.specs.declared.program.Mode.{Mode}
 use Rattle.nim_program.specs.declared.program.Mode.TheVariants.{Var}
 use Rattle.nim_program.specs.declared.program.HookOf.{HookOf}
-use Rattle.nim_program.specs.Program.{Declared, Param, Body, Proc, Path, Variable, Fresh, Field, Element, Deref, Args, NoArg, ByValue, ByPath, type_of, type_at}
+use Rattle.nim_program.specs.Program.{Declared, Param, Body, Proc, Args, NoArg, ByValue, ByPath, type_of, type_at, is_written}
 use Rattle.nim_program.specs.Kinds.{is_of, same_value}
 
 -- a place, by its number, and its type
@@ -57,16 +57,6 @@ one_more false n = n
 abbrev pub count_below : ℕ → List Placed → ℕ
 count_below n [] = 0
 count_below n (p ∷ ps) = one_more (nat_lt p.number n) (count_below n ps)
-
--- ---- paths
-
--- A path that can be written begins at a place, or passes through a ref.
-abbrev pub is_written : Path → Bool
-is_written (Variable node ty place global) = true
-is_written (Fresh value) = false
-is_written (Field node ty base field) = is_written base
-is_written (Element node ty base index constant) = is_written base
-is_written (Deref ty base) = true
 
 -- ---- calls
 

@@ -1,12 +1,13 @@
 -- How many bytes a procedure's places and nodes take, one beside the other: its sum, by which a procedure is too large, and which a call of
 -- it has as its work.
-use Rattle.std.specs.Prelude.{◌≡◌, ℕ, ◌+◌, ◌-◌, ◌^◌, ◌<◌, min, length, Bool, true, false, ◌||◌, if◌then◌else◌, nat_eq, List, [], ◌∷◌, Option, Some, None}
+use Rattle.std.specs.Prelude.{◌≡◌, ℕ, ◌+◌, ◌-◌, ◌^◌, ◌<◌, min, length, Bool, false, ◌||◌, if◌then◌else◌, nat_eq, List, [], ◌∷◌, Option, Some, None}
 use Rattle.nim_types.specs.Types.{Ty, Facts}
 use Rattle.nim_types.specs.declared.types.TypeDef.{TypeDef}
 use Rattle.nim_types.specs.Forms.{Form, HasForm, size, form_of}
 use Rattle.nim_types.specs.Table.{type_at, types_in, facts_in, HasSize}
+use Rattle.nim_program.specs.declared.expr.Node.{Node}
 use Rattle.nim_program.specs.Program.{Declared, Kind, While, Count, Each, Param, Body}
-use Rattle.nim_program.specs.Folds.{Seen, AtApply, AtEarly, AtChoose, AtPath, AtStmt, AtDeclare, AtLoop, AtHandler, numbers, total_of}
+use Rattle.nim_program.specs.Folds.{Seen, Part, Leading, Looping, numbers, total_of, Declaring}
 
 abbrev pub type_bytes : Facts → Ty → ℕ
 type_bytes facts ty = size (form_of facts ty)
@@ -44,27 +45,39 @@ in_place = 8
 abbrev pub for_bytes : ℕ
 for_bytes = 8
 
-abbrev pub loop_bytes : Facts → Kind → ℕ
-loop_bytes facts While = 0
-loop_bytes facts (Count variable inclusive) = for_bytes + place_bytes facts variable
-loop_bytes facts (Each variable) = for_bytes + place_bytes facts variable
+abbrev pub loop_bytes : Kind → ℕ
+loop_bytes While = 0
+loop_bytes (Count variable inclusive) = for_bytes
+loop_bytes (Each variable) = for_bytes
 
 abbrev pub is_global : List Declared → ℕ → Bool
 is_global [] number = false
 is_global (place ∷ places) number = nat_eq place.number number || is_global places number
 
--- Each node that gives a value takes the bytes of its type, one in place as many as each; a declared place those of its type, unless it
--- is one of the globals.
+-- of a node: what gives a value takes the bytes of its type, what stands in place as many as each
+abbrev pub node_bytes : Facts → Part → Option Ty → ℕ
+node_bytes facts (Leading false written step) ty = in_place
+node_bytes facts (Looping kind headed) ty = loop_bytes kind
+node_bytes facts part ty = value_bytes facts ty
+
+abbrev pub bytes_if : Option Node → ℕ → ℕ
+bytes_if None bytes = 0
+bytes_if (Some node) bytes = bytes
+
+-- with those of places, other than these globals
+abbrev pub with_locals : Facts → (globals : List Declared) → List Declared → (bytes : ℕ) → ℕ
+with_locals facts globals [] bytes = bytes
+with_locals facts globals (place ∷ places) bytes =
+    (if is_global globals place.number then 0 else place_bytes facts place) + with_locals facts globals places bytes
+
+-- a place that a declaration fills may be one of them, a loop's and a handler's is none
+abbrev pub own_globals : (globals : List Declared) → Part → List Declared
+own_globals globals (Declaring cursor) = globals
+own_globals globals part = []
+
 abbrev pub own_bytes : Facts → (globals : List Declared) → Seen → ℕ
-own_bytes facts globals (AtApply node ty act) = value_bytes facts ty
-own_bytes facts globals (AtEarly node ty short) = type_bytes facts ty
-own_bytes facts globals (AtChoose node ty chooser) = value_bytes facts ty
-own_bytes facts globals (AtPath true node ty step) = type_bytes facts ty
-own_bytes facts globals (AtPath false node ty step) = in_place
-own_bytes facts globals (AtStmt node) = 0
-own_bytes facts globals (AtDeclare node place cursor) = if is_global globals place.number then 0 else place_bytes facts place
-own_bytes facts globals (AtLoop node kind) = loop_bytes facts kind
-own_bytes facts globals (AtHandler name) = if_place_bytes facts name
+own_bytes facts globals seen =
+    with_locals facts (own_globals globals seen.part) seen.places (bytes_if seen.node (node_bytes facts seen.part seen.ty))
 
 abbrev pub params_sum : Facts → List Param → ℕ
 params_sum facts [] = 0

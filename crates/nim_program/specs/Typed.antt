@@ -15,13 +15,13 @@ use Rattle.nim_program.specs.Program.{Label, Act, Doing, Building, Giving, Calli
 use Rattle.nim_program.specs.Program.{Expr, Apply, Read, Early, Choose, Path, Variable, Fresh, Field, Element, Deref, Args, NoArg, ByValue, ByPath}
 use Rattle.nim_program.specs.Program.{Declared, Kind, While, Count, Each, Stmt, Do, Idle, Give, Leave, Select, Loop, Raise, Try}
 use Rattle.nim_program.specs.Program.{Stmts, Empty, Then, Declare, Defer, Blocks, Otherwise, Block, Handlers, NoHandler, Handler, Param, Body, Proc, Program}
-use Rattle.nim_program.specs.Program.{type_of, type_at, types_in}
-use Rattle.nim_program.specs.Folds.{Seen, AtApply, AtEarly, AtChoose, AtPath, AtStmt, AtDeclare, AtLoop, AtHandler, lists, total_of, loop_places, if_declared}
+use Rattle.nim_program.specs.Program.{type_of, type_at, types_in, is_written}
+use Rattle.nim_program.specs.Folds.{Seen, Part, Acting, lists, total_of, loop_places, if_declared}
 use Rattle.nim_program.specs.Kinds.{TypeKind, kind_of, kind_if, is_int, is_bool, is_text, is_exception, is_held, is_resource, is_selected, has_length}
 use Rattle.nim_program.specs.Kinds.{field_at, element_of, object_of, is_of, same_value, for_some, is_there, is_constant}
 use Rattle.nim_program.specs.Kinds.{is_among_types, are_among_types, are_declared}
 use Rattle.nim_program.specs.Fitting.{fits, early_fits, building_fits, chooser_fits, places_in, are_labels, are_enough}
-use Rattle.nim_program.specs.Scopes.{Placed, placed, Here, with_place, with_place_if, with_global, type_in, count_below, is_written, call_fits}
+use Rattle.nim_program.specs.Scopes.{Placed, placed, Here, with_place, with_place_if, with_global, type_in, count_below, call_fits}
 
 -- ---- expressions
 
@@ -34,6 +34,14 @@ is_fresh value = true
 abbrev pub is_whole : Facts → Path → Bool
 is_whole facts (Deref ty base) = false
 is_whole facts path = is_held (kind_if facts (type_at path))
+
+-- A value alone is no path that is read: it is the value.
+abbrev pub is_located : Path → Bool
+is_located (Fresh value) = false
+is_located path = true
+
+abbrev pub is_read : Facts → Path → Bool
+is_read facts path = is_located path && is_whole facts path
 
 -- the first so many are places, and all others values
 abbrev pub are_placed : ℕ → Args → Bool
@@ -70,7 +78,8 @@ act_fits here ty (Calling proc types) operands = call_fits here (slice_get here.
 -- a selector at a path is read in place, and so is no value
 abbrev pub is_selector : Args → Bool
 is_selector (ByValue value rest) = is_fresh value
-is_selector operands = true
+is_selector (ByPath path rest) = is_located path
+is_selector NoArg = true
 
 abbrev pub behind_first : Args → Args
 behind_first NoArg = NoArg
@@ -84,7 +93,7 @@ choice_is_placed (ByLabels labels) parts = is_selector parts && are_placed 0 (be
 abbrev mutual
   pub is_typed : Here → Expr → Bool
   is_typed here (Apply node ty act operands) = act_fits here ty act operands && are_typed here operands
-  is_typed here (Read path) = is_whole here.facts path && is_typed_path here path
+  is_typed here (Read path) = is_read here.facts path && is_typed_path here path
   is_typed here (Early node ty short left right) =
       early_fits here.facts ty (type_of left) (type_of right) && (is_typed here left && is_typed here right)
   is_typed here (Choose node ty chooser parts) =
@@ -265,23 +274,21 @@ abbrev pub type_if : Option Ty → List Ty
 type_if None = []
 type_if (Some ty) = ty ∷ []
 
+-- those that a call has for type parameters
 abbrev pub act_types : Act → List Ty
 act_types (Calling proc types) = types
 act_types act = []
+
+abbrev pub part_types : Part → List Ty
+part_types (Acting act) = act_types act
+part_types part = []
 
 abbrev pub place_types : List Declared → List Ty
 place_types places = map (λ d. d.of) places
 
 -- the types that stand in a part alone
 abbrev pub own_types : Seen → List Ty
-own_types (AtApply node ty act) = type_if ty ++ act_types act
-own_types (AtEarly node ty short) = ty ∷ []
-own_types (AtChoose node ty chooser) = type_if ty
-own_types (AtPath read node ty step) = ty ∷ []
-own_types (AtStmt node) = []
-own_types (AtDeclare node place cursor) = place.of ∷ []
-own_types (AtLoop node kind) = place_types (loop_places kind)
-own_types (AtHandler name) = place_types (if_declared name)
+own_types seen = place_types seen.places ++ (type_if seen.ty ++ part_types seen.part)
 
 abbrev pub param_declared : List Param → List Declared
 param_declared params = map (λ param. param.place) params
@@ -349,7 +356,6 @@ params_fit (suc (suc zero)) ty (dest ∷ source ∷ []) = takes ty Var dest && t
 params_fit (suc (suc (suc zero))) ty (dest ∷ source ∷ []) = takes ty Var dest && takes ty Plain source
 params_fit kind ty params = false
 
--- (a hook has a body)
 abbrev pub hook_fits : Program → Option HookOf → List Param → (gives : Option Ty) → Option Body → Bool
 hook_fits program None params gives body = true
 hook_fits program (Some hook) params gives None = false

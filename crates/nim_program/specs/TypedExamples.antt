@@ -62,6 +62,8 @@ typed_exprs =
     acts O.SetLength (place_value s (number 1)) ∷
     acts O.Swap (ByPath x (ByPath x NoArg)) ∷
     acts O.Discard (value (Read x)) ∷
+    -- an expression that is a statement
+    acts O.Discard (value nothing) ∷
     -- in a hook, of its own place: `=destroy`(dest), `=wasMoved`(dest)
     acts O.Destroy (place f) ∷
     acts O.Blank (place f) ∷
@@ -129,6 +131,9 @@ untyped_exprs =
     Apply (at 0) (Some type.int) (Calling 1 []) NoArg ∷
     Apply (at 0) (Some type.int) (Calling 0 []) (values (number 1) (number 2)) ∷
     Apply (at 0) (Some type.int) (Calling 0 []) (value (number 1)) ∷
+    -- a value that is read, or chosen by, as what stands at a path
+    Read (Fresh (number 1)) ∷
+    Choose (at 0) (Some type.int) (ByLabels ((Ordinals (pos 0) (pos 0) ∷ []) ∷ [])) (ByPath (Fresh (number 0)) (values (number 1) (number 2))) ∷
     -- no such place, field, or part; a field of a ref that isn't dereferenced; a ref's object whole; an element of an object
     Read (local type.int 1) ∷
     Read (local type.int 20) ∷
@@ -252,7 +257,9 @@ calling_before = program (Then (Do (acts O.Discard (value (Apply (at 0) (Some ty
 abbrev hook_of : ℕ → List Param → Program
 hook_of kind params =
     record calling_behind {
-      procs = record (procedure params None (body 2 1 2 None (block (Do (Apply (at 2) None (Doing O.Echo) NoArg))))) { hook = Some (record { kind = kind; of = 13 }) } ∷ [];
+      procs = record (procedure params None (body 2 1 2 None (block (Do (Apply (at 2) None (Doing O.Echo) NoArg))))) {
+        hook = Some (record { kind = kind; of = 13 });
+      } ∷ [];
       start = body 0 0 3 None (declaring_global Empty);
     }
 

@@ -32,7 +32,7 @@ use Rattle.nim_program.specs.declared.program.Body.{Body as RustBody}
 use Rattle.nim_program.specs.declared.program.Proc.{Proc as RustProc}
 use Rattle.nim_program.specs.declared.program.Program.{Program as RustProgram}
 use Rattle.nim_program.specs.Program as T
-use Rattle.nim_program.specs.Program.{Label, Literal, Literals, Expr, Path, Args, Declared, Kind, Stmt, Stmts, Blocks, Handlers, Param, Body, Proc, Program}
+use Rattle.nim_program.specs.Program.{Label, Literal, Literals, Expr, Path, Args, Declared, Kind, Stmts, Blocks, Handlers, Param, Body, Proc, Program}
 
 abbrev pub if_type : List Ty → Option ℕ → Option Ty
 if_type ts None = None

@@ -3,16 +3,16 @@ ghost use Rattle.std.specs.Prelude.{◌≡◌, ◌+◌, ◌<◌, ◌-◌, ◌^�
 ghost use Rattle.nim_types.specs.Types.{Ty};
 ghost use Rattle.nim_program.specs.Program.{Empty};
 ghost use Rattle.nim_program.specs.View.{expr_of, path_of, operands_of, stmt_before, stmts_of};
-ghost use Rattle.nim_program.specs.View.{handlers_of, declared_of};
-ghost use Rattle.nim_program.specs.Folds.{Seen, AtHandler, numbers, capped, capped_numbers};
-ghost use Rattle.nim_program.specs.Folds.{total, total_at, totals, total_of, total_of_handlers};
-ghost use Rattle.nim_program.specs.FoldParts.{own_of, own_at, own_first};
+ghost use Rattle.nim_program.specs.View.{declared_of};
+ghost use Rattle.nim_program.specs.Folds.{Seen, handled, numbers, capped, capped_numbers};
+ghost use Rattle.nim_program.specs.Folds.{total, total_at, totals, total_of};
+ghost use Rattle.nim_program.specs.FoldParts.{seen_of, seen_at, seen_first, own_if};
 
 use crate::expr::{Expr, Operand, Path};
 use crate::fold::Fold;
 use crate::fold_exprs::{total, total_at, totals};
-use crate::fold_stmts::{handler_totals, total_of};
-use crate::stmt::{Handler, PlaceDecl, Stmt};
+use crate::fold_stmts::{stmt_total, total_of};
+use crate::stmt::{PlaceDecl, Stmt};
 
 /// What is counted of each part of a tree.
 pub trait Count {
@@ -32,24 +32,23 @@ pub trait Count {
 
     /// Of an expression alone; nothing of one that is read.
     fn of_expr(&self, expr: &Expr) -> u32
-        ensures { result ≡ capped (most self.now) (own_of numbers (own self.now)
-            (expr_of (types self.now) expr.now)) };
+        ensures { result ≡ capped (most self.now) (own_if numbers (own self.now)
+            (seen_of (expr_of (types self.now) expr.now))) };
 
-    /// Of the last part of a path alone, whose value is `read` or stands in place; nothing of a
-    /// fresh value and a dereference.
+    /// Of the last part of a path alone, whose value is `read` or stands in place.
     fn of_path(&self, path: &Path, read: bool) -> u32
-        ensures { result ≡ capped (most self.now) (own_at numbers (own self.now) read
-            (path_of (types self.now) path.now)) };
+        ensures { result ≡ capped (most self.now) (own self.now
+            (seen_at read (path_of (types self.now) path.now))) };
 
     /// Of a statement alone; nothing of an expression.
     fn of_stmt(&self, stmt: &Stmt) -> u32
-        ensures { result ≡ capped (most self.now) (own_first numbers (own self.now)
-            (stmt_before (types self.now) stmt.now Empty)) };
+        ensures { result ≡ capped (most self.now) (own_if numbers (own self.now)
+            (seen_first (stmt_before (types self.now) stmt.now Empty))) };
 
     /// Of a handler alone, by the name that it gives the exception.
     fn of_handler(&self, name: &Option<PlaceDecl>) -> u32
         ensures { result ≡ capped (most self.now) (own self.now
-            (AtHandler (option_map (declared_of (types self.now)) name.now))) };
+            (handled (option_map (declared_of (types self.now)) name.now))) };
 }
 
 // Counts put together.
@@ -130,10 +129,10 @@ pub fn count_block<C: Count>(count: &C, block: &Vec<Stmt>) -> u32
     total_of(&Counted { count }, block)
 }
 
-/// Of handlers.
-pub fn count_handlers<C: Count>(count: &C, handlers: &Vec<Handler>) -> u32
-    ensures { result ≡ capped (C.most count.now) (total_of_handlers numbers (C.own count.now)
-        (handlers_of (C.types count.now) handlers.now.items)) }
+/// Of a statement.
+pub fn count_stmt<C: Count>(count: &C, stmt: &Stmt) -> u32
+    ensures { result ≡ capped (C.most count.now) (total_of numbers (C.own count.now)
+        (stmt_before (C.types count.now) stmt.now Empty)) }
 {
-    handler_totals(&Counted { count }, handlers)
+    stmt_total(&Counted { count }, stmt, 0)
 }

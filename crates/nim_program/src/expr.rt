@@ -125,7 +125,7 @@ pub enum Path {
         base: Box<Path>,
         field: u32,
     },
-    /// An element of a text, a sequence, an array or a tuple. The number of a constant index stands
+    /// An element of a text, a sequence or an array. The number of a constant index stands
     /// beside it.
     Element {
         node: Node,

@@ -3,8 +3,8 @@ ghost use Rattle.std.specs.Prelude.{◌≡◌, List, Option, option_map};
 ghost use Rattle.nim_types.specs.Types.{Ty};
 ghost use Rattle.nim_program.specs.Program.{Empty};
 ghost use Rattle.nim_program.specs.View.{expr_of, path_of, stmt_before, stmts_of, declared_of};
-ghost use Rattle.nim_program.specs.Folds.{Seen, AtHandler, firsts, first_some, total, total_of};
-ghost use Rattle.nim_program.specs.FoldParts.{own_of, own_at, own_first};
+ghost use Rattle.nim_program.specs.Folds.{Seen, handled, firsts, total, total_of};
+ghost use Rattle.nim_program.specs.FoldParts.{seen_of, seen_at, seen_first, own_if};
 
 use crate::expr::{Expr, Path};
 use crate::fold::Fold;
@@ -25,22 +25,22 @@ pub trait Find {
 
     /// In an expression alone; nothing in one that is read.
     fn of_expr(&self, expr: &Expr) -> Option<Self::Found>
-        ensures { result ≡ own_of firsts (own self.now) (expr_of (types self.now) expr.now) };
+        ensures { result ≡ own_if firsts (own self.now)
+            (seen_of (expr_of (types self.now) expr.now)) };
 
-    /// In the last part of a path alone, whose value is `read` or stands in place; nothing in a
-    /// fresh value and a dereference.
+    /// In the last part of a path alone, whose value is `read` or stands in place.
     fn of_path(&self, path: &Path, read: bool) -> Option<Self::Found>
-        ensures { result ≡ own_at firsts (own self.now) read (path_of (types self.now) path.now) };
+        ensures { result ≡ own self.now (seen_at read (path_of (types self.now) path.now)) };
 
     /// In a statement alone; nothing in an expression.
     fn of_stmt(&self, stmt: &Stmt) -> Option<Self::Found>
-        ensures { result ≡ own_first firsts (own self.now)
-            (stmt_before (types self.now) stmt.now Empty) };
+        ensures { result ≡ own_if firsts (own self.now)
+            (seen_first (stmt_before (types self.now) stmt.now Empty)) };
 
     /// In a handler alone, by the name that it gives the exception.
     fn of_handler(&self, name: &Option<PlaceDecl>) -> Option<Self::Found>
         ensures { result ≡ own self.now
-            (AtHandler (option_map (declared_of (types self.now)) name.now)) };
+            (handled (option_map (declared_of (types self.now)) name.now)) };
 }
 
 // Finds put together.

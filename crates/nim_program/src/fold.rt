@@ -3,8 +3,8 @@ ghost use Rattle.std.specs.Prelude.{◌≡◌, List, option_map};
 ghost use Rattle.nim_types.specs.Types.{Ty};
 ghost use Rattle.nim_program.specs.Program.{Empty};
 ghost use Rattle.nim_program.specs.View.{expr_of, path_of, stmt_before, declared_of};
-ghost use Rattle.nim_program.specs.Folds.{Seen, AtHandler, Sum};
-ghost use Rattle.nim_program.specs.FoldParts.{own_of, own_at, own_first};
+ghost use Rattle.nim_program.specs.Folds.{Seen, Sum, handled};
+ghost use Rattle.nim_program.specs.FoldParts.{seen_of, seen_at, seen_first, own_if};
 
 use crate::expr::{Expr, Path};
 use crate::stmt::{PlaceDecl, Stmt};
@@ -33,22 +33,20 @@ pub trait Fold {
 
     /// Of an expression alone; nothing of one that is read.
     fn of_expr(&self, expr: &Expr) -> Self::Value
-        ensures { result ≡ own_of (sum self.now) (own self.now)
-            (expr_of (types self.now) expr.now) };
+        ensures { result ≡ own_if (sum self.now) (own self.now)
+            (seen_of (expr_of (types self.now) expr.now)) };
 
-    /// Of the last part of a path alone, whose value is `read` or stands in place; nothing of a
-    /// fresh value and a dereference.
+    /// Of the last part of a path alone, whose value is `read` or stands in place.
     fn of_path(&self, path: &Path, read: bool) -> Self::Value
-        ensures { result ≡ own_at (sum self.now) (own self.now) read
-            (path_of (types self.now) path.now) };
+        ensures { result ≡ own self.now (seen_at read (path_of (types self.now) path.now)) };
 
     /// Of a statement alone; nothing of an expression.
     fn of_stmt(&self, stmt: &Stmt) -> Self::Value
-        ensures { result ≡ own_first (sum self.now) (own self.now)
-            (stmt_before (types self.now) stmt.now Empty) };
+        ensures { result ≡ own_if (sum self.now) (own self.now)
+            (seen_first (stmt_before (types self.now) stmt.now Empty)) };
 
     /// Of a handler alone, by the name that it gives the exception.
     fn of_handler(&self, name: &Option<PlaceDecl>) -> Self::Value
         ensures { result ≡ own self.now
-            (AtHandler (option_map (declared_of (types self.now)) name.now)) };
+            (handled (option_map (declared_of (types self.now)) name.now)) };
 }

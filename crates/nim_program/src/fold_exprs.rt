@@ -69,13 +69,16 @@ fn with_base<F: Fold>(fold: &F, own: F::Value, path: &Path, read: bool) -> F::Va
 {
     match path {
         Path::Variable { .. } => own,
-        Path::Fresh { value } => total(fold, &**value),
+        Path::Fresh { value } => match &**value {
+            Expr::Constant { .. } => own,
+            _ => fold.plus(own, total(fold, &**value)),
+        },
         Path::Field { base, .. } => fold.plus(own, total_at(fold, &**base, false)),
         Path::Element { base, index, .. } => {
             let parts = fold.plus(total_at(fold, &**base, false), total(fold, &**index));
             fold.plus(own, parts)
         }
-        Path::Deref { base, .. } => total_at(fold, &**base, read),
+        Path::Deref { base, .. } => fold.plus(own, total_at(fold, &**base, false)),
     }
 }
 

@@ -49,9 +49,9 @@ pub fn total_of<F: Fold>(fold: &F, block: &Vec<Stmt>) -> F::Value
     all
 }
 
-// Of a statement before the rest of its block, which is this.
+/// Of a statement before the rest of its block, which is this.
 #[cycle(stmts)]
-fn stmt_total<F: Fold>(fold: &F, stmt: &Stmt, others: F::Value) -> F::Value
+pub fn stmt_total<F: Fold>(fold: &F, stmt: &Stmt, others: F::Value) -> F::Value
     ensures { (rest : Stmts) → others ≡ total_of (F.sum fold.now) (F.own fold.now) rest
         → result ≡ total_of (F.sum fold.now) (F.own fold.now)
         (stmt_before (F.types fold.now) stmt.now rest) }
@@ -145,9 +145,9 @@ fn case_totals<F: Fold>(fold: &F, branches: &Vec<CaseBranch>, otherwise: F::Valu
     all
 }
 
-/// Over handlers.
+// Over handlers.
 #[cycle(stmts)]
-pub fn handler_totals<F: Fold>(fold: &F, handlers: &Vec<Handler>) -> F::Value
+fn handler_totals<F: Fold>(fold: &F, handlers: &Vec<Handler>) -> F::Value
     ensures { result ≡ total_of_handlers (F.sum fold.now) (F.own fold.now)
         (handlers_of (F.types fold.now) handlers.now.items) }
 {

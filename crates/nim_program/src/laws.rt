@@ -1,9 +1,10 @@
 // The laws of folds and of typed programs.
 ghost use Rattle.std.specs.Prelude.{◌≡◌, true, false, not, [], ◌∷◌};
-ghost use Rattle.nim_program.specs.Folds.{block_nodes};
+ghost use Rattle.nim_program.specs.Folds.{nodes, block_nodes};
 ghost use Rattle.nim_program.specs.FoldExamples.{branching, selecting, trying, bytes_of, field_read};
 ghost use Rattle.nim_program.specs.FoldExamples.{field_of_ref, length_of, assigned};
-ghost use Rattle.nim_program.specs.FoldExamples.{counting_bytes, greeting, texts_of};
+ghost use Rattle.nim_program.specs.FoldExamples.{constant_element};
+ghost use Rattle.nim_program.specs.FoldExamples.{counting_bytes};
 ghost use Rattle.nim_program.specs.Typed.{module_code, is_typed, is_typed_stmt, is_typed_block};
 ghost use Rattle.nim_program.specs.Typed.{is_typed_program};
 ghost use Rattle.nim_program.specs.Numbering.{is_numbered_program};
@@ -14,7 +15,7 @@ ghost use Rattle.nim_program.specs.TypedExamples.{calling_behind, calling_before
 ghost use Rattle.nim_program.specs.TypedExamples.{calling_hook, destroying, copying};
 ghost use Rattle.nim_program.specs.TypedExamples.{destroying_two, numbered_twice};
 
-/// Nodes in order of text, and bytes of nodes, places and texts.
+/// Nodes in order of text, and bytes of nodes and places.
 pub fn fold_examples()
     ensures branching { block_nodes branching ≡ 0 ∷ 1 ∷ 2 ∷ 3 ∷ 4 ∷ 5 ∷ [] }
     ensures selecting { block_nodes selecting ≡ 0 ∷ 1 ∷ 2 ∷ 3 ∷ 4 ∷ [] }
@@ -24,10 +25,11 @@ pub fn fold_examples()
     ensures field_of_ref { bytes_of field_of_ref ≡ 16 }
     ensures length_of { bytes_of length_of ≡ 12 }
     ensures assigned { bytes_of assigned ≡ 12 }
+    ensures constant_element { bytes_of constant_element ≡ 16 }
+    ensures constant_nodes { nodes constant_element ≡ 0 ∷ 1 ∷ 2 ∷ [] }
     // A place has its bytes, unless it is a global.
     ensures counting { counting_bytes 9 ≡ 28 }
     ensures counting_global { counting_bytes 4 ≡ 20 }
-    ensures texts { texts_of greeting ≡ 20 }
 {}
 
 /// Expressions, statements and programs that are typed, and others that aren't.

@@ -1,9 +1,9 @@
 // The nodes of a body: how many there are, the greatest of their numbers, and where one stands.
-ghost use Rattle.std.specs.Prelude.{◌≡◌, length};
+ghost use Rattle.std.specs.Prelude.{◌≡◌, ◌≤◌, length};
 ghost use Rattle.nim_types.specs.Table.{types_in};
 ghost use Rattle.nim_program.specs.View.{stmts_of};
-ghost use Rattle.nim_program.specs.Folds.{capped, greatest, node_numbers, block_nodes, own_node};
-ghost use Rattle.nim_program.specs.Folds.{greatest_of, total_of, firsts, if_number, node_with};
+ghost use Rattle.nim_program.specs.Folds.{capped, greatest, node_numbers, block_nodes, own_node, number_if};
+ghost use Rattle.nim_program.specs.Folds.{greatest_of, total_of, firsts, and_then, if_number, node_with};
 ghost use Rattle.nim_program.specs.declared.nodes.TheConstants.{MOST_NODES};
 
 use crate::counts::{Count, count_block};
@@ -16,6 +16,25 @@ use nim_types::TypeTable;
 
 /// Nodes have numbers below it.
 pub const MOST_NODES: u32 = 1_073_741_824;
+
+fn one_if(node: Option<Node>) -> u32
+    ensures counted { result ≡ length (number_if node) }
+    ensures small { result ≤ 1 }
+{
+    match node {
+        None => 0,
+        Some(_) => 1,
+    }
+}
+
+fn number_or(node: Option<Node>) -> u32
+    ensures { result ≡ greatest_of (number_if node) }
+{
+    match node {
+        None => 0,
+        Some(node) => node.number,
+    }
+}
 
 // Counts nodes.
 #[derive(Drop)]
@@ -42,10 +61,7 @@ impl<'a> Count for Nodes<'a> {
     }
 
     fn of_path(&self, path: &Path, _read: bool) -> u32 {
-        match path {
-            Path::Fresh { .. } | Path::Deref { .. } => 0,
-            _ => 1,
-        }
+        one_if(path.own_node())
     }
 
     fn of_stmt(&self, stmt: &Stmt) -> u32 {
@@ -99,10 +115,7 @@ impl<'a> Fold for Greatest<'a> {
     }
 
     fn of_path(&self, path: &Path, _read: bool) -> u32 {
-        match path {
-            Path::Fresh { .. } | Path::Deref { .. } => 0,
-            _ => path.node().number,
-        }
+        number_or(path.own_node())
     }
 
     fn of_stmt(&self, stmt: &Stmt) -> u32 {
@@ -132,9 +145,10 @@ struct Numbered<'a> {
 }
 
 impl<'a> Numbered<'a> {
-    fn find(&self, node: Node) -> Option<Node>
-        ensures { result ≡ if_number self.now.number node }
+    fn find(&self, node: Option<Node>) -> Option<Node>
+        ensures { result ≡ and_then node (if_number self.now.number) }
     {
+        let node = node?;
         if node.number == self.number {
             Some(node)
         } else {
@@ -153,21 +167,18 @@ impl<'a> Find for Numbered<'a> {
     fn of_expr(&self, expr: &Expr) -> Option<Node> {
         match expr {
             Expr::Read { .. } => None,
-            _ => self.find(expr.node()),
+            _ => self.find(Some(expr.node())),
         }
     }
 
     fn of_path(&self, path: &Path, _read: bool) -> Option<Node> {
-        match path {
-            Path::Fresh { .. } | Path::Deref { .. } => None,
-            _ => self.find(path.node()),
-        }
+        self.find(path.own_node())
     }
 
     fn of_stmt(&self, stmt: &Stmt) -> Option<Node> {
         match stmt {
             Stmt::Do { .. } => None,
-            _ => self.find(stmt.node()),
+            _ => self.find(Some(stmt.node())),
         }
     }
 

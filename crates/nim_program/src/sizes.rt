@@ -1,11 +1,13 @@
 // How many bytes the places and nodes of a procedure take, as far as it matters.
-ghost use Rattle.std.specs.Prelude.{◌≡◌, ◌≤◌, ◌+◌, ℕ, List, false, length, map, option_map, IfOk, OnOk};
+ghost use Rattle.std.specs.Prelude.{◌≡◌, ◌≤◌, ◌+◌, ℕ, List, [], ◌∷◌, Bool, false, length, map, option_map, IfOk};
+ghost use Rattle.std.specs.Prelude.{OnOk};
 ghost use Rattle.std.specs.Prelude.{slice_index_or};
 ghost use Rattle.nim_types.specs.Types.{Ty};
 ghost use Rattle.nim_types.specs.Table.{type_at, types_in, facts_in};
 ghost use Rattle.nim_program.specs.View.{if_type, declared_of, param_of, body_of, kind_of};
-ghost use Rattle.nim_program.specs.Folds.{capped};
+ghost use Rattle.nim_program.specs.Folds.{Step, Leading, capped, loop_places};
 ghost use Rattle.nim_program.specs.Sizes.{type_bytes, value_bytes, if_place_bytes, loop_bytes};
+ghost use Rattle.nim_program.specs.Sizes.{node_bytes, with_locals};
 ghost use Rattle.nim_program.specs.Sizes.{is_global, own_bytes, params_sum, body_sum, HaveForms, HaveSizes};
 ghost use Rattle.nim_program.specs.declared.sizes.TheConstants.{MOST_BYTES};
 
@@ -105,19 +107,6 @@ fn plus(a: u32, b: u32) -> u32
     }
 }
 
-fn loop_bytes(types: &TypeTable, kind: &Kind) -> u32
-    requires { HaveSizes types.now }
-    ensures { result ≡ capped MOST_BYTES
-        (loop_bytes (facts_in types.now) (kind_of (types_in types.now) kind.now)) }
-{
-    match kind {
-        Kind::While => 0,
-        Kind::Count { variable, .. } | Kind::Each { variable } => {
-            plus(FOR_BYTES, bytes_of(types, variable.ty))
-        }
-    }
-}
-
 /// Counts the bytes of a body, where these are the globals and their marks.
 #[derive(Drop)]
 struct BodyBytes<'a> {
@@ -150,33 +139,28 @@ impl<'a> Count for BodyBytes<'a> {
 
     fn of_path(&self, path: &Path, read: bool) -> u32 {
         match path {
-            Path::Fresh { .. } | Path::Deref { .. } => 0,
-            _ => {
-                if read {
-                    value_bytes(self.types, path.ty())
-                } else {
-                    IN_PLACE
-                }
-            }
+            Path::Fresh { value } => match &**value {
+                Expr::Constant { ty, .. } => self.step_bytes(Some(*ty), read),
+                _ => 0,
+            },
+            Path::Deref { .. } => 0,
+            _ => self.step_bytes(path.ty(), read),
         }
     }
 
     fn of_stmt(&self, stmt: &Stmt) -> u32 {
         match stmt {
-            Stmt::Declare { place, .. } => {
-                if self.is_global(place.number) {
-                    0
-                } else {
-                    bytes_of(self.types, place.ty)
-                }
-            }
-            Stmt::Loop { kind, .. } => loop_bytes(self.types, kind),
+            Stmt::Declare { place, .. } => self.local_bytes(place),
+            Stmt::Loop { kind, .. } => self.loop_bytes(kind),
             _ => 0,
         }
     }
 
     fn of_handler(&self, name: &Option<PlaceDecl>) -> u32 {
-        place_bytes(self.types, name)
+        match name {
+            None => 0,
+            Some(place) => bytes_of(self.types, place.ty),
+        }
     }
 }
 
@@ -188,6 +172,46 @@ impl<'a> BodyBytes<'a> {
         match self.marks.get(number as usize) {
             Some(mark) => *mark,
             None => false,
+        }
+    }
+
+    // Of a step of a path, by its type.
+    fn step_bytes(&self, ty: Option<TypeId>, read: bool) -> u32
+        ensures { (written : Bool) (step : Step) → result ≡ capped MOST_BYTES
+            (node_bytes (facts_in self.now.types.now) (Leading read written step)
+            (if_type (types_in self.now.types.now) ty)) }
+    {
+        if read {
+            value_bytes(self.types, ty)
+        } else {
+            IN_PLACE
+        }
+    }
+
+    // Of a place, unless it is one of the globals.
+    fn local_bytes(&self, place: &PlaceDecl) -> u32
+        ensures { result ≡ capped MOST_BYTES (with_locals (facts_in self.now.types.now)
+            (map (declared_of (types_in self.now.types.now)) self.now.globals.now)
+            (declared_of (types_in self.now.types.now) place.now ∷ []) 0) }
+    {
+        if self.is_global(place.number) {
+            0
+        } else {
+            bytes_of(self.types, place.ty)
+        }
+    }
+
+    // Of a loop and its variable, which is no global.
+    fn loop_bytes(&self, kind: &Kind) -> u32
+        ensures { result ≡ capped MOST_BYTES (with_locals (facts_in self.now.types.now) []
+            (loop_places (kind_of (types_in self.now.types.now) kind.now))
+            (loop_bytes (kind_of (types_in self.now.types.now) kind.now))) }
+    {
+        match kind {
+            Kind::While => 0,
+            Kind::Count { variable, .. } | Kind::Each { variable } => {
+                plus(bytes_of(self.types, variable.ty), FOR_BYTES)
+            }
         }
     }
 }

@@ -1,8 +1,9 @@
 // The nodes of expressions, paths and statements, and the types of their values.
-ghost use Rattle.std.specs.Prelude.{◌≡◌, List};
+ghost use Rattle.std.specs.Prelude.{◌≡◌, Bool, List};
 ghost use Rattle.nim_types.specs.Types.{Ty};
 ghost use Rattle.nim_program.specs.Program.{Stmts, node_of, node_at, first_node, type_of, type_at};
 ghost use Rattle.nim_program.specs.View.{expr_of, path_of, stmt_before, if_type};
+ghost use Rattle.nim_program.specs.FoldParts.{seen_at};
 
 use crate::expr::{Expr, Node, Path};
 use crate::stmt::Stmt;
@@ -56,6 +57,23 @@ impl Path {
             }
             Path::Fresh { value } => value.node(),
             Path::Deref { base, .. } => base.node(),
+        }
+    }
+
+    /// The node that its last part is: none of a dereference, and of a fresh value none but a
+    /// constant's, which is read where it stands.
+    pub fn own_node(&self) -> Option<Node>
+        ensures { (ts : List Ty) (read : Bool) → result ≡ (seen_at read (path_of ts self.now)).node }
+    {
+        match self {
+            Path::Variable { node, .. } | Path::Field { node, .. } | Path::Element { node, .. } => {
+                Some(*node)
+            }
+            Path::Fresh { value } => match &**value {
+                Expr::Constant { node, .. } => Some(*node),
+                _ => None,
+            },
+            Path::Deref { .. } => None,
         }
     }
 

@@ -8,7 +8,8 @@ use Rattle.nim_types.specs.declared.types.TypeDef.TheVariants as D
 use Rattle.nim_types.specs.Table.{type_at, types_in, fields_with, fields_fact, facts_in, IsTable}
 use Rattle.nim_types.specs.Entries.{meant_at, said_at}
 use Rattle.nim_types.proofs.ForCallers.{entry_type, entry_said}
-use Rattle.nim_program.specs.Texts.{plain_text, text_in, base_or, below_distinct}
+use Rattle.nim_program.specs.Texts.{plain_text, name_in}
+use Rattle.nim_program.specs.Kinds.{base_or, below_distinct}
 use Rattle.plain_values.specs.Values.{limit_of}
 use Rattle.plain_values.specs.Entries.{limit_at, text_for, base_at}
 
@@ -50,7 +51,7 @@ module _ (ds : List TypeDef) (table : IsTable ds) where
   text_by (Some D.Text) z h = refl
   text_by (Some (D.Seq i)) z h = refl
   text_by (Some (D.Param n)) z h = refl
-  text_by (Some (D.Enum name at all)) z h = ap (λ f. text_in (slice_get (members_in f) (unsigned_abs z))) (sym h)
+  text_by (Some (D.Enum name at all)) z h = ap (λ f. name_in (slice_get (members_in f) (unsigned_abs z))) (sym h)
   text_by (Some (D.Array n i)) z h = refl
   text_by (Some (D.Tuple names is)) z h = refl
   text_by (Some (D.Object name at is all own_hooks parts)) z h = refl

@@ -8,7 +8,7 @@ use Rattle.nim_types.specs.declared.types.TypeDef.TheVariants as D
 use Rattle.nim_types.specs.Table.{type_at, types_at, types_in, facts_in}
 use Rattle.nim_program.specs.Ints.{is_true}
 use Rattle.nim_program.specs.Program.{Literal, Literals, NoLiteral, ALiteral}
-use Rattle.nim_program.specs.Texts.{bool_text, text_in}
+use Rattle.nim_program.specs.Texts.{bool_text, name_in}
 use Rattle.nim_program.specs.Defaults.{blank_literal, blank_literals}
 
 -- how many values it has where an int is converted to it with a check
@@ -23,7 +23,7 @@ text_for None z = signed_decimal z
 text_for (Some D.Int) z = signed_decimal z
 text_for (Some D.Bool) z = bool_text (is_true z)
 text_for (Some D.Char) z = unsigned_abs z ∷ []
-text_for (Some (D.Enum name at all)) z = text_in (slice_get all (unsigned_abs z))
+text_for (Some (D.Enum name at all)) z = name_in (slice_get all (unsigned_abs z))
 text_for _ z = []
 
 abbrev pub base_at : Option TypeDef → Option ℕ

@@ -1,7 +1,8 @@
 -- How many values types have, and the texts of these.
 use Rattle.std.specs.Prelude.{ℕ, ℤ, List, [], length, Option, Some, None}
 use Rattle.nim_types.specs.Types.{Ty, char, enum, Facts, fact_of, members_in}
-use Rattle.nim_program.specs.Texts.{plain_text, below_distinct}
+use Rattle.nim_program.specs.Texts.{plain_text}
+use Rattle.nim_program.specs.Kinds.{below_distinct}
 
 -- how many values a type has where an int is converted to it with a check
 abbrev pub limit_of : Facts → Ty → Option ℕ

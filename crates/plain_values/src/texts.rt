@@ -4,7 +4,8 @@ ghost use Rattle.std.specs.Prelude.{unsigned_abs};
 ghost use Rattle.std.specs.Fmt.{signed_decimal};
 ghost use Rattle.nim_types.specs.Table.{type_at, types_in, facts_in};
 ghost use Rattle.nim_program.specs.Ints.{is_true};
-ghost use Rattle.nim_program.specs.Texts.{below_distinct, bool_text, text_in};
+ghost use Rattle.nim_program.specs.Texts.{bool_text, name_in};
+ghost use Rattle.nim_program.specs.Kinds.{below_distinct};
 ghost use Rattle.nim_program.specs.View.{if_type};
 ghost use Rattle.plain_values.specs.Values.{limit_of, text_of};
 ghost use Rattle.plain_values.specs.Entries.{limit_at, text_for, base_at};
@@ -76,7 +77,7 @@ pub fn add_char(z: i32, text: &mut Bytes) -> Result<(), Memory>
 
 fn add_member(members: &[Bytes], z: i32, text: &mut Bytes) -> Result<(), Memory>
     ensures { OnOk result (text.new
-        ≡ text.old ++ text_in (slice_get members.now (unsigned_abs z))) }
+        ≡ text.old ++ name_in (slice_get members.now (unsigned_abs z))) }
 {
     match members.get(z.unsigned_abs() as usize) {
         None => Ok(()),

@@ -8,13 +8,13 @@ use Rattle.std.proofs.lemmas.Bool.{cond-true, cond-false, both_ways}
 use Rattle.std.proofs.lemmas.Cmp.{nat_list_eq_equiv}
 use Rattle.nim_types.specs.Types.{same_text}
 use Rattle.nim_program.specs.declared.text_sizes.TheConstants.{MOST_DATA}
-use Rattle.nim_program.specs.Program.{Literal, Literals, Number, Characters, NoObject, PartsOf, ElementsOf, NoLiteral, ALiteral, Giving, Doing, Building}
-use Rattle.nim_program.specs.Program.{Calling, Stmts, Body, Proc, Program}
-use Rattle.nim_program.specs.Folds.{Seen, AtApply, AtEarly, AtChoose, AtPath, AtStmt, AtDeclare, AtLoop, AtHandler, lists, total_of, capped}
+use Rattle.nim_program.specs.Program.{Literal, Literals, Number, Characters, NoObject, PartsOf, ElementsOf, NoLiteral, ALiteral, Giving, Expr, Apply, Fresh}
+use Rattle.nim_program.specs.Program.{NoArg, constant_in, Body, Program}
+use Rattle.nim_program.specs.Folds.{Standing, Part, Acting, Leading, total, total_at, lists, in_bodies, capped}
 use Rattle.nim_program.specs.TextSizes.{text_bytes, all_bytes}
-use Rattle.nim_meaning.proofs.ForCallers.{Relates, related_of}
-use Rattle.program_limits.specs.Data.{literal_texts, all_texts, own_texts, texts_if, procs_texts, program_texts, texts_size}
-use Rattle.program_limits.specs.Meeting.{Met, Before, before, literal_before, all_before, own_before, if_before, procs_before}
+use Rattle.nim_program.proofs.ForCallers.{Relates, related_of, related_bodies}
+use Rattle.program_limits.specs.Data.{literal_bytes, literal_texts, all_texts, part_texts, own_texts, body_texts, program_texts, texts_size}
+use Rattle.program_limits.specs.Meeting.{Met, Before, before, literal_before, all_before, standing_before, part_before, own_before, body_before}
 use Rattle.program_limits.specs.declared.texts.Texts.{Texts}
 
 -- ---- one text
@@ -96,45 +96,32 @@ mutual
 abbrev Puts : List (List ℕ) → Before → Type 0
 Puts texts puts = (met : List (List ℕ)) → puts met ≡ texts ++ met
 
-own_puts : (seen : Seen) → Puts (own_texts seen) (own_before seen)
-own_puts (AtApply node ty (Giving literal)) met = literal_is literal met
-own_puts (AtApply node ty (Doing operation)) met = refl
-own_puts (AtApply node ty (Building fields)) met = refl
-own_puts (AtApply node ty (Calling proc of)) met = refl
-own_puts (AtEarly node ty short) met = refl
-own_puts (AtChoose node ty chooser) met = refl
-own_puts (AtPath read node ty step) met = refl
-own_puts (AtStmt node) met = refl
-own_puts (AtDeclare node place cursor) met = refl
-own_puts (AtLoop node kind) met = refl
-own_puts (AtHandler name) met = refl
+part_puts : (part : Part) → Puts (part_texts part) (part_before part)
+part_puts (Acting (Giving literal)) met = literal_is literal met
+part_puts (Leading read written (Standing literal)) met = ap (λ ts. literal_bytes literal ∷ ts) (literal_is literal met)
+part_puts part met = refl
+
+-- a path that begins with a constant has its bytes beside the value
+pub fresh_before : (read : Bool) (value : Expr) (met : List (List ℕ)) →
+    total_at before own_before read (Fresh value) met ≡ standing_before (constant_in value) (total before own_before value met)
+fresh_before read (Apply node ty (Giving literal) NoArg) met = refl
+fresh_before read value met = refl
 
 puts : Relates lists before own_texts own_before Puts
 puts = record {
   none = λ met. refl;
   plus = λ xs ys f g h k met. h (g met) ∙ ap (λ ts. xs ++ ts) (k met) ∙ sym (append_assoc xs ys met);
-  own = own_puts;
+  own = λ seen. part_puts seen.part;
 }
 
-block_is : (block : Stmts) (met : List (List ℕ)) → total_of before own_before block met ≡ total_of lists own_texts block ++ met
-block_is block = related_of lists before own_texts own_before Puts puts block
+body_puts : (body : Body) → Puts (body_texts body) (body_before body)
+body_puts body = related_of lists before own_texts own_before Puts puts body.stmts
 
-procs_are : (procs : List Proc) (met : List (List ℕ)) → procs_before procs met ≡ procs_texts procs ++ met
-procs_are [] met = refl
-procs_are (p ∷ procs) met =
-    by p.body (procs_before procs met) ∙ ap (λ ts. texts_if p.body ++ ts) (procs_are procs met)
-    ∙ sym (append_assoc (texts_if p.body) (procs_texts procs) met)
-  where
-    by : (body : Option Body) (met : List (List ℕ)) → if_before body met ≡ texts_if body ++ met
-    by None met = refl
-    by (Some body) met = block_is body.stmts met
+program_puts : (program : Program) → Puts (program_texts program) (in_bodies before body_before program)
+program_puts program = related_bodies lists before body_texts body_before Puts puts.none puts.plus body_puts program
 
 -- the procedures before the start code
-pub all_met : (texts : Texts) (program : Program) → texts.lost ≡ false →
-    Met texts (procs_before program.procs (total_of before own_before program.start.stmts [])) →
+pub all_met : (texts : Texts) (program : Program) → texts.lost ≡ false → Met texts (in_bodies before body_before program []) →
     texts.bytes ≡ capped MOST_DATA (texts_size (program_texts program))
 all_met texts program kept h =
-    h.size kept ∙ ap (λ ts. capped MOST_DATA (texts_size ts))
-    (procs_are program.procs (total_of before own_before program.start.stmts [])
-    ∙ ap (λ ts. procs_texts program.procs ++ ts)
-    (block_is program.start.stmts [] ∙ append-nil (total_of lists own_texts program.start.stmts)))
+    h.size kept ∙ ap (λ ts. capped MOST_DATA (texts_size ts)) (program_puts program [] ∙ append-nil (program_texts program))

@@ -1,13 +1,15 @@
 -- The data of a program as its size counts (E25): its globals, the names of the members of its enums and of its exceptions, the names of the six
--- exceptions that every program has, and the texts of its constants and literals, each distinct one once. Each name and each text stands with a
--- word for its length, up to whole words. A name counts wherever it is declared, also where a text or another name is equal to it.
-use Rattle.std.specs.Prelude.{ℕ, ◌+◌, List, [], ◌∷◌, ◌++◌, codes, Option, Some, None}
+-- exceptions that every program has, the texts of its constants and literals, and the constants that are read in place, as bytes: of texts and such
+-- constants each distinct one once. Each stands with a word for its length, up to whole words. A name counts wherever it is declared, also where a text
+-- or another name is equal to it.
+use Rattle.std.specs.Int.{w32, cast_unsigned, to_le_bytes}
+use Rattle.std.specs.Prelude.{ℕ, ◌+◌, List, [], ◌∷◌, ◌++◌, codes}
 use Rattle.std.specs.Set.{unique_keys}
 use Rattle.nim_types.specs.Types.{Ty, exception, Fact, members, below, Facts, same_text}
 use Rattle.nim_types.specs.declared.types.TypeDef.{TypeDef}
 use Rattle.nim_types.specs.declared.types.TypeDef.TheVariants as D
-use Rattle.nim_program.specs.Program.{Literal, Literals, Number, Characters, NoObject, PartsOf, ElementsOf, NoLiteral, ALiteral, Giving, Body, Proc, Program}
-use Rattle.nim_program.specs.Folds.{Seen, AtApply, lists, total_of}
+use Rattle.nim_program.specs.Program.{Literal, Literals, Number, Characters, NoObject, PartsOf, ElementsOf, NoLiteral, ALiteral, Giving, Body, Program}
+use Rattle.nim_program.specs.Folds.{Standing, Part, Acting, Leading, Seen, lists, total_of, in_bodies}
 use Rattle.nim_program.specs.Sizes.{globals_size}
 use Rattle.nim_program.specs.TextSizes.{text_bytes, all_bytes}
 
@@ -41,24 +43,38 @@ abbrev mutual
   all_texts NoLiteral = []
   all_texts (ALiteral first rest) = literal_texts first ++ all_texts rest
 
+-- The bytes of a constant that is read in place: a word for each number, the lowest byte first, and for what has no parts. What comes with the heap has
+-- none yet.
+abbrev mutual
+  pub literal_bytes : Literal → List ℕ
+  literal_bytes (Number value) = to_le_bytes w32 (cast_unsigned w32 value)
+  literal_bytes (Characters text) = []
+  literal_bytes NoObject = []
+  literal_bytes (PartsOf all) = parts_bytes all
+  literal_bytes (ElementsOf all) = parts_bytes all
+
+  pub parts_bytes : Literals → List ℕ
+  parts_bytes NoLiteral = to_le_bytes w32 0
+  parts_bytes (ALiteral first rest) = literal_bytes first ++ joined_bytes rest
+
+  pub joined_bytes : Literals → List ℕ
+  joined_bytes NoLiteral = []
+  joined_bytes (ALiteral first rest) = literal_bytes first ++ joined_bytes rest
+
+abbrev pub part_texts : Part → List (List ℕ)
+part_texts (Acting (Giving literal)) = literal_texts literal
+part_texts (Leading read written (Standing literal)) = literal_bytes literal ∷ literal_texts literal
+part_texts part = []
+
 abbrev pub own_texts : Seen → List (List ℕ)
-own_texts (AtApply node ty (Giving literal)) = literal_texts literal
-own_texts _ = []
+own_texts seen = part_texts seen.part
 
 abbrev pub body_texts : Body → List (List ℕ)
 body_texts body = total_of lists own_texts body.stmts
 
-abbrev pub texts_if : Option Body → List (List ℕ)
-texts_if None = []
-texts_if (Some body) = body_texts body
-
-abbrev pub procs_texts : List Proc → List (List ℕ)
-procs_texts [] = []
-procs_texts (p ∷ procs) = texts_if p.body ++ procs_texts procs
-
 -- of all procedures and the start code, each as often as it stands there
 abbrev pub program_texts : Program → List (List ℕ)
-program_texts program = procs_texts program.procs ++ body_texts program.start
+program_texts = in_bodies lists body_texts
 
 -- each distinct one once
 abbrev pub texts_size : List (List ℕ) → ℕ

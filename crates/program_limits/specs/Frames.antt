@@ -9,8 +9,7 @@ use Rattle.nim_types.specs.Forms.{form_of, levels}
 use Rattle.nim_program.specs.declared.expr.Node.{Node}
 use Rattle.nim_program.specs.declared.sizes.TheConstants.{MOST_BYTES}
 use Rattle.nim_program.specs.Program.{Declared, Param, Body, Proc, Program}
-use Rattle.nim_program.specs.Folds.{Seen, AtApply, AtEarly, AtChoose, AtPath, AtStmt, AtDeclare, AtLoop, AtHandler, firsts, total_of, loop_places, if_declared}
-use Rattle.nim_program.specs.Folds.{param_places}
+use Rattle.nim_program.specs.Folds.{Seen, firsts, total_of, if_declared, param_places}
 use Rattle.nim_program.specs.Sizes.{body_sum}
 use Rattle.nim_meaning.specs.LeftOut.{out_if, ◌or_then◌, earlier, first_of}
 use Rattle.program_limits.specs.declared.summary.TheConstants.{MOST_LEVELS}
@@ -33,16 +32,14 @@ abbrev pub deep_place : Facts → (number : ℕ) → List Declared → Option No
 deep_place facts number [] = None
 deep_place facts number (place ∷ places) = out_if (is_deep facts place.of) (record { number = number; at = place.at }) or_then deep_place facts number places
 
--- of a part alone
+-- of a part alone, by the places that it declares, or by its value
+abbrev pub node_deep : Facts → Option Ty → List Declared → Option Node → Option Node
+node_deep facts ty places None = None
+node_deep facts ty [] (Some node) = out_if (gives_deep facts ty) node
+node_deep facts ty (place ∷ places) (Some node) = deep_place facts node.number (place ∷ places)
+
 abbrev pub own_deep : Facts → Seen → Option Node
-own_deep facts (AtApply node ty act) = out_if (gives_deep facts ty) node
-own_deep facts (AtEarly node ty short) = out_if (is_deep facts ty) node
-own_deep facts (AtChoose node ty chooser) = out_if (gives_deep facts ty) node
-own_deep facts (AtPath read node ty step) = out_if (is_deep facts ty) node
-own_deep facts (AtStmt node) = None
-own_deep facts (AtDeclare node place cursor) = deep_place facts node.number (place ∷ [])
-own_deep facts (AtLoop node kind) = deep_place facts node.number (loop_places kind)
-own_deep facts (AtHandler name) = None
+own_deep facts seen = node_deep facts seen.ty seen.places seen.node
 
 -- ---- bodies
 

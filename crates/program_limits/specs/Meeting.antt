@@ -1,13 +1,13 @@
 -- The texts of a tree as they are met from the last one to the first: before those that were met. No public contract speaks of it.
-use Rattle.std.specs.Prelude.{◌≡◌, ℕ, false, List, [], ◌∷◌, Option, Some, None}
+use Rattle.std.specs.Prelude.{◌≡◌, ℕ, false, List, ◌∷◌, Option, Some, None}
 use Rattle.std.specs.HashSet.{contains}
 use Rattle.std.specs.Set.{is_member}
 use Rattle.nim_types.specs.Types.{same_text}
 use Rattle.nim_program.specs.declared.text_sizes.TheConstants.{MOST_DATA}
-use Rattle.nim_program.specs.Program.{Literal, Literals, Number, Characters, NoObject, PartsOf, ElementsOf, NoLiteral, ALiteral, Giving, Body, Proc}
-use Rattle.nim_program.specs.Folds.{Seen, AtApply, Sum, total_of, capped}
+use Rattle.nim_program.specs.Program.{Literal, Literals, Number, Characters, NoObject, PartsOf, ElementsOf, NoLiteral, ALiteral, Giving, Body}
+use Rattle.nim_program.specs.Folds.{Standing, Part, Acting, Leading, Seen, Sum, total_of, capped}
 use Rattle.program_limits.specs.declared.texts.Texts.{Texts}
-use Rattle.program_limits.specs.Data.{texts_size}
+use Rattle.program_limits.specs.Data.{literal_bytes, texts_size}
 
 -- these were met: unless one was lost, each of them is kept, nothing else is, and so many bytes count
 pub record Met (texts : Texts) (met : List (List ℕ)) : Type 0 where
@@ -32,14 +32,18 @@ abbrev mutual
   all_before NoLiteral met = met
   all_before (ALiteral first rest) met = literal_before first (all_before rest met)
 
+-- the bytes of a constant that is read in place
+abbrev pub standing_before : Option Literal → Before
+standing_before None met = met
+standing_before (Some literal) met = literal_bytes literal ∷ met
+
+abbrev pub part_before : Part → Before
+part_before (Acting (Giving literal)) met = literal_before literal met
+part_before (Leading read written (Standing literal)) met = standing_before (Some literal) (literal_before literal met)
+part_before part met = met
+
 abbrev pub own_before : Seen → Before
-own_before (AtApply node ty (Giving literal)) = literal_before literal
-own_before _ = λ met. met
+own_before seen = part_before seen.part
 
-abbrev pub if_before : Option Body → Before
-if_before None met = met
-if_before (Some body) met = total_of before own_before body.stmts met
-
-abbrev pub procs_before : List Proc → Before
-procs_before [] met = met
-procs_before (p ∷ procs) met = if_before p.body (procs_before procs met)
+abbrev pub body_before : Body → Before
+body_before body = total_of before own_before body.stmts

@@ -4,14 +4,13 @@ ghost use Rattle.nim_types.specs.Types.{Ty};
 ghost use Rattle.nim_types.specs.Table.{types_in, facts_in};
 ghost use Rattle.nim_program.specs.declared.text_sizes.TheConstants.{MOST_DATA};
 ghost use Rattle.nim_program.specs.Folds.{capped, totals, together, in_turn, each, each_block};
-ghost use Rattle.nim_program.specs.Folds.{total_of, total_of_handlers};
+ghost use Rattle.nim_program.specs.Folds.{total_of, total_of_handlers, if_body, in_procs};
 ghost use Rattle.nim_program.specs.Program.{NoArg, Stmts};
 ghost use Rattle.nim_program.specs.View.{operand_before, if_value, stmt_before, stmts_of};
 ghost use Rattle.nim_program.specs.View.{branch_conditions, branch_blocks, case_blocks};
 ghost use Rattle.nim_program.specs.View.{handlers_of, body_of, proc_of, program_under};
 ghost use Rattle.program_limits.specs.Data.{texts_size, program_texts};
-ghost use Rattle.program_limits.specs.Meeting.{Met, Before, before, own_before, if_before};
-ghost use Rattle.program_limits.specs.Meeting.{procs_before};
+ghost use Rattle.program_limits.specs.Meeting.{Met, Before, before, own_before, body_before};
 
 use crate::texts::{Texts, no_texts, of_expr, of_operand, of_operands, of_path};
 use arc_base::Memory;
@@ -153,7 +152,8 @@ fn of_handlers(alloc: Global, texts: &mut Texts, handlers: &Vec<Handler>)
 
 fn of_body(alloc: Global, texts: &mut Texts, body: &Option<Body>)
     ensures { (ts : List Ty) (met : List (List ℕ)) → Met texts.old met
-        → Met texts.new (if_before (option_map (body_of ts) body.now) met) }
+        → Met texts.new (if_body before body_before
+        (option_map (body_of ts) body.now) met) }
 {
     match body {
         None => {}
@@ -163,7 +163,8 @@ fn of_body(alloc: Global, texts: &mut Texts, body: &Option<Body>)
 
 fn of_procs(alloc: Global, texts: &mut Texts, procs: &Vec<Proc>)
     ensures { (ts : List Ty) (met : List (List ℕ)) → Met texts.old met
-        → Met texts.new (procs_before (map (proc_of ts) procs.now.items) met) }
+        → Met texts.new (in_procs before body_before
+        (map (proc_of ts) procs.now.items) met) }
 {
     let mut i = procs.len();
     while i > 0 {

@@ -2,9 +2,9 @@
 ghost use Rattle.std.specs.Prelude.{◌≡◌, [], ◌∷◌, map, option_map, slice_index_or, false, ℕ, List, IfOk};
 ghost use Rattle.nim_types.specs.Types.{Ty};
 ghost use Rattle.nim_program.specs.Program.{Declared};
-ghost use Rattle.nim_program.specs.Folds.{if_declared, loop_places, param_places};
+ghost use Rattle.nim_program.specs.Folds.{if_declared, param_places};
 ghost use Rattle.nim_program.specs.Sizes.{HaveForms, is_global};
-ghost use Rattle.nim_program.specs.View.{declared_of, param_of, body_of, proc_of, kind_of};
+ghost use Rattle.nim_program.specs.View.{declared_of, param_of, body_of, proc_of};
 ghost use Rattle.nim_program.specs.View.{program_under};
 ghost use Rattle.nim_meaning.specs.LeftOut.{out_if, ◌or_then◌};
 ghost use Rattle.program_limits.specs.Known.{known_types, known_facts};
@@ -39,17 +39,6 @@ fn deep_place(known: &Known, number: u32, place: &PlaceDecl) -> Option<Node>
     out_if(is_deep(known, place.ty), node)
 }
 
-fn deep_variable(known: &Known, number: u32, kind: &Kind) -> Option<Node>
-    ensures { result ≡ deep_place (known_facts known.now) number
-        (loop_places (kind_of (known_types known.now) kind.now)) }
-{
-    match kind {
-        Kind::While => None,
-        Kind::Count { variable, .. } => deep_place(known, number, variable),
-        Kind::Each { variable } => deep_place(known, number, variable),
-    }
-}
-
 // Finds the first part of a tree whose type has too many levels.
 #[derive(Drop)]
 struct Deep<'a> {
@@ -72,7 +61,11 @@ impl<'a> Find for Deep<'a> {
 
     fn of_path(&self, path: &Path, _read: bool) -> Option<Node> {
         match path {
-            Path::Fresh { .. } | Path::Deref { .. } => None,
+            Path::Fresh { value } => match &**value {
+                Expr::Constant { node, ty, .. } => out_if(is_deep(self.known, *ty), *node),
+                _ => None,
+            },
+            Path::Deref { .. } => None,
             _ => out_if(gives_deep(self.known, path.ty()), path.node()),
         }
     }
@@ -80,7 +73,12 @@ impl<'a> Find for Deep<'a> {
     fn of_stmt(&self, stmt: &Stmt) -> Option<Node> {
         match stmt {
             Stmt::Declare { node, place, .. } => deep_place(self.known, node.number, place),
-            Stmt::Loop { node, kind, .. } => deep_variable(self.known, node.number, kind),
+            Stmt::Loop { node, kind, .. } => match kind {
+                Kind::While => None,
+                Kind::Count { variable, .. } | Kind::Each { variable } => {
+                    deep_place(self.known, node.number, variable)
+                }
+            },
             _ => None,
         }
     }

@@ -1,14 +1,13 @@
 // The first node of a program that is left out of what is built.
 ghost use Rattle.std.specs.Prelude.{◌≡◌, ◌∷◌, [], false, List, map, option_map};
-ghost use Rattle.nim_types.specs.Types.{Ty, Facts};
+ghost use Rattle.nim_types.specs.Types.{Ty};
 ghost use Rattle.nim_types.specs.Table.{type_at};
-ghost use Rattle.nim_program.specs.Program.{Args, Stmts, NoArg};
+ghost use Rattle.nim_program.specs.Program.{Stmts};
 ghost use Rattle.nim_program.specs.Program as trees;
 ghost use Rattle.nim_program.specs.Folds.{if_declared, loop_places};
 ghost use Rattle.nim_program.specs.View.{stmt_before, stmts_of, if_value, operands_of};
 ghost use Rattle.nim_program.specs.View.{branch_conditions, branch_blocks, case_blocks, kind_of};
 ghost use Rattle.nim_program.specs.View.{declared_of, param_of, body_of, proc_of, program_under};
-ghost use Rattle.nim_program.specs.View.{if_type};
 ghost use Rattle.nim_meaning.specs.Here.{is_hooked, gives_hooked};
 ghost use Rattle.nim_meaning.specs.LeftOut.{left_out_in_args, left_out_in_block};
 ghost use Rattle.nim_meaning.specs.LeftOut.{left_out_in_blocks, left_out_in_head};

@@ -1,16 +1,17 @@
 // The texts of a program's constants and literals, each distinct one once. They are met from the
 // last one to the first, since a part is put before all that stands behind it.
-ghost use Rattle.std.specs.Prelude.{◌≡◌, ◌∷◌, [], ℕ, Bool, true, List, option_map};
+ghost use Rattle.std.specs.Prelude.{◌≡◌, ◌∷◌, ◌++◌, [], ℕ, Bool, true, List, option_map};
 ghost use Rattle.std.specs.Prelude.{if◌then◌else◌, OnOk};
 ghost use Rattle.std.specs.HashSet.{contains};
 ghost use Rattle.nim_types.specs.Types.{Ty, same_text};
 ghost use Rattle.nim_program.specs.Folds.{total, total_at, totals};
-ghost use Rattle.nim_program.specs.Program.{Args};
+ghost use Rattle.nim_program.specs.Program.{Args, constant_in};
 ghost use Rattle.nim_program.specs.View.{literal_of, literals_of, expr_of, path_of};
 ghost use Rattle.nim_program.specs.View.{operand_before, operands_of, choices_of, picks_of};
 ghost use Rattle.nim_program.specs.View.{if_value};
+ghost use Rattle.program_limits.specs.Data.{literal_bytes, parts_bytes};
 ghost use Rattle.program_limits.specs.Meeting.{Met, before, own_before};
-ghost use Rattle.program_limits.specs.Meeting.{literal_before, all_before};
+ghost use Rattle.program_limits.specs.Meeting.{literal_before, all_before, standing_before};
 
 use crate::data::plus;
 use arc_base::{Bytes, Memory};
@@ -84,6 +85,55 @@ fn of_literals(alloc: Global, texts: &mut Texts, all: &Vec<Literal>)
     }
 }
 
+// Adds the bytes of a constant.
+#[cycle(literal_bytes)]
+fn push_literal(bytes: &mut Bytes, literal: &Literal) -> Result<(), Memory>
+    ensures { OnOk result (bytes.new ≡ bytes.old ++ literal_bytes (literal_of literal.now)) }
+{
+    match literal {
+        Literal::Ordinal(z) => bytes.append(&z.cast_unsigned().to_le_bytes()),
+        Literal::Text(_) | Literal::Nil => Ok(()),
+        Literal::Parts(all) => push_parts(bytes, all),
+        Literal::Elements(all) => push_parts(bytes, all),
+    }
+}
+
+#[cycle(literal_bytes)]
+fn push_parts(bytes: &mut Bytes, all: &Vec<Literal>) -> Result<(), Memory>
+    ensures { OnOk result (bytes.new ≡ bytes.old ++ parts_bytes (literals_of all.now.items)) }
+{
+    if all.is_empty() {
+        return bytes.append(&0_u32.to_le_bytes());
+    }
+    for part in all {
+        push_literal(bytes, part)?;
+    }
+    Ok(())
+}
+
+// A constant that is read in place.
+fn keep_standing(alloc: Global, texts: &mut Texts, literal: &Literal)
+    ensures { (met : List (List ℕ)) → Met texts.old met
+        → Met texts.new (literal_bytes (literal_of literal.now) ∷ met) }
+{
+    let mut bytes = Bytes::new(alloc);
+    match push_literal(&mut bytes, literal) {
+        Ok(()) => keep(alloc, texts, &bytes),
+        Err(_) => texts.lost = true,
+    }
+}
+
+// The value that a path begins with, where it is a constant.
+fn of_standing(alloc: Global, texts: &mut Texts, value: &Expr)
+    ensures { (ts : List Ty) (met : List (List ℕ)) → Met texts.old met
+        → Met texts.new (standing_before (constant_in (expr_of ts value.now)) met) }
+{
+    match value {
+        Expr::Constant { value, .. } => keep_standing(alloc, texts, value),
+        _ => {}
+    }
+}
+
 /// Those of an expression.
 #[cycle(exprs)]
 pub fn of_expr(alloc: Global, texts: &mut Texts, expr: &Expr)
@@ -129,7 +179,11 @@ pub fn of_path(alloc: Global, texts: &mut Texts, path: &Path)
 {
     match path {
         Path::Variable { .. } => {}
-        Path::Fresh { value } => of_expr(alloc, texts, &**value),
+        Path::Fresh { value } => {
+            let begun = &**value;
+            of_expr(alloc, texts, begun);
+            of_standing(alloc, texts, begun)
+        }
         Path::Field { base, .. } => of_path(alloc, texts, &**base),
         Path::Element { base, index, .. } => {
             of_expr(alloc, texts, &**index);

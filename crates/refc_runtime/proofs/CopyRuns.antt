@@ -1,5 +1,5 @@
 -- What the routine that copies does.
-use Rattle.std.proofs.Common.{◌≡◌, ℕ, zero, suc, ◌+◌, ◌*◌, ◌^◌, ◌<◌, List, [], ◌∷◌, Some, true, false, sym, ap, subst}
+use Rattle.std.proofs.Common.{◌≡◌, ℕ, zero, suc, ◌+◌, ◌*◌, ◌%◌, ◌^◌, ◌<◌, List, [], ◌∷◌, Some, true, false, refl, ap, subst}
 use Rattle.std.proofs.Common.{◌∙◌, arith}
 use Rattle.std.specs.Prelude.{◌==◌, not}
 use Rattle.std.proofs.lemmas.Bool.{eq-eqb, ne_eqb}
@@ -9,10 +9,10 @@ use Rattle.word_code.specs.declared.word.Test.TheVariants as test
 use Rattle.word_code.specs.declared.word.WordInstr.{WordInstr}
 use Rattle.word_code.specs.declared.word.WordInstr.TheVariants.{Label, Load, Store, Sum, Branch, Return}
 use Rattle.word_code.specs.declared.word.WordProc.{WordProc}
-use Rattle.word_code.specs.Memory.{Memory, number_at, with_number}
+use Rattle.word_code.specs.Memory.{Memory, with_number}
 use Rattle.word_code.specs.Words.{Vars, put, from_label}
 use Rattle.word_code.specs.RoutineTable.{Cell, Area}
-use Rattle.word_code.proofs.ForCallers.{MemoryLaw, Sized, put_sized, put_area, word_in, with_copied, got}
+use Rattle.word_code.proofs.ForCallers.{MemoryLaw, Sized, put_sized, put_area, with_copied, low_word, low_small, got_low, got}
 use Rattle.word_code.proofs.ForCallers.{Runs, then_runs, Within, at, run_label, run_load, run_store, run_sum, run_past, run_off}
 use Rattle.refc_runtime.specs.Code.{copy_lines}
 
@@ -39,21 +39,21 @@ module _ (law : MemoryLaw) (live : Lives) (procs : List WordProc) (c : Within) (
     onto : vars 4 ≡ Some (to + 4)
     there : vars 5 ≡ Some (from + 4)
     last : vars 3 ≡ Some end
-    runs : Runs live procs 5 (at c m copy_loop v g) (at c (with_number m to Word (word_in (number_at m from Word))) copy_test vars g)
+    runs : Runs live procs 5 (at c m copy_loop v g) (at c (with_number m to Word (low_word m from)) copy_test vars g)
 
   turn : (m : Memory) (to from end : ℕ) (v : Vars) → v 4 ≡ Some to → v 5 ≡ Some from → v 3 ≡ Some end
       → to + 4 < 2 ^ 32 → from + 4 < 2 ^ 32 → Cell m to → Cell m from → Turn m to from end v
   turn m to from end v e0 e1 e2 small_to small_from there here =
       let w : ℕ = here.word in
-      let m1 : Memory = with_number m to Word w in
+      let m1 : Memory = with_number m to Word (w % 2 ^ 32) in
       let v1 : Vars = put v 6 w in
       let v2 : Vars = put v1 4 (to + 4) in
       let v3 : Vars = put v2 5 (from + 4) in
-      let same : w ≡ word_in (number_at m from Word) = sym (ap word_in here.reads) in
+      let same : w % 2 ^ 32 ≡ low_word m from = got_low m from here in
       let r1 : Runs live procs 2 (at c m copy_loop v g) (at c m (Store 4 6 Word ∷ Sum 4 4 4 ∷ Sum 5 5 4 ∷ copy_test) v1 g)
       = then_runs live procs (run_label live procs c m _ v g 0) (run_load live procs c m _ v g 6 5 Word e1 here.reads) in
       let r2 : Runs live procs 3 (at c m copy_loop v g) (at c m1 (Sum 4 4 4 ∷ Sum 5 5 4 ∷ copy_test) v1 g)
-      = then_runs live procs r1 (run_store live procs c m _ v1 g 4 6 Word e0 (got w here.small) there.may) in
+      = then_runs live procs r1 (run_store live procs c m _ v1 g 4 6 Word e0 refl there.may) in
       let r3 : Runs live procs 4 (at c m copy_loop v g) (at c m1 (Sum 5 5 4 ∷ copy_test) v2 g)
       = then_runs live procs r2 (run_sum live procs c m1 _ v1 g 4 4 4 e0) in
       let r4 : Runs live procs 5 (at c m copy_loop v g) (at c m1 copy_test v3 g)
@@ -85,16 +85,15 @@ module _ (law : MemoryLaw) (live : Lives) (procs : List WordProc) (c : Within) (
       }
   copies (suc n) m to from end v e0 e1 e2 far small_to small_from sized there here =
       let t = turn m to from end v e0 e1 e2 (omega arith) (omega arith) there.0 here.0 in
-      let m1 : Memory = with_number m to Word (word_in (number_at m from Word)) in
-      let w : ℕ = here.0.word in
-      let same : w ≡ word_in (number_at m from Word) = sym (ap word_in here.0.reads) in
-      let small : word_in (number_at m from Word) < 2 ^ 32 = subst (λ x. x < 2 ^ 32) same here.0.small in
+      let w : ℕ = low_word m from in
+      let m1 : Memory = with_number m to Word w in
+      let small : w < 2 ^ 32 = low_small m from in
       let again : not (from + 4 == end) ≡ true = ap not (ne_eqb (from + 4) end (λ e. omega arith)) in
       let stands : from_label 0 c.proc.lines ≡ Some copy_loop = ap (from_label 0) is in
       let rest = copies n m1 (to + 4) (from + 4) end t.vars t.onto t.there t.last (omega arith) (omega arith) small_from
-      (put_sized law m to (word_in (number_at m from Word)) sized there.0.may)
-      (put_area law m to (word_in (number_at m from Word)) sized there.0 small (to + 4) (suc n) there.1)
-      (put_area law m to (word_in (number_at m from Word)) sized there.0 small (from + 4) (suc n) here.1) in
+      (put_sized law m to w sized there.0.may)
+      (put_area law m to w sized there.0 small (to + 4) (suc n) there.1)
+      (put_area law m to w sized there.0 small (from + 4) (suc n) here.1) in
       record {
         vars = rest.vars;
         last = rest.last ∙ ap Some (omega arith);

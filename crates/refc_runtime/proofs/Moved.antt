@@ -49,7 +49,7 @@ module _ (law : MemoryLaw) (live : Lives) (procs : List WordProc) (n : ℕ) (own
       = run_copy live procs c m copy_loop w2 no_words 5 1 given.1.0 in
       let loop = copy_runs law live procs c refl no_words k m u.to u.from (u.from + bytes) w3 (got u.to (omega (arith, low_to)))
       (got u.from (omega (arith, low_from))) (got_sum u.from bytes low_from) refl low_to low_from sized may.0 may.1 in
-      let r5 = returns live procs s to rest p other loop.vars 3 (u.from + bytes) loop.last in
+      let r5 = returns live procs s to rest p refl other loop.vars 3 (u.from + bytes) loop.last in
       let all = then_runs live procs (then_runs live procs (then_runs live procs r1 (then_runs live procs r2 (then_runs live procs r3 r4))) loop.runs) r5 in
       let span_all : span (suc k) ≡ bytes = span_is (suc k) in
       let done : CopiedTo m other u.to u.from bytes = subst (CopiedTo m other u.to u.from) span_all
@@ -61,7 +61,7 @@ module _ (law : MemoryLaw) (live : Lives) (procs : List WordProc) (n : ℕ) (own
         gives = tt;
         lines = 1 + (1 + (1 + 1)) + 6 * suc k + 1;
         few = omega arith;
-        steps = from_call live procs s to rest COPY [] _ _ _ calling.next all;
+        steps = (from_call live procs s to rest COPY [] _ _ _ calling.next all).by;
       }
 
   pub clear_kept : Stands CLEAR 2 5 clear_lines → IsKept live procs own statics clears
@@ -87,7 +87,7 @@ module _ (law : MemoryLaw) (live : Lives) (procs : List WordProc) (n : ℕ) (own
       = run_constant live procs c m clear_loop w2 no_words 4 0 in
       let loop = clear_runs law live procs c refl no_words k m u.to (u.to + bytes) w3 (got u.to (omega (arith, low)))
       (got_sum u.to bytes low) refl refl low sized may in
-      let r5 = returns live procs s to rest p other loop.vars 2 (u.to + bytes) loop.last in
+      let r5 = returns live procs s to rest p refl other loop.vars 2 (u.to + bytes) loop.last in
       let all = then_runs live procs (then_runs live procs (then_runs live procs r1 (then_runs live procs r2 (then_runs live procs r3 r4))) loop.runs) r5 in
       let span_all : span (suc k) ≡ bytes = span_is (suc k) in
       let done : ClearedAt m other u.to bytes = subst (ClearedAt m other u.to) span_all (cleared_at law (suc k) m u.to sized may) in
@@ -98,7 +98,7 @@ module _ (law : MemoryLaw) (live : Lives) (procs : List WordProc) (n : ℕ) (own
         gives = tt;
         lines = 1 + (1 + (1 + 1)) + 4 * suc k + 1;
         few = omega arith;
-        steps = from_call live procs s to rest CLEAR [] _ _ _ calling.next all;
+        steps = (from_call live procs s to rest CLEAR [] _ _ _ calling.next all).by;
       }
 
   pub swap_kept : Stands SWAP 3 8 swap_lines → IsKept live procs own statics swaps
@@ -125,7 +125,7 @@ module _ (law : MemoryLaw) (live : Lives) (procs : List WordProc) (n : ℕ) (own
       = run_copy live procs c m swap_loop w2 no_words 5 1 given.1.0 in
       let loop = swap_runs law live procs c refl no_words k m u.to u.from (u.to + bytes) w3 (got u.to (omega (arith, low_to)))
       (got u.from (omega (arith, low_from))) (got_sum u.to bytes low_to) refl low_to low_from sized may.0 may.1 in
-      let r5 = returns live procs s to rest p other loop.vars 3 (u.to + bytes) loop.last in
+      let r5 = returns live procs s to rest p refl other loop.vars 3 (u.to + bytes) loop.last in
       let all = then_runs live procs (then_runs live procs (then_runs live procs r1 (then_runs live procs r2 (then_runs live procs r3 r4))) loop.runs) r5 in
       let span_all : span (suc k) ≡ bytes = span_is (suc k) in
       let done : Trade m other u.to u.from bytes = subst (Trade m other u.to u.from) span_all
@@ -137,5 +137,5 @@ module _ (law : MemoryLaw) (live : Lives) (procs : List WordProc) (n : ℕ) (own
         gives = tt;
         lines = 1 + (1 + (1 + 1)) + 8 * suc k + 1;
         few = omega arith;
-        steps = from_call live procs s to rest SWAP [] _ _ _ calling.next all;
+        steps = (from_call live procs s to rest SWAP [] _ _ _ calling.next all).by;
       }

@@ -32,5 +32,5 @@ number_kept law live procs n others stands x s to rest calling sized there may =
       gives = tt;
       lines = 1 + w.lines;
       few = w.few;
-      steps = from_call live procs s to rest NUMBER (writes Out (signed_decimal (signed x))) _ _ _ calling.next (on (step live procs) r w.steps);
+      steps = (from_call live procs s to rest NUMBER (writes Out (signed_decimal (signed x))) _ _ _ calling.next (on (step live procs) r w.steps)).by;
     }

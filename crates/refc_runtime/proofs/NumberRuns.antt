@@ -10,7 +10,7 @@ use Rattle.std.proofs.lemmas.Bool.{and_from, eq-eqb, ne_eqb, lt-ltb, le-ltb, ltb
 use Rattle.std.proofs.lemmas.Int.{of_z-to_z}
 use Rattle.arc_base.specs.Event.{writes}
 use Rattle.arc_base.specs.declared.outside.Stream.TheVariants.{Out}
-use Rattle.arc_base.specs.Simulation.{Steps}
+use Rattle.word_code.proofs.ForCallers.{AlwaysSteps}
 use Rattle.rv32_isa.specs.Machine.{Lives}
 use Rattle.rv32_isa.specs.Values.{signed, subtracted, quotient, remainder}
 use Rattle.rv32_isa.specs.State.{writable}
@@ -313,7 +313,7 @@ module _ (law : MemoryLaw) (live : Lives) (procs : List WordProc) (n : ℕ) (s :
     memory : Memory
     rewritten : IsRewritten s.memory memory own SCRATCH_BYTES
     word : ℕ
-    steps : Steps (step live procs) 6 (here m last_lines v) (writes Out text) 6 (goes_on s to word rest memory s.input)
+    steps : AlwaysSteps (step live procs) 6 (here m last_lines v) (writes Out text) 6 (goes_on s to word rest memory s.input)
 
   closes : (text : List ℕ) (m : Memory) (v : Vars) → Begins text m v → Closed text m v
   closes text m v b =
@@ -335,15 +335,15 @@ module _ (law : MemoryLaw) (live : Lives) (procs : List WordProc) (n : ℕ) (s :
       let r2 : Runs live procs 1 (here t.memory l2 v) (here t.memory l3 v1)
       = subst (λ a. Runs live procs 1 (here t.memory l2 v) (here t.memory l3 (put v 3 a))) place (run_datum live procs c t.memory l3 v no_words 3 12) in
       let r3 = run_compute live procs c t.memory l4 v1 no_words 3 Subtract 3 2 (got (own + 12) low) b.two_is in
-      let r4 : Steps (step live procs) 1 (here t.memory l4 v2) (writes Out shown) 1 (here t.memory l5 v2)
+      let r4 : AlwaysSteps (step live procs) 1 (here t.memory l4 v2) (writes Out shown) 1 (here t.memory l5 v2)
       = run_write live procs c t.memory l5 v2 no_words Out 2 3 shown b.two_is e3 t.shown.bytes in
-      let r5 = returns_before live procs s to rest [] number_proc t.memory v2 3 k e3 in
+      let r5 = returns_before live procs s to rest [] number_proc refl t.memory v2 3 k e3 in
       let front = then_runs live procs (then_runs live procs r0 t.runs) (then_runs live procs r2 r3) in
       record {
         memory = t.memory;
         rewritten = t.shown.rewritten;
         word = k;
-        steps = subst (λ es. Steps (step live procs) 6 (here m last_lines v) es 6 (goes_on s to k rest t.memory s.input))
+        steps = subst (λ es. AlwaysSteps (step live procs) 6 (here m last_lines v) es 6 (goes_on s to k rest t.memory s.input))
             (append-nil (writes Out shown) ∙ ap (writes Out) b.whole) (on (step live procs) (on (step live procs) front r4) r5);
       }
 
@@ -426,7 +426,7 @@ module _ (law : MemoryLaw) (live : Lives) (procs : List WordProc) (n : ℕ) (s :
     pub word : ℕ
     pub lines : ℕ
     pub few : 1 + lines ≤ 13 + 16 * (length (signed_decimal (signed x)) - 1)
-    pub steps : Steps (step live procs) lines (here s.memory number_lines v) (writes Out (signed_decimal (signed x))) lines
+    pub steps : AlwaysSteps (step live procs) lines (here s.memory number_lines v) (writes Out (signed_decimal (signed x))) lines
         (goes_on s to word rest memory s.input)
 
   long_writes : (x : ℕ) (v : Vars) → x < 2 ^ 32 → 10 ≤ x → v 0 ≡ Some x → Written x v
@@ -447,7 +447,7 @@ module _ (law : MemoryLaw) (live : Lives) (procs : List WordProc) (n : ℕ) (s :
         word = w.word;
         lines = lines;
         few = number_length z d.lines (long_is x z small large refl) d.count;
-        steps = subst (λ t. Steps (step live procs) lines (here s.memory number_lines v) (writes Out t) lines (goes_on s to w.word rest w.memory s.input))
+        steps = subst (λ t. AlwaysSteps (step live procs) lines (here s.memory number_lines v) (writes Out t) lines (goes_on s to w.word rest w.memory s.input))
             (number_text z) (on (step live procs) (then_runs live procs (then_runs live procs b.runs d.runs) g.runs) w.steps);
       }
 
@@ -473,7 +473,7 @@ module _ (law : MemoryLaw) (live : Lives) (procs : List WordProc) (n : ℕ) (s :
         word = w.word;
         lines = 11;
         few = omega arith;
-        steps = subst (λ t. Steps (step live procs) 11 (here s.memory number_lines v) (writes Out t) 11 (goes_on s to w.word rest w.memory s.input))
+        steps = subst (λ t. AlwaysSteps (step live procs) 11 (here s.memory number_lines v) (writes Out t) 11 (goes_on s to w.word rest w.memory s.input))
             (sym (short_text x (signed x) less refl)) (on (step live procs) (then_runs live procs (tells x v small e0) r) w.steps);
       }
 

@@ -1,5 +1,5 @@
 -- What the routine does that lets words trade places.
-use Rattle.std.proofs.Common.{◌≡◌, ℕ, zero, suc, ◌+◌, ◌*◌, ◌^◌, ◌<◌, List, [], ◌∷◌, Some, Ok, true, false, sym, ap, subst}
+use Rattle.std.proofs.Common.{◌≡◌, ℕ, zero, suc, ◌+◌, ◌*◌, ◌^◌, ◌<◌, List, [], ◌∷◌, Some, true, false, ap, subst}
 use Rattle.std.proofs.Common.{◌∙◌, arith}
 use Rattle.std.specs.Prelude.{◌==◌, not}
 use Rattle.std.proofs.lemmas.Bool.{eq-eqb, ne_eqb}
@@ -9,10 +9,10 @@ use Rattle.word_code.specs.declared.word.Test.TheVariants as test
 use Rattle.word_code.specs.declared.word.WordInstr.{WordInstr}
 use Rattle.word_code.specs.declared.word.WordInstr.TheVariants.{Label, Load, Store, Sum, Branch, Return}
 use Rattle.word_code.specs.declared.word.WordProc.{WordProc}
-use Rattle.word_code.specs.Memory.{Memory, number_at, with_number}
+use Rattle.word_code.specs.Memory.{Memory, with_number}
 use Rattle.word_code.specs.Words.{Vars, put, from_label}
 use Rattle.word_code.specs.RoutineTable.{Cell, Area}
-use Rattle.word_code.proofs.ForCallers.{MemoryLaw, Sized, put_cell, word_in, got}
+use Rattle.word_code.proofs.ForCallers.{MemoryLaw, Sized, put_cell, low_word, low_small, got_low, got}
 use Rattle.word_code.proofs.ForCallers.{Runs, then_runs, Within, at, run_label, run_load, run_store, run_sum, run_past, run_off}
 use Rattle.refc_runtime.specs.Code.{swap_lines}
 use Rattle.refc_runtime.proofs.Traded.{traded, with_traded, area_kept, pair, pair_cells}
@@ -46,18 +46,12 @@ module _ (law : MemoryLaw) (live : Lives) (procs : List WordProc) (c : Within) (
   turn : (m : Memory) (left right end : ℕ) (v : Vars) → v 4 ≡ Some left → v 5 ≡ Some right → v 3 ≡ Some end
       → left + 4 < 2 ^ 32 → right + 4 < 2 ^ 32 → Sized m → Cell m left → Cell m right → Turn m left right end v
   turn m left right end v e0 e1 e2 small_left small_right sized here there =
-      let a : ℕ = word_in (number_at m left Word) in
-      let b : ℕ = word_in (number_at m right Word) in
-      let is_a : here.word ≡ a = sym (ap word_in here.reads) in
-      let is_b : there.word ≡ b = sym (ap word_in there.reads) in
-      let small_a : a < 2 ^ 32 = subst (λ x. x < 2 ^ 32) is_a here.small in
-      let small_b : b < 2 ^ 32 = subst (λ x. x < 2 ^ 32) is_b there.small in
-      let read_a : number_at m left Word ≡ Ok a = here.reads ∙ ap Ok is_a in
-      let read_b : number_at m right Word ≡ Ok b = there.reads ∙ ap Ok is_b in
+      let a : ℕ = low_word m left in
+      let b : ℕ = low_word m right in
       let m1 : Memory = with_number m left Word b in
       let m2 : Memory = with_number m1 right Word a in
-      let v1 : Vars = put v 6 a in
-      let v2 : Vars = put v1 7 b in
+      let v1 : Vars = put v 6 here.word in
+      let v2 : Vars = put v1 7 there.word in
       let v3 : Vars = put v2 4 (left + 4) in
       let v4 : Vars = put v3 5 (right + 4) in
       let r1 : Runs live procs 1 (at c m swap_loop v g)
@@ -66,17 +60,17 @@ module _ (law : MemoryLaw) (live : Lives) (procs : List WordProc) (c : Within) (
       let r2 : Runs live procs 1
       (at c m (Load 6 4 Word ∷ Load 7 5 Word ∷ Store 4 7 Word ∷ Store 5 6 Word ∷ Sum 4 4 4 ∷ Sum 5 5 4 ∷ swap_test) v g)
       (at c m (Load 7 5 Word ∷ Store 4 7 Word ∷ Store 5 6 Word ∷ Sum 4 4 4 ∷ Sum 5 5 4 ∷ swap_test) v1 g)
-      = run_load live procs c m _ v g 6 4 Word e0 read_a in
+      = run_load live procs c m _ v g 6 4 Word e0 here.reads in
       let r3 : Runs live procs 1 (at c m (Load 7 5 Word ∷ Store 4 7 Word ∷ Store 5 6 Word ∷ Sum 4 4 4 ∷ Sum 5 5 4 ∷ swap_test) v1 g)
       (at c m (Store 4 7 Word ∷ Store 5 6 Word ∷ Sum 4 4 4 ∷ Sum 5 5 4 ∷ swap_test) v2 g)
-      = run_load live procs c m _ v1 g 7 5 Word e1 read_b in
+      = run_load live procs c m _ v1 g 7 5 Word e1 there.reads in
       let r4 : Runs live procs 1 (at c m (Store 4 7 Word ∷ Store 5 6 Word ∷ Sum 4 4 4 ∷ Sum 5 5 4 ∷ swap_test) v2 g)
       (at c m1 (Store 5 6 Word ∷ Sum 4 4 4 ∷ Sum 5 5 4 ∷ swap_test) v2 g)
-      = run_store live procs c m _ v2 g 4 7 Word e0 (got b small_b) here.may in
-      let later : Cell m1 right = put_cell law m left b sized here small_b right there in
+      = run_store live procs c m _ v2 g 4 7 Word e0 (ap Some (got_low m right there)) here.may in
+      let later : Cell m1 right = put_cell law m left b sized here (low_small m right) right there in
       let r5 : Runs live procs 1 (at c m1 (Store 5 6 Word ∷ Sum 4 4 4 ∷ Sum 5 5 4 ∷ swap_test) v2 g)
       (at c m2 (Sum 4 4 4 ∷ Sum 5 5 4 ∷ swap_test) v2 g)
-      = run_store live procs c m1 _ v2 g 5 6 Word e1 (got a small_a) later.may in
+      = run_store live procs c m1 _ v2 g 5 6 Word e1 (ap Some (got_low m left here)) later.may in
       let r6 : Runs live procs 1 (at c m2 (Sum 4 4 4 ∷ Sum 5 5 4 ∷ swap_test) v2 g) (at c m2 (Sum 5 5 4 ∷ swap_test) v3 g)
       = run_sum live procs c m2 _ v2 g 4 4 4 e0 in
       let r7 : Runs live procs 1 (at c m2 (Sum 5 5 4 ∷ swap_test) v3 g) (at c m2 swap_test v4 g)

@@ -1,17 +1,17 @@
 -- Memory in which the words of two ranges traded places.
-use Rattle.std.proofs.Common.{◌≡◌, ℕ, zero, suc, ◌+◌, ◌%◌, ◌^◌, ◌<◌, ◌≤◌, ◌⊎◌, inl, inr, Ok}
-use Rattle.std.proofs.Common.{refl, sym, ap, subst, ◌∙◌, arith}
+use Rattle.std.proofs.Common.{◌≡◌, ℕ, zero, suc, ◌+◌, ◌%◌, ◌≤◌, ◌⊎◌, inl, inr, Ok}
+use Rattle.std.proofs.Common.{refl, sym, ap, ◌∙◌, arith}
 use Rattle.rv32_isa.specs.declared.micro_op.Size.TheVariants.{Word}
 use Rattle.word_code.specs.Memory.{Memory, as_state, number_at, with_number, bytes_at}
 use Rattle.rv32_isa.specs.Regions.{KeepsSizes}
-use Rattle.word_code.specs.RoutineTable.{Cell, Area, SameWords, Separate}
-use Rattle.word_code.proofs.ForCallers.{MemoryLaw, Sized, sizes_same, sizes_more, put_here, word_in, at_same, Apart, span, Changed, changed_word}
+use Rattle.word_code.specs.RoutineTable.{Cell, Area, low, LowWords, Separate}
+use Rattle.word_code.proofs.ForCallers.{MemoryLaw, Sized, sizes_same, sizes_more, put_here, low_word, low_small, low_read, at_same, Apart, span, Changed, changed_word}
 use Rattle.word_code.proofs.ForCallers.{separate_on}
 
 -- words trade places, one after another
 abbrev pub traded : Memory → (left right : ℕ) → Memory
 traded m left right =
-    with_number (with_number m left Word (word_in (number_at m right Word))) right Word (word_in (number_at m left Word))
+    with_number (with_number m left Word (low_word m right)) right Word (low_word m left)
 
 abbrev pub with_traded : (words : ℕ) → Memory → (left right : ℕ) → Memory
 with_traded zero m left right = m
@@ -23,8 +23,8 @@ pub record Trade (m other : Memory) (left right bytes : ℕ) : Type 0 where
   pub outside : (b : ℕ) → Apart b left bytes → Apart b right bytes → number_at other b Word ≡ number_at m b Word
   pub beside : (b n : ℕ) → (b + n ≤ left) ⊎ (left + bytes ≤ b) → (b + n ≤ right) ⊎ (right + bytes ≤ b)
       → bytes_at other b n ≡ bytes_at m b n
-  pub to_left : SameWords m right other left bytes
-  pub to_right : SameWords m left other right bytes
+  pub to_left : LowWords m right other left bytes
+  pub to_right : LowWords m left other right bytes
 
 pub trade_turned : (m other : Memory) (left right n : ℕ) → Trade m other left right n → Trade m other right left n
 trade_turned m other left right n t = record {
@@ -39,13 +39,9 @@ pub area_kept : (m other : Memory) → ((b : ℕ) → Cell m b → Cell other b)
 area_kept m other cells a zero area = tt
 area_kept m other cells a (suc n) area = (cells a area.0, area_kept m other cells (a + 4) n area.1)
 
--- the word of a cell
-cell_word : (m : Memory) (a : ℕ) → Cell m a → (word_in (number_at m a Word) < 2 ^ 32) × (number_at m a Word ≡ Ok (word_in (number_at m a Word)))
-cell_word m a c =
-    let is : c.word ≡ word_in (number_at m a Word) = sym (ap word_in c.reads) in (subst (λ x. x < 2 ^ 32) is c.small, c.reads ∙ ap Ok is)
-
-one_word : (m other : Memory) (from to : ℕ) → number_at other to Word ≡ number_at m from Word → SameWords m from other to 4
-one_word m other from to e o within is = at_same other (to + o) to (omega (arith, within)) ∙ e ∙ at_same m from (from + o) (omega (arith, within))
+one_word : (m other : Memory) (from to : ℕ) → number_at other to Word ≡ low (number_at m from Word) → LowWords m from other to 4
+one_word m other from to e o within is =
+    at_same other (to + o) to (omega (arith, within)) ∙ e ∙ ap low (at_same m from (from + o) (omega (arith, within)))
 
 -- what is beside a range is so of its first word, and of those behind it
 rest_of : (a n b k : ℕ) → (b + k ≤ a) ⊎ (a + (4 + n) ≤ b) → (b + k ≤ a + 4) ⊎ (a + 4 + n ≤ b)
@@ -61,16 +57,16 @@ module _ (law : MemoryLaw) where
 
   -- one is put after the other
   pub record Pair (m : Memory) (left right : ℕ) : Type 0 where
-    pub first : Changed m (with_number m left Word (word_in (number_at m right Word))) left 4
-    pub second : Changed (with_number m left Word (word_in (number_at m right Word))) (traded m left right) right 4
+    pub first : Changed m (with_number m left Word (low_word m right)) left 4
+    pub second : Changed (with_number m left Word (low_word m right)) (traded m left right) right 4
 
   pub pair : (m : Memory) (left right : ℕ) → Sized m → Cell m left → Cell m right → Pair m left right
   pair m left right sized here there =
-      let b : ℕ = word_in (number_at m right Word) in
-      let x : Changed m (with_number m left Word b) left 4 = changed_word law m left b sized here (cell_word m right there).0 in
+      let b : ℕ = low_word m right in
+      let x : Changed m (with_number m left Word b) left 4 = changed_word law m left b sized here (low_small m right) in
       record {
         first = x;
-        second = changed_word law (with_number m left Word b) right (word_in (number_at m left Word)) x.sized (x.cells right there) (cell_word m left here).0;
+        second = changed_word law (with_number m left Word b) right (low_word m left) x.sized (x.cells right there) (low_small m left);
       }
 
   pub pair_cells : (m : Memory) (left right : ℕ) → Pair m left right → (b : ℕ) → Cell m b → Cell (traded m left right) b
@@ -79,30 +75,30 @@ module _ (law : MemoryLaw) where
   pair_traded : (m : Memory) (left right : ℕ) → Sized m → Cell m left → Cell m right → Separate left right 4
       → Trade m (traded m left right) left right 4
   pair_traded m left right sized here there apart = record {
-    sizes = sizes_more m (with_number m left Word (word_in (number_at m right Word))) (traded m left right) p.first.sizes p.second.sizes;
+    sizes = sizes_more m (with_number m left Word (low_word m right)) (traded m left right) p.first.sizes p.second.sizes;
     outside = λ c al ar. p.second.outside c ar ∙ p.first.outside c al;
     beside = λ c n al ar. p.second.beside c n ar ∙ p.first.beside c n al;
-    to_left = one_word m (traded m left right) right left (at_left apart ∙ sym (cell_word m right there).1);
-    to_right = one_word m (traded m left right) left right (at_right ∙ sym (cell_word m left here).1);
+    to_left = one_word m (traded m left right) right left (at_left apart ∙ sym (low_read m right there));
+    to_right = one_word m (traded m left right) left right (at_right ∙ sym (low_read m left here));
   }
     where
       p : Pair m left right
       p = pair m left right sized here there
 
-      at_right : number_at (traded m left right) right Word ≡ Ok (word_in (number_at m left Word))
-      at_right = put_here law (with_number m left Word (word_in (number_at m right Word))) right (word_in (number_at m left Word)) p.first.sized
-          (p.first.cells right there).may (cell_word m left here).0
+      at_right : number_at (traded m left right) right Word ≡ Ok (low_word m left)
+      at_right = put_here law (with_number m left Word (low_word m right)) right (low_word m left) p.first.sized
+          (p.first.cells right there).may (low_small m left)
 
-      at_left : Separate left right 4 → number_at (traded m left right) left Word ≡ Ok (word_in (number_at m right Word))
-      at_left (inl e) = at_same (traded m left right) left right e ∙ at_right ∙ ap (λ a. Ok (word_in (number_at m a Word))) e
+      at_left : Separate left right 4 → number_at (traded m left right) left Word ≡ Ok (low_word m right)
+      at_left (inl e) = at_same (traded m left right) left right e ∙ at_right ∙ ap (λ a. Ok (low_word m a)) e
       at_left (inr d) =
-          p.second.outside left d ∙ put_here law m left (word_in (number_at m right Word)) sized here.may (cell_word m right there).0
+          p.second.outside left d ∙ put_here law m left (low_word m right) sized here.may (low_small m right)
 
   -- ---- and those behind them
 
   module _ (m middle other : Memory) where
     words_more : (left right n : ℕ) → Separate left right (4 + n) → Trade m middle left right 4 → Trade middle other (left + 4) (right + 4) n
-        → SameWords m right other left (4 + n)
+        → LowWords m right other left (4 + n)
     words_more left right n apart x y o within is = by o is within
       where
         first_apart : Separate left right (4 + n) → Apart (left + 0) (right + 4) n
@@ -115,7 +111,7 @@ module _ (law : MemoryLaw) where
         past_first o within (inr (inl h)) = inr (omega (arith, h))
         past_first o within (inr (inr h)) = inl (omega (arith, h, within))
 
-        by : (o : ℕ) → o % 4 ≡ 0 → o + 4 ≤ 4 + n → number_at other (left + o) Word ≡ number_at m (right + o) Word
+        by : (o : ℕ) → o % 4 ≡ 0 → o + 4 ≤ 4 + n → number_at other (left + o) Word ≡ low (number_at m (right + o) Word)
         by (suc zero) e within = absurd (omega (arith, e))
         by (suc (suc zero)) e within = absurd (omega (arith, e))
         by (suc (suc (suc zero))) e within = absurd (omega (arith, e))
@@ -123,8 +119,8 @@ module _ (law : MemoryLaw) where
         by (suc (suc (suc (suc o)))) e within =
             at_same other (left + suc (suc (suc (suc o)))) (left + 4 + o) (omega arith)
             ∙ y.to_left o (omega (arith, within)) (omega (arith, e))
-            ∙ x.outside (right + 4 + o) (past_first o (omega (arith, within)) apart) (inr (omega arith))
-            ∙ at_same m (right + 4 + o) (right + suc (suc (suc (suc o)))) (omega arith)
+            ∙ ap low (x.outside (right + 4 + o) (past_first o (omega (arith, within)) apart) (inr (omega arith)))
+            ∙ ap low (at_same m (right + 4 + o) (right + suc (suc (suc (suc o)))) (omega arith))
 
     trade_more : (left right n : ℕ) → Separate left right (4 + n) → Trade m middle left right 4 → Trade middle other (left + 4) (right + 4) n
         → Trade m other left right (4 + n)

@@ -5,7 +5,7 @@ use Rattle.std.proofs.lemmas.Bool.{true≢false}
 use Rattle.arc_base.specs.Event.{Event, writes}
 use Rattle.arc_base.specs.declared.outside.Stream.TheVariants.{Err}
 use Rattle.arc_base.specs.Stepping.{Next}
-use Rattle.arc_base.specs.Simulation.{Steps, Stops}
+use Rattle.word_code.proofs.ForCallers.{AlwaysSteps, AlwaysStops}
 use Rattle.nim_program.specs.Traps.{Trap, Overflow, DivisionByZero, IndexOutOfBounds, OutOfRange, NilDereference, LengthChanged, CallDepth, OutOfMemory}
 use Rattle.rv32_isa.specs.Machine.{Lives}
 use Rattle.word_code.specs.declared.routine.TheConstants.{SCRATCH_BYTES}
@@ -87,22 +87,22 @@ module _ (live : Lives) (procs : List WordProc) (n : ℕ) (others : List WordPro
       let l3 : List WordInstr = Constant 0 1 ∷ l4 in
       let l2 : List WordInstr = Write Err 0 1 ∷ l3 in
       let l1 : List WordInstr = Constant 1 len ∷ l2 in
-      let machine : WordState → Next Event WordState = step live procs in
+      let machine : List ℕ → WordState → Next Event WordState = step live procs in
       let start : WordState = at (within s) m (Call to (trap_number trap) ∷ rest) s.frame.vars s.frame.given in
       let r0 = enters live procs s to rest n (trap_number trap) 0 2 lines others stands in
       let r1 = run_datum live procs c m l1 v0 no_words 0 (trap_at trap) in
       let r2 = run_constant live procs c m l2 v1 no_words 1 len in
-      let r3 : Steps machine 1 (at c m l2 v2 no_words) (writes Err (trap_line trap)) 1 (at c m l3 v2 no_words)
+      let r3 : AlwaysSteps machine 1 (at c m l2 v2 no_words) (writes Err (trap_line trap)) 1 (at c m l3 v2 no_words)
       = run_write live procs c m l3 v2 no_words Err 0 1 (trap_line trap) (got a l.low) (got len l.short) l.here in
       let r4 = run_constant live procs c m l4 v2 no_words 0 1 in
-      let r5 : Stops machine (at c m l4 v3 no_words) [] 1 1 (live (as_state m)) = ends_one machine (at c m l4 v3 no_words) [] 1 1 (live (as_state m)) refl in
+      let r5 : AlwaysStops machine (at c m l4 v3 no_words) [] 1 1 (live (as_state m)) = ends_one machine (at c m l4 v3 no_words) [] 1 1 (live (as_state m)) (λ bytes. refl) in
       let front = on machine (on machine r0 (on machine r1 r2)) r3 in
-      let back : Stops machine (at c m l3 v2 no_words) [] 2 1 (live (as_state m))
+      let back : AlwaysStops machine (at c m l3 v2 no_words) [] 2 1 (live (as_state m))
       = stops_on machine 1 1 1 1 (at c m l3 v2 no_words) (at c m l4 v3 no_words) [] [] (live (as_state m)) r4 r5 in
       record {
         memory = m;
         leaves = refl;
         stops = stops_call live procs s to rest (trap_number trap) _ 6 1 _ calling.next
-            (subst (λ es. Stops machine start es 6 1 (live (as_state m))) (append-nil (writes Err (trap_line trap)))
+            (subst (λ es. AlwaysStops machine start es 6 1 (live (as_state m))) (append-nil (writes Err (trap_line trap)))
             (stops_on machine 4 4 2 1 start (at c m l3 v2 no_words) (writes Err (trap_line trap)) [] (live (as_state m)) front back));
       }

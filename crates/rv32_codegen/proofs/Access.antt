@@ -1,10 +1,10 @@
 -- What a line of word code does to memory, to arguments and outside, its label code does.
-use Rattle.std.proofs.Common.{◌≡◌, ℕ, suc, ◌+◌, ◌-◌, ◌*◌, ◌%◌, ◌^◌, ◌<◌, ◌≤◌, ◌⊎◌, inl, inr, List}
-use Rattle.std.proofs.Common.{[], ◌∷◌, ◌++◌, length, take, drop, get_or, set, true, false}
-use Rattle.std.proofs.Common.{Option, Some, None, Result, Ok, Err, refl, sym, ap, subst, ◌∙◌, arith, length-set, append-nil, add_assoc}
+use Rattle.std.proofs.Common.{◌≡◌, ◌≢◌, ℕ, suc, ◌+◌, ◌-◌, ◌*◌, ◌%◌, ◌^◌, ◌<◌, ◌≤◌, ◌⊎◌, inl, inr, List}
+use Rattle.std.proofs.Common.{[], ◌∷◌, ◌++◌, length, take, drop, get_or, true, false}
+use Rattle.std.proofs.Common.{Option, Some, None, Result, Ok, Err, refl, sym, ap, subst, ◌∙◌, arith, append-nil, add_assoc}
 use Rattle.std.specs.Prelude.{◌==◌, ◌&&◌, nat_lt, min}
 use Rattle.std.proofs.lemmas.Bool.{cases_eq, eq-eqb, ne_eqb, and_parts, and_right, ltb-true, cond-true, cond-false}
-use Rattle.std.proofs.lemmas.List.{get_or-set_same, get_or-set_other, length-take-le}
+use Rattle.std.proofs.lemmas.List.{length-take-le}
 use Rattle.arc_base.specs.declared.outside.Stream.{Stream}
 use Rattle.arc_base.specs.Event.{Event, writes as write_events}
 use Rattle.arc_base.specs.Behaviour.{Live, Ended}
@@ -37,6 +37,7 @@ use Rattle.reg_scan.specs.Homes.{home_of}
 use Rattle.word_code.specs.Words.{put as put_var, WordState, scene_of, loads, shows, on}
 use Rattle.rv32_codegen.specs.Code.{does, save, fetch, store, stream_number, move, give, is_call_or_label, only_calls, left_of, right_of, argument_at}
 use Rattle.rv32_codegen.specs.Code.{move_range}
+use Rattle.rv32_codegen.proofs.StackWords.{words, word_in, put_word, length-put_word, word_put_same, word_put_other}
 use Rattle.rv32_codegen.proofs.Machine.{state_of, run_at, Fits, fits_words, word_place, Regs, Quiet, quiet_does, Goes_in, then_goes}
 use Rattle.rv32_codegen.proofs.Machine.{instr_goes, writes}
 use Rattle.rv32_codegen.proofs.PieceRuns.{Gets, put_gets, save_goes}
@@ -44,7 +45,7 @@ use Rattle.rv32_codegen.proofs.Asked.{write_is, exit_is, read_is, stream_is, str
 use Rattle.rv32_codegen.proofs.Wider.{read_wider, may_wider, may_less, fill_wider, fits_kept, places_kept, found_wider, length-low_bytes}
 use Rattle.rv32_codegen.proofs.Lookups.{some_same}
 use Rattle.rv32_codegen.proofs.Frees.{kept_apart}
-use Rattle.rv32_codegen.proofs.Frames.{size, places_end, Alike, word_kept, word_alike, Sits, sits_next, linked_kept, held_alike}
+use Rattle.rv32_codegen.proofs.Frames.{size, places_end, rooms, Alike, word_kept, word_alike, Sits, sits_next, linked_kept, held_alike}
 use Rattle.rv32_codegen.proofs.Frames.{Setting, whole, True, Sim}
 use Rattle.rv32_codegen.proofs.HomeRuns.{seats_past, alike_refl}
 use Rattle.rv32_codegen.proofs.LineRuns.{at_lines, setting, homes, frame_at, sim_goes, Sim_did, using_sim, if_sim, laid_of, inside_of, arguments_fit}
@@ -70,12 +71,13 @@ module _ (g : Setting) where
     linked = f.linked;
     leaf = λ leaf some. same 1 refl ∙ f.leaf leaf (returns some);
     deep = f.deep;
+    roomy = subst (λ n. rooms (t.frame ∷ t.callers) ≤ n) (sym (places_kept regs t.memory ws a bytes may)) f.roomy;
   }
 
-  loaded_sim : (t : WordState) (r : LabelRun) (rest : List WordInstr) (to : ℕ) (o : Result ℕ FaultKind) →
-      ((w : ℕ) → o ≡ Ok w → Sim g r t (on (setting t rest to w))) → Sim_did g r t rest (loads (scene_of t) to o)
-  loaded_sim t r rest to (Err kind) h = tt
-  loaded_sim t r rest to (Ok w) h = h w refl
+  loaded_sim : (bytes : List ℕ) (t : WordState) (r : LabelRun) (rest : List WordInstr) (to : ℕ) (o : Result ℕ FaultKind) →
+      ((w : ℕ) → o ≡ Ok w → Sim g r t (on (setting t rest to w))) → Sim_did g bytes r t rest (loads (scene_of t) to o)
+  loaded_sim bytes t r rest to (Err kind) h = tt
+  loaded_sim bytes t r rest to (Ok w) h = h w refl
 
   fetch_is : (s : Size) (rs : ℕ) (regs : List ℕ) (m : Memory) (ws input : List ℕ) (rest : List LabelLine) →
       did g.live (whole g) g.at (run_at regs m ws input (Do (fetch s rs) ∷ rest)) rest (fetch s rs)
@@ -95,8 +97,8 @@ module _ (g : Setting) where
       let r = Here g t l rest regs ws j f in
       let last = does (give 5 (home_of (homes g t) to)) (Behind g t l rest regs ws j f) in
       let lives : Alive t.frame.proc.lines address (l ∷ rest) = read_by (inl refl) in
-      using_sim g r t rest (t.frame.vars address) _ (λ a e.
-      loaded_sim t r rest to (number_at m a s) (λ w h.
+      using_sim g ws r t rest (t.frame.vars address) _ (λ a e.
+      loaded_sim ws t r rest to (number_at m a s) (λ w h.
       let x = var_brought g t (l ∷ rest) regs ws j f regs 5 address a (Do (fetch s rs) ∷ last) refl (omega arith) (omega arith) lives e f.kept
       (alike_refl regs) in
       let mid = run_at x.0 m ws t.input (Do (fetch s rs) ∷ last) in
@@ -141,9 +143,9 @@ module _ (g : Setting) where
       let sits = sits_next g.lay g.procs p l rest f.sits in
       let lives : Alive p.lines address (l ∷ rest) = read_by (inl refl) in
       let also : Alive p.lines from (l ∷ rest) = read_by (inr refl) in
-      using_sim g r t rest (t.frame.vars address) _ (λ a e.
-      using_sim g r t rest (t.frame.vars from) _ (λ b d.
-      if_sim g r t rest (may_put m a s) _ _ (λ h.
+      using_sim g ws r t rest (t.frame.vars address) _ (λ a e.
+      using_sim g ws r t rest (t.frame.vars from) _ (λ b d.
+      if_sim g ws r t rest (may_put m a s) _ _ (λ h.
       let x = both_go g t (l ∷ rest) regs ws j f address from a b (Do i ∷ k) refl lives also e d in
       let parts = and_parts (a % size_of s == 0) (writable (as_state m) a (size_of s)) h in
       let bytes = low_bytes s b in
@@ -166,25 +168,26 @@ module _ (g : Setting) where
 
   -- ---- arguments
 
-  argument_place : (m : Memory) (ws : List ℕ) (j i : ℕ) → Fits m ws → i < MOST_ARGUMENTS → MOST_ARGUMENTS ≤ j → j < length ws →
+  argument_place : (m : Memory) (ws : List ℕ) (j i : ℕ) → Fits m ws → i < MOST_ARGUMENTS → MOST_ARGUMENTS ≤ j → j < words ws →
       added (word_place m j) (argument_at i) ≡ word_place m (j - suc i)
   argument_place m ws j i fits lt le inside = omega (arith, fits.stack_most, lt, le, inside)
 
   give_true : (t : WordState) (l : WordInstr) (rest : List WordInstr) (regs new ws : List ℕ) (j i a : ℕ) (f : True g t (l ∷ rest) regs ws j) →
       i < MOST_ARGUMENTS → Passing_line g l →
       Regs new (frame_at g t j) (places_end t.frame) → Alike regs new →
-      True g (record t { frame = record t.frame { left = rest; given = put_var t.frame.given i a } }) rest new (set ws (j - suc i) (a % 2 ^ 32)) j
+      True g (record t { frame = record t.frame { left = rest; given = put_var t.frame.given i a } }) rest new (put_word ws (j - suc i) (a % 2 ^ 32)) j
   give_true t l rest regs new ws j i a f lt line kept same =
       let p = t.frame.proc in
       let k = j - suc i in
       let n = a % 2 ^ 32 in
-      let ws' = set ws k n in
+      let ws' = put_word ws k n in
       let inside = inside_of g t (l ∷ rest) regs ws j f in
       let fit = arguments_fit g t (l ∷ rest) regs ws j f in
       let laid = laid_of g t (l ∷ rest) f.sits in
       let some = laid.some in
-      let long : length ws' ≡ length ws = length-set ws k n in
-      let past : (x : ℕ) → j ≤ x → get_or ws' x 0 ≡ get_or ws x 0 = λ x le. get_or-set_other ws k x n 0 (λ s. omega (arith, s, le, lt, fit)) in
+      let under : k < words ws = omega (arith, inside, some, lt, fit) in
+      let long : length ws' ≡ length ws = length-put_word ws k n under in
+      let past : (x : ℕ) → j ≤ x → word_in ws' x ≡ word_in ws x = λ x le. word_put_other ws k n under x (λ s. omega (arith, s, le, lt, fit)) in
       record {
         fits = fits_words t.memory ws ws' long f.fits;
         kept = kept;
@@ -192,33 +195,36 @@ module _ (g : Setting) where
         held = λ v w lives e. let x = f.held v w (passes_alive g l p.lines rest v line lives) e in (
           x.0,
           (
-            word_kept new ws ws' j (home_of (homes g t) v) past
+            word_kept new ws ws' j j (home_of (homes g t) v) (λ d. past (j + d) (omega arith))
                 ∙ word_alike regs new ws j (size (homes g t)) (home_of (homes g t) v) (laid.there v x.0) same ∙ x.1.0,
             x.1.1,
           ),
         );
         given = λ x w e. given_one x w e (cases_eq x i) fit lt inside some;
-        linked = linked_kept g.lay g.procs g.need g.total (whole g) g.at ws ws' j p t.frame.base t.callers long
+        linked = linked_kept g.lay g.procs g.need g.total (whole g) g.at ws ws' j p t.frame.base 0 t.callers long
             (λ x o. past x (elim o [ inl e ↦ omega (arith, e) | inr le ↦ omega (arith, le) ])) f.linked;
         leaf = λ leaf more. same 1 refl ∙ f.leaf leaf (and_right (is_call_or_label l) (only_calls rest) more) ∙ sym (past j (omega arith));
         deep = f.deep;
+        roomy = f.roomy;
       }
     where
       given_one : (x w : ℕ) → put_var t.frame.given i a x ≡ Some w → (x ≡ i) ⊎ (x ≡ i → ⊥) → MOST_ARGUMENTS ≤ j →
           i < MOST_ARGUMENTS →
-          j + size (homes g t) ≤ length ws → 0 < size (homes g t) →
-          (x < MOST_ARGUMENTS) × (get_or (set ws (j - suc i) (a % 2 ^ 32)) (j - suc x) 0 ≡ w) × (w < 2 ^ 32)
+          j + size (homes g t) ≤ words ws → 0 < size (homes g t) →
+          (x < MOST_ARGUMENTS) × (word_in (put_word ws (j - suc i) (a % 2 ^ 32)) (j - suc x) ≡ w) × (w < 2 ^ 32)
       given_one x w e (inl same) fit lt inside some =
           let n = a % 2 ^ 32 in
           let is = some_same n w (sym (cond-true (x == i) (Some n) (t.frame.given x) (eq-eqb x i same)) ∙ e) in (
             omega (arith, same, lt),
-            ap (λ y. get_or (set ws (j - suc i) n) (j - suc y) 0) same ∙ get_or-set_same ws (j - suc i) n 0 (omega (arith, inside, some, lt, fit)) ∙ is,
+            ap (λ y. word_in (put_word ws (j - suc i) n) (j - suc y)) same
+                ∙ word_put_same ws (j - suc i) n (omega (arith, inside, some, lt, fit)) (omega arith) ∙ is,
             omega (arith, is),
           )
       given_one x w e (inr ne) fit lt inside some =
           let n = a % 2 ^ 32 in
           let old = f.given x w (sym (cond-false (x == i) (Some n) (t.frame.given x) (ne_eqb x i ne)) ∙ e) in
-          (old.0, get_or-set_other ws (j - suc i) (j - suc x) n 0 (λ s. ne (omega (arith, s, old.0, lt, fit))) ∙ old.1, old.2)
+          let apart : j - suc x ≢ j - suc i = λ s. ne (omega (arith, s, old.0, lt, fit)) in
+          (old.0, word_put_other ws (j - suc i) n (omega (arith, inside, some, lt, fit)) (j - suc x) apart ∙ old.1, old.2)
 
   pub argument_sim : (index from : ℕ) → Line_sim g (word.Argument index from)
   unfolding give_true
@@ -237,7 +243,7 @@ module _ (g : Setting) where
       let quiet = quiet_behind g t rest (sits_next g.lay g.procs t.frame.proc l rest f.sits) in
       let lives : Alive t.frame.proc.lines from (l ∷ rest) = read_by (inl refl) in
       let rs = left_of (homes g t) from in
-      using_sim g r t rest (t.frame.vars from) _ (λ a e.
+      using_sim g ws r t rest (t.frame.vars from) _ (λ a e.
       let offset = argument_at index in
       let there = laid.there from (f.held from a lives e).0 in
       let x = var_brought g t (l ∷ rest) regs ws j f regs 5 from a (does (save rs offset) k) (quiet_does (save rs offset) k quiet) (omega arith)
@@ -245,7 +251,7 @@ module _ (g : Setting) where
       let y = save_goes g.live (whole g) g.at m ws t.input x.0 rs offset (j - suc index) a (frame_at g t j) (places_end t.frame) k quiet (omega arith)
       (argument_place m ws j index f.fits lt fit (omega (arith, inside, some))) (omega (arith, inside, some)) f.fits x.2.kept
       (seats_past (size (homes g t)) (home_of (homes g t) from) there) x.2.same in
-      let ws' = set ws (j - suc index) (a % 2 ^ 32) in
+      let ws' = put_word ws (j - suc index) (a % 2 ^ 32) in
       let t' = record t { frame = record t.frame { left = rest; given = put_var t.frame.given index a } } in
       let alike : Alike regs y.0 = λ n kept. y.2.other n (kept_apart n 7 kept refl) ∙ x.2.others n (kept_apart n 5 kept refl) in
       sim_goes g r (run_at y.0 m ws' t.input k) t t' 1 6 (then_goes g.live (whole g) g.at 0 1 3 3 _ _ _ x.1 y.1) (omega arith) (omega arith)
@@ -336,11 +342,11 @@ module _ (g : Setting) where
         },
       )
 
-  wrote_sim : (t : WordState) (r : LabelRun) (rest : List WordInstr) (o : Option (List ℕ)) (stream : Stream) →
+  wrote_sim : (fresh : List ℕ) (t : WordState) (r : LabelRun) (rest : List WordInstr) (o : Option (List ℕ)) (stream : Stream) →
       ((bytes : List ℕ) → o ≡ Some bytes → Sim g r t (Goes (write_events stream bytes) 1 (at_lines t rest))) →
-      Sim_did g r t rest (shows (scene_of t) stream o)
-  wrote_sim t r rest None stream h = tt
-  wrote_sim t r rest (Some bytes) stream h = h bytes refl
+      Sim_did g fresh r t rest (shows (scene_of t) stream o)
+  wrote_sim fresh t r rest None stream h = tt
+  wrote_sim fresh t r rest (Some bytes) stream h = h bytes refl
 
   pub write_sim : (stream : Stream) (address len : ℕ) → Line_sim g (word.Write stream address len)
   unfolding same_true
@@ -353,9 +359,9 @@ module _ (g : Setting) where
       let sits = sits_next g.lay g.procs p l rest f.sits in
       let lives : Alive p.lines address (l ∷ rest) = read_by (inl refl) in
       let also : Alive p.lines len (l ∷ rest) = read_by (inr refl) in
-      using_sim g r t rest (t.frame.vars address) _ (λ a e.
-      using_sim g r t rest (t.frame.vars len) _ (λ n d.
-      wrote_sim t r rest (bytes_at m a n) stream (λ bytes h.
+      using_sim g ws r t rest (t.frame.vars address) _ (λ a e.
+      using_sim g ws r t rest (t.frame.vars len) _ (λ n d.
+      wrote_sim ws t r rest (bytes_at m a n) stream (λ bytes h.
       let x = ask_goes t (l ∷ rest) regs ws j f address len a n (stream_number stream) 64 k (stream_small stream) (omega arith) lives also e d in
       let q = x.2 in
       let mid = run_at x.0 m ws t.input (Do Ecall ∷ k) in
@@ -392,9 +398,9 @@ module _ (g : Setting) where
       let k = does (give 10 (home_of (homes g t) to)) (Behind g t l rest regs ws j f) in
       let lives : Alive p.lines address (l ∷ rest) = read_by (inl refl) in
       let also : Alive p.lines len (l ∷ rest) = read_by (inr refl) in
-      using_sim g r t rest (t.frame.vars address) _ (λ a e.
-      using_sim g r t rest (t.frame.vars len) _ (λ n d.
-      if_sim g r t rest (may_fill m a n) _ _ (λ h.
+      using_sim g ws r t rest (t.frame.vars address) _ (λ a e.
+      using_sim g ws r t rest (t.frame.vars len) _ (λ n d.
+      if_sim g ws r t rest (may_fill m a n) _ _ (λ h.
       let x = ask_goes t (l ∷ rest) regs ws j f address len a n 0 63 k (omega arith) (omega arith) lives also e d in
       let q = x.2 in
       let count = min n (length t.input) in
@@ -446,7 +452,7 @@ module _ (g : Setting) where
       let r = Here g t l rest regs ws j f in
       let fr = frame_at g t j in
       let lives : Alive t.frame.proc.lines status (l ∷ rest) = read_by (inl refl) in
-      using_sim g r t rest (t.frame.vars status) _ (λ a e.
+      using_sim g ws r t rest (t.frame.vars status) _ (λ a e.
       let x = var_moves g t (l ∷ rest) regs ws j f regs 10 status a (Do (Addi 17 0 93) ∷ Do Ecall ∷ k) refl (omega arith) (omega arith) lives e f.kept
       (alike_refl regs) in
       let y = small_goes m ws t.input x.0 17 93 fr (places_end t.frame) (Do Ecall ∷ k) refl (omega arith) (omega arith) (omega arith) x.2.kept in

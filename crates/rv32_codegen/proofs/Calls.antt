@@ -1,10 +1,10 @@
 -- What calls of word code do, their label code does.
-use Rattle.std.proofs.Common.{◌≡◌, ◌≢◌, ℕ, suc, ◌+◌, ◌-◌, ◌*◌, ◌/◌, ◌%◌, ◌^◌, ◌<◌, ◌≤◌, inl, inr}
-use Rattle.std.proofs.Common.{List, [], ◌∷◌, ◌++◌, length, get_or, set, Bool, true, false}
-use Rattle.std.proofs.Common.{Some, None, refl, sym, ap, subst, ◌∙◌, arith, length-set, append-nil, mul-suc}
-use Rattle.std.specs.Prelude.{nat_lt, nat_le, ◌&&◌, if◌then◌else◌}
+use Rattle.std.proofs.Common.{◌≡◌, ◌≢◌, ℕ, zero, suc, ◌+◌, ◌-◌, ◌*◌, ◌/◌, ◌%◌, ◌^◌, ◌<◌, ◌≤◌, inl, inr}
+use Rattle.std.proofs.Common.{List, [], ◌∷◌, ◌++◌, length, take, drop, get_or, Bool, true, false}
+use Rattle.std.proofs.Common.{Some, None, refl, sym, ap, subst, ◌∙◌, arith, append-nil, append_assoc, length-append, length-drop, mul-suc}
+use Rattle.std.specs.Prelude.{nat_lt, nat_le, ◌&&◌, if◌then◌else◌, replicate}
 use Rattle.std.proofs.lemmas.Bool.{cases_Bool, and_parts, ltb-true, leb-false, cond-true, cond-false}
-use Rattle.std.proofs.lemmas.List.{get_or-set_same, get_or-set_other}
+use Rattle.std.proofs.lemmas.List.{length-take-le, take-append-le, take-append-drop}
 use Rattle.arc_base.specs.Event.{Event}
 use Rattle.arc_base.specs.Stepping.{Next, Goes}
 use Rattle.arc_base.specs.Simulation.{Steps}
@@ -13,7 +13,7 @@ use Rattle.rv32_isa.specs.declared.instr.Instr.TheVariants.{Sw}
 use Rattle.rv32_isa.specs.declared.label.LabelName.TheVariants.{Entry}
 use Rattle.rv32_isa.specs.declared.label.LabelLine.{LabelLine}
 use Rattle.rv32_isa.specs.declared.label.LabelLine.TheVariants.{Do, Jump}
-use Rattle.rv32_isa.specs.Image.{statics_at}
+use Rattle.rv32_isa.specs.Image.{statics_at, stack_at}
 use Rattle.rv32_isa.specs.Values.{added}
 use Rattle.rv32_isa.specs.Labels.{Rise, marks, mark_before, from_label, from_mark}
 use Rattle.rv32_isa.specs.LabelsMeaning.{LabelRun, hook_or, hook_at, goto, step}
@@ -26,7 +26,7 @@ use Rattle.word_code.specs.declared.word.WordInstr.TheVariants as word
 use Rattle.word_code.specs.declared.word.ProcKind.{ProcKind}
 use Rattle.word_code.specs.declared.word.ProcKind.TheVariants as kind
 use Rattle.word_code.specs.declared.word.WordProc.{WordProc}
-use Rattle.word_code.specs.Memory.{Memory}
+use Rattle.word_code.specs.Memory.{Memory, with_places}
 use Rattle.reg_scan.specs.declared.homes.Home.TheVariants.{Frame}
 use Rattle.reg_scan.specs.Alive.{effect_of, IsOne, Alive, kept_by}
 use Rattle.reg_scan.specs.Homes.{home_of, IsFrame}
@@ -35,12 +35,13 @@ use Rattle.word_code.specs.Words.{params_of}
 use Rattle.word_code.specs.Words.{scene_of, entered}
 use Rattle.rv32_codegen.specs.Code.{does, shift, sum, negative, is_call_or_label, only_calls, is_leaf, after_call, lines_code, hook_of, proc_code}
 use Rattle.rv32_codegen.specs.Code.{start_code}
-use Rattle.rv32_codegen.proofs.Machine.{state_of, run_at, Fits, fits_words, word_place, Regs, put_other, quiet_does, Goes_in, then_goes}
+use Rattle.rv32_codegen.proofs.StackWords.{words, word_in, put_word, length-put_word, word_put_same, before_put, word_put_other, word_dropped}
+use Rattle.rv32_codegen.proofs.Machine.{state_of, run_at, Fits, word_place, Regs, put_other, quiet_does, Goes_in, then_goes}
 use Rattle.rv32_codegen.proofs.PieceRuns.{shift_any, sum_any, sw_at}
 use Rattle.rv32_codegen.proofs.Chunks.{quiet_entry, quiet_lines}
 use Rattle.rv32_codegen.proofs.Lookups.{procs_code, behind, none_some, number_is, code_from, entry_is}
 use Rattle.rv32_codegen.proofs.Frames.{size, IsThere, IsLaid, word_at, word_kept, word_framed, places_end, Within}
-use Rattle.rv32_codegen.proofs.Frames.{sits_next, sits_within, Held, Gave, Linked, linked_kept}
+use Rattle.rv32_codegen.proofs.Frames.{sits_next, sits_within, Held, Gave, held_moved, linked_moved}
 use Rattle.rv32_codegen.proofs.Frames.{Setting, whole, True, Sim}
 use Rattle.rv32_codegen.proofs.LineRuns.{homes, laid_of, inside_of, Setting_line, Behind, Here}
 use Rattle.rv32_codegen.proofs.LineRuns.{Line_sim, named_of}
@@ -80,11 +81,11 @@ module _ (g : Setting) where
   -- the front of a procedure makes its frame: from word k, behind which the caller's begins; and its places behind the caller's
   pub enters : (m : Memory) (ws input regs : List ℕ) (k return base : ℕ) (q : WordProc) (tail : List WordProc) → Fits m ws →
       IsLaid (g.lay q.number) q →
-      size (g.lay q.number) ≤ k → k ≤ length ws → IsRegs regs → get_or regs 1 0 ≡ return → return < 2 ^ 32 →
+      size (g.lay q.number) ≤ k → k ≤ words ws → IsRegs regs → get_or regs 1 0 ≡ return → return < 2 ^ 32 →
       get_or regs 2 0 ≡ word_place m k →
       get_or regs 3 0 ≡ base → base < 2 ^ 32 → get_or regs 4 0 ≡ statics_at → (new : List ℕ)
       × Goes_in g.live (whole g) g.at 3 8 (run_at regs m ws input (proc_code (g.lay q.number) q (procs_code g.lay tail)))
-      (run_at new m (set ws (k - size (g.lay q.number)) return) input (lines_code (g.lay q.number) q q.lines (behind g.lay tail)))
+      (run_at new m (put_word ws (k - size (g.lay q.number)) return) input (lines_code (g.lay q.number) q q.lines (behind g.lay tail)))
       × Regs new (word_place m (k - size (g.lay q.number))) (added base q.room) × (get_or new 1 0 ≡ return)
   enters m ws input regs k return base q tail fits laid under inside good at1 small at2 at3 low at4 =
       let h = g.lay q.number in
@@ -109,7 +110,7 @@ module _ (g : Setting) where
       ∙ (let e : added (word_place m k) (negative h.frame) ≡ word_place m j = omega (arith, under, inside, most, frame) in e) in
       let at1' : get_or new 1 0 ≡ return =
       d.2.other 1 (λ e. omega (arith, e)) (λ e. omega (arith, e)) ∙ b.2.other 1 (λ e. omega (arith, e)) (λ e. omega (arith, e)) ∙ at1 in
-      let within : j < length ws = omega (arith, under, inside, some) in
+      let within : j < words ws = omega (arith, under, inside, some) in
       let c = sw_at g.live (whole g) g.at m ws input new 2 1 0 j return lines (quiet_lines h q q.lines (behind g.lay tail) refl)
       (plain_address (get_or new 2 0) (word_place m j) at2' (omega (arith, most, within))) within at1' fits in
       let first = run_at regs m ws input (proc_code h q (procs_code g.lay tail)) in
@@ -117,7 +118,7 @@ module _ (g : Setting) where
       then_goes g.live (whole g) g.at 2 0 4 3 _ _ _ (then_goes g.live (whole g) g.at 1 1 1 3 _ _ _ a b.1) d.1 in
       let same : return % 2 ^ 32 ≡ return = omega (arith, small) in (
         new,
-        subst (λ n. Goes_in g.live (whole g) g.at 3 8 first (run_at new m (set ws j n) input lines)) same
+        subst (λ n. Goes_in g.live (whole g) g.at 3 8 first (run_at new m (put_word ws j n) input lines)) same
             (then_goes g.live (whole g) g.at 2 1 7 1 _ _ _ to_fourth c),
         record {
           good = d.2.good;
@@ -130,8 +131,8 @@ module _ (g : Setting) where
 
   -- parameters that are alive hold the arguments that stand below the caller's frame
   params_held : (regs ws : List ℕ) (k return : ℕ) (q : WordProc) (given : Vars) → IsLaid (g.lay q.number) q → size (g.lay q.number) ≤ k →
-      k ≤ length ws → Gave g.lay g.procs ws k given →
-      Held g.lay g.procs regs (set ws (k - size (g.lay q.number)) return) (k - size (g.lay q.number)) q q.lines (params_of q given)
+      k ≤ words ws → Gave g.lay g.procs ws k given →
+      Held g.lay g.procs regs (put_word ws (k - size (g.lay q.number)) return) (k - size (g.lay q.number)) q q.lines (params_of q given)
   params_held regs ws k return q given laid under inside h v w lives e =
       let n = size (g.lay q.number) in
       let own = g.lay q.number in
@@ -146,21 +147,22 @@ module _ (g : Setting) where
             let there : IsThere n (Frame offset) = subst (IsThere n) home (laid.there v var) in
             let up = there.1.0 in
             let frame = laid.frame in
+            let some = laid.some in
             let place : k - n + offset / 4 ≡ k - suc v = omega (arith, under, frame, up) in (
               var,
               (
-                ap (word_at regs (set ws (k - n) return) (k - n)) home
-                    ∙ get_or-set_other ws (k - n) (k - n + offset / 4) return 0 (λ s. omega (arith, s, up))
-                    ∙ ap (λ i. get_or ws i 0) place ∙ old.1,
+                ap (word_at regs (put_word ws (k - n) return) (k - n)) home
+                    ∙ word_put_other ws (k - n) return (omega (arith, under, inside, some)) (k - n + offset / 4) (λ s. omega (arith, s, up))
+                    ∙ ap (word_in ws) place ∙ old.1,
                 old.2,
               ),
             )
         | inr bad ↦ absurd (none_some w (sym (cond-false (nat_lt v q.params) (given v) None bad) ∙ e))
       ]
 
-  called_state : WordState → List WordInstr → ℕ → WordProc → WordState
-  called_state t rest to q = record {
-    memory = t.memory;
+  called_state : Memory → WordState → List WordInstr → ℕ → WordProc → WordState
+  called_state m t rest to q = record {
+    memory = m;
     input = t.input;
     frame = record { proc = q; left = q.lines; vars = params_of q t.frame.given; given = no_words; base = places_end t.frame; awaits = 0 };
     callers = record t.frame { left = rest; given = no_words; awaits = to } ∷ t.callers;
@@ -171,17 +173,34 @@ module _ (g : Setting) where
   if_next r t true x y h k = h refl
   if_next r t false x y h k = k refl
 
-  entered_sim : (t : WordState) (r : LabelRun) (rest : List WordInstr) (to : ℕ) (found : List WordProc) →
-      ((q : WordProc) (tail : List WordProc) → found ≡ q ∷ tail → is_full q (t.frame ∷ t.callers) ≡ false →
-      Sim g r t (Goes (seen_call q.kind) 1 (called_state t rest to q))) → Sim g r t (entered t rest (scene_of t) to found)
-  unfolding called_state
-  entered_sim t r rest to [] h = tt
-  entered_sim t r rest to (q ∷ tail) h = if_next r t (is_full q (t.frame ∷ t.callers)) _ _ (λ e. tt) (λ e. h q tail refl e)
+  -- the bytes behind the places become places
+  grown : Memory → (room : ℕ) → (bytes : List ℕ) → Memory
+  grown m room bytes = record m { places = m.places ++ take room bytes }
 
-  -- there is room for the frame, and for all that may be called from there
+  grown_is : (m : Memory) (room : ℕ) (bytes : List ℕ) → room ≤ length bytes → with_places m room bytes ≡ grown m room bytes
+  unfolding grown
+  grown_is m zero bytes le = ap (λ l. record m { places = l }) (sym (append-nil m.places))
+  grown_is m (suc n) bytes le = ap (λ l. record m { places = m.places ++ l }) (take-append-le (suc n) bytes (replicate (suc n) 0) le)
+
+  entered_sim : (bytes : List ℕ) (t : WordState) (r : LabelRun) (rest : List WordInstr) (to : ℕ) (found : List WordProc) →
+      ((q : WordProc) (tail : List WordProc) → found ≡ q ∷ tail → is_full q (t.frame ∷ t.callers) ≡ false →
+      (q.room ≤ length bytes) × Sim g r t (Goes (seen_call q.kind) 1 (called_state (grown t.memory q.room bytes) t rest to q))) →
+      Sim g r t (entered bytes t rest (scene_of t) to found)
+  unfolding called_state
+  entered_sim bytes t r rest to [] h = tt
+  entered_sim bytes t r rest to (q ∷ tail) h =
+      if_next r t (is_full q (t.frame ∷ t.callers)) _ _ (λ e. tt) (λ e.
+      let x = h q tail refl e in
+      subst (λ m. Sim g r t (Goes (seen_call q.kind) 1 (called_state m t rest to q))) (sym (grown_is t.memory q.room bytes x.0)) x.1)
+
+  -- the words of its frame, and of its places
+  abbrev taken : WordProc → ℕ
+  taken q = size (g.lay q.number) + q.room / 4
+
+  -- there is room for the frame and the places, and for all that may be called from there
   record HasRoom (j counts : ℕ) (q : WordProc) : Type 0 where
-    under : size (g.lay q.number) ≤ j
-    deep : 4 * MOST_ARGUMENTS + (g.need q + g.total * (most_calls - (if is_counted q.kind then suc counts else counts))) ≤ 4 * (j - size (g.lay q.number))
+    under : taken q ≤ j
+    deep : 4 * MOST_ARGUMENTS + (g.need q + g.total * (most_calls - (if is_counted q.kind then suc counts else counts))) ≤ 4 * (j - taken q)
 
   not_both : (b c : Bool) → b ≡ true → (b && c) ≡ false → c ≡ false
   not_both true c e h = h
@@ -192,11 +211,12 @@ module _ (g : Setting) where
 
   room_for : (j counts : ℕ) (p q : WordProc) (tail : List WordProc) (callee : ℕ) → from_proc callee g.procs ≡ q ∷ tail →
       4 * MOST_ARGUMENTS + (g.need p + g.total * (most_calls - counts)) ≤ 4 * j → (is_counted q.kind && nat_le most_calls counts) ≡ false →
-      (is_counted q.kind ≡ false → (g.lay q.number).frame + g.need q ≤ g.need p) → HasRoom j counts q
+      (is_counted q.kind ≡ false → (g.lay q.number).frame + q.room + g.need q ≤ g.need p) → HasRoom j counts q
   room_for j counts p q tail callee found deep few chain =
       let h = g.lay q.number in
       let laid = g.laid callee q tail found in
       let frame = laid.frame in
+      let whole_room = laid.room in
       elim (cases_Bool (is_counted q.kind)) [
         | inl t ↦
             let lt = leb-false most_calls counts (not_both (is_counted q.kind) (nat_le most_calls counts) t few) in
@@ -206,17 +226,17 @@ module _ (g : Setting) where
             let more = mul-suc g.total (most_calls - suc counts) in
             let is : (if is_counted q.kind then suc counts else counts) ≡ suc counts = cond-true (is_counted q.kind) (suc counts) counts t in
             record {
-              under = omega (arith, deep, fits, split, more, frame);
-              deep = subst (λ n. 4 * MOST_ARGUMENTS + (g.need q + g.total * (most_calls - n)) ≤ 4 * (j - size h)) (sym is)
-                  (omega (arith, deep, fits, split, more, frame));
+              under = omega (arith, deep, fits, split, more, frame, whole_room);
+              deep = subst (λ n. 4 * MOST_ARGUMENTS + (g.need q + g.total * (most_calls - n)) ≤ 4 * (j - taken q)) (sym is)
+                  (omega (arith, deep, fits, split, more, frame, whole_room));
             }
         | inr f ↦
             let less = chain f in
             let is : (if is_counted q.kind then suc counts else counts) ≡ counts = cond-false (is_counted q.kind) (suc counts) counts f in
             record {
-              under = omega (arith, deep, less, frame);
-              deep = subst (λ n. 4 * MOST_ARGUMENTS + (g.need q + g.total * (most_calls - n)) ≤ 4 * (j - size h)) (sym is)
-                  (omega (arith, deep, less, frame));
+              under = omega (arith, deep, less, frame, whole_room);
+              deep = subst (λ n. 4 * MOST_ARGUMENTS + (g.need q + g.total * (most_calls - n)) ≤ 4 * (j - taken q)) (sym is)
+                  (omega (arith, deep, less, frame, whole_room));
             }
       ]
 
@@ -228,20 +248,47 @@ module _ (g : Setting) where
     line : Setting_line g l to
     calls : (effect_of l).calls ≡ true
 
+  -- where the frame of a called procedure begins, before its places take bytes and after
+  abbrev made_at : ℕ → WordProc → ℕ
+  made_at j q = j - size (g.lay q.number)
+
+  abbrev called_at : ℕ → WordProc → ℕ
+  called_at j q = j - taken q
+
+  -- the bytes behind the places then
+  abbrev called_words : (ws : List ℕ) → ℕ → WordProc → (return : ℕ) → List ℕ
+  called_words ws j q return = drop q.room (put_word ws (made_at j q) return)
+
+  -- the machine's stack stays the same
+  stack_called : (m : Memory) (ws : List ℕ) (j return : ℕ) (q : WordProc) → IsLaid (g.lay q.number) q → taken q ≤ j → j ≤ words ws →
+      m.places ++ put_word ws (made_at j q) return ≡ (grown m q.room ws).places ++ called_words ws j q return
+  unfolding grown
+  stack_called m ws j return q laid under inside =
+      let some = laid.some in
+      let whole_room = laid.room in
+      let ws' = put_word ws (made_at j q) return in
+      ap (λ l. m.places ++ l) (sym (take-append-drop q.room ws')
+      ∙ ap (λ l. l ++ drop q.room ws') (before_put ws (made_at j q) return (omega (arith, under, inside, some)) q.room (omega (arith, under, whole_room))))
+      ∙ sym (append_assoc m.places (take q.room ws) (drop q.room ws'))
+
   call_true : (t : WordState) (l : WordInstr) (rest : List WordInstr) (regs new ws : List ℕ) (j to callee : ℕ) (q : WordProc) (tail : List WordProc)
       (f : True g t (l ∷ rest) regs ws j) → Call_line l to → to < t.frame.proc.vars → from_proc callee g.procs ≡ q ∷ tail →
       Within (whole g) (Jump 1 (Entry callee) ∷ after_of t l rest regs ws j to f) → HasRoom j (counted (t.frame ∷ t.callers)) q →
-      Regs new (word_place t.memory (j - size (g.lay q.number))) (added (places_end t.frame) q.room) →
-      get_or new 1 0 ≡ g.at (mark_before (after_of t l rest regs ws j to f)) →
-      (x : True g (called_state t rest to q) q.lines new (set ws (j - size (g.lay q.number)) (g.at (mark_before (after_of t l rest regs ws j to f))))
-      (j - size (g.lay q.number))) × (x.sits.tail ≡ tail)
-  unfolding called_state after_of
-  call_true t l rest regs new ws j to callee q tail f line lt e stands room kept one =
+      Regs new (word_place t.memory (made_at j q)) (added (places_end t.frame) q.room) →
+      get_or new 1 0 ≡ g.at (mark_before (after_of t l rest regs ws j to f)) → g.at (mark_before (after_of t l rest regs ws j to f)) < 2 ^ 32 →
+      (x : True g (called_state (grown t.memory q.room ws) t rest to q) q.lines new
+      (called_words ws j q (g.at (mark_before (after_of t l rest regs ws j to f)))) (called_at j q)) × (x.sits.tail ≡ tail)
+  unfolding called_state after_of grown
+  call_true t l rest regs new ws j to callee q tail f line lt e stands room kept one small =
       let p = t.frame.proc in
       let h = g.lay q.number in
+      let m = t.memory in
       let return = g.at (mark_before (after_of t l rest regs ws j to f)) in
-      let k = j - size h in
-      let ws' = set ws k return in
+      let n = q.room / 4 in
+      let made = made_at j q in
+      let k = called_at j q in
+      let ws1 = put_word ws made return in
+      let ws' = called_words ws j q return in
       let laid = g.laid callee q tail e in
       let own = laid_of g t (l ∷ rest) f.sits in
       let number = number_is callee g.procs q tail e in
@@ -249,20 +296,41 @@ module _ (g : Setting) where
       let some = laid.some in
       let own_some = own.some in
       let under = room.under in
-      let long : length ws' ≡ length ws = length-set ws k return in
-      let up : k + size h ≡ j = omega (arith, under) in
-      let here : get_or ws' k 0 ≡ return = get_or-set_same ws k return 0 (omega (arith, inside, under, some, own_some)) in
-      let apart : (i : ℕ) → j ≤ i → get_or ws' i 0 ≡ get_or ws i 0 = λ i le. get_or-set_other ws k i return 0
-      (λ s. omega (arith, s, le, under, some)) in
+      let in_words : q.room ≡ 4 * n = let whole_room = laid.room in omega (arith, whole_room) in
+      let made_under : made < words ws = omega (arith, inside, under, some, own_some) in
+      let long1 : length ws1 ≡ length ws = length-put_word ws made return made_under in
+      let left : length ws' ≡ length ws - q.room = length-drop q.room ws1 ∙ ap (λ x. x - q.room) long1 in
+      let enough : q.room ≤ length ws = omega (arith, inside, under, in_words) in
+      let grows : length (m.places ++ take q.room ws) ≡ length m.places + q.room =
+      length-append m.places (take q.room ws) ∙ ap (λ x. length m.places + x) (length-take-le q.room ws enough) in
+      let moved : (i : ℕ) → word_in ws' i ≡ word_in ws1 (n + i) = λ i. word_dropped ws1 q.room n i in_words in
+      let here : word_in ws' k ≡ return =
+      moved k ∙ ap (word_in ws1) (let s : n + k ≡ made = omega (arith, under) in s) ∙ word_put_same ws made return made_under small in
+      let own_frame : (d : ℕ) → word_in ws' (k + d) ≡ word_in ws1 (made + d) = λ d.
+      moved (k + d) ∙ ap (word_in ws1) (let s : n + (k + d) ≡ made + d = omega (arith, under) in s) in
+      let above : (d : ℕ) → word_in ws' (k + size h + d) ≡ word_in ws (j + d) = λ d.
+      moved (k + size h + d) ∙ ap (word_in ws1) (let s : n + (k + size h + d) ≡ j + d = omega (arith, under) in s)
+      ∙ word_put_other ws made return made_under (j + d) (λ s. omega (arith, s, under, some)) in
       let before_call : (v : ℕ) → Alive p.lines v rest → v ≢ to → Alive p.lines v (l ∷ rest) = λ v lives ne.
       kept_by line.line.goes (λ s. ne (subst (λ o. IsOne o v) line.line.is s)) lives in
       let across : (v : ℕ) → Alive p.lines v rest → v ≢ to → v < p.vars → IsFrame (home_of (homes g t) v) = λ v lives ne less.
-      own.homes.across f.sits.before rest l v to f.sits.split line.line.is line.calls lives ne less in (
+      own.homes.across f.sits.before rest l v to f.sits.split line.line.is line.calls lives ne less in
+      let bytes : 4 * j + 0 ≡ 4 * (k + size h) + (0 + q.room) = omega (arith, under, in_words) in
+      let most = f.fits.stack_most in
+      let whole_words = f.fits.whole in
+      let roomy = f.roomy in (
         record {
-          fits = fits_words t.memory ws ws' long f.fits;
-          kept = kept;
+          fits = record {
+            statics_most = f.fits.statics_most;
+            heap_most = f.fits.heap_most;
+            stack_most = omega (arith, most, grows, left, enough);
+            whole = omega (arith, grows, whole_words, in_words);
+          };
+          kept = subst (λ i. Regs new (stack_at + i) (added (places_end t.frame) q.room))
+              (let s : length m.places + 4 * made ≡ length (m.places ++ take q.room ws) + 4 * k = omega (arith, grows, under, in_words) in s) kept;
           sits = record { tail = tail; found = ap (λ n. from_proc n g.procs) number ∙ e; before = []; split = refl };
-          held = params_held new ws j return q t.frame.given laid under (omega (arith, inside)) f.given;
+          held = held_moved g.lay g.procs new ws1 ws' made k q q.lines (params_of q t.frame.given) own_frame
+              (params_held new ws j return q t.frame.given laid (omega (arith, under)) (omega (arith, inside)) f.given);
           given = λ i w x. absurd (none_some w x);
           linked = (
             record {
@@ -276,20 +344,21 @@ module _ (g : Setting) where
               rests = λ v w lives ne x. let y = f.held v w (before_call v lives ne) x in (
                 y.0,
                 (
-                  (λ any. ap (λ n. word_at any ws' n (home_of (homes g t) v)) up ∙ word_kept any ws ws' j (home_of (homes g t) v) apart
+                  (λ any. word_kept any ws ws' j (k + size h) (home_of (homes g t) v) above
                       ∙ word_framed regs any ws j (home_of (homes g t) v) (across v lives ne y.0) ∙ y.1.0),
                   y.1.1,
                 ),
               );
               apart = λ v lives ne less. own.homes.apart f.sits.before rest l v to f.sits.split line.line.is lives ne less lt;
-              deep = subst (λ n. 4 * MOST_ARGUMENTS + (g.need p + g.total * (most_calls - counted (t.frame ∷ t.callers))) ≤ 4 * n) (sym up) f.deep;
+              deep = subst (λ n. 4 * MOST_ARGUMENTS + (g.need p + g.total * (most_calls - counted (t.frame ∷ t.callers))) ≤ n)
+                  (let s : 4 * j ≡ 4 * (k + size h) + (0 + q.room) = omega (arith, bytes) in s) f.deep;
             },
-            subst (λ n. Linked g.lay g.procs g.need g.total (whole g) g.at ws' n p t.frame.base t.callers) (sym up)
-                (linked_kept g.lay g.procs g.need g.total (whole g) g.at ws ws' j p t.frame.base t.callers long
-                (λ i o. apart i (elim o [ inl x ↦ omega (arith, x) | inr le ↦ omega (arith, le) ])) f.linked),
+            linked_moved g.lay g.procs g.need g.total (whole g) g.at ws ws' j (k + size h) p t.frame.base 0 (0 + q.room) t.callers
+                (omega (arith, left, enough, under, in_words)) (sym bytes) (λ d o. above d) f.linked,
           );
           leaf = λ leaf more. one ∙ sym here;
           deep = room.deep;
+          roomy = omega (arith, roomy, grows);
         },
         refl,
       )
@@ -311,7 +380,7 @@ module _ (g : Setting) where
         ∙ comes_back g.at stands.0 after (Jump 1 (Entry number)) (subst (λ l. Rise g.at (marks l)) stands.1 g.rises) refl refl
 
   pub call_sim : (to callee : ℕ) → Line_sim g (word.Call to callee)
-  unfolding called_state call_true after_of
+  unfolding called_state call_true after_of grown
   call_sim to callee t rest regs ws j f =
       let l = word.Call to callee in
       let k = Behind g t l rest regs ws j f in
@@ -320,7 +389,7 @@ module _ (g : Setting) where
       let base = places_end t.frame in
       let lt = ltb-true to p.vars (named_of g t l rest f.sits) in
       let r = Here g t l rest regs ws j f in
-      entered_sim t r rest to (from_proc callee g.procs) (λ q tail e few.
+      entered_sim ws t r rest to (from_proc callee g.procs) (λ q tail e few.
       let h = g.lay q.number in
       let laid = g.laid callee q tail e in
       let after = after_call (homes g t) to k in
@@ -343,16 +412,28 @@ module _ (g : Setting) where
       let at2 : get_or two 2 0 ≡ word_place m j = put_other regs 1 2 return (λ e. omega (arith, e)) ∙ f.kept.frame_is in
       let at3 : get_or two 3 0 ≡ base = put_other regs 1 3 return (λ e. omega (arith, e)) ∙ f.kept.places_is in
       let at4 : get_or two 4 0 ≡ statics_at = put_other regs 1 4 return (λ e. omega (arith, e)) ∙ f.kept.data_is in
-      let w = enters m ws t.input two j return base q tail f.fits laid room.under (omega (arith, inside)) good
+      let under = room.under in
+      let w = enters m ws t.input two j return base q tail f.fits laid (omega (arith, under)) (omega (arith, inside)) good
       (put_same regs 1 return f.kept.good (omega arith) (omega arith)) fits at2 at3 (omega arith) at4 in
       let x_true = call_true t l rest regs w.0 ws j to callee q tail f (record { line = record { goes = refl; is = refl }; calls = refl }) lt e stands room
-      w.2 w.3 in
-      let last = run_at w.0 m (set ws (j - size h) return) t.input (lines_code h q q.lines (behind g.lay tail)) in
-      let all = steps_on (step g.live (whole g) g.at) 1 3 1 8 r there last (seen_call q.kind) [] z w.1 in
+      w.2 w.3 fits in
+      let code = lines_code h q q.lines (behind g.lay tail) in
+      let last = run_at w.0 (grown m q.room ws) (called_words ws j q return) t.input code in
+      let entered : Goes_in g.live (whole g) g.at 3 8 there last =
+      subst (λ l. Goes_in g.live (whole g) g.at 3 8 there (record {
+        state = record { regs = w.0; pc = 0; code = []; statics = m.statics; heap = m.heap; stack = l };
+        left = code;
+        input = t.input;
+      })) (stack_called m ws j return q laid under (omega (arith, inside))) w.1 in
+      let whole_room = laid.room in
+      let all = steps_on (step g.live (whole g) g.at) 1 3 1 8 r there last (seen_call q.kind) [] z entered in
       let shown_all = subst (λ es. Steps (step g.live (whole g) g.at) 4 r es 9 last) (append-nil (seen_call q.kind)) all in (
-        last,
-        4,
-        record { work = shown_all.work; within = omega (arith, shown_all.within); by = shown_all.by },
-        record { regs = w.0; ws = set ws (j - size h) return; j = j - size h; facts = x_true.0; is = refl },
-        inl (omega arith),
+        omega (arith, inside, under, whole_room),
+        (
+          last,
+          4,
+          record { work = shown_all.work; within = omega (arith, shown_all.within); by = shown_all.by },
+          record { regs = w.0; ws = called_words ws j q return; j = called_at j q; facts = x_true.0; is = refl },
+          inl (omega arith),
+        ),
       ))

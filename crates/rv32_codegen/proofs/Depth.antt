@@ -1,13 +1,13 @@
--- How deep the frames of calls may stand.
+-- How much of the stack calls may take yet.
 use Rattle.std.proofs.Common.{◌≡◌, ℕ, zero, suc, ◌+◌, ◌%◌, ◌≤◌, List, [], ◌∷◌, ◌++◌, length, Bool, true}
 use Rattle.std.proofs.Common.{false, Option, Some, None, refl, sym, ap, subst, ◌∙◌, arith}
 use Rattle.std.proofs.Common.{inl, inr}
 use Rattle.std.specs.Prelude.{◌==◌, nat_le, if◌then◌else◌}
-use Rattle.std.proofs.lemmas.Bool.{cases_Bool, and_parts, eqb-true, leb-true, cond-false, cond_both}
+use Rattle.std.proofs.lemmas.Bool.{cases_Bool, and_parts, leb-true, cond-false}
 use Rattle.word_code.specs.declared.word.WordInstr.{WordInstr}
 use Rattle.word_code.specs.declared.word.WordInstr.TheVariants as word
 use Rattle.word_code.specs.declared.word.WordProc.{WordProc}
-use Rattle.word_code.specs.Words.{is_counted, from_proc, callee_of, taken_for, most_called, most_chain, uncounted, chain, most_room, places_size}
+use Rattle.word_code.specs.Words.{is_counted, from_proc, callee_of, taken_for, most_called, most_chain, uncounted, chain}
 use Rattle.word_code.specs.Words.{is_kind, is_proc, are_procs}
 use Rattle.word_code.specs.Sizes.{chain_level, has_no_circle}
 use Rattle.rv32_codegen.proofs.Lookups.{nil_cons, here, later}
@@ -119,57 +119,15 @@ module _ (procs : List WordProc) (size : WordProc → ℕ) where
           in
           subst (λ k. size q + most_called (takes k) q.lines ≤ most_called (takes k) p.lines) (sym e) all
 
--- ---- places are whole words
+-- ---- parts of what is said of procedures
 
 pub proc_parts : (p : WordProc) (procs : List WordProc) → are_procs (p ∷ procs) ≡ true → (is_proc p ≡ true) × (are_procs procs ≡ true)
 proc_parts p procs h =
     let a = and_parts (is_proc p) _ h in
     (a.0, (and_parts _ (are_procs procs) a.1).1)
 
-pub room_whole : (p : WordProc) → is_proc p ≡ true → p.room % 4 ≡ 0
-room_whole p h =
-    let a = (and_parts (nat_le p.params p.vars) _ h).1 in
-    let b = (and_parts (nat_le p.vars _) _ a).1 in
-    eqb-true (p.room % 4) 0 (and_parts (p.room % 4 == 0) _ b).0
-
 pub kind_known : (p : WordProc) → is_proc p ≡ true → is_kind p.kind ≡ true
 kind_known p h =
     let a = (and_parts (nat_le p.params p.vars) _ h).1 in
     let b = (and_parts (nat_le p.vars _) _ a).1 in
     (and_parts (is_kind p.kind) _ (and_parts (p.room % 4 == 0) _ b).1).0
-
-most_whole : (procs : List WordProc) → are_procs procs ≡ true → most_room procs % 4 ≡ 0
-most_whole [] h = refl
-most_whole (p ∷ procs) h = let x = proc_parts p procs h in omega (arith, room_whole p x.0, most_whole procs x.1)
-
-for_whole : (taken : ℕ → ℕ) (o : Option ℕ) → ((n : ℕ) → taken n % 4 ≡ 0) → taken_for taken o % 4 ≡ 0
-for_whole taken None h = refl
-for_whole taken (Some n) h = h n
-
-called_whole : (taken : ℕ → ℕ) → ((n : ℕ) → taken n % 4 ≡ 0) → (lines : List WordInstr) → most_called taken lines % 4 ≡ 0
-called_whole taken h [] = refl
-called_whole taken h (l ∷ lines) = omega (arith, for_whole taken (callee_of l) h, called_whole taken h lines)
-
-uncounted_whole : (taken : ℕ → ℕ) → ((n : ℕ) → taken n % 4 ≡ 0) → (number : ℕ) (procs : List WordProc) → are_procs procs ≡ true →
-    uncounted (λ p. p.room) taken (from_proc number procs) % 4 ≡ 0
-uncounted_whole taken h number [] e = refl
-uncounted_whole taken h number (p ∷ procs) e =
-    let x = proc_parts p procs e in
-    cond_both (p.number == number) (p ∷ procs) (from_proc number procs) (λ l. uncounted (λ q. q.room) taken l % 4 ≡ 0)
-    (λ t. cond_both (is_counted p.kind) 0 (p.room + most_called taken p.lines) (λ n. n % 4 ≡ 0) (λ c. refl)
-    (λ c. omega (arith, room_whole p x.0, called_whole taken h p.lines)))
-    (λ f. uncounted_whole taken h number procs x.1)
-
-chain_whole : (n : ℕ) (procs : List WordProc) → are_procs procs ≡ true → (number : ℕ) → chain procs (λ p. p.room) n number % 4 ≡ 0
-chain_whole zero procs e number = refl
-chain_whole (suc n) procs e number = uncounted_whole (chain procs (λ p. p.room) n) (chain_whole n procs e) number procs e
-
-chains_whole : (taken : ℕ → ℕ) → ((n : ℕ) → taken n % 4 ≡ 0) → (procs : List WordProc) → most_chain taken procs % 4 ≡ 0
-chains_whole taken h [] = refl
-chains_whole taken h (p ∷ procs) = omega (arith, called_whole taken h p.lines, chains_whole taken h procs)
-
-pub places_whole : (procs : List WordProc) → are_procs procs ≡ true → places_size procs % 4 ≡ 0
-places_whole procs e =
-    let a = most_whole procs e in
-    let b = chains_whole (chain procs (λ p. p.room) (length procs)) (chain_whole (length procs) procs e) procs in
-    omega (arith, a, b)

@@ -1,10 +1,9 @@
--- Word code's calls, and their frames in the machine's stack.
+-- Word code's calls, and their frames in the machine's stack, in the bytes behind the places.
 use Rattle.std.proofs.Common.{◌≡◌, ◌≢◌, ℕ, suc, ◌+◌, ◌-◌, ◌*◌, ◌/◌, ◌%◌, ◌^◌, ◌<◌, ◌≤◌, ◌⊎◌, inl, inr}
-use Rattle.std.proofs.Common.{List, [], ◌∷◌, ◌++◌, length, get_or, set, Some, true, refl}
-use Rattle.std.proofs.Common.{sym, ap, ◌∙◌, arith, append_assoc, length-set}
+use Rattle.std.proofs.Common.{List, [], ◌∷◌, ◌++◌, length, get_or, Some, true, refl}
+use Rattle.std.proofs.Common.{sym, ap, subst, ◌∙◌, arith, append_assoc}
 use Rattle.std.specs.Prelude.{◌==◌, false}
 use Rattle.std.proofs.lemmas.Bool.{cases_eq, cases_Bool, eq-eqb, ne_eqb, and_parts, cond-true, cond-false}
-use Rattle.std.proofs.lemmas.List.{get_or-set_same, get_or-set_other}
 use Rattle.arc_base.specs.Event.{Event}
 use Rattle.arc_base.specs.Stepping.{Next}
 use Rattle.arc_base.specs.Simulation.{Does}
@@ -28,6 +27,7 @@ use Rattle.reg_scan.specs.declared.homes.Homes.{Homes}
 use Rattle.reg_scan.specs.Alive.{Alive}
 use Rattle.reg_scan.specs.Homes.{home_of, is_free, IsFrame, IsHomes}
 use Rattle.rv32_codegen.specs.Code.{only_calls, is_leaf, after_call, lines_code, entry_code, hook_of, proc_code, start_code}
+use Rattle.rv32_codegen.proofs.StackWords.{words, word_in, put_word, length-put_word, word_put_same, word_put_other}
 use Rattle.rv32_codegen.proofs.Machine.{run_at, Fits, Regs, word_place}
 use Rattle.rv32_codegen.proofs.Frees.{is_kept, free_kept}
 use Rattle.rv32_codegen.proofs.Chunks.{lines_fold, lines_end, body, body_split, entry_split}
@@ -50,6 +50,7 @@ pub record IsLaid (h : Homes) (p : WordProc) : Type 0 where
   pub some : 0 < size h
   pub there : (v : ℕ) → v < p.vars → IsThere (size h) (home_of h v)
   pub few : p.params ≤ p.vars
+  pub room : p.room % 4 ≡ 0
   pub named : all_named p.vars p.lines ≡ true
 
 -- ---- words at homes
@@ -57,12 +58,12 @@ pub record IsLaid (h : Homes) (p : WordProc) : Type 0 where
 -- what stands at a home, where the frame begins at word j
 abbrev pub word_at : (regs ws : List ℕ) (j : ℕ) → Home → ℕ
 word_at regs ws j (Reg number) = get_or regs number 0
-word_at regs ws j (Frame at) = get_or ws (j + at / 4) 0
+word_at regs ws j (Frame at) = word_in ws (j + at / 4)
 
 -- a word of the frame is written, where the home is one
 abbrev pub saved : (ws : List ℕ) (j : ℕ) → Home → (value : ℕ) → List ℕ
 saved ws j (Reg number) value = ws
-saved ws j (Frame at) value = set ws (j + at / 4) value
+saved ws j (Frame at) value = put_word ws (j + at / 4) value
 
 -- a register has a word, where the home is one
 abbrev pub HasWord : (regs : List ℕ) → Home → (value : ℕ) → Type 0
@@ -77,34 +78,38 @@ Alike regs new = (r : ℕ) → is_kept r ≡ true → get_or new r 0 ≡ get_or 
 abbrev pub Alike_but : (rd : ℕ) (regs new : List ℕ) → Type 0
 Alike_but rd regs new = (r : ℕ) → is_kept r ≡ true → r ≢ rd → get_or new r 0 ≡ get_or regs r 0
 
-pub length-saved : (ws : List ℕ) (j : ℕ) (home : Home) (value : ℕ) → length (saved ws j home value) ≡ length ws
-length-saved ws j (Reg number) value = refl
-length-saved ws j (Frame at) value = length-set ws (j + at / 4) value
+module _ (ws : List ℕ) (j n : ℕ) (inside : j + n ≤ words ws) where
+  pub length-saved : (home : Home) (value : ℕ) → IsThere n home → length (saved ws j home value) ≡ length ws
+  length-saved (Reg number) value h = refl
+  length-saved (Frame at) value h = length-put_word ws (j + at / 4) value (omega (arith, h.1.1, inside))
 
--- words outside of the frame, and the return address, stay
-pub saved_outside : (ws : List ℕ) (j n k : ℕ) (home : Home) (value : ℕ) → IsThere n home → (k ≤ j) ⊎ (j + n ≤ k) →
-    get_or (saved ws j home value) k 0 ≡ get_or ws k 0
-saved_outside ws j n k (Reg number) value h o = refl
-saved_outside ws j n k (Frame at) value h (inl le) = get_or-set_other ws (j + at / 4) k value 0 (λ s. omega (arith, s, le, h.1.0))
-saved_outside ws j n k (Frame at) value h (inr le) = get_or-set_other ws (j + at / 4) k value 0 (λ s. omega (arith, s, le, h.1.1))
+  -- words outside of the frame, and the return address, stay
+  pub saved_outside : (k : ℕ) (home : Home) (value : ℕ) → IsThere n home → (k ≤ j) ⊎ (j + n ≤ k) →
+      word_in (saved ws j home value) k ≡ word_in ws k
+  saved_outside k (Reg number) value h o = refl
+  saved_outside k (Frame at) value h (inl le) =
+      word_put_other ws (j + at / 4) value (omega (arith, h.1.1, inside)) k (λ s. omega (arith, s, le, h.1.0))
+  saved_outside k (Frame at) value h (inr le) =
+      word_put_other ws (j + at / 4) value (omega (arith, h.1.1, inside)) k (λ s. omega (arith, s, le, h.1.1))
 
-saved_here : (regs ws : List ℕ) (j n : ℕ) (home : Home) (value : ℕ) → IsThere n home → j + n ≤ length ws → HasWord regs home value →
-    word_at regs (saved ws j home value) j home ≡ value
-saved_here regs ws j n (Reg number) value h inside has = has
-saved_here regs ws j n (Frame at) value h inside has = get_or-set_same ws (j + at / 4) value 0 (omega (arith, h.1.1, inside))
+  saved_here : (regs : List ℕ) (home : Home) (value : ℕ) → IsThere n home → value < 2 ^ 32 → HasWord regs home value →
+      word_at regs (saved ws j home value) j home ≡ value
+  saved_here regs (Reg number) value h small has = has
+  saved_here regs (Frame at) value h small has = word_put_same ws (j + at / 4) value (omega (arith, h.1.1, inside)) small
 
-saved_apart : (regs ws : List ℕ) (j n : ℕ) (home other : Home) (value : ℕ) → IsThere n home → IsThere n other → other ≢ home →
-    word_at regs (saved ws j home value) j other ≡ word_at regs ws j other
-saved_apart regs ws j n (Reg number) other value h g ne = refl
-saved_apart regs ws j n (Frame at) (Reg number) value h g ne = refl
-saved_apart regs ws j n (Frame at) (Frame from) value h g ne =
-    get_or-set_other ws (j + at / 4) (j + from / 4) value 0 (λ s. ne (ap Frame (let e : from ≡ at = omega (arith, s, h.0, g.0) in e)))
+  saved_apart : (regs : List ℕ) (home other : Home) (value : ℕ) → IsThere n home → IsThere n other → other ≢ home →
+      word_at regs (saved ws j home value) j other ≡ word_at regs ws j other
+  saved_apart regs (Reg number) other value h g ne = refl
+  saved_apart regs (Frame at) (Reg number) value h g ne = refl
+  saved_apart regs (Frame at) (Frame from) value h g ne =
+      word_put_other ws (j + at / 4) value (omega (arith, h.1.1, inside)) (j + from / 4)
+      (λ s. ne (ap Frame (let e : from ≡ at = omega (arith, s, h.0, g.0) in e)))
 
--- what stands at a home by words behind a place that stay
-pub word_kept : (regs ws ws' : List ℕ) (j : ℕ) (home : Home) → ((k : ℕ) → j ≤ k → get_or ws' k 0 ≡ get_or ws k 0) →
-    word_at regs ws' j home ≡ word_at regs ws j home
-word_kept regs ws ws' j (Reg number) same = refl
-word_kept regs ws ws' j (Frame at) same = same (j + at / 4) (omega arith)
+-- what stands at a home where the frame has the same words, wherever it begins
+pub word_kept : (regs ws ws' : List ℕ) (j j' : ℕ) (home : Home) → ((d : ℕ) → word_in ws' (j' + d) ≡ word_in ws (j + d)) →
+    word_at regs ws' j' home ≡ word_at regs ws j home
+word_kept regs ws ws' j j' (Reg number) same = refl
+word_kept regs ws ws' j j' (Frame at) same = same (at / 4)
 
 pub word_alike : (regs new ws : List ℕ) (j n : ℕ) (home : Home) → IsThere n home → Alike regs new → word_at new ws j home ≡ word_at regs ws j home
 word_alike regs new ws j n (Reg number) h same = same number (free_kept number h)
@@ -118,6 +123,11 @@ word_framed regs new ws j (Frame at) h = refl
 -- where the places of a call end
 abbrev pub places_end : WordFrame → ℕ
 places_end c = added c.base c.proc.room
+
+-- the bytes of the places of these calls
+abbrev pub rooms : List WordFrame → ℕ
+rooms [] = 0
+rooms (c ∷ cs) = c.proc.room + rooms cs
 
 -- ---- where lines stand
 
@@ -229,17 +239,17 @@ module _ (lay : Layout) where
 
     -- below it stand the arguments that were given
     abbrev pub Gave : (ws : List ℕ) (j : ℕ) → Vars → Type 0
-    Gave ws j given = (i w : ℕ) → given i ≡ Some w → (i < MOST_ARGUMENTS) × (get_or ws (j - suc i) 0 ≡ w) × (w < 2 ^ 32)
+    Gave ws j given = (i w : ℕ) → given i ≡ Some w → (i < MOST_ARGUMENTS) × (word_in ws (j - suc i) ≡ w) × (w < 2 ^ 32)
 
     -- `need` is what the longest chain takes that a procedure calls, and `total` what a call that counts may take with all that it calls
     module _ (need : WordProc → ℕ) (total : ℕ) (whole : List LabelLine) (at : Addresses) where
-      -- so much stands below word j for all that a call may call yet, and for arguments
-      abbrev pub Deep : ℕ → WordFrame → List WordFrame → Type 0
-      Deep j c cs = 4 * MOST_ARGUMENTS + (need c.proc + total * (most_calls - counted (c ∷ cs))) ≤ 4 * j
+      -- so many bytes are enough for the frames and the places of all that a call may call yet, and for arguments
+      abbrev pub Deep : (bytes : ℕ) → WordFrame → List WordFrame → Type 0
+      Deep bytes c cs = 4 * MOST_ARGUMENTS + (need c.proc + total * (most_calls - counted (c ∷ cs))) ≤ bytes
 
       -- a caller whose frame begins at word j, of a procedure of that number, whose return address is given and whose places begin at `base`,
-      -- where the caller's end
-      pub record Waits (ws : List ℕ) (j number return base : ℕ) (c : WordFrame) (cs : List WordFrame) : Type 0 where
+      -- where the caller's end; between its places and its frame there are so many bytes more than are left, for the places of calls since
+      pub record Waits (ws : List ℕ) (j number return base more : ℕ) (c : WordFrame) (cs : List WordFrame) : Type 0 where
         pub sits : Sits c.proc c.left
         pub last : is_leaf c.proc.lines ≡ true → only_calls c.left ≡ true
         pub behind_call : Within whole (line.Jump 1 (Entry number) ∷ after_call (lay c.proc.number) c.awaits (code_here c.proc c.left sits))
@@ -249,51 +259,69 @@ module _ (lay : Layout) where
         pub given : c.given ≡ no_words
         pub rests : Rests ws j c
         pub apart : Apart c
-        pub deep : Deep j c cs
+        pub deep : Deep (4 * j + more) c cs
 
       -- the frame of a call begins at word j, and behind it follow those of the callers
-      abbrev pub Linked : (ws : List ℕ) (j : ℕ) → WordProc → (base : ℕ) → List WordFrame → Type 0
-      Linked ws j p base [] = j + size (lay p.number) ≡ length ws
-      Linked ws j p base (c ∷ cs) =
-          Waits ws (j + size (lay p.number)) p.number (get_or ws j 0) base c cs × Linked ws (j + size (lay p.number)) c.proc c.base cs
+      abbrev pub Linked : (ws : List ℕ) (j : ℕ) → WordProc → (base more : ℕ) → List WordFrame → Type 0
+      Linked ws j p base more [] = j + size (lay p.number) ≡ words ws
+      Linked ws j p base more (c ∷ cs) =
+          Waits ws (j + size (lay p.number)) p.number (word_in ws j) base (more + p.room) c cs
+          × Linked ws (j + size (lay p.number)) c.proc c.base (more + p.room) cs
 
-      pub linked_inside : (ws : List ℕ) (j : ℕ) (p : WordProc) (base : ℕ) (cs : List WordFrame) → Linked ws j p base cs →
-          j + size (lay p.number) ≤ length ws
-      linked_inside ws j p base [] h = omega (arith, h)
-      linked_inside ws j p base (c ∷ cs) h = omega (arith, linked_inside ws (j + size (lay p.number)) c.proc c.base cs h.1)
+      pub linked_inside : (ws : List ℕ) (j : ℕ) (p : WordProc) (base more : ℕ) (cs : List WordFrame) → Linked ws j p base more cs →
+          j + size (lay p.number) ≤ words ws
+      linked_inside ws j p base more [] h = omega (arith, h)
+      linked_inside ws j p base more (c ∷ cs) h = omega (arith, linked_inside ws (j + size (lay p.number)) c.proc c.base (more + p.room) cs h.1)
 
-      -- words other than those of callers and the return address don't matter
-      pub linked_kept : (ws ws' : List ℕ) (j : ℕ) (p : WordProc) (base : ℕ) (cs : List WordFrame) → length ws' ≡ length ws →
-          ((k : ℕ) → (k ≡ j) ⊎ (j + size (lay p.number) ≤ k) → get_or ws' k 0 ≡ get_or ws k 0) → Linked ws j p base cs →
-          Linked ws' j p base cs
-      linked_kept ws ws' j p base [] long same h = h ∙ sym long
-      linked_kept ws ws' j p base (c ∷ cs) long same h =
+      -- The frames may stand in other bytes, where places have come or gone in front of them: words other than those of callers and the return
+      -- address don't matter.
+      pub linked_moved : (ws ws' : List ℕ) (j j' : ℕ) (p : WordProc) (base more more' : ℕ) (cs : List WordFrame) →
+          words ws' + j ≡ words ws + j' → 4 * j' + more' ≡ 4 * j + more →
+          ((d : ℕ) → (d ≡ 0) ⊎ (size (lay p.number) ≤ d) → word_in ws' (j' + d) ≡ word_in ws (j + d)) → Linked ws j p base more cs →
+          Linked ws' j' p base more' cs
+      linked_moved ws ws' j j' p base more more' [] long sum same h = omega (arith, h, long)
+      linked_moved ws ws' j j' p base more more' (c ∷ cs) long sum same h =
           let x = h.0 in
-          let next = j + size (lay p.number) in (
+          let n = size (lay p.number) in
+          let next = j + n in
+          let next' = j' + n in
+          let behind : (d : ℕ) → word_in ws' (next' + d) ≡ word_in ws (next + d) = λ d.
+          ap (word_in ws') (let e : next' + d ≡ j' + (n + d) = omega arith in e) ∙ same (n + d) (inr (omega arith))
+          ∙ ap (word_in ws) (let e : j + (n + d) ≡ next + d = omega arith in e) in
+          let first : word_in ws' j' ≡ word_in ws j =
+          ap (word_in ws') (let e : j' ≡ j' + 0 = omega arith in e) ∙ same 0 (inl refl) ∙ ap (word_in ws) (let e : j + 0 ≡ j = omega arith in e) in
+          let all : 4 * next + (more + p.room) ≡ 4 * next' + (more' + p.room) = omega (arith, sum) in (
             record {
               sits = x.sits;
               last = x.last;
               behind_call = x.behind_call;
-              returns = same j (inl refl) ∙ x.returns;
+              returns = first ∙ x.returns;
               base_is = x.base_is;
               awaits = x.awaits;
               given = x.given;
               rests = λ v w lives ne e. let y = x.rests v w lives ne e in (
                 y.0,
                 (
-                  (λ regs. word_kept regs ws ws' next (home_of (lay c.proc.number) v) (λ k le. same k (inr le)) ∙ y.1.0 regs),
+                  (λ regs. word_kept regs ws ws' next next' (home_of (lay c.proc.number) v) behind ∙ y.1.0 regs),
                   y.1.1,
                 ),
               );
               apart = x.apart;
-              deep = x.deep;
+              deep = subst (λ n. Deep n c cs) all x.deep;
             },
-            linked_kept ws ws' next c.proc c.base cs long (λ k o. same k (inr (past k next (size (lay c.proc.number)) o))) h.1,
+            linked_moved ws ws' next next' c.proc c.base (more + p.room) (more' + p.room) cs (omega (arith, long)) (sym all) (λ d o. behind d) h.1,
           )
+
+      -- in bytes of the same length
+      pub linked_kept : (ws ws' : List ℕ) (j : ℕ) (p : WordProc) (base more : ℕ) (cs : List WordFrame) → length ws' ≡ length ws →
+          ((k : ℕ) → (k ≡ j) ⊎ (j + size (lay p.number) ≤ k) → word_in ws' k ≡ word_in ws k) → Linked ws j p base more cs →
+          Linked ws' j p base more cs
+      linked_kept ws ws' j p base more cs long same h =
+          linked_moved ws ws' j j p base more more cs (omega (arith, long)) refl (λ d o. same (j + d) (at_frame d o)) h
         where
-          past : (k n d : ℕ) → (k ≡ n) ⊎ (n + d ≤ k) → n ≤ k
-          past k n d (inl e) = omega (arith, e)
-          past k n d (inr le) = omega (arith, le)
+          at_frame : (d : ℕ) → (d ≡ 0) ⊎ (size (lay p.number) ≤ d) → (j + d ≡ j) ⊎ (j + size (lay p.number) ≤ j + d)
+          at_frame d (inl e) = inl (omega (arith, e))
+          at_frame d (inr le) = inr (omega (arith, le))
 
       -- what is true of word code's state and the words of frames, where the running call's frame begins at word j
       pub record Facts (t : WordState) (lines : List WordInstr) (regs ws : List ℕ) (j : ℕ) : Type 0 where
@@ -302,9 +330,10 @@ module _ (lay : Layout) where
         pub sits : Sits t.frame.proc lines
         pub held : Held regs ws j t.frame.proc lines t.frame.vars
         pub given : Gave ws j t.frame.given
-        pub linked : Linked ws j t.frame.proc t.frame.base t.callers
-        pub leaf : is_leaf t.frame.proc.lines ≡ true → only_calls lines ≡ false → get_or regs 1 0 ≡ get_or ws j 0
-        pub deep : Deep j t.frame t.callers
+        pub linked : Linked ws j t.frame.proc t.frame.base 0 t.callers
+        pub leaf : is_leaf t.frame.proc.lines ≡ true → only_calls lines ≡ false → get_or regs 1 0 ≡ word_in ws j
+        pub deep : Deep (4 * j) t.frame t.callers
+        pub roomy : rooms (t.frame ∷ t.callers) ≤ length t.memory.places
 
       -- label code's machine is at the lines that are left
       pub record Related (r : LabelRun) (t : WordState) : Type 0 where
@@ -324,10 +353,16 @@ module _ (lay : Layout) where
         let x = h v w (stays v lives) e in
         (x.0, (word_alike regs new ws j (size (lay p.number)) (home_of (lay p.number) v) (laid.there v x.0) same ∙ x.1.0, x.1.1))
 
+    -- the frame has the same words, wherever it begins
+    pub held_moved : (regs ws ws' : List ℕ) (j j' : ℕ) (p : WordProc) (lines : List WordInstr) (vars : Vars) →
+        ((d : ℕ) → word_in ws' (j' + d) ≡ word_in ws (j + d)) → Held regs ws j p lines vars → Held regs ws' j' p lines vars
+    held_moved regs ws ws' j j' p lines vars same h v w lives e =
+        let x = h v w lives e in (x.0, (word_kept regs ws ws' j j' (home_of (lay p.number) v) same ∙ x.1.0, x.1.1))
+
     -- a word is written
     pub put_held : (new ws : List ℕ) (j : ℕ) (p : WordProc) (rest : List WordInstr) (vars : Vars) (to n : ℕ) → IsLaid (lay p.number) p →
         to < p.vars →
-        j + size (lay p.number) ≤ length ws →
+        j + size (lay p.number) ≤ words ws →
         ((v w : ℕ) → Alive p.lines v rest → v ≢ to → vars v ≡ Some w →
         (v < p.vars) × ((word_at new ws j (home_of (lay p.number) v) ≡ w) × (w < 2 ^ 32))) →
         ((v : ℕ) → Alive p.lines v rest → v ≢ to → v < p.vars → home_of (lay p.number) v ≢ home_of (lay p.number) to) →
@@ -343,7 +378,7 @@ module _ (lay : Layout) where
                 omega (arith, same, lt),
                 (
                   ap (λ x. word_at new ws' j (home_of h x)) same
-                      ∙ saved_here new ws j (size h) (home_of h to) value (laid.there to lt) inside has ∙ is,
+                      ∙ saved_here ws j (size h) inside new (home_of h to) value (laid.there to lt) (omega arith) has ∙ is,
                   omega (arith, is),
                 ),
               )
@@ -351,7 +386,8 @@ module _ (lay : Layout) where
               let x = old v w lives ne (sym (cond-false (v == to) (Some value) (vars v) (ne_eqb v to ne)) ∙ e) in (
                 x.0,
                 (
-                  saved_apart new ws j (size h) (home_of h to) (home_of h v) value (laid.there to lt) (laid.there v x.0) (apart v lives ne x.0) ∙ x.1.0,
+                  saved_apart ws j (size h) inside new (home_of h to) (home_of h v) value (laid.there to lt) (laid.there v x.0) (apart v lives ne x.0)
+                      ∙ x.1.0,
                   x.1.1,
                 ),
               )
@@ -369,10 +405,11 @@ pub record Setting : Type 0 where
   pub rises : Rise at (marks (start_code (procs_code lay procs)))
   pub laid : (n : ℕ) (q : WordProc) (tail : List WordProc) → from_proc n procs ≡ q ∷ tail → IsLaid (lay q.number) q
   pub alone : OfDataAndHeap live
-  pub fits : (n : ℕ) (q : WordProc) (tail : List WordProc) → from_proc n procs ≡ q ∷ tail → (lay q.number).frame + need q ≤ total
+  pub fits : (n : ℕ) (q : WordProc) (tail : List WordProc) → from_proc n procs ≡ q ∷ tail →
+      (lay q.number).frame + q.room + need q ≤ total
   pub chains : (p q : WordProc) (ptail qtail : List WordProc) (before : List WordInstr) (to callee : ℕ) (rest : List WordInstr) →
       from_proc p.number procs ≡ p ∷ ptail → before ++ Call to callee ∷ rest ≡ p.lines → from_proc callee procs ≡ q ∷ qtail →
-      is_counted q.kind ≡ false → (lay q.number).frame + need q ≤ need p
+      is_counted q.kind ≡ false → (lay q.number).frame + q.room + need q ≤ need p
 
 module _ (g : Setting) where
   abbrev pub whole : List LabelLine

@@ -1,8 +1,8 @@
 -- Homes for each procedure are a layout.
-use Rattle.std.proofs.Common.{◌≡◌, ℕ, ◌%◌, ◌≤◌, ◌⊎◌, List, [], ◌∷◌, Bool}
+use Rattle.std.proofs.Common.{◌≡◌, ℕ, ◌+◌, ◌%◌, ◌≤◌, ◌⊎◌, List, [], ◌∷◌, Bool}
 use Rattle.std.proofs.Common.{true, false, inl, inr, refl, sym, ap, subst, ◌∙◌, arith}
-use Rattle.std.specs.Prelude.{max, ◌==◌, not, nat_le, if◌then◌else◌}
-use Rattle.std.proofs.lemmas.Bool.{cases_Bool, and_parts, or_left, or_right, eq-eqb, eqb-true, leb-true, cond-true, cond-false, cond_both, true≢false}
+use Rattle.std.specs.Prelude.{◌==◌, not, nat_le, if◌then◌else◌}
+use Rattle.std.proofs.lemmas.Bool.{cases_Bool, and_parts, or_left, or_right, eq-eqb, eqb-true, leb-true, cond-true, cond-false, true≢false}
 use Rattle.word_code.specs.declared.word.TheConstants.{MOST_VARIABLES}
 use Rattle.word_code.specs.declared.word.WordProc.{WordProc}
 use Rattle.word_code.specs.Words.{from_proc, all_named, is_kind, is_proc, has_number, are_procs}
@@ -11,7 +11,7 @@ use Rattle.reg_scan.specs.declared.homes.Home.TheVariants.{Reg, Frame}
 use Rattle.reg_scan.specs.declared.homes.Homes.{Homes}
 use Rattle.reg_scan.specs.Homes.{home_of, IsPlace, IsHomes}
 use Rattle.rv32_codegen.specs.Code.{proc_code, homes_code}
-use Rattle.rv32_codegen.specs.Stack.{frame_for, most_frame}
+use Rattle.rv32_codegen.specs.Stack.{frame_for, most_size}
 use Rattle.rv32_codegen.specs.Lowering.{AllHomes}
 use Rattle.rv32_codegen.proofs.Lookups.{Layout, procs_code, nil_cons, here, later}
 use Rattle.rv32_codegen.proofs.Frames.{size, IsThere, IsLaid}
@@ -36,13 +36,19 @@ frame_is (p ∷ procs) (h ∷ homes) number =
     of_if true x y = refl
     of_if false x y = refl
 
-pub frame_most : (procs : List WordProc) (homes : List Homes) (number : ℕ) → (homes_for procs homes number).frame ≤ most_frame homes
-frame_most [] homes number = omega arith
-frame_most (p ∷ procs) [] number = omega arith
-frame_most (p ∷ procs) (h ∷ homes) number =
-    let more = frame_most procs homes number in
-    cond_both (p.number == number) h (homes_for procs homes number) (λ x. x.frame ≤ max h.frame (most_frame homes)) (λ e. omega arith)
-    (λ e. omega (arith, more))
+-- what a call of a procedure takes
+pub size_most : (procs : List WordProc) (homes : List Homes) (n : ℕ) (q : WordProc) (tail : List WordProc) → AllHomes procs homes →
+    from_proc n procs ≡ q ∷ tail → (homes_for procs homes n).frame + q.room ≤ most_size procs homes
+size_most [] homes n q tail h e = absurd (nil_cons q tail e)
+size_most (p ∷ procs) [] n q tail h e = absurd h
+size_most (p ∷ procs) (own ∷ homes) n q tail h e = elim (cases_Bool (p.number == n)) [
+  | inl t ↦
+      let is = cond-true (p.number == n) own (homes_for procs homes n) t in
+      omega (arith, ap (λ x. x.frame) is, ap (λ x. x.room) (here n p procs q tail t e).first)
+  | inr f ↦
+      let is = cond-false (p.number == n) own (homes_for procs homes n) f in
+      omega (arith, ap (λ x. x.frame) is, size_most procs homes n q tail h.1 (later n p procs q tail f e))
+]
 
 -- ---- homes of one procedure, by words
 
@@ -64,6 +70,7 @@ laid_by p h is ok =
       some = omega (arith, whole, least);
       there = λ v lt. placed h (home_of h v) whole (is.there v lt);
       few = leb-true p.params p.vars first.0;
+      room = eqb-true (p.room % 4) 0 third.0;
       named = fourth.1;
     }
 

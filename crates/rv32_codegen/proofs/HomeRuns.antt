@@ -1,5 +1,5 @@
 -- What the pieces of label code do that bring words from their homes and put them there.
-use Rattle.std.proofs.Common.{◌≡◌, ◌≢◌, ℕ, ◌+◌, ◌*◌, ◌/◌, ◌%◌, ◌^◌, ◌<◌, ◌≤◌, List, length, get_or}
+use Rattle.std.proofs.Common.{◌≡◌, ◌≢◌, ℕ, ◌+◌, ◌*◌, ◌/◌, ◌%◌, ◌^◌, ◌<◌, ◌≤◌, List, get_or}
 use Rattle.std.proofs.Common.{refl, ap, subst, ◌∙◌, arith}
 use Rattle.arc_base.proofs.ForCallers.{steps_none}
 use Rattle.rv32_isa.specs.declared.instr.Instr.TheVariants.{Addi}
@@ -15,13 +15,14 @@ use Rattle.word_code.specs.Memory.{Memory}
 use Rattle.reg_scan.specs.declared.homes.Home.{Home}
 use Rattle.reg_scan.specs.declared.homes.Home.TheVariants.{Reg, Frame}
 use Rattle.rv32_codegen.specs.Code.{does, seat, bring, move, settle, give}
+use Rattle.rv32_codegen.proofs.StackWords.{words}
 use Rattle.rv32_codegen.proofs.Machine.{run_at, Fits, word_place, Regs, put_other, put_kept, Quiet, Goes_in, goes_within, writes}
 use Rattle.rv32_codegen.proofs.PieceRuns.{Gets, put_gets, Leads, load_goes, save_goes}
 use Rattle.rv32_codegen.proofs.Frees.{free_small, free_above, free_apart, free_kept, kept_apart}
 use Rattle.rv32_codegen.proofs.Frames.{IsThere, word_at, saved, HasWord, Alike, Alike_but}
 
 -- a word of the running call's frame
-pub place_is : (m : Memory) (ws : List ℕ) (j k offset : ℕ) → Fits m ws → 4 * k ≡ offset → j + k < length ws →
+pub place_is : (m : Memory) (ws : List ℕ) (j k offset : ℕ) → Fits m ws → 4 * k ≡ offset → j + k < words ws →
     added (word_place m j) offset ≡ word_place m (j + k)
 place_is m ws j k offset fits e lt = omega (arith, fits.stack_most, e, lt)
 
@@ -62,12 +63,12 @@ pub record Settled (regs new : List ℕ) (home : Home) (value frame places : ℕ
   pub alike : Alike_but (seat 5 home) regs new
 
 module _ (live : Lives) (whole : List LabelLine) (at : Addresses) (m : Memory) (ws input : List ℕ) (j n places : ℕ) (rest : List LabelLine)
-    (quiet : Quiet rest) (fits : Fits m ws) (inside : j + n ≤ length ws) where
+    (quiet : Quiet rest) (fits : Fits m ws) (inside : j + n ≤ words ws) where
   -- registers, and where the frame begins
   abbrev frame : ℕ
   frame = word_place m j
 
-  far : (offset k : ℕ) → 4 * k ≡ offset → j + k < length ws → offset < 2 ^ 32
+  far : (offset k : ℕ) → 4 * k ≡ offset → j + k < words ws → offset < 2 ^ 32
   far offset k e lt = omega (arith, fits.stack_most, e, lt)
 
   pub home_moves : (old : List ℕ) (rd a : ℕ) (home : Home) → IsThere n home → 4 < rd → rd < 32 → word_at old ws j home ≡ a → a < 2 ^ 32 →
@@ -81,9 +82,9 @@ module _ (live : Lives) (whole : List LabelLine) (at : Addresses) (m : Memory) (
         subst (λ x. Gets old (put old rd v) rd x frame places) v_is (put_gets old rd v frame places gt lt kept),
       )
   home_moves old rd a (Frame offset) h gt lt e small kept =
-      let within : j + offset / 4 < length ws = omega (arith, h.1.1, inside) in
+      let within : j + offset / 4 < words ws = omega (arith, h.1.1, inside) in
       load_goes live whole at m ws input old rd offset (j + offset / 4) a frame places rest quiet (far offset (offset / 4) h.0 within)
-      (place_is m ws j (offset / 4) offset fits h.0 within) within fits kept gt lt e small
+      (place_is m ws j (offset / 4) offset fits h.0 within) within fits kept gt lt e
 
   pub home_brings : (old : List ℕ) (other a : ℕ) (home : Home) → IsThere n home → 4 < other → other < 32 → word_at old ws j home ≡ a →
       a < 2 ^ 32 → Regs old frame places →
@@ -116,7 +117,7 @@ module _ (live : Lives) (whole : List LabelLine) (at : Addresses) (m : Memory) (
         },
       )
   home_gives regs rs w (Frame offset) h lt ne e kept =
-      let within : j + offset / 4 < length ws = omega (arith, h.1.1, inside) in
+      let within : j + offset / 4 < words ws = omega (arith, h.1.1, inside) in
       let x = save_goes live whole at m ws input regs rs offset (j + offset / 4) w frame places rest quiet (far offset (offset / 4) h.0 within)
       (place_is m ws j (offset / 4) offset fits h.0 within) within fits kept ne e in
       (x.0, x.1, record { kept = x.2.kept; has = tt; alike = λ r kept apart. x.2.other r (kept_apart r 7 kept refl) })

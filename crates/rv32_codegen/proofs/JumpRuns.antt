@@ -100,8 +100,8 @@ module _ (g : Setting) where
       let r = Here g t l rest regs ws j f in
       let lives : Alive p.lines left (l ∷ rest) = read_by (inl refl) in
       let also : Alive p.lines right (l ∷ rest) = read_by (inr refl) in
-      using_sim g r t rest (t.frame.vars left) _ (λ a e.
-      using_sim g r t rest (t.frame.vars right) _ (λ b d.
+      using_sim g ws r t rest (t.frame.vars left) _ (λ a e.
+      using_sim g ws r t rest (t.frame.vars right) _ (λ b d.
       let branch = Branch (compare x) first second (Inner p.number to) ∷ k in
       let y = both_go g t (l ∷ rest) regs ws j f left right a b branch refl lives also e d in
       let s = state_of y.0 t.memory ws in
@@ -112,7 +112,7 @@ module _ (g : Setting) where
       ap (λ n. if label_holds (compare x) n (get_or y.0 second 0) then yes else no) y.2.first
       ∙ ap (λ n. if label_holds (compare x) a n then yes else no) y.2.second
       ∙ ap (λ c. if c then yes else no) (holds_same x a b) in
-      if_sim g r t rest (holds x a b) _ _
+      if_sim g ws r t rest (holds x a b) _ _
       (λ h. jumped_sim t r (from_label to p.lines) (λ found c.
       let goes = goes_there t (l ∷ rest) found regs y.0 ws j to f branch c (test_is ∙ cond-true (holds x a b) yes no h) in
       sim_goes g r _ t (at_lines t found) 1 7 (then_goes g.live (whole g) g.at 0 1 6 1 r mid _ y.1 goes) (omega arith) (omega arith)

@@ -1,4 +1,4 @@
-mod Area
+mod StackWords
 mod Machine
 mod PieceRuns
 mod Wider
@@ -18,6 +18,7 @@ mod Access
 mod Calls
 mod Returns
 mod Start
+mod Followed
 mod Depth
 mod HomeFrames
 mod Whole

@@ -26,6 +26,7 @@ use Rattle.reg_scan.specs.Alive.{effect_of, IsOne, Alive, read_by, kept_by}
 use Rattle.reg_scan.specs.Homes.{home_of}
 use Rattle.rv32_codegen.specs.Code.{does, operate, datum_at, seat, bring, move, settle, give, is_call_or_label, only_calls, target, left_of, right_of}
 use Rattle.rv32_codegen.specs.Code.{negative, sum, bring_both, keep, place_at}
+use Rattle.rv32_codegen.proofs.StackWords.{words}
 use Rattle.rv32_codegen.proofs.Machine.{state_of, run_at, fits_words, word_place, Regs, Quiet, quiet_does, Goes_in, then_goes, goes_within}
 use Rattle.rv32_codegen.proofs.Machine.{writes}
 use Rattle.rv32_codegen.proofs.PieceRuns.{Gets, put_gets, Leads, constant_any, datum_any, sum_any}
@@ -60,20 +61,21 @@ module _ (g : Setting) where
       Rel g s t' → Sim g r t (on t')
   sim_goes r s t t' least n h pos le rel = (s, least, goes_within g.live (whole g) g.at least least n 16 r s (omega arith) le h, rel, inl pos)
 
-  -- what comes of what a line did
-  abbrev pub Sim_did : LabelRun → WordState → List WordInstr → WordDid → Type 0
-  Sim_did r t rest d = Sim g r t (settled g.live g.procs t rest d)
+  -- what comes of what a line did, where the places of a call would bring these bytes with them
+  abbrev pub Sim_did : (bytes : List ℕ) → LabelRun → WordState → List WordInstr → WordDid → Type 0
+  Sim_did bytes r t rest d = Sim g r t (settled g.live g.procs bytes t rest d)
 
-  pub using_sim : (r : LabelRun) (t : WordState) (rest : List WordInstr) (o : Option ℕ) (go : ℕ → WordDid) →
-      ((a : ℕ) → o ≡ Some a → Sim_did r t rest (go a)) →
-      Sim_did r t rest (using o go)
-  using_sim r t rest None go h = tt
-  using_sim r t rest (Some a) go h = h a refl
+  pub using_sim : (bytes : List ℕ) (r : LabelRun) (t : WordState) (rest : List WordInstr) (o : Option ℕ) (go : ℕ → WordDid) →
+      ((a : ℕ) → o ≡ Some a → Sim_did bytes r t rest (go a)) →
+      Sim_did bytes r t rest (using o go)
+  using_sim bytes r t rest None go h = tt
+  using_sim bytes r t rest (Some a) go h = h a refl
 
-  pub if_sim : (r : LabelRun) (t : WordState) (rest : List WordInstr) (b : Bool) (x y : WordDid) → (b ≡ true → Sim_did r t rest x) →
-      (b ≡ false → Sim_did r t rest y) → Sim_did r t rest (if b then x else y)
-  if_sim r t rest true x y h k = h refl
-  if_sim r t rest false x y h k = k refl
+  pub if_sim : (bytes : List ℕ) (r : LabelRun) (t : WordState) (rest : List WordInstr) (b : Bool) (x y : WordDid) →
+      (b ≡ true → Sim_did bytes r t rest x) →
+      (b ≡ false → Sim_did bytes r t rest y) → Sim_did bytes r t rest (if b then x else y)
+  if_sim bytes r t rest true x y h k = h refl
+  if_sim bytes r t rest false x y h k = k refl
 
   -- ---- the running call
 
@@ -81,8 +83,8 @@ module _ (g : Setting) where
   laid_of t lines s = g.laid t.frame.proc.number t.frame.proc s.tail s.found
 
   module _ (t : WordState) (lines : List WordInstr) (regs ws : List ℕ) (j : ℕ) (f : True g t lines regs ws j) where
-    pub inside_of : j + size (homes t) ≤ length ws
-    inside_of = linked_inside g.lay g.procs g.need g.total (whole g) g.at ws j t.frame.proc t.frame.base t.callers f.linked
+    pub inside_of : j + size (homes t) ≤ words ws
+    inside_of = linked_inside g.lay g.procs g.need g.total (whole g) g.at ws j t.frame.proc t.frame.base 0 t.callers f.linked
 
     -- there are words for all arguments below the frame
     pub arguments_fit : MOST_ARGUMENTS ≤ j
@@ -161,10 +163,10 @@ module _ (g : Setting) where
   abbrev pub Here : (t : WordState) (l : WordInstr) (rest : List WordInstr) (regs ws : List ℕ) (j : ℕ) → True g t (l ∷ rest) regs ws j → LabelRun
   Here t l rest regs ws j f = run_at regs t.memory ws t.input (code_here g.lay g.procs t.frame.proc (l ∷ rest) f.sits)
 
-  -- a line is done
+  -- a line is done; a call's places take what stands behind those that are there
   abbrev pub Line_sim : WordInstr → Type 0
   Line_sim l = (t : WordState) (rest : List WordInstr) (regs ws : List ℕ) (j : ℕ) (f : True g t (l ∷ rest) regs ws j) →
-      Sim g (Here t l rest regs ws j f) t (settled g.live g.procs t rest (word_does (scene_of t) l))
+      Sim g (Here t l rest regs ws j f) t (settled g.live g.procs ws t rest (word_does (scene_of t) l))
 
   pub named_of : (t : WordState) (l : WordInstr) (rest : List WordInstr) → Sits g.lay g.procs t.frame.proc (l ∷ rest) →
       are_named t.frame.proc.vars l ≡ true
@@ -199,7 +201,7 @@ module _ (g : Setting) where
       let there = laid.there to lt in
       let inside = inside_of t (l ∷ rest) regs ws j f in
       let above = target_above t (l ∷ rest) to f.sits lt in
-      let long : length ws' ≡ length ws = length-saved ws j home value in
+      let long : length ws' ≡ length ws = length-saved ws j (size h) inside home value there in
       let apart : (v : ℕ) → Alive p.lines v rest → v ≢ to → v < p.vars → home_of h v ≢ home =
       λ v lives ne less. laid.homes.apart f.sits.before rest l v to f.sits.split line.is lives ne less lt in
       record {
@@ -216,12 +218,13 @@ module _ (g : Setting) where
               ),
             )) apart x.has;
         given = λ i w e. let y = f.given i w e in
-            (y.0, saved_outside ws j (size h) (j - suc i) home value there (inl (omega arith)) ∙ y.1, y.2);
-        linked = linked_kept g.lay g.procs g.need g.total (whole g) g.at ws ws' j p t.frame.base t.callers long
-            (λ k o. saved_outside ws j (size h) k home value there (elim o [ inl e ↦ inl (omega (arith, e)) | inr le ↦ inr le ])) f.linked;
+            (y.0, saved_outside ws j (size h) inside (j - suc i) home value there (inl (omega arith)) ∙ y.1, y.2);
+        linked = linked_kept g.lay g.procs g.need g.total (whole g) g.at ws ws' j p t.frame.base 0 t.callers long
+            (λ k o. saved_outside ws j (size h) inside k home value there (elim o [ inl e ↦ inl (omega (arith, e)) | inr le ↦ inr le ])) f.linked;
         leaf = λ leaf more. x.alike 1 refl (λ e. omega (arith, e, above)) ∙ f.leaf leaf (and_right (is_call_or_label l) (only_calls rest) more)
-            ∙ sym (saved_outside ws j (size h) j home value there (inl (omega arith)));
+            ∙ sym (saved_outside ws j (size h) inside j home value there (inl (omega arith)));
         deep = f.deep;
+        roomy = f.roomy;
       }
 
   -- registers that lines keep, but the one that is computed into, are as they were, and others still
@@ -290,6 +293,7 @@ module _ (g : Setting) where
     linked = f.linked;
     leaf = λ leaf some. same 1 refl ∙ f.leaf leaf (returns some);
     deep = f.deep;
+    roomy = f.roomy;
   }
 
   -- a line from which control goes on to the next one, and which sets nothing
@@ -364,7 +368,7 @@ module _ (g : Setting) where
       let lt = ltb-true to vars named.0 in
       let rd = target (homes t) to in
       let r = Here t l rest regs ws j f in
-      using_sim r t rest (t.frame.vars from) _ (λ a e.
+      using_sim ws r t rest (t.frame.vars from) _ (λ a e.
       let lives : Alive t.frame.proc.lines from (l ∷ rest) = read_by (inl refl) in
       let x = var_moves t (l ∷ rest) regs ws j f regs rd from a _ (keep_quiet t l rest regs ws j f to) (target_above t (l ∷ rest) to f.sits lt)
       (target_small t (l ∷ rest) to f.sits lt) lives e f.kept (alike_refl regs) in
@@ -410,8 +414,8 @@ module _ (g : Setting) where
       let under = target_small t (l ∷ rest) to f.sits lt in
       let lives : Alive t.frame.proc.lines left (l ∷ rest) = read_by (inl refl) in
       let also : Alive t.frame.proc.lines right (l ∷ rest) = read_by (inr refl) in
-      using_sim r t rest (t.frame.vars left) _ (λ a e.
-      using_sim r t rest (t.frame.vars right) _ (λ b k.
+      using_sim ws r t rest (t.frame.vars left) _ (λ a e.
+      using_sim ws r t rest (t.frame.vars right) _ (λ b k.
       let x = both_go t (l ∷ rest) regs ws j f left right a b (Do i ∷ last) refl lives also e k in
       let v = computed o (get_or x.0 (left_of h left) 0) (get_or x.0 (right_of h right) 0) in
       let y = writes g.live (whole g) g.at m ws t.input x.0 i rd v last (keep_quiet t l rest regs ws j f to)
@@ -440,7 +444,7 @@ module _ (g : Setting) where
       let above = target_above t (l ∷ rest) to f.sits lt in
       let under = target_small t (l ∷ rest) to f.sits lt in
       let lives : Alive t.frame.proc.lines from (l ∷ rest) = read_by (inl refl) in
-      using_sim r t rest (t.frame.vars from) _ (λ a e.
+      using_sim ws r t rest (t.frame.vars from) _ (λ a e.
       let there = (laid_of t (l ∷ rest) f.sits).there from (f.held from a lives e).0 in
       let quiet = quiet_does (sum rd rs value) last (keep_quiet t l rest regs ws j f to) in
       let x = var_brought t (l ∷ rest) regs ws j f regs 6 from a (does (sum rd rs value) last) quiet (omega arith) (omega arith) lives e f.kept

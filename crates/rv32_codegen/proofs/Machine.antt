@@ -1,4 +1,4 @@
--- Label code's machine with the memory of word code, and with the words of frames behind the places; and steps of it.
+-- Label code's machine with the memory of word code, and with the rest of the stack behind the places; and steps of it.
 use Rattle.std.proofs.Common.{◌≡◌, ◌≢◌, ℕ, zero, suc, ◌+◌, ◌*◌, ◌%◌, ◌<◌, ◌≤◌, List, [], ◌∷◌, ◌++◌}
 use Rattle.std.proofs.Common.{length, get_or, refl, ap, ◌∙◌, arith}
 use Rattle.std.proofs.Common.{length-append}
@@ -20,12 +20,11 @@ use Rattle.rv32_logic.specs.Registers.{put, IsRegs}
 use Rattle.rv32_logic.proofs.ForCallers.{put_regs}
 use Rattle.word_code.specs.Memory.{Memory}
 use Rattle.rv32_codegen.specs.Code.{does}
-use Rattle.rv32_codegen.proofs.Area.{area, length-area}
 
 -- ---- states
 
 abbrev pub state_of : (regs : List ℕ) → Memory → (ws : List ℕ) → State
-state_of regs m ws = record { regs = regs; pc = 0; code = []; statics = m.statics; heap = m.heap; stack = m.places ++ area ws }
+state_of regs m ws = record { regs = regs; pc = 0; code = []; statics = m.statics; heap = m.heap; stack = m.places ++ ws }
 
 abbrev pub run_at : (regs : List ℕ) → Memory → (ws input : List ℕ) → List LabelLine → LabelRun
 run_at regs m ws input left = record { state = state_of regs m ws; left = left; input = input }
@@ -34,7 +33,7 @@ run_at regs m ws input left = record { state = state_of regs m ws; left = left; 
 pub record Fits (m : Memory) (ws : List ℕ) : Type 0 where
   pub statics_most : length m.statics ≤ 1048576
   pub heap_most : length m.heap ≤ 16777216
-  pub stack_most : length m.places + 4 * length ws ≤ 268435456
+  pub stack_most : length m.places + length ws ≤ 268435456
   pub whole : length m.places % 4 ≡ 0
 
 pub regions : (regs : List ℕ) (m : Memory) (ws : List ℕ) → Fits m ws → HasRegions (state_of regs m ws)
@@ -42,10 +41,10 @@ regions regs m ws h = record {
   code_most = omega arith;
   statics_most = h.statics_most;
   heap_most = h.heap_most;
-  stack_most = omega (arith, length-append m.places (area ws), length-area ws, h.stack_most);
+  stack_most = omega (arith, length-append m.places ws, h.stack_most);
 }
 
--- the same memory with as many words
+-- the same memory with as many bytes behind the places
 pub fits_words : (m : Memory) (ws new : List ℕ) → length new ≡ length ws → Fits m ws → Fits m new
 fits_words m ws new long h = record {
   statics_most = h.statics_most;

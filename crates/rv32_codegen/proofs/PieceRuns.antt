@@ -1,6 +1,6 @@
 -- What the pieces of label code do: constants, sums, loads and saves of words of the frames.
 use Rattle.std.proofs.Common.{◌≡◌, ◌≢◌, ℕ, ◌+◌, ◌-◌, ◌*◌, ◌%◌, ◌^◌, ◌<◌, ◌≤◌, List, [], ◌∷◌}
-use Rattle.std.proofs.Common.{◌++◌, length, get_or, set, Some, true, refl, sym, ap, subst, ◌∙◌, arith}
+use Rattle.std.proofs.Common.{◌++◌, length, take, drop, get_or, Some, true, refl, sym, ap, subst, ◌∙◌, arith}
 use Rattle.std.proofs.Common.{length-append}
 use Rattle.std.specs.Prelude.{Bool, nat_lt, ◌==◌, if◌then◌else◌}
 use Rattle.std.proofs.lemmas.Bool.{ltb-true, ltb-false, eqb-true, cond_both}
@@ -18,12 +18,12 @@ use Rattle.rv32_isa.specs.Steps.{signed12}
 use Rattle.rv32_isa.specs.Machine.{Lives}
 use Rattle.rv32_isa.specs.Labels.{Addresses}
 use Rattle.rv32_isa.specs.LabelsMeaning.{led, hook_at, step}
-use Rattle.rv32_isa.proofs.ForCallers.{little-word_bytes, length-word_bytes}
+use Rattle.rv32_isa.proofs.ForCallers.{length-word_bytes}
 use Rattle.rv32_logic.specs.Registers.{put, IsRegs}
 use Rattle.rv32_logic.proofs.ForCallers.{put_regs, put_same, constant_is, stack_read, stack_may, stack_put, lw_goes, sw_goes}
 use Rattle.word_code.specs.Memory.{Memory}
 use Rattle.rv32_codegen.specs.Code.{does, is_near, lower, upper, negative, constant, datum, sum, shift, load, save}
-use Rattle.rv32_codegen.proofs.Area.{area, length-area, area_read, area_put, word_bytes-low}
+use Rattle.rv32_codegen.proofs.StackWords.{words, word_in, put_word, word_read, word_put, word_bytes-low}
 use Rattle.rv32_codegen.proofs.Machine.{state_of, run_at, Fits, regions, word_place, Regs, put_other, put_kept, Quiet}
 use Rattle.rv32_codegen.proofs.Machine.{Goes_in, then_goes, goes_within, instr_goes, writes}
 
@@ -269,18 +269,16 @@ module _ (live : Lives) (whole : List LabelLine) (at : Addresses) (m : Memory) (
   -- a load of a word whose address is so far from a register
   pub lw_at : (regs : List ℕ) (rd rs offset k w : ℕ) (rest : List LabelLine) → Quiet rest →
       added (get_or regs rs 0) (signed12 offset) ≡ word_place m k →
-      k < length ws → get_or ws k 0 ≡ w → w < 2 ^ 32 → Fits m ws →
+      k < words ws → word_in ws k ≡ w → Fits m ws →
       Goes_in live whole at 1 1 (run_at regs m ws input (Do (Lw rd rs offset) ∷ rest)) (run_at (put regs rd w) m ws input rest)
-  lw_at regs rd rs offset k w rest quiet place within word_is fits room =
+  lw_at regs rd rs offset k w rest quiet place within word_is room =
       let s = state_of regs m ws in
       let at_k = word_place m k in
-      let bytes = word_bytes (get_or ws k 0) in
+      let bytes = take 4 (drop (length m.places + 4 * k) (m.places ++ ws)) in
       let whole_words = room.whole in
       let read : readable s at_k 4 ≡ Some bytes =
-      stack_read s (length m.places + 4 * k) 4 (regions regs m ws room) (omega arith)
-      (omega (arith, length-append m.places (area ws), length-area ws, within))
-      ∙ ap Some (area_read m.places ws k within) in
-      let value : little bytes ≡ w = ap (λ n. little (word_bytes n)) word_is ∙ little-word_bytes w fits in
+      stack_read s (length m.places + 4 * k) 4 (regions regs m ws room) (omega arith) (omega (arith, length-append m.places ws, within)) in
+      let value : little bytes ≡ w = word_read m.places ws k ∙ word_is in
       let goes = lw_goes s 0 0 rd rs offset at_k bytes place (omega arith) read in
       instr_goes live whole at m ws input regs (Lw rd rs offset) (state_of (put regs rd w) m ws) rest quiet
       (ap (led live whole at (run_at regs m ws input (Do (Lw rd rs offset) ∷ rest)) rest) goes
@@ -289,22 +287,22 @@ module _ (live : Lives) (whole : List LabelLine) (at : Addresses) (m : Memory) (
   -- a store to it
   pub sw_at : (regs : List ℕ) (rs1 rs offset k w : ℕ) (rest : List LabelLine) → Quiet rest →
       added (get_or regs rs1 0) (signed12 offset) ≡ word_place m k →
-      k < length ws → get_or regs rs 0 ≡ w → Fits m ws →
-      Goes_in live whole at 1 1 (run_at regs m ws input (Do (Sw rs1 rs offset) ∷ rest)) (run_at regs m (set ws k (w % 2 ^ 32)) input rest)
+      k < words ws → get_or regs rs 0 ≡ w → Fits m ws →
+      Goes_in live whole at 1 1 (run_at regs m ws input (Do (Sw rs1 rs offset) ∷ rest)) (run_at regs m (put_word ws k (w % 2 ^ 32)) input rest)
   sw_at regs rs1 rs offset k w rest quiet place within word_is room =
       let s = state_of regs m ws in
       let at_k = word_place m k in
       let d = length m.places + 4 * k in
       let whole_words = room.whole in
-      let new = set ws k (w % 2 ^ 32) in
+      let new = put_word ws k (w % 2 ^ 32) in
       let next = state_of regs m new in
       let four = length-word_bytes w in
-      let inside : d + 4 ≤ length s.stack = omega (arith, length-append m.places (area ws), length-area ws, within) in
+      let inside : d + 4 ≤ length s.stack = omega (arith, length-append m.places ws, within) in
       let is : filled s at_k (word_bytes (reg s rs)) ≡ next =
       ap (λ n. filled s at_k (word_bytes n)) word_is
       ∙ stack_put s d (word_bytes w) (regions regs m ws room) (omega (arith, four)) (omega (arith, four, inside))
       ∙ ap (λ l. record s { stack = put_bytes s.stack d l }) (word_bytes-low w)
-      ∙ ap (λ l. record s { stack = l }) (area_put m.places ws k within (w % 2 ^ 32)) in
+      ∙ ap (λ l. record s { stack = l }) (word_put m.places ws k (w % 2 ^ 32)) in
       let goes = sw_goes s next 0 0 rs1 rs offset at_k place (omega arith) (stack_may s d 4 inside) is in
       instr_goes live whole at m ws input regs (Sw rs1 rs offset) next rest quiet
       (ap (led live whole at (run_at regs m ws input (Do (Sw rs1 rs offset) ∷ rest)) rest) goes)
@@ -346,18 +344,18 @@ module _ (live : Lives) (whole : List LabelLine) (at : Addresses) (m : Memory) (
 
   -- a word that is so far from where the frame begins, into a register
   module _ (regs : List ℕ) (rd offset k w frame places : ℕ) (rest : List LabelLine) (quiet : Quiet rest) (fits : offset < 2 ^ 32)
-      (place : added frame offset ≡ word_place m k) (within : k < length ws) (room : Fits m ws) (h : Regs regs frame places) where
-    pub load_goes : 4 < rd → rd < 32 → get_or ws k 0 ≡ w → w < 2 ^ 32 →
+      (place : added frame offset ≡ word_place m k) (within : k < words ws) (room : Fits m ws) (h : Regs regs frame places) where
+    pub load_goes : 4 < rd → rd < 32 → word_in ws k ≡ w →
         Leads 1 3 regs (load rd offset) rest (λ new. Gets regs new rd w frame places)
-    load_goes gt lt word_is small =
+    load_goes gt lt word_is =
         cond_both (is_near offset) (Lw rd 2 (lower offset) ∷ []) (Lui rd (upper offset) ∷ Add rd rd 2 ∷ Lw rd rd (lower offset) ∷ [])
         (λ is. Leads 1 3 regs is rest (λ new. Gets regs new rd w frame places))
         (λ near.
-        let a = lw_at regs rd 2 (lower offset) k w rest quiet (near_place regs offset frame places fits near h ∙ place) within word_is small room in
+        let a = lw_at regs rd 2 (lower offset) k w rest quiet (near_place regs offset frame places fits near h ∙ place) within word_is room in
         (put regs rd w, goes_within live whole at 1 1 1 3 _ _ (omega arith) (omega arith) a, put_gets regs rd w frame places gt lt h))
         (λ far.
         let x = reach_goes regs rd offset frame places (Do (Lw rd rd (lower offset)) ∷ rest) refl gt lt fits h in
-        let a = lw_at x.0 rd rd (lower offset) k w rest quiet (x.2.place ∙ place) within word_is small room in
+        let a = lw_at x.0 rd rd (lower offset) k w rest quiet (x.2.place ∙ place) within word_is room in
         let y = put_gets x.0 rd w frame places gt lt x.2.kept in (
           put x.0 rd w,
           goes_within live whole at 3 1 3 3 _ _ (omega arith) (omega arith) (then_goes live whole at 2 1 2 1 _ _ _ x.1 a),
@@ -366,11 +364,11 @@ module _ (live : Lives) (whole : List LabelLine) (at : Addresses) (m : Memory) (
 
     -- a register into such a word
     pub save_goes : rd ≢ 7 → get_or regs rd 0 ≡ w → (new : List ℕ)
-        × Goes_in live whole at 1 3 (run_at regs m ws input (does (save rd offset) rest)) (run_at new m (set ws k (w % 2 ^ 32)) input rest)
+        × Goes_in live whole at 1 3 (run_at regs m ws input (does (save rd offset) rest)) (run_at new m (put_word ws k (w % 2 ^ 32)) input rest)
         × Saves regs new frame places
     save_goes ne word_is =
         cond_both (is_near offset) (Sw 2 rd (lower offset) ∷ []) (Lui 7 (upper offset) ∷ Add 7 7 2 ∷ Sw 7 rd (lower offset) ∷ [])
-        (λ is. (new : List ℕ) × Goes_in live whole at 1 3 (run_at regs m ws input (does is rest)) (run_at new m (set ws k (w % 2 ^ 32)) input rest)
+        (λ is. (new : List ℕ) × Goes_in live whole at 1 3 (run_at regs m ws input (does is rest)) (run_at new m (put_word ws k (w % 2 ^ 32)) input rest)
         × Saves regs new frame places)
         (λ near.
         let a = sw_at regs 2 rd (lower offset) k w rest quiet (near_place regs offset frame places fits near h ∙ place) within word_is room in

@@ -2,7 +2,7 @@
 use Rattle.std.proofs.Common.{◌≡◌, ℕ, zero, suc, ◌+◌, ◌-◌, ◌*◌, ◌/◌, ◌^◌, ◌<◌, ◌≤◌, List, [], ◌∷◌}
 use Rattle.std.proofs.Common.{length, Bool, true, false, Option, Some, None}
 use Rattle.std.proofs.Common.{refl, sym, ap, subst, ◌∙◌, arith, inl, inr, drop, get_or}
-use Rattle.std.specs.Prelude.{max, nat_eq, ◌==◌, if◌then◌else◌}
+use Rattle.std.specs.Prelude.{nat_eq, ◌==◌, if◌then◌else◌}
 use Rattle.std.specs.HashMap.{HashMap, get}
 use Rattle.std.specs.Map.{lookup}
 use Rattle.std.proofs.lemmas.Bool.{cases_Bool, cond-true, cond-false}
@@ -10,14 +10,14 @@ use Rattle.std.proofs.lemmas.List.{drop_more, drop_all}
 use Rattle.word_code.specs.declared.word.TheConstants.{MOST_ARGUMENTS, SPARE_ROOM}
 use Rattle.word_code.specs.declared.word.WordInstr.{WordInstr}
 use Rattle.word_code.specs.declared.word.WordProc.{WordProc}
-use Rattle.word_code.specs.Words.{is_counted, most_calls, from_proc, callee_of, taken_for, most_called, most_chain, uncounted, chain, longest, most_room}
+use Rattle.word_code.specs.Words.{is_counted, most_calls, from_proc, callee_of, taken_for, most_called, most_chain, uncounted, chain, longest}
 use Rattle.reg_scan.specs.declared.homes.Homes.{Homes}
-use Rattle.rv32_codegen.specs.Stack.{frame_for, most_frame, stack_need}
-use Rattle.rv32_codegen.specs.Chains.{cut, number_for, chain_from, chains_from, most_of, rooms_of, frames_of, none_of, cut_chain}
+use Rattle.rv32_codegen.specs.Stack.{frame_for, call_size, most_size, stack_need}
+use Rattle.rv32_codegen.specs.Chains.{cut, number_for, chain_from, chains_from, most_of, sizes_of, none_of, cut_chain}
 use Rattle.rv32_codegen.specs.Chains.{AreLongest, taken_at, by_index, LeadsFrom, IsIndex}
 use Rattle.rv32_codegen.specs.Chains.{IsCallSize}
 use Rattle.rv32_codegen.specs.Lowering.{AllHomes}
-use Rattle.rv32_codegen.proofs.Lookups.{nil_cons, here, later}
+use Rattle.rv32_codegen.proofs.Lookups.{nil_cons, here, later, number_is}
 
 -- ---- rounds
 
@@ -105,9 +105,9 @@ look_chains taken n (p ∷ procs) (size ∷ sizes) e =
           ∙ ap (found_chain taken (from_proc n procs)) (cond-false (p.number == n) size (number_for procs sizes n) f))
     ]
 
--- the sizes are those of the first procedures of each number
+-- the sizes are those of the first procedures of each number, cut
 abbrev pub AreSizes : List WordProc → List ℕ → (WordProc → ℕ) → Type 0
-AreSizes procs sizes size = (n : ℕ) (q : WordProc) (tail : List WordProc) → from_proc n procs ≡ q ∷ tail → number_for procs sizes n ≡ size q
+AreSizes procs sizes size = (n : ℕ) (q : WordProc) (tail : List WordProc) → from_proc n procs ≡ q ∷ tail → number_for procs sizes n ≡ cut (size q)
 
 module _ (procs : List WordProc) (sizes : List ℕ) (size : WordProc → ℕ) (long : length sizes ≡ length procs) (are : AreSizes procs sizes size) where
   cut_found : (f : ℕ → ℕ) (n : ℕ) (found : List WordProc) → from_proc n procs ≡ found →
@@ -118,7 +118,7 @@ module _ (procs : List WordProc) (sizes : List ℕ) (size : WordProc → ℕ) (l
       let is = are n q tail e in
       by_count (is_counted q.kind) k (size q) (most_called (λ m. cut (f m)) q.lines) (most_called f q.lines) is (most_cut f q.lines)
     where
-      by_count : (b : Bool) (k s a m : ℕ) → k ≡ s → a ≡ cut m → (if b then 0 else cut (k + a)) ≡ cut (if b then 0 else s + m)
+      by_count : (b : Bool) (k s a m : ℕ) → k ≡ cut s → a ≡ cut m → (if b then 0 else cut (k + a)) ≡ cut (if b then 0 else s + m)
       by_count true k s a m e d = refl
       by_count false k s a m e d = omega (arith, e, d)
 
@@ -133,78 +133,56 @@ module _ (procs : List WordProc) (sizes : List ℕ) (size : WordProc → ℕ) (l
   pub longest_cut : most_chain (cut_chain procs sizes (length procs)) procs ≡ cut (longest procs size)
   longest_cut = ap (λ f. most_chain f procs) (λ i n. cut_is (length procs) n i) ∙ chain_cut (chain procs size (length procs)) procs
 
--- ---- places
+-- ---- sizes
 
-length-rooms : (procs : List WordProc) → length (rooms_of procs) ≡ length procs
-length-rooms [] = refl
-length-rooms (p ∷ procs) = ap suc (length-rooms procs)
+pub length-sizes : (procs : List WordProc) (homes : List Homes) → AllHomes procs homes → length (sizes_of procs homes) ≡ length procs
+length-sizes [] homes h = refl
+length-sizes (p ∷ procs) [] h = absurd h
+length-sizes (p ∷ procs) (x ∷ homes) h = ap suc (length-sizes procs homes h.1)
 
-are_rooms : (procs : List WordProc) → AreSizes procs (rooms_of procs) (λ p. p.room)
-are_rooms [] n q tail e = absurd (nil_cons q tail e)
-are_rooms (p ∷ procs) n q tail e = elim (cases_Bool (p.number == n)) [
-  | inl t ↦ cond-true (p.number == n) p.room (number_for procs (rooms_of procs) n) t ∙ ap (λ x. x.room) (here n p procs q tail t e).first
-  | inr f ↦ cond-false (p.number == n) p.room (number_for procs (rooms_of procs) n) f ∙ are_rooms procs n q tail (later n p procs q tail f e)
+-- there are as many homes as procedures
+pub same_long : (procs : List WordProc) (homes : List Homes) → AllHomes procs homes → length homes ≡ length procs
+same_long [] [] h = refl
+same_long [] (x ∷ homes) h = absurd h
+same_long (p ∷ procs) [] h = absurd h
+same_long (p ∷ procs) (x ∷ homes) h = ap suc (same_long procs homes h.1)
+
+-- the first procedure of a number has the frame and the room of that number
+size_found : (procs : List WordProc) (homes : List Homes) → AllHomes procs homes → (n : ℕ) (q : WordProc) (tail : List WordProc) →
+    from_proc n procs ≡ q ∷ tail → number_for procs (sizes_of procs homes) n ≡ cut (frame_for procs homes n + q.room)
+size_found [] homes h n q tail e = absurd (nil_cons q tail e)
+size_found (p ∷ procs) [] h n q tail e = absurd h
+size_found (p ∷ procs) (x ∷ homes) h n q tail e = elim (cases_Bool (p.number == n)) [
+  | inl t ↦
+      cond-true (p.number == n) (cut (x.frame + p.room)) (number_for procs (sizes_of procs homes) n) t
+      ∙ ap (λ r. cut (x.frame + r.room)) (here n p procs q tail t e).first
+      ∙ sym (ap (λ f. cut (f + q.room)) (cond-true (p.number == n) x.frame (frame_for procs homes n) t))
+  | inr f ↦
+      cond-false (p.number == n) (cut (x.frame + p.room)) (number_for procs (sizes_of procs homes) n) f
+      ∙ size_found procs homes h.1 n q tail (later n p procs q tail f e)
+      ∙ sym (ap (λ k. cut (k + q.room)) (cond-false (p.number == n) x.frame (frame_for procs homes n) f))
 ]
 
-most_rooms : (procs : List WordProc) → most_of (rooms_of procs) ≡ most_room procs
-most_rooms [] = refl
-most_rooms (p ∷ procs) = ap (max p.room) (most_rooms procs)
+are_sizes : (procs : List WordProc) (homes : List Homes) → AllHomes procs homes → AreSizes procs (sizes_of procs homes) (call_size procs homes)
+are_sizes procs homes h n q tail e =
+    size_found procs homes h n q tail e ∙ ap (λ m. cut (frame_for procs homes m + q.room)) (sym (number_is n procs q tail e))
 
--- ---- frames
-
-length-frames : (procs : List WordProc) (homes : List Homes) → AllHomes procs homes → length (frames_of homes) ≡ length procs
-length-frames [] [] h = refl
-length-frames [] (x ∷ homes) h = absurd h
-length-frames (p ∷ procs) [] h = absurd h
-length-frames (p ∷ procs) (x ∷ homes) h = ap suc (length-frames procs homes h.1)
-
-same_frame : (procs : List WordProc) (homes : List Homes) (n : ℕ) → number_for procs (frames_of homes) n ≡ frame_for procs homes n
-same_frame [] homes n = refl
-same_frame (p ∷ procs) [] n = refl
-same_frame (p ∷ procs) (h ∷ homes) n = ap (λ m. if p.number == n then h.frame else m) (same_frame procs homes n)
-
-number_of_found : (n : ℕ) (procs : List WordProc) (q : WordProc) (tail : List WordProc) → from_proc n procs ≡ q ∷ tail → q.number ≡ n
-number_of_found n [] q tail e = absurd (nil_cons q tail e)
-number_of_found n (p ∷ procs) q tail e = elim (cases_Bool (p.number == n)) [
-  | inl t ↦ let h = here n p procs q tail t e in ap (λ x. x.number) (sym h.first) ∙ h.number
-  | inr f ↦ number_of_found n procs q tail (later n p procs q tail f e)
-]
-
-most_frames : (homes : List Homes) → most_of (frames_of homes) ≡ most_frame homes
-most_frames [] = refl
-most_frames (h ∷ homes) = ap (max h.frame) (most_frames homes)
+most_sizes : (procs : List WordProc) (homes : List Homes) → most_of (sizes_of procs homes) ≡ cut (most_size procs homes)
+most_sizes [] homes = refl
+most_sizes (p ∷ procs) [] = refl
+most_sizes (p ∷ procs) (x ∷ homes) = let more = most_sizes procs homes in omega (arith, more)
 
 -- ---- the whole
 
-pub rooms_long : (procs : List WordProc) (sizes : List ℕ) → sizes ≡ rooms_of procs → length sizes ≡ length procs
-rooms_long procs sizes e = ap length e ∙ length-rooms procs
-
-pub frames_long : (procs : List WordProc) (homes : List Homes) (sizes : List ℕ) → AllHomes procs homes → sizes ≡ frames_of homes →
-    length sizes ≡ length procs
-frames_long procs homes sizes h e = ap length e ∙ length-frames procs homes h
-
 module _ (procs : List WordProc) (homes : List Homes) (all : AllHomes procs homes) where
-  places_call : (size : ℕ) → IsCallSize procs (rooms_of procs) size →
-      size ≡ most_room procs + cut (longest procs (λ p. p.room))
-  places_call size h =
-      let a = longest_cut procs (rooms_of procs) (λ p. p.room) (length-rooms procs) (are_rooms procs) in
-      omega (arith, h.is, a, most_rooms procs)
+  size_is : (size : ℕ) → IsCallSize procs (sizes_of procs homes) size → size ≡ cut (most_size procs homes) + cut (longest procs (call_size procs homes))
+  size_is size h =
+      let a = longest_cut procs (sizes_of procs homes) (call_size procs homes) (length-sizes procs homes all) (are_sizes procs homes all) in
+      omega (arith, h.is, a, most_sizes procs homes)
 
-  frames_call : (size : ℕ) → IsCallSize procs (frames_of homes) size →
-      size ≡ most_frame homes + cut (longest procs (λ p. frame_for procs homes p.number))
-  frames_call size h =
-      let are : AreSizes procs (frames_of homes) (λ p. frame_for procs homes p.number) = λ n q tail e.
-      same_frame procs homes n ∙ ap (frame_for procs homes) (sym (number_of_found n procs q tail e)) in
-      let a = longest_cut procs (frames_of homes) (λ p. frame_for procs homes p.number) (length-frames procs homes all) are in
-      omega (arith, h.is, a, most_frames homes)
-
-  pub need_is : (places frame : ℕ) → stack_need procs homes ≤ 268435456 → IsCallSize procs (rooms_of procs) places →
-      IsCallSize procs (frames_of homes) frame →
-      (most_calls * places + most_calls * frame + (SPARE_ROOM + 4 * MOST_ARGUMENTS) + 15) / 16 * 16 ≡ stack_need procs homes
-  need_is places frame most h k =
-      let a = places_call places h in
-      let b = frames_call frame k in
-      omega (arith, most, a, b)
+  need_is : (size : ℕ) → stack_need procs homes ≤ 268435456 → IsCallSize procs (sizes_of procs homes) size →
+      (most_calls * size + (SPARE_ROOM + 4 * MOST_ARGUMENTS) + 15) / 16 * 16 ≡ stack_need procs homes
+  need_is size most h = let a = size_is size h in omega (arith, most, a)
 
 -- ---- steps of loops
 
@@ -246,15 +224,12 @@ call_is procs sizes taken most chain h a b few less =
     record { is = omega (arith, a, c); small = omega (arith, few, less) }
 
 -- the sum that is computed
-pub need_at : (procs ps : List WordProc) (homes : List Homes) (rooms frames : List ℕ) (calls places frame spare arguments : ℕ) →
-    AllHomes procs homes →
-    stack_need procs homes ≤ 268435456 → ps ≡ procs → rooms ≡ rooms_of ps → frames ≡ frames_of homes → IsCallSize ps rooms places →
-    IsCallSize ps frames frame → calls + 1 ≡ most_calls → spare + 4 * arguments ≡ SPARE_ROOM + 4 * MOST_ARGUMENTS →
-    ((calls + 1) * places + (calls + 1) * frame + (spare + 4 * arguments) + 15) / 16 * 16 ≡ stack_need procs homes
-need_at procs ps homes rooms frames calls places frame spare arguments all most same a b h k c d =
-    let rooms_are = a ∙ ap rooms_of same in
-    let h' = subst (λ l. IsCallSize l (rooms_of procs) places) same (subst (λ r. IsCallSize ps r places) rooms_are h) in
-    let k' = subst (λ l. IsCallSize l (frames_of homes) frame) same (subst (λ r. IsCallSize ps r frame) b k) in
-    ap (λ n. (n * places + n * frame + (spare + 4 * arguments) + 15) / 16 * 16) c
-    ∙ ap (λ n. (most_calls * places + most_calls * frame + n + 15) / 16 * 16) d
-    ∙ need_is procs homes all places frame most h' k'
+pub need_at : (procs ps : List WordProc) (homes : List Homes) (sizes : List ℕ) (calls size spare arguments : ℕ) → AllHomes procs homes →
+    stack_need procs homes ≤ 268435456 → ps ≡ procs → sizes ≡ sizes_of procs homes → IsCallSize ps sizes size →
+    calls + 1 ≡ most_calls → spare + 4 * arguments ≡ SPARE_ROOM + 4 * MOST_ARGUMENTS →
+    ((calls + 1) * size + (spare + 4 * arguments) + 15) / 16 * 16 ≡ stack_need procs homes
+need_at procs ps homes sizes calls size spare arguments all most same are h c d =
+    let h' = subst (λ l. IsCallSize l (sizes_of procs homes) size) same (subst (λ r. IsCallSize ps r size) are h) in
+    ap (λ n. (n * size + (spare + 4 * arguments) + 15) / 16 * 16) c
+    ∙ ap (λ n. (most_calls * size + n + 15) / 16 * 16) d
+    ∙ need_is procs homes all size most h'

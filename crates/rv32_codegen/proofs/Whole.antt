@@ -1,8 +1,8 @@
 -- The label code of word code: what it does, and what it may be laid out by.
-use Rattle.std.proofs.Common.{◌≡◌, ℕ, suc, ◌+◌, ◌*◌, ◌≤◌, List, [], ◌∷◌, length, Bool}
-use Rattle.std.proofs.Common.{true, false, refl, sym, ap, subst, ◌∙◌, arith}
+use Rattle.std.proofs.Common.{◌≡◌, ℕ, ◌+◌, ◌*◌, ◌≤◌, List, [], ◌∷◌, length, Bool}
+use Rattle.std.proofs.Common.{true, false, refl, sym, ap, subst, ◌∙◌, arith, inl, inr}
 use Rattle.std.specs.Prelude.{nat_lt}
-use Rattle.std.proofs.lemmas.Bool.{and_from, and_parts, true≢false}
+use Rattle.std.proofs.lemmas.Bool.{cases_Bool, and_from, and_parts, true≢false}
 use Rattle.arc_base.specs.Event.{Event}
 use Rattle.arc_base.specs.Behaviour.{Behaviour, Agrees, Sound}
 use Rattle.arc_base.specs.Pace.{Paced}
@@ -20,20 +20,20 @@ use Rattle.word_code.specs.declared.word.WordInstr.{WordInstr}
 use Rattle.word_code.specs.declared.word.WordProc.{WordProc}
 use Rattle.word_code.specs.declared.word.WordCode.{WordCode}
 use Rattle.word_code.specs.Memory.{data_of}
-use Rattle.word_code.specs.Words.{from_proc, first_of, chain, longest, is_kind, is_no_hook, have_no_hooks, are_procs, may_start, is_word_code, start}
-use Rattle.word_code.specs.Words.{if_formed, word_meaning}
-use Rattle.word_code.specs.Words as words
+use Rattle.word_code.specs.Words.{Fresh, from_proc, first_of, chain, is_kind, is_no_hook, have_no_hooks, are_procs, may_start, is_word_code, start}
+use Rattle.word_code.specs.Words.{if_formed, step_of, word_meaning}
 use Rattle.reg_scan.specs.declared.homes.Homes.{Homes}
 use Rattle.rv32_codegen.specs.Code.{does, sum, shift, negative, lines_code, hook_of, entry_code, homes_code, start_code, code_of}
-use Rattle.rv32_codegen.specs.Stack.{frame_for, most_frame}
+use Rattle.rv32_codegen.specs.Stack.{call_size, counted_size}
 use Rattle.rv32_codegen.specs.Layout.{is_none, enters_no_hook}
 use Rattle.rv32_codegen.specs.Lowering.{AllHomes, CanRun, DoesWords, AlwaysDoes, most_lines}
 use Rattle.rv32_codegen.proofs.Chunks.{line_long, entry_long, body, body_split, own_body, leads_own, unhooked_own}
 use Rattle.rv32_codegen.proofs.Lookups.{Layout, procs_code, number_is}
 use Rattle.rv32_codegen.proofs.Frames.{IsLaid, Setting}
-use Rattle.rv32_codegen.proofs.Depth.{need, chain_fits, need_most, proc_parts, kind_known, places_whole}
-use Rattle.rv32_codegen.proofs.HomeFrames.{homes_for, frame_is, frame_most, laid_all, homes_are}
-use Rattle.rv32_codegen.proofs.Start.{Holding, code_agrees, code_paced}
+use Rattle.rv32_codegen.proofs.Depth.{need, chain_fits, need_most, proc_parts, kind_known}
+use Rattle.rv32_codegen.proofs.HomeFrames.{homes_for, frame_is, size_most, laid_all, homes_are}
+use Rattle.rv32_codegen.proofs.Start.{Holding}
+use Rattle.rv32_codegen.proofs.Followed.{follows}
 
 -- ---- agreement
 
@@ -47,6 +47,10 @@ counts_first kind.Counted h = refl
 counts_first (kind.Hook kind of) h = absurd (true≢false (sym h))
 counts_first kind.Uncounted h = absurd (true≢false (sym h))
 
+abbrev DoesSome : WordCode → List LabelLine → Lives → Addresses → (heap stack : ℕ) → (input : List ℕ) → Type 0
+DoesSome code lines live at heap stack input =
+    (fresh : Fresh) × (Sound (word_meaning live code fresh heap stack input) → DoesWords lines code live at fresh heap stack input)
+
 module _ (code : WordCode) (homes : List Homes) (all : AllHomes code.procs homes) (live : Lives) (at : Addresses) (heap stack : ℕ) (input : List ℕ)
     (alone : OfDataAndHeap live) (rises : Rise at (marks (code_of code.procs homes))) (can : CanRun code homes heap stack)
     (is_code : is_word_code code ≡ true) where
@@ -59,11 +63,8 @@ module _ (code : WordCode) (homes : List Homes) (all : AllHomes code.procs homes
   abbrev lay : Layout
   lay = homes_for code.procs homes
 
-  abbrev frame_of : WordProc → ℕ
-  frame_of p = frame_for code.procs homes p.number
-
-  abbrev total : ℕ
-  total = most_frame homes + longest code.procs frame_of
+  abbrev size_of : WordProc → ℕ
+  size_of = call_size code.procs homes
 
   same_code : code_of code.procs homes ≡ start_code (procs_code lay code.procs)
   same_code = ap start_code (homes_are lay code.procs homes all ok (λ n e. refl))
@@ -76,16 +77,19 @@ module _ (code : WordCode) (homes : List Homes) (all : AllHomes code.procs homes
     live = live;
     lay = lay;
     procs = code.procs;
-    need = need code.procs frame_of;
-    total = total;
+    need = need code.procs size_of;
+    total = counted_size code.procs homes;
     at = at;
     rises = subst (λ l. Rise at (marks l)) same_code rises;
     laid = laid;
     alone = alone;
-    fits = λ n q tail e. omega (arith, frame_most code.procs homes q.number, need_most (chain code.procs frame_of (length code.procs)) n code.procs q tail e);
+    fits = λ n q tail e.
+        let own = size_most code.procs homes n q tail all e in
+        let is = ap (λ m. (homes_for code.procs homes m).frame) (number_is n code.procs q tail e) in
+        omega (arith, own, is, need_most (chain code.procs size_of (length code.procs)) n code.procs q tail e);
     chains = λ p q ptail qtail before to callee rest found split there f.
-        subst (λ n. n + need code.procs frame_of q ≤ need code.procs frame_of p) (frame_is code.procs homes q.number)
-        (chain_fits code.procs frame_of p q ptail qtail before to callee rest can.no_circle found split there f);
+        subst (λ n. n + q.room + need code.procs size_of q ≤ need code.procs size_of p) (frame_is code.procs homes q.number)
+        (chain_fits code.procs size_of p q ptail qtail before to callee rest can.no_circle found split there f);
   }
 
   room : Holding setting code.statics heap stack
@@ -99,36 +103,46 @@ module _ (code : WordCode) (homes : List Homes) (all : AllHomes code.procs homes
         heap_most = can.heap_most;
         stack_most = can.stack_most;
         stack_whole = omega (arith, sixteen);
-        places_whole = places_whole code.procs ok;
         stack_least = omega (arith, least);
       }
 
-  abbrev high : Behaviour Event
-  high = behaviour (words.step live code.procs) (start code heap stack input)
+  abbrev high : Fresh → Behaviour Event
+  high fresh = behaviour (step_of live code.procs fresh) (0, start code heap stack input)
 
-  does_formed : Sound high → (lines : List LabelLine) → lines ≡ start_code (procs_code lay code.procs) →
-      Agrees (label_meaning live lines at (data_of heap stack code.statics) heap stack input) high
-      × Paced 32 (label_meaning live lines at (data_of heap stack code.statics) heap stack input) high
+  abbrev low : List LabelLine → Behaviour Event
+  low lines = label_meaning live lines at (data_of heap stack code.statics) heap stack input
+
+  does_formed : (fresh : Fresh) × (Sound (high fresh) → Agrees (low (code_of code.procs homes)) (high fresh)
+      × Paced 32 (low (code_of code.procs homes)) (high fresh))
   unfolding setting
-  does_formed sound lines e = (
-    subst (λ l. Agrees (label_meaning live l at (data_of heap stack code.statics) heap stack input) high) (sym e)
-        (code_agrees setting code.statics heap stack input room sound),
-    subst (λ l. Paced 32 (label_meaning live l at (data_of heap stack code.statics) heap stack input) high) (sym e)
-        (code_paced setting code.statics heap stack input room sound),
-  )
+  does_formed =
+      let x = follows setting code.statics heap stack input room in (
+        x.0,
+        λ sound. let y = x.1 sound in (
+          subst (λ l. Agrees (low l) (high x.0)) (sym same_code) y.agrees,
+          subst (λ l. Paced 32 (low l) (high x.0)) (sym same_code) y.paced,
+        ),
+      )
 
-  pub does_words : Sound (word_meaning live code heap stack input) → DoesWords (code_of code.procs homes) code live at heap stack input
-  does_words sound =
-      let is : word_meaning live code heap stack input ≡ high = ap (λ b. if_formed b high) is_code in
-      let x = does_formed (subst Sound is sound) (code_of code.procs homes) same_code in
-      record {
-        agrees = subst (Agrees (label_meaning live (code_of code.procs homes) at (data_of heap stack code.statics) heap stack input)) (sym is) x.0;
-        paced = subst (Paced 32 (label_meaning live (code_of code.procs homes) at (data_of heap stack code.statics) heap stack input)) (sym is) x.1;
-      }
+  pub does_words : DoesSome code (code_of code.procs homes) live at heap stack input
+  does_words =
+      let x = does_formed in
+      let is : word_meaning live code x.0 heap stack input ≡ high x.0 = ap (λ b. if_formed b (high x.0)) is_code in (
+        x.0,
+        λ sound. let y = x.1 (subst Sound is sound) in record {
+          agrees = subst (Agrees (low (code_of code.procs homes))) (sym is) y.0;
+          paced = subst (Paced 32 (low (code_of code.procs homes))) (sym is) y.1;
+        },
+      )
 
 pub always_does : (code : WordCode) (homes : List Homes) → AllHomes code.procs homes → AlwaysDoes (code_of code.procs homes) code homes
-always_does code homes all live at heap stack input alone rises can sound =
-    does_words code homes all live at heap stack input alone rises can (formed (is_word_code code) _ sound) sound
+always_does code homes all live at heap stack input alone rises can = elim (cases_Bool (is_word_code code)) [
+  | inl is ↦ does_words code homes all live at heap stack input alone rises can is
+  | inr not ↦ (
+    λ n. [],
+    λ sound. absurd (true≢false (sym (formed (is_word_code code) _ sound) ∙ not)),
+  )
+]
 
 -- ---- what it may be laid out by
 
@@ -191,10 +205,3 @@ code_long (p ∷ procs) (h ∷ homes) =
       lines_long h p p.lines rest,
       code_long procs homes,
     )
-
--- there are as many homes as procedures
-pub same_long : (procs : List WordProc) (homes : List Homes) → AllHomes procs homes → length homes ≡ length procs
-same_long [] [] h = refl
-same_long [] (x ∷ homes) h = absurd h
-same_long (p ∷ procs) [] h = absurd h
-same_long (p ∷ procs) (x ∷ homes) h = ap suc (same_long procs homes h.1)

@@ -16,7 +16,6 @@ use Rattle.rv32_isa.specs.State.{State, lies_in, part, part_of, or_else, readabl
 use Rattle.rv32_isa.specs.Steps.{size_of, number_of, found, low_bytes}
 use Rattle.rv32_logic.proofs.ForCallers.{put_bytes_long}
 use Rattle.word_code.specs.Memory.{Memory, as_state, memory_of}
-use Rattle.rv32_codegen.proofs.Area.{area}
 use Rattle.rv32_codegen.proofs.Machine.{state_of, Fits}
 
 -- ---- one region
@@ -148,12 +147,12 @@ module _ (regs : List ℕ) (m : Memory) (ws : List ℕ) where
         | inr e ↦
             cond-false (n == 0) (Some []) (parts (state_of regs m ws)) e
             ∙ or_last (part_of code_at [] at n) (part_of statics_at m.statics at n) (part_of heap_at m.heap at n) (part_of stack_at m.places at n)
-            (part_of stack_at (m.places ++ area ws) at n) bytes (λ x. part_of_wider stack_at m.places (area ws) at n x)
+            (part_of stack_at (m.places ++ ws) at n) bytes (λ x. part_of_wider stack_at m.places ws at n x)
             (sym (cond-false (n == 0) (Some []) (parts (as_state m)) e) ∙ h)
       ]
 
   pub may_wider : (at n : ℕ) → writable (as_state m) at n ≡ true → writable (state_of regs m ws) at n ≡ true
-  may_wider at n h = or_four (n == 0) _ _ _ (n == 0) _ _ _ (λ e. e) (λ e. e) (λ e. e) (lies_wider stack_at m.places (area ws) at n) h
+  may_wider at n h = or_four (n == 0) _ _ _ (n == 0) _ _ _ (λ e. e) (λ e. e) (λ e. e) (lies_wider stack_at m.places ws at n) h
 
   -- the machine with this memory
   abbrev wide : State → State
@@ -181,13 +180,13 @@ module _ (regs : List ℕ) (m : Memory) (ws : List ℕ) where
       let in_stack = lies_in stack_at m.places at n in
       let a = record t { statics = put_bytes m.statics (at - statics_at) bytes } in
       let b = record t { heap = put_bytes m.heap (at - heap_at) bytes } in
-      let c = record t { stack = put_bytes (m.places ++ area ws) (at - stack_at) bytes } in
-      let d = record t { stack = put_bytes m.places (at - stack_at) bytes ++ area ws } in
+      let c = record t { stack = put_bytes (m.places ++ ws) (at - stack_at) bytes } in
+      let d = record t { stack = put_bytes m.places (at - stack_at) bytes ++ ws } in
       let put : in_stack ≡ true → c ≡ d = λ e.
       let p = inside stack_at m.places at n e in
       let low = p.low in
       let high = p.high in
-      ap (λ l. record t { stack = l }) (put_wider m.places (area ws) bytes (at - stack_at) (omega (arith, low, high))) in
+      ap (λ l. record t { stack = l }) (put_wider m.places ws bytes (at - stack_at) (omega (arith, low, high))) in
       let x = record s { statics = put_bytes m.statics (at - statics_at) bytes } in
       let y = record s { heap = put_bytes m.heap (at - heap_at) bytes } in
       let z = record s { stack = put_bytes m.places (at - stack_at) bytes } in

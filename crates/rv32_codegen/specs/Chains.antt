@@ -48,13 +48,11 @@ most_of (n ∷ ns) = max n (most_of ns)
 
 -- ---- sizes of procedures, in order
 
-abbrev pub rooms_of : List WordProc → List ℕ
-rooms_of [] = []
-rooms_of (p ∷ procs) = p.room ∷ rooms_of procs
-
-abbrev pub frames_of : List Homes → List ℕ
-frames_of [] = []
-frames_of (h ∷ homes) = h.frame ∷ frames_of homes
+-- what a call of each takes
+abbrev pub sizes_of : List WordProc → List Homes → List ℕ
+sizes_of [] homes = []
+sizes_of (p ∷ procs) [] = []
+sizes_of (p ∷ procs) (h ∷ homes) = cut (h.frame + p.room) ∷ sizes_of procs homes
 
 -- ---- what is computed
 

@@ -23,7 +23,7 @@ use Rattle.word_code.specs.declared.word.WordProc.{WordProc}
 use Rattle.word_code.specs.declared.word.WordCode.{WordCode}
 use Rattle.word_code.specs.Memory.{data_of}
 use Rattle.word_code.specs.Sizes.{word_line_count, has_no_circle}
-use Rattle.word_code.specs.Words.{from_proc, first_of, has_number, word_meaning}
+use Rattle.word_code.specs.Words.{Fresh, from_proc, first_of, has_number, word_meaning}
 use Rattle.reg_scan.specs.declared.homes.Homes.{Homes}
 use Rattle.reg_scan.specs.Homes.{IsHomes}
 use Rattle.rv32_codegen.specs.declared.label_code.TheConstants.{CODE_PACE, LINES_OF_LINE, LINES_OF_PROC, LINES_OF_START, BYTES_OF_LINE}
@@ -46,17 +46,21 @@ pub record CanRun (code : WordCode) (homes : List Homes) (heap stack : ℕ) : Ty
   pub stack_least : stack_need code.procs homes ≤ stack
   pub stack_most : stack ≤ 268435456
 
--- The lines do what the word code does, where their marks have these addresses, on this heap, stack and input.
-pub record DoesWords (lines : List LabelLine) (code : WordCode) (live : Lives) (at : Addresses) (heap stack : ℕ) (input : List ℕ) : Type 0 where
-  pub agrees : Agrees (label_meaning live lines at (data_of heap stack code.statics) heap stack input) (word_meaning live code heap stack input)
-  pub paced : Paced CODE_PACE (label_meaning live lines at (data_of heap stack code.statics) heap stack input) (word_meaning live code heap stack input)
+-- The lines do what the word code does, where their marks have these addresses, on this heap, stack and input, and nobody has written these
+-- bytes of new places.
+pub record DoesWords (lines : List LabelLine) (code : WordCode) (live : Lives) (at : Addresses) (fresh : Fresh) (heap stack : ℕ) (input : List ℕ) :
+    Type 0 where
+  pub agrees : Agrees (label_meaning live lines at (data_of heap stack code.statics) heap stack input) (word_meaning live code fresh heap stack input)
+  pub paced : Paced CODE_PACE (label_meaning live lines at (data_of heap stack code.statics) heap stack input)
+      (word_meaning live code fresh heap stack input)
 
--- They do so under all addresses that rise, whatever is said of live objects, on each heap and stack with which it may run.
+-- They do so under all addresses that rise, whatever is said of live objects, on each heap and stack with which it may run, where new places
+-- have the bytes that calls which are over have left in the stack.
 abbrev pub AlwaysDoes : List LabelLine → WordCode → List Homes → Type 0
 AlwaysDoes lines code homes =
     (live : Lives) (at : Addresses) (heap stack : ℕ) (input : List ℕ) → OfDataAndHeap live → Rise at (marks lines) →
     CanRun code homes heap stack →
-    Sound (word_meaning live code heap stack input) → DoesWords lines code live at heap stack input
+    (fresh : Fresh) × (Sound (word_meaning live code fresh heap stack input) → DoesWords lines code live at fresh heap stack input)
 
 -- ---- the frames and places that lines make: x2 is where the frame of the running call begins, x3 where its places end
 

@@ -129,7 +129,8 @@ fn emit_code(alloc: Global, words: &WordCode, homes: &[Homes]) -> Result<LabelCo
 
 /// Label code that does, under all addresses of its marks that rise, what the word code does: over
 /// the word code's data, and with each heap and each stack from `stack_need` on that a machine may
-/// have. Each procedure makes the frame of its homes and its places where it begins, and keeps them.
+/// have, where new places have the bytes that are in the stack there. Each procedure makes the frame
+/// of its homes and its places where it begins, and keeps them.
 ///
 /// There are homes for each procedure, in order.
 pub fn code(alloc: Global, words: &WordCode, homes: &[Homes]) -> Result<LabelCode, Memory>

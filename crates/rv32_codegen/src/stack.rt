@@ -201,28 +201,20 @@ fn call_size(alloc: Global, procs: &[WordProc], sizes: &[u32]) -> Result<u64, Me
     Ok(u64::from(most_of(sizes)) + u64::from(chain))
 }
 
-fn rooms_of(alloc: Global, procs: &[WordProc]) -> Result<Items<u32>, Memory>
-    ensures { IfOk result (λ sizes. sizes ≡ chains.rooms_of procs.now) }
+// What a call of each procedure takes: its frame, and the room of its places.
+fn sizes_of(alloc: Global, procs: &[WordProc], homes: &[Homes]) -> Result<Items<u32>, Memory>
+    requires { length homes.now ≡ length procs.now }
+    ensures { IfOk result (λ sizes. sizes ≡ chains.sizes_of procs.now homes.now) }
 {
     let mut sizes = Items::new(alloc);
-    for proc in procs {
-        sizes.push(proc.room)?;
+    for i in 0..procs.len() {
+        sizes.push(homes[i].frame.saturating_add(procs[i].room))?;
     }
     Ok(sizes)
 }
 
-fn frames_of(alloc: Global, homes: &[Homes]) -> Result<Items<u32>, Memory>
-    ensures { IfOk result (λ sizes. sizes ≡ chains.frames_of homes.now) }
-{
-    let mut sizes = Items::new(alloc);
-    for own in homes {
-        sizes.push(own.frame)?;
-    }
-    Ok(sizes)
-}
-
-/// The bytes of a stack for all calls that may be active: of each that counts the places and the
-/// frame, with those of the longest chain of calls that don't.
+/// The bytes of a stack for all calls that may be active: of each that counts the frame and the
+/// places, taken together, with those of the longest chain of calls that don't.
 ///
 /// There are homes for each procedure, in order, procedures that don't count call each other in no
 /// circle, and the stack is at most 268,435,456 bytes.
@@ -233,12 +225,10 @@ pub fn stack_need(alloc: Global, words: &WordCode, homes: &[Homes]) -> Result<u3
     ensures { IfOk result (λ need. need ≡ stack.stack_need words.now.procs homes.now) }
 {
     let procs = words.procs.as_slice();
-    let rooms = rooms_of(alloc, procs)?;
-    let frames = frames_of(alloc, homes)?;
-    let places = call_size(alloc, procs, rooms.as_slice())?;
-    let frame = call_size(alloc, procs, frames.as_slice())?;
+    let sizes = sizes_of(alloc, procs, homes)?;
+    let size = call_size(alloc, procs, sizes.as_slice())?;
     let calls = u64::from(ACTIVE_CALLS) + 1;
     let spare = u64::from(SPARE_ROOM) + 4 * u64::from(MOST_ARGUMENTS);
-    let bytes = calls * places + calls * frame + spare;
+    let bytes = calls * size + spare;
     Ok(((bytes + 15) / 16 * 16) as u32)
 }

@@ -7,6 +7,6 @@ pub use Rattle.rv32_logic.proofs.Registers.{put_regs, put_same}
 -- ---- memory
 pub use Rattle.rv32_logic.proofs.Addresses.{signed12_small, plain_address, constant_is}
 pub use Rattle.rv32_logic.proofs.Data.{holds_read}
-pub use Rattle.rv32_logic.proofs.Memory.{put_bytes_long, put_bytes_over, stack_read, stack_may, stack_put, lw_goes, sw_goes}
+pub use Rattle.rv32_logic.proofs.Memory.{put_bytes_long, stack_read, stack_may, stack_put, lw_goes, sw_goes}
 -- ---- branches
 pub use Rattle.rv32_logic.proofs.Jumps.{branch_goes}

@@ -1,7 +1,8 @@
--- Declarations that are parsed are read: definitions have names, an enum has members, as many as an int counts, and the name of a procedure
--- that isn't in backticks isn't `$`.
+-- Declarations that are parsed are read: definitions have names, an enum has members with names, as many as an int counts, and the name of a
+-- procedure that isn't in backticks isn't `$`.
 use Rattle.std.proofs.Common.{◌≡◌, ℕ, suc, ◌≤◌, Bool, true, false, List, [], ◌∷◌, length, Option, Some, None, refl, sym, subst, ◌∙◌, arith}
 use Rattle.std.specs.Prelude.{codes, ◌&&◌, ◌||◌, if◌then◌else◌}
+use Rattle.std.specs.List.{list_all}
 use Rattle.std.proofs.lemmas.Bool.{and_parts, le-leb, eq-eqb}
 use Rattle.indent_scanner.specs.declared.token.Tok.{Tok}
 use Rattle.indent_scanner.specs.declared.token.Tok.TheVariants as T
@@ -16,6 +17,7 @@ use Rattle.nim_tree.specs.Terms.{Term}
 use Rattle.nim_tree.specs.Types.{Written, Arguments, Fields, Body, Declaration}
 use Rattle.nim_tree.specs.Statements.{Definition, Parameters, Head}
 use Rattle.nim_types.specs.Types.{same_text}
+use Rattle.decl_rules.specs.Sections.{texts_of}
 use Rattle.parse_exprs.specs.declared.layout.Layout.{Layout}
 use Rattle.parse_exprs.specs.declared.layout.Layout.TheVariants.{Brackets, Lines}
 use Rattle.parse_exprs.specs.Look.{Origin, spelling, goes_on, is_run, is_name, name_on, comma_at}
@@ -25,8 +27,9 @@ use Rattle.parse_decls.specs.Grammar as G
 use Rattle.parse_decls.specs.Grammar.{Each, Listed, Perhaps, Maybe, Closed, IsName, Names, IsDeclared, Declareds, Generics, IsPragma, Pragmas}
 use Rattle.parse_decls.specs.Grammar.{IsType, IsTypes, IsField, IsFields, Annotation, Given, IsDefined, Definitions, IsDefinitionBlock, IsFieldLines}
 use Rattle.parse_decls.specs.Grammar.{FieldBlock, IsMembers, IsBody, IsDeclaration, IsDeclarations, IsParameter, IsParameters, ParameterList, IsHead}
+use Rattle.typing_laws.specs.Sound.{has_bytes, are_members}
 use Rattle.typing_laws.specs.Trees.{has_name, IfRead, DefinitionsRead, BodyRead, TypesRead, NameRead}
-use Rattle.source_compiler.proofs.ReadTokens.{some_one, none_some, never, KindRead, Good, tail, behind_good}
+use Rattle.source_compiler.proofs.ReadTokens.{some_one, none_some, never, both, KindRead, Good, tail, behind_good}
 use Rattle.source_compiler.proofs.ReadExprs.{expr_read}
 
 -- ---- lists
@@ -205,12 +208,44 @@ module _ (x : Origin) where
   few_names : (all : List Name) (ts : List Token) → Good x ts → length all ≤ length ts → length all ≤ 2147483647
   few_names all ts g l = let m = g.few in omega (arith, l, m)
 
+  some_bytes : (kind : Tok) (bytes : List ℕ) → KindRead kind bytes → is_name kind ≡ true → has_bytes bytes ≡ true
+  some_bytes T.Name bytes h e = h.0
+  some_bytes other bytes h e = never e
+
+  -- a name has bytes
+  name_bytes : {i : Layout} {name : Name} {ts rest : List Token} → IsName x i name ts rest → Good x ts → has_bytes name.text ≡ true
+  name_bytes {i} (G.n_name {tok = tok} {ts = ts} e) g = by_tokens ts e g
+    where
+      by_tokens : (ts : List Token) → name_on i ts ≡ Some tok → Good x ts → has_bytes (spelling x tok) ≡ true
+      by_tokens [] e g = none_some e
+      by_tokens (t ∷ ts) e g = by_test (goes_on i t.indent && is_name t.kind) refl e
+        where
+          by_test : (b : Bool) → (goes_on i t.indent && is_name t.kind) ≡ b → (if b then Some t else None) ≡ Some tok → has_bytes (spelling x tok) ≡ true
+          by_test true c e =
+              subst (λ u. has_bytes (spelling x u) ≡ true) (some_one e)
+              (some_bytes t.kind (spelling x t) g.read.0 (and_parts (goes_on i t.indent) (is_name t.kind) c).1)
+          by_test false c e = none_some e
+
+  each_bytes : {i : Layout} {goes : List Token → Bool} {past : List Token → List Token} {all : List Name} {ts rest : List Token}
+      → ((ts : List Token) → Good x ts → Good x (past ts)) → Each goes past (IsName x i) all ts rest → Good x ts
+      → list_all has_bytes (texts_of all) ≡ true
+  each_bytes past (G.e_over e) g = refl
+  each_bytes past (G.e_next {ts = ts} e h k) g = let p = past ts g in both (name_bytes h p) (each_bytes past k (name_good h p))
+
+  listed_members : {i j : Layout} {goes : List Token → Bool} {past : List Token → List Token} {all : List Name} {ts rest : List Token}
+      → ((ts : List Token) → Good x ts → Good x (past ts)) → Listed (IsName x i) goes past (IsName x j) all ts rest → Good x ts
+      → are_members (texts_of all) ≡ true
+  listed_members past (G.e_first h k) g = both (name_bytes h g) (each_bytes past k (name_good h g))
+
   members_read : {n : ℕ} {all : List Name} {ts rest : List Token} → IsMembers x n all ts rest → Good x ts
-      → ((has_name all ≡ true) × (length all ≤ 2147483647)) × Good x rest
+      → ((are_members (texts_of all) ≡ true) × (length all ≤ 2147483647)) × Good x rest
   members_read (G.o_line {all = all} {ts = ts} e h) g =
-      ((listed_some h, few_names all ts g (listed_count behind_shorter h)), names_good h g)
+      ((listed_members (behind_good x) h g, few_names all ts g (listed_count behind_shorter h)), names_good h g)
   members_read (G.o_block {all = all} {ts = ts} e h) g = (
-    (listed_some h, few_names all ts g (listed_count (past_comma_shorter (Lines (level_at ts))) h)),
+    (
+      listed_members (past_comma_good (Lines (level_at ts))) h g,
+      few_names all ts g (listed_count (past_comma_shorter (Lines (level_at ts))) h),
+    ),
     listed_good (past_comma_good (Lines (level_at ts))) (λ a us end k. name_good k) (λ a us end k. name_good k) h g,
   )
 
@@ -267,7 +302,7 @@ module _ (x : Origin) where
 
   plain_name : (kind : Tok) (bytes : List ℕ) → KindRead kind bytes → (is_name kind || is_quoted kind) ≡ true → is_quoted kind ≡ false
       → same_text (normal bytes) (codes "$") ≡ false
-  plain_name T.Name bytes h e q = h
+  plain_name T.Name bytes h e q = h.1
   plain_name T.Quoted bytes h e q = never (sym q)
   plain_name other bytes h e q = never e
 

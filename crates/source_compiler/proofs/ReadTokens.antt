@@ -18,6 +18,7 @@ use Rattle.nim_program.specs.Kinds.{is_value}
 use Rattle.parse_exprs.specs.declared.layout.Layout.{Layout}
 use Rattle.parse_exprs.specs.Look.{Origin, spelling, goes_on, is_punct, past_colon}
 use Rattle.parse_decls.specs.Look.{behind}
+use Rattle.typing_laws.specs.Sound.{has_bytes}
 
 pub some_one : {A : Type 0} {a b : A} → Some a ≡ Some b → a ≡ b
 some_one e = cc
@@ -28,11 +29,11 @@ none_some e = cc
 pub never : {A : Type 0} → false ≡ true → A
 never e = absurd (both_ways false refl e)
 
--- an int and a char are values of their types, and a name isn't `$`
+-- an int and a char are values of their types, and a name has bytes and isn't `$`
 abbrev pub KindRead : Tok → List ℕ → Type 0
 KindRead (T.Int value) bytes = is_value kind.int value ≡ true
 KindRead (T.Char value) bytes = is_value kind.char (pos value) ≡ true
-KindRead T.Name bytes = same_text (normal bytes) (codes "$") ≡ false
+KindRead T.Name bytes = (has_bytes bytes ≡ true) × (same_text (normal bytes) (codes "$") ≡ false)
 KindRead other bytes = Unit {0}
 
 -- ---- what a token is by its bytes
@@ -118,13 +119,17 @@ name_apart (b ∷ bytes) h = by_test (nat_eq b 36) refl
     by_test true e = never (subst (λ b. is_letter b ≡ true) (eqb-true b 36 e) h.0)
     by_test false e = ap (λ c. c && pointwise nat_eq (folded bytes) []) e
 
+name_some : (bytes : List ℕ) → IsName bytes → has_bytes bytes ≡ true
+name_some [] h = absurd h
+name_some (b ∷ bytes) h = refl
+
 pub kind_read : (kind : Tok) (bytes : List ℕ) → IsSpelled kind bytes → KindRead kind bytes
 kind_read (T.Int value) bytes h =
     subst (λ z. is_value kind.int z ≡ true) (sym h.3) (both (le-leb h.0 2147483647 h.2) refl)
 kind_read (T.Char value) bytes h =
     let l = char_small h.0 h.1 in
     both (le-leb value 2147483647 (omega (arith, l))) (both (le-leb 0 value (omega arith)) (lt-ltb value 256 (omega (arith, l))))
-kind_read T.Name bytes h = name_apart bytes h.0
+kind_read T.Name bytes h = (name_some bytes h.0, name_apart bytes h.0)
 kind_read other bytes h = tt
 
 -- ---- what is left of tokens

@@ -1,6 +1,8 @@
 -- What the stages of the compiler give one another.
-use Rattle.std.proofs.Common.{◌≡◌, ℕ, List, [], true, Result, Ok, Err}
-use Rattle.std.specs.Prelude.{IfOk, IfErr}
+use Rattle.std.proofs.Common.{◌≡◌, ◌≢◌, ℕ, zero, suc, List, [], ◌∷◌, true, Result, Ok, Err, arith}
+use Rattle.std.specs.Prelude.{All, IfOk, IfErr}
+use Rattle.std.specs.List.{list_all}
+use Rattle.std.proofs.lemmas.Bool.{and_parts}
 use Rattle.arc_base.specs.Stops.{OnRefusal}
 use Rattle.arc_base.specs.declared.place.Stop.{Stop}
 use Rattle.arc_base.specs.declared.place.Stop.TheVariants.{Refused, Memory}
@@ -9,7 +11,8 @@ use Rattle.indent_scanner.specs.declared.token.Token.{Token}
 use Rattle.indent_scanner.specs.Tokens.{Tokens}
 use Rattle.indent_scanner.specs.Tokens.{IsRefused as IsRefusedByBytes}
 use Rattle.nim_tree.specs.Statements.{Statements}
-use Rattle.nim_types.specs.Types.{Ty}
+use Rattle.nim_types.specs.Types as type
+use Rattle.nim_types.specs.Types.{Ty, members, Facts}
 use Rattle.nim_types.specs.Table.{types_in}
 use Rattle.nim_program.specs.declared.program.Program.{Program as RustProgram}
 use Rattle.nim_program.specs.Numbering.{is_numbered_program}
@@ -19,13 +22,16 @@ use Rattle.parse_stmts.specs.Parsed.{IsRefused}
 use Rattle.decl_rules.specs.Elaborated.{Module, elaborated}
 use Rattle.decl_rules.specs.Laws.{ProgramsComputed, ReasonsComputed}
 use Rattle.decl_rules.specs.ProgramRules.{IsProgram as AreTyped, p_program}
+use Rattle.typing_laws.specs.Sound.{has_bytes, is_said, AreSound}
 use Rattle.typing_laws.specs.Trees.{StatementsRead, ModulesRead}
 use Rattle.typing_laws.specs.Programs.{IsWholeTable, NodesWithin}
 use Rattle.check_decls.specs.Modules.{program_in, types_or, IsWhole}
+use Rattle.core_compiler.specs.Compile.{MembersNamed}
 use Rattle.source_compiler.specs.Source.{main_module, IsTree, lone, unlisted, read_program, ReadsAlone, RefusesAlone, by_bytes, by_tokens, by_rules}
 use Rattle.source_compiler.specs.Source.{alone, Reads}
 use Rattle.source_compiler.specs.Limits.{Limits}
 use Rattle.source_compiler.specs.Compile.{AreTurnedDown, by_limits}
+use Rattle.source_compiler.proofs.ReadTokens.{never}
 
 -- ---- what each step says of its refusal
 
@@ -76,6 +82,38 @@ typing_typed law computed tree read (Ok p) said whole =
     law p (lone tree) ((computed (types_in p.types) (lone tree) (program_in p)).1 (said [])) (read, tt)
     (record { table = whole.table; forms = whole.forms; ints = whole.ints }) whole.nodes
 typing_typed law computed tree read (Err stop) said whole = (tt, tt)
+
+-- ---- names of members
+
+some_bytes : (name : List ℕ) → has_bytes name ≡ true → name ≢ []
+some_bytes [] h e = never h
+some_bytes (b ∷ bytes) h e = cc
+
+all_bytes : (names : List (List ℕ)) → list_all has_bytes names ≡ true → All (λ name. name ≢ []) names
+all_bytes [] h k d l = absurd (omega (arith, l))
+all_bytes (name ∷ names) h zero d l = some_bytes name (and_parts (has_bytes name) (list_all has_bytes names) h).0
+all_bytes (name ∷ names) h (suc k) d l = all_bytes names (and_parts (has_bytes name) (list_all has_bytes names) h).1 k d (omega (arith, l))
+
+-- each member of an enum has a name, where what is said of types is sound
+members_named : (facts : Facts) → AreSound facts → MembersNamed facts
+members_named facts sound = record { names = λ ty all e. by_type ty all (sound.said ty (members all) e) }
+  where
+    by_type : (ty : Ty) (all : List (List ℕ)) → is_said ty (members all) ≡ true → All (λ name. name ≢ []) all
+    by_type (type.enum key) [] h = never h
+    by_type (type.enum key) (first ∷ rest) h = all_bytes (first ∷ rest) h
+    by_type ty all h = never h
+
+abbrev pub SoundLaw : Type 0
+SoundLaw = (p : RustProgram) (all : List Module) → AreTyped (types_in p.types) all (program_in p) → ModulesRead all → IsWholeTable p.types
+    → NodesWithin all → AreSound (program_in p).facts
+
+pub typing_named : SoundLaw → ProgramsComputed → (tree : Statements) → StatementsRead tree → (result : Result RustProgram Stop) → IsElaborated tree result
+    → IfOk result (IsWhole (lone tree)) → IfOk result (λ p. MembersNamed (program_in p).facts)
+typing_named law computed tree read (Ok p) said whole =
+    members_named (program_in p).facts
+    (law p (lone tree) ((computed (types_in p.types) (lone tree) (program_in p)).1 (said [])) (read, tt)
+    (record { table = whole.table; forms = whole.forms; ints = whole.ints }) whole.nodes)
+typing_named law computed tree read (Err stop) said whole = tt
 
 -- ---- what can't be compiled
 

@@ -38,8 +38,8 @@ module _ (p : Program) (plan : Plan) where
     homes = has.homes;
     lines = has.lines;
     code = has.code;
-    agrees = λ heap stack input can. subst (Agrees (word_meaning live_objects has.words heap stack input)) (meaning_same heap input)
-        (has.agrees heap stack input can);
+    agrees = λ fresh heap stack input can. subst (Agrees (word_meaning live_objects has.words fresh heap stack input)) (meaning_same heap input)
+        (has.agrees fresh heap stack input can);
     size = has.size;
     bound = has.bound;
     data_most = has.data_most;

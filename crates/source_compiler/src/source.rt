@@ -7,6 +7,7 @@ ghost use Rattle.nim_program.specs.Program.{Program as TypedProgram};
 ghost use Rattle.nim_program.specs.Numbering.{is_numbered_program};
 ghost use Rattle.nim_program.specs.Typed.{IsTyped};
 ghost use Rattle.check_decls.specs.Modules.{program_in};
+ghost use Rattle.core_compiler.specs.Compile.{MembersNamed};
 ghost use Rattle.source_compiler.specs.Source.{Module, alone, read_program, ReadsAlone, RefusesAlone, Reads, Refuses};
 ghost use Rattle.source_compiler.specs.Limits.{Limits};
 ghost use Rattle.source_compiler.specs.Compile.{IsProgram, IsNoProgram, source_most, OnTooLong, OnRefused, IsOkOrMemory};
@@ -19,7 +20,7 @@ use indent_scanner::{one_reading, scan};
 use nim_program::Program;
 use parse_stmts::parse;
 use std::alloc::Global;
-use typing_laws::typed_programs;
+use typing_laws::{typed_programs, types_sound};
 
 /// The longest source, in bytes.
 pub const SOURCE_MOST: usize = 1_048_576;
@@ -34,12 +35,14 @@ fn read(alloc: Global, source: &[u8]) -> Result<Program, Stop>
     ensures typed { IfOk result (λ program. IsTyped (program_in program)) }
     ensures numbered { IfOk result (λ program.
         is_numbered_program (program_in program) ≡ true) }
+    ensures named { IfOk result (λ program. MembersNamed (program_in program).facts) }
     ensures refused { IfErr result (λ stop. OnRefusal stop (RefusesAlone source.now)) }
 {
     let tokens = scan(alloc, source, MAIN)?;
     let tree = parse(alloc, source, tokens.as_slice(), MAIN)?;
     programs_computed();
     typed_programs();
+    types_sound();
     elaborate(alloc, &[tree], &[MAIN])
 }
 
@@ -52,6 +55,7 @@ pub fn typed(alloc: Global, source: &[u8]) -> Result<Program, NotCompiled>
     ensures typed { IfOk result (λ program. IsTyped (program_in program)) }
     ensures numbered { IfOk result (λ program.
         is_numbered_program (program_in program) ≡ true) }
+    ensures named { IfOk result (λ program. MembersNamed (program_in program).facts) }
     ensures too_long { IfErr result (λ e. OnTooLong e (source_most < length source.now)) }
     ensures refused { IfErr result (λ e. OnRefused e (λ code at.
         (limits : Limits) (name : List ℕ) → IsNoProgram limits name source.now code at)) }

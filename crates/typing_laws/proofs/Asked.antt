@@ -9,7 +9,8 @@ use Rattle.nim_types.specs.Types as type
 use Rattle.nim_types.specs.Types.{Ty, Tys, no_types, types}
 use Rattle.nim_program.specs.Program as P
 use Rattle.nim_program.specs.Program.{Expr, Path, type_of}
-use Rattle.nim_program.specs.Scopes.{Here, is_written}
+use Rattle.nim_program.specs.Scopes.{Here}
+use Rattle.nim_program.specs.Program.{is_written}
 use Rattle.expr_rules.specs.Env.{Env}
 use Rattle.expr_rules.specs.Answers.{Valued, valued, valued_by, Want, nothing, whole, inner, wanted, inner_by, within}
 use Rattle.expr_rules.specs.Paths.{path_of, root_of, is_some, has_writable_root, can_be_written}

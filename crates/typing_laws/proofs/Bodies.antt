@@ -1,7 +1,7 @@
 -- All statements of blocks are typed.
 use Rattle.std.proofs.Common.{◌≡◌, ℕ, suc, ◌≤◌, Bool, true, false, List, [], ◌∷◌, ◌++◌, Option, Some, None, refl, sym, ap, subst, ◌∙◌, arith}
 use Rattle.std.specs.Prelude.{◌||◌, not, Ok}
-use Rattle.std.proofs.lemmas.Bool.{or_left, or_right, not_from_false}
+use Rattle.std.proofs.lemmas.Bool.{or_left, or_right, not_from_false, and_parts}
 use Rattle.arc_base.specs.declared.place.Place.{Place}
 use Rattle.indent_scanner.specs.Words.{normal}
 use Rattle.nim_tree.specs.declared.name.Name.{Name}
@@ -24,7 +24,7 @@ use Rattle.nim_program.specs.Scopes.{Here, with_place}
 use Rattle.nim_program.specs.Typed as T
 use Rattle.nim_program.specs.Typed.{is_typed, are_typed, is_empty, are_conditions, are_blocks, has_else, labels_select, selector_kind}
 use Rattle.nim_program.specs.Typed.{is_selector as reads_selector}
-use Rattle.nim_program.specs.Typed.{is_typed_stmt, is_typed_block, are_typed_blocks}
+use Rattle.nim_program.specs.Typed.{is_typed_stmt, is_typed_block, are_typed_blocks, is_read, is_located, is_whole, is_typed_path}
 use Rattle.expr_rules.specs.Env.{Env}
 use Rattle.expr_rules.specs.Answers.{node, place_in, Valued, wanted}
 use Rattle.expr_rules.specs.Constructions.{element_type}
@@ -114,16 +114,19 @@ selector_of : (here : Here) (v : Valued) (rest : Args) → RightValue here v →
 selector_of here v rest h t = by_expr v.expr h.typed
   where
     by_expr : (e : Expr) → is_typed here e ≡ true → are_typed here (selecting e rest) ≡ true
-    by_expr (P.Read path) h = both h t
+    by_expr (P.Read path) h =
+        let q = and_parts (is_read here.facts path) (is_typed_path here path) h in
+        both (both (and_parts (is_located path) (is_whole here.facts path) q.0).1 q.1) t
     by_expr (P.Apply n ty act operands) h = both h t
     by_expr (P.Early n ty short a b) h = both h t
     by_expr (P.Choose n ty chooser parts) h = both h t
 
-reads : (e : Expr) → reads_selector (selecting e NoArg) ≡ true
-reads (P.Read path) = refl
-reads (P.Apply n ty act operands) = refl
-reads (P.Early n ty short a b) = refl
-reads (P.Choose n ty chooser parts) = refl
+reads : (here : Here) (e : Expr) → is_typed here e ≡ true → reads_selector (selecting e NoArg) ≡ true
+reads here (P.Read path) h =
+    (and_parts (is_located path) (is_whole here.facts path) (and_parts (is_read here.facts path) (is_typed_path here path) h).0).0
+reads here (P.Apply n ty act operands) h = refl
+reads here (P.Early n ty short a b) h = refl
+reads here (P.Choose n ty chooser parts) h = refl
 
 kind_selected : (facts : Facts) (e : Expr) → selector_kind facts (selecting e NoArg) ≡ kind_if facts (type_of e)
 kind_selected facts (P.Read path) = refl
@@ -315,7 +318,7 @@ module _ (calls : CallsComputed) (nodes : NodesComputed) (covers : EnoughCompute
         let cover : (has_else (blocks_of b.blocks e.stmts) || are_enough (kind_of here.facts s.of) None b.rows) ≡ true =
         arms_enough covers here st p s.of b e otherwise k j read.1.1 own_s t (kept_kind here.facts st.env.facts at.knows.all.said own_s) c in
         one_does here around st e.state _
-        (both (both (both (reads v.given.expr)
+        (both (both (both (reads here v.given.expr q.typed)
         (subst (λ k. labels_select k b.rows (blocks_of b.blocks e.stmts) ≡ true) (sym kind) (both (both (both sel r.labels) (r.matched e.stmts)) cover)))
         (selector_of here v.given NoArg q refl)) (r.blocks e.stmts z.typed)) z.at
         (omega (arith, r.later, z.later))

@@ -1,5 +1,6 @@
 -- Expressions that choose.
 use Rattle.std.proofs.Common.{◌≡◌, ℕ, Bool, true, false, List, [], ◌∷◌, Option, Some, None, refl, sym, ap, subst, ◌∙◌}
+use Rattle.std.proofs.lemmas.Bool.{and_parts}
 use Rattle.std.specs.Prelude.{Ok}
 use Rattle.arc_base.specs.declared.place.Place.{Place}
 use Rattle.nim_types.specs.Types as type
@@ -10,7 +11,7 @@ use Rattle.nim_program.specs.Nodes.{one_value, followed_by, selecting}
 use Rattle.nim_program.specs.Kinds.{TypeKind, kind_of, kind_if, is_bool, is_selected}
 use Rattle.nim_program.specs.Fitting.{labels_fit, has_label, are_labels, are_enough, conditions_fit, values_fit, labels_choose}
 use Rattle.nim_program.specs.Scopes.{Here}
-use Rattle.nim_program.specs.Typed.{is_typed, are_typed, are_placed}
+use Rattle.nim_program.specs.Typed.{is_typed, are_typed, are_placed, is_read, is_located, is_whole, is_typed_path}
 use Rattle.expr_rules.specs.Answers.{node, Valued}
 use Rattle.expr_rules.specs.Choices as C
 use Rattle.expr_rules.specs.Choices.{Branching, undecided, decided, agrees, branching_behind, if_agrees, branch_value, Chosen, Picked, gives_in, if_rule}
@@ -125,7 +126,10 @@ selected here n at v ty rows parts h s l f t p sound = by_selector v.expr h.type
     chosen o e = subst (λ o. labels_choose here.facts ty (kind_if here.facts o) rows (types_in parts) ≡ true) (sym e) (both (both s l) f)
 
     by_selector : (e : Expr) → is_typed here e ≡ true → type_of e ≡ Some v.of → Right here (P.Choose (node n at) ty (ByLabels rows) (selecting e parts))
-    by_selector (P.Read path) g e = record { typed = both (both (chosen (type_at path) e) p) (both g t); sound = sound }
+    by_selector (P.Read path) g e =
+        let q = and_parts (is_read here.facts path) (is_typed_path here path) g in
+        let r = and_parts (is_located path) (is_whole here.facts path) q.0 in
+        record { typed = both (both (chosen (type_at path) e) (both r.0 p)) (both (both r.1 q.1) t); sound = sound }
     by_selector (P.Apply k t' act operands) g e = record { typed = both (both (chosen t' e) p) (both g t); sound = sound }
     by_selector (P.Early k t' short a b) g e = record { typed = both (both (chosen (Some t') e) p) (both g t); sound = sound }
     by_selector (P.Choose k t' chooser more) g e = record { typed = both (both (chosen t' e) p) (both g t); sound = sound }

@@ -14,7 +14,8 @@ use Rattle.nim_program.specs.declared.operation.Use.{Use}
 use Rattle.nim_program.specs.declared.operation.Use.TheVariants.{Looked}
 use Rattle.nim_program.specs.Program as P
 use Rattle.nim_program.specs.Program.{Literal, Literals, Characters, NoObject, PartsOf, ElementsOf, NoLiteral, ALiteral, Building}
-use Rattle.nim_program.specs.Program.{Expr, Fresh, Args, NoArg, ByValue, ByPath, type_of, node_of, types_in}
+use Rattle.nim_program.specs.Program.{Expr, Path, Fresh, Args, NoArg, ByValue, ByPath, type_of, node_of, types_in, constant_in}
+use Rattle.nim_program.specs.Folds.{by_constant}
 use Rattle.nim_program.specs.Ints.{Checked, Fine, Trapped, applied, applied_to, compared, truth, within}
 use Rattle.nim_program.specs.Kinds.{kind_of, for_some, is_constant}
 use Rattle.nim_program.specs.Fitting.{built, is_built, are_distinct, places_in}
@@ -29,7 +30,8 @@ use Rattle.nim_meaning.specs.Here.{Here, gives_hooked}
 use Rattle.nim_meaning.specs.Table as T
 use Rattle.nim_meaning.specs.Table.{outcome, acts, does, limit_for}
 use Rattle.nim_meaning.specs.LeftOut as L
-use Rattle.nim_meaning.specs.Meaning.{eval, aimed, ready_all, settle, find, Ready, Evaluated, Aimed, Value_of, operand_for, fresh_root}
+use Rattle.nim_meaning.specs.Meaning.{eval, aimed, ready_all}
+use Rattle.nim_meaning.specs.Aims.{Aim, Root, Value_of, settle, find, Ready, Evaluated, Aimed, operand_for, fresh_root}
 use Rattle.expr_rules.specs.Constants as C
 use Rattle.expr_rules.specs.Constants.{comes_to, if_fine, limited, alone, in_pair, unary_of, binary_of, compare_of}
 use Rattle.expr_rules.specs.Constants.{measure_of, converted, among, of_literal, if_computed, computing, with_values}
@@ -58,19 +60,32 @@ pub record Meant (run : Here) (e : Expr) (l : Literal) : Type 0 where
   pub plain : gives_hooked run.facts (type_of e) ≡ false
   pub no_text : is_characters l ≡ false
 
+-- the same of one that a path begins with, and a constant is read where it stands
+pub record Begins (run : Here) (e : Expr) (l : Literal) : Type 0 where
+  pub meant : Meant run e l
+  pub standing : (k : Literal) → constant_in e ≡ Some k → k ≡ l
+
 -- operands that give these values
 pub data Come (run : Here) : Args → Literals → Type 0 where
   no_more : Come run NoArg NoLiteral
   by_value : (e : Expr) (l : Literal) {rest : Args} {ls : Literals} → Meant run e l → Come run rest ls → Come run (ByValue e rest) (ALiteral l ls)
-  by_path : (e : Expr) (l : Literal) {rest : Args} {ls : Literals} → Meant run e l → Come run rest ls → Come run (ByPath (Fresh e) rest) (ALiteral l ls)
+  by_path : (e : Expr) (l : Literal) {rest : Args} {ls : Literals} → Begins run e l → Come run rest ls → Come run (ByPath (Fresh e) rest) (ALiteral l ls)
 
 -- ---- operands
+
+abbrev aim_by : Option Literal → Literal → Aim
+aim_by None l = Value_of (literal_value l)
+aim_by (Some k) l = Root (Made (literal_value l))
+
+abbrev pub aim_at : Path → Literal → Aim
+aim_at (Fresh e) l = aim_by (constant_in e) l
+aim_at path l = Value_of (literal_value l)
 
 abbrev pub readies : Literals → Args → List Ready
 readies NoLiteral operands = []
 readies (ALiteral l ls) NoArg = []
 readies (ALiteral l ls) (ByValue e rest) = Evaluated (Given (literal_value l)) ∷ readies ls rest
-readies (ALiteral l ls) (ByPath path rest) = Aimed (Value_of (literal_value l)) ∷ readies ls rest
+readies (ALiteral l ls) (ByPath path rest) = Aimed (aim_at path l) ∷ readies ls rest
 
 abbrev pub taken : Literals → Args → List Operand
 taken NoLiteral operands = []
@@ -79,6 +94,16 @@ taken (ALiteral l ls) (ByValue e rest) = Given (literal_value l) ∷ taken ls re
 taken (ALiteral l ls) (ByPath path rest) = At (at_base (Made (literal_value l))) ∷ taken ls rest
 
 module _ (run : Here) where
+  aimed_by : (c : Option Literal) (l : Literal) (go : Does Aim) → ((k : Literal) → c ≡ Some k → k ≡ l) → AlwaysGives go (Value_of (literal_value l)) →
+      AlwaysGives (by_constant c (λ k. give (Root (Made (literal_value k)))) go) (aim_by c l)
+  aimed_by None l go h g = g
+  aimed_by (Some k) l go h g =
+      subst (λ j. AlwaysGives (give (Root (Made (literal_value k)))) (Root (Made (literal_value j)))) (h k refl) (given (Root (Made (literal_value k))))
+
+  found_by : (c : Option Literal) (l : Literal) → AlwaysGives (find (aim_by c l)) (at_base (Made (literal_value l)))
+  found_by None l = given (at_base (Made (literal_value l)))
+  found_by (Some k) l = costing 1 (give (at_base (Made (literal_value l)))) (at_base (Made (literal_value l))) (given (at_base (Made (literal_value l))))
+
   pub all_ready : {operands : Args} {ls : Literals} → Come run operands ls → (uses : ℕ → Use) (i : ℕ)
       → AlwaysGives (ready_all operands uses i run) (readies ls operands)
   all_ready no_more uses i = given []
@@ -91,14 +116,15 @@ module _ (run : Here) where
       (subst (λ b. AlwaysGives (give (Evaluated (operand_for b run.level (node_of e).number (literal_value l)) ∷ readies ls rest)) all) (sym m.plain)
       (given all)))
   all_ready (by_path e l {rest = rest} {ls = ls} m more) uses i =
-      let all : List Ready = Aimed (Value_of (literal_value l)) ∷ readies ls rest in
-      after (aimed (Fresh e) run) (λ a. ready_all rest uses (suc i) run >>= (λ ready. give (Aimed a ∷ ready))) (Value_of (literal_value l)) all
-      (after (eval e Looked run) (λ v. give (fresh_root (gives_hooked run.facts (type_of e)) run.level (node_of e).number v)) (literal_value l)
-      (Value_of (literal_value l)) (m.value Looked)
-      (subst (λ b. AlwaysGives (give (fresh_root b run.level (node_of e).number (literal_value l))) (Value_of (literal_value l))) (sym m.plain)
-      (given (Value_of (literal_value l)))))
-      (after (ready_all rest uses (suc i) run) (λ ready. give (Aimed (Value_of (literal_value l)) ∷ ready)) (readies ls rest) all (all_ready more uses (suc i))
-      (given all))
+      let aim : Aim = aim_by (constant_in e) l in
+      let all : List Ready = Aimed aim ∷ readies ls rest in
+      let root : Value → Does Aim = (λ v. give (fresh_root (gives_hooked run.facts (type_of e)) run.level (node_of e).number v)) in
+      after (aimed (Fresh e) run) (λ a. ready_all rest uses (suc i) run >>= (λ ready. give (Aimed a ∷ ready))) aim all
+      (aimed_by (constant_in e) l (eval e Looked run >>= root) m.standing
+      (after (eval e Looked run) root (literal_value l) (Value_of (literal_value l)) (m.meant.value Looked)
+      (subst (λ b. AlwaysGives (give (fresh_root b run.level (node_of e).number (literal_value l))) (Value_of (literal_value l))) (sym m.meant.plain)
+      (given (Value_of (literal_value l))))))
+      (after (ready_all rest uses (suc i) run) (λ ready. give (Aimed aim ∷ ready)) (readies ls rest) all (all_ready more uses (suc i)) (given all))
 
   pub settled : {operands : Args} {ls : Literals} → Come run operands ls → AlwaysGives (settle (readies ls operands)) (taken ls operands)
   settled no_more = given []
@@ -107,8 +133,8 @@ module _ (run : Here) where
       after (settle (readies ls rest)) (λ xs. give (Given (literal_value l) ∷ xs)) (taken ls rest) all (settled more) (given all)
   settled (by_path e l {rest = rest} {ls = ls} m more) =
       let all : List Operand = At (at_base (Made (literal_value l))) ∷ taken ls rest in
-      after (find (Value_of (literal_value l))) (λ place. settle (readies ls rest) >>= (λ xs. give (At place ∷ xs))) (at_base (Made (literal_value l))) all
-      (given (at_base (Made (literal_value l))))
+      after (find (aim_by (constant_in e) l)) (λ place. settle (readies ls rest) >>= (λ xs. give (At place ∷ xs))) (at_base (Made (literal_value l))) all
+      (found_by (constant_in e) l)
       (after (settle (readies ls rest)) (λ xs. give (At (at_base (Made (literal_value l))) ∷ xs)) (taken ls rest) all (settled more) (given all))
 
   values_taken : {operands : Args} {ls : Literals} → Come run operands ls → are_placed 0 operands ≡ true → V.values_in (taken ls operands) ≡ literal_values ls

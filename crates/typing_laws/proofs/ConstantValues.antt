@@ -13,7 +13,7 @@ use Rattle.nim_program.specs.declared.operation.Use.{Use}
 use Rattle.nim_program.specs.declared.operation.Use.TheVariants.{Owned}
 use Rattle.nim_program.specs.Program as P
 use Rattle.nim_program.specs.Program.{Literal, Literals, Characters, NoObject, PartsOf, ElementsOf, NoLiteral, ALiteral, Act, Doing, Building, Giving, Calling}
-use Rattle.nim_program.specs.Program.{Expr, Apply, Early, Path, Fresh, Args, NoArg, ByValue, ByPath, type_of, types_in}
+use Rattle.nim_program.specs.Program.{Expr, Apply, Read, Early, Choose, Path, Fresh, Args, NoArg, ByValue, ByPath, type_of, types_in, constant_in}
 use Rattle.nim_program.specs.Ints.{is_true}
 use Rattle.nim_program.specs.Kinds.{kind_of, plain_kind, is_bool, is_text, is_ref, is_sequence, has_parts, is_of, is_there, is_constant}
 use Rattle.nim_program.specs.Kinds.{count_literals}
@@ -31,7 +31,8 @@ use Rattle.nim_meaning.specs.Deeds.{carry, ◌>>=◌ as then_deed}
 use Rattle.nim_meaning.specs.Here.{Here, gives_hooked}
 use Rattle.nim_meaning.specs.Table.{acts, does}
 use Rattle.nim_meaning.specs.LeftOut.{out_if, ◌or_then◌, is_act_built, writes_literals, left_out_in, left_out_in_path, left_out_in_args}
-use Rattle.nim_meaning.specs.Meaning.{eval, ready_all, settle, carried, early, at_node, row, Evaluated}
+use Rattle.nim_meaning.specs.Meaning.{eval, ready_all, carried, early, at_node, row}
+use Rattle.nim_meaning.specs.Aims.{settle, Evaluated}
 use Rattle.nim_meaning.specs.Places.{made_by}
 use Rattle.nim_program.specs.Uses.{use_of}
 use Rattle.expr_rules.specs.Constants as C
@@ -40,9 +41,9 @@ use Rattle.expr_rules.specs.Constants.{if_computed, computing, with_values, act_
 use Rattle.expr_rules.specs.Constants.{value_in, values_in, value_at, object_of}
 use Rattle.typing_laws.specs.Sound.{AreSound, of_bool}
 use Rattle.typing_laws.specs.Given.{AlwaysGives}
-use Rattle.typing_laws.proofs.Tests.{never, ever}
+use Rattle.typing_laws.proofs.Tests.{never, ever, some_one, none_some}
 use Rattle.typing_laws.proofs.SoundKinds.{plain_as}
-use Rattle.typing_laws.proofs.Measures.{come_one, one_comes, two_come, bool_by}
+use Rattle.typing_laws.proofs.Measures.{come_one, one_comes, two_come, bool_by, limited_is}
 use Rattle.typing_laws.proofs.Constants as K
 use Rattle.typing_laws.proofs.Constants.{Closed, ClosedOne}
 use Rattle.typing_laws.proofs.Preserved.{preserved}
@@ -76,6 +77,22 @@ silent facts ty of (Doing o) all l e = refl
 silent facts ty of (Building given) all l e = refl
 silent facts ty of (Giving x) all l e = refl
 silent facts ty of (Calling proc types) all l e = refl
+
+-- a constant comes to its own value
+standing_is : (facts : Facts) (e : Expr) (l k : Literal) → value_in facts e ≡ comes_to l → constant_in e ≡ Some k → k ≡ l
+standing_is facts (Apply node ty (Giving (P.Characters bytes)) NoArg) l k c s = sym (some_one s) ∙ (limited_is _ _ c).0
+standing_is facts (Apply node ty (Giving (P.Number z)) NoArg) l k c s = sym (some_one s) ∙ come_one c
+standing_is facts (Apply node ty (Giving P.NoObject) NoArg) l k c s = sym (some_one s) ∙ come_one c
+standing_is facts (Apply node ty (Giving (P.PartsOf all)) NoArg) l k c s = sym (some_one s) ∙ come_one c
+standing_is facts (Apply node ty (Giving (P.ElementsOf all)) NoArg) l k c s = sym (some_one s) ∙ come_one c
+standing_is facts (Apply node ty (Giving x) (ByValue value rest)) l k c s = none_some s
+standing_is facts (Apply node ty (Giving x) (ByPath path rest)) l k c s = none_some s
+standing_is facts (Apply node ty (Doing o) operands) l k c s = none_some s
+standing_is facts (Apply node ty (Building fields) operands) l k c s = none_some s
+standing_is facts (Apply node ty (Calling proc types) operands) l k c s = none_some s
+standing_is facts (Read path) l k c s = none_some s
+standing_is facts (Early node ty short left right) l k c s = none_some s
+standing_is facts (Choose node ty chooser parts) l k c s = none_some s
 
 -- ---- expressions
 
@@ -273,7 +290,10 @@ module _ (run : Here) (around : Scope) (sound : AreSound run.facts) (closed : Cl
         → value_at of_run path ≡ comes_to l → Come run rest ls → Come run (ByPath path rest) (ALiteral l ls)
     path_meant (P.Variable node ty place global) rest l ls h n c more = cc
     path_meant (P.Fresh e) rest l ls h n c more =
-        by_path e l (value_meant e l (and_parts (is_fresh e && is_there (type_of e)) (is_typed here e) h).1 n c) more
+        by_path e l (record {
+          meant = value_meant e l (and_parts (is_fresh e && is_there (type_of e)) (is_typed here e) h).1 n c;
+          standing = λ k s. standing_is of_run e l k c s;
+        }) more
     path_meant (P.Field node ty base field) rest l ls h n c more = cc
     path_meant (P.Element node ty base index constant) rest l ls h n c more = cc
     path_meant (P.Deref ty base) rest l ls h n c more = cc

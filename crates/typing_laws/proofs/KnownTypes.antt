@@ -4,13 +4,12 @@ use Rattle.std.proofs.Common.{append_assoc, append-nil}
 use Rattle.std.specs.Prelude.{◌⊎◌, not, ◌||◌, if◌then◌else◌}
 use Rattle.std.proofs.lemmas.Bool.{and_parts, or_parts}
 use Rattle.nim_types.specs.Types as type
-use Rattle.nim_types.specs.Types.{Ty, Key, Field, Fact, members, fields, base, Declared, Facts, fact_of, same_key}
+use Rattle.nim_types.specs.Types.{Ty, Key, members, fields, base, Declared, Facts, fact_of, same_key}
 use Rattle.nim_types.specs.Forms.{types_of}
 use Rattle.decl_rules.specs.Meanings.{Meant, an_object, an_enum, a_distinct, an_alias, Defined, meant_in, KnownType, meaning_in, resolved, resolved_fields}
 use Rattle.decl_rules.specs.Meanings.{meaning_of, facts_of, as_known, known_facts, made_of, occurs, occurs_in_any, is_made_of, known_keys, is_key_among}
 use Rattle.decl_rules.specs.Meanings.{is_usable, is_next, next_in, and_known, known_more, known_behind, known_through, known_of}
-use Rattle.typing_laws.specs.Sound.{Sound, AllSound, is_said, AreSound}
-use Rattle.typing_laws.specs.Trees.{has_name}
+use Rattle.typing_laws.specs.Sound.{Sound, AllSound, are_members, is_said, AreSound}
 use Rattle.typing_laws.proofs.Tests.{never, ever, some_one, none_some}
 use Rattle.typing_laws.proofs.Growing.{sound_grown}
 use Rattle.typing_laws.proofs.Further.{AllSaid, said_before, said_there, all_behind}
@@ -76,7 +75,7 @@ next_is f holds (x ∷ all) d h e = by_first (f x.key) refl e (next_is f holds a
 -- what a definition says, with names of the section in it
 abbrev pub IsFine : Facts → Meant → Type 0
 IsFine g (an_object all) = AllSound g (types_of all)
-IsFine g (an_enum names) = has_name names ≡ true
+IsFine g (an_enum names) = are_members names ≡ true
 IsFine g (a_distinct t) = Sound g t
 IsFine g (an_alias t) = Sound g t
 
@@ -95,10 +94,6 @@ joined h x sound is made =
     let more = one_more_sound h x sound is made in
     let said = said_there h x [] in
     record { facts = more; means = said_sound (h ++ x ∷ []) more.said x.of said.0 said.1 }
-
-some_name : (names : List (List ℕ)) (key : Key) → has_name names ≡ true → is_said (type.enum key) (members names) ≡ true
-some_name [] key h = never h
-some_name (first ∷ rest) key h = refl
 
 not_true : (b : Bool) → not b ≡ true → b ≡ false
 not_true true e = never e
@@ -165,7 +160,7 @@ module _ (f : Facts) (sound : AreSound f) (section : List Key) where
       joined h (record { of = type.object key type.no_types; fact = fields (resolved_fields known all) false }) s refl made in
       record { facts = j.facts; means = j.means }
   becomes known key (an_enum names) s means fine e =
-      let j = joined (f ++ known_facts known) (record { of = type.enum key; fact = members names }) s (some_name names key fine) tt in
+      let j = joined (f ++ known_facts known) (record { of = type.enum key; fact = members names }) s fine tt in
       record { facts = j.facts; means = j.means }
   becomes known key (a_distinct t) s means fine e =
       let h = f ++ known_facts known in

@@ -26,12 +26,12 @@ use Rattle.nim_program.specs.declared.program.Param.{Param as RustParam}
 use Rattle.nim_program.specs.declared.program.Body.{Body as RustBody}
 use Rattle.nim_program.specs.declared.program.Proc.{Proc as RustProc}
 use Rattle.nim_program.specs.Program as T
-use Rattle.nim_program.specs.Program.{Args, Stmts, Blocks}
+use Rattle.nim_program.specs.Program.{Args, Stmts, Blocks, type_of, constant_in}
 use Rattle.nim_program.specs.View as V
 use Rattle.nim_program.specs.View.{if_type, expr_of, path_of, operand_before, operand_row, choice_row, pick_row, else_of, operands_of, declared_of, if_value}
 use Rattle.nim_program.specs.View.{stmt_before, stmt_row, condition_blocks, branch_row, case_row, handler_row, stmts_of, param_of, body_of, proc_of}
 use Rattle.nim_program.specs.Folds.{lists, together, in_turn, total, total_at, totals, each, total_of, each_block, total_of_handlers, loop_places}
-use Rattle.nim_program.specs.Folds.{if_declared}
+use Rattle.nim_program.specs.Folds.{if_declared, if_constant, begun_by}
 use Rattle.nim_program.specs.Kinds.{is_among_types, are_among_types}
 use Rattle.nim_program.specs.Typed.{type_if, own_types, place_types, param_declared, body_types}
 use Rattle.typing_laws.proofs.Tests.{both, some_one, none_some}
@@ -112,6 +112,35 @@ module _ (ts : List Ty) (ints : is_among_types ts type.int ≡ true) where
   apply_listed : (o : Option ℕ) (act args : List Ty) → Among ts act → Among ts args → Among ts ((type_if (if_type ts o) ++ act) ++ args)
   apply_listed o act args h k = node_listed (type_if (if_type ts o) ++ act) args (node_listed (type_if (if_type ts o)) act (if_listed o) h) k
 
+  -- ---- the type of a value
+
+  mutual
+    value_listed_type : (e : RustExpr) → Among ts (type_if (type_of (expr_of ts e)))
+    value_listed_type (E.Apply' node ty operation p operands) = if_listed ty
+    value_listed_type (E.Call' node ty proc types p operands) = if_listed ty
+    value_listed_type (E.Construct' node ty fields p operands) = one ty
+    value_listed_type (E.Constant node ty value) = one ty
+    value_listed_type (E.Read path) = path_listed_type path
+    value_listed_type (E.Early' node ty short p left q right) = one ty
+    value_listed_type (E.If' node ty p branches q otherwise) = if_listed ty
+    value_listed_type (E.Case' node ty p selector q branches otherwise) = if_listed ty
+
+    path_listed_type : (path : RustPath) → Among ts (type_if (T.type_at (path_of ts path)))
+    path_listed_type (P.Variable node ty place global) = one ty
+    path_listed_type (P.Fresh' p value) = value_listed_type value
+    path_listed_type (P.Field' node ty p base field) = one ty
+    path_listed_type (P.Element' node ty p base q index constant) = one ty
+    path_listed_type (P.Deref' ty p base) = one ty
+
+  -- what a path begins with: its type, and where it is no constant the types in it
+  fresh_listed : (c : Option T.Literal) (read : Bool) (value : RustExpr) → Listed (expr_of ts value) →
+      Among ts (if_constant c (own_types (begun_by c read (expr_of ts value)))
+      (own_types (begun_by c read (expr_of ts value)) ++ total lists own_types (expr_of ts value)))
+  fresh_listed None read value h =
+      let alone = node_listed (type_if (type_of (expr_of ts value))) [] (value_listed_type value) refl in
+      node_listed (type_if (type_of (expr_of ts value)) ++ []) _ alone h
+  fresh_listed (Some literal) read value h = node_listed (type_if (type_of (expr_of ts value))) [] (value_listed_type value) refl
+
   mutual
     expr_listed : (e : RustExpr) → Listed (expr_of ts e)
     expr_listed (E.Apply' node ty operation p operands) =
@@ -125,10 +154,10 @@ module _ (ts : List Ty) (ints : is_among_types ts type.int ≡ true) where
     expr_listed (E.Early' node ty short p left q right) =
         node_listed (type_at ts ty ∷ []) _ (one ty) (both_among ts (total lists own_types (expr_of ts left)) _ (expr_listed left) (expr_listed right))
     expr_listed (E.If' node ty p branches q otherwise) =
-        node_listed (type_if (if_type ts ty)) _ (if_listed ty)
+        apply_listed ty [] _ refl
         (totals_among ts _ (choices_listed branches (T.ByValue (expr_of ts otherwise) T.NoArg) (expr_listed otherwise, tt)))
     expr_listed (E.Case' node ty p selector q branches otherwise) =
-        node_listed (type_if (if_type ts ty)) _ (if_listed ty)
+        apply_listed ty [] _ refl
         (totals_among ts _ (operand_listed selector (pick_row ts branches (else_of ts otherwise))
         (picks_listed branches (else_of ts otherwise) (else_listed otherwise))))
 
@@ -138,12 +167,12 @@ module _ (ts : List Ty) (ints : is_among_types ts type.int ≡ true) where
 
     path_listed : (read : Bool) (path : RustPath) → Among ts (total_at lists own_types read (path_of ts path))
     path_listed read (P.Variable node ty place global) = one ty
-    path_listed read (P.Fresh' p value) = expr_listed value
+    path_listed read (P.Fresh' p value) = fresh_listed (constant_in (expr_of ts value)) read value (expr_listed value)
     path_listed read (P.Field' node ty p base field) = node_listed (type_at ts ty ∷ []) _ (one ty) (path_listed false base)
     path_listed read (P.Element' node ty p base q index constant) =
         node_listed (type_at ts ty ∷ []) _ (one ty)
         (both_among ts (total_at lists own_types false (path_of ts base)) _ (path_listed false base) (expr_listed index))
-    path_listed read (P.Deref' ty p base) = path_listed read base
+    path_listed read (P.Deref' ty p base) = node_listed (type_at ts ty ∷ []) _ (one ty) (path_listed false base)
 
     operand_listed : (a : RustOperand) (rest : Args) → ArgsListed rest → ArgsListed (operand_before ts a rest)
     operand_listed (A.Value value) rest h = (expr_listed value, h)
@@ -207,7 +236,7 @@ module _ (ts : List Ty) (ints : is_among_types ts type.int ≡ true) where
         (operand_listed selector T.NoArg tt) (arms_listed branches (stmt_row ts otherwise) (stmts_listed otherwise))) h
     stmt_listed (S.Loop' node kind head p body) rest h =
         both_among ts _ _
-        (node_listed (place_types (loop_places (V.kind_of ts kind))) _ (loop_listed kind)
+        (node_listed (place_types (loop_places (V.kind_of ts kind)) ++ []) _ (both_among ts (place_types (loop_places (V.kind_of ts kind))) [] (loop_listed kind) refl)
         (both_among ts (totals lists own_types (operands_of ts head.items)) _ (totals_among ts _ (all_listed head.items)) (stmts_listed body))) h
     stmt_listed (S.Raise node exception message) rest h =
         both_among ts (totals lists own_types (if_value ts message)) _ (totals_among ts _ (value_listed message)) h
@@ -236,7 +265,8 @@ module _ (ts : List Ty) (ints : is_among_types ts type.int ≡ true) where
     handlers_listed : {m : _} (row : Row_of-Handler m) → Among ts (total_of_handlers lists own_types (handler_row ts row))
     handlers_listed end_of-Handler = refl
     handlers_listed (more_of-Handler types name p body row) =
-        node_listed (place_types (if_declared (option_map (declared_of ts) name))) _ (place_listed name)
+        node_listed (place_types (if_declared (option_map (declared_of ts) name)) ++ []) _
+        (both_among ts (place_types (if_declared (option_map (declared_of ts) name))) [] (place_listed name) refl)
         (both_among ts (total_of lists own_types (stmt_row ts body)) _ (stmts_listed body) (handlers_listed row))
 
   block_listed : (all : List RustStmt) → BlockListed (stmts_of ts all)

@@ -9,7 +9,7 @@ use Rattle.nim_tree.specs.Statements as tree
 use Rattle.nim_tree.specs.Statements.{Head, Statement, Statements}
 use Rattle.nim_program.specs.declared.nodes.TheConstants.{MOST_NODES}
 use Rattle.nim_program.specs.Program.{Declared, Proc}
-use Rattle.nim_program.specs.Folds.{Seen, AtStmt, AtDeclare, lists, node_numbers, own_places, total_in, totals, total_of, block_nodes, block_places}
+use Rattle.nim_program.specs.Folds.{Stating, Declaring, Seen, stated, lists, node_numbers, own_places, total_in, totals, total_of, block_nodes, block_places}
 use Rattle.nim_program.specs.Numbering.{rise_to, numbers_of, is_numbered_if, are_numbered}
 use Rattle.expr_rules.specs.Numbers.{Run}
 use Rattle.decl_rules.specs.State.{ResultPlace, in_module, in_body, State, Step, does, declares, defers, Stated, stated_as, block_of, noting}
@@ -64,13 +64,13 @@ steps_total own (does s ∷ xs) ys =
     ap (λ l. total_in lists own s ++ l) (steps_total own xs ys)
     ∙ sym (append_assoc (total_in lists own s) (total_of lists own (block_of xs)) (total_of lists own (block_of ys)))
 steps_total own (declares node place cursor value ∷ xs) ys =
-    let a = own (AtDeclare node place cursor) in
+    let a = own (stated node (place ∷ []) (Declaring cursor)) in
     let b = totals lists own value in
     let c = total_of lists own (block_of xs) in
     let d = total_of lists own (block_of ys) in
     ap (λ l. a ++ (b ++ l)) (steps_total own xs ys) ∙ ap (λ l. a ++ l) (sym (append_assoc b c d)) ∙ sym (append_assoc a (b ++ c) d)
 steps_total own (defers node last ∷ xs) ys =
-    let a = own (AtStmt node) in
+    let a = own (stated node [] Stating) in
     let b = total_of lists own last in
     let c = total_of lists own (block_of xs) in
     let d = total_of lists own (block_of ys) in

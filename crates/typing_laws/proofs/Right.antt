@@ -10,8 +10,9 @@ use Rattle.nim_program.specs.Program as P
 use Rattle.nim_program.specs.Program.{Literal, Act, Doing, Giving, Expr, Path, Args, NoArg, ByValue, ByPath, type_of, type_at, types_in}
 use Rattle.nim_program.specs.Kinds.{kind_of, kind_if, is_there, is_held, is_constant}
 use Rattle.nim_program.specs.Fitting.{fits, places_in}
-use Rattle.nim_program.specs.Scopes.{Here, is_written}
-use Rattle.nim_program.specs.Typed.{is_whole, are_placed, may_take_all, act_fits, is_typed, is_typed_path, are_typed}
+use Rattle.nim_program.specs.Scopes.{Here}
+use Rattle.nim_program.specs.Program.{is_written}
+use Rattle.nim_program.specs.Typed.{is_whole, are_placed, may_take_all, act_fits, is_typed, is_typed_path, are_typed, is_read, is_located}
 use Rattle.expr_rules.specs.Answers.{Valued, valued, Operand, value, open_sequence, a_type, the_input, no_elements, exprs_of}
 use Rattle.expr_rules.specs.Paths.{path_of}
 use Rattle.typing_laws.specs.Sound.{Sound, of_sequence}
@@ -110,14 +111,15 @@ there_by e = ap is_there e
 
 pub path_typed : (here : Here) (e : Expr) (ty : Ty) → is_typed here e ≡ true → type_of e ≡ Some ty → is_typed_path here (path_of e) ≡ true
 path_typed here (P.Apply n t act operands) ty h e = both (there_by e) h
-path_typed here (P.Read path) ty h e = (and_parts (is_whole here.facts path) (is_typed_path here path) h).1
+path_typed here (P.Read path) ty h e = (and_parts (is_read here.facts path) (is_typed_path here path) h).1
 path_typed here (P.Early n t short a b) ty h e = h
 path_typed here (P.Choose n t chooser parts) ty h e = both (there_by e) h
 
 pub path_whole : (here : Here) (e : Expr) (ty : Ty) → is_typed here e ≡ true → type_of e ≡ Some ty → Sound here.facts ty
     → is_whole here.facts (path_of e) ≡ true
 path_whole here (P.Apply n t act operands) ty h e s = subst (λ o. is_held (kind_if here.facts o) ≡ true) (sym e) (held s)
-path_whole here (P.Read path) ty h e s = (and_parts (is_whole here.facts path) (is_typed_path here path) h).0
+path_whole here (P.Read path) ty h e s =
+    (and_parts (is_located path) (is_whole here.facts path) (and_parts (is_read here.facts path) (is_typed_path here path) h).0).1
 path_whole here (P.Early n t short a b) ty h e s = subst (λ t. is_held (kind_of here.facts t) ≡ true) (sym (some_one e)) (held s)
 path_whole here (P.Choose n t chooser parts) ty h e s = subst (λ o. is_held (kind_if here.facts o) ≡ true) (sym e) (held s)
 

@@ -18,7 +18,8 @@ use Rattle.nim_program.specs.Ints.{low, high}
 use Rattle.nim_program.specs.Kinds as kind
 use Rattle.nim_program.specs.Kinds.{kind_of, is_ordinal, plain_kind, is_value, is_constant, is_held, is_of, has_length, is_selected}
 use Rattle.nim_program.specs.Fitting.{fits, is_base_of, places_in, steps, updates}
-use Rattle.nim_program.specs.Scopes.{Here, is_written}
+use Rattle.nim_program.specs.Scopes.{Here}
+use Rattle.nim_program.specs.Program.{is_written}
 use Rattle.nim_program.specs.Typed.{may_take, are_placed}
 use Rattle.expr_rules.specs.Answers.{Valued, Operand, only_if}
 use Rattle.expr_rules.specs.Paths.{path_of}

@@ -21,7 +21,8 @@ use Rattle.nim_program.specs.Program.{Expr, Path, Args, NoArg, ByValue, ByPath, 
 use Rattle.nim_program.specs.Nodes.{one_value, path_and_value, discard}
 use Rattle.nim_program.specs.SelfAssignment.{is_itself, is_result}
 use Rattle.nim_program.specs.Fitting.{fits, places_in}
-use Rattle.nim_program.specs.Scopes.{Here, placed, with_place, is_written}
+use Rattle.nim_program.specs.Scopes.{Here, placed, with_place}
+use Rattle.nim_program.specs.Program.{is_written}
 use Rattle.nim_program.specs.Typed.{is_typed, are_typed, are_placed, may_take, may_take_all, starts, is_typed_stmt, is_typed_block}
 use Rattle.nim_program.specs.Typed as T
 use Rattle.expr_rules.specs.Env.{Env, variable}

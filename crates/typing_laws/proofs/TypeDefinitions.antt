@@ -25,8 +25,8 @@ use Rattle.decl_rules.specs.TypeRules as R
 use Rattle.decl_rules.specs.TypeRules.{IsBody, IsTypeDefinition, AreTypeDefinitions}
 use Rattle.typing_laws.specs.Sound.{Sound, AllSound}
 use Rattle.typing_laws.specs.Knows.{EntryFits, EntriesFit, Knows, with_facts}
-use Rattle.typing_laws.specs.Trees.{has_name, BodyRead, TypesRead}
-use Rattle.typing_laws.proofs.Tests.{never, ever, ok_one, some_none}
+use Rattle.typing_laws.specs.Trees.{BodyRead, TypesRead}
+use Rattle.typing_laws.proofs.Tests.{ever, ok_one, some_none}
 use Rattle.typing_laws.proofs.Growing.{Said, sound_grown}
 use Rattle.typing_laws.proofs.Further.{said_before}
 use Rattle.typing_laws.proofs.Arms.{then_is}
@@ -149,10 +149,6 @@ texts_length : (all : List Name) → length all ≡ length (texts_of all)
 texts_length [] = refl
 texts_length (x ∷ all) = ap suc (texts_length all)
 
-texts_some : (all : List Name) → has_name all ≡ true → has_name (texts_of all) ≡ true
-texts_some [] h = never h
-texts_some (x ∷ all) h = refl
-
 -- ---- fields
 
 fields_types : (all : List Part) → types_of all ≡ form.types_of (fields_of all)
@@ -236,7 +232,7 @@ module _ (here : Here) (st : State) (all : List Declaration) (knows : Knows (wit
       → IsBody st before (names_env st all s) (known_env st all s) key of b → BodyRead of → IsFine g b.meant
   body_fine s r (R.b_object {all = parts} h) read =
       subst (AllSound g) (fields_types parts.parts) (parts_right (with_facts here g) (later (known_env st all s)) (names_env st all s) (seen s r) h)
-  body_fine s r (R.b_enum {all = names} h) read = texts_some names read.0
+  body_fine s r (R.b_enum h) read = read.0
   body_fine s r (R.b_distinct h) read = spelled_right (with_facts here g) (later (known_env st all s)) (names_env st all s) (seen s r) h
   body_fine s r (R.b_alias h) read = spelled_right (with_facts here g) (later (known_env st all s)) (names_env st all s) (seen s r) h
 

@@ -3,10 +3,10 @@ use Rattle.std.specs.Prelude.{◌≡◌, ℕ, List}
 use Rattle.arc_base.specs.Event.{Event}
 use Rattle.arc_base.specs.BigStep.{Res, Got}
 use Rattle.nim_meaning.specs.State.{World, State}
-use Rattle.nim_meaning.specs.Acts.{Flow, On, Does}
+use Rattle.nim_meaning.specs.Acts.{Outcome, On, Does}
 
 -- it comes to a value, with this world, so many units left, and these events so far
-pub record Gives {A : Type 0} (r : Res State (Flow A)) (x : A) (world : World) (units : ℕ) (out : List Event) : Type 0 where
+pub record Gives {A : Type 0} (r : Res State (Outcome A)) (x : A) (world : World) (units : ℕ) (out : List Event) : Type 0 where
   pub behind : State
   pub is : r ≡ Got (On x) behind
   pub same_world : behind.world ≡ world

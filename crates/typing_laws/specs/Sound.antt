@@ -1,6 +1,7 @@
--- Types as declarations make them: what is said of a declared type is of its sort, an enum has a member, the length of an array is an int, and
--- there are no refs, type parameters and exceptions.
-use Rattle.std.specs.Prelude.{◌≡◌, ℕ, pos, Bool, true, false, List, ◌∷◌, Some}
+-- Types as declarations make them: what is said of a declared type is of its sort, an enum has members with names, the length of an array is an
+-- int, and there are no refs, type parameters and exceptions.
+use Rattle.std.specs.Prelude.{◌≡◌, ℕ, pos, Bool, true, false, List, [], ◌∷◌, Some}
+use Rattle.std.specs.List.{list_all}
 use Rattle.nim_types.specs.Types as type
 use Rattle.nim_types.specs.Types.{Ty, Tys, no_types, types, Key, Field, Fact, members, fields, base, Facts, fact_of}
 use Rattle.nim_types.specs.Forms.{types_of, Form, HasForm}
@@ -30,9 +31,18 @@ abbrev pub is_no_type : Tys → Bool
 is_no_type no_types = true
 is_no_type (types t ts) = false
 
+abbrev pub has_bytes : List ℕ → Bool
+has_bytes [] = false
+has_bytes (b ∷ bytes) = true
+
+-- an enum has members, and each has a name
+abbrev pub are_members : List (List ℕ) → Bool
+are_members [] = false
+are_members (first ∷ rest) = list_all has_bytes (first ∷ rest)
+
 -- what a declaration may say of a type
 abbrev pub is_said : Ty → Fact → Bool
-is_said (type.enum key) (members (first ∷ rest)) = true
+is_said (type.enum key) (members names) = are_members names
 is_said (type.object key ts) (fields all resource) = is_no_type ts
 is_said (type.distinct key) (base t) = true
 is_said ty fact = false

@@ -1,5 +1,5 @@
 -- Syntax trees as they are read: an int and a char are values of their types, each branch of a `case` has a label, a definition has a name, a
--- block isn't empty, and the number of an enum's members is an int above 0.
+-- block isn't empty, and an enum has members with names, whose number is an int.
 use Rattle.std.specs.Prelude.{◌≡◌, pos, Bool, true, false, List, [], ◌∷◌, length, codes, Option, Some, None}
 use Rattle.indent_scanner.specs.Words.{normal}
 use Rattle.nim_tree.specs.declared.name.Declared.{Declared}
@@ -13,6 +13,8 @@ use Rattle.nim_tree.specs.Types.{Body, Declaration}
 use Rattle.nim_types.specs.Types.{same_text}
 use Rattle.nim_program.specs.Ints.{fits}
 use Rattle.decl_rules.specs.Elaborated.{Module}
+use Rattle.decl_rules.specs.Sections.{texts_of}
+use Rattle.typing_laws.specs.Sound.{are_members}
 use Rattle.nim_program.specs.Kinds as kind
 use Rattle.nim_program.specs.Kinds.{is_value}
 
@@ -71,7 +73,7 @@ DefinitionsRead [] = Unit {0}
 DefinitionsRead (d ∷ rest) = ((has_name d.names ≡ true) × IfRead d.value) × DefinitionsRead rest
 
 abbrev pub BodyRead : Body → Type 0
-BodyRead (written.enum at names) = (has_name names ≡ true) × (fits (pos (length names)) ≡ true)
+BodyRead (written.enum at names) = (are_members (texts_of names) ≡ true) × (fits (pos (length names)) ≡ true)
 BodyRead of = Unit {0}
 
 abbrev pub TypesRead : List Declaration → Type 0

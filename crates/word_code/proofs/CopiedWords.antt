@@ -1,12 +1,12 @@
 -- Memory in which words were copied from one range to another.
-use Rattle.std.proofs.Common.{◌≡◌, ℕ, zero, suc, ◌+◌, ◌*◌, ◌%◌, ◌^◌, ◌<◌, ◌≤◌, ◌⊎◌, inl, inr, Ok, refl, sym, ap, subst}
+use Rattle.std.proofs.Common.{◌≡◌, ℕ, zero, suc, ◌+◌, ◌*◌, ◌%◌, ◌^◌, ◌<◌, ◌≤◌, ◌⊎◌, inl, inr, Ok, refl, sym, ap}
 use Rattle.std.proofs.Common.{◌∙◌, arith}
 use Rattle.rv32_isa.specs.declared.micro_op.Size.TheVariants.{Word}
 use Rattle.word_code.specs.Memory.{Memory, as_state, number_at, with_number, bytes_at}
 use Rattle.rv32_isa.specs.Regions.{KeepsSizes}
-use Rattle.word_code.specs.RoutineTable.{Cell, Area, SameWords, Separate, IsRewritten}
+use Rattle.word_code.specs.RoutineTable.{Cell, Area, low, LowWords, Separate, IsRewritten}
 use Rattle.word_code.proofs.Cells.{MemoryLaw, Sized, sizes_same, sizes_more, put_sized, put_rewritten, put_here, put_elsewhere}
-use Rattle.word_code.proofs.Areas.{put_cell, put_area, word_in, with_copied}
+use Rattle.word_code.proofs.Areas.{put_cell, put_area, low_word, low_small, got_low, with_copied}
 
 -- the word at an address, however that is written
 pub at_same : (m : Memory) (a b : ℕ) → a ≡ b → number_at m a Word ≡ number_at m b Word
@@ -72,7 +72,11 @@ changed_more m middle other at n x y = record {
 
 pub record CopiedTo (m other : Memory) (to from bytes : ℕ) : Type 0 where
   pub changed : Changed m other to bytes
-  pub same : SameWords m from other to bytes
+  pub same : LowWords m from other to bytes
+
+-- what is read of a cell
+pub low_read : (m : Memory) (a : ℕ) → Cell m a → low (number_at m a Word) ≡ Ok (low_word m a)
+low_read m a c = ap low c.reads ∙ ap Ok (got_low m a c)
 
 module _ (law : MemoryLaw) where
   pub changed_word : (m : Memory) (a w : ℕ) → Sized m → Cell m a → w < 2 ^ 32 → Changed m (with_number m a Word w) a 4
@@ -102,10 +106,9 @@ module _ (law : MemoryLaw) where
   copied_to zero m to from sized there here apart =
       record { changed = changed_none m to sized; same = λ o within is. absurd (omega arith) }
   copied_to (suc n) m to from sized there here apart =
-      let w : ℕ = word_in (number_at m from Word) in
-      let is : here.0.word ≡ w = sym (ap word_in here.0.reads) in
-      let small : w < 2 ^ 32 = subst (λ x. x < 2 ^ 32) is here.0.small in
-      let read : number_at m from Word ≡ Ok w = here.0.reads ∙ ap Ok is in
+      let w : ℕ = low_word m from in
+      let small : w < 2 ^ 32 = low_small m from in
+      let read : low (number_at m from Word) ≡ Ok w = low_read m from here.0 in
       let middle : Memory = with_number m to Word w in
       let x : Changed m middle to 4 = changed_word m to w sized there.0 small in
       let y : CopiedTo middle (with_copied n middle (to + 4) (from + 4)) (to + 4) (from + 4) (span n)
@@ -117,13 +120,13 @@ module _ (law : MemoryLaw) where
       }
     where
       same : (n : ℕ) (m : Memory) (to from : ℕ) → Sized m → Cell m to → Cell m from → Separate to from (4 + span n) → (w : ℕ) → w < 2 ^ 32
-          → number_at m from Word ≡ Ok w
+          → low (number_at m from Word) ≡ Ok w
           → CopiedTo (with_number m to Word w) (with_copied n (with_number m to Word w) (to + 4) (from + 4)) (to + 4) (from + 4) (span n)
-          → SameWords m from (with_copied n (with_number m to Word w) (to + 4) (from + 4)) to (4 + span n)
+          → LowWords m from (with_copied n (with_number m to Word w) (to + 4) (from + 4)) to (4 + span n)
       same n m to from sized there here apart w small read y o within is = by o is within
         where
           by : (o : ℕ) → o % 4 ≡ 0 → o + 4 ≤ 4 + span n
-              → number_at (with_copied n (with_number m to Word w) (to + 4) (from + 4)) (to + o) Word ≡ number_at m (from + o) Word
+              → number_at (with_copied n (with_number m to Word w) (to + 4) (from + 4)) (to + o) Word ≡ low (number_at m (from + o) Word)
           by (suc zero) e within = absurd (omega arith)
           by (suc (suc zero)) e within = absurd (omega arith)
           by (suc (suc (suc zero))) e within = absurd (omega arith)
@@ -132,9 +135,9 @@ module _ (law : MemoryLaw) where
               ∙ at_same (with_number m to Word w) (to + 0) to (omega arith)
               ∙ put_here law m to w sized there.may small
               ∙ sym read
-              ∙ at_same m from (from + 0) (omega arith)
+              ∙ ap low (at_same m from (from + 0) (omega arith))
           by (suc (suc (suc (suc o)))) e within =
               at_same (with_copied n (with_number m to Word w) (to + 4) (from + 4)) (to + suc (suc (suc (suc o)))) (to + 4 + o) (omega arith)
               ∙ y.same o (omega arith) (omega arith)
-              ∙ put_elsewhere law m to w sized there.may (from + 4 + o) (past_first to from (span n) o apart (omega arith))
-              ∙ at_same m (from + 4 + o) (from + suc (suc (suc (suc o)))) (omega arith)
+              ∙ ap low (put_elsewhere law m to w sized there.may (from + 4 + o) (past_first to from (span n) o apart (omega arith)))
+              ∙ ap low (at_same m (from + 4 + o) (from + suc (suc (suc (suc o)))) (omega arith))

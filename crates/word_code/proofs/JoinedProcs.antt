@@ -1,9 +1,9 @@
 -- Procedures of two codes that are joined: those of the first are found as before, and those of the second with their data moved.
-use Rattle.std.proofs.Common.{◌≡◌, inl, inr, ℕ, ◌+◌, ◌≤◌, List, [], ◌∷◌, ◌++◌, Bool, true, false, not, refl, sym, ap, ◌∙◌, arith}
+use Rattle.std.proofs.Common.{◌≡◌, inl, inr, ℕ, ◌+◌, List, [], ◌∷◌, ◌++◌, Bool, true, false, not, refl, sym, ap, ◌∙◌}
 use Rattle.std.specs.Prelude.{◌==◌, ◌&&◌, ◌||◌}
 use Rattle.std.proofs.lemmas.Bool.{and_parts, and_from, cases_Bool, cond-true, cond-false, ne_eqb, eqb-true}
 use Rattle.word_code.specs.declared.word.WordProc.{WordProc}
-use Rattle.word_code.specs.Words.{from_proc, is_proc, has_number, are_procs, is_no_hook, have_no_hooks, most_room}
+use Rattle.word_code.specs.Words.{from_proc, is_proc, has_number, are_procs, is_no_hook, have_no_hooks}
 use Rattle.word_code.specs.Sizes.{AreRanked}
 use Rattle.word_code.specs.Joined.{moved, all_moved, IsFree, AreApart}
 
@@ -119,7 +119,3 @@ joined_unhooked n [] others h i = moved_unhooked n others i
 joined_unhooked n (p ∷ procs) others h i =
     let a = and_parts (is_no_hook p.kind) (have_no_hooks procs) h in
     and_from (is_no_hook p.kind) (have_no_hooks (procs ++ all_moved n others)) a.0 (joined_unhooked n procs others a.1 i)
-
-pub joined_room : (procs others : List WordProc) → most_room procs ≤ most_room (procs ++ others)
-joined_room [] others = omega arith
-joined_room (p ∷ procs) others = let h = joined_room procs others in omega (arith, h)

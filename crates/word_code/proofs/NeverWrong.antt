@@ -3,12 +3,12 @@ use Rattle.std.proofs.Common.{◌≢◌, ℕ, zero, suc, List, [], ◌∷◌, Op
 use Rattle.std.specs.Prelude.{if◌then◌else◌}
 use Rattle.arc_base.specs.Event.{Event}
 use Rattle.arc_base.specs.Behaviour.{Behaviour, Wrong, Steady}
-use Rattle.arc_base.specs.Stepping.{Next, Goes, Ends, Faults, Errs, after, run}
+use Rattle.arc_base.specs.Stepping.{Next, Goes, Ends, Faults, Errs, next_map, after, run}
 use Rattle.rv32_isa.specs.Machine.{Lives}
 use Rattle.word_code.specs.declared.word.WordInstr.{WordInstr}
 use Rattle.word_code.specs.declared.word.WordProc.{WordProc}
 use Rattle.word_code.specs.Words as word
-use Rattle.word_code.specs.Words.{WordState, WordFrame, WordScene, WordDid, if_formed}
+use Rattle.word_code.specs.Words.{WordState, WordFrame, WordScene, WordDid, Fresh, if_formed}
 
 -- ---- machines
 
@@ -40,29 +40,37 @@ chosen_fine : {E S : Type 0} (b : Bool) (x y : Next E S) → IsFine x → IsFine
 chosen_fine true x y f g = f
 chosen_fine false x y f g = g
 
-word_entered : (s : WordState) (rest : List WordInstr) (x : WordScene) (to : ℕ) (procs : List WordProc) → IsFine (word.entered s rest x to procs)
-word_entered s rest x to [] = tt
-word_entered s rest x to (p ∷ procs) = chosen_fine (word.is_full p (s.frame ∷ s.callers)) _ _ tt tt
+word_entered : (bytes : List ℕ) (s : WordState) (rest : List WordInstr) (x : WordScene) (to : ℕ) (procs : List WordProc) →
+    IsFine (word.entered bytes s rest x to procs)
+word_entered bytes s rest x to [] = tt
+word_entered bytes s rest x to (p ∷ procs) = chosen_fine (word.is_full p (s.frame ∷ s.callers)) _ _ tt tt
 
 word_returned : (s : WordState) (w : ℕ) (callers : List WordFrame) → IsFine (word.returned s w callers)
 word_returned s w [] = tt
 word_returned s w (caller ∷ callers) = tt
 
+-- the same step with other states
+map_fine : {E S T : Type 0} (f : T → S) (x : Next E T) → IsFine x → IsFine (next_map f x)
+map_fine f (Goes es w t) h = tt
+map_fine f (Ends es w status live) h = tt
+map_fine f Faults h = tt
+map_fine f Errs h = h
+
 module _ (live : Lives) (procs : List WordProc) where
-  word_settled : (s : WordState) (rest : List WordInstr) (d : WordDid) → IsFine (word.settled live procs s rest d)
-  word_settled s rest (word.Passes shown x) = tt
-  word_settled s rest (word.Leaps name x) = word_jumped s x _
-  word_settled s rest (word.Calls to callee x) = word_entered s rest x to _
-  word_settled s rest (word.Returns w) = word_returned s w s.callers
-  word_settled s rest (word.Exits status) = tt
-  word_settled s rest word.Fails = tt
+  word_settled : (bytes : List ℕ) (s : WordState) (rest : List WordInstr) (d : WordDid) → IsFine (word.settled live procs bytes s rest d)
+  word_settled bytes s rest (word.Passes shown x) = tt
+  word_settled bytes s rest (word.Leaps name x) = word_jumped s x _
+  word_settled bytes s rest (word.Calls to callee x) = word_entered bytes s rest x to _
+  word_settled bytes s rest (word.Returns w) = word_returned s w s.callers
+  word_settled bytes s rest (word.Exits status) = tt
+  word_settled bytes s rest word.Fails = tt
 
-  word_lines : (s : WordState) (rest : List WordInstr) → IsFine (word.step_lines live procs s rest)
-  word_lines s [] = tt
-  word_lines s (line ∷ rest) = word_settled s rest (word.does (word.scene_of s) line)
+  word_lines : (bytes : List ℕ) (s : WordState) (rest : List WordInstr) → IsFine (word.step_lines live procs bytes s rest)
+  word_lines bytes s [] = tt
+  word_lines bytes s (line ∷ rest) = word_settled bytes s rest (word.does (word.scene_of s) line)
 
-  pub word_step : (s : WordState) → IsFine (word.step live procs s)
-  word_step s = word_lines s s.frame.left
+  pub word_step : (fresh : Fresh) (x : ℕ × WordState) → IsFine (word.step_of live procs fresh x)
+  word_step fresh x = map_fine (λ s. (suc x.0, s)) (word.step live procs (fresh x.0) x.1) (word_lines (fresh x.0) x.1 x.1.frame.left)
 
 -- ---- code that isn't well formed
 

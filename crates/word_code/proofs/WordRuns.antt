@@ -1,12 +1,13 @@
 -- How lines of word code run, one at a time and one after another.
-use Rattle.std.proofs.Common.{◌≡◌, ℕ, suc, ◌+◌, ◌%◌, ◌^◌, ◌<◌, List, [], ◌∷◌, ◌++◌, Some, Ok, Bool, true, false, refl, sym}
+use Rattle.std.proofs.Common.{◌≡◌, ℕ, suc, ◌+◌, ◌%◌, ◌^◌, ◌<◌, List, [], ◌∷◌, ◌++◌, Some, Ok, Bool, true, false, refl}
 use Rattle.std.proofs.Common.{ap, ap₂, ◌∙◌, arith, append_assoc, add_assoc}
 use Rattle.std.specs.Prelude.{if◌then◌else◌}
 use Rattle.arc_base.specs.declared.outside.Stream.{Stream}
 use Rattle.arc_base.specs.Event.{writes}
 use Rattle.arc_base.specs.Behaviour.{Live, Ended}
-use Rattle.arc_base.specs.Stepping.{Next, Goes, Ends, seen, after, run}
+use Rattle.arc_base.specs.Stepping.{Next, Goes, Ends, next_map, seen, after, run}
 use Rattle.arc_base.specs.Simulation.{Steps, Stops}
+use Rattle.arc_base.proofs.ForCallers.{steps_one, steps_none, steps_on, stops_one}
 use Rattle.rv32_isa.specs.declared.micro_op.Size.{Size}
 use Rattle.rv32_isa.specs.Machine.{Lives}
 use Rattle.word_code.specs.declared.word.WordOperation.{WordOperation}
@@ -21,55 +22,57 @@ use Rattle.word_code.specs.Words.{scene_of, onward, jumped, from_label, shows, s
 
 -- ---- runs
 
-module _ {E S : Type 0} (machine : S → Next E S) where
-  pub one : {s t : S} {es : List E} {w : ℕ} → machine s ≡ Goes es w t → Steps machine 1 s es w t
+-- it ends behind some steps
+stops_behind : {E S : Type 0} (machine : S → Next E S) (l p q status : ℕ) (s t : S) (es fs : List E) (left : Live) → Steps machine l s es p t
+    → Stops machine t fs q status left → Stops machine s (es ++ fs) (p + q) status left
+stops_behind machine l p q status s t es fs left x y = record {
+  work = x.work + y.work;
+  within = omega (arith, x.within, y.within);
+  by = let a = x.by y.by.0 in (
+    a.0,
+    λ out done. a.2 out done ∙ y.by.1 (out ++ es) (done + x.work)
+        ∙ ap (λ o. seen o (Ended status left) (done + x.work + y.work)) (append_assoc out es fs)
+        ∙ ap (seen (out ++ (es ++ fs)) (Ended status left)) (add_assoc done x.work y.work),
+  );
+}
+
+-- A machine that is given something at each step, and what is so whatever it is given.
+module _ {E S X : Type 0} (machine : X → S → Next E S) where
+  abbrev pub given : (ℕ → X) → ℕ × S → Next E (ℕ × S)
+  given gifts x = next_map (λ s. (suc x.0, s)) (machine (gifts x.0) x.1)
+
+  -- it goes from one state to another
+  pub record AlwaysSteps (least : ℕ) (s : S) (es : List E) (most : ℕ) (t : S) : Type 0 where
+    pub by : (gifts : ℕ → X) (k : ℕ) → (m : ℕ) × Steps (given gifts) least (k, s) es most (m, t)
+
+  -- it ends
+  abbrev pub AlwaysStops : (s : S) → List E → (most status : ℕ) → Live → Type 0
+  AlwaysStops s es most status live = (gifts : ℕ → X) (k : ℕ) → Stops (given gifts) (k, s) es most status live
+
+  pub one : {s t : S} {es : List E} {w : ℕ} → ((x : X) → machine x s ≡ Goes es w t) → AlwaysSteps 1 s es w t
   one {s} {t} {es} {w} h = record {
-    work = w;
-    within = omega arith;
-    by = λ k. (suc k, omega arith, λ out done. ap (λ x. after x (run machine k) out done) h);
+    by = λ gifts k. (suc k, steps_one (given gifts) (k, s) (suc k, t) es w w (ap (next_map (λ u. (suc k, u))) (h (gifts k))) (omega arith));
   }
 
-  pub none : (s : S) → Steps machine 0 s [] 0 s
-  none s = record {
-    work = 0;
-    within = omega arith;
-    by = λ k. (k, omega arith, λ out done. ap₂ (run machine k s) (sym (nil out)) (omega arith));
-  }
-    where
-      nil : (xs : List E) → xs ++ [] ≡ xs
-      nil [] = refl
-      nil (x ∷ xs) = ap (λ l. x ∷ l) (nil xs)
+  pub none : (s : S) → AlwaysSteps 0 s [] 0 s
+  none s = record { by = λ gifts k. (k, steps_none (given gifts) (k, s) 0) }
 
-  pub on : {s t u : S} {es fs : List E} {l m p q : ℕ} → Steps machine l s es p t → Steps machine m t fs q u → Steps machine (l + m) s (es ++ fs)
-      (p + q) u
+  pub on : {s t u : S} {es fs : List E} {l m p q : ℕ} → AlwaysSteps l s es p t → AlwaysSteps m t fs q u → AlwaysSteps (l + m) s (es ++ fs) (p + q) u
   on {s} {t} {u} {es} {fs} {l} {m} {p} {q} x y = record {
-    work = x.work + y.work;
-    within = omega (arith, x.within, y.within);
-    by = λ k. let b = y.by k in let a = x.by b.0 in (
-      a.0,
-      omega (arith, a.1, b.1),
-      λ out done. a.2 out done ∙ b.2 (out ++ es) (done + x.work)
-          ∙ ap₂ (run machine k u) (append_assoc out es fs) (add_assoc done x.work y.work),
-    );
+    by = λ gifts k.
+        let a = x.by gifts k in
+        let b = y.by gifts a.0 in
+        (b.0, steps_on (given gifts) l m p q (k, s) (a.0, t) (b.0, u) es fs a.1 b.1);
   }
 
   -- one step that ends
-  pub ends_one : (s : S) (es : List E) (w status : ℕ) (left : Live) → machine s ≡ Ends es w status left → Stops machine s es w status left
-  ends_one s es w status left h =
-      record { work = w; within = omega arith; by = (1, λ out done. ap (λ z. after z (run machine 0) out done) h) }
+  pub ends_one : (s : S) (es : List E) (w status : ℕ) (left : Live) → ((x : X) → machine x s ≡ Ends es w status left) → AlwaysStops s es w status left
+  ends_one s es w status left h = λ gifts k. stops_one (given gifts) (k, s) es w w status left (ap (next_map (λ u. (suc k, u))) (h (gifts k))) (omega arith)
 
-  pub stops_on : (l p q status : ℕ) (s t : S) (es fs : List E) (left : Live) → Steps machine l s es p t → Stops machine t fs q status left
-      → Stops machine s (es ++ fs) (p + q) status left
-  stops_on l p q status s t es fs left x y = record {
-    work = x.work + y.work;
-    within = omega (arith, x.within, y.within);
-    by = let a = x.by y.by.0 in (
-      a.0,
-      λ out done. a.2 out done ∙ y.by.1 (out ++ es) (done + x.work)
-          ∙ ap (λ o. seen o (Ended status left) (done + x.work + y.work)) (append_assoc out es fs)
-          ∙ ap (seen (out ++ (es ++ fs)) (Ended status left)) (add_assoc done x.work y.work),
-    );
-  }
+  pub stops_on : (l p q status : ℕ) (s t : S) (es fs : List E) (left : Live) → AlwaysSteps l s es p t → AlwaysStops t fs q status left
+      → AlwaysStops s (es ++ fs) (p + q) status left
+  stops_on l p q status s t es fs left x y = λ gifts k.
+      let a = x.by gifts k in stops_behind (given gifts) l p q status (k, s) (a.0, t) es fs left a.1 (y gifts a.0)
 
 -- ---- words
 
@@ -83,7 +86,7 @@ got_sum a b h = let e : (a + b) % 2 ^ 32 % 2 ^ 32 ≡ a + b = omega arith in ap 
 -- silent runs of so many lines
 module _ (live : Lives) (procs : List WordProc) where
   abbrev pub Runs : ℕ → WordState → WordState → Type 0
-  Runs n s t = Steps (step live procs) n s [] n t
+  Runs n s t = AlwaysSteps (step live procs) n s [] n t
 
   pub then_runs : {s t u : WordState} {l m : ℕ} → Runs l s t → Runs m t u → Runs (l + m) s u
   then_runs x y = on (step live procs) x y
@@ -108,21 +111,21 @@ at c m lines vars given = record {
 
 module _ (live : Lives) (procs : List WordProc) (c : Within) (m : Memory) (k : List WordInstr) (v g : Vars) where
   pub run_label : (name : ℕ) → Runs live procs 1 (at c m (Label name ∷ k) v g) (at c m k v g)
-  run_label name = one (step live procs) refl
+  run_label name = one (step live procs) (λ bytes. refl)
 
   pub run_constant : (to n : ℕ) → Runs live procs 1 (at c m (Constant to n ∷ k) v g) (at c m k (put v to n) g)
-  run_constant to n = one (step live procs) refl
+  run_constant to n = one (step live procs) (λ bytes. refl)
 
   pub run_place : (to n : ℕ) → Runs live procs 1 (at c m (Place to n ∷ k) v g) (at c m k (put v to (c.base + n)) g)
-  run_place to n = one (step live procs) refl
+  run_place to n = one (step live procs) (λ bytes. refl)
 
   pub run_datum : (to n : ℕ) → Runs live procs 1 (at c m (Datum to n ∷ k) v g) (at c m k (put v to (own_data_at + c.proc.data_from + n)) g)
-  run_datum to n = one (step live procs) refl
+  run_datum to n = one (step live procs) (λ bytes. refl)
 
   -- a line that passes
   passes : (line : WordInstr) (x : WordScene) → does (scene_of (at c m (line ∷ k) v g)) line ≡ Passes [] x
       → Runs live procs 1 (at c m (line ∷ k) v g) (onward (at c m (line ∷ k) v g) k x)
-  passes line x e = one (step live procs) (ap (settled live procs (at c m (line ∷ k) v g) k) e)
+  passes line x e = one (step live procs) (λ bytes. ap (settled live procs bytes (at c m (line ∷ k) v g) k) e)
 
   pub run_copy : {a : ℕ} (to from : ℕ) → v from ≡ Some a → Runs live procs 1 (at c m (Copy to from ∷ k) v g) (at c m k (put v to a) g)
   run_copy {a} to from e = passes (Copy to from) _ (ap (λ o. using o (λ a. sets (scene_of (at c m (Copy to from ∷ k) v g)) to a)) e)
@@ -173,19 +176,19 @@ module _ (live : Lives) (procs : List WordProc) (c : Within) (m : Memory) (k : L
       → from_label to c.proc.lines ≡ Some there → Runs live procs 1 (at c m (Branch test left right to ∷ k) v g) (at c m there v g)
   run_off test left right to there e f h stands =
       let s : WordState = at c m (Branch test left right to ∷ k) v g in
-      one (step live procs) (ap (settled live procs s k) (branched test left right to e f true h) ∙ ap (jumped s (scene_of s)) stands)
+      one (step live procs) (λ bytes. ap (settled live procs bytes s k) (branched test left right to e f true h) ∙ ap (jumped s (scene_of s)) stands)
 
   pub run_jump : (to : ℕ) (there : List WordInstr) → from_label to c.proc.lines ≡ Some there
       → Runs live procs 1 (at c m (Jump to ∷ k) v g) (at c m there v g)
   run_jump to there stands =
       let s : WordState = at c m (Jump to ∷ k) v g in
-      one (step live procs) (ap (jumped s (scene_of s)) stands)
+      one (step live procs) (λ bytes. ap (jumped s (scene_of s)) stands)
 
   pub run_write : {a n : ℕ} (stream : Stream) (address len : ℕ) (bytes : List ℕ) → v address ≡ Some a → v len ≡ Some n
       → bytes_at m a n ≡ Some bytes
-      → Steps (step live procs) 1 (at c m (Write stream address len ∷ k) v g) (writes stream bytes) 1 (at c m k v g)
+      → AlwaysSteps (step live procs) 1 (at c m (Write stream address len ∷ k) v g) (writes stream bytes) 1 (at c m k v g)
   run_write {a} {n} stream address len bytes e f here =
       let s : WordState = at c m (Write stream address len ∷ k) v g in
-      one (step live procs) (ap₂ (λ o p. settled live procs s k
+      one (step live procs) (λ fresh. ap₂ (λ o p. settled live procs fresh s k
       (using o (λ b. using p (λ l. shows (scene_of s) stream (bytes_at m b l))))) e f
-      ∙ ap (λ o. settled live procs s k (shows (scene_of s) stream o)) here)
+      ∙ ap (λ o. settled live procs fresh s k (shows (scene_of s) stream o)) here)

@@ -1,5 +1,5 @@
 -- The memory of word code: data, heap and the places of calls. It is read and written as the machine's is.
-use Rattle.std.specs.Prelude.{ℕ, ◌+◌, ◌%◌, List, [], ◌++◌, Bool, Option, Result, ◌==◌, ◌&&◌}
+use Rattle.std.specs.Prelude.{ℕ, zero, suc, ◌+◌, ◌-◌, ◌%◌, List, [], ◌++◌, length, take, replicate, Bool, Option, Result, ◌==◌, ◌&&◌}
 use Rattle.rv32_isa.specs.declared.micro_op.Size.{Size}
 use Rattle.rv32_isa.specs.declared.machine.FaultKind.{FaultKind}
 use Rattle.rv32_isa.specs.Image.{statics_at}
@@ -42,6 +42,20 @@ may_fill m at len = writable (as_state m) at len
 
 abbrev pub with_bytes : Memory → (at : ℕ) → List ℕ → Memory
 with_bytes m at bytes = memory_of (filled (as_state m) at bytes)
+
+-- ---- places of calls that begin and end
+
+-- Behind the places come so many bytes more: these, and zeros where they are too few.
+abbrev pub with_places : Memory → (count : ℕ) → (bytes : List ℕ) → Memory
+with_places m zero bytes = m
+with_places m (suc n) bytes = record m { places = m.places ++ take (suc n) (bytes ++ replicate (suc n) 0) }
+
+-- so many of the places go, the last ones
+abbrev pub without_places : Memory → (count : ℕ) → Memory
+without_places m zero = m
+without_places m (suc n) = record m { places = take (length m.places - suc n) m.places }
+
+-- ---- data
 
 -- what the data region holds at the start: the sizes of heap and stack, and the code's own data
 abbrev pub data_of : (heap stack : ℕ) → List ℕ → List ℕ

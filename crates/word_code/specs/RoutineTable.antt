@@ -1,8 +1,9 @@
 -- The routines that there are: a row for each, with all that it promises.
-use Rattle.std.specs.Prelude.{◌≡◌, ◌<◌, ◌≤◌, ◌⊎◌, ℕ, zero, suc, ◌+◌, ◌-◌, ◌*◌, ◌%◌, ◌^◌, Bool, true, false, List, [], ◌∷◌, ◌++◌, length, Some, None, Ok}
+use Rattle.std.specs.Prelude.{◌≡◌, ◌<◌, ◌≤◌, ◌⊎◌, ℕ, zero, suc, ◌+◌, ◌-◌, ◌*◌, ◌%◌, ◌^◌, Bool, true, false, List, [], ◌∷◌, ◌++◌, length, Some, None, Result, Ok, Err as Failed}
 use Rattle.std.specs.Fmt.{signed_decimal}
 use Rattle.arc_base.specs.declared.outside.Stream.TheVariants.{Out, Err}
 use Rattle.arc_base.specs.Event.{writes}
+use Rattle.rv32_isa.specs.declared.machine.FaultKind.{FaultKind}
 use Rattle.rv32_isa.specs.declared.micro_op.Size.TheVariants.{Word}
 use Rattle.rv32_isa.specs.Regions.{KeepsSizes}
 use Rattle.rv32_isa.specs.Values.{signed}
@@ -15,12 +16,11 @@ use Rattle.word_code.specs.Routines.{Routine}
 
 -- ---- words in memory
 
--- a word of 32 bits that may be read and written
+-- A word that may be read and written. What nobody has written may be any bytes, also such that are no word.
 pub record Cell (m : Memory) (a : ℕ) : Type 0 where
   pub may : may_put m a Word ≡ true
   pub word : ℕ
   pub reads : number_at m a Word ≡ Ok word
-  pub small : word < 2 ^ 32
 
 -- so many words from an address on
 abbrev pub Area : Memory → (at words : ℕ) → Type 0
@@ -30,6 +30,15 @@ Area m a (suc n) = Cell m a × Area m (a + 4) n
 -- so many bytes from b on in the second memory are, word by word, those from a on in the first
 abbrev pub SameWords : (m : Memory) (a : ℕ) (other : Memory) (b bytes : ℕ) → Type 0
 SameWords m a other b bytes = (o : ℕ) → o + 4 ≤ bytes → o % 4 ≡ 0 → number_at other (b + o) Word ≡ number_at m (a + o) Word
+
+-- the low 32 bits of what is read
+abbrev pub low : Result ℕ FaultKind → Result ℕ FaultKind
+low (Ok w) = Ok (w % 2 ^ 32)
+low (Failed kind) = Failed kind
+
+-- the same of the low 32 bits: words that were copied
+abbrev pub LowWords : (m : Memory) (a : ℕ) (other : Memory) (b bytes : ℕ) → Type 0
+LowWords m a other b bytes = (o : ℕ) → o + 4 ≤ bytes → o % 4 ≡ 0 → number_at other (b + o) Word ≡ low (number_at m (a + o) Word)
 
 -- so many bytes of zeros
 abbrev pub ZeroWords : Memory → (at bytes : ℕ) → Type 0
@@ -60,7 +69,7 @@ bytes_moved u = 4 * suc u.behind
 
 pub record IsCopied (u : Moving) (m other : Memory) : Type 0 where
   pub rewritten : IsRewritten m other u.to (bytes_moved u)
-  pub same : SameWords m u.from other u.to (bytes_moved u)
+  pub same : LowWords m u.from other u.to (bytes_moved u)
 
 abbrev pub copies : Routine
 copies = record {
@@ -104,8 +113,8 @@ clears = record {
 pub record AreSwapped (u : Moving) (m other : Memory) : Type 0 where
   pub sizes : KeepsSizes (as_state m) (as_state other)
   pub beside : (b n : ℕ) → Beside b n u.to (bytes_moved u) → Beside b n u.from (bytes_moved u) → bytes_at other b n ≡ bytes_at m b n
-  pub there : SameWords m u.from other u.to (bytes_moved u)
-  pub back : SameWords m u.to other u.from (bytes_moved u)
+  pub there : LowWords m u.from other u.to (bytes_moved u)
+  pub back : LowWords m u.to other u.from (bytes_moved u)
 
 abbrev pub swaps : Routine
 swaps = record {

@@ -10,7 +10,7 @@ use Rattle.word_code.specs.declared.word.WordInstr.{WordInstr}
 use Rattle.word_code.specs.declared.word.WordInstr.TheVariants.{Call}
 use Rattle.word_code.specs.declared.word.WordProc.{WordProc}
 use Rattle.word_code.specs.Memory.{Memory, as_state, bytes_at, may_fill}
-use Rattle.word_code.specs.Words.{Vars, no_words, put, WordState, step}
+use Rattle.word_code.specs.Words.{Vars, no_words, put, WordState, Fresh, step_of}
 
 -- One routine. A `Use` is what one of its calls is about: arguments, and what is known where it is called.
 pub record Routine : Type 1 where
@@ -69,12 +69,14 @@ module _ (live : Lives) (procs : List WordProc) where
     pub gives : r.gives u memory word
     pub lines : ℕ
     pub few : lines ≤ r.lines u
-    pub steps : Steps (step live procs) lines s (r.shows u) lines (goes_on s to word rest memory (r.reads u s.input))
+    -- whatever bytes new places bring
+    pub steps : (fresh : Fresh) (before : ℕ) → (behind : ℕ)
+        × Steps (step_of live procs fresh) lines (before, s) (r.shows u) lines (behind, goes_on s to word rest memory (r.reads u s.input))
 
   pub record EndsProgram (r : Routine) (u : r.Use) (s : WordState) (status : ℕ) : Type 0 where
     pub memory : Memory
     pub leaves : r.leaves u s.memory memory
-    pub stops : Stops (step live procs) s (r.shows u) (r.lines u) status (live (as_state memory))
+    pub stops : (fresh : Fresh) (before : ℕ) → Stops (step_of live procs fresh) (before, s) (r.shows u) (r.lines u) status (live (as_state memory))
 
   abbrev pub Comes : (r : Routine) → r.Use → WordState → (to : ℕ) → List WordInstr → Option ℕ → Type 0
   Comes r u s to rest None = ComesBack r u s to rest

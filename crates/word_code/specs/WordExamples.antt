@@ -1,8 +1,8 @@
 -- Small programs in word code, and what they come to. No public contract but that of examples speaks of it.
-use Rattle.std.specs.Prelude.{◌≡◌, ℕ, List, [], ◌∷◌, ◌++◌, codes}
+use Rattle.std.specs.Prelude.{◌≡◌, ℕ, ◌+◌, ◌==◌, if◌then◌else◌, List, [], ◌∷◌, ◌++◌, codes}
 use Rattle.arc_base.specs.declared.outside.Stream.TheVariants.{Out, Err}
 use Rattle.arc_base.specs.Event.{Event, writes}
-use Rattle.arc_base.specs.Behaviour.{Behaviour, Seen, Ended, no_objects}
+use Rattle.arc_base.specs.Behaviour.{Behaviour, Ended, no_objects}
 use Rattle.rv32_isa.specs.Machine.{Lives}
 use Rattle.rv32_isa.specs.declared.micro_op.Size.TheVariants.{Byte}
 use Rattle.word_code.specs.declared.word.WordOperation.TheVariants.{Add, Less}
@@ -14,6 +14,8 @@ use Rattle.word_code.specs.declared.word.ProcKind.{ProcKind}
 use Rattle.word_code.specs.declared.word.ProcKind.TheVariants.{Counted, Uncounted, Hook}
 use Rattle.word_code.specs.declared.word.WordProc.{WordProc}
 use Rattle.word_code.specs.declared.word.WordCode.{WordCode}
+use Rattle.word_code.specs.declared.word.TheConstants.{SPARE_ROOM}
+use Rattle.word_code.specs.Words.{Fresh}
 
 -- a program without objects
 abbrev pub none_live : Lives
@@ -99,6 +101,15 @@ echoing = code_of (proc_of Counted 0 0 4 4
     ∷ Exit 2
     ∷ []) ∷ [])
     []
+
+-- ends with what stands in the last byte of the called procedure's places, which nobody has written
+abbrev pub unwritten : WordCode
+unwritten = code_of (proc_of Counted 0 0 1 0 (Call 0 1 ∷ Exit 0 ∷ [])
+    ∷ proc_of Counted 1 0 2 4 (Place 0 (SPARE_ROOM + 3) ∷ Load 1 0 Byte ∷ Return 1 ∷ []) ∷ []) []
+
+-- the call that the first line makes finds these bytes
+abbrev pub left_over : Fresh
+left_over n = if n == 0 then 4 ∷ 5 ∷ 6 ∷ 7 ∷ 8 ∷ [] else []
 
 -- a code that calls a routine of another one, which writes from its own data
 abbrev pub calling : WordCode

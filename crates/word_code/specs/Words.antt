@@ -1,11 +1,11 @@
 -- What word code means: lines one after another, with a list of calls that are active.
-use Rattle.std.specs.Prelude.{ℕ, zero, suc, ◌+◌, ◌*◌, ◌%◌, ◌^◌, max, min, Bool, true, false, not, ◌&&◌, ◌||◌, if◌then◌else◌}
+use Rattle.std.specs.Prelude.{ℕ, zero, suc, ◌+◌, ◌%◌, ◌^◌, max, min, Bool, true, false, not, ◌&&◌, ◌||◌, if◌then◌else◌}
 use Rattle.std.specs.Prelude.{nat_lt, nat_le, ◌==◌, List, [], ◌∷◌, length, take, drop}
 use Rattle.std.specs.Prelude.{replicate, Option, Some, None, Result, Ok, Err, bit_and, bit_or, bit_xor}
 use Rattle.arc_base.specs.declared.outside.Stream.{Stream}
 use Rattle.arc_base.specs.Event.{Event, Hook, writes}
 use Rattle.arc_base.specs.Behaviour.{Behaviour, Faulted}
-use Rattle.arc_base.specs.Stepping.{Next, Goes, Ends, Faults, seen, behaviour}
+use Rattle.arc_base.specs.Stepping.{Next, Goes, Ends, Faults, next_map, seen, behaviour}
 use Rattle.rv32_isa.specs.declared.machine.FaultKind.{FaultKind}
 use Rattle.rv32_isa.specs.Image.{stack_at}
 use Rattle.rv32_isa.specs.Machine.{Lives}
@@ -26,7 +26,8 @@ use Rattle.word_code.specs.declared.word.ProcKind.{ProcKind}
 use Rattle.word_code.specs.declared.word.ProcKind.TheVariants as kind
 use Rattle.word_code.specs.declared.word.WordProc.{WordProc}
 use Rattle.word_code.specs.declared.word.WordCode.{WordCode}
-use Rattle.word_code.specs.Memory.{Memory, as_state, number_at, may_put, with_number, bytes_at, may_fill, with_bytes, data_of, own_data_at}
+use Rattle.word_code.specs.Memory.{Memory, as_state, number_at, may_put, with_number, bytes_at, may_fill, with_bytes, with_places, without_places}
+use Rattle.word_code.specs.Memory.{data_of, own_data_at}
 
 -- ---- words
 
@@ -220,13 +221,13 @@ params_of p given v = if nat_lt v p.params then given v else None
 abbrev pub is_full : WordProc → List WordFrame → Bool
 is_full p frames = is_counted p.kind && nat_le most_calls (counted frames)
 
--- a call of the first of these procedures
-abbrev pub entered : WordState → List WordInstr → WordScene → ℕ → List WordProc → Next Event WordState
-entered s rest x to [] = Faults
-entered s rest x to (p ∷ procs) =
+-- a call of the first of these procedures, whose places bring these bytes with them
+abbrev pub entered : List ℕ → WordState → List WordInstr → WordScene → ℕ → List WordProc → Next Event WordState
+entered bytes s rest x to [] = Faults
+entered bytes s rest x to (p ∷ procs) =
     if is_full p (s.frame ∷ s.callers) then Faults else
     Goes (seen_call p.kind) 1 (record {
-      memory = x.memory;
+      memory = with_places x.memory p.room bytes;
       input = x.input;
       frame = record { proc = p; left = p.lines; vars = params_of p x.given; given = no_words; base = added x.base s.frame.proc.room; awaits = 0 };
       callers = record s.frame { left = rest; vars = x.vars; given = no_words; base = x.base; awaits = to } ∷ s.callers;
@@ -234,28 +235,40 @@ entered s rest x to (p ∷ procs) =
 
 abbrev pub returned : WordState → ℕ → List WordFrame → Next Event WordState
 returned s word [] = Faults
-returned s word (caller ∷ callers) =
-    on (record s { frame = record caller { vars = put caller.vars caller.awaits word }; callers = callers })
+returned s word (caller ∷ callers) = on (record s {
+  memory = without_places s.memory s.frame.proc.room;
+  frame = record caller { vars = put caller.vars caller.awaits word };
+  callers = callers;
+})
 
 -- ---- runs
 
 -- what a memory says of the objects that are still live is no matter of word code: it is said of the machine's state
 module _ (live : Lives) where
-  abbrev pub settled : List WordProc → WordState → List WordInstr → WordDid → Next Event WordState
-  settled procs s rest (Passes shown x) = Goes shown 1 (onward s rest x)
-  settled procs s rest (Leaps name x) = jumped s x (from_label name s.frame.proc.lines)
-  settled procs s rest (Calls to callee x) = entered s rest x to (from_proc callee procs)
-  settled procs s rest (Returns word) = returned s word s.callers
-  settled procs s rest (Exits status) = Ends [] 1 status (live (as_state s.memory))
-  settled procs s rest Fails = Faults
+  abbrev pub settled : List WordProc → (bytes : List ℕ) → WordState → List WordInstr → WordDid → Next Event WordState
+  settled procs bytes s rest (Passes shown x) = Goes shown 1 (onward s rest x)
+  settled procs bytes s rest (Leaps name x) = jumped s x (from_label name s.frame.proc.lines)
+  settled procs bytes s rest (Calls to callee x) = entered bytes s rest x to (from_proc callee procs)
+  settled procs bytes s rest (Returns word) = returned s word s.callers
+  settled procs bytes s rest (Exits status) = Ends [] 1 status (live (as_state s.memory))
+  settled procs bytes s rest Fails = Faults
 
   -- the line that is next; it is a fault where no line is left
-  abbrev pub step_lines : List WordProc → WordState → List WordInstr → Next Event WordState
-  step_lines procs s [] = Faults
-  step_lines procs s (line ∷ rest) = settled procs s rest (does (scene_of s) line)
+  abbrev pub step_lines : List WordProc → (bytes : List ℕ) → WordState → List WordInstr → Next Event WordState
+  step_lines procs bytes s [] = Faults
+  step_lines procs bytes s (line ∷ rest) = settled procs bytes s rest (does (scene_of s) line)
 
-  abbrev pub step : List WordProc → WordState → Next Event WordState
-  step procs s = step_lines procs s s.frame.left
+  abbrev pub step : List WordProc → (bytes : List ℕ) → WordState → Next Event WordState
+  step procs bytes s = step_lines procs bytes s s.frame.left
+
+-- The bytes that the places of a call bring with them are any, since nobody has written them: these are the bytes for a call that a line makes
+-- before which so many lines were done. In a machine other calls, which are over, have left them there.
+abbrev pub Fresh : Type 0
+Fresh = ℕ → List ℕ
+
+-- a line, from a state with the number of lines that were done
+abbrev pub step_of : Lives → List WordProc → Fresh → ℕ × WordState → Next Event (ℕ × WordState)
+step_of live procs fresh x = next_map (λ s. (suc x.0, s)) (step live procs (fresh x.0) x.1)
 
 -- ---- chains of calls: each but the first is of a procedure that the one before it calls, and none counts
 
@@ -293,17 +306,6 @@ module _ (procs : List WordProc) where
   -- the most that a chain takes which a procedure may call
   abbrev pub longest : (size : WordProc → ℕ) → ℕ
   longest size = most_chain (chain size (length procs)) procs
-
--- ---- where places stand: those of so many calls that count, above each of them those of the longest chain of calls that don't, and some
--- for the arguments of one call more
-
--- the bytes of the largest places of a procedure
-abbrev pub most_room : List WordProc → ℕ
-most_room [] = 0
-most_room (p ∷ procs) = max p.room (most_room procs)
-
-abbrev pub places_size : List WordProc → ℕ
-places_size procs = most_calls * (most_room procs + longest procs (λ p. p.room)) + SPARE_ROOM
 
 -- ---- word code that is well formed: its lines name variables of their procedures, procedures have numbers of their own, and the start
 -- code counts and is no hook
@@ -382,10 +384,14 @@ if_formed false b = at_fault
 
 -- ---- whole runs
 
--- the start code, before its first line
+-- The start code, before its first line. Behind its places there is room for the arguments of a call, as there is behind those of each call.
 unfoldable pub start : WordCode → (heap stack : ℕ) → (input : List ℕ) → WordState
 start code heap stack input = record {
-  memory = record { statics = data_of heap stack code.statics; heap = replicate heap 0; places = replicate (places_size code.procs) 0 };
+  memory = record {
+    statics = data_of heap stack code.statics;
+    heap = replicate heap 0;
+    places = replicate ((first_of (from_proc 0 code.procs)).room + SPARE_ROOM) 0;
+  };
   input = input;
   frame = record {
     proc = first_of (from_proc 0 code.procs);
@@ -398,6 +404,7 @@ start code heap stack input = record {
   callers = [];
 }
 
--- what is seen of word code after n lines
-abbrev pub word_meaning : Lives → WordCode → (heap stack : ℕ) → (input : List ℕ) → Behaviour Event
-word_meaning live code heap stack input = if_formed (is_word_code code) (behaviour (step live code.procs) (start code heap stack input))
+-- what is seen of word code after n lines, where nobody has written these bytes
+abbrev pub word_meaning : Lives → WordCode → Fresh → (heap stack : ℕ) → (input : List ℕ) → Behaviour Event
+word_meaning live code fresh heap stack input =
+    if_formed (is_word_code code) (behaviour (step_of live code.procs fresh) (0, start code heap stack input))

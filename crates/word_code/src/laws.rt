@@ -3,15 +3,17 @@ ghost use Rattle.std.specs.Prelude.{◌≡◌, ◌≢◌, ◌+◌, ℕ, length, 
 ghost use Rattle.arc_base.specs.Behaviour.{Steady, Wrong};
 ghost use Rattle.rv32_isa.specs.Machine.{Lives};
 ghost use Rattle.word_code.specs.declared.word.WordCode.{WordCode};
-ghost use Rattle.word_code.specs.Words.{word_meaning};
+ghost use Rattle.word_code.specs.Words.{Fresh, word_meaning};
 ghost use Rattle.word_code.specs.Joined.{joined};
 
-/// What word code has shown only grows, and it is never wrong.
+/// What word code has shown only grows, and it is never wrong, whatever the bytes are that nobody
+/// has written.
 pub fn words()
-    ensures steady { (live : Lives) (code : WordCode) (heap stack : ℕ) (input : List ℕ) →
-        Steady (word_meaning live code heap stack input) }
-    ensures right { (live : Lives) (code : WordCode) (heap stack : ℕ) (input : List ℕ) (n : ℕ) →
-        (word_meaning live code heap stack input n).phase ≢ Wrong }
+    ensures steady { (live : Lives) (code : WordCode) (fresh : Fresh) (heap stack : ℕ)
+        (input : List ℕ) → Steady (word_meaning live code fresh heap stack input) }
+    ensures right { (live : Lives) (code : WordCode) (fresh : Fresh) (heap stack : ℕ)
+        (input : List ℕ) (n : ℕ) →
+        (word_meaning live code fresh heap stack input n).phase ≢ Wrong }
 {}
 
 /// Two codes that are joined have the data of both.

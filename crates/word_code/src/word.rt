@@ -3,16 +3,17 @@ use arc_base::{Bytes, Items, Stream};
 use nim_types::TypeId;
 use rv32_isa::Size;
 
-/// How many bytes of places stand behind those of all calls that may be active: for the arguments of
-/// a call that is one too many, which are put before it is refused. With `MOST_ARGUMENTS` words they
-/// are the 65,536 bytes that a file's stack has beside the frames of calls.
+/// How many bytes stand behind the places of the call that runs: arguments are put there before their
+/// call begins, also those of a call that is one too many, and a result in places is read there when
+/// its call is over. With `MOST_ARGUMENTS` words they are the 65,536 bytes that a file's stack has
+/// beside what calls take.
 pub const SPARE_ROOM: u32 = 16_384;
 
 /// How many variables a procedure may have.
 pub const MOST_VARIABLES: u32 = 67_108_864;
 
 /// How many words of arguments a call may have. They stand below the deepest frame of the file's
-/// stack, and with `SPARE_ROOM` they are the 65,536 bytes that it has beside the frames of calls.
+/// stack, and with `SPARE_ROOM` they are the 65,536 bytes that it has beside what calls take.
 pub const MOST_ARGUMENTS: u32 = 12_288;
 
 /// How many kinds of hooks there are: destroy 0, wasMoved 1, sink 2, copy 3.

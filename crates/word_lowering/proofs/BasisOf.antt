@@ -1,5 +1,5 @@
 -- All that stays the same in the runs of a code that may be lowered, with a runtime.
-use Rattle.std.proofs.Common.{List, ◌≡◌, inr, ℕ, ◌+◌, length, drop, length-drop, true, arith}
+use Rattle.std.proofs.Common.{List, [], ◌∷◌, Bool, false, refl, sym, ◌≡◌, inr, ℕ, ◌+◌, length, drop, length-drop, true, arith}
 use Rattle.arc_base.specs.Behaviour.{no_objects}
 use Rattle.rv32_isa.specs.Machine.{Lives}
 use Rattle.nim_types.specs.declared.types.TypeDef.{TypeDef}
@@ -20,12 +20,26 @@ use Rattle.word_lowering.proofs.Related.{IsClosed, routines}
 use Rattle.word_lowering.proofs.Lines.{Basis}
 use Rattle.word_lowering.proofs.ProcCodes.{callee}
 use Rattle.word_lowering.proofs.NamedProcs.{apart_from}
-use Rattle.word_lowering.proofs.RoomBounds.{sites_enough, sites_spare, places_small, globals_inside, data_small, enums_may}
+use Rattle.word_lowering.proofs.RoomBounds.{globals_inside, data_small, enums_may, sites_within}
+use Rattle.word_lowering.proofs.DataEnd.{globals_behind, globals_whole}
 use Rattle.word_lowering.proofs.DataSizes.{data_whole, data_within}
+use Rattle.word_lowering.proofs.FirstConstants.{constant_first}
+use Rattle.word_lowering.proofs.Related.{StandsThere}
+use Rattle.word_lowering.proofs.SmallWords.{AllSmall}
+use Rattle.word_lowering.specs.Layouts.{is_empty}
+use Rattle.flat_code.specs.declared.code.CodeProc.{CodeProc}
+use Rattle.flat_code.specs.declared.line.Piece.{Piece}
+use Rattle.flat_code.specs.Codes.{block_plain}
+use Rattle.flat_code.specs.Pieces.{piece_words, standing_bytes}
+use Rattle.flat_code.specs.Sizes.{code_texts}
+use Rattle.nim_types.specs.Types.{same_text}
+use Rattle.std.specs.Set.{is_member}
+use Rattle.std.proofs.lemmas.Bool.{true≢false}
 use Rattle.word_lowering.proofs.FirstMemory.{first_memory, routines_given, letter_first}
 use Rattle.word_lowering.proofs.TypeDefaults.{type_default}
 use Rattle.word_lowering.proofs.TypeRules.{type_compared, type_plain, type_resource, type_fields, type_object, type_converted, type_limit}
 use Rattle.word_lowering.proofs.TypeShapes.{type_part}
+use Rattle.word_code.specs.Words.{Fresh}
 
 module _ (table : List TypeDef) (blocks : Code BlockLine) (may : may_lower table blocks ≡ true) (runtime : WordCode) (is : IsRuntime runtime) where
   -- the data of routines that stays is beside all places
@@ -38,17 +52,34 @@ module _ (table : List TypeDef) (blocks : Code BlockLine) (may : may_lower table
       let d = length-drop SCRATCH_BYTES runtime.statics in
       inr (omega (arith, inside), omega (arith, most, few, least, d))
 
-  abbrev pub basis_of : (live : Lives) → ((m : Memory) → live (as_state m) ≡ no_objects) → IsTable table → HaveForms table
+  -- constants that stand in the data; code without procedures has none
+  pub constants_first : (heap stack : ℕ) (pieces : List Piece) → AllSmall (piece_words pieces)
+      → is_member same_text (code_texts block_plain blocks.procs) (standing_bytes pieces) ≡ true
+      → StandsThere table blocks (first_memory (joined (lowered table blocks) runtime) heap stack) pieces
+  constants_first heap stack pieces small among = by (is_empty blocks.procs) refl
+    where
+      none : (procs : List (CodeProc BlockLine)) → is_empty procs ≡ true → is_member same_text (code_texts block_plain procs) (standing_bytes pieces) ≡ true
+          → ⊥
+      none [] e h = absurd (true≢false (sym h))
+      none (p ∷ procs) e h = absurd (true≢false (sym e))
+
+      by : (b : Bool) → is_empty blocks.procs ≡ b → StandsThere table blocks (first_memory (joined (lowered table blocks) runtime) heap stack) pieces
+      by true e = absurd (none blocks.procs e among)
+      by false e =
+          constant_first table blocks runtime heap stack (globals_behind table blocks e) (globals_whole table blocks) (data_within table blocks may)
+          pieces small among
+
+  abbrev pub basis_of : (live : Lives) → Fresh → ((m : Memory) → live (as_state m) ≡ no_objects) → IsTable table → HaveForms table
       → IsFitting table blocks → AreSilent blocks.procs → (heap stack : ℕ) → MemoryLaw → Basis
-  basis_of live none is_table have fitting silent heap stack law = record {
+  basis_of live fresh none is_table have fitting silent heap stack law = record {
     live = live;
+    fresh = fresh;
     table = table;
     blocks = blocks;
     first = first_memory (joined (lowered table blocks) runtime) heap stack;
     law = law;
     small = data_small table blocks may;
-    places = places_small table blocks may;
-    enough = sites_enough table blocks;
+    within = sites_within table blocks;
     defaults = type_default table is_table (enums_may table blocks may) have;
     compared = type_compared table is_table have;
     plains = type_plain table is_table have;
@@ -60,12 +91,12 @@ module _ (table : List TypeDef) (blocks : Code BlockLine) (may : may_lower table
     limits = type_limit table is_table have;
     none = none;
     callees = callee table blocks is_table have fitting may silent;
-    spare = sites_spare table blocks;
     runtime = runtime;
     kept = is.kept live (lowered table blocks) (apart_from table blocks may runtime.procs is.routines) (data_whole table blocks);
     given = routines_given table blocks runtime heap stack is.data_least;
     globals_inside = globals_inside table blocks;
     data_most = data_within table blocks may;
     given_closed = closed;
+    constants = λ pieces small among. constants_first heap stack pieces small among;
     letter = letter_first table blocks runtime heap stack;
   }

@@ -18,7 +18,6 @@ use Rattle.flat_code.specs.Codes.{block_plain, block_label}
 use Rattle.flat_code.specs.Running.{from_label}
 use Rattle.flat_code.specs.Fits.{is_value, is_location, is_declared, is_global, is_own, is_standing, place_named, place_type, if_type_of, if_kind, result_at}
 use Rattle.flat_code.specs.Fits.{are_within, all_fit, params_at, results_at, follow}
-use Rattle.word_code.specs.Words.{most_room}
 use Rattle.word_lowering.specs.declared.homes.Alias.{Alias}
 use Rattle.word_lowering.specs.declared.homes.Alias.TheVariants as alias
 use Rattle.word_lowering.specs.declared.homes.Housed.{Housed}
@@ -29,8 +28,8 @@ use Rattle.word_lowering.specs.declared.may_lower.TheConstants.{MOST_ROOM}
 use Rattle.word_lowering.specs.Stored.{HaveForms}
 use Rattle.word_lowering.specs.Aliases.{value_to, location_to, alias_in, alias_for, addressed, is_among}
 use Rattle.word_lowering.specs.Layouts.{free_at, layout_of, housed, all_housed, behind_all, found, result_in}
-use Rattle.word_lowering.specs.Lowered.{start_layout, lowered}
-use Rattle.word_lowering.specs.MayLower.{is_plain, is_text, all_plain, lines_may, labels_once}
+use Rattle.word_lowering.specs.Lowered.{start_layout}
+use Rattle.word_lowering.specs.MayLower.{is_plain, is_text, all_plain, lines_may, labels_once, result_end, placed_end}
 use Rattle.word_lowering.proofs.AliasFits.{GivenBy, given_by, Rooted, rooted, entered, no_text_location, Written, value_name}
 use Rattle.word_lowering.proofs.HomesApart.{all_apart, all_between}
 use Rattle.word_lowering.proofs.LabelsFirst.{first_one}
@@ -43,6 +42,7 @@ use Rattle.word_lowering.proofs.PlaceFacts.{place_rows, place_parts}
 use Rattle.word_lowering.proofs.ShapeFacts.{never, of_numbers}
 use Rattle.word_lowering.proofs.Sites.{Body, room, type_of, looks, Among, There, InMemory, data_end, sigs, globals_of, HasTexts, IsHoused, IsGlobal}
 use Rattle.word_lowering.proofs.Sites.{ResultIs, place_among, IsTextual, IsBody}
+use Rattle.word_code.specs.declared.word.TheConstants.{SPARE_ROOM}
 
 module _ (table : List TypeDef) (blocks : Code BlockLine) where
   -- what is tested of a procedure
@@ -54,12 +54,12 @@ module _ (table : List TypeDef) (blocks : Code BlockLine) where
     pub may : lines_may table (layout_of table start FIXED_BYTES proc).all (map block_plain proc.lines) ≡ true
     pub once : labels_once (map block_plain proc.lines) ≡ true
     pub room : (layout_of table start FIXED_BYTES proc).free.byte ≤ MOST_ROOM
+    pub handed : result_end (result_in (layout_of table start FIXED_BYTES proc).all) ≤ SPARE_ROOM
 
   -- the start code has the globals
   pub record IsStart (start : Bool) (proc : CodeProc BlockLine) : Type 0 where
     pub globals : start ≡ true → globals_of table blocks ≡ proc.places
     pub layout : start ≡ true → start_layout table blocks.procs ≡ layout_of table start FIXED_BYTES proc
-    pub within : (layout_of table start FIXED_BYTES proc).free.byte ≤ most_room (lowered table blocks).procs
 
   abbrev pub body_at : (start : Bool) → (proc : CodeProc BlockLine) → (literals number : ℕ) → Body
   body_at start proc literals number = record {
@@ -371,6 +371,9 @@ module _ (table : List TypeDef) (blocks : Code BlockLine) where
       result = result_by (result_cases table start lines least proc.places);
       room_whole = room_whole table start lines least proc.places refl;
       room_most = is.room;
-      room_within = at_start.within;
+      handed = λ h at e home.
+          let ends = is.handed in
+          let same : result_end (result_in all) ≡ at + h.bytes = ap result_end e ∙ ap (λ z. placed_end z h.bytes) home in
+          omega (arith, ends, same);
       texts = texts;
     }

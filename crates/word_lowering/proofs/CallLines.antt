@@ -12,7 +12,8 @@ use Rattle.nim_program.specs.Kinds.{same_value}
 use Rattle.nim_program.specs.Traps.{CallDepth, trap_text}
 use Rattle.nim_program.specs.View.{if_type}
 use Rattle.nim_meaning.specs.Acts.{line_of}
-use Rattle.nim_meaning.specs.Meaning.{handed_bytes, seen_call}
+use Rattle.nim_meaning.specs.Meaning.{seen_call}
+use Rattle.nim_meaning.specs.Aims.{handed_bytes}
 use Rattle.nim_meaning.specs.State.{live}
 use Rattle.nim_meaning.specs.Values.{Operand, nothing, slots_for}
 use Rattle.flat_code.specs.declared.block.BlockLine.{BlockLine}
@@ -210,7 +211,7 @@ module _ (x : Basis) (labels : LabelsLead x) (traps : TrapsStop x) (own : Argume
       stops_more (lower x) (low x.table x.blocks (starts g line rest)) (q.steps + l.steps + 7)
       (16 * (suc (handed_bytes xs) + length (line_of (trap_text CallDepth)))) 1 text (live g.world) (omega (arith, few, few_more, long))
       (stops_after (lower x) (low x.table x.blocks (starts g line rest)) (at (within x.table x.blocks g) q.memory t.there l.leads.vars q.words)
-      (q.steps + l.steps) (q.steps + l.steps) 7 1 text (live g.world) runs (t.stops l.leads.vars q.words))
+      (q.steps + l.steps) (q.steps + l.steps) 7 1 text (live g.world) runs (t.stops l.leads.vars q.words)) x.fresh
 
   no_left : (xs : List Operand) (after : List WordInstr) → Checking xs after → g.call.site.left ≡ 0 → Trapped xs
   no_left xs after q e = by start refl

@@ -13,13 +13,13 @@ use Rattle.word_code.proofs.ForCallers.{Runs}
 use Rattle.word_lowering.specs.declared.homes.Home.TheVariants.{Variable}
 use Rattle.word_lowering.specs.declared.homes.TheConstants.{FIRST, LEFT, OWN_FROM}
 use Rattle.word_lowering.specs.Spots.{spot_of}
-use Rattle.word_lowering.proofs.Keeping.{call, Edit, nowhere, own_text, value_no_location, value_no_place, spot_held}
+use Rattle.word_lowering.proofs.Keeping.{call, Edit, own_text, value_no_location, value_no_place, spot_held, beyond}
 use Rattle.word_lowering.proofs.Lines.{Basis, all_procs, starts, IsGood, Settles}
 use Rattle.word_lowering.proofs.Moves.{single_word, same_first}
 use Rattle.word_lowering.proofs.Options.{some_same}
 use Rattle.word_lowering.proofs.OrdinalRuns.{put_other, put_here as put_same}
 use Rattle.word_lowering.proofs.Related.{Both, Waits, low, MemoryGood}
-use Rattle.word_lowering.proofs.Returned.{called, back, good_back, sites_left, linked_left, waits_lower}
+use Rattle.word_lowering.proofs.Returned.{called, back, good_back, sites_left, linked_left, waits_lower, memory_left, good_left, left_read}
 use Rattle.word_lowering.proofs.ReturnLines.{place_high}
 use Rattle.word_lowering.proofs.Scenes.{At, Name, of_value, house, IsNamed, IsThere, looked, IsItem}
 use Rattle.word_lowering.proofs.Sites.{Site}
@@ -57,13 +57,18 @@ module _ (x : Basis) (h : Both) (w : Waits) (ws : List Waits) (line : BlockLine)
   pub settles_back : (work : ℕ) (vars : Vars) (m : Memory) (words : Vars) (awaits : ℕ) → IsGood x (go vars m words awaits) → (n : ℕ) → 0 < n
       → n ≤ 16 * work → Runs x.live (all_procs x) n (low x.table x.blocks (starts g line rest)) (low x.table x.blocks (go vars m words awaits))
       → Settles x (starts g line rest) rest (BlockReturns v work)
-  settles_back work vars m words awaits good n some few runs = (
-    low x.table x.blocks (go vars m words awaits),
-    n,
-    record { work = runs.work; within = omega (arith, runs.within, few); by = runs.by },
-    ((go vars m words awaits, good), refl, refl),
-    inl some,
-  )
+  settles_back work vars m words awaits good n some few runs = λ before.
+      let r = runs.by x.fresh before in (
+        (r.0, low x.table x.blocks (go vars m words awaits)),
+        n,
+        record { work = r.1.work; within = omega (arith, r.1.within, few); by = r.1.by },
+        ((go vars m words awaits, good, r.0), refl, refl),
+        inl some,
+      )
+
+  -- memory without the places of the call
+  abbrev pub memory_back : Memory
+  memory_back = memory_left x h w ws line rest y
 
   -- ---- the temporary has no place
 
@@ -71,10 +76,11 @@ module _ (x : Basis) (h : Both) (w : Waits) (ws : List Waits) (line : BlockLine)
   abbrev above : Site
   above = record w.call.site { level = suc w.call.site.level }
 
-  pub good_nothing : (IsNamed w.call.site (of_value w.to) → ⊥) → (a awaits : ℕ) → IsGood x (go (put w.call.vars FIRST a) h.memory no_words awaits)
+  pub good_nothing : (IsNamed w.call.site (of_value w.to) → ⊥) → (a awaits : ℕ) → IsGood x (go (put w.call.vars FIRST a) memory_back no_words awaits)
   good_nothing unnamed a awaits =
       let same = same_first w.call.vars a in
-      good_back x h w ws line rest y above (of_value 0) temps_then (put w.call.vars FIRST a) h.memory no_words awaits y.memory (nowhere refl)
+      good_back x h w ws line rest y above (of_value 0) temps_then (put w.call.vars FIRST a) memory_back no_words awaits (good_left x h w ws line rest y)
+      (beyond (λ b n within read. left_read x h w ws line rest y b n (omega (arith, within)) read))
       (record {
         values = λ t there away. with_away w.call.temps w.to v t
             (other t (record { among = there.among; number = there.number; kind = there.kind }));
@@ -93,7 +99,7 @@ module _ (x : Basis) (h : Both) (w : Waits) (ws : List Waits) (line : BlockLine)
   -- ---- it gets the value
 
   module _ (there : IsThere w.call.site (of_value w.to)) (shaped : has_shape v (looked x.table w.call.site (of_value w.to)) ≡ true) where
-    pub good_gets : (vars : Vars) (m : Memory) (words : Vars) (awaits : ℕ) → MemoryGood x.table x.blocks x.first m
+    pub good_gets : (vars : Vars) (m : Memory) (words : Vars) (awaits : ℕ) → MemoryGood x.table x.blocks (sites_left x h w ws line rest y) x.first m
         → Edit x.table x.blocks x.small (sites_left x h w ws line rest y) (linked_left x h w ws line rest y) w.call.site (of_value w.to) h.memory m
         → ((f : Name) (u : ℕ) → IsThere w.call.site f → f ≢ of_value w.to → (house w.call.site f).home ≡ Variable u → vars u ≡ w.call.vars u)
         → vars LEFT ≡ w.call.vars LEFT
@@ -132,13 +138,14 @@ module _ (x : Basis) (h : Both) (w : Waits) (ws : List Waits) (line : BlockLine)
 
     -- in a variable
     pub good_word_back : (u : ℕ) → (house w.call.site (of_value w.to)).home ≡ Variable u → single_word v < 2 ^ 32 → (awaits : ℕ)
-        → IsGood x (go (put w.call.vars u (single_word v)) h.memory no_words awaits)
+        → IsGood x (go (put w.call.vars u (single_word v)) memory_back no_words awaits)
     good_word_back u home small awaits =
         let high_u : OWN_FROM ≤ u = place_high x w.call.site y.linked.5.0 (of_value w.to) u there home in
-        good_gets (put w.call.vars u (single_word v)) h.memory no_words awaits y.memory (nowhere refl)
+        good_gets (put w.call.vars u (single_word v)) memory_back no_words awaits (good_left x h w ws line rest y)
+        (beyond (λ b n within read. left_read x h w ws line rest y b n (omega (arith, within)) read))
         (λ f n is ne k. put_other w.call.vars u (single_word v) n
         (variables_apart x.table x.blocks w.call.site (of_value w.to) f u n y.linked.5.0 there is (λ e. ne (sym e)) home k))
         (put_other w.call.vars u (single_word v) LEFT (λ e. absurd (omega (arith, high_u, e))))
-        (subst (λ p. At h.memory w.call.site.base (put w.call.vars u (single_word v)) p v)
+        (subst (λ p. At memory_back w.call.site.base (put w.call.vars u (single_word v)) p v)
         (sym (spot_held (house w.call.site (of_value w.to)) u (value_plain (house w.call.site (of_value w.to)).kind there.kind) home))
         (put_same w.call.vars u (single_word v) small))

@@ -195,6 +195,7 @@ module _ (x : Around) where
   line_weighs (L.Look to from) label k = moves_weigh (lines.value x to) (lines.location x from) k
   line_weighs (L.Root to p global) label k = omega arith
   line_weighs (L.Fresh to from) label k = omega arith
+  line_weighs (L.Standing to ty pieces) label k = omega arith
   line_weighs (L.Part to from field) label k = part_weighs (lines.led x to) (lines.location x from).home _ k
   line_weighs (L.Item to from index) label k =
       let h = element_weighs (lines.led x to) (lines.location x from).home (lines.held x index) (lines.bytes_each x from) k in omega (arith, h)

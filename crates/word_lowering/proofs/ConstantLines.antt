@@ -1,6 +1,6 @@
 -- Constants that are built: zeros, and then the words that are no zeros. What the line does is followed.
 use Rattle.std.proofs.Common.{◌≡◌, inl, inr, ℕ, zero, suc, ◌+◌, ◌*◌, ◌%◌, ◌^◌, ◌<◌, ◌≤◌, List, [], ◌∷◌}
-use Rattle.std.proofs.Common.{◌++◌, Some, None, Ok, ℤ, true, false, refl, sym, pos}
+use Rattle.std.proofs.Common.{Some, None, Ok, ℤ, true, false, refl, sym, pos}
 use Rattle.std.proofs.Common.{ap, ap₂, subst, ◌∙◌, arith}
 use Rattle.std.proofs.lemmas.Bool.{and_parts}
 use Rattle.std.specs.Prelude.{◌&&◌}
@@ -24,10 +24,9 @@ use Rattle.word_code.specs.declared.word.WordInstr.{WordInstr}
 use Rattle.word_code.specs.declared.word.WordInstr.TheVariants.{Constant, Store}
 use Rattle.word_code.specs.Memory.{Memory, number_at, with_number}
 use Rattle.word_code.specs.Words.{Vars, put}
-use Rattle.flat_code.specs.Pieces.{value_of, are_one, pieces_bytes}
-use Rattle.flat_code.specs.Shapes.{Shape, number, reference, block, elements, row, parts}
-use Rattle.flat_code.specs.Shapes.{resource, Shapes, no_shapes, shapes, has_shape, are_rows, have_shapes, shape_of}
-use Rattle.word_lowering.proofs.ShapeFacts.{all_of_numbers, fewer_numbers, never, of_numbers, values_of_numbers}
+use Rattle.flat_code.specs.Pieces.{value_of, are_one, pieces_bytes, piece_words}
+use Rattle.flat_code.specs.Shapes.{has_shape, shape_of}
+use Rattle.word_lowering.proofs.ShapeFacts.{of_numbers, values_of_numbers}
 use Rattle.word_code.proofs.ForCallers.{put_here, Changed, changed_word, Runs, then_runs, at as run_at, run_constant, run_store, got}
 use Rattle.word_lowering.specs.declared.homes.TheConstants.{FIRST, SECOND}
 use Rattle.word_lowering.specs.declared.homes.Home.{Home}
@@ -37,7 +36,7 @@ use Rattle.word_lowering.specs.Aliases.{text_in, text_alias}
 use Rattle.word_lowering.specs.Layouts.{is_address}
 use Rattle.word_lowering.specs.Spots.{spot_of, shifted, cleared}
 use Rattle.word_lowering.specs.Operations.{word}
-use Rattle.word_lowering.specs.LineCode.{unless_zero, pieces_code, piece_words, first_word, constant_at, constant_by}
+use Rattle.word_lowering.specs.LineCode.{unless_zero, pieces_code, first_word, constant_at, constant_by}
 use Rattle.word_lowering.proofs.AddressFacts.{in_memory}
 use Rattle.word_lowering.proofs.InMemory.{AreAt, AreZero, OfNumbers, all_carried, bytes_some, or_word_is}
 use Rattle.word_lowering.proofs.RoutineCalls.{awaiting}
@@ -57,8 +56,9 @@ use Rattle.word_lowering.proofs.ControlLines.{FollowedHere, plain, value_type}
 use Rattle.word_lowering.proofs.Sources.{Lying, lying_all, lying_area, lying_near, size_is, word_is, address_whole}
 use Rattle.word_lowering.proofs.Gets.{Gets, memory_kept, gets_word, gets_bytes, value_settles}
 use Rattle.word_lowering.proofs.PartRuns.{changed_same, changed_both, more_most, shifted_inside, shifted_address, Sofar}
-use Rattle.word_lowering.proofs.PieceWords.{PiecesAre, one_number, one_text, built, pieces_are, words_in, all_words, room_of, words_room, WordsAt}
+use Rattle.word_lowering.proofs.PieceWords.{PiecesAre, one_number, one_text, built, pieces_are, words_in, room_of, words_room, WordsAt}
 use Rattle.word_lowering.proofs.PieceWords.{by_words, words_are}
+use Rattle.word_lowering.proofs.SmallWords.{AllSmall, small_words}
 use Rattle.word_lowering.proofs.Settling.{LabelsLead, code_here, code_next}
 use Rattle.word_lowering.proofs.Targets.{target, texts_behind}
 
@@ -74,48 +74,6 @@ zeros_zero (w ∷ ws) = (refl, zeros_zero ws)
 zeros_room : (ws : List ℕ) → bytes_all (zeros_of ws) ≡ room_of ws
 zeros_room [] = refl
 zeros_room (w ∷ ws) = let e = zeros_room ws in omega (arith, e)
-
--- words of 32 bits
-abbrev AllSmall : List ℕ → Type 0
-AllSmall [] = Unit {0}
-AllSmall (w ∷ ws) = (w < 2 ^ 32) × AllSmall ws
-
-small_both : (ws us : List ℕ) → AllSmall ws → AllSmall us → AllSmall (ws ++ us)
-small_both [] us a b = b
-small_both (w ∷ ws) us a b = (a.0, small_both ws us a.1 b)
-
-mutual
-  small_words : (v : Value) (s : Shape) → of_numbers s ≡ true → has_shape v s ≡ true → AllSmall (words_in v)
-  small_words (Number z) s o h = (word_small z (number_fits (Number z) s h), tt)
-  small_words (Parts Nil) s o h = (omega arith, tt)
-  small_words (Parts (More v vs)) (number values) o h = never h
-  small_words (Parts (More v vs)) reference o h = never o
-  small_words (Parts (More v vs)) block o h = never o
-  small_words (Parts (More v vs)) (elements s) o h = never o
-  small_words (Parts (More v vs)) (resource ss) o h = never o
-  small_words (Parts (More v vs)) (row n s) o h = small_rows (More v vs) n s o h
-  small_words (Parts (More v vs)) (parts ss) o h = small_parts (More v vs) ss o h
-  small_words (Handle n k) s o h = tt
-  small_words (Fixed text) s o h = tt
-  small_words (Ref object) s o h = tt
-  small_words (Resource vs i) s o h = tt
-  small_words (Gone v final) s o h = tt
-  small_words Vacant s o h = tt
-
-  small_rows : (vs : Values) (n : ℕ) (s : Shape) → of_numbers (row n s) ≡ true → are_rows vs n s ≡ true → AllSmall (all_words vs)
-  small_rows Nil n s o h = tt
-  small_rows (More v vs) zero s o h = never h
-  small_rows (More v vs) (suc n) s o h =
-      let p = and_parts (has_shape v s) (are_rows vs n s) h in
-      small_both (words_in v) (all_words vs) (small_words v s o p.0) (small_rows vs n s (fewer_numbers n s o) p.1)
-
-  small_parts : (vs : Values) (ss : Shapes) → all_of_numbers ss ≡ true → have_shapes vs ss ≡ true → AllSmall (all_words vs)
-  small_parts Nil ss o h = tt
-  small_parts (More v vs) no_shapes o h = never h
-  small_parts (More v vs) (shapes s ss) o h =
-      let p = and_parts (has_shape v s) (have_shapes vs ss) h in
-      let q = and_parts (of_numbers s) (all_of_numbers ss) o in
-      small_both (words_in v) (all_words vs) (small_words v s q.0 p.0) (small_parts vs ss q.1 p.1)
 
 module _ (x : Basis) (g : Both) (line : BlockLine) (rest : List BlockLine) (y : IsGood x (starts g line rest)) (to : ℕ)
     (there : IsThere g.call.site (of_value to)) (inside : InMemory (house g.call.site (of_value to)).home) where

@@ -1,5 +1,5 @@
 -- The data of word code is whole words, and no more than what block code's takes.
-use Rattle.std.proofs.Common.{nat_le, ◌&&◌, ◌≡◌, ℕ, zero, suc, ◌+◌, ◌*◌, ◌-◌, ◌%◌, ◌≤◌, List, [], ◌∷◌, ◌++◌, length, map, replicate, Bool, true, false}
+use Rattle.std.proofs.Common.{nat_le, ◌&&◌, ◌≡◌, ℕ, ◌+◌, ◌*◌, ◌-◌, ◌%◌, ◌≤◌, List, [], ◌∷◌, ◌++◌, length, map, replicate, Bool, true, false}
 use Rattle.std.proofs.Common.{refl, sym, ap, ◌∙◌, arith, add-zero, length-append}
 use Rattle.std.proofs.lemmas.Bool.{and_parts, leb-true}
 use Rattle.nim_types.specs.declared.types.TypeDef.{TypeDef}
@@ -31,32 +31,11 @@ use Rattle.word_lowering.specs.Stored.{bytes_at}
 use Rattle.word_lowering.specs.Layouts.{is_static, free_behind, free_by, bytes_by, place_kept, behind, behind_all, free_at, layouts, layout_of}
 use Rattle.word_lowering.specs.LineCode.{no_layout}
 use Rattle.word_lowering.specs.Lowered.{globals_end, data_of, lowered}
-use Rattle.word_lowering.specs.Texts.{missing, padded, fixed_texts, members_of, all_names, joined_all, starts_from, ends_from, laid_texts, data_in}
+use Rattle.word_lowering.specs.Texts.{padded, fixed_texts, members_of, all_names, joined_all, starts_from, ends_from, laid_texts, data_in}
 use Rattle.word_lowering.specs.MayLower.{defs_may, labels_may, procs_may, may_lower}
 use Rattle.word_lowering.proofs.EntryNames.{joined_append}
 use Rattle.word_lowering.proofs.DistinctTexts.{laid_most}
-
--- ---- whole words
-
-zeros_length : (n : ℕ) → length {A = ℕ} (replicate n 0) ≡ n
-zeros_length zero = refl
-zeros_length (suc n) = ap (λ m. suc m) (zeros_length n)
-
-whole_by : (n : ℕ) → (n + missing n) % 4 ≡ 0
-whole_by n = omega arith
-
-padded_whole : (bytes : List ℕ) → length (padded bytes) % 4 ≡ 0
-padded_whole bytes =
-    let h = length-append bytes (replicate (missing (length bytes)) 0) in
-    let i = zeros_length (missing (length bytes)) in
-    let j = whole_by (length bytes) in
-    omega (arith, h, i, j)
-
-padded_most : (bytes : List ℕ) → length (padded bytes) ≤ length bytes + 3
-padded_most bytes =
-    let h = length-append bytes (replicate (missing (length bytes)) 0) in
-    let i = zeros_length (missing (length bytes)) in
-    omega (arith, h, i)
+use Rattle.word_lowering.proofs.Padding.{zeros_length, padded_whole, padded_most}
 
 -- ---- texts
 
@@ -171,17 +150,19 @@ fixed_length : length fixed_texts ≡ 16
 fixed_length = refl
 
 data_length : (table : List TypeDef) (globals_end : ℕ) (procs : List (CodeProc BlockLine))
-    → length (data_in table globals_end procs) ≤ 24 + (globals_end - FIXED_BYTES) + (names_bytes table + all_bytes (distinct_texts block_plain procs))
+    → length (data_in table globals_end procs) ≤ 27 + (globals_end - FIXED_BYTES) + (names_bytes table + all_bytes (distinct_texts block_plain procs))
 data_length table globals_end procs =
     let names : List (List ℕ) = all_names table in
-    let e = six_parts (replicate 4 0) fixed_texts (replicate (globals_end - FIXED_BYTES) 0) (ends_from 0 names) (joined_all names) (laid_texts procs) in
+    let e = six_parts (replicate 4 0) fixed_texts (replicate (globals_end - FIXED_BYTES) 0) (ends_from 0 names) (padded (joined_all names))
+    (laid_texts procs) in
     let f = zeros_length (globals_end - FIXED_BYTES) in
     let g = ends_length 0 names in
     let h = all_names_most table in
     let i = laid_most (distinct_texts block_plain procs) in
     let j = fixed_length in
     let k = zeros_length 4 in
-    omega (arith, e, f, g, h, i, j, k)
+    let l = padded_most (joined_all names) in
+    omega (arith, e, f, g, h, i, j, k, l)
 
 data_by : (table : List TypeDef) (procs : List (CodeProc BlockLine)) → length (data_of table procs) ≤ data_bytes block_plain table procs + MORE_DATA
 data_by table [] =

@@ -1,6 +1,6 @@
 -- Distinct texts, and where they are laid out.
-use Rattle.std.proofs.Common.{◌≡◌, ◌∙◌, ℕ, ◌+◌, ◌≤◌, Bool, true, false, List, [], ◌∷◌, ◌++◌, length, Some, None, refl, sym, ap, ap₂}
-use Rattle.std.proofs.Common.{append_assoc, append-nil, length-append, arith}
+use Rattle.std.proofs.Common.{◌≡◌, ◌∙◌, ℕ, ◌+◌, ◌%◌, ◌≤◌, replicate, Bool, true, false, List, [], ◌∷◌, ◌++◌, length, Some, None, refl, sym, ap, ap₂}
+use Rattle.std.proofs.Common.{append_assoc, length-append, arith}
 use Rattle.std.specs.Prelude.{◌||◌}
 use Rattle.std.specs.List.{list_any}
 use Rattle.std.specs.Set.{is_member, unique_keys}
@@ -8,8 +8,9 @@ use Rattle.std.proofs.lemmas.Bool.{cond-true, cond-false, both_ways}
 use Rattle.std.proofs.lemmas.Cmp.{nat_list_eq_equiv}
 use Rattle.std.proofs.lemmas.Slice.Eq.{bytes_eq-Decides}
 use Rattle.nim_types.specs.Types.{same_text}
-use Rattle.nim_program.specs.TextSizes.{text_bytes, all_bytes}
-use Rattle.word_lowering.specs.Texts.{laid, place_among}
+use Rattle.nim_program.specs.TextSizes.{all_bytes}
+use Rattle.word_lowering.specs.Texts.{missing, padded, laid, place_among}
+use Rattle.word_lowering.proofs.Padding.{padded_whole, padded_most}
 use Rattle.word_lowering.proofs.Options.{none_some}
 
 abbrev has : List (List ℕ) → List ℕ → Bool
@@ -64,6 +65,16 @@ pub record IsLaid (texts : List (List ℕ)) (text : List ℕ) : Type 0 where
   pub after : List ℕ
   pub place : place_among texts text ≡ Some (length before)
   pub whole : laid texts ≡ before ++ (text ++ after)
+  -- it begins at a word
+  pub at_word : length before % 4 ≡ 0
+
+pub laid_whole : (texts : List (List ℕ)) → length (laid texts) % 4 ≡ 0
+laid_whole [] = refl
+laid_whole (text ∷ texts) =
+    let e = length-append (laid texts) (padded text) in
+    let h = laid_whole texts in
+    let i = padded_whole text in
+    omega (arith, e, h, i)
 
 pub is_laid : (texts : List (List ℕ)) (text : List ℕ) → has texts text ≡ true → IsLaid texts text
 is_laid [] text h = absurd (both_ways false refl h)
@@ -72,18 +83,20 @@ is_laid (other ∷ texts) text h = by (same_text text other) refl (is_laid texts
     by : (b : Bool) → same_text text other ≡ b → (has texts text ≡ true → IsLaid texts text) → IsLaid (other ∷ texts) text
     by true e later = record {
       before = laid texts;
-      after = [];
+      after = replicate (missing (length text)) 0;
       place = cond-true (same_text text other) (Some (length (laid texts))) (place_among texts text) e;
-      whole = ap (λ t. laid texts ++ t) (sym ((bytes_eq-Decides text other).0 e) ∙ sym (append-nil text));
+      whole = ap (λ t. laid texts ++ padded t) (sym ((bytes_eq-Decides text other).0 e));
+      at_word = laid_whole texts;
     }
     by false e later =
         let rest = later (ap (λ b. b || has texts text) (sym e) ∙ h) in
         record {
           before = rest.before;
-          after = rest.after ++ other;
+          after = rest.after ++ padded other;
           place = cond-false (same_text text other) (Some (length (laid texts))) (place_among texts text) e ∙ rest.place;
-          whole = ap (λ t. t ++ other) rest.whole ∙ append_assoc rest.before (text ++ rest.after) other
-              ∙ ap (λ t. rest.before ++ t) (append_assoc text rest.after other);
+          whole = ap (λ t. t ++ padded other) rest.whole ∙ append_assoc rest.before (text ++ rest.after) (padded other)
+              ∙ ap (λ t. rest.before ++ t) (append_assoc text rest.after (padded other));
+          at_word = rest.at_word;
         }
 
 -- one that isn't there has no place
@@ -92,7 +105,8 @@ no_place [] text h = refl
 no_place (other ∷ texts) text h = by (same_text text other) refl (no_place texts text)
   where
     by : (b : Bool) → same_text text other ≡ b → (place_among texts text ≡ None → has texts text ≡ false) → has (other ∷ texts) text ≡ false
-    by true e later = absurd (none_some (length (laid texts)) (sym h ∙ cond-true (same_text text other) (Some (length (laid texts))) (place_among texts text) e))
+    by true e later = absurd (none_some (length (laid texts))
+        (sym h ∙ cond-true (same_text text other) (Some (length (laid texts))) (place_among texts text) e))
     by false e later =
         ap (λ b. b || has texts text) e
         ∙ later (sym (cond-false (same_text text other) (Some (length (laid texts))) (place_among texts text) e) ∙ h)
@@ -112,7 +126,7 @@ nowhere (other ∷ texts) text h = by (same_text text other) refl (nowhere texts
 pub laid_most : (texts : List (List ℕ)) → length (laid texts) ≤ all_bytes texts
 laid_most [] = omega arith
 laid_most (text ∷ texts) =
-    let e = length-append (laid texts) text in
+    let e = length-append (laid texts) (padded text) in
     let h = laid_most texts in
-    let i : length text + 4 ≤ text_bytes text = omega arith in
+    let i = padded_most text in
     omega (arith, e, h, i)

@@ -24,6 +24,7 @@ use Rattle.word_lowering.proofs.ElementLines.{element_line}
 use Rattle.word_lowering.proofs.EchoLines.{echo_line}
 use Rattle.word_lowering.proofs.EndLines.{quit_line}
 use Rattle.word_lowering.proofs.ItemLines.{item_line}
+use Rattle.word_lowering.proofs.StandingLines.{standing_line}
 use Rattle.word_lowering.proofs.LeadLines.{fresh_line, root_line}
 use Rattle.word_lowering.proofs.Lines.{Basis, IsGood, Settles, known, starts}
 use Rattle.word_lowering.proofs.MakeLines.{make_line}
@@ -90,6 +91,7 @@ module _ (x : Basis) (labels : LabelsLead x) (traps : TrapsStop x) (own : OwnLab
   line_followed g rest (L.Look to from) y = look_line x labels g rest to from y
   line_followed g rest (L.Root to place global) y = root_line x labels g rest to place global y
   line_followed g rest (L.Fresh to from) y = fresh_line x labels g rest to from y
+  line_followed g rest (L.Standing to ty pieces) y = standing_line x labels g rest to ty pieces y
   line_followed g rest (L.Part to from field) y = part_line x labels g rest to from field y
   line_followed g rest (L.Item to from index) y = item_line x traps labels g rest to from index y
   line_followed g rest (L.Object to from) y = object_line x labels g rest to from y

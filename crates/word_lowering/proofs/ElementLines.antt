@@ -42,11 +42,11 @@ use Rattle.word_lowering.proofs.Arithmetic.{fits_signed, word_small}
 use Rattle.word_lowering.proofs.ControlLines.{FollowedHere, int_read, kind_at, plain, value_type}
 use Rattle.word_lowering.proofs.Gets.{Gets, gets_bytes, gets_word, good_value}
 use Rattle.word_lowering.proofs.ItemLines.{item_deeper}
-use Rattle.word_lowering.proofs.LineFits.{are_of, elements_shape, number_fits, row_length, single_is, some_kind}
+use Rattle.word_lowering.proofs.LineFits.{are_of, elements_shape, number_fits, row_length, single_is, some_kind, has_words}
 use Rattle.word_lowering.proofs.Lines.{Basis, IsGood, Settles, all_procs, all_sites, branch_settles}
 use Rattle.word_lowering.proofs.Lines.{changed, data_there, fits_here, good_between, goes_on, reaches}
 use Rattle.word_lowering.proofs.Lines.{stands_next, starts, using_settles, with_vars}
-use Rattle.word_lowering.proofs.Located.{IsThereAt, led_located}
+use Rattle.word_lowering.proofs.Located.{IsReadAt, led_located}
 use Rattle.word_lowering.proofs.LocationHouses.{location_house}
 use Rattle.word_lowering.proofs.Moves.{From, IsHigh, ToMemory, ToVariable, address_runs, is_single, number_to_variable, parts_to_memory, same_first, same_more}
 use Rattle.word_lowering.proofs.Moves.{same_second}
@@ -61,7 +61,7 @@ use Rattle.word_lowering.proofs.Settling.{LabelsLead, code_here, code_next}
 use Rattle.word_lowering.proofs.ShapeFacts.{never, of_numbers, shape_bytes}
 use Rattle.word_lowering.proofs.ShapePaths.{Step, shape_some, step_within}
 use Rattle.word_lowering.proofs.Sites.{Site, around, is_one_word}
-use Rattle.word_lowering.proofs.Sources.{lying_all, lying_area, lying_near, size_is, whole_separate, word_is}
+use Rattle.word_lowering.proofs.Sources.{lying_all, lying_area, lying_near, size_is, word_is}
 use Rattle.word_lowering.proofs.Keeping.{points_there, spot_memory}
 use Rattle.word_lowering.proofs.Targets.{Target, pointed, target}
 use Rattle.word_lowering.proofs.ValueFacts.{Operand, in_word, location_of_numbers, type_in, value_plain}
@@ -184,7 +184,7 @@ module _ (x : Basis) (labels : LabelsLead x) (g : Both) (rest : List BlockLine) 
       abbrev Comes : Value → Type 0
       Comes v = Gets x led element_here rest good_there moving k (of_value to) v (10 + 2 * bytes v)
 
-      module _ (v : Value) (there : IsThereAt x sites good_there.linked g.memory v a (looked x.table g.call.site (of_value to))) where
+      module _ (v : Value) (there : IsReadAt x sites good_there.linked g.memory v a (looked x.table g.call.site (of_value to))) where
         single : into.is_word ≡ is_single v
         single = word_is x sites good_there.linked led.call (inl refl) (of_value to) place.there plain_is v there.shaped
 
@@ -201,11 +201,11 @@ module _ (x : Basis) (labels : LabelsLead x) (g : Both) (rest : List BlockLine) 
           a,
           f.holds,
           there.is_at,
-          lying_near x sites good_there.linked a (bytes v) there.lying,
-          lying_area x sites good_there.linked g.memory a (bytes v) good_there.memory there.lying,
+          there.readable.near,
+          there.readable.area,
         )
 
-      number_comes : (z : ℤ) → IsThereAt x sites good_there.linked g.memory (Number z) a (looked x.table g.call.site (of_value to)) → Comes (Number z)
+      number_comes : (z : ℤ) → IsReadAt x sites good_there.linked g.memory (Number z) a (looked x.table g.call.site (of_value to)) → Comes (Number z)
       number_comes z there =
           let w = in_word x g.call.site to y.linked.0 place.there
           (sym (single_is (Number z) (looked x.table g.call.site (of_value to)) there.numbers there.shaped)) in
@@ -231,7 +231,7 @@ module _ (x : Basis) (labels : LabelsLead x) (g : Both) (rest : List BlockLine) 
             runs = r.runs;
           }
 
-      parts_come : (vs : Values) → IsThereAt x sites good_there.linked g.memory (Parts vs) a (looked x.table g.call.site (of_value to)) → Comes (Parts vs)
+      parts_come : (vs : Values) → IsReadAt x sites good_there.linked g.memory (Parts vs) a (looked x.table g.call.site (of_value to)) → Comes (Parts vs)
       parts_come vs there =
           let v : Value = Parts vs in
           let inside = in_memory x g element_here rest y (of_value to) place.there plain_is
@@ -243,11 +243,12 @@ module _ (x : Basis) (labels : LabelsLead x) (g : Both) (rest : List BlockLine) 
           (code_as v there (Lies into.home) (spot_memory into plain_is inside))
           (parts_to_memory x.law x.live (all_procs x) (within x.table x.blocks g) refl g.words g.memory good_there.memory.sized k f.vars into.home start
           (points_there g.call.site.base f.vars into.home inside) (routines x.table x.blocks) x.runtime.statics (reaches x)
-          (data_there x g.memory good_there.memory) vs (lying_area x sites good_there.linked g.memory start (bytes v) good_there.memory lying)
+          (data_there x sites g.memory good_there.memory) vs
+          (has_words v (looked x.table g.call.site (of_value to)) there.shaped) (lying_area x sites good_there.linked g.memory start (bytes v) good_there.memory lying)
           (lying_near x sites good_there.linked start (bytes v) lying) (Variable FIFTH) (omega arith) (from_there v there)
-          (whole_separate x sites good_there.linked start a (bytes v) lying there.lying (size v there))))
+          (there.readable.separate start lying (size v there))))
 
-      comes : (v : Value) → IsThereAt x sites good_there.linked g.memory v a (looked x.table g.call.site (of_value to)) → Comes v
+      comes : (v : Value) → IsReadAt x sites good_there.linked g.memory v a (looked x.table g.call.site (of_value to)) → Comes v
       comes (Number z) there = number_comes z there
       comes (Parts vs) there = parts_come vs there
       comes (Handle n b) there = absurd there.is_at
@@ -257,13 +258,14 @@ module _ (x : Basis) (labels : LabelsLead x) (g : Both) (rest : List BlockLine) 
       comes (Gone v final) there = absurd there.is_at
       comes Vacant there = absurd there.is_at
 
-      element_settles : (l : Where) → Leads x.table (all_sites x g element_here rest y) g.world g.call.site g.call.temps l a
+      element_settles : (l : Where) → Leads x.table x.blocks (all_sites x g element_here rest y) g.world g.call.site g.call.temps l a
           (looked x.table g.call.site (of_value to))
           → Settles x (starts g element_here rest) rest (Passes (Answers [] (1 + (bytes (load g.world (location_at g.call.temps l)) + 0))
           (with_value to g.call.temps (load g.world (location_at g.call.temps l))) g.world))
       element_settles l leads_there =
           let v : Value = load g.world (location_at g.call.temps l) in
-          let there = led_located x sites good_there.linked g.memory g.world (each_call x led element_here rest good_there) led.call (inl refl)
+          let there = led_located x sites good_there.linked g.memory g.world (each_call x led element_here rest good_there) good_there.memory led.call
+          (inl refl)
           good_there.hold.0.items l a (looked x.table g.call.site (of_value to)) leads_there in
           let get = comes v there in
           goes_on x (starts g element_here rest)
@@ -348,7 +350,7 @@ module _ (x : Basis) (labels : LabelsLead x) (g : Both) (rest : List BlockLine) 
       (gives (scene_of (high x.table x.blocks (starts g element_here rest))) to (costs 1 (element_at (location_at g.call.temps there) (number_of w)))) Fails)
       (λ w h. branch_settles x (starts g element_here rest) rest (inside (number_of w) (length_of (load g.world (location_at g.call.temps there))))
       (gives (scene_of (high x.table x.blocks (starts g element_here rest))) to (costs 1 (element_at (location_at g.call.temps there) (number_of w)))) Fails
-      (λ i. found y v.ty q there e p.named shape.0 look w (int_read x g element_here rest y index w f.1 h) i) (λ i. tt)))
+      (λ i. found y v.ty q there e p.named shape.0 look w (int_read x g element_here rest y index w f.1 h) i) (λ i before. tt)))
     where
       found : (y : IsGood x (starts g element_here rest)) (t : Ty) (place : Target x g element_here rest y to t) (there : Where)
           (e : g.call.temps.places from ≡ Some there) (named_from : IsNamed g.call.site (of_location from)) (count : ℕ)

@@ -2,7 +2,6 @@
 use Rattle.std.proofs.Common.{◌≡◌, ℕ, ◌%◌, List, [], ◌∷◌, Option, Some, None, true, sym, ap, subst, ◌∙◌, arith, false}
 use Rattle.arc_base.specs.Behaviour.{no_objects}
 use Rattle.arc_base.specs.Stepping.{Ends}
-use Rattle.arc_base.specs.Simulation.{Stops}
 use Rattle.std.proofs.lemmas.Bool.{and_parts}
 use Rattle.nim_program.specs.Ints.{low_byte}
 use Rattle.nim_meaning.specs.Values.{number_of, Given, value_of}
@@ -15,7 +14,7 @@ use Rattle.flat_code.specs.declared.line.Line.TheVariants as L
 use Rattle.word_code.specs.declared.word.WordInstr.{WordInstr}
 use Rattle.word_code.specs.declared.word.WordInstr.TheVariants.{Exit}
 use Rattle.word_code.specs.Words.{Vars, put, WordState, settled as word_settled, using as word_using, Exits as WordExits}
-use Rattle.word_code.proofs.ForCallers.{got, at, run_constant, ends_one, stops_on}
+use Rattle.word_code.proofs.ForCallers.{got, at, run_constant, ends_one, stops_on, AlwaysStops}
 use Rattle.word_lowering.specs.declared.homes.TheConstants.{FIRST}
 use Rattle.word_lowering.specs.Operations.{word}
 use Rattle.word_lowering.specs.LineCode.{exit_code}
@@ -41,14 +40,14 @@ use Rattle.word_lowering.proofs.ValueFacts.{type_in}
 module _ (x : Basis) (g : Both) where
   -- a line that ends
   pub exits : (k : List WordInstr) (vars : Vars) (status a : ℕ) → vars status ≡ Some a
-      → Stops (lower x) (at (within x.table x.blocks g) g.memory (Exit status ∷ k) vars g.words) [] 1 (a % 256) no_objects
+      → AlwaysStops (lower x) (at (within x.table x.blocks g) g.memory (Exit status ∷ k) vars g.words) [] 1 (a % 256) no_objects
   exits k vars status a e =
       let s : WordState = at (within x.table x.blocks g) g.memory (Exit status ∷ k) vars g.words in
       ends_one (lower x) s [] 1 (a % 256) no_objects
-      (ap (λ o. word_settled x.live (all_procs x) s k (word_using o (λ b. WordExits (b % 256)))) e ∙ ap (λ l. Ends [] 1 (a % 256) l)
+      (λ bytes. ap (λ o. word_settled x.live (all_procs x) bytes s k (word_using o (λ b. WordExits (b % 256)))) e ∙ ap (λ l. Ends [] 1 (a % 256) l)
       (x.none g.memory))
 
-  pub zero_exits : (k : List WordInstr) → Stops (lower x) (at (within x.table x.blocks g) g.memory (exit_code k) g.call.vars g.words) [] 2 0 no_objects
+  pub zero_exits : (k : List WordInstr) → AlwaysStops (lower x) (at (within x.table x.blocks g) g.memory (exit_code k) g.call.vars g.words) [] 2 0 no_objects
   zero_exits k =
       let v1 : Vars = put g.call.vars FIRST 0 in
       let r1 = run_constant x.live (all_procs x) (within x.table x.blocks g) g.memory (Exit FIRST ∷ k) g.call.vars g.words FIRST 0 in
@@ -61,7 +60,7 @@ module _ (x : Basis) (labels : LabelsLead x) (g : Both) (rest : List BlockLine) 
   quit_zero y =
       let line = plain (L.Apply to O.Quit how None [] []) in
       stops_more (lower x) (low x.table x.blocks (starts g line rest)) 2 16 0 [] no_objects (omega arith)
-      (zero_exits x g (code_next x g line rest y))
+      (zero_exits x g (code_next x g line rest y)) x.fresh
 
   quit_status : (a : Option ℕ) (status : ℕ) → FollowedHere x labels g rest (L.Apply to O.Quit how None (a ∷ []) (F.Value status ∷ []))
   quit_status a status y =
@@ -76,8 +75,8 @@ module _ (x : Basis) (labels : LabelsLead x) (g : Both) (rest : List BlockLine) 
       (costs 1 (end (low_byte (number_of (value_of z)))) >>= made_by false how))
       (λ v e. let o = int_read x g line rest y status v k e in
       let s = exits x g (code_next x g line rest y) g.call.vars (variable x g line rest y status) (word (number_of v)) o.word_is in
-      subst (λ n. Stops (lower x) (low x.table x.blocks (starts g line rest)) [] 16 n no_objects) (exit_status (number_of v) o.fits)
-      (stops_more (lower x) (low x.table x.blocks (starts g line rest)) 1 16 (word (number_of v) % 256) [] no_objects (omega arith) s))
+      subst (λ n. AlwaysStops (lower x) (low x.table x.blocks (starts g line rest)) [] 16 n no_objects) (exit_status (number_of v) o.fits)
+      (stops_more (lower x) (low x.table x.blocks (starts g line rest)) 1 16 (word (number_of v) % 256) [] no_objects (omega arith) s) x.fresh)
 
   pub quit_line : (ty : Option ℕ) (of : List (Option ℕ)) (from : List From) → FollowedHere x labels g rest (L.Apply to O.Quit how ty of from)
   quit_line None [] [] y = quit_zero y

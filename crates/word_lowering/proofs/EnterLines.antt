@@ -1,5 +1,5 @@
 -- A procedure with lines is entered, behind the check that it isn't one call too many: both states belong together then.
-use Rattle.std.proofs.Common.{◌≡◌, inl, ℕ, suc, ◌+◌, ◌*◌, ◌^◌, ◌<◌, ◌≤◌, List, [], ◌∷◌, ◌++◌, Option, Some, None, true}
+use Rattle.std.proofs.Common.{◌≡◌, inl, ℕ, suc, ◌+◌, ◌*◌, ◌^◌, ◌<◌, ◌≤◌, List, [], ◌∷◌, ◌++◌, Option, Some, None, true, Ok}
 use Rattle.std.proofs.Common.{refl, sym, ap, subst, ◌∙◌, arith}
 use Rattle.std.specs.Prelude.{nat_lt, not}
 use Rattle.std.proofs.lemmas.Bool.{cond-true, lt-ltb}
@@ -14,20 +14,24 @@ use Rattle.flat_code.specs.Running.{entered, slot_bytes}
 use Rattle.word_code.specs.declared.word.WordInstr.{WordInstr}
 use Rattle.word_code.specs.declared.word.WordProc.{WordProc}
 use Rattle.word_code.specs.Words.{Vars, WordState, no_words, put, params_of}
-use Rattle.word_code.proofs.ForCallers.{Runs, Within, at, on}
+use Rattle.word_code.proofs.ForCallers.{Runs, Within, at}
 use Rattle.word_lowering.specs.declared.homes.TheConstants.{LEFT, FIRST, OWN_FROM}
 use Rattle.word_lowering.specs.Layouts.{params_in, is_empty, kept_in}
 use Rattle.word_lowering.proofs.Callees.{Callee}
-use Rattle.word_lowering.proofs.EnterRuns.{code_called, within_then, enters}
-use Rattle.word_lowering.proofs.FirstPlaces.{Gave, slots_of}
+use Rattle.word_lowering.proofs.EnterRuns.{code_called, within_then, enters, memory_then}
+use Rattle.word_lowering.proofs.FirstPlaces.{Gave, slots_of, gave_still}
 use Rattle.word_lowering.proofs.LabelsHere.{code_is}
-use Rattle.word_lowering.proofs.Lines.{Basis, all_procs, IsGood, known, lines_left, lower, pairs, starts}
-use Rattle.word_lowering.proofs.NewCalls.{VarsThen}
+use Rattle.word_lowering.proofs.Lines.{Basis, all_procs, IsGood, known, lines_left, pairs, starts, machine}
+use Rattle.word_lowering.proofs.NewCalls.{VarsThen, sites_then, linked_then}
 use Rattle.word_lowering.proofs.NewStates.{ended, ready, world_then}
 use Rattle.word_lowering.proofs.OrdinalRuns.{put_here, put_other}
-use Rattle.word_lowering.proofs.Related.{Answers, Both, body_of, code_behind, high, sites_of, within}
+use Rattle.word_lowering.proofs.Related.{Answers, Both, body_of, code_behind, high, sites_of, within, MemoryGood}
 use Rattle.word_lowering.proofs.RoutineCalls.{awaiting}
-use Rattle.word_lowering.proofs.Sites.{around, lines_of, room, word_of}
+use Rattle.word_lowering.proofs.Sites.{around, lines_of, room, word_of, next_base}
+use Rattle.arc_base.proofs.ForCallers.{steps_on}
+use Rattle.word_code.specs.Memory.{Memory, number_at}
+use Rattle.word_lowering.proofs.CallPlaces.{Grown, places_come, still_read, good_come}
+use Rattle.rv32_isa.specs.declared.micro_op.Size.TheVariants.{Word}
 
 -- nothing more is seen
 no_more : (hook : Option HookOf) → seen_call hook ++ [] ≡ seen_call hook
@@ -67,33 +71,61 @@ module _ (x : Basis) (g : Both) (line : BlockLine) (rest : List BlockLine) (y : 
   abbrev k : List WordInstr
   k = code_behind x.table x.blocks c.body c.body.proc.lines
 
-  vars_first : VarsThen x g line rest y c slots gave left e handed_on
-  vars_first = record { left_is = handed_left; handed = handed_param }
+  -- ---- memory with the places of the new call
+
+  module _ (bytes : List ℕ) where
+    abbrev memory : Memory
+    memory = memory_then x g line rest y c to bytes
+
+    comes : Grown g.memory memory (room c.body)
+    comes = places_come g.memory (room c.body) bytes
+
+    gave_then : Gave x.table memory (sites_of g) g.world g.words (g.call.site.base + room (body_of g)) slots (params_in c.body.own.all)
+    gave_then = gave_still x.table g.memory memory (sites_of g) g.world g.words (g.call.site.base + room (body_of g))
+        (λ a w h r. still_read g.memory memory (room c.body) comes a w (let p = y.memory.places in omega (arith, h, p)) r)
+        slots (params_in c.body.own.all) c.spare gave
+
+    good_then : MemoryGood x.table x.blocks (sites_then x g line rest y c memory slots gave_then left e) x.first memory
+    good_then = good_come g.memory memory (room c.body) comes x (sites_of g) (sites_then x g line rest y c memory slots gave_then left e) y.linked
+        refl y.memory (linked_then x g line rest y c memory slots gave_then left e)
+
+    still_then : (a w : ℕ) → a + 4 ≤ next_base (sites_of g) → number_at g.memory a Word ≡ Ok w → number_at memory a Word ≡ Ok w
+    still_then a w h r = still_read g.memory memory (room c.body) comes a w (let p = y.memory.places in omega (arith, h, p)) r
 
   -- from wherever some lines come to what is behind the check
   pub entered_line : g.call.vars FIRST ≡ Some left → (l : BlockLine) (ls : List BlockLine) → c.body.proc.lines ≡ l ∷ ls
       → (t : WordState) (before work : ℕ) → before + 10 ≤ 16 * work
       → Runs x.live (all_procs x) before t (at (within x.table x.blocks g) g.memory (code_called x g line rest y c to) g.call.vars g.words)
-      → Does (lower x) (AreOf (pairs x)) (lines_left x) 16 t (high x.table x.blocks (starts g line rest))
+      → (done : ℕ) → Does (machine x) (AreOf (pairs x)) (lines_left x) 16 (done, t) (high x.table x.blocks (starts g line rest))
       (entered (high x.table x.blocks (starts g line rest)) rest to slots work left (proc_of (known x) c.body.proc) (l ∷ ls))
-  entered_line number l ls is t before work few_before runs_before =
-      let r = ready x g line rest y c slots gave left e to answers handed_on vars_first k l ls is in
+  entered_line number l ls is t before work few_before runs_before done =
       let runs : c.body.own.runs ≡ true = c.runs ∙ ap (λ q. not (is_empty q)) is in
-      let n = enters x g line rest y c to left e number runs in
+      let r1 = runs_before.by x.fresh done in
+      let n = enters x g line rest y c to left e number runs r1.0 in
+      let m : Memory = memory_then x g line rest y c to n.bytes in
+      let gave_m = gave_then n.bytes in
+      let vars_m : VarsThen x g line rest y c m slots gave_m left e handed_on = record { left_is = handed_left; handed = handed_param } in
+      let r = ready x g line rest y c m slots gave_m left e to answers (good_then n.bytes) (still_then n.bytes) handed_on vars_m k l ls is in
       let lines = code_is (around x.table x.blocks c.body) (lines_of c.body) in
-      let ready_runs : Runs x.live (all_procs x) r.steps (at here g.memory (word_of x.table x.blocks c.body).lines handed_on no_words)
+      let ready_runs : Runs x.live (all_procs x) r.steps (at here m (word_of x.table x.blocks c.body).lines handed_on no_words)
       (at (awaiting here r.awaits) r.memory k r.vars_then r.words)
-      = subst (λ z. Runs x.live (all_procs x) r.steps (at here g.memory z handed_on no_words) (at (awaiting here r.awaits) r.memory k r.vars_then r.words))
+      = subst (λ z. Runs x.live (all_procs x) r.steps (at here m z handed_on no_words) (at (awaiting here r.awaits) r.memory k r.vars_then r.words))
       (sym lines) r.runs in
-      let r2 = on (lower x) runs_before (on (lower x) n.steps ready_runs) in
+      let r3 = ready_runs.by x.fresh n.behind in
+      let last : ℕ × WordState = (r3.0, at (awaiting here r.awaits) r.memory k r.vars_then r.words) in
+      let called : WordState = at (within x.table x.blocks g) g.memory (code_called x g line rest y c to) g.call.vars g.words in
+      let first_line : WordState = at here m (word_of x.table x.blocks c.body).lines handed_on no_words in
+      let r2 = steps_on (machine x) before (2 + r.steps) before (2 + r.steps) (done, t) (r1.0, called) last [] (seen_call c.body.proc.hook ++ []) r1.1
+      (steps_on (machine x) 2 r.steps 2 r.steps (r1.0, called) (n.behind, first_line) last (seen_call c.body.proc.hook) [] n.steps r3.1) in
       let less = r.few in
-      let world = world_then x g line rest y c slots gave left e to answers handed_on vars_first in
-      let then : Both = ended x g line rest y c slots gave left e to answers handed_on vars_first world r.vars_then r.memory r.words r.awaits in (
-        at (awaiting here r.awaits) r.memory k r.vars_then r.words,
+      let world = world_then x g line rest y c m slots gave_m left e to answers (good_then n.bytes) (still_then n.bytes) handed_on vars_m in
+      let then : Both = ended x g line rest y c m slots gave_m left e to answers (good_then n.bytes) (still_then n.bytes) handed_on vars_m world
+      r.vars_then r.memory r.words r.awaits in (
+        last,
         before + (2 + r.steps),
-        subst (λ es. Steps (lower x) (before + (2 + r.steps)) t es (16 * (work + slot_bytes (slots_of x.table c.body)))
-            (at (awaiting here r.awaits) r.memory k r.vars_then r.words)) (no_more c.body.proc.hook)
+        subst (λ es. Steps (machine x) (before + (2 + r.steps)) (done, t) es (16 * (work + slot_bytes (slots_of x.table c.body))) last)
+            (no_more c.body.proc.hook)
             (record { work = r2.work; within = (let w = r2.within in omega (arith, w, less, few_before)); by = r2.by }),
-        ((then, r.good), refl, refl),
+        ((then, r.good, r3.0), refl, refl),
         inl (omega arith),
       )

@@ -3,8 +3,7 @@ use Rattle.std.proofs.Common.{◌≡◌, ℕ, suc, ◌+◌, ◌%◌, ◌^◌, �
 use Rattle.std.proofs.Common.{Option, Some, None, Bool, true, false, refl, sym, ap, ap₂, subst, ◌∙◌, arith}
 use Rattle.std.specs.Prelude.{nat_le, if◌then◌else◌}
 use Rattle.std.proofs.lemmas.Bool.{and_right, cond-false, lt-leb}
-use Rattle.arc_base.specs.Stepping.{Goes, Faults}
-use Rattle.arc_base.specs.Simulation.{Steps}
+use Rattle.arc_base.specs.Stepping.{Goes, Faults, next_map}
 use Rattle.nim_program.specs.declared.program.HookOf.{HookOf}
 use Rattle.nim_meaning.specs.Meaning.{seen_call as block_seen}
 use Rattle.flat_code.specs.declared.block.BlockLine.{BlockLine}
@@ -14,7 +13,7 @@ use Rattle.word_code.specs.declared.word.WordInstr.TheVariants.{Argument, Call}
 use Rattle.word_code.specs.declared.word.WordProc.{WordProc}
 use Rattle.word_code.specs.Joined.{all_moved}
 use Rattle.word_code.specs.Words.{Vars, no_words, put, params_of, WordFrame, WordState, seen_call, is_counted, counted, most_calls, is_full, scene_of, entered}
-use Rattle.word_code.proofs.ForCallers.{Within, at, one, on, run_argument, found_first}
+use Rattle.word_code.proofs.ForCallers.{Within, at, run_argument, found_first}
 use Rattle.word_lowering.specs.declared.homes.TheConstants.{LEFT, FIRST}
 use Rattle.word_lowering.specs.declared.spots.Spot.{Spot}
 use Rattle.word_lowering.specs.declared.spots.Spot.TheVariants.{Held, Lies}
@@ -22,9 +21,12 @@ use Rattle.word_lowering.specs.LineCode.{given_code, entered_code, value, proc_n
 use Rattle.word_lowering.specs.Lowered.{kind_of, kind_in, lowered}
 use Rattle.word_lowering.specs.Spots.{spot_of}
 use Rattle.word_lowering.proofs.Callees.{Callee}
-use Rattle.word_lowering.proofs.Lines.{Basis, all_procs, starts, IsGood, lower}
+use Rattle.word_lowering.proofs.Lines.{Basis, all_procs, starts, IsGood, lower, machine}
 use Rattle.word_lowering.proofs.Related.{Both, Waits, called_by, body_of, sites_of, within, code_behind, awaits_in, awaits_for, goes_on, left_for, frame_of}
 use Rattle.word_lowering.proofs.Sites.{room, around, word_of}
+use Rattle.arc_base.specs.Simulation.{Steps}
+use Rattle.arc_base.proofs.ForCallers.{steps_one, steps_on}
+use Rattle.word_code.specs.Memory.{Memory, with_places}
 
 -- calls that count are calls
 counted_most : (frames : List WordFrame) → counted frames ≤ length frames
@@ -78,14 +80,22 @@ module _ (x : Basis) (g : Both) (line : BlockLine) (rest : List BlockLine) (y : 
     callers = frame_of x.table x.blocks waits_then ∷ map (frame_of x.table x.blocks) g.waiting;
   }
 
-  -- to its first line
-  pub record Entered (left : ℕ) : Type 0 where
-    pub steps : Steps (lower x) 2 (at (within x.table x.blocks g) g.memory code_called g.call.vars g.words) (block_seen c.body.proc.hook) 2
-        (at within_then g.memory (word_of x.table x.blocks c.body).lines
-        (params_of (word_of x.table x.blocks c.body) (put g.words LEFT left)) no_words)
+  -- memory with its places, which bring these bytes with them
+  abbrev pub memory_then : List ℕ → Memory
+  memory_then bytes = with_places g.memory (room c.body) bytes
 
-  pub enters : (left : ℕ) → g.call.site.left ≡ suc left → g.call.vars FIRST ≡ Some left → c.body.own.runs ≡ true → Entered left
-  enters left e first runs =
+  -- to its first line, from a state before which so many lines were done
+  pub record Entered (left before : ℕ) : Type 0 where
+    pub behind : ℕ
+    pub bytes : List ℕ
+    pub steps : Steps (machine x) 2 (before, at (within x.table x.blocks g) g.memory code_called g.call.vars g.words) (block_seen c.body.proc.hook) 2 (
+      behind,
+      at within_then (memory_then bytes) (word_of x.table x.blocks c.body).lines
+          (params_of (word_of x.table x.blocks c.body) (put g.words LEFT left)) no_words,
+    )
+
+  pub enters : (left : ℕ) → g.call.site.left ≡ suc left → g.call.vars FIRST ≡ Some left → c.body.own.runs ≡ true → (before : ℕ) → Entered left before
+  enters left e first runs before =
       let p : WordProc = word_of x.table x.blocks c.body in
       let to_variable : ℕ = awaits_for x.table x.blocks (body_of g) to in
       let after : List WordInstr = left_for x.table x.blocks (body_of g) to proc k in
@@ -93,8 +103,9 @@ module _ (x : Basis) (g : Both) (line : BlockLine) (rest : List BlockLine) (y : 
       let code : code_called ≡ Argument LEFT FIRST ∷ l1 = ap (λ l. Argument LEFT FIRST ∷ l) given_is in
       let words : Vars = put g.words LEFT left in
       let u : WordState = at (within x.table x.blocks g) g.memory l1 g.call.vars words in
-      let t : WordState = at within_then g.memory p.lines (params_of p words) no_words in
-      let r1 = run_argument x.live (all_procs x) (within x.table x.blocks g) g.memory l1 g.call.vars g.words LEFT FIRST first in
+      let r1 = (run_argument x.live (all_procs x) (within x.table x.blocks g) g.memory l1 g.call.vars g.words LEFT FIRST first).by x.fresh before in
+      let bytes : List ℕ = x.fresh r1.0 in
+      let t : WordState = at within_then (memory_then bytes) p.lines (params_of p words) no_words in
       let found = c.found runs in
       let there = found_first (proc_number proc) (lowered x.table x.blocks).procs
       (all_moved (length (lowered x.table x.blocks).statics) x.runtime.procs) p found.0 found.1 in
@@ -106,17 +117,22 @@ module _ (x : Basis) (g : Both) (line : BlockLine) (rest : List BlockLine) (y : 
       (lt-leb most_calls (counted (u.frame ∷ u.callers)) (omega (arith, many, levels, least, e, y.linked.3))) in
       let shown : seen_call p.kind ≡ block_seen c.body.proc.hook
       = ap (λ b. seen_call (kind_in b c.body.proc.hook)) c.start ∙ seen_same c.body.proc.hook in
-      let near = x.places in
-      let enough = x.enough (sites_of g) y.linked in
-      let base : (g.call.site.base + room (body_of g)) % 2 ^ 32 ≡ g.call.site.base + room (body_of g) = omega (arith, near, enough) in
-      let r2 : Steps (lower x) 1 u (block_seen c.body.proc.hook) 1 t
-      = one (lower x) (ap (entered u after (scene_of u) to_variable) there
+      let within_stack = x.within (sites_of g) y.linked in
+      let base : (g.call.site.base + room (body_of g)) % 2 ^ 32 ≡ g.call.site.base + room (body_of g) = omega (arith, within_stack) in
+      let call : lower x bytes u ≡ Goes (block_seen c.body.proc.hook) 1 t
+      = ap (entered bytes u after (scene_of u) to_variable) there
       ∙ cond-false (is_full p (u.frame ∷ u.callers)) Faults (Goes (seen_call p.kind) 1
       (record t { frame = record t.frame { base = (g.call.site.base + room (body_of g)) % 2 ^ 32 } })) full
-      ∙ ap₂ (λ es b. Goes es 1 (record t { frame = record t.frame { base = b } })) shown base) in
+      ∙ ap₂ (λ es b. Goes es 1 (record t { frame = record t.frame { base = b } })) shown base in
+      let r2 : Steps (machine x) 1 (r1.0, u) (block_seen c.body.proc.hook) 1 (suc r1.0, t)
+      = steps_one (machine x) (r1.0, u) (suc r1.0, t) (block_seen c.body.proc.hook) 1 1 (ap (next_map (λ s. (suc r1.0, s))) call) (omega arith) in
       record {
-        steps = subst (λ l. Steps (lower x) 2 (at (within x.table x.blocks g) g.memory l g.call.vars g.words) (block_seen c.body.proc.hook) 2 t) (sym code)
-            (on (lower x) r1 r2);
+        behind = suc r1.0;
+        bytes = bytes;
+        steps = subst (λ l. Steps (machine x) 2 (before, at (within x.table x.blocks g) g.memory l g.call.vars g.words) (block_seen c.body.proc.hook) 2
+            (suc r1.0, t)) (sym code)
+            (steps_on (machine x) 1 1 1 1 (before, at (within x.table x.blocks g) g.memory (Argument LEFT FIRST ∷ l1) g.call.vars g.words) (r1.0, u)
+            (suc r1.0, t) [] (block_seen c.body.proc.hook) r1.1 r2);
       }
     where
       sites_many : g.call.site.level ≡ length g.waiting

@@ -1,11 +1,10 @@
--- What the entries of a table have, up to one of them and from it on: names of enums, and what is tested of them.
-use Rattle.std.proofs.Common.{◌&&◌, ◌≡◌, ℕ, zero, suc, ◌+◌, List, [], ◌∷◌, ◌++◌, length, take, drop, Some, slice_get, refl, sym, ap}
+-- The names of enums that the entries of a table have, up to one of them and from it on.
+use Rattle.std.proofs.Common.{◌≡◌, ℕ, zero, suc, ◌+◌, List, [], ◌∷◌, ◌++◌, length, take, drop, Some, slice_get, refl, sym, ap}
 use Rattle.std.proofs.Common.{◌∙◌, arith}
 use Rattle.std.proofs.Common.{append-nil, append_assoc, length-append, add-zero}
 use Rattle.std.proofs.lemmas.Option.{none-some, same_Some}
 use Rattle.nim_types.specs.declared.types.TypeDef.{TypeDef}
 use Rattle.rv32_isa.specs.Words.{word_bytes}
-use Rattle.word_lowering.specs.MayLower.{has_names, have_names}
 use Rattle.word_lowering.specs.Texts.{members_of, all_names, joined_all, starts_from}
 
 pub names_more : (table : List TypeDef) (id : ℕ) (def : TypeDef) → slice_get table id ≡ Some def
@@ -20,12 +19,6 @@ pub names_from : (table : List TypeDef) (id : ℕ) (def : TypeDef) → slice_get
 names_from [] id def e = absurd (none-some def e)
 names_from (d ∷ ds) zero def e = ap (λ x. members_of x ++ all_names ds) (same_Some d def e)
 names_from (d ∷ ds) (suc id) def e = names_from ds id def e
-
-pub defs_from : (table : List TypeDef) (id : ℕ) (def : TypeDef) → slice_get table id ≡ Some def
-    → have_names (drop id table) ≡ (has_names def && have_names (drop (suc id) table))
-defs_from [] id def e = absurd (none-some def e)
-defs_from (d ∷ ds) zero def e = ap (λ x. has_names x && have_names ds) (same_Some d def e)
-defs_from (d ∷ ds) (suc id) def e = defs_from ds id def e
 
 pub joined_append : (xs ys : List (List ℕ)) → joined_all (xs ++ ys) ≡ joined_all xs ++ joined_all ys
 joined_append [] ys = refl

@@ -1,9 +1,9 @@
 -- The memory at the start: zeros, but for texts and names in the data.
 use Rattle.std.proofs.Common.{◌≡◌, inl, inr, ℕ, zero, suc, ◌+◌, ◌-◌, ◌%◌, ◌<◌, ◌≤◌, List, []}
 use Rattle.std.proofs.Common.{◌∷◌, ◌++◌, length, take, drop, replicate, Some, None, Err, true, false}
-use Rattle.std.proofs.Common.{refl, sym, ap, ap₂, subst, ◌∙◌, arith, append_assoc, append-nil, length-append, length-drop, codes, Option, le-leb, ne_eqb}
+use Rattle.std.proofs.Common.{refl, sym, ap, ap₂, subst, ◌∙◌, arith, append_assoc, length-append, length-drop, codes, Option, le-leb, ne_eqb}
 use Rattle.std.specs.Prelude.{◌==◌, ◌||◌, nat_le}
-use Rattle.std.proofs.lemmas.Bool.{and_parts, and_from, leb-true, eq-eqb, cond-true, cond-false, false_from_ne_true}
+use Rattle.std.proofs.lemmas.Bool.{and_from, eq-eqb, cond-true, cond-false}
 use Rattle.rv32_isa.specs.declared.machine.FaultKind.TheVariants.{Misaligned}
 use Rattle.rv32_isa.specs.Hooks.{code_at}
 use Rattle.rv32_isa.specs.Image.{statics_at, heap_at, stack_at}
@@ -19,16 +19,19 @@ use Rattle.word_code.specs.Memory.{Memory, as_state, may_put, bytes_at, may_fill
 use Rattle.word_code.specs.declared.routine.TheConstants.{RUNTIME_DATA, SCRATCH_BYTES}
 use Rattle.word_code.specs.Joined.{joined}
 use Rattle.word_code.specs.Routines.{HasData}
-use Rattle.rv32_isa.specs.declared.micro_op.Size.TheVariants.{Byte}
-use Rattle.std.proofs.lemmas.List.{drop-append-le, take-append-le}
-use Rattle.word_code.specs.Words.{places_size}
+use Rattle.rv32_isa.specs.declared.micro_op.Size.TheVariants.{Byte, Word}
 use Rattle.word_code.specs.RoutineTable.{Cell}
-use Rattle.word_code.proofs.ForCallers.{Sized, sizes_same}
+use Rattle.word_code.proofs.ForCallers.{Sized}
 use Rattle.word_lowering.specs.declared.texts.TheConstants.{FIXED_BYTES}
-use Rattle.word_lowering.specs.declared.may_lower.TheConstants.{MOST_DATA}
-use Rattle.word_lowering.specs.Texts.{missing, fixed_texts, all_names, ends_from, joined_all, laid_texts, data_in}
+use Rattle.word_lowering.specs.declared.may_lower.TheConstants.{MOST_DATA, MOST_ROOM}
+use Rattle.word_lowering.specs.Texts.{missing, fixed_texts, all_names, ends_from, joined_all, laid_texts, data_in, padded}
 use Rattle.word_lowering.specs.Lowered.{data_of, globals_end, lowered}
+use Rattle.word_lowering.proofs.Padding.{zeros_length}
 use Rattle.word_lowering.proofs.Related.{procs, routines, IsOpen, MemoryGood}
+use Rattle.word_code.specs.Words.{from_proc, first_of}
+use Rattle.word_code.specs.declared.word.TheConstants.{SPARE_ROOM}
+use Rattle.word_lowering.proofs.CallPlaces.{in_front, no_code, place_cell}
+use Rattle.word_lowering.proofs.Sites.{Site, next_base}
 
 -- ---- zeros in lists
 
@@ -43,27 +46,11 @@ zeros_in zero j (suc n) rest h = absurd (omega (arith, h))
 zeros_in (suc k) zero (suc n) rest h = ap (λ l. 0 ∷ l) (zeros_in k 0 n rest (omega (arith, h)))
 zeros_in (suc k) (suc j) (suc n) rest h = zeros_in k j (suc n) rest (omega (arith, h))
 
--- what lies in the first of two lists
-in_front : (i n : ℕ) (xs ys : List ℕ) → i + n ≤ length xs → take n (drop i (xs ++ ys)) ≡ take n (drop i xs)
-in_front i n xs ys within =
-    let d = length-drop i xs in
-    ap (take n) (drop-append-le i xs ys (omega (arith, within))) ∙ take-append-le n (drop i xs) ys (omega (arith, within, d))
-
 all_taken : (xs : List ℕ) → take (length xs) xs ≡ xs
 all_taken [] = refl
 all_taken (x ∷ xs) = ap (λ l. x ∷ l) (all_taken xs)
 
-pub zeros_length : (n : ℕ) → length {A = ℕ} (replicate n 0) ≡ n
-zeros_length zero = refl
-zeros_length (suc n) = ap suc (zeros_length n)
-
 -- ---- bytes of the data
-
-no_code : (at n : ℕ) → statics_at ≤ at → 0 < n → lies_in code_at [] at n ≡ false
-no_code at n far some = false_from_ne_true (lies_in code_at [] at n) (λ e.
-    let p = and_parts (nat_le code_at at) (nat_le (at + n) (code_at + 0)) e in
-    let l : at + n ≤ code_at + 0 = leb-true (at + n) (code_at + 0) p.1 in
-    absurd (omega (arith, l, far, some)))
 
 lies_here : (base : ℕ) (s : List ℕ) (i n : ℕ) → i + n ≤ length s → lies_in base s (base + i) n ≡ true
 lies_here base s i n within = and_from (nat_le base (base + i)) (nat_le (base + i + n) (base + length s)) (le-leb base (base + i) (omega arith))
@@ -96,25 +83,30 @@ data_length heap stack d =
     let q = length-word_bytes stack in
     omega (arith, a, b, p, q)
 
+-- the bytes of the start code's places
+abbrev pub start_room : WordCode → ℕ
+start_room code = (first_of (from_proc 0 code.procs)).room
+
 abbrev pub first_memory : WordCode → (heap stack : ℕ) → Memory
 first_memory code heap stack =
-    record { statics = whole_data heap stack code.statics; heap = replicate heap 0; places = replicate (places_size code.procs) 0 }
+    record { statics = whole_data heap stack code.statics; heap = replicate heap 0; places = replicate (start_room code + SPARE_ROOM) 0 }
 
 module _ (code : WordCode) (heap stack : ℕ) where
   abbrev first : Memory
   first = first_memory code heap stack
 
-  pub first_reads : (i n : ℕ) → 0 < n → i + n ≤ length code.statics → bytes_at first (own_data_at + i) n ≡ Some (take n (drop i code.statics))
-  first_reads i n some within =
+  -- whatever places there are
+  pub first_reads : (places : List ℕ) (i n : ℕ) → 0 < n → i + n ≤ length code.statics
+      → bytes_at (record first { places = places }) (own_data_at + i) n ≡ Some (take n (drop i code.statics))
+  first_reads places i n some within =
       let long = data_length heap stack code.statics in
       let place : own_data_at + i ≡ statics_at + (8 + i) = omega arith in
-      ap (λ a. bytes_at first a n) place ∙ bytes_here first (8 + i) n some (omega (arith, within, long))
+      ap (λ a. bytes_at (record first { places = places }) a n) place ∙ bytes_here (record first { places = places }) (8 + i) n some (omega (arith, within, long))
       ∙ ap (λ l. Some (take n l)) (whole_drop heap stack i code.statics)
 
-  -- a word of zeros in the data
-  first_cell : (i : ℕ) → (own_data_at + i) % 4 ≡ 0 → i + 4 ≤ length code.statics → take 4 (drop i code.statics) ≡ replicate 4 0
-      → Cell first (own_data_at + i)
-  first_cell i whole within zeros =
+  -- a word of the data may be written
+  pub first_may : (i : ℕ) → (own_data_at + i) % 4 ≡ 0 → i + 4 ≤ length code.statics → may_put first (own_data_at + i) Word ≡ true
+  first_may i whole within =
       let a : ℕ = own_data_at + i in
       let long = data_length heap stack code.statics in
       let place : statics_at + (8 + i) ≡ a = omega arith in
@@ -122,48 +114,17 @@ module _ (code : WordCode) (heap stack : ℕ) where
       = ap (λ b. lies_in statics_at first.statics b 4) (sym place) ∙ lies_here statics_at first.statics (8 + i) 4 (omega (arith, within, long)) in
       let even : (a % 4 == 0) ≡ true = eq-eqb (a % 4) 0 whole in
       let may : writable (as_state first) a 4 ≡ true = ap (λ b. b || (lies_in heap_at first.heap a 4 || lies_in stack_at first.places a 4)) lies in
-      record {
-        may = and_from (a % 4 == 0) (writable (as_state first) a 4) even may;
-        word = 0;
-        reads = cond-true (a % 4 == 0) _ (Err Misaligned) even ∙ ap number_of (first_reads i 4 (omega arith) within ∙ ap Some zeros);
-        small = omega arith;
-      }
+      and_from (a % 4 == 0) (writable (as_state first) a 4) even may
 
-  -- and among the places
-  place_cell : Sized first → (i : ℕ) → (stack_at + i) % 4 ≡ 0 → i + 4 ≤ places_size code.procs → Cell first (stack_at + i)
-  place_cell sized i whole within =
-      let a : ℕ = stack_at + i in
-      let n : ℕ = places_size code.procs in
-      let long : length first.places ≡ n = zeros_length n in
-      let statics_most = sized.statics_most in
-      let heap_most = sized.heap_most in
-      let lies : lies_in stack_at first.places a 4 ≡ true = lies_here stack_at first.places i 4 (omega (arith, within, long)) in
-      let even : (a % 4 == 0) ≡ true = eq-eqb (a % 4) 0 whole in
-      let beyond : lies_in statics_at first.statics a 4 ≡ false = false_from_ne_true (lies_in statics_at first.statics a 4)
-      (λ e. let p = and_parts (nat_le statics_at a) (nat_le (a + 4) (statics_at + length first.statics)) e in
-      let l : a + 4 ≤ statics_at + length first.statics = leb-true (a + 4) (statics_at + length first.statics) p.1 in absurd
-      (omega (arith, l, statics_most))) in
-      let above : lies_in heap_at first.heap a 4 ≡ false = false_from_ne_true (lies_in heap_at first.heap a 4)
-      (λ e. let p = and_parts (nat_le heap_at a) (nat_le (a + 4) (heap_at + length first.heap)) e in
-      let l : a + 4 ≤ heap_at + length first.heap = leb-true (a + 4) (heap_at + length first.heap) p.1 in absurd (omega (arith, l, heap_most))) in
-      let may : writable (as_state first) a 4 ≡ true
-      = ap₂ (λ b c. b || (c || lies_in stack_at first.places a 4)) beyond above ∙ lies in
-      let place : a - stack_at ≡ i = omega arith in
-      let in_places : part_of stack_at first.places a 4 ≡ Some (replicate 4 0)
-      = cond-true (lies_in stack_at first.places a 4) _ None lies ∙ ap (λ j. Some (take 4 (drop j first.places))) place
-      ∙ ap (λ l. Some (take 4 (drop i l))) (sym (append-nil first.places)) ∙ ap Some (zeros_in n i 4 [] within) in
-      let reads : bytes_at first a 4 ≡ Some (replicate 4 0)
-      = ap (λ o. or_else o (or_else (part_of statics_at first.statics a 4) (or_else (part_of heap_at first.heap a 4) (part_of stack_at first.places a 4))))
-      (cond-false (lies_in code_at [] a 4) _ None (no_code a 4 (omega arith) (omega arith)))
-      ∙ ap (λ o. or_else o (or_else (part_of heap_at first.heap a 4) (part_of stack_at first.places a 4)))
-      (cond-false (lies_in statics_at first.statics a 4) _ None beyond)
-      ∙ ap (λ o. or_else o (part_of stack_at first.places a 4)) (cond-false (lies_in heap_at first.heap a 4) _ None above) ∙ in_places in
-      record {
-        may = and_from (a % 4 == 0) (writable (as_state first) a 4) even may;
-        word = 0;
-        reads = cond-true (a % 4 == 0) _ (Err Misaligned) even ∙ ap number_of reads;
-        small = omega arith;
-      }
+  -- a word of zeros in the data
+  first_cell : (i : ℕ) → (own_data_at + i) % 4 ≡ 0 → i + 4 ≤ length code.statics → take 4 (drop i code.statics) ≡ replicate 4 0
+      → Cell first (own_data_at + i)
+  first_cell i whole within zeros = record {
+    may = first_may i whole within;
+    word = 0;
+    reads = cond-true ((own_data_at + i) % 4 == 0) _ (Err Misaligned) (eq-eqb ((own_data_at + i) % 4) 0 whole)
+        ∙ ap number_of (first_reads first.places i 4 (omega arith) within ∙ ap Some zeros);
+  }
 
 -- ---- the code's own data
 
@@ -178,7 +139,7 @@ module _ (table : List TypeDef) (blocks : Code BlockLine) where
   fixed = replicate 4 0 ++ fixed_texts
 
   abbrev pub behind : List ℕ
-  behind = ends_from 0 (all_names table) ++ (joined_all (all_names table) ++ laid_texts blocks.procs)
+  behind = ends_from 0 (all_names table) ++ (padded (joined_all (all_names table)) ++ laid_texts blocks.procs)
 
   abbrev pub pad : List ℕ
   pad = replicate (missing (length (data_in table globals blocks.procs))) 0
@@ -222,24 +183,26 @@ module _ (table : List TypeDef) (blocks : Code BlockLine) where
     pub own_reads : (i n : ℕ) → 0 < n → i + n ≤ length own → bytes_at start (own_data_at + i) n ≡ Some (take n (drop i own))
     own_reads i n some within =
         let l = whole_length in
-        first_reads code heap stack i n some (omega (arith, within, l)) ∙ ap Some (in_front i n own runtime.statics within)
+        first_reads code heap stack start.places i n some (omega (arith, within, l)) ∙ ap Some (in_front i n own runtime.statics within)
 
     -- the data of routines stands behind it
-    pub routines_given : SCRATCH_BYTES ≤ length runtime.statics → HasData (routines table blocks) runtime.statics start
-    routines_given least =
+    pub routines_given : SCRATCH_BYTES ≤ length runtime.statics → (places : List ℕ)
+        → HasData (routines table blocks) runtime.statics (record start { places = places })
+    routines_given least places =
+        let with_these : Memory = record start { places = places } in
         let n : ℕ = length own in
         let l = whole_length in
         let place : own_data_at + n ≡ statics_at + (8 + n) = omega arith in
         let long = data_length heap stack code.statics in
-        let may : may_fill start (statics_at + (8 + n)) SCRATCH_BYTES ≡ true
-        = ap (λ b. b || (lies_in heap_at start.heap (statics_at + (8 + n)) SCRATCH_BYTES || lies_in stack_at start.places (statics_at + (8 + n)) SCRATCH_BYTES))
+        let may : may_fill with_these (statics_at + (8 + n)) SCRATCH_BYTES ≡ true
+        = ap (λ b. b || (lies_in heap_at start.heap (statics_at + (8 + n)) SCRATCH_BYTES || lies_in stack_at places (statics_at + (8 + n)) SCRATCH_BYTES))
         (lies_here statics_at start.statics (8 + n) SCRATCH_BYTES (omega (arith, long, l, least))) in record {
-          scratch = ap (λ a. may_fill start a SCRATCH_BYTES) place ∙ may;
+          scratch = ap (λ a. may_fill with_these a SCRATCH_BYTES) place ∙ may;
           fixed = fixed_there (drop SCRATCH_BYTES runtime.statics) refl;
         }
       where
         fixed_there : (bytes : List ℕ) → drop SCRATCH_BYTES runtime.statics ≡ bytes
-            → bytes_at start (routines table blocks + SCRATCH_BYTES) (length bytes) ≡ Some bytes
+            → bytes_at (record start { places = places }) (routines table blocks + SCRATCH_BYTES) (length bytes) ≡ Some bytes
         fixed_there [] e = refl
         fixed_there (b ∷ bytes) e =
             let n : ℕ = length own in
@@ -247,37 +210,43 @@ module _ (table : List TypeDef) (blocks : Code BlockLine) where
             let d = length-drop SCRATCH_BYTES runtime.statics in
             let many = ap length e in
             let place : routines table blocks + SCRATCH_BYTES ≡ own_data_at + (n + SCRATCH_BYTES) = omega arith in
-            ap (λ a. bytes_at start a (length (b ∷ bytes))) place
-            ∙ first_reads code heap stack (n + SCRATCH_BYTES) (length (b ∷ bytes)) (omega arith) (omega (arith, l, d, many))
+            ap (λ a. bytes_at (record start { places = places }) a (length (b ∷ bytes))) place
+            ∙ first_reads code heap stack places (n + SCRATCH_BYTES) (length (b ∷ bytes)) (omega arith) (omega (arith, l, d, many))
             ∙ ap (λ k. Some (take (length (b ∷ bytes)) k)) (drop_past own runtime.statics SCRATCH_BYTES ∙ e) ∙ ap Some (all_taken (b ∷ bytes))
 
     -- a character may be put
-    pub letter_first : may_put start own_data_at Byte ≡ true
-    letter_first =
+    pub letter_first : (places : List ℕ) → may_put (record start { places = places }) own_data_at Byte ≡ true
+    letter_first places =
         let l = own_length in
         let w = whole_length in
         let long = data_length heap stack code.statics in
-        ap (λ b. b || (lies_in heap_at start.heap own_data_at 1 || lies_in stack_at start.places own_data_at 1))
+        ap (λ b. b || (lies_in heap_at start.heap own_data_at 1 || lies_in stack_at places own_data_at 1))
         (lies_here statics_at start.statics 8 1 (omega (arith, long, w, l)))
 
-    module _ (sized : Sized start) (places : places_size (procs table blocks) ≤ places_size code.procs) where
-      pub good_first : MemoryGood table blocks start start
-      good_first = record { sized = sized; sizes = sizes_same start; cells = cells; texts = λ b n h. refl }
-        where
-          cells : (a : ℕ) → a % 4 ≡ 0 → IsOpen table blocks a → Cell start a
-          cells a whole (inl h) =
-              let l = own_length in
-              let w = whole_length in
-              let i : ℕ = a - own_data_at in
-              let e : own_data_at + i ≡ a = omega (arith, h.0) in
-              let g : i + 4 ≤ globals = omega (arith, h.0, h.1) in
-              let within : i + 4 ≤ length own = omega (arith, l, g, h.0) in
-              subst (Cell start) e (first_cell code heap stack i (omega (arith, e, whole)) (omega (arith, w, within))
-              (in_front i 4 own runtime.statics within ∙ globals_zero i (omega (arith, h.0)) g))
-          cells a whole (inr h) =
-              let i : ℕ = a - stack_at in
-              let e : stack_at + i ≡ a = omega (arith, h.0) in
-              subst (Cell start) e (place_cell code heap stack sized i (omega (arith, e, whole)) (omega (arith, h.0, h.1, places)))
+    pub good_first : Sized start → (sites : List Site) → next_base sites ≡ stack_at + start_room code → MemoryGood table blocks sites start start
+    good_first sized sites next = record {
+      sized = sized;
+      statics = refl;
+      heap = refl;
+      places = long;
+      cells = cells;
+      texts = λ b n h. refl;
+    }
+      where
+        long : stack_at + length start.places ≡ next_base sites + SPARE_ROOM
+        long = let p = zeros_length (start_room code + SPARE_ROOM) in omega (arith, p, next)
+
+        cells : (a : ℕ) → a % 4 ≡ 0 → IsOpen table blocks sites a → Cell start a
+        cells a whole (inl h) =
+            let l = own_length in
+            let w = whole_length in
+            let i : ℕ = a - own_data_at in
+            let e : own_data_at + i ≡ a = omega (arith, h.0) in
+            let g : i + 4 ≤ globals = omega (arith, h.0, h.1) in
+            let within : i + 4 ≤ length own = omega (arith, l, g, h.0) in
+            subst (Cell start) e (first_cell code heap stack i (omega (arith, e, whole)) (omega (arith, w, within))
+            (in_front i 4 own runtime.statics within ∙ globals_zero i (omega (arith, h.0)) g))
+        cells a whole (inr h) = place_cell start sized a whole h.0 (let e = long in omega (arith, h.1, e))
 
     -- texts that each program has
     fixed_text : (i : ℕ) (text : List ℕ) → 0 < length text → i + length text ≤ 20 → take (length text) (drop i own) ≡ text
@@ -294,12 +263,12 @@ module _ (table : List TypeDef) (blocks : Code BlockLine) where
     true_first = fixed_text 16 (codes "true") (omega arith) (omega arith) refl
 
     -- its regions are as large as the machine's
-    pub sized_first : heap ≤ 16777216 → places_size code.procs ≤ 268435456 → length own ≤ MOST_DATA → length runtime.statics ≤ RUNTIME_DATA → Sized start
+    pub sized_first : heap ≤ 16777216 → start_room code ≤ MOST_ROOM → length own ≤ MOST_DATA → length runtime.statics ≤ RUNTIME_DATA → Sized start
     sized_first heap_most places_most data_most runtime_most =
         let l = data_length heap stack code.statics in
         let w = whole_length in
         let h = zeros_length heap in
-        let p = zeros_length (places_size code.procs) in
+        let p = zeros_length (start_room code + SPARE_ROOM) in
         record {
           code_most = omega arith;
           statics_most = omega (arith, l, w, data_most, runtime_most);

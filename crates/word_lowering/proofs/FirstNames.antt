@@ -17,9 +17,10 @@ use Rattle.word_code.specs.Joined.{joined}
 use Rattle.word_code.specs.Memory.{Memory, number_at, own_data_at}
 use Rattle.word_lowering.specs.declared.texts.TheConstants.{FIXED_BYTES}
 use Rattle.word_lowering.specs.declared.may_lower.TheConstants.{MOST_DATA}
-use Rattle.word_lowering.specs.Texts.{members_of, all_names, names_before, joined_all, starts_from, ends_from, laid_texts}
+use Rattle.word_lowering.specs.Texts.{missing, padded, members_of, all_names, names_before, joined_all, starts_from, ends_from, laid_texts}
 use Rattle.word_lowering.specs.Lowered.{lowered}
-use Rattle.word_lowering.proofs.FirstMemory.{drop_past, zeros_length, first_memory, own_reads, own, globals, fixed, behind, pad, own_is, own_length}
+use Rattle.word_lowering.proofs.Padding.{zeros_length, padded_length}
+use Rattle.word_lowering.proofs.FirstMemory.{drop_past, first_memory, own_reads, own, globals, fixed, behind, pad, own_is, own_length}
 
 -- ---- lists
 
@@ -171,20 +172,25 @@ module _ (table : List TypeDef) (blocks : Code BlockLine) (runtime : WordCode) (
       ap₂ drop e (own_is table blocks ∙ sym (append_assoc (fixed table blocks) zeros (behind table blocks ++ pad table blocks)))
       ∙ drop_past (fixed table blocks ++ zeros) (behind table blocks ++ pad table blocks) o
 
-  pub lengths : length (own table blocks) ≡ globals table blocks + (4 * length names + 4 + (length (joined_all names) + length (texts ++ pad table blocks)))
+  abbrev pub joined_names : List ℕ
+  joined_names = joined_all names
+
+  pub lengths : length (own table blocks)
+      ≡ globals table blocks + (4 * length names + 4 + (length joined_names + missing (length joined_names) + length (texts ++ pad table blocks)))
   lengths =
       let l = own_length table blocks in
       let a = length-append (behind table blocks) (pad table blocks) in
-      let b = length-append (ends_from 0 names) (joined_all names ++ texts) in
-      let c = length-append (joined_all names) texts in
+      let b = length-append (ends_from 0 names) (padded joined_names ++ texts) in
+      let c = length-append (padded joined_names) texts in
       let d = length-append texts (pad table blocks) in
-      let e = ends_length 0 (0 + length (joined_all names)) names in
-      omega (arith, l, a, b, c, d, e, least)
+      let e = ends_length 0 (0 + length joined_names) names in
+      let f = padded_length joined_names in
+      omega (arith, l, a, b, c, d, e, f, least)
 
-  pub behind_is : behind table blocks ++ pad table blocks ≡ ends_from 0 names ++ (joined_all names ++ (texts ++ pad table blocks))
+  pub behind_is : behind table blocks ++ pad table blocks ≡ ends_from 0 names ++ (padded joined_names ++ (texts ++ pad table blocks))
   behind_is =
-      append_assoc (ends_from 0 names) (joined_all names ++ texts) (pad table blocks)
-      ∙ ap (λ l. ends_from 0 names ++ l) (append_assoc (joined_all names) texts (pad table blocks))
+      append_assoc (ends_from 0 names) (padded joined_names ++ texts) (pad table blocks)
+      ∙ ap (λ l. ends_from 0 names ++ l) (append_assoc (padded joined_names) texts (pad table blocks))
 
   -- the word of where the names before one end
   pub end_word : (i : ℕ) → i ≤ length names → number_at start (own_data_at + (globals table blocks + 4 * i)) Word ≡ Ok (joined_before names i)
@@ -196,7 +202,7 @@ module _ (table : List TypeDef) (blocks : Code BlockLine) (runtime : WordCode) (
       let none : 0 + joined_before names i ≡ joined_before names i = omega arith in
       let bytes : take 4 (drop (globals table blocks + 4 * i) (own table blocks)) ≡ word_bytes (joined_before names i)
       = ap (take 4) (past_globals (4 * i) ∙ ap (drop (4 * i)) behind_is)
-      ∙ ends_are 0 (0 + length (joined_all names)) names i (joined_all names ++ (texts ++ pad table blocks)) refl h ∙ ap word_bytes none in
+      ∙ ends_are 0 (0 + length (joined_all names)) names i (padded joined_names ++ (texts ++ pad table blocks)) refl h ∙ ap word_bytes none in
       cond-true (a % 4 == 0) _ (Err Misaligned) even
       ∙ ap number_of (own_reads table blocks runtime heap stack (globals table blocks + 4 * i) 4 (omega arith) (omega (arith, l, h)) ∙ ap Some bytes)
       ∙ ap Ok (little-word_bytes (joined_before names i) (omega (arith, l, m, most)))

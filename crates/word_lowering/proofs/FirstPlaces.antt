@@ -1,6 +1,6 @@
 -- The first places of a procedure that may be called, its parameters and then its result, and what a call gives of them.
-use Rattle.std.proofs.Common.{◌≡◌, ℕ, zero, suc, ◌+◌, ◌<◌, ◌≤◌, List, [], ◌∷◌, length, Option, Some, None, true, false}
-use Rattle.std.proofs.Common.{refl, sym, ap, subst, arith}
+use Rattle.std.proofs.Common.{◌≡◌, ℕ, zero, suc, ◌+◌, ◌<◌, ◌≤◌, List, [], ◌∷◌, length, Option, Some, None, true, false, inl, inr, Ok, arith}
+use Rattle.std.proofs.Common.{refl, sym, ap, subst}
 use Rattle.std.specs.Prelude.{slice_get}
 use Rattle.nim_types.specs.declared.types.TypeDef.{TypeDef}
 use Rattle.nim_types.specs.Types.{Ty}
@@ -11,7 +11,7 @@ use Rattle.flat_code.specs.Scene.{known_in}
 use Rattle.flat_code.specs.Shapes.{has_shape, shape_of}
 use Rattle.flat_code.specs.Fits.{Taken, Signature, is_declared, is_own}
 use Rattle.flat_code.specs.Codes.{proc_of}
-use Rattle.word_code.specs.Memory.{Memory}
+use Rattle.word_code.specs.Memory.{Memory, number_at}
 use Rattle.word_code.specs.Words.{Vars}
 use Rattle.word_lowering.specs.declared.homes.TheConstants.{OWN_FROM}
 use Rattle.word_lowering.specs.declared.homes.Home.{Home}
@@ -19,9 +19,11 @@ use Rattle.word_lowering.specs.declared.homes.Home.TheVariants.{Variable, Placed
 use Rattle.word_lowering.specs.declared.homes.Housed.{Housed}
 use Rattle.word_lowering.specs.Layouts.{found, params_in, result_in, is_address, kept_in}
 use Rattle.word_lowering.specs.Operations.{word}
-use Rattle.word_lowering.proofs.InMemory.{IsAt}
-use Rattle.word_lowering.proofs.Sites.{Body, type_of, looks, There, Site}
+use Rattle.word_lowering.proofs.InMemory.{IsAt, carries}
+use Rattle.word_lowering.proofs.Sites.{Body, type_of, looks, There, Site, Among}
 use Rattle.word_lowering.proofs.Scenes.{FromPlace}
+use Rattle.word_code.specs.declared.word.TheConstants.{SPARE_ROOM}
+use Rattle.rv32_isa.specs.declared.micro_op.Size.TheVariants.{Word}
 
 module _ (table : List TypeDef) where
   -- parameters as a signature has them
@@ -135,3 +137,43 @@ module _ (table : List TypeDef) where
       given_here (s ∷ slots) (d ∷ hs) n (suc i) k g f less e =
           let r = given_here slots hs (suc n) i k g.1 f.1 (omega (arith, less)) (omega (arith, e)) in
           record { slot = r.slot; is = r.is; first = r.first; gave = r.gave }
+
+  -- ---- the same in memory in which words up to those for arguments are as they were
+
+  module _ (m m' : Memory) (sites : List Site) (w : World) (words : Vars) (base : ℕ)
+      (still : (a n : ℕ) → a + 4 ≤ base + SPARE_ROOM → number_at m a Word ≡ Ok n → number_at m' a Word ≡ Ok n) where
+    given_still : (home : Home) (x : Value) → ((at : ℕ) → home ≡ Placed at → at + bytes x ≤ SPARE_ROOM) → GivenAt m sites w words base home x
+        → GivenAt m' sites w words base home x
+    given_still (Variable v) x within given = given
+    given_still (Placed at) x within given =
+        let l = within at refl in
+        carries m m' (base + at) (base + at) x (λ o n inner is read. still (base + at + o) n (omega (arith, l, inner)) read) given
+    given_still (Static at) x within given = absurd given
+
+    slot_still : (slot : Slot) (h : Housed) → ((at : ℕ) → h.home ≡ Placed at → at + h.bytes ≤ SPARE_ROOM) → GaveSlot m sites w words base slot h
+        → GaveSlot m' sites w words base slot h
+    slot_still (Holds x) h within g = record {
+      plain = g.plain;
+      shaped = g.shaped;
+      size = g.size;
+      given = given_still h.home x (λ at e. let l = within at e in let s = g.size in omega (arith, l, s)) g.given;
+    }
+    slot_still (Stands location) h within g = record {
+      by_address = g.by_address;
+      variable = g.variable;
+      home = g.home;
+      address = g.address;
+      given = g.given;
+      leads = g.leads;
+    }
+    slot_still (Lends x from seen) h within g = absurd g
+
+    pub gave_still : (slots : List Slot) (hs : List Housed) → ((h : Housed) (at : ℕ) → Among h hs → h.home ≡ Placed at → at + h.bytes ≤ SPARE_ROOM)
+        → Gave m sites w words base slots hs → Gave m' sites w words base slots hs
+    gave_still [] [] within g = tt
+    gave_still [] (h ∷ hs) within g = absurd g
+    gave_still (slot ∷ slots) [] within g = absurd g
+    gave_still (slot ∷ slots) (h ∷ hs) within g = (
+      slot_still slot h (λ at e. within h at (inl refl) e) g.0,
+      gave_still slots hs (λ k at i e. within k at (inr i) e) g.1,
+    )

@@ -1,6 +1,6 @@
 -- Texts that lines write stand in the memory at the start.
 use Rattle.std.proofs.Common.{◌≡◌, inl, inr, ℕ, zero, suc, ◌+◌, ◌*◌, ◌%◌, ◌<◌, ◌≤◌, List, []}
-use Rattle.std.proofs.Common.{◌∷◌, ◌++◌, length, take, drop, Some, Ok, true, refl, ap, subst, ◌∙◌, arith, codes}
+use Rattle.std.proofs.Common.{◌∷◌, ◌++◌, length, take, drop, replicate, append_assoc, Some, Ok, true, refl, ap, subst, ◌∙◌, arith, codes}
 use Rattle.std.proofs.lemmas.Bool.{and_parts}
 use Rattle.std.specs.Prelude.{slice_get, not}
 use Rattle.rv32_isa.specs.declared.micro_op.Size.TheVariants.{Word}
@@ -13,7 +13,7 @@ use Rattle.word_lowering.specs.declared.may_lower.TheConstants.{MOST_DATA}
 use Rattle.word_lowering.specs.Layouts.{is_empty}
 use Rattle.word_lowering.specs.MayLower.{def_may, defs_may, none_empty}
 use Rattle.word_lowering.specs.Stored.{base_at, entry_at}
-use Rattle.word_lowering.specs.Texts.{members_of, all_names, names_before, names_at, joined_all, ends_from, laid_texts}
+use Rattle.word_lowering.specs.Texts.{missing, padded, members_of, all_names, names_before, names_at, joined_all, ends_from, laid_texts}
 use Rattle.word_lowering.specs.Lowered.{lowered}
 use Rattle.word_lowering.proofs.FirstMemory.{drop_past, first_memory, own_reads, own, own_length, globals, pad, line_end_first, false_first, true_first}
 use Rattle.word_lowering.proofs.FirstNames.{name_among, get_within, joined_before, ends_length, name_stands, name_ends, name_most, past_globals, lengths}
@@ -84,13 +84,16 @@ module _ (x : Basis) (heap stack : ℕ) (is : x.first ≡ first_memory (joined (
       let z = name_ends names i text s in
       let m = name_most names (suc i) in
       let e = ends_length 0 (0 + length (joined_all names)) names in
-      let rest : List ℕ = joined_all names ++ (laid_texts x.blocks.procs ++ pad x.table x.blocks) in
+      let texts : List ℕ = laid_texts x.blocks.procs ++ pad x.table x.blocks in
+      let zeros : List ℕ = replicate (missing (length (joined_all names))) 0 in
+      let rest : List ℕ = padded (joined_all names) ++ texts in
       let place : from ≡ globals x.table x.blocks + (length (ends_from 0 names) + joined_before names i) = omega (arith, e) in
       let stands : take (length text) (drop from (own x.table x.blocks)) ≡ text
       = ap (λ j. take (length text) (drop j (own x.table x.blocks))) place
       ∙ ap (take (length text)) (past_globals x.table x.blocks x.runtime heap stack least whole most (length (ends_from 0 names) + joined_before names i)
       ∙ ap (drop (length (ends_from 0 names) + joined_before names i)) (behind_is x.table x.blocks x.runtime heap stack least whole most)
-      ∙ drop_past (ends_from 0 names) rest (joined_before names i)) ∙ name_stands names i text (laid_texts x.blocks.procs ++ pad x.table x.blocks) s in
+      ∙ drop_past (ends_from 0 names) rest (joined_before names i)
+      ∙ ap (drop (joined_before names i)) (append_assoc (joined_all names) zeros texts)) ∙ name_stands names i text (zeros ++ texts) s in
       record {
         is_text = (inr (omega arith, omega (arith, l, z, m, most)), inl (omega (arith, l, z, m)));
         small = omega (arith, l, z, m, most);

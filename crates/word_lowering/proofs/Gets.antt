@@ -11,7 +11,7 @@ use Rattle.flat_code.specs.Scene.{with_value, Passes, Temps}
 use Rattle.flat_code.specs.Shapes.{has_shape}
 use Rattle.flat_code.specs.Fits.{is_own}
 use Rattle.word_lowering.proofs.ShapeFacts.{never}
-use Rattle.word_code.proofs.ForCallers.{Changed, sizes_more, Runs, at}
+use Rattle.word_code.proofs.ForCallers.{Changed, Runs, at}
 use Rattle.word_lowering.specs.declared.homes.TheConstants.{OWN_FROM, LEFT}
 use Rattle.word_lowering.specs.declared.homes.Home.TheVariants.{Variable}
 use Rattle.word_lowering.specs.declared.homes.Housed.{Housed}
@@ -19,45 +19,36 @@ use Rattle.word_lowering.specs.declared.texts.TheConstants.{FIXED_BYTES}
 use Rattle.word_lowering.specs.Spots.{spot_of, moves}
 use Rattle.word_lowering.specs.LineCode.{variable_in}
 use Rattle.word_lowering.proofs.RoutineCalls.{awaiting}
-use Rattle.word_lowering.proofs.Moves.{is_single, single_word, ToVariable, ToMemory}
+use Rattle.word_lowering.proofs.Moves.{is_single, ToVariable, ToMemory}
 use Rattle.word_lowering.proofs.Frames.{IsFrame, frame_kept, slot_here, slot_elsewhere, length_set}
-use Rattle.word_lowering.proofs.Sites.{room, Housing, in_variable, by_address, in_places, in_data, InMemory, Site, AmongSites, data_end, Linked}
+use Rattle.word_lowering.proofs.Sites.{room, Housing, in_variable, by_address, in_places, in_data, InMemory, Site, AmongSites, data_end, Linked, next_base}
 use Rattle.word_lowering.proofs.Scenes.{address_of, Name, of_value, of_place, At, house, IsThere, looked, IsItem, IsFilled, Filled, IsNamed, Call, site_of}
-use Rattle.word_lowering.proofs.SitesApart.{InRange, houses, SiteAt, site_at, one_level, variables_apart}
-use Rattle.word_lowering.proofs.Keeping.{number_cases, spot_held, spot_memory, points_there, to_memory, value_no_location, value_no_place}
+use Rattle.word_lowering.proofs.SitesApart.{houses, site_at, one_level, variables_apart}
+use Rattle.word_lowering.proofs.Keeping.{number_cases, spot_held, spot_memory, points_there, to_memory, value_no_location, value_no_place, outside_still}
 use Rattle.word_lowering.proofs.Keeping.{location_no_place, call, Edit, nowhere, somewhere, Worlds, worlds_same, Kept, New, same_numbers, away_cases}
 use Rattle.word_lowering.proofs.Keeping.{own_text, AmongCalls}
-use Rattle.word_lowering.proofs.Related.{Both, body_of, within, low, code_behind, StandAt, MemoryGood, IsClosed, IsText, AllFrames, called_by}
+use Rattle.word_lowering.proofs.Related.{Both, body_of, within, low, code_behind, StandAt, MemoryGood, AllFrames, called_by}
 use Rattle.word_lowering.proofs.Lines.{Basis, all_procs, changed, starts, IsGood, Settles, goes_on, all_sites, good_changed, waits_below, stands_next}
 use Rattle.word_lowering.proofs.ValueFacts.{different, value_plain, put_here, put_away, put_still}
-use Rattle.word_lowering.proofs.Sources.{Lying, lying_range, lying_all, size_is, word_is, Source, number_of_single, to_word_by, to_bytes_by}
+use Rattle.word_lowering.proofs.Sources.{Lying, text_beside, lying_all, size_is, word_is, Source, number_of_single, to_word_by, to_bytes_by}
 use Rattle.nim_meaning.specs.Deeds.{Answers}
 use Rattle.nim_meaning.specs.Places.{root_of, through_slot}
 use Rattle.word_lowering.specs.Lookups.{is_address}
 use Rattle.word_lowering.specs.Stored.{is_word}
 use Rattle.word_lowering.proofs.OrdinalRuns.{AllSame}
+use Rattle.rv32_isa.specs.Image.{stack_at}
+use Rattle.word_lowering.proofs.InMemory.{HasWords}
 
 module _ (x : Basis) (sites : List Site) (linked : Linked x.table x.blocks sites) where
-  -- texts don't lie within a place
-  pub text_beside : (a n b k : ℕ) → Lying x sites linked a n → IsText x.table x.blocks b k → (b + k ≤ a) ⊎ (a + n ≤ b)
-  text_beside a n b k l text = by (lying_range x sites linked a n l) text.0
-    where
-      s : SiteAt x.table x.blocks sites l.site
-      s = site_at x.table x.blocks sites l.site linked l.among
-
-      by : InRange x.table x.blocks l.site a n → IsClosed x.table x.blocks b k → (b + k ≤ a) ⊎ (a + n ≤ b)
-      by (inl r) (inl t) = inl (omega (arith, r.1, t.1))
-      by (inl r) (inr t) = inr (omega (arith, r.2, t.0))
-      by (inr r) (inl t) = let h = s.least in inl (omega (arith, r.0, h, t.1))
-      by (inr r) (inr t) = let h = s.least in inl (omega (arith, r.0, h, t.1))
-
-  pub memory_kept : (m m' : Memory) (a n : ℕ) → MemoryGood x.table x.blocks x.first m → Changed m m' a n → Lying x sites linked a n
-      → MemoryGood x.table x.blocks x.first m'
+  pub memory_kept : (m m' : Memory) (a n : ℕ) → MemoryGood x.table x.blocks sites x.first m → Changed m m' a n → Lying x sites linked a n
+      → MemoryGood x.table x.blocks sites x.first m'
   memory_kept m m' a n good ch l = record {
     sized = ch.sized;
-    sizes = sizes_more x.first m m' good.sizes ch.sizes;
+    statics = ch.sizes.statics ∙ good.statics;
+    heap = ch.sizes.heap ∙ good.heap;
+    places = ap (λ n. stack_at + n) ch.sizes.stack ∙ good.places;
     cells = λ b whole open_word. ch.cells b (good.cells b whole open_word);
-    texts = λ b k text. ch.beside b k (text_beside a n b k l text) ∙ good.texts b k text;
+    texts = λ b k text. ch.beside b k (text_beside x sites linked a n b k l text) ∙ good.texts b k text;
   }
 
   pub frame_of_site : (w : World) (some : List Site) (s : Site) → AllFrames x.table x.blocks w some → AmongSites s some
@@ -91,7 +82,7 @@ module _ (x : Basis) (g : Both) (line : BlockLine) (rest : List BlockLine) (y : 
     pub memory : Memory
     pub words : Vars
     pub awaits : ℕ
-    pub good : MemoryGood x.table x.blocks x.first memory
+    pub good : MemoryGood x.table x.blocks sites x.first memory
     pub edit : Edit x.table x.blocks x.small sites y.linked site f g.memory memory
     pub variables : (h : Name) (u : ℕ) → IsThere site h → h ≢ f → (house site h).home ≡ Variable u → vars u ≡ g.call.vars u
     pub left : vars LEFT ≡ g.call.vars LEFT
@@ -147,7 +138,8 @@ module _ (x : Basis) (g : Both) (line : BlockLine) (rest : List BlockLine) (y : 
           awaits = r.awaits;
           good = memory_kept x sites y.linked g.memory r.memory (address_of site.base (house site f).home) (bytes v) y.memory r.changed
               (lying_all x sites y.linked site f (bytes v) (inl refl) there inside size);
-          edit = somewhere (address_of site.base (house site f).home) (bytes v) r.changed.outside (inl refl) there inside (omega arith)
+          edit = somewhere (address_of site.base (house site f).home) (bytes v)
+              (outside_still (next_base sites) g.memory r.memory (address_of site.base (house site f).home) (bytes v) r.changed.outside) (inl refl) there inside (omega arith)
               (omega (arith, size));
           variables = λ h u other ne is. r.same.others u (high_variable h u other is);
           left = r.same.left;
@@ -161,7 +153,7 @@ module _ (x : Basis) (g : Both) (line : BlockLine) (rest : List BlockLine) (y : 
   -- a value that is somewhere is moved to a place
   pub gets_moved : (f : Name) → IsThere site f → is_address (house site f).kind ≡ false → (v : Value) → has_shape v
       (looked x.table site f) ≡ true
-      → (k : List WordInstr) (from : Housed) → from.is_word ≡ is_single v → from.bytes ≡ bytes v → single_word v < 2 ^ 32 → (all : Bool)
+      → (k : List WordInstr) (from : Housed) → from.is_word ≡ is_single v → from.bytes ≡ bytes v → HasWords v → (all : Bool)
       → Source x sites y.linked g.memory site.base g.call.vars all from v → Gets (moves (house site f) from k) k f v (10 + 2 * bytes v)
   gets_moved f there plain v shaped k from word_from size_from small all source = by (houses x.table x.blocks site f y.linked.0 there).where_is
     where

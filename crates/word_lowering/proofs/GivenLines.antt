@@ -28,16 +28,16 @@ use Rattle.word_lowering.proofs.FirstPlaces.{GivenAt, GaveSlot}
 use Rattle.word_lowering.proofs.Gets.{high_variable}
 use Rattle.word_lowering.proofs.HandedLines.{next_at, spare_beyond, memory_beyond, hands_value}
 use Rattle.word_lowering.proofs.InMemory.{IsAt, bytes_some}
-use Rattle.word_lowering.proofs.Keeping.{AmongCalls, Edit, nowhere, beyond, Kept, worlds_same}
+use Rattle.word_lowering.proofs.Keeping.{AmongCalls, Edit, nowhere, Kept, worlds_same, beyond}
 use Rattle.word_lowering.proofs.LineFits.{single_is}
 use Rattle.word_lowering.proofs.Lines.{Basis, IsGood, all_procs, all_sites, changed, good_changed, starts}
 use Rattle.word_lowering.proofs.MovedLines.{value_read}
-use Rattle.word_lowering.proofs.Moves.{is_single, single_word, all_same, same_first, address_runs}
+use Rattle.word_lowering.proofs.Moves.{is_single, single_word, all_same, same_first, address_runs, single_small}
 use Rattle.word_lowering.proofs.OrdinalRuns.{put_here as put_same, AllSame}
-use Rattle.word_lowering.proofs.OutPlaces.{WrittenAt, written_at}
+use Rattle.word_lowering.proofs.OutPlaces.{WrittenAt, written_at, written_stands}
 use Rattle.word_lowering.proofs.ReadFacts.{ValueRead, place_near}
 use Rattle.word_lowering.proofs.Related.{Both, body_of, called_by, within, MemoryGood}
-use Rattle.word_lowering.proofs.Scenes.{At, Call, site_of, of_value, of_location, house, looked, FromPlace, Leads, Points}
+use Rattle.word_lowering.proofs.Scenes.{At, Call, site_of, of_value, of_location, house, looked, FromPlace, Leads, Points, of_a_place}
 use Rattle.word_lowering.proofs.ShapeFacts.{never, bytes_is, values_of_numbers}
 use Rattle.word_lowering.proofs.Sites.{room, looks, type_of, Among, AmongSites, Housing, in_variable, by_address, in_places, in_data, Site, IsHoused}
 use Rattle.word_lowering.proofs.Sites.{around, data_end, is_one_word, word_of}
@@ -61,7 +61,7 @@ module _ (x : Basis) (g : Both) (line : BlockLine) (rest : List BlockLine) (y : 
   abbrev above : Site
   above = record g.call.site { level = suc g.call.site.level }
 
-  pub good_between : (vars : Vars) (m : Memory) (words : Vars) → MemoryGood x.table x.blocks x.first m
+  pub good_between : (vars : Vars) (m : Memory) (words : Vars) → MemoryGood x.table x.blocks sites x.first m
       → Edit x.table x.blocks x.small sites y.linked above (of_value 0) g.memory m → AllSame g.call.vars vars
       → IsGood x (starts (between vars m words) line rest)
   good_between vars m words memory edit same =
@@ -143,7 +143,7 @@ module _ (x : Basis) (g : Both) (line : BlockLine) (rest : List BlockLine) (y : 
           let words : Vars = put g.words u (single_word v) in
           let code : argument_code here label h.home value_house k ≡ Argument u z.variable ∷ k
           = ap (λ p. argument_code here label p value_house k) home ∙ ap (λ p. word_argument u p k) z.home in
-          let given : words u ≡ Some (single_word v) = put_same g.words u (single_word v) r.0.read.small in
+          let given : words u ≡ Some (single_word v) = put_same g.words u (single_word v) (single_small v r.0.read.small) in
           let b = some in
           record {
             vars = g.call.vars;
@@ -185,7 +185,7 @@ module _ (x : Basis) (g : Both) (line : BlockLine) (rest : List BlockLine) (y : 
             same = q.same;
             good = good_between q.vars q.memory g.words
                 (memory_beyond x g line rest y q.memory (next_at x g line rest y + n) (bytes v) ch far)
-                (beyond (next_at x g line rest y + n) (bytes v) ch far) q.same;
+                (beyond (λ b w before read. ch.outside b (inl (omega (arith, before, far))) ∙ read)) q.same;
             gives = to_place n (bytes v) home size ch refl;
             gave = record {
               plain = plain;
@@ -271,7 +271,9 @@ module _ (x : Basis) (g : Both) (line : BlockLine) (rest : List BlockLine) (y : 
           let q = addressed in
           let leads : FromPlace x.table sites g.world w.location_is q.address (looks x.table h)
           = subst (FromPlace x.table sites g.world w.location_is q.address) p.look
-          (subst (λ z. Leads x.table sites g.world g.call.site g.call.temps z q.address (looked x.table g.call.site (of_location t))) w.is q.leads_to) in
+          (of_a_place x.table x.blocks (written_stands x g line rest y w.written)
+          (subst (λ z. Leads x.table x.blocks sites g.world g.call.site g.call.temps z q.address (looked x.table g.call.site (of_location t))) w.is
+          q.leads_to)) in
           let near = place_near x sites y.linked sites g.world w.location_is q.address (looks x.table h) (λ s i. i) leads in
           let small : q.address < 2 ^ 32 = omega (arith, near) in
           let words : Vars = put g.words u q.address in

@@ -1,5 +1,5 @@
 -- What the code does that copies an argument in place, word by word.
-use Rattle.std.proofs.Common.{◌≡◌, ℕ, zero, suc, ◌+◌, ◌*◌, ◌^◌, ◌<◌, List, ◌∷◌, Some, Ok, true, false, refl, sym, ap, subst}
+use Rattle.std.proofs.Common.{◌≡◌, ℕ, zero, suc, ◌+◌, ◌*◌, ◌^◌, ◌<◌, List, ◌∷◌, Some, true, false, refl, ap, subst, ◌%◌}
 use Rattle.std.proofs.Common.{◌∙◌, arith}
 use Rattle.std.specs.Prelude.{◌==◌, not}
 use Rattle.std.proofs.lemmas.Bool.{eq-eqb, ne_eqb}
@@ -11,10 +11,10 @@ use Rattle.word_code.specs.declared.word.Test.TheVariants as test
 use Rattle.word_code.specs.declared.word.WordInstr.{WordInstr}
 use Rattle.word_code.specs.declared.word.WordInstr.TheVariants.{Label, Load, Store, Compute, Branch, Constant}
 use Rattle.word_code.specs.declared.word.WordProc.{WordProc}
-use Rattle.word_code.specs.Memory.{Memory, number_at, with_number}
+use Rattle.word_code.specs.Memory.{Memory, with_number}
 use Rattle.word_code.specs.Words.{Vars, put, from_label}
 use Rattle.word_code.specs.RoutineTable.{Cell, Area}
-use Rattle.word_code.proofs.ForCallers.{MemoryLaw, Sized, put_sized, put_area, word_in, with_copied, Runs, then_runs, Within, at, run_label, run_load}
+use Rattle.word_code.proofs.ForCallers.{MemoryLaw, Sized, put_sized, put_area, with_copied, Runs, then_runs, Within, at, run_label, run_load, low_word, low_small, got_low}
 use Rattle.word_code.proofs.ForCallers.{run_store, run_compute, run_constant, run_past, run_off, got, got_sum}
 use Rattle.word_lowering.specs.declared.homes.Home.{Home}
 use Rattle.word_lowering.specs.declared.homes.TheConstants.{FIRST, SECOND, THIRD, FOURTH, FIFTH}
@@ -44,16 +44,14 @@ module _ (law : MemoryLaw) (live : Lives) (procs : List WordProc) (c : Within) (
     four : vars FOURTH ≡ Some 4
     same : AllSame v vars
     runs : Runs live procs 5 (at c m (hand_loop label k) v g)
-        (at c (with_number m to whole (word_in (number_at m from whole))) (Branch test.Unequal SECOND THIRD label ∷ k) vars g)
+        (at c (with_number m to whole (low_word m from)) (Branch test.Unequal SECOND THIRD label ∷ k) vars g)
 
   turn : (m : Memory) (to from end : ℕ) (v : Vars) → v FIRST ≡ Some to → v SECOND ≡ Some from → v THIRD ≡ Some end → v FOURTH ≡ Some 4
       → to + 4 < 2 ^ 32 → from + 4 < 2 ^ 32 → Cell m to → Cell m from → Turn m to from end v
   turn m to from end v e1 e2 e3 e4 small_to small_from there here =
-      let w : ℕ = word_in (number_at m from whole) in
-      let is : here.word ≡ w = sym (ap word_in here.reads) in
-      let small : w < 2 ^ 32 = subst (λ x. x < 2 ^ 32) is here.small in
-      let read : number_at m from whole ≡ Ok w = here.reads ∙ ap Ok is in
-      let m1 : Memory = with_number m to whole w in
+      let w : ℕ = here.word in
+      let same_word : w % 2 ^ 32 ≡ low_word m from = got_low m from here in
+      let m1 : Memory = with_number m to whole (w % 2 ^ 32) in
       let v1 : Vars = put v FIFTH w in
       let v2 : Vars = put v1 FIRST (added to 4) in
       let v3 : Vars = put v2 SECOND (added from 4) in
@@ -63,8 +61,8 @@ module _ (law : MemoryLaw) (live : Lives) (procs : List WordProc) (c : Within) (
       let l1 : List WordInstr = Store FIRST FIFTH whole ∷ l2 in
       let l0 : List WordInstr = Load FIFTH SECOND whole ∷ l1 in
       let r0 : Runs live procs 1 (at c m (Label label ∷ l0) v g) (at c m l0 v g) = run_label live procs c m l0 v g label in
-      let r1 : Runs live procs 1 (at c m l0 v g) (at c m l1 v1 g) = run_load live procs c m l1 v g FIFTH SECOND whole e2 read in
-      let r2 : Runs live procs 1 (at c m l1 v1 g) (at c m1 l2 v1 g) = run_store live procs c m l2 v1 g FIRST FIFTH whole e1 (got w small) there.may in
+      let r1 : Runs live procs 1 (at c m l0 v g) (at c m l1 v1 g) = run_load live procs c m l1 v g FIFTH SECOND whole e2 here.reads in
+      let r2 : Runs live procs 1 (at c m l1 v1 g) (at c m1 l2 v1 g) = run_store live procs c m l2 v1 g FIRST FIFTH whole e1 refl there.may in
       let r3 : Runs live procs 1 (at c m1 l2 v1 g) (at c m1 l3 v2 g) = run_compute live procs c m1 l3 v1 g FIRST operation.Add FIRST FOURTH e1 e4 in
       let r4 : Runs live procs 1 (at c m1 l3 v2 g) (at c m1 l4 v3 g) = run_compute live procs c m1 l4 v2 g SECOND operation.Add SECOND FOURTH e2 e4 in
       record {
@@ -75,7 +73,9 @@ module _ (law : MemoryLaw) (live : Lives) (procs : List WordProc) (c : Within) (
         four = e4;
         same = same_more v v1 v3 (same_put v FIFTH w (omega arith) (omega arith))
             (same_more v1 v2 v3 (same_put v1 FIRST (added to 4) (omega arith) (omega arith)) (same_put v2 SECOND (added from 4) (omega arith) (omega arith)));
-        runs = then_runs live procs (then_runs live procs r0 r1) (then_runs live procs r2 (then_runs live procs r3 r4));
+        runs = subst (λ n. Runs live procs 5 (at c m (hand_loop label k) v g)
+            (at c (with_number m to whole n) (Branch test.Unequal SECOND THIRD label ∷ k) v3 g)) same_word
+            (then_runs live procs (then_runs live procs r0 r1) (then_runs live procs r2 (then_runs live procs r3 r4)));
       }
 
   -- so many words are copied
@@ -95,13 +95,12 @@ module _ (law : MemoryLaw) (live : Lives) (procs : List WordProc) (c : Within) (
         vars = t.vars;
         same = t.same;
         runs = then_runs live procs t.runs
-            (run_past live procs c (with_number m to whole (word_in (number_at m from whole))) k t.vars g test.Unequal SECOND THIRD label t.there t.last over);
+            (run_past live procs c (with_number m to whole (low_word m from)) k t.vars g test.Unequal SECOND THIRD label t.there t.last over);
       }
   hands (suc n) m to from end v e1 e2 e3 e4 far small_to small_end sized there here =
       let t = turn m to from end v e1 e2 e3 e4 (omega arith) (omega (arith, far, small_end)) there.0 here.0 in
-      let w : ℕ = word_in (number_at m from whole) in
-      let is : here.0.word ≡ w = sym (ap word_in here.0.reads) in
-      let small : w < 2 ^ 32 = subst (λ x. x < 2 ^ 32) is here.0.small in
+      let w : ℕ = low_word m from in
+      let small : w < 2 ^ 32 = low_small m from in
       let m1 : Memory = with_number m to whole w in
       let again : not (from + 4 == end) ≡ true = ap not (ne_eqb (from + 4) end (λ e. omega (arith, far, e))) in
       let rest = hands n m1 (to + 4) (from + 4) end t.vars t.onto t.there t.last t.four (omega (arith, far)) (omega (arith, small_to)) small_end

@@ -13,13 +13,13 @@ use Rattle.word_code.specs.Memory.{Memory, with_number}
 use Rattle.word_code.specs.Words.{Vars, put, from_label}
 use Rattle.word_code.specs.RoutineTable.{Cell}
 use Rattle.word_code.proofs.ForCallers.{with_copied, put_here, Changed, span, span_is, copied_to, changed_word, Runs, at, run_place, run_store, then_runs}
-use Rattle.word_code.proofs.ForCallers.{sizes_more, got}
+use Rattle.word_code.proofs.ForCallers.{got}
 use Rattle.word_lowering.specs.declared.homes.Home.{Home}
 use Rattle.word_lowering.specs.declared.homes.Housed.{Housed}
 use Rattle.word_lowering.specs.declared.homes.TheConstants.{FIRST, SECOND}
 use Rattle.word_lowering.specs.declared.spots.Spot.TheVariants.{Held}
 use Rattle.word_lowering.specs.Spots.{spot_of, handed, copied_here}
-use Rattle.word_lowering.proofs.InMemory.{IsAt, bytes_whole, bytes_some, carried, of_numbers}
+use Rattle.word_lowering.proofs.InMemory.{IsAt, bytes_whole, bytes_some, of_numbers, copied_there, HasWords}
 use Rattle.word_lowering.proofs.OrdinalRuns.{AllSame}
 use Rattle.word_lowering.proofs.Moves.{single_word, IsHigh, MaySpot, IsArea, words_of, same_first, same_more, points_same}
 use Rattle.word_lowering.proofs.CallLabels.{past_address}
@@ -31,6 +31,7 @@ use Rattle.word_lowering.proofs.Related.{Both, body_of, within, MemoryGood, IsCl
 use Rattle.word_lowering.proofs.Lines.{Basis, all_procs, starts, IsGood, all_sites}
 use Rattle.word_lowering.proofs.Sources.{area_by, Lying, lying_range, lying_area, lying_near, Source, held_in, lies_at}
 use Rattle.word_lowering.proofs.ReadFacts.{Read}
+use Rattle.rv32_isa.specs.Image.{stack_at}
 
 -- the label of its code is found in it
 pub hand_label : (label bytes : ℕ) (home : Home) (n : ℕ) (k : List WordInstr)
@@ -49,8 +50,7 @@ module _ (x : Basis) (g : Both) (line : BlockLine) (rest : List BlockLine) (y : 
     spare_cell : (b : ℕ) → next_at + at_next ≤ b → b + 4 ≤ next_at + at_next + n → b % 4 ≡ 0 → Cell g.memory b
     spare_cell b low high is =
         let s = site_at x.table x.blocks sites g.call.site y.linked (inl refl) in
-        let room_here = x.spare sites y.linked in
-        y.memory.cells b is (inr (omega (arith, s.least, low), omega (arith, high, small, room_here)))
+        y.memory.cells b is (inr (omega (arith, s.least, low), omega (arith, high, small)))
 
     pub spare_area : IsArea g.memory (next_at + at_next) n
     spare_area k le =
@@ -58,16 +58,18 @@ module _ (x : Basis) (g : Both) (line : BlockLine) (rest : List BlockLine) (y : 
         area_by g.memory k (next_at + at_next) (omega (arith, w, whole_at)) (λ b low high is. spare_cell b low (omega (arith, high, le)) is)
 
     pub spare_near : next_at + at_next + n < 2 ^ 32
-    spare_near = let h = x.places in let r = x.spare sites y.linked in omega (arith, h, r, small)
+    spare_near = let r = x.within sites y.linked in omega (arith, r, small)
 
     pub spare_beyond : next_base sites ≤ next_at + at_next
     spare_beyond = omega arith
 
   -- what is true of memory, behind a change there
-  pub memory_beyond : (m : Memory) (a n : ℕ) → Changed g.memory m a n → next_base sites ≤ a → MemoryGood x.table x.blocks x.first m
+  pub memory_beyond : (m : Memory) (a n : ℕ) → Changed g.memory m a n → next_base sites ≤ a → MemoryGood x.table x.blocks sites x.first m
   memory_beyond m a n ch far = record {
     sized = ch.sized;
-    sizes = sizes_more x.first g.memory m y.memory.sizes ch.sizes;
+    statics = ch.sizes.statics ∙ y.memory.statics;
+    heap = ch.sizes.heap ∙ y.memory.heap;
+    places = ap (λ n. stack_at + n) ch.sizes.stack ∙ y.memory.places;
     cells = λ b is open_word. ch.cells b (y.memory.cells b is open_word);
     texts = λ b k text. ch.beside b k (inl (below b k text.0)) ∙ y.memory.texts b k text;
   }
@@ -106,7 +108,7 @@ module _ (x : Basis) (g : Both) (line : BlockLine) (rest : List BlockLine) (y : 
     to_place l = run_place x.live (all_procs x) (within x.table x.blocks g) g.memory l g.call.vars g.words FIRST (room (body_of g) + at_next)
 
     -- a word
-    hands_word : (v : Value) (u : ℕ) → MaySpot (Held u) v → single_word v < 2 ^ 32 → g.call.vars u ≡ Some (single_word v)
+    hands_word : (v : Value) (u : ℕ) → MaySpot (Held u) v → HasWords v → g.call.vars u ≡ Some (single_word v)
         → at_next + bytes v ≤ SPARE_ROOM
         → Hands (Place FIRST (room (body_of g) + at_next) ∷ Store FIRST u whole ∷ k) k v a
     hands_word (Parts vs) u may small e le = absurd may
@@ -139,11 +141,11 @@ module _ (x : Basis) (g : Both) (line : BlockLine) (rest : List BlockLine) (y : 
         }
 
     -- word by word
-    hands_words : (v : Value) (home : Home) → IsHigh home → (from : ℕ) → Points g.call.site.base g.call.vars home from → IsAt g.memory from v
+    hands_words : (v : Value) → HasWords v → (home : Home) → IsHigh home → (from : ℕ) → Points g.call.site.base g.call.vars home from → IsAt g.memory from v
         → Lying x sites y.linked from (bytes v) → at_next + bytes v ≤ SPARE_ROOM
         → from_label label (word_of x.table x.blocks (body_of g)).lines ≡ Some (hand_loop label k)
         → Hands (Place FIRST (room (body_of g) + at_next) ∷ copied_here label (bytes v) home k) k v a
-    hands_words v home high from points is_at lying le stands =
+    hands_words v small_words home high from points is_at lying le stands =
         by (bytes v) refl (words_of (bytes v) (bytes_whole v) (bytes_some v (of_numbers g.memory from v is_at)))
       where
         near : next_at + at_next + bytes v < 2 ^ 32
@@ -172,7 +174,7 @@ module _ (x : Basis) (g : Both) (line : BlockLine) (rest : List BlockLine) (y : 
               memory = with_copied (suc j) g.memory to from;
               same = same_more g.call.vars v1 h.vars same h.same;
               changed = subst (Changed g.memory (with_copied (suc j) g.memory to from) to) (span_size ∙ sym long) c.changed;
-              there = carried g.memory (with_copied (suc j) g.memory to from) from to v
+              there = copied_there g.memory (with_copied (suc j) g.memory to from) from to v small_words
                   (λ o within is. c.same o (omega (arith, within, long, span_size)) is) is_at;
               steps = 1 + (4 + 6 * suc j);
               some = omega arith;
@@ -210,12 +212,12 @@ module _ (x : Basis) (g : Both) (line : BlockLine) (rest : List BlockLine) (y : 
         by (held_in u spot may e) =
             subst (λ p. Hands (Place FIRST (room (body_of g) + at_next) ∷ handed label from.bytes p k) k v
             (g.call.site.base + (room (body_of g) + at_next))) (sym spot) (hands_word v u may r.small e le)
-        by (lies_at home spot high b points is_at lying is_all) =
+        by (lies_at home spot high b points is_at readable is_all) =
             let code_is : handed label from.bytes (spot_of from) k ≡ copied_here label
             (bytes v) home k
             = ap (λ n. handed label n (spot_of from) k) r.size
             ∙ ap (λ p. handed label (bytes v) p k) spot in
             subst (λ l. Hands (Place FIRST (room (body_of g) + at_next) ∷ l) k v (g.call.site.base + (room (body_of g) + at_next))) (sym code_is)
-            (hands_words v home high b points is_at lying le
+            (hands_words v r.small home high b points is_at (is_all refl).0 le
             (found ∙ ap (λ l. from_label label (Place FIRST (room (body_of g) + at_next) ∷ l)) code_is
             ∙ hand_label label (bytes v) home (room (body_of g) + at_next) k))

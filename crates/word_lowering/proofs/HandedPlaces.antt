@@ -68,6 +68,10 @@ root_here handed (L.Fresh to from) behind t p rest it e h = absurd (no_value fro
   where
     no_value : (from p : ℕ) → alias.Value from ≡ alias.Place p false → ⊥
     no_value from p e = cc
+root_here handed (L.Standing to ty pieces) behind t p rest it e h = absurd (no_own p e)
+  where
+    no_own : (p : ℕ) → alias.Own ≡ alias.Place p false → ⊥
+    no_own p e = cc
 root_here handed (L.Part to from field) behind t p rest it e h = absurd (no_own p e)
   where
     no_own : (p : ℕ) → alias.Own ≡ alias.Place p false → ⊥

@@ -1,12 +1,12 @@
 -- Values in memory: each ordinal is a word, and parts stand one behind the other. Other values don't stand in memory.
-use Rattle.std.proofs.Common.{◌≡◌, ℕ, zero, suc, ◌+◌, ◌%◌, ◌≤◌, false, Ok, refl, sym, ap, ◌∙◌, arith, pos}
+use Rattle.std.proofs.Common.{◌≡◌, ℕ, zero, suc, ◌+◌, ◌%◌, ◌≤◌, false, Ok, refl, sym, ap, ◌∙◌, arith, pos, ◌^◌, ◌<◌}
 use Rattle.std.proofs.lemmas.Bool.{or_parts, true≢false}
 use Rattle.nim_types.specs.Forms.{Form, plain, reference, block, elements, row, parts, resource, wrapped, Forms, no_forms, forms, or_word, hooked, hooked_any}
 use Rattle.nim_meaning.specs.Values.{Value, Number, Parts, Handle, Fixed, Ref, Resource, Gone, Vacant, Values, Nil, More, bytes, bytes_all, blank, blanks}
 use Rattle.nim_meaning.specs.Values.{repeated}
 use Rattle.rv32_isa.specs.declared.micro_op.Size.TheVariants.{Word}
 use Rattle.word_code.specs.Memory.{Memory, number_at}
-use Rattle.word_code.specs.RoutineTable.{SameWords, ZeroWords}
+use Rattle.word_code.specs.RoutineTable.{SameWords, ZeroWords, low, LowWords}
 use Rattle.word_code.proofs.ForCallers.{at_same}
 use Rattle.word_lowering.specs.Operations.{word}
 
@@ -101,32 +101,82 @@ parts_bytes v vs o = or_word_is (bytes v + bytes_all vs) (let h = bytes_some v o
 
 -- ---- the same words somewhere else
 
-module _ (m other : Memory) where
-  further : (a b n k : ℕ) → k % 4 ≡ 0 → SameWords m a other b (k + n) → SameWords m (a + k) other (b + k) n
-  further a b n k whole same o within is =
-      at_same other (b + k + o) (b + (k + o)) (omega arith) ∙ same (k + o) (omega arith) (omega arith) ∙ at_same m (a + (k + o)) (a + k + o) (omega arith)
+-- values whose numbers are words
+abbrev mutual
+  pub HasWords : Value → Type 0
+  HasWords (Number z) = word z < 2 ^ 32
+  HasWords (Parts vs) = HaveWords vs
+  HasWords v = Unit {0}
 
-  fewer : (a b n k : ℕ) → SameWords m a other b (k + n) → SameWords m a other b k
-  fewer a b n k same o within is = same o (omega arith) is
+  pub HaveWords : Values → Type 0
+  HaveWords Nil = Unit {0}
+  HaveWords (More v vs) = HasWords v × HaveWords vs
+
+module _ (m other : Memory) where
+  -- words that are read in one range are read in the other one
+  abbrev pub Carries : (a b bytes : ℕ) → Type 0
+  Carries a b bytes = (o w : ℕ) → o + 4 ≤ bytes → o % 4 ≡ 0 → number_at m (a + o) Word ≡ Ok w → number_at other (b + o) Word ≡ Ok w
+
+  further : (a b n k : ℕ) → k % 4 ≡ 0 → Carries a b (k + n) → Carries (a + k) (b + k) n
+  further a b n k whole same o w within is reads =
+      at_same other (b + k + o) (b + (k + o)) (omega arith)
+      ∙ same (k + o) w (omega arith) (omega arith) (at_same m (a + (k + o)) (a + k + o) (omega arith) ∙ reads)
+
+  fewer : (a b n k : ℕ) → Carries a b (k + n) → Carries a b k
+  fewer a b n k same o w within is reads = same o w (omega arith) is reads
 
   mutual
-    pub carried : (a b : ℕ) (v : Value) → SameWords m a other b (bytes v) → IsAt m a v → IsAt other b v
-    carried a b (Number z) same at =
-        at_same other b (b + 0) (omega arith) ∙ same 0 (omega arith) refl ∙ at_same m (a + 0) a (omega arith) ∙ at
-    carried a b (Parts vs) same at =
-        let h = or_word_least (bytes_all vs) in all_carried a b vs (λ o within is. same o (omega (arith, h, within)) is) at
-    carried a b (Handle n k) same at = absurd at
-    carried a b (Fixed t) same at = absurd at
-    carried a b (Ref o) same at = absurd at
-    carried a b (Resource vs i) same at = absurd at
-    carried a b (Gone v f) same at = absurd at
-    carried a b Vacant same at = absurd at
+    pub carries : (a b : ℕ) (v : Value) → Carries a b (bytes v) → IsAt m a v → IsAt other b v
+    carries a b (Number z) same at =
+        at_same other b (b + 0) (omega arith) ∙ same 0 (word z) (omega arith) refl (at_same m (a + 0) a (omega arith) ∙ at)
+    carries a b (Parts vs) same at =
+        let h = or_word_least (bytes_all vs) in all_carry a b vs (λ o w within is. same o w (omega (arith, h, within)) is) at
+    carries a b (Handle n k) same at = absurd at
+    carries a b (Fixed t) same at = absurd at
+    carries a b (Ref o) same at = absurd at
+    carries a b (Resource vs i) same at = absurd at
+    carries a b (Gone v f) same at = absurd at
+    carries a b Vacant same at = absurd at
 
-    pub all_carried : (a b : ℕ) (vs : Values) → SameWords m a other b (bytes_all vs) → AreAt m a vs → AreAt other b vs
-    all_carried a b Nil same at = tt
-    all_carried a b (More v vs) same at = (
-      carried a b v (fewer a b (bytes_all vs) (bytes v) same) at.0,
-      all_carried (a + bytes v) (b + bytes v) vs (further a b (bytes_all vs) (bytes v) (bytes_whole v) same) at.1,
+    all_carry : (a b : ℕ) (vs : Values) → Carries a b (bytes_all vs) → AreAt m a vs → AreAt other b vs
+    all_carry a b Nil same at = tt
+    all_carry a b (More v vs) same at = (
+      carries a b v (fewer a b (bytes_all vs) (bytes v) same) at.0,
+      all_carry (a + bytes v) (b + bytes v) vs (further a b (bytes_all vs) (bytes v) (bytes_whole v) same) at.1,
+    )
+
+  pub carried : (a b : ℕ) (v : Value) → SameWords m a other b (bytes v) → IsAt m a v → IsAt other b v
+  carried a b v same at = carries a b v (λ o w within is reads. same o within is ∙ reads) at
+
+  pub all_carried : (a b : ℕ) (vs : Values) → SameWords m a other b (bytes_all vs) → AreAt m a vs → AreAt other b vs
+  all_carried a b vs same at = all_carry a b vs (λ o w within is reads. same o within is ∙ reads) at
+
+  -- ---- words that were copied
+
+  low_further : (a b n k : ℕ) → k % 4 ≡ 0 → LowWords m a other b (k + n) → LowWords m (a + k) other (b + k) n
+  low_further a b n k whole same o within is =
+      at_same other (b + k + o) (b + (k + o)) (omega arith)
+      ∙ same (k + o) (omega arith) (omega arith) ∙ ap low (at_same m (a + (k + o)) (a + k + o) (omega arith))
+
+  mutual
+    pub copied_there : (a b : ℕ) (v : Value) → HasWords v → LowWords m a other b (bytes v) → IsAt m a v → IsAt other b v
+    copied_there a b (Number z) small same at =
+        let e : word z % 2 ^ 32 ≡ word z = omega (arith, small) in
+        at_same other b (b + 0) (omega arith) ∙ same 0 (omega arith) refl ∙ ap low (at_same m (a + 0) a (omega arith) ∙ at) ∙ ap Ok e
+    copied_there a b (Parts vs) small same at =
+        let h = or_word_least (bytes_all vs) in all_copied a b vs small (λ o within is. same o (omega (arith, h, within)) is) at
+    copied_there a b (Handle n k) small same at = absurd at
+    copied_there a b (Fixed t) small same at = absurd at
+    copied_there a b (Ref o) small same at = absurd at
+    copied_there a b (Resource vs i) small same at = absurd at
+    copied_there a b (Gone v f) small same at = absurd at
+    copied_there a b Vacant small same at = absurd at
+
+    all_copied : (a b : ℕ) (vs : Values) → HaveWords vs → LowWords m a other b (bytes_all vs) → AreAt m a vs → AreAt other b vs
+    all_copied a b Nil small same at = tt
+    all_copied a b (More v vs) small same at = (
+      copied_there a b v small.0 (λ o within is. same o (omega (arith, within)) is) at.0,
+      all_copied (a + bytes v) (b + bytes v) vs small.1 (low_further a b (bytes_all vs) (bytes v) (bytes_whole v) same) at.1,
     )
 
 -- ---- values whose words are all 0

@@ -1,5 +1,5 @@
 -- Where one place of a call changes, all others are as before.
-use Rattle.std.proofs.Common.{◌≡◌, ◌≢◌, ◌⊎◌, inl, inr, ℕ, ◌+◌, ◌<◌, ◌≤◌, List, [], ◌∷◌, map, Some, true, false, refl}
+use Rattle.std.proofs.Common.{◌≡◌, ◌≢◌, ◌⊎◌, inl, inr, ℕ, ◌+◌, ◌<◌, ◌≤◌, List, [], ◌∷◌, map, Some, true, false, refl, Ok}
 use Rattle.std.proofs.Common.{sym, ap, ap₂, subst, ◌∙◌, arith}
 use Rattle.std.proofs.lemmas.Bool.{cases_order}
 use Rattle.nim_types.specs.declared.types.TypeDef.{TypeDef}
@@ -14,7 +14,7 @@ use Rattle.flat_code.specs.declared.block.BlockLine.{BlockLine}
 use Rattle.flat_code.specs.declared.code.Code.{Code}
 use Rattle.rv32_isa.specs.declared.micro_op.Size.TheVariants.{Word}
 use Rattle.word_code.specs.Memory.{Memory, number_at}
-use Rattle.word_code.proofs.ForCallers.{Apart, SameOutside, Changed}
+use Rattle.word_code.proofs.ForCallers.{Apart, SameOutside}
 use Rattle.word_code.specs.Words.{Vars}
 use Rattle.flat_code.specs.Scene.{Where, Located, Within, Temps}
 use Rattle.flat_code.specs.Shapes.{Shape}
@@ -31,7 +31,7 @@ use Rattle.word_lowering.specs.declared.may_lower.TheConstants.{MOST_DATA}
 use Rattle.word_lowering.specs.Layouts.{is_address}
 use Rattle.word_lowering.specs.Spots.{spot_by, spot_of}
 use Rattle.word_lowering.specs.LineCode.{variable_in, variable_of}
-use Rattle.word_lowering.proofs.InMemory.{IsAt, carried}
+use Rattle.word_lowering.proofs.InMemory.{IsAt, carried, carries}
 use Rattle.word_lowering.proofs.Sites.{room, Housing, in_variable, by_address, in_places, in_data, InMemory, Site, next_base, AmongSites, data_end, Linked}
 use Rattle.word_lowering.proofs.Scenes.{address_of, Points, At, Name, of_value, of_location, of_place, number_in, Call, house, Filled, HasValue}
 use Rattle.word_lowering.proofs.Scenes.{IsThere, IsNamed, IsLiteral, looked, IsItem, FromPlace, Leads, IsLedBy, IsLed}
@@ -78,6 +78,13 @@ to_memory m base vars h x plain inside at =
     subst (λ p. At m base vars p x) (sym (spot_memory h plain inside)) (address_of base h.home, points_there base vars h.home inside, at)
 
 -- ---- memory beside a change
+
+-- words before an address that don't overlap a range are still there
+abbrev pub StillBefore : (end : ℕ) (m m' : Memory) (at n : ℕ) → Type 0
+StillBefore end m m' at n = (a w : ℕ) → a + 4 ≤ end → Apart a at n → number_at m a Word ≡ Ok w → number_at m' a Word ≡ Ok w
+
+pub outside_still : (end : ℕ) (m m' : Memory) (at n : ℕ) → SameOutside m m' at n → StillBefore end m m' at n
+outside_still end m m' at n outside a w before apart read = outside a apart ∙ read
 
 pub at_beside : (m m' : Memory) (at n a : ℕ) (x : Value) → SameOutside m m' at n → Beside a (bytes x) at n → IsAt m a x → IsAt m' a x
 at_beside m m' at n a x outside apart is =
@@ -188,14 +195,13 @@ module _ (table : List TypeDef) (blocks : Code BlockLine) (small : data_end tabl
       by (inl x) (inr ne) = inr (inr ne)
       by (inr ne) y = inr (inl ne)
 
-  -- memory changes nowhere, in the range of the place, beyond all places, or beside them
+  -- Memory changes nowhere, in the range of the place, or beside globals and all that stands among the places of calls. What stands behind the
+  -- places of these calls may change, come or go.
   pub data Edit (m m' : Memory) : Type 0 where
     nowhere : m ≡ m' → Edit m m'
-    somewhere : (at n : ℕ) → SameOutside m m' at n → AmongSites lo sites → IsThere lo e → InMemory (house lo e).home
+    somewhere : (at n : ℕ) → StillBefore (next_base sites) m m' at n → AmongSites lo sites → IsThere lo e → InMemory (house lo e).home
         → address_of lo.base (house lo e).home ≤ at → at + n ≤ address_of lo.base (house lo e).home + (house lo e).bytes → Edit m m'
-    -- where the places of the next call will be
-    beyond : (at n : ℕ) → Changed m m' at n → next_base sites ≤ at → Edit m m'
-    -- beside globals and all that stands among the places of calls
+    beyond : ((a w : ℕ) → a + 4 ≤ next_base sites → number_at m a Word ≡ Ok w → number_at m' a Word ≡ Ok w) → Edit m m'
     aside : ((a : ℕ) → IsPlace table blocks a → number_at m' a Word ≡ number_at m a Word) → Edit m m'
 
   -- worlds in which at most that place differs
@@ -234,7 +240,7 @@ module _ (table : List TypeDef) (blocks : Code BlockLine) (small : data_end tabl
     pub item : (x : Value) → IsThere c.site e → HasValue w c e x → IsItem table m c e x
     pub text : (t behind bytes : ℕ) (x : Value) → of_value t ≡ e → (house c.site (of_value t)).alias ≡ alias.Text behind bytes
         → c.temps.values t ≡ Some x → IsLiteral c.site.body behind bytes x
-    pub led : (t : ℕ) (there : Where) → of_location t ≡ e → IsNamed c.site (of_location t) → c.temps.places t ≡ Some there → IsLed table from w c t there
+    pub led : (t : ℕ) (there : Where) → of_location t ≡ e → IsNamed c.site (of_location t) → c.temps.places t ≡ Some there → IsLed table blocks from w c t there
     pub filled : (n : ℕ) → of_place n ≡ e → Filled w c.site.level n → IsFilled table from w c n
 
   module _ (m m' : Memory) (edit : Edit m m') (w w' : World) (worlds : Worlds w w') where
@@ -243,38 +249,42 @@ module _ (table : List TypeDef) (blocks : Code BlockLine) (small : data_end tabl
         → bytes x ≡ (house s f).bytes → Away s f → IsAt m (address_of s.base (house s f).home) x → IsAt m' (address_of s.base (house s f).home) x
     at_away s f x i y inside size away at = by edit
       where
+        here : SiteAt table blocks sites s
+        here = site_at table blocks sites s linked i
+
+        range : InRange table blocks s (address_of s.base (house s f).home) (house s f).bytes
+        range = in_range table blocks s (house s f) (houses table blocks s f (site_at table blocks sites s linked i).body y) inside
+
+        before_next : InRange table blocks s (address_of s.base (house s f).home) (house s f).bytes
+            → address_of s.base (house s f).home + bytes x ≤ next_base sites
+        before_next (inl r) = let l = here.least in let n = here.most in omega (arith, r.2, small, l, n, size)
+        before_next (inr r) = let n = here.most in omega (arith, r.1, n, size)
+
+        place_in : InRange table blocks s (address_of s.base (house s f).home) (house s f).bytes → (o : ℕ) → o + 4 ≤ bytes x
+            → IsPlace table blocks (address_of s.base (house s f).home + o)
+        place_in (inl r) o within = inl (omega (arith, r.1), omega (arith, r.2, within, size))
+        place_in (inr r) o within = let l = here.least in inr (omega (arith, r.0, l))
+
         by : Edit m m' → IsAt m' (address_of s.base (house s f).home) x
         by (nowhere is) = subst (λ n. IsAt n (address_of s.base (house s f).home) x) is at
-        by (somewhere a n outside j there within low high) =
-            at_beside m m' a n (address_of s.base (house s f).home) x outside
-            (narrow (ranges_apart table blocks small sites s lo f e linked i j y there inside within away)) at
+        by (somewhere a n still j there within low high) =
+            let end = before_next range in
+            carries m m' (address_of s.base (house s f).home) (address_of s.base (house s f).home) x (λ o w inner is read.
+            still (address_of s.base (house s f).home + o) w (omega (arith, end, inner))
+            (apart o inner (ranges_apart table blocks small sites s lo f e linked i j y there inside within away)) read) at
           where
-            narrow : Beside (address_of s.base (house s f).home) (house s f).bytes (address_of lo.base (house lo e).home) (house lo e).bytes
-                → Beside (address_of s.base (house s f).home) (bytes x) a n
-            narrow (inl h) = inl (omega (arith, h, size, low))
-            narrow (inr h) = inr (omega (arith, h, high))
-        by (beyond a n ch far) =
-            at_beside m m' a n (address_of s.base (house s f).home) x ch.outside
-            (inl (below_next (in_range table blocks s (house s f) (houses table blocks s f here.body y) inside))) at
-          where
-            here : SiteAt table blocks sites s
-            here = site_at table blocks sites s linked i
-
-            below_next : InRange table blocks s (address_of s.base (house s f).home) (house s f).bytes → address_of s.base (house s f).home + bytes x ≤ a
-            below_next (inl r) = let l = here.least in let m = here.most in omega (arith, r.2, small, l, m, far, size)
-            below_next (inr r) = let m = here.most in omega (arith, r.1, m, far, size)
+            apart : (o : ℕ) → o + 4 ≤ bytes x
+                → Beside (address_of s.base (house s f).home) (house s f).bytes (address_of lo.base (house lo e).home) (house lo e).bytes
+                → Apart (address_of s.base (house s f).home + o) a n
+            apart o inner (inl h) = inl (omega (arith, h, size, low, inner))
+            apart o inner (inr h) = inr (omega (arith, h, high))
+        by (beyond still) =
+            let end = before_next range in
+            carries m m' (address_of s.base (house s f).home) (address_of s.base (house s f).home) x (λ o w inner is read.
+            still (address_of s.base (house s f).home + o) w (omega (arith, end, inner)) read) at
         by (aside same) =
-            let a : ℕ = address_of s.base (house s f).home in
-            let range : InRange table blocks s a (house s f).bytes = in_range table blocks s (house s f) (houses table blocks s f here.body y) inside in
-            carried m m' a a x (λ o within is. same (a + o) (place_in range o within)) at
-          where
-            here : SiteAt table blocks sites s
-            here = site_at table blocks sites s linked i
-
-            place_in : InRange table blocks s (address_of s.base (house s f).home) (house s f).bytes → (o : ℕ) → o + 4 ≤ bytes x
-                → IsPlace table blocks (address_of s.base (house s f).home + o)
-            place_in (inl r) o within = inl (omega (arith, r.1), omega (arith, r.2, within, size))
-            place_in (inr r) o within = let l = here.least in inr (omega (arith, r.0, l))
+            carried m m' (address_of s.base (house s f).home) (address_of s.base (house s f).home) x (λ o inner is.
+            same (address_of s.base (house s f).home + o) (place_in range o inner)) at
 
     pub item_kept : (s : Site) (temps temps' : Temps) (vars vars' : Vars) (f : Name) (x : Value) → AmongSites s sites
         → Kept s temps temps' vars vars' → Away s f → IsItem table m (call s temps vars) f x → IsItem table m' (call s temps' vars') f x
@@ -319,8 +329,9 @@ module _ (table : List TypeDef) (blocks : Code BlockLine) (small : data_end tabl
 
     leads_kept : (from : List Site) → ((r : Site) → AmongSites r from → AmongSites r sites) → (s : Site) (temps temps' : Temps) (vars vars' : Vars)
         → Kept s temps temps' vars vars'
-        → (there : Where) (a : ℕ) (t : Shape) → Leads table from w s temps there a t → Leads table from w' s temps' there a t
-    leads_kept from up s temps temps' vars vars' k (Located location) a t x = from_kept from up location a t x
+        → (there : Where) (a : ℕ) (t : Shape) → Leads table blocks from w s temps there a t → Leads table blocks from w' s temps' there a t
+    leads_kept from up s temps temps' vars vars' k (Located location) a t (inl x) = inl (from_kept from up location a t x)
+    leads_kept from up s temps temps' vars vars' k (Located location) a t (inr x) = inr x
     leads_kept from up s temps temps' vars vars' k (Within temp path) a t x =
         let y = k.still temp x.value x.has in
         record {
@@ -349,11 +360,11 @@ module _ (table : List TypeDef) (blocks : Code BlockLine) (small : data_end tabl
 
     led_kept : (from : List Site) → ((r : Site) → AmongSites r from → AmongSites r sites) → (s : Site) (temps temps' : Temps) (vars vars' : Vars)
         → AmongSites s sites → Kept s temps temps' vars vars' → (t : ℕ) (there : Where) → IsNamed s (of_location t) → Away s (of_location t)
-        → IsLed table from w (call s temps vars) t there → IsLed table from w' (call s temps' vars') t there
+        → IsLed table blocks from w (call s temps vars) t there → IsLed table blocks from w' (call s temps' vars') t there
     led_kept from up s temps temps' vars vars' i k t there named away led = by (house s (of_location t)).alias refl led
       where
-        by : (a : Alias) → (house s (of_location t)).alias ≡ a → IsLedBy table a from w (call s temps vars) t there
-            → IsLedBy table a from w' (call s temps' vars') t there
+        by : (a : Alias) → (house s (of_location t)).alias ≡ a → IsLedBy table blocks a from w (call s temps vars) t there
+            → IsLedBy table blocks a from w' (call s temps' vars') t there
         by alias.Own own x = record {
           standing = x.standing;
           address = x.address;
@@ -376,7 +387,7 @@ module _ (table : List TypeDef) (blocks : Code BlockLine) (small : data_end tabl
     pub holding_kept : (from : List Site) (s : Site) (temps temps' : Temps) (vars vars' : Vars) → AmongSites s sites
         → ((r : Site) → AmongSites r from → AmongSites r sites)
         → Kept s temps temps' vars vars' → (s.level ≡ lo.level → New m' w' from (call s temps' vars'))
-        → Holding table m w from (call s temps vars) → Holding table m' w' from (call s temps' vars')
+        → Holding table blocks m w from (call s temps vars) → Holding table blocks m' w' from (call s temps' vars')
     holding_kept from s temps temps' vars vars' i up k new old = record {
       items = items;
       texts = texts;
@@ -406,10 +417,10 @@ module _ (table : List TypeDef) (blocks : Code BlockLine) (small : data_end tabl
             by (inl y) = (new y.0).text t behind bytes x y.1 text h
             by (inr away) = old.texts t behind bytes x named text (sym (k.texts t behind bytes named text away) ∙ h)
 
-        led : (t : ℕ) (there : Where) → IsNamed s (of_location t) → temps'.places t ≡ Some there → IsLed table from w' (call s temps' vars') t there
+        led : (t : ℕ) (there : Where) → IsNamed s (of_location t) → temps'.places t ≡ Some there → IsLed table blocks from w' (call s temps' vars') t there
         led t there named h = by (away_cases s (of_location t))
           where
-            by : ((s.level ≡ lo.level) × (of_location t ≡ e)) ⊎ Away s (of_location t) → IsLed table from w' (call s temps' vars') t there
+            by : ((s.level ≡ lo.level) × (of_location t ≡ e)) ⊎ Away s (of_location t) → IsLed table blocks from w' (call s temps' vars') t there
             by (inl y) = (new y.0).led t there y.1 named h
             by (inr away) = led_kept from up s temps temps' vars vars' i k t there named away (old.led t there named (sym (k.places t away) ∙ h))
 
@@ -436,7 +447,7 @@ module _ (table : List TypeDef) (blocks : Code BlockLine) (small : data_end tabl
     -- calls that wait
     pub all_kept : (cs : List Call) → ((s : Site) → AmongSites s (map site_of cs) → AmongSites s sites)
         → ((c : Call) (from : List Site) → AmongCalls c cs → c.site.level ≡ lo.level → New m' w' from c)
-        → AllHold table m w cs → AllHold table m' w' cs
+        → AllHold table blocks m w cs → AllHold table blocks m' w' cs
     all_kept [] i new all = tt
     all_kept (c ∷ cs) i new all = (
       holding_kept (map site_of (c ∷ cs)) c.site c.temps c.temps c.vars c.vars (i c.site (inl refl)) i (kept_same c.site c.temps c.vars)

@@ -1,5 +1,6 @@
 -- One text more is laid out, or none where it stands there already.
-use Rattle.std.proofs.Common.{◌≡◌, ◌∙◌, ℕ, ◌+◌, ◌-◌, Bool, true, false, List, [], ◌∷◌, ◌++◌, length, map, take, drop, min, Option, Some, None, refl, sym, ap, ap₂}
+use Rattle.std.proofs.Common.{◌≡◌, ◌∙◌, ℕ, ◌+◌, ◌-◌, Bool, true, false, List, [], ◌∷◌, ◌++◌, length, map, take, drop, min, Option, Some, None, refl, sym, ap}
+use Rattle.std.proofs.Common.{ap₂}
 use Rattle.std.proofs.Common.{append_assoc, append-nil, length-drop, arith}
 use Rattle.std.specs.Prelude.{is_some, if◌then◌else◌, slice_range}
 use Rattle.std.specs.HashMap.{get}
@@ -15,9 +16,10 @@ use Rattle.flat_code.specs.declared.line.Line.TheVariants as L
 use Rattle.flat_code.specs.declared.line.Piece.{Piece}
 use Rattle.flat_code.specs.declared.line.Piece.TheVariants as P
 use Rattle.flat_code.specs.Codes.{block_plain}
+use Rattle.flat_code.specs.Pieces.{standing_bytes}
 use Rattle.flat_code.specs.Sizes.{pieces_texts, texts_in, lines_texts, code_texts}
 use Rattle.word_lowering.specs.declared.laid_texts.Laying.{Laying}
-use Rattle.word_lowering.specs.Texts.{laid, place_among, texts_in as texts_in_code}
+use Rattle.word_lowering.specs.Texts.{padded, laid, place_among, texts_in as texts_in_code}
 use Rattle.word_lowering.specs.LaidTexts.{AreLaid, ArePut, pieces_before, line_before, lines_before, procs_before}
 use Rattle.word_lowering.proofs.DistinctTexts.{unique_has, no_place, nowhere}
 
@@ -53,11 +55,11 @@ module _ (texts : List (List ℕ)) (text : List ℕ) where
 
   -- one more, behind all
   pub laid_more : (old new : Laying) → AreLaid old texts → is_some (get same_text old.places text) ≡ false → new.lost ≡ old.lost →
-      new.bytes ≡ old.bytes ++ text →
+      new.bytes ≡ old.bytes ++ padded text →
       ((other : List ℕ) → get same_text new.places other ≡ (if same_text text other then Some (length old.bytes) else get same_text old.places other)) →
       AreLaid new (text ∷ texts)
   laid_more old new h absent kept more put = record {
-    bytes = λ e. more ∙ ap (λ bs. bs ++ text) (h.bytes (was e)) ∙ ap laid (sym (same e));
+    bytes = λ e. more ∙ ap (λ bs. bs ++ padded text) (h.bytes (was e)) ∙ ap laid (sym (same e));
     places = λ e other.
         put other
         ∙ ap₂ (λ n o. if same_text text other then Some n else o) (ap length (h.bytes (was e))) (h.places (was e) other)
@@ -92,6 +94,7 @@ pieces_are (P.Elements n ∷ pieces) met = pieces_are pieces met
 
 line_is : (line : Line) (met : List (List ℕ)) → line_before line met ≡ texts_in line ++ met
 line_is (L.Constant to how ty pieces) met = pieces_are pieces met
+line_is (L.Standing to ty pieces) met = ap (λ ts. standing_bytes pieces ∷ ts) (pieces_are pieces met)
 line_is (L.Apply to operation how ty of from) met = refl
 line_is (L.Construct to how ty fields from) met = refl
 line_is (L.Call to how ty proc from) met = refl

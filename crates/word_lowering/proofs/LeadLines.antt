@@ -62,7 +62,7 @@ module _ (x : Basis) (g : Both) (line : BlockLine) (rest : List BlockLine) (y : 
   module _ (to : ℕ) (there : Where) (vars : Vars)
       (others : (f : Name) (u : ℕ) → IsThere g.call.site f → f ≢ of_location to → (house g.call.site f).home ≡ Variable u → vars u ≡ g.call.vars u)
       (left : vars LEFT ≡ g.call.vars LEFT)
-      (leads_to : IsLed x.table (all_sites x g line rest y) g.world (call g.call.site (with_place to g.call.temps there) vars) to there) where
+      (leads_to : IsLed x.table x.blocks (all_sites x g line rest y) g.world (call g.call.site (with_place to g.call.temps there) vars) to there) where
     abbrev led_temps : Temps
     led_temps = with_place to g.call.temps there
 
@@ -89,9 +89,9 @@ module _ (x : Basis) (g : Both) (line : BlockLine) (rest : List BlockLine) (y : 
     led_new = record {
       item = λ u i h. absurd h;
       text = λ u n k w e a h. absurd (value_no_location u to e);
-      led = λ u other e n h. subst (λ k. IsLed x.table (all_sites x g line rest y) g.world (call g.call.site led_temps vars) k other)
+      led = λ u other e n h. subst (λ k. IsLed x.table x.blocks (all_sites x g line rest y) g.world (call g.call.site led_temps vars) k other)
           (sym (ap number_in e))
-          (subst (IsLed x.table (all_sites x g line rest y) g.world (call g.call.site led_temps vars) to) (same u other (ap number_in e) h) leads_to);
+          (subst (IsLed x.table x.blocks (all_sites x g line rest y) g.world (call g.call.site led_temps vars) to) (same u other (ap number_in e) h) leads_to);
       filled = λ n e h. absurd (location_no_place to n (sym e));
     }
       where
@@ -108,13 +108,13 @@ module _ (x : Basis) (g : Both) (line : BlockLine) (rest : List BlockLine) (y : 
 
   -- without code, as another name
   pub named_settles : (to : ℕ) (there : Where) (a : Alias) (work : ℕ) → (house g.call.site (of_location to)).alias ≡ a
-      → IsLedBy x.table a (all_sites x g line rest y) g.world (call g.call.site (with_place to g.call.temps there) g.call.vars) to there
+      → IsLedBy x.table x.blocks a (all_sites x g line rest y) g.world (call g.call.site (with_place to g.call.temps there) g.call.vars) to there
       → code_here x g line rest y ≡ code_next x g line rest y
       → Settles x (starts g line rest) rest (Passes (Answers [] work (with_place to g.call.temps there) g.world))
   named_settles to there a work is r none =
       stays_on x (starts g line rest) (changed g rest (with_place to g.call.temps there) g.call.vars g.memory g.words g.awaits g.world) rest
       (good_led to there g.call.vars (λ f u other ne home. refl) refl
-      (subst (λ b. IsLedBy x.table b (all_sites x g line rest y) g.world (call g.call.site (with_place to g.call.temps there) g.call.vars) to there)
+      (subst (λ b. IsLedBy x.table x.blocks b (all_sites x g line rest y) g.world (call g.call.site (with_place to g.call.temps there) g.call.vars) to there)
       (sym is) r) rest (stands_next x.table x.blocks (body_of g) line rest y.stands))
       work (with_place to g.call.temps there) g.world (ap (λ k. at (within x.table x.blocks g) g.memory k g.call.vars g.words) (sym none)) refl
       (omega arith)
@@ -166,7 +166,7 @@ module _ (x : Basis) (labels : LabelsLead x) (g : Both) (rest : List BlockLine) 
         filled = subst (λ l. Filled g.world l p) (sym s.level) (filled_there (slot_at g.world level p) h);
         is = ap (λ l. Located (root_of (Standing l p) g.world)) (sym s.level);
       }) refl)
-      (λ h. tt)
+      (λ h before. tt)
 
   pub fresh_line : (from : ℕ) → FollowedHere x labels g rest (L.Fresh to from)
   fresh_line from y =

@@ -12,6 +12,7 @@ mod Bodies
 mod CallBranches
 mod CallLabels
 mod CallLines
+mod CallPlaces
 mod CallRooms
 mod Callees
 mod CallerGets
@@ -28,6 +29,7 @@ mod ControlLines
 mod CountRuns
 mod DataEnd
 mod DataSizes
+mod DistinctTexts
 mod EachLine
 mod EchoLines
 mod ElementLines
@@ -37,8 +39,7 @@ mod EnterLines
 mod EnterRuns
 mod EntryNames
 mod Finding
-mod DistinctTexts
-mod LayingTexts
+mod FirstConstants
 mod FirstLiterals
 mod FirstMemory
 mod FirstNames
@@ -61,6 +62,8 @@ mod Keeping
 mod LabelFacts
 mod LabelsFirst
 mod LabelsHere
+mod LaidData
+mod LayingTexts
 mod LayoutBounds
 mod LeadLines
 mod LineFits
@@ -90,6 +93,7 @@ mod OrdinalChecks
 mod OrdinalRuns
 mod OutLines
 mod OutPlaces
+mod Padding
 mod Pairs
 mod PartLines
 mod PartRuns
@@ -119,7 +123,10 @@ mod ShapesApart
 mod Sites
 mod SitesApart
 mod SmallProcs
+mod SmallWords
 mod Sources
+mod StandingLines
+mod StandingWords
 mod StartPair
 mod StartState
 mod StoreLines

@@ -9,13 +9,15 @@ use Rattle.nim_program.specs.Ints.{fits as is_int_number}
 use Rattle.nim_program.specs.Kinds as kind
 use Rattle.nim_program.specs.Kinds.{element_of, has_length, TypeKind, declared_kind, kind_of, kind_if, is_int, is_bool, is_ordinal, is_of, same_value}
 use Rattle.nim_meaning.specs.Values.{Values, Nil, More, count, length_of, Value, Number, Parts, Handle, Fixed, Ref, Resource, Gone, Vacant, number_of}
-use Rattle.flat_code.specs.Shapes.{Shape, number, reference, block, elements, row, parts, resource, has_shape, is_ordinal as is_ordinal_value}
+use Rattle.flat_code.specs.Shapes.{Shape, number, reference, block, elements, row, parts, resource, has_shape, is_ordinal as is_ordinal_value, Shapes, no_shapes, shapes, are_all, are_rows, have_shapes}
 use Rattle.flat_code.specs.Shapes.{shape_by, shape_within}
-use Rattle.flat_code.specs.Shapes.{shape_of, are_rows}
+use Rattle.flat_code.specs.Shapes.{shape_of}
 use Rattle.word_lowering.proofs.ShapeFacts.{never, of_numbers}
 use Rattle.word_lowering.proofs.Options.{none_some}
 use Rattle.word_lowering.proofs.Sites.{is_one_word}
 use Rattle.word_lowering.proofs.Moves.{is_single}
+use Rattle.word_lowering.proofs.InMemory.{HasWords, HaveWords}
+use Rattle.word_lowering.proofs.Arithmetic.{word_small}
 
 -- ---- types that are equal
 
@@ -156,6 +158,38 @@ number_fits (Ref r) s h = refl
 number_fits (Resource vs i) s h = refl
 number_fits (Gone v f) s h = refl
 number_fits Vacant s h = refl
+
+-- so do those in it
+mutual
+  pub has_words : (v : Value) (s : Shape) → has_shape v s ≡ true → HasWords v
+  has_words (Number z) s h = word_small z (number_fits (Number z) s h)
+  has_words (Parts vs) (elements s) h = all_words vs s h
+  has_words (Parts vs) (row n s) h = row_words vs n s h
+  has_words (Parts vs) (parts ss) h = part_words vs ss h
+  has_words (Parts vs) (number values) h = never h
+  has_words (Parts vs) reference h = never h
+  has_words (Parts vs) block h = never h
+  has_words (Parts vs) (resource ss) h = never h
+  has_words (Handle n k) s h = tt
+  has_words (Fixed t) s h = tt
+  has_words (Ref r) s h = tt
+  has_words (Resource vs i) s h = tt
+  has_words (Gone v f) s h = tt
+  has_words Vacant s h = tt
+
+  all_words : (vs : Values) (s : Shape) → are_all vs s ≡ true → HaveWords vs
+  all_words Nil s h = tt
+  all_words (More v vs) s h = let p = and_parts _ _ h in (has_words v s p.0, all_words vs s p.1)
+
+  row_words : (vs : Values) (n : ℕ) (s : Shape) → are_rows vs n s ≡ true → HaveWords vs
+  row_words Nil n s h = tt
+  row_words (More v vs) zero s h = never h
+  row_words (More v vs) (suc n) s h = let p = and_parts _ _ h in (has_words v s p.0, row_words vs n s p.1)
+
+  part_words : (vs : Values) (ss : Shapes) → have_shapes vs ss ≡ true → HaveWords vs
+  part_words Nil ss h = tt
+  part_words (More v vs) no_shapes h = never h
+  part_words (More v vs) (shapes s ss) h = let p = and_parts _ _ h in (has_words v s p.0, part_words vs ss p.1)
 
 -- one of numbers is one word as its shape is
 pub single_is : (x : Value) (s : Shape) → of_numbers s ≡ true → has_shape x s ≡ true → is_single x ≡ is_one_word s

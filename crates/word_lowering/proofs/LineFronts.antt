@@ -321,6 +321,7 @@ line_front x (L.Get to from how site ty) own high plain = moves_front own 0 (cod
 line_front x (L.Look to from) own high plain = moves_front own 0 (code.value x to) (code.location x from)
 line_front x (L.Root to p global) own high plain = front_none own 0
 line_front x (L.Fresh to from) own high plain = front_none own 0
+line_front x (L.Standing to ty pieces) own high plain = record { is = λ k. refl; fine = tt }
 line_front x (L.Part to from field) own high plain =
     part_front own 0 (code.led x to) (code.location x from).home (part_at x.table (code.location x from).ty field)
 line_front x (L.Item to from index) own high plain =
@@ -368,6 +369,7 @@ kind_of (L.Get to from how site ty) = is_other tt refl
 kind_of (L.Look to from) = is_other tt refl
 kind_of (L.Root to p global) = is_other tt refl
 kind_of (L.Fresh to from) = is_other tt refl
+kind_of (L.Standing to ty pieces) = is_other tt refl
 kind_of (L.Part to from field) = is_other tt refl
 kind_of (L.Item to from index) = is_other tt refl
 kind_of (L.Object to from) = is_other tt refl

@@ -7,7 +7,7 @@ use Rattle.std.proofs.lemmas.Bool.{and_parts}
 use Rattle.arc_base.specs.Event.{Event}
 use Rattle.arc_base.specs.Behaviour.{no_objects}
 use Rattle.arc_base.specs.Stepping.{Next}
-use Rattle.arc_base.specs.Simulation.{Steps, Does, Pairs, AreOf}
+use Rattle.arc_base.specs.Simulation.{Does, Pairs, AreOf}
 use Rattle.rv32_isa.specs.Image.{stack_at}
 use Rattle.rv32_isa.specs.Machine.{Lives}
 use Rattle.nim_types.specs.declared.types.TypeDef.{TypeDef}
@@ -41,8 +41,8 @@ use Rattle.word_code.specs.Joined.{joined}
 use Rattle.word_code.specs.Routines.{HasData, IsKept}
 use Rattle.word_code.specs.RoutineTable.{RoutineName, Copies, Clears, Swaps, routine}
 use Rattle.word_code.specs.Memory.{Memory, as_state, may_put, own_data_at}
-use Rattle.word_code.specs.Words.{Vars, WordState, places_size, step}
-use Rattle.word_code.proofs.ForCallers.{MemoryLaw, Runs, none as no_run}
+use Rattle.word_code.specs.Words.{Vars, WordState, step, Fresh, step_of}
+use Rattle.word_code.proofs.ForCallers.{MemoryLaw, Runs}
 use Rattle.nim_meaning.specs.Deeds.{Answers}
 use Rattle.flat_code.specs.Scene.{Temps, Did, Passes, Known, known_in}
 use Rattle.flat_code.specs.Lines.{using}
@@ -65,18 +65,28 @@ use Rattle.word_lowering.proofs.Keeping.{AmongCalls, call, Edit, nowhere, Worlds
 use Rattle.word_lowering.proofs.OrdinalRuns.{AllSame}
 use Rattle.word_lowering.proofs.Callees.{Callee}
 use Rattle.word_lowering.proofs.Related.{Both, body_of, called_by, sites_of, with_rest, procs, low, high, IsClosed, routines, MemoryGood}
-use Rattle.word_lowering.proofs.Related.{StandAt, AllFrames, Good}
+use Rattle.word_lowering.proofs.Related.{StandAt, AllFrames, Good, StandsThere}
+use Rattle.rv32_isa.specs.Regions.{KeepsSizes}
+use Rattle.arc_base.proofs.ForCallers.{steps_none}
+use Rattle.flat_code.specs.declared.line.Piece.{Piece}
+use Rattle.word_lowering.proofs.SmallWords.{AllSmall}
+use Rattle.flat_code.specs.Pieces.{piece_words, standing_bytes}
+use Rattle.std.specs.Set.{is_member}
+use Rattle.nim_types.specs.Types.{same_text}
+use Rattle.flat_code.specs.Sizes.{code_texts}
 
 -- what stays the same in all runs of a code
 pub record Basis : Type 0 where
   pub live : Lives
+  -- the bytes that nobody has written of places which come
+  pub fresh : Fresh
   pub table : List TypeDef
   pub blocks : Code BlockLine
   pub first : Memory
   pub law : MemoryLaw
   pub small : data_end table blocks ≤ MOST_DATA
-  pub places : stack_at + places_size (procs table blocks) < 2 ^ 32
-  pub enough : (sites : List Site) → Linked table blocks sites → next_base sites ≤ stack_at + places_size (procs table blocks)
+  -- the places of active calls, and behind them those for arguments, are within the machine's stack
+  pub within : (sites : List Site) → Linked table blocks sites → next_base sites + SPARE_ROOM ≤ stack_at + 268435456
   -- what a type starts at has its shape
   pub defaults : (ty : ℕ) → has_shape (default_of (facts_in table) (type_at (types_in table) ty)) (shape_of (facts_in table) (type_at (types_in table) ty))
       ≡ true
@@ -113,19 +123,21 @@ pub record Basis : Type 0 where
       × (shape_of (facts_in table) (type_at (types_in table) from) ≡ number other))
   pub limits : (ty : ℕ) → limit_at table (Some ty) ≡ limit_of (facts_in table) (type_at (types_in table) ty)
   pub none : (m : Memory) → live (as_state m) ≡ no_objects
-  -- procedures that may be called, and room for the arguments of one more call
+  -- procedures that may be called
   pub callees : (proc : ℕ) (s : Signature) → slice_get (sigs table blocks) proc ≡ Some s → Callee table blocks proc s
-  pub spare : (sites : List Site) → Linked table blocks sites → next_base sites + SPARE_ROOM ≤ stack_at + places_size (procs table blocks)
   -- routines keep what they promise, and have their data at the start
   pub runtime : WordCode
   pub kept : (name : RoutineName) → IsKept live (joined (lowered table blocks) runtime).procs (routines table blocks) runtime.statics
       (routine (routines table blocks) name)
-  pub given : HasData (routines table blocks) runtime.statics first
+  pub given : (places : List ℕ) → HasData (routines table blocks) runtime.statics (record first { places = places })
   pub globals_inside : data_end table blocks ≤ length (lowered table blocks).statics
   pub data_most : length (lowered table blocks).statics ≤ MOST_DATA
   pub given_closed : IsClosed table blocks (routines table blocks + SCRATCH_BYTES) (length (drop SCRATCH_BYTES runtime.statics))
+  -- the constants that stand in the data
+  pub constants : (pieces : List Piece) → AllSmall (piece_words pieces)
+      → is_member same_text (code_texts block_plain blocks.procs) (standing_bytes pieces) ≡ true → StandsThere table blocks first pieces
   -- a character may be put at the front of the data
-  pub letter : may_put first own_data_at Byte ≡ true
+  pub letter : (places : List ℕ) → may_put (record first { places = places }) own_data_at Byte ≡ true
 
 -- a program's procedures and those of routines
 abbrev pub all_procs : Basis → List WordProc
@@ -135,17 +147,25 @@ abbrev pub reaches : (x : Basis) → Reaches x.live (all_procs x) (routines x.ta
 reaches x = record { copies = x.kept Copies; clears = x.kept Clears; swaps = x.kept Swaps }
 
 -- where memory is good, the data of routines is there, and a character may be put
-module _ (x : Basis) (m : Memory) (good : MemoryGood x.table x.blocks x.first m) where
+module _ (x : Basis) (sites : List Site) (m : Memory) (good : MemoryGood x.table x.blocks sites x.first m) where
+  -- the memory at the start, with these places
+  abbrev pub with_these : Memory
+  with_these = record x.first { places = m.places }
+
+  pub same_sizes : KeepsSizes (as_state with_these) (as_state m)
+  same_sizes = record { regs = refl; pc = refl; code = refl; statics = good.statics; heap = good.heap; stack = refl }
+
   pub data_there : HasData (routines x.table x.blocks) x.runtime.statics m
   data_there =
       let at : ℕ = routines x.table x.blocks in record {
-        scratch = x.law.stores (as_state x.first) (as_state m) at SCRATCH_BYTES good.sizes ∙ x.given.scratch;
-        fixed = good.texts (at + SCRATCH_BYTES) (length (drop SCRATCH_BYTES x.runtime.statics)) (x.given_closed, inr (omega arith)) ∙ x.given.fixed;
+        scratch = x.law.stores (as_state with_these) (as_state m) at SCRATCH_BYTES same_sizes ∙ (x.given m.places).scratch;
+        fixed = good.texts (at + SCRATCH_BYTES) (length (drop SCRATCH_BYTES x.runtime.statics)) (x.given_closed, inr (omega arith))
+            ∙ (x.given x.first.places).fixed;
       }
 
   pub letter_there : may_put m own_data_at Byte ≡ true
   letter_there =
-      ap (λ b. (own_data_at % 1 == 0) && b) (x.law.stores (as_state x.first) (as_state m) own_data_at 1 good.sizes) ∙ x.letter
+      ap (λ b. (own_data_at % 1 == 0) && b) (x.law.stores (as_state with_these) (as_state m) own_data_at 1 same_sizes) ∙ x.letter m.places
 
 -- ---- where lines stand
 
@@ -185,14 +205,20 @@ module _ (x : Basis) where
   abbrev pub IsGood : Both → Type 0
   IsGood g = Good x.table x.blocks x.first g
 
+  -- with the number of lines of word code that were done
   abbrev pub Pair : Type 0
-  Pair = (g : Both) × IsGood g
+  Pair = (g : Both) × IsGood g × ℕ
 
-  abbrev pub pairs : Pairs Pair WordState (Machine BlockLine)
-  pairs = record { low = λ y. low x.table x.blocks y.0; high = λ y. high x.table x.blocks y.0 }
+  abbrev pub pairs : Pairs Pair (ℕ × WordState) (Machine BlockLine)
+  pairs = record { low = λ y. (y.2, low x.table x.blocks y.0); high = λ y. high x.table x.blocks y.0 }
 
-  abbrev pub lower : WordState → Next Event WordState
+  -- a line of word code, where new places have these bytes
+  abbrev pub lower : List ℕ → WordState → Next Event WordState
   lower = step x.live (all_procs x)
+
+  -- where they have those that nobody has written
+  abbrev pub machine : ℕ × WordState → Next Event (ℕ × WordState)
+  machine = step_of x.live (all_procs x) x.fresh
 
   abbrev pub known : Known
   known = known_in x.table
@@ -201,7 +227,7 @@ module _ (x : Basis) where
   lines_left m = length m.now.rest
 
   abbrev pub Follows : Both → Next Event (Machine BlockLine) → Type 0
-  Follows g n = Does lower (AreOf pairs) lines_left 16 (low x.table x.blocks g) (high x.table x.blocks g) n
+  Follows g n = (before : ℕ) → Does machine (AreOf pairs) lines_left 16 (before, low x.table x.blocks g) (high x.table x.blocks g) n
 
   abbrev pub Settles : Both → List BlockLine → Did → Type 0
   Settles g rest d = Follows g (settled block_label (block_does known) (procs_of known x.blocks) (high x.table x.blocks g) rest d)
@@ -210,12 +236,12 @@ module _ (x : Basis) where
 
   pub using_settles : {A : Type 0} (g : Both) (rest : List BlockLine) (o : Option A) (go : A → Did)
       → ((a : A) → o ≡ Some a → Settles g rest (go a)) → Settles g rest (using o go)
-  using_settles g rest None go h = tt
+  using_settles g rest None go h = λ before. tt
   using_settles g rest (Some a) go h = h a refl
 
   pub mapped_settles : {A B : Type 0} (g : Both) (rest : List BlockLine) (o : Option A) (f : A → B) (go : B → Did)
       → ((a : A) → o ≡ Some a → Settles g rest (go (f a))) → Settles g rest (using (option_map f o) go)
-  mapped_settles g rest None f go h = tt
+  mapped_settles g rest None f go h = λ before. tt
   mapped_settles g rest (Some a) f go h = h a refl
 
   pub all_settles : (g : Both) (rest : List BlockLine) (temps : Temps) (from : List From) (go : List Operand → Did)
@@ -234,26 +260,24 @@ module _ (x : Basis) where
   pub goes_on : (g g' : Both) (rest : List BlockLine) (good : IsGood g') (n w : ℕ) (temps : Temps) (world : World)
       → Runs x.live (all_procs x) n (low x.table x.blocks g) (low x.table x.blocks g') → 0 < n → n ≤ 16 * w
       → high x.table x.blocks g' ≡ onward (high x.table x.blocks g) rest temps world → Settles g rest (Passes (Answers [] w temps world))
-  goes_on g g' rest good n w temps world runs some few e = (
-    low x.table x.blocks g',
-    n,
-    record { work = runs.work; within = omega (arith, runs.within, few); by = runs.by },
-    ((g', good), refl, e),
-    inl some,
-  )
-
-  none_most : (s : WordState) (most : ℕ) → Steps lower 0 s [] most s
-  none_most s most = let n = no_run lower s in record { work = n.work; within = omega (arith, n.within); by = n.by }
+  goes_on g g' rest good n w temps world runs some few e = λ before.
+      let r = runs.by x.fresh before in (
+        (r.0, low x.table x.blocks g'),
+        n,
+        record { work = r.1.work; within = omega (arith, r.1.within, few); by = r.1.by },
+        ((g', good, r.0), refl, e),
+        inl some,
+      )
 
   -- no line at all
   pub stays_on : (g g' : Both) (rest : List BlockLine) (good : IsGood g') (w : ℕ) (temps : Temps) (world : World)
       → low x.table x.blocks g' ≡ low x.table x.blocks g → high x.table x.blocks g' ≡ onward (high x.table x.blocks g) rest temps world
       → length rest < length g.rest → Settles g rest (Passes (Answers [] w temps world))
-  stays_on g g' rest good w temps world same e less = (
-    low x.table x.blocks g,
+  stays_on g g' rest good w temps world same e less = λ before. (
+    (before, low x.table x.blocks g),
     0,
-    none_most (low x.table x.blocks g) (16 * w),
-    ((g', good), same, e),
+    steps_none machine (before, low x.table x.blocks g) (16 * w),
+    ((g', good, before), ap (λ s. (before, s)) same, e),
     inr less,
   )
 
@@ -264,7 +288,7 @@ module _ (x : Basis) where
     all_sites = sites_of g
 
     pub good_changed : (after : List BlockLine) (lo : Site) (e : Name) (temps : Temps) (vars : Vars) (m : Memory) (words : Vars) (awaits : ℕ) (w : World)
-        → MemoryGood x.table x.blocks x.first m
+        → MemoryGood x.table x.blocks all_sites x.first m
         → Edit x.table x.blocks x.small all_sites y.linked lo e g.memory m
         → Worlds x.table x.blocks x.small all_sites y.linked lo e g.world w
         → Kept x.table x.blocks x.small all_sites y.linked lo e g.call.site g.call.temps temps g.call.vars vars
@@ -302,7 +326,7 @@ module _ (x : Basis) where
 
     -- where no variable of a place changes
     pub holding_same : (vars : Vars) → AllSame g.call.vars vars
-        → Holding x.table g.memory g.world all_sites (call g.call.site g.call.temps vars)
+        → Holding x.table x.blocks g.memory g.world all_sites (call g.call.site g.call.temps vars)
     holding_same vars same =
         holding_kept x.table x.blocks x.small all_sites y.linked above (of_value 0) g.memory g.memory (nowhere refl) g.world g.world
         (worlds_same x.table x.blocks x.small all_sites y.linked above (of_value 0) g.world) all_sites g.call.site g.call.temps g.call.temps

@@ -1,5 +1,5 @@
 -- What is at locations.
-use Rattle.std.proofs.Common.{◌≡◌, ◌⊎◌, inl, inr, ℕ, ◌+◌, List, [], ◌∷◌, map, Some, true, false, sym, ap, subst, ◌∙◌, arith}
+use Rattle.std.proofs.Common.{◌≡◌, ◌⊎◌, inl, inr, ℕ, ◌+◌, ◌-◌, ◌%◌, ◌≤◌, List, [], ◌∷◌, map, Some, true, false, sym, ap, subst, ◌∙◌, arith}
 use Rattle.std.proofs.lemmas.Bool.{cases_Bool}
 use Rattle.nim_meaning.specs.Values.{Value, bytes, Location, Holds, part}
 use Rattle.nim_meaning.specs.State.{World, held, whole_at, load, slot_at}
@@ -8,7 +8,7 @@ use Rattle.word_code.specs.Words.{Vars}
 use Rattle.flat_code.specs.Scene.{Where, Located, Within, Temps, if_value, location_at}
 use Rattle.flat_code.specs.Shapes.{Shape, has_shape}
 use Rattle.flat_code.specs.Fits.{is_own}
-use Rattle.word_lowering.proofs.ShapeFacts.{never, of_numbers, bytes_is}
+use Rattle.word_lowering.proofs.ShapeFacts.{never, of_numbers, bytes_is, values_of_numbers}
 use Rattle.word_lowering.specs.declared.texts.TheConstants.{FIXED_BYTES}
 use Rattle.word_lowering.specs.Layouts.{is_address}
 use Rattle.word_lowering.proofs.InMemory.{IsAt, of_numbers as are_numbers}
@@ -16,11 +16,17 @@ use Rattle.word_lowering.proofs.PartsInMemory.{offset, part_within, offset_whole
 use Rattle.word_lowering.proofs.ShapePaths.{PathTo, path_in, path_numbers}
 use Rattle.word_lowering.proofs.Sites.{room, Housing, in_variable, by_address, in_places, in_data, InMemory, Site, AmongSites, data_end, Linked}
 use Rattle.word_lowering.proofs.Scenes.{address_of, Name, of_value, of_place, Call, site_of, house, HasValue, IsThere, looked, IsItem, FromPlace, FromValue}
-use Rattle.word_lowering.proofs.Scenes.{Filled, Leads, Holding, AllHold}
+use Rattle.word_lowering.proofs.Scenes.{Filled, FromConstant, standing_from, Leads, Holding, AllHold}
 use Rattle.word_lowering.proofs.SitesApart.{houses, site_at}
 use Rattle.word_lowering.proofs.Keeping.{declared_address, from_memory}
 use Rattle.word_lowering.proofs.Lines.{Basis}
-use Rattle.word_lowering.proofs.Sources.{Lying, address_whole}
+use Rattle.word_lowering.proofs.Sources.{Lying, Readable, lying_readable, text_readable, address_whole}
+use Rattle.word_lowering.proofs.StandingWords.{words_still, cell_still}
+use Rattle.word_lowering.proofs.Related.{MemoryGood, text_part}
+use Rattle.word_lowering.proofs.SmallWords.{AllSmall, small_words}
+use Rattle.word_lowering.proofs.PieceWords.{WordsAt, room_of, words_room, words_are, by_words}
+use Rattle.flat_code.specs.Pieces.{value_of, piece_words}
+use Rattle.word_code.specs.RoutineTable.{Cell}
 
 module _ (x : Basis) (sites : List Site) (linked : Linked x.table x.blocks sites) where
   -- a value at an address: it is there, looks as it should, and lies within a place
@@ -29,6 +35,21 @@ module _ (x : Basis) (sites : List Site) (linked : Linked x.table x.blocks sites
     pub shaped : has_shape v t ≡ true
     pub numbers : of_numbers t ≡ true
     pub lying : Lying x sites linked a (bytes v)
+
+  -- a value at an address that may be read
+  pub record IsReadAt (m : Memory) (v : Value) (a : ℕ) (t : Shape) : Type 0 where
+    pub is_at : IsAt m a v
+    pub shaped : has_shape v t ≡ true
+    pub numbers : of_numbers t ≡ true
+    pub readable : Readable x sites linked m a (bytes v)
+
+  pub read_there : (m : Memory) (v : Value) (a : ℕ) (t : Shape) → MemoryGood x.table x.blocks sites x.first m → IsThereAt m v a t → IsReadAt m v a t
+  read_there m v a t good at = record {
+    is_at = at.is_at;
+    shaped = at.shaped;
+    numbers = at.numbers;
+    readable = lying_readable x sites linked m a (bytes v) good at.lying;
+  }
 
   -- a part of a value that is in memory
   pub part_there : (m : Memory) (c : Call) (f : Name) (v : Value) (path : List ℕ) (o : ℕ) (a : ℕ) (t : Shape) → AmongSites c.site sites
@@ -84,9 +105,9 @@ module _ (x : Basis) (sites : List Site) (linked : Linked x.table x.blocks sites
     pub call : Call
     pub site : call.site ≡ s
     pub from : List Site
-    pub holding : Holding x.table m w from call
+    pub holding : Holding x.table x.blocks m w from call
 
-  pub call_at : (m : Memory) (w : World) (cs : List Call) (s : Site) → AllHold x.table m w cs → AmongSites s (map site_of cs)
+  pub call_at : (m : Memory) (w : World) (cs : List Call) (s : Site) → AllHold x.table x.blocks m w cs → AmongSites s (map site_of cs)
       → CallAt m w s
   call_at m w [] s all i = absurd i
   call_at m w (c ∷ cs) s all (inl e) = record { call = c; site = e; from = map site_of (c ∷ cs); holding = all.0 }
@@ -104,7 +125,7 @@ module _ (x : Basis) (sites : List Site) (linked : Linked x.table x.blocks sites
       → InMemory (house s (of_place n)).home → RootAt m w s n
   root_at m w s n i k filled there inside = by k.call k.site k.holding
     where
-      by : (c : Call) → c.site ≡ s → Holding x.table m w k.from c → RootAt m w s n
+      by : (c : Call) → c.site ≡ s → Holding x.table x.blocks m w k.from c → RootAt m w s n
       by c e h =
           let was : Filled w c.site.level n = subst (λ z. Filled w z.level n) (sym e) filled in
           let here : IsThere c.site (of_place n) = subst (λ z. IsThere z (of_place n)) (sym e) there in
@@ -131,10 +152,44 @@ module _ (x : Basis) (sites : List Site) (linked : Linked x.table x.blocks sites
     value_located c temp path a t i items f v e =
         part_there m c (of_value temp) v path f.offset a t i (items (of_value temp) v f.there e) f.home f.leads f.address
 
+    -- a part of a constant
+    constant_located : MemoryGood x.table x.blocks sites x.first m → (location : Location) (a : ℕ) (t : Shape) → FromConstant x.table x.blocks location a t
+        → IsReadAt m (load w location) a t
+    constant_located good location a t f =
+        let v : Value = value_of f.pieces in
+        let numbers = values_of_numbers v f.shape f.numbers f.shaped in
+        let words = words_are f.pieces f.one in
+        let there = x.constants f.pieces (subst AllSmall (sym words) (small_words v f.shape f.numbers f.shaped)) f.among in
+        let base : ℕ = standing_from x.table x.blocks f.pieces in
+        let at = by_words m base v numbers (subst (WordsAt m base) words (words_still x sites m good base (piece_words f.pieces) there.is_text there.words)) in
+        let room : room_of (piece_words f.pieces) ≡ bytes v = ap room_of words ∙ words_room v numbers in
+        let p = path_in v f.shape location.path f.offset t f.numbers f.shaped f.path in
+        let address : base + offset v location.path ≡ a = ap (λ n. base + n) p.1 ∙ sym f.address in
+        let within = part_within v location.path numbers p.0 in
+        let whole : a % 4 ≡ 0 = let h = there.whole in let i = offset_whole v location.path in omega (arith, address, h, i) in
+        let text = text_part x.table x.blocks base (room_of (piece_words f.pieces)) a (bytes (part v location.path)) there.is_text
+        (omega (arith, address)) (omega (arith, address, within, room)) in
+        subst (λ y. IsReadAt m (part (whole_at w y) location.path) a t) (sym f.base) (record {
+          is_at = subst (λ n. IsAt m n (part v location.path)) address (part_at m base v location.path p.0 at);
+          shaped = p.2;
+          numbers = path_numbers f.shape location.path f.offset t f.numbers f.path;
+          readable = text_readable x sites linked m a (bytes (part v location.path)) good text whole (λ b low high is.
+              cell_still x sites m good b (text_part x.table x.blocks a (bytes (part v location.path)) b 4 text low high)
+              (subst (Cell x.first) (from_base b (omega (arith, low, address)))
+              (there.cells (b - base) (omega (arith, address, within, room, low, high)) (let h = there.whole in omega (arith, h, is, low, address)))));
+        })
+      where
+        from_base : (b : ℕ) → standing_from x.table x.blocks f.pieces ≤ b
+            → standing_from x.table x.blocks f.pieces + (b - standing_from x.table x.blocks f.pieces) ≡ b
+        from_base b low = omega (arith, low)
+
     -- what a line reads at a location
-    pub led_located : (c : Call) → AmongSites c.site sites
+    pub led_located : MemoryGood x.table x.blocks sites x.first m → (c : Call) → AmongSites c.site sites
         → ((f : Name) (v : Value) → IsThere c.site f → HasValue w c f v → IsItem x.table m c f v)
-        → (there : Where) (a : ℕ) (t : Shape) → Leads x.table sites w c.site c.temps there a t → IsThereAt m (load w (location_at c.temps there)) a t
-    led_located c i items (Located location) a t l = place_located location a t l
-    led_located c i items (Within temp path) a t l =
-        subst (λ o. IsThereAt m (part (if_value o) path) a t) (sym l.has) (value_located c temp path a t i items l l.value l.has)
+        → (there : Where) (a : ℕ) (t : Shape) → Leads x.table x.blocks sites w c.site c.temps there a t
+        → IsReadAt m (load w (location_at c.temps there)) a t
+    led_located good c i items (Located location) a t (inl l) = read_there m (load w location) a t good (place_located location a t l)
+    led_located good c i items (Located location) a t (inr l) = constant_located good location a t l
+    led_located good c i items (Within temp path) a t l =
+        subst (λ o. IsReadAt m (part (if_value o) path) a t) (sym l.has)
+        (read_there m (part l.value path) a t good (value_located c temp path a t i items l l.value l.has))

@@ -47,7 +47,7 @@ module _ (x : Basis) (g : Both) (line : BlockLine) (rest : List BlockLine) (y : 
           subst (λ b. HousedAs (named (around x.table x.blocks (body_of g)) b (house g.call.site (of_location t))) (own_type t)) (sym is) h
 
       by : (a : Alias) → (house g.call.site (of_location t)).alias ≡ a
-          → IsLedBy x.table a (all_sites x g line rest y) g.world g.call t there
+          → IsLedBy x.table x.blocks a (all_sites x g line rest y) g.world g.call t there
           → HousedAs (location (around x.table x.blocks (body_of g)) t) (own_type t)
       by alias.Own is r =
           let there_is : IsThere g.call.site (of_location t) = record { among = n.among; number = n.number; kind = n.kind; own = is } in

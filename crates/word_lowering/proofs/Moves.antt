@@ -21,7 +21,7 @@ use Rattle.word_code.specs.Routines.{HasData}
 use Rattle.word_lowering.specs.declared.homes.Housed.{Housed}
 use Rattle.word_lowering.specs.Spots.{address, copied, moved, moves, passes, zeros, cleared, clears, starts}
 use Rattle.word_lowering.specs.Operations.{word}
-use Rattle.word_lowering.proofs.InMemory.{IsAt, AllZero, bytes_whole, parts_some, carried, zero_at}
+use Rattle.word_lowering.proofs.InMemory.{IsAt, AllZero, bytes_whole, parts_some, zero_at, copied_there, HasWords, HaveWords}
 use Rattle.word_lowering.proofs.RoutineCalls.{awaiting, Reaches, copy_called, clear_called}
 use Rattle.word_lowering.proofs.OrdinalRuns.{put_here as var_here, put_low, put_other, AllBut, AllSame, but_one}
 use Rattle.word_lowering.proofs.Scenes.{Points}
@@ -55,6 +55,10 @@ is_single x = false
 
 abbrev pub single_word : Value → ℕ
 single_word x = word (number_of x)
+
+pub single_small : (v : Value) → HasWords v → single_word v < 2 ^ 32
+single_small (Number z) small = small
+single_small v small = omega arith
 
 -- the variables that spots name are those of places, and a variable holds one word
 abbrev pub IsHigh : Home → Type 0
@@ -240,11 +244,11 @@ module _ (law : MemoryLaw) (live : Lives) (procs : List WordProc) (c : Within) (
           runs = then_runs live procs (then_runs live procs r1 r2) (then_runs live procs r3 r4);
         }
 
-    pub parts_to_memory : (own : ℕ) (statics : List ℕ) → Reaches live procs own statics → HasData own statics m → (vs : Values)
+    pub parts_to_memory : (own : ℕ) (statics : List ℕ) → Reaches live procs own statics → HasData own statics m → (vs : Values) → HaveWords vs
         → IsArea m a (bytes (Parts vs)) → a + bytes (Parts vs) < 2 ^ 32 → (other : Home) → IsBehind other
         → (source : From m c.base v (Lies other) (Parts vs)) → Separate a source.0 (bytes (Parts vs))
         → ToMemory m (moved false (bytes (Parts vs)) (Lies home) (Lies other) k) v a (Parts vs) (10 + 2 * bytes (Parts vs)) k
-    parts_to_memory own statics reaches data_there vs area near other less source apart = by (bytes (Parts vs)) refl
+    parts_to_memory own statics reaches data_there vs small area near other less source apart = by (bytes (Parts vs)) refl
         (words_of (bytes (Parts vs)) (bytes_whole (Parts vs)) (parts_some vs))
       where
         b : ℕ
@@ -276,7 +280,7 @@ module _ (law : MemoryLaw) (live : Lives) (procs : List WordProc) (c : Within) (
               same = same_more v v1 w (same_first v a) (same_more v1 v2 w (same_second v1 b)
                   (same_more v2 (put v2 THIRD (4 * suc j)) w (same_third v2 (4 * suc j)) (same_first (put v2 THIRD (4 * suc j)) r3.word)));
               changed = subst (Changed m r3.memory a) all copy.changed;
-              there = carried m r3.memory b a (Parts vs) (λ o within is_whole. copy.same o (omega (arith, within, all)) is_whole) source.2;
+              there = copied_there m r3.memory b a (Parts vs) small (λ o within is_whole. copy.same o (omega (arith, within, all)) is_whole) source.2;
               steps = 2 + (4 + r3.steps);
               some = omega arith;
               few = omega (arith, size, is, few);

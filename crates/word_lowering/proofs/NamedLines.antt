@@ -425,6 +425,7 @@ module _ (vars : ℕ) (many : OWN_FROM ≤ vars) where
     line_named (L.Look to from) label k = moves_named (lines.value x to) (lines.location x from) (value_below to) (location_below from) k
     line_named (L.Root to p global) label k = k
     line_named (L.Fresh to from) label k = k
+    line_named (L.Standing to ty pieces) label k = named.datum vars many (led_below to) k
     line_named (L.Part to from field) label k = part_named _ _ _ (led_below to) (location_below from) k
     line_named (L.Item to from index) label k =
         named.constant vars many (first_is vars many) (named.branch vars many (held_below index) (first_is vars many)

@@ -5,7 +5,7 @@ use Rattle.std.proofs.Common.{Option, Some, None, slice_get, ◌==◌, refl, ap,
 use Rattle.std.proofs.lemmas.Bool.{and_parts, and_from, or_from, le-leb, leb-true, eq-eqb, ne_eqb}
 use Rattle.nim_types.specs.declared.types.TypeDef.{TypeDef}
 use Rattle.nim_program.specs.Traps.{Trap, Overflow, DivisionByZero, IndexOutOfBounds, OutOfRange, LengthChanged, CallDepth}
-use Rattle.word_code.specs.declared.word.TheConstants.{MOST_ARGUMENTS, MOST_VARIABLES}
+use Rattle.word_code.specs.declared.word.TheConstants.{MOST_ARGUMENTS, MOST_VARIABLES, SPARE_ROOM}
 use Rattle.nim_program.specs.declared.program.HookOf.{HookOf}
 use Rattle.flat_code.specs.declared.line.Line.{Line}
 use Rattle.flat_code.specs.declared.block.BlockLine.{BlockLine}
@@ -32,7 +32,7 @@ use Rattle.word_lowering.specs.Lowered as code
 use Rattle.word_code.specs.RoutineTable.{trap_number}
 use Rattle.word_lowering.specs.Operations.{trap_label}
 use Rattle.word_lowering.specs.Texts.{texts_in}
-use Rattle.word_lowering.specs.MayLower.{params_lead, all_plain, hook_may, places_may, sizes_may, proc_may, procs_may, may_lower}
+use Rattle.word_lowering.specs.MayLower.{params_lead, all_plain, hook_may, places_may, sizes_may, proc_may, procs_may, may_lower, result_end}
 use Rattle.word_lowering.proofs.HomesApart.{Each, each_as, grows_all}
 use Rattle.word_lowering.proofs.LayoutBounds.{IsBelow, IsParamBelow, IsGlobalBelow, IfHoused, bound_more}
 use Rattle.word_lowering.proofs.LayoutBounds.{room_whole, all_below, kept_within, params_below, globals_below, result_each}
@@ -93,6 +93,7 @@ pub record Fits (own : Layout) (p : CodeProc BlockLine) : Type 0 where
   pub room : own.free.byte ≤ MOST_ROOM
   pub vars : own.free.variable ≤ MOST_VARS
   pub arguments : OWN_FROM + kept_in (params_in own.all) ≤ MOST_ARGUMENTS
+  pub handed : result_end (result_in own.all) ≤ SPARE_ROOM
 
 pub fits_by : (table : List TypeDef) (own : Layout) (p : CodeProc BlockLine) → proc_may table own p ≡ true → Fits own p
 fits_by table own p h =
@@ -101,14 +102,18 @@ fits_by table own p h =
     let places = and_parts (params_lead p.places) (all_plain table own.all && hook_may p.hook) forms.0 in
     let plain = and_parts (all_plain table own.all) (hook_may p.hook) places.1 in
     let sizes = and_parts (nat_le own.free.byte MOST_ROOM) _ both.1 in
-    let spare = and_parts _ (nat_le own.free.variable MOST_VARS && nat_le (OWN_FROM + kept_in (params_in own.all)) MOST_ARGUMENTS) sizes.1 in
-    let vars = and_parts (nat_le own.free.variable MOST_VARS) (nat_le (OWN_FROM + kept_in (params_in own.all)) MOST_ARGUMENTS) spare.1 in
+    let spare = and_parts _ (nat_le own.free.variable MOST_VARS && (nat_le (OWN_FROM + kept_in (params_in own.all)) MOST_ARGUMENTS
+    && nat_le (result_end (result_in own.all)) SPARE_ROOM)) sizes.1 in
+    let vars = and_parts (nat_le own.free.variable MOST_VARS) (nat_le (OWN_FROM + kept_in (params_in own.all)) MOST_ARGUMENTS
+    && nat_le (result_end (result_in own.all)) SPARE_ROOM) spare.1 in
+    let passed = and_parts (nat_le (OWN_FROM + kept_in (params_in own.all)) MOST_ARGUMENTS) (nat_le (result_end (result_in own.all)) SPARE_ROOM) vars.1 in
     record {
       lead = places.0;
       hook = plain.1;
       room = leb-true own.free.byte MOST_ROOM sizes.0;
       vars = leb-true own.free.variable MOST_VARS vars.0;
-      arguments = leb-true (OWN_FROM + kept_in (params_in own.all)) MOST_ARGUMENTS vars.1;
+      arguments = leb-true (OWN_FROM + kept_in (params_in own.all)) MOST_ARGUMENTS passed.0;
+      handed = leb-true (result_end (result_in own.all)) SPARE_ROOM passed.1;
     }
 
 kind_fits : (start : Bool) (hook : Option HookOf) → hook_may hook ≡ true → is_kind (code.kind_in start hook) ≡ true

@@ -33,10 +33,11 @@ use Rattle.word_lowering.proofs.Scenes.{of_place, of_value, StandsFor}
 use Rattle.word_lowering.proofs.ShapeFacts.{never}
 use Rattle.word_lowering.proofs.Sites.{Housing, by_address, in_data, in_places, in_variable, data_end, InMemory, Linked, room, Site}
 use Rattle.word_lowering.proofs.SitesApart.{houses}
+use Rattle.word_code.specs.Memory.{Memory}
 
 module _ (x : Basis) (g : Both) (line : BlockLine) (rest : List BlockLine) (y : IsGood x (starts g line rest)) {proc : ℕ} {s : Signature}
-    (c : Callee x.table x.blocks proc s) (slots : List Slot)
-    (gave : Gave x.table g.memory (sites_of g) g.world g.words (g.call.site.base + room (body_of g)) slots (params_in c.body.own.all))
+    (c : Callee x.table x.blocks proc s) (m : Memory) (slots : List Slot)
+    (gave : Gave x.table m (sites_of g) g.world g.words (g.call.site.base + room (body_of g)) slots (params_in c.body.own.all))
     (left : ℕ) (e : g.call.site.left ≡ suc left) where
   abbrev all : List Housed
   all = c.body.own.all
@@ -75,7 +76,7 @@ module _ (x : Basis) (g : Both) (line : BlockLine) (rest : List BlockLine) (y : 
   -- ---- frames
 
   pub params_long : length slots ≡ length (params_in all)
-  params_long = given_long x.table g.memory (sites_of g) g.world g.words (g.call.site.base + room (body_of g)) slots (params_in all) gave
+  params_long = given_long x.table m (sites_of g) g.world g.words (g.call.site.base + room (body_of g)) slots (params_in all) gave
 
   pub slots_few : length slots + length (slots_of x.table c.body) ≤ c.body.proc.span
   slots_few = let l = params_long in let f = c.orderly.few in omega (arith, l, f)
@@ -103,7 +104,7 @@ module _ (x : Basis) (g : Both) (line : BlockLine) (rest : List BlockLine) (y : 
   -- a filled place is a parameter
   record IsParameter (n : ℕ) (slot : Slot) : Type 0 where
     below : (v : ℕ) → (house site_then (of_place n)).home ≡ Variable v → v < limit
-    gave_it : GaveSlot x.table g.memory (sites_of g) g.world g.words (g.call.site.base + room (body_of g)) slot (house site_then (of_place n))
+    gave_it : GaveSlot x.table m (sites_of g) g.world g.words (g.call.site.base + room (body_of g)) slot (house site_then (of_place n))
 
   parameter : (n : ℕ) (slot : Slot) → IsThere site_then (of_place n) → slot_at world_first (suc g.call.site.level) n ≡ Some slot → IsParameter n slot
   parameter n slot there h =
@@ -112,12 +113,12 @@ module _ (x : Basis) (g : Both) (line : BlockLine) (rest : List BlockLine) (y : 
       let got : slice_get (slots ++ []) i ≡ Some slot = filled_get c.body.proc.span (slots ++ []) i slot
       (sym (slot_last g.world (frame_with []) (suc g.call.site.level) n level_last) ∙ h) in
       let has : slice_get slots i ≡ Some slot = sym (ap (λ l. slice_get l i) (append-nil slots)) ∙ got in
-      let r = given_here x.table g.memory (sites_of g) g.world g.words (g.call.site.base + room (body_of g)) all limit slots (params_in all)
+      let r = given_here x.table m (sites_of g) g.world g.words (g.call.site.base + room (body_of g)) all limit slots (params_in all)
       c.body.proc.first i n gave c.orderly.params (get_inside slots i slot has) (omega (arith, inside.0)) in
       let same : r.slot ≡ slot = some_is r.slot (sym r.is ∙ has) in
       record {
         below = r.first.below;
-        gave_it = subst (λ z. GaveSlot x.table g.memory (sites_of g) g.world g.words (g.call.site.base + room (body_of g)) z (house site_then (of_place n)))
+        gave_it = subst (λ z. GaveSlot x.table m (sites_of g) g.world g.words (g.call.site.base + room (body_of g)) z (house site_then (of_place n)))
             same r.gave;
       }
     where
@@ -134,7 +135,7 @@ module _ (x : Basis) (g : Both) (line : BlockLine) (rest : List BlockLine) (y : 
     call_then = call site_then no_temps vars
 
     -- a parameter with a value of its own
-    value_item : (n : ℕ) (u : Value) → IsThere site_then (of_place n) → IsParameter n (Holds u) → IsItem x.table g.memory call_then (of_place n) u
+    value_item : (n : ℕ) (u : Value) → IsThere site_then (of_place n) → IsParameter n (Holds u) → IsItem x.table m call_then (of_place n) u
     value_item n u there r = record {
       there = there;
       plain = r.gave_it.plain;
@@ -143,18 +144,18 @@ module _ (x : Basis) (g : Both) (line : BlockLine) (rest : List BlockLine) (y : 
     }
       where
         by : is_address (house site_then (of_place n)).kind ≡ false
-            → GivenAt x.table g.memory (sites_of g) g.world g.words (g.call.site.base + room (body_of g)) (house site_then (of_place n)).home u
+            → GivenAt x.table m (sites_of g) g.world g.words (g.call.site.base + room (body_of g)) (house site_then (of_place n)).home u
             → Housing (room c.body) FIXED_BYTES (data_end x.table x.blocks) c.body.start (house site_then (of_place n))
-            → At g.memory (g.call.site.base + room (body_of g)) vars (spot_of (house site_then (of_place n))) u
+            → At m (g.call.site.base + room (body_of g)) vars (spot_of (house site_then (of_place n))) u
         by plain given (in_variable v home p low is_word) =
-            subst (λ z. At g.memory (g.call.site.base + room (body_of g)) vars z u) (sym (spot_held (house site_then (of_place n)) v plain home))
+            subst (λ z. At m (g.call.site.base + room (body_of g)) vars z u) (sym (spot_held (house site_then (of_place n)) v plain home))
             (is.handed v low (r.below v home)
-            ∙ subst (λ z. GivenAt x.table g.memory (sites_of g) g.world g.words (g.call.site.base + room (body_of g)) z u) home given)
+            ∙ subst (λ z. GivenAt x.table m (sites_of g) g.world g.words (g.call.site.base + room (body_of g)) z u) home given)
         by plain given (by_address v home address low) = never (sym plain ∙ address)
         by plain given (in_places at home p whole within) =
-            to_memory g.memory (g.call.site.base + room (body_of g)) vars (house site_then (of_place n)) u plain (subst InMemory (sym home) tt)
-            (subst (λ z. IsAt g.memory (address_of (g.call.site.base + room (body_of g)) z) u) (sym home)
-            (subst (λ z. GivenAt x.table g.memory (sites_of g) g.world g.words (g.call.site.base + room (body_of g)) z u) home given))
+            to_memory m (g.call.site.base + room (body_of g)) vars (house site_then (of_place n)) u plain (subst InMemory (sym home) tt)
+            (subst (λ z. IsAt m (address_of (g.call.site.base + room (body_of g)) z) u) (sym home)
+            (subst (λ z. GivenAt x.table m (sites_of g) g.world g.words (g.call.site.base + room (body_of g)) z u) home given))
         by plain given (in_data at home p whole low within start) = never (sym c.start ∙ start)
 
     -- a location that leads to a place of a caller
@@ -209,7 +210,7 @@ module _ (x : Basis) (g : Both) (line : BlockLine) (rest : List BlockLine) (y : 
     }
     slot_filled n (Lends u from seen) there h r = absurd r.gave_it
 
-    pub holding_then : Holding x.table g.memory world_first sites_then call_then
+    pub holding_then : Holding x.table x.blocks m world_first sites_then call_then
     holding_then = record {
       items = items;
       texts = λ t behind size u named text h. absurd (none_some u h);
@@ -218,7 +219,7 @@ module _ (x : Basis) (g : Both) (line : BlockLine) (rest : List BlockLine) (y : 
       left = λ h. is.left_is;
     }
       where
-        items : (f : Name) (u : Value) → IsThere site_then f → HasValue world_first call_then f u → IsItem x.table g.memory call_then f u
+        items : (f : Name) (u : Value) → IsThere site_then f → HasValue world_first call_then f u → IsItem x.table m call_then f u
         items (of_value t) u there h = absurd (none_some u h)
         items (of_location t) u there h = absurd h
         items (of_place n) u there h = value_item n u there (parameter n (Holds u) there h)

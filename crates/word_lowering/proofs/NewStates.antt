@@ -1,5 +1,5 @@
 -- A call that begins: its result is at its default then, and both states belong together.
-use Rattle.std.proofs.Common.{◌≡◌, ℕ, suc, ◌+◌, ◌-◌, ◌*◌, ◌<◌, ◌≤◌, List, [], ◌∷◌, length, Option, Some, None, true, false}
+use Rattle.std.proofs.Common.{◌≡◌, ℕ, suc, ◌+◌, ◌-◌, ◌*◌, ◌<◌, ◌≤◌, List, [], ◌∷◌, length, Option, Some, None, true, false, Ok}
 use Rattle.std.proofs.Common.{refl, sym, ap, subst, ◌∙◌, arith, append-nil}
 use Rattle.std.specs.Prelude.{slice_set}
 use Rattle.nim_types.specs.Forms.{form_of, hooked}
@@ -17,7 +17,7 @@ use Rattle.flat_code.specs.Running.{frame_of, slot_bytes}
 use Rattle.flat_code.specs.Scene.{no_temps}
 use Rattle.flat_code.specs.Shapes.{has_shape, shape_of}
 use Rattle.word_code.specs.declared.word.WordInstr.{WordInstr}
-use Rattle.word_code.specs.Memory.{Memory}
+use Rattle.word_code.specs.Memory.{Memory, number_at}
 use Rattle.word_code.specs.Words.{Vars, no_words}
 use Rattle.word_code.proofs.ForCallers.{Runs, at, none as no_run}
 use Rattle.word_lowering.specs.declared.homes.Housed.{Housed}
@@ -30,18 +30,19 @@ use Rattle.word_lowering.proofs.Clears.{gets_cleared}
 use Rattle.word_lowering.proofs.FirstPlaces.{FirstResult, Gave, ResultFirst, slots_of}
 use Rattle.word_lowering.proofs.Gets.{Gets, good_place, same_temps}
 use Rattle.word_lowering.proofs.InMemory.{AllZero, blank_zero, bytes_some}
-use Rattle.word_lowering.proofs.Keeping.{call}
+use Rattle.word_lowering.proofs.Keeping.{call, beyond}
 use Rattle.word_lowering.proofs.Lines.{Basis, IsGood, all_procs, changed, known, lower, stands_next, starts}
 use Rattle.word_lowering.proofs.MovedLines.{own_plain}
-use Rattle.word_lowering.proofs.NewCalls.{VarsThen, all_frames_then, frame_with, holding_then, level_is, level_last, levels_then, linked_then, params_long}
+use Rattle.word_lowering.proofs.NewCalls.{VarsThen, all_frames_then, frame_with, holding_then, level_is, level_last, levels_then, linked_then, params_long, sites_then}
 use Rattle.word_lowering.proofs.NewCalls.{site_then, slots_few, world_first}
-use Rattle.word_lowering.proofs.Related.{Answers, Both, StandAt, Waits, body_of, calls_of, sites_of, within}
+use Rattle.word_lowering.proofs.Related.{Answers, Both, StandAt, Waits, body_of, calls_of, sites_of, within, MemoryGood}
 use Rattle.word_lowering.proofs.RoutineCalls.{awaiting}
 use Rattle.word_lowering.proofs.Scenes.{AllHold, IsThere, house, looked, of_place}
 use Rattle.word_lowering.proofs.ShapeFacts.{never, values_of_numbers}
-use Rattle.word_lowering.proofs.Sites.{Site, looks, room, type_of}
+use Rattle.word_lowering.proofs.Sites.{Site, looks, room, type_of, next_base}
 use Rattle.word_lowering.proofs.SitesApart.{houses}
 use Rattle.word_lowering.proofs.ValueFacts.{place_there}
+use Rattle.rv32_isa.specs.declared.micro_op.Size.TheVariants.{Word}
 
 -- a place with a value of its own has the type that stands there
 own_type : (k : PlaceKind) (ty : Ty) → is_own k ≡ true → type_by_kind k ty ≡ ty
@@ -49,18 +50,20 @@ own_type K.Counter ty h = never h
 own_type k ty h = refl
 
 module _ (x : Basis) (g : Both) (line : BlockLine) (rest : List BlockLine) (y : IsGood x (starts g line rest)) {proc : ℕ} {s : Signature}
-    (c : Callee x.table x.blocks proc s) (slots : List Slot)
-    (gave : Gave x.table g.memory (sites_of g) g.world g.words (g.call.site.base + room (body_of g)) slots (params_in c.body.own.all))
+    (c : Callee x.table x.blocks proc s) (m : Memory) (slots : List Slot)
+    (gave : Gave x.table m (sites_of g) g.world g.words (g.call.site.base + room (body_of g)) slots (params_in c.body.own.all))
     (left : ℕ) (e : g.call.site.left ≡ suc left) (to : ℕ)
-    (answers : Answers x.table x.blocks c.body (record { call = g.call; rest = rest; to = to; proc = proc })) where
+    (answers : Answers x.table x.blocks c.body (record { call = g.call; rest = rest; to = to; proc = proc }))
+    (good_m : MemoryGood x.table x.blocks (sites_then x g line rest y c m slots gave left e) x.first m)
+    (still : (a w : ℕ) → a + 4 ≤ next_base (sites_of g) → number_at g.memory a Word ≡ Ok w → number_at m a Word ≡ Ok w) where
   abbrev here : Site
-  here = site_then x g line rest y c slots gave left e
+  here = site_then x g line rest y c m slots gave left e
 
   abbrev first_world : World
-  first_world = world_first x g line rest y c slots gave left e
+  first_world = world_first x g line rest y c m slots gave left e
 
   abbrev frame : List Slot → Frame
-  frame result = frame_with x g line rest y c slots gave left e result
+  frame result = frame_with x g line rest y c m slots gave left e result
 
   -- the caller then
   abbrev pub waits_then : Waits
@@ -69,7 +72,7 @@ module _ (x : Basis) (g : Both) (line : BlockLine) (rest : List BlockLine) (y : 
   -- behind the call, with these lines left
   abbrev pub begun : Vars → List BlockLine → Both
   begun vars lines = record {
-    memory = g.memory;
+    memory = m;
     input = g.input;
     world = first_world;
     call = call here no_temps vars;
@@ -82,17 +85,17 @@ module _ (x : Basis) (g : Both) (line : BlockLine) (rest : List BlockLine) (y : 
   stand_then : (lines : List BlockLine) → c.body.proc.lines ≡ lines → StandAt x.table x.blocks c.body lines
   stand_then lines is = subst (StandAt x.table x.blocks c.body) is (record { before = []; whole = refl; fits = c.is.fits })
 
-  callers_then : AllHold x.table g.memory first_world (calls_of g)
-  callers_then = callers_hold x (calls_of g) y.linked g.world (frame []) y.levels here (level_is x g line rest y c slots gave left e) g.memory y.hold
+  callers_then : AllHold x.table x.blocks m first_world (calls_of g)
+  callers_then = callers_hold x (calls_of g) y.linked g.world (frame []) y.levels here (level_is x g line rest y c m slots gave left e) g.memory m (beyond still) y.hold
 
-  module _ (vars : Vars) (is : VarsThen x g line rest y c slots gave left e vars) where
+  module _ (vars : Vars) (is : VarsThen x g line rest y c m slots gave left e vars) where
     pub good_begun : (lines : List BlockLine) → c.body.proc.lines ≡ lines → IsGood x (begun vars lines)
     good_begun lines same = record {
-      linked = linked_then x g line rest y c slots gave left e;
-      memory = y.memory;
-      hold = (holding_then x g line rest y c slots gave left e vars is, callers_then);
-      frames = all_frames_then x g line rest y c slots gave left e;
-      levels = levels_then x g line rest y c slots gave left e;
+      linked = linked_then x g line rest y c m slots gave left e;
+      memory = good_m;
+      hold = (holding_then x g line rest y c m slots gave left e vars is, callers_then);
+      frames = all_frames_then x g line rest y c m slots gave left e;
+      levels = levels_then x g line rest y c m slots gave left e;
       stands = stand_then lines same;
       waits = (stands_next x.table x.blocks (body_of g) line rest y.stands, y.waits);
       answers = (answers, y.answers);
@@ -117,23 +120,23 @@ module _ (x : Basis) (g : Both) (line : BlockLine) (rest : List BlockLine) (y : 
       pub steps : ℕ
       pub few : steps ≤ 8 + 2 * slot_bytes (slots_of x.table c.body)
       pub runs : Runs x.live (all_procs x) steps
-          (at (within x.table x.blocks (begun vars [])) g.memory (result_cleared (result_in c.body.own.all) k) vars no_words)
+          (at (within x.table x.blocks (begun vars [])) m (result_cleared (result_in c.body.own.all) k) vars no_words)
           (at (awaiting (within x.table x.blocks (begun vars [])) awaits) memory k vars_then words)
 
     no_result : (k : List WordInstr) → result_in c.body.own.all ≡ None → slots_of x.table c.body ≡ [] → Ready k
     no_result k none empty = record {
       vars_then = vars;
-      memory = g.memory;
+      memory = m;
       words = no_words;
       awaits = 0;
-      good = subst (λ l. IsGood x (ended (with_frame g.world (frame l)) vars g.memory no_words 0)) (sym empty)
+      good = subst (λ l. IsGood x (ended (with_frame g.world (frame l)) vars m no_words 0)) (sym empty)
           (good_begun c.body.proc.lines refl);
       steps = 0;
       few = omega arith;
       runs = subst (λ o. Runs x.live (all_procs x) 0
-          (at (within x.table x.blocks (begun vars [])) g.memory (result_cleared o k) vars no_words)
-          (at (within x.table x.blocks (begun vars [])) g.memory k vars no_words)) (sym none)
-          (no_run (lower x) (at (within x.table x.blocks (begun vars [])) g.memory k vars no_words));
+          (at (within x.table x.blocks (begun vars [])) m (result_cleared o k) vars no_words)
+          (at (within x.table x.blocks (begun vars [])) m k vars no_words)) (sym none)
+          (no_run (lower x) (at (within x.table x.blocks (begun vars [])) m k vars no_words));
     }
 
     abbrev number : ℕ
@@ -143,12 +146,12 @@ module _ (x : Basis) (g : Both) (line : BlockLine) (rest : List BlockLine) (y : 
     world_more : (v : Value) → slots_of x.table c.body ≡ Holds v ∷ []
         → with_slot first_world (suc g.call.site.level) number (Some (Holds v)) ≡ world_then
     world_more v is_slots =
-        let long = params_long x g line rest y c slots gave left e in
-        let few = slots_few x g line rest y c slots gave left e in
+        let long = params_long x g line rest y c m slots gave left e in
+        let few = slots_few x g line rest y c m slots gave left e in
         let some : length (slots_of x.table c.body) ≡ 1 = ap length is_slots in
         let index : number - c.body.proc.first ≡ length slots = omega (arith, long) in
         let room_left : length slots < c.body.proc.span = omega (arith, few, some) in
-        with_slot_last g.world (frame []) (suc g.call.site.level) number (Some (Holds v)) (level_last x g line rest y c slots gave left e)
+        with_slot_last g.world (frame []) (suc g.call.site.level) number (Some (Holds v)) (level_last x g line rest y c m slots gave left e)
         ∙ ap (with_frame g.world)
         (ap (λ l. with_slot_of (record (frame []) { slots = filled c.body.proc.span l }) number (Some (Holds v))) (append-nil slots)
         ∙ ap (λ i. record (frame []) { slots = slice_set (filled c.body.proc.span slots) i (Some (Holds v)) }) index
@@ -213,10 +216,10 @@ module _ (x : Basis) (g : Both) (line : BlockLine) (rest : List BlockLine) (y : 
             steps = q.steps;
             few = (let h = q.few in let z = ap slot_bytes f.slots in let b = some_bytes in omega (arith, h, z, b));
             runs = subst (λ o. Runs x.live (all_procs x) q.steps
-                (at (within x.table x.blocks (begun vars [])) g.memory (result_cleared o k) vars no_words)
+                (at (within x.table x.blocks (begun vars [])) m (result_cleared o k) vars no_words)
                 (at (awaiting (within x.table x.blocks (begun vars [])) q.awaits) q.memory k q.vars q.words)) (sym is_result)
                 (subst (λ h. Runs x.live (all_procs x) q.steps
-                (at (within x.table x.blocks (begun vars [])) g.memory (clears h k) vars no_words)
+                (at (within x.table x.blocks (begun vars [])) m (clears h k) vars no_words)
                 (at (awaiting (within x.table x.blocks (begun vars [])) q.awaits) q.memory k q.vars q.words)) f.same q.runs);
           }
 

@@ -148,7 +148,7 @@ module _ (x : Basis) (labels : LabelsLead x) (g : Both) (rest : List BlockLine) 
         (λ v e. using_settles x (starts g next rest) rest (g.call.temps.values last)
         (λ w. branch (int_lt (number_of v) (number_of w)) (goes (number_of v)) Fails)
         (λ w f. branch_settles x (starts g next rest) rest (int_lt (number_of v) (number_of w)) (goes (number_of v)) Fails
-        (λ h. next_goes y v w h (int_read x g next rest y counter v kinds.0 e) (int_read x g next rest y last w kinds.1 f)) (λ h. tt)))
+        (λ h. next_goes y v w h (int_read x g next rest y counter v kinds.0 e) (int_read x g next rest y last w kinds.1 f)) (λ h before. tt)))
 
   module _ (inclusive : Bool) (to : ℕ) where
     -- none of the loop
@@ -220,7 +220,7 @@ module _ (x : Basis) (labels : LabelsLead x) (g : Both) (rest : List BlockLine) 
       count_more : more_turns inclusive (number_of v) (number_of w) ≡ true → (o : Option (List BlockLine))
           → ((after : List BlockLine) → o ≡ Some after → line_from block_label to (body_of g).proc.lines ≡ Some after)
           → Follows x (starts g count rest) (jumped (high x.table x.blocks (starts g count rest)) temps o)
-      count_more h None first = tt
+      count_more h None first = λ before. tt
       count_more h (Some after) first =
           let kinds = and_parts (is_int (kind_at x g count rest y counter)) (is_int (kind_at x g count rest y last))
           (fits_here x.table x.blocks (body_of g) count rest y.stands) in
@@ -235,11 +235,12 @@ module _ (x : Basis) (labels : LabelsLead x) (g : Both) (rest : List BlockLine) 
           let n = int_target x g count rest y counter refl refl kinds.0 z f in
           let good = good_word x g count rest y after counter (Number z) s.vars n.there n.shaped n.one
           (same_but g.call.vars t.vars s.vars counter_variable t.same s.but) s.given l.1 g.awaits in
-          let all = then_runs x.live (all_procs x) (then_runs x.live (all_procs x) t.runs s.runs) j in (
-            low x.table x.blocks (changed g after temps s.vars g.memory g.words g.awaits g.world),
+          let all = then_runs x.live (all_procs x) (then_runs x.live (all_procs x) t.runs s.runs) j in
+          λ before. let steps = all.by x.fresh before in (
+            (steps.0, low x.table x.blocks (changed g after temps s.vars g.memory g.words g.awaits g.world)),
             t.steps + 1 + 1,
-            record { work = all.work; within = (let q = all.within in let r = t.few in omega (arith, q, r)); by = all.by },
-            ((changed g after temps s.vars g.memory g.words g.awaits g.world, good), refl, refl),
+            record { work = steps.1.work; within = (let q = steps.1.within in let r = t.few in omega (arith, q, r)); by = steps.1.by },
+            ((changed g after temps s.vars g.memory g.words g.awaits g.world, good, steps.0), refl, refl),
             inl (omega arith),
           )
 

@@ -93,7 +93,7 @@ module _ (x : Basis) (g : Both) (line : BlockLine) (rest : List BlockLine) (y : 
             (omega (arith, near))))
         by (Parts vs) zero_value home a points lying =
             zeros_to_memory x.law x.live (all_procs x) (within x.table x.blocks g) refl g.words g.memory y.memory.sized k g.call.vars home a points
-            (routines x.table x.blocks) x.runtime.statics (reaches x) (data_there x g.memory y.memory) vs zero_value
+            (routines x.table x.blocks) x.runtime.statics (reaches x) (data_there x (all_sites x g line rest y) g.memory y.memory) vs zero_value
             (lying_area x (all_sites x g line rest y) y.linked g.memory a (bytes (Parts vs)) y.memory lying)
             (lying_near x (all_sites x g line rest y) y.linked a (bytes (Parts vs)) lying)
         by (Handle n b) zero_value home a points lying = absurd zero_value

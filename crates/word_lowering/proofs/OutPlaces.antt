@@ -9,7 +9,7 @@ use Rattle.nim_meaning.specs.Places.{place_at, root_of, through_slot}
 use Rattle.word_lowering.specs.LineCode.{location, named, place, Around, variable_in, variable_of}
 use Rattle.flat_code.specs.declared.block.BlockLine.{BlockLine}
 use Rattle.flat_code.specs.Fits.{is_own, is_standing}
-use Rattle.flat_code.specs.Scene.{Where, Located, Temps, Passes}
+use Rattle.flat_code.specs.Scene.{Where, Located, Temps, Passes, Within}
 use Rattle.flat_code.specs.Shapes.{Shape, has_shape, shape_of}
 use Rattle.word_lowering.specs.declared.homes.Alias.{Alias}
 use Rattle.word_lowering.specs.declared.homes.Alias.TheVariants as alias
@@ -29,7 +29,8 @@ use Rattle.word_lowering.proofs.MovedLines.{own_plain}
 use Rattle.word_lowering.proofs.Moves.{IsHigh}
 use Rattle.word_lowering.proofs.ReadFacts.{Read, each_call, global_root, own_root}
 use Rattle.word_lowering.proofs.Related.{Both, body_of, within}
-use Rattle.word_lowering.proofs.Scenes.{Leads, Filled, FromPlace, IsAddressed, IsFilled, IsLedBy, IsNamed, IsRoot, IsThere, Name, Points, address_of}
+use Rattle.word_lowering.proofs.Scenes.{Leads, IsOfPlace, OfPlace, of_a_place, Filled, FromPlace, IsAddressed, IsFilled, IsLedBy, IsNamed, IsRoot, IsThere}
+use Rattle.word_lowering.proofs.Scenes.{Name, Points, address_of}
 use Rattle.word_lowering.proofs.Scenes.{house, looked, of_location, of_place}
 use Rattle.word_lowering.proofs.Settling.{code_here, code_next}
 use Rattle.word_lowering.proofs.ShapeFacts.{bytes_is, never}
@@ -58,6 +59,10 @@ module _ (x : Basis) (g : Both) (line : BlockLine) (rest : List BlockLine) (y : 
         → (old : Value) → slot_at g.world g.call.site.level n ≡ Some (Holds old) → l ≡ place_at g.call.site.level n → Written h l s
     far_written : (home : Home) → spot_of h ≡ Lies home → IsHigh home → (a : ℕ) → Points g.call.site.base g.call.vars home a
         → FromPlace x.table (all_sites x g line rest y) g.world l a s → Written h l s
+
+  pub written_stands : {h : Housed} {l : Location} {s : Shape} → Written h l s → IsOfPlace l.base
+  written_stands (own_written n there own same look old slot at) = subst (λ k. IsOfPlace k.base) (sym at) tt
+  written_stands (far_written home spot high a points f) = subst IsOfPlace (sym f.base) tt
 
   -- what is in the variable of a place that has an address
   record AddressIn (f : Name) (a : ℕ) : Type 0 where
@@ -97,16 +102,18 @@ module _ (x : Basis) (g : Both) (line : BlockLine) (rest : List BlockLine) (y : 
           → Written (named here a (house g.call.site (of_location t))) l s → Written (location here t) l s
       as_location a l is w = subst (λ b. Written (named here b (house g.call.site (of_location t))) l s) (sym is) w
 
-      far_own : (is : (house g.call.site (of_location t)).alias ≡ alias.Own) (l : Location) → there ≡ Located l
-          → IsAddressed x.table (all_sites x g line rest y) g.world g.call t there → WrittenAt t there
-      far_own is l at_l r =
+      far_own : (is : (house g.call.site (of_location t)).alias ≡ alias.Own) (other : Where) → there ≡ other → OfPlace other
+          → IsAddressed x.table x.blocks (all_sites x g line rest y) g.world g.call t there → WrittenAt t there
+      far_own is (Within temp path) at_l of r = absurd of
+      far_own is (Located l) at_l of r =
           let there_is : IsThere g.call.site (of_location t) = record { among = n.among; number = n.number; kind = n.kind; own = is } in
           let p = address_in (of_location t) r.address there_is (location_address (house g.call.site (of_location t)).kind n.kind) r.holds in
           record {
             location_is = l;
             is = at_l;
             written = as_location alias.Own l is (far_written (Variable p.variable_is) p.spot p.high_is r.address p.points
-                (subst (λ w. Leads x.table (all_sites x g line rest y) g.world g.call.site g.call.temps w r.address s) at_l r.leads));
+                (of_a_place x.table x.blocks of
+                (subst (λ w. Leads x.table x.blocks (all_sites x g line rest y) g.world g.call.site g.call.temps w r.address s) at_l r.leads)));
           }
 
       by_place : (p : ℕ) (global : Bool) → (house g.call.site (of_location t)).alias ≡ alias.Place p global
@@ -173,9 +180,9 @@ module _ (x : Basis) (g : Both) (line : BlockLine) (rest : List BlockLine) (y : 
               (subst (λ k. FromPlace x.table (all_sites x g line rest y) g.world l v.address k) look
               (subst (λ k. FromPlace x.table (all_sites x g line rest y) g.world k v.address (looked x.table g.call.site (of_place p))) same v.leads))
 
-      by : (a : Alias) → (house g.call.site (of_location t)).alias ≡ a → IsLedBy x.table a (all_sites x g line rest y) g.world g.call t there
+      by : (a : Alias) → (house g.call.site (of_location t)).alias ≡ a → IsLedBy x.table x.blocks a (all_sites x g line rest y) g.world g.call t there
           → WrittenAt t there
-      by alias.Own is r = let l = r.standing standing in far_own is l.0 l.1 r
+      by alias.Own is r = far_own is there refl (r.standing standing) r
       by (alias.Place p global) is r = by_place p global is r
       by (alias.Value u) is r = never (sym (y.linked.0.valued t u n is).1 ∙ standing)
       by (alias.Text m size) is r = absurd r

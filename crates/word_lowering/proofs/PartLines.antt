@@ -1,5 +1,5 @@
 -- Lines that lead to a part of what stands at a location are followed.
-use Rattle.std.proofs.Common.{◌≡◌, ℕ, ◌+◌, ◌^◌, ◌<◌, ◌≤◌, List, [], ◌∷◌, Some, true, refl, sym, ap, subst, ◌∙◌, arith, inl, Bool, false}
+use Rattle.std.proofs.Common.{inr, ◌≡◌, ℕ, ◌+◌, ◌^◌, ◌<◌, ◌≤◌, List, [], ◌∷◌, Some, true, refl, sym, ap, subst, ◌∙◌, arith, inl, Bool, false}
 use Rattle.nim_meaning.specs.Values.{Value, deeper, Location}
 use Rattle.flat_code.specs.declared.block.BlockLine.{BlockLine}
 use Rattle.flat_code.specs.declared.line.Line.TheVariants as L
@@ -28,10 +28,10 @@ use Rattle.word_lowering.proofs.Moves.{all_same}
 use Rattle.word_lowering.proofs.OpRuns.{gives_sum}
 use Rattle.word_lowering.proofs.OperationRuns.{Given}
 use Rattle.word_lowering.proofs.OrdinalRuns.{but_one, put_here}
-use Rattle.word_lowering.proofs.OutPlaces.{written_at}
-use Rattle.word_lowering.proofs.ReadFacts.{place_near, value_near}
+use Rattle.word_lowering.proofs.OutPlaces.{written_at, written_stands}
+use Rattle.word_lowering.proofs.ReadFacts.{constant_near, place_near, value_near}
 use Rattle.word_lowering.proofs.Related.{Both, body_of, within, high}
-use Rattle.word_lowering.proofs.Scenes.{Leads, IsLedBy, IsNamed, IsThere, Points, house, looked, of_location, of_place, of_value}
+use Rattle.word_lowering.proofs.Scenes.{Leads, OfPlace, IsLedBy, IsNamed, IsThere, Points, house, looked, of_location, of_place, of_value}
 use Rattle.word_lowering.proofs.Settling.{code_here, code_next, LabelsLead}
 use Rattle.word_lowering.proofs.ShapeFacts.{never, shape_bytes, nth_shape, of_numbers}
 use Rattle.word_lowering.proofs.ShapePaths.{Step, path_on, shape_some, shapes_before, step_within}
@@ -61,9 +61,9 @@ deeper_in temps there i = led there (deeper (location_at temps there) i)
 -- with other temporaries that still have their values
 module _ (x : Basis) (sites : List Site) (s : Site) (world : World) (temps other : Temps)
     (still : (t : ℕ) (v : Value) → temps.values t ≡ Some v → other.values t ≡ Some v) where
-  pub leads_on : (there : Where) (a o : ℕ) (t u : Shape) (i : ℕ) → Step t i o u → Leads x.table sites world s temps there a t
-      → Leads x.table sites world s other (deeper_in temps there i) (a + o) u
-  leads_on (Located l) a o t u i step f = record {
+  pub leads_on : (there : Where) (a o : ℕ) (t u : Shape) (i : ℕ) → Step t i o u → Leads x.table x.blocks sites world s temps there a t
+      → Leads x.table x.blocks sites world s other (deeper_in temps there i) (a + o) u
+  leads_on (Located l) a o t u i step (inl f) = inl (record {
     site = f.site;
     among = f.among;
     number = f.number;
@@ -74,7 +74,19 @@ module _ (x : Basis) (sites : List Site) (s : Site) (world : World) (temps other
     offset = f.offset + o;
     path = path_on (looked x.table f.site (of_place f.number)) l.path f.offset t i o u f.path step;
     address = (let e = f.address in omega (arith, e));
-  }
+  })
+  leads_on (Located l) a o t u i step (inr f) = inr (record {
+    pieces = f.pieces;
+    one = f.one;
+    among = f.among;
+    base = f.base;
+    shape = f.shape;
+    shaped = f.shaped;
+    numbers = f.numbers;
+    offset = f.offset + o;
+    path = path_on f.shape l.path f.offset t i o u f.path step;
+    address = (let e = f.address in omega (arith, e));
+  })
   leads_on (Within from path) a o t u i step f = record {
     there = f.there;
     home = f.home;
@@ -90,8 +102,9 @@ module _ (x : Basis) (g : Both) (line : BlockLine) (rest : List BlockLine) (y : 
   led_variable t = variable_of (house g.call.site (of_location t))
 
   pub leads_near : (there : Where) (a : ℕ) (t : Shape)
-      → Leads x.table (all_sites x g line rest y) g.world g.call.site g.call.temps there a t → a + shape_bytes t < 2 ^ 32
-  leads_near (Located l) a t f = place_near x (all_sites x g line rest y) y.linked (all_sites x g line rest y) g.world l a t (λ s i. i) f
+      → Leads x.table x.blocks (all_sites x g line rest y) g.world g.call.site g.call.temps there a t → a + shape_bytes t < 2 ^ 32
+  leads_near (Located l) a t (inr f) = constant_near x l a t f
+  leads_near (Located l) a t (inl f) = place_near x (all_sites x g line rest y) y.linked (all_sites x g line rest y) g.world l a t (λ s i. i) f
   leads_near (Within from path) a t f = value_near x (all_sites x g line rest y) y.linked g.call.site g.call.temps from path a t (inl refl) f
 
   pub own_location : (t : ℕ) → IsThere g.call.site (of_location t)
@@ -120,8 +133,9 @@ module _ (x : Basis) (g : Both) (line : BlockLine) (rest : List BlockLine) (y : 
 
   -- a run that gives the address
   pub leads_settles : (t : ℕ) (there : Where) (a work : ℕ) → 1 ≤ work → IsThere g.call.site (of_location t)
-      → (is_standing (house g.call.site (of_location t)).kind ≡ true → (l : Location) × (there ≡ Located l))
-      → Leads x.table (all_sites x g line rest y) g.world g.call.site (with_place t g.call.temps there) there a (looked x.table g.call.site (of_location t))
+      → (is_standing (house g.call.site (of_location t)).kind ≡ true → OfPlace there)
+      → Leads x.table x.blocks (all_sites x g line rest y) g.world g.call.site (with_place t g.call.temps there) there a
+      (looked x.table g.call.site (of_location t))
       → Given x.live (all_procs x) (within x.table x.blocks g) g.memory g.words (code_here x g line rest y) g.call.vars (led_variable t) a
       (code_next x g line rest y)
       → Settles x (starts g line rest) rest (Passes (Answers [] work (with_place t g.call.temps there) g.world))
@@ -132,7 +146,7 @@ module _ (x : Basis) (g : Both) (line : BlockLine) (rest : List BlockLine) (y : 
       (λ f u other ne home. r.gives.but.others u (high_variable x g line rest y f u other home)
       (variables_apart x.table x.blocks g.call.site (of_location t) f (led_variable t) u y.linked.0 is_there other (λ s. ne (sym s)) h.home home))
       r.gives.but.left
-      (subst (λ b. IsLedBy x.table b (all_sites x g line rest y) g.world (call g.call.site (with_place t g.call.temps there) r.gives.vars) t there)
+      (subst (λ b. IsLedBy x.table x.blocks b (all_sites x g line rest y) g.world (call g.call.site (with_place t g.call.temps there) r.gives.vars) t there)
       (sym is_there.own) (record { standing = standing; address = a; holds = r.gives.given; leads = new_leads }))
       rest (stands_next x.table x.blocks (body_of g) line rest y.stands))
       r.steps work (with_place t g.call.temps there) g.world r.gives.runs r.some (let f = r.few in omega (arith, f, some)) refl
@@ -177,12 +191,10 @@ module _ (x : Basis) (g : Both) (line : BlockLine) (rest : List BlockLine) (y : 
   pub part_standing : (to from i : ℕ) (there : Where) → IsNamed g.call.site (of_location from) → g.call.temps.places from ≡ Some there
       → (is_standing (house g.call.site (of_location to)).kind ≡ true → is_standing (house g.call.site (of_location from)).kind ≡ true)
       → is_standing (house g.call.site (of_location to)).kind ≡ true
-      → (l : Location) × (deeper_in g.call.temps there i ≡ Located l)
+      → OfPlace (deeper_in g.call.temps there i)
   part_standing to from i there n e as_base standing =
-      let w = written_at x g line rest y from there n (as_base standing) e in (
-        deeper (location_at g.call.temps (Located w.location_is)) i,
-        ap (λ t. deeper_in g.call.temps t i) w.is,
-      )
+      let w = written_at x g line rest y from there n (as_base standing) e in
+      subst (λ t. OfPlace (deeper_in g.call.temps t i)) (sym w.is) (written_stands x g line rest y w.written)
 
 -- ---- a field
 

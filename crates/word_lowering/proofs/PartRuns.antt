@@ -22,10 +22,10 @@ use Rattle.word_lowering.proofs.RoutineCalls.{awaiting}
 use Rattle.word_lowering.proofs.OrdinalRuns.{AllSame}
 use Rattle.word_lowering.proofs.Moves.{same_more}
 use Rattle.word_lowering.proofs.ShapeFacts.{of_numbers, values_of_numbers}
-use Rattle.word_lowering.proofs.Sites.{InMemory, around}
+use Rattle.word_lowering.proofs.Sites.{InMemory, around, next_base}
 use Rattle.word_lowering.proofs.Scenes.{address_of, Points, of_value, house, IsThere, IsItem}
-use Rattle.word_lowering.proofs.Keeping.{call, somewhere, worlds_same, Kept, item_kept, at_beside, same_numbers, spot_memory, points_there}
-use Rattle.word_lowering.proofs.Related.{Both, body_of, within, MemoryGood}
+use Rattle.word_lowering.proofs.Keeping.{call, somewhere, worlds_same, Kept, item_kept, at_beside, same_numbers, spot_memory, points_there, outside_still}
+use Rattle.word_lowering.proofs.Related.{Both, body_of, within, MemoryGood, sites_of}
 use Rattle.word_lowering.proofs.Lines.{Basis, all_procs, starts, IsGood, all_sites}
 use Rattle.word_lowering.proofs.ValueFacts.{value_plain}
 use Rattle.word_lowering.proofs.Sources.{Lying, item_source, size_is, word_is, small_word, to_bytes_by}
@@ -96,7 +96,7 @@ module _ (x : Basis) (g : Both) (line : BlockLine) (rest : List BlockLine) (y : 
     pub vars : Vars
     pub words : Vars
     pub awaits : ℕ
-    pub good : MemoryGood x.table x.blocks x.first memory
+    pub good : MemoryGood x.table x.blocks (sites_of g) x.first memory
     pub changed : Changed g.memory memory start target.bytes
     pub same : AllSame g.call.vars vars
     pub steps : ℕ
@@ -123,7 +123,7 @@ module _ (x : Basis) (g : Both) (line : BlockLine) (rest : List BlockLine) (y : 
       → g.call.temps.values t ≡ Some v → IsThere g.call.site (of_value t) → t ≢ to → IsItem x.table m (call g.call.site g.call.temps vars) (of_value t) v
   item_stays m vars ch same t v e is_there ne =
       item_kept x.table x.blocks x.small (all_sites x g line rest y) y.linked g.call.site (of_value to) g.memory m
-      (somewhere start target.bytes ch.outside (inl refl) there inside (omega arith) (omega arith)) g.world g.world
+      (somewhere start target.bytes (outside_still (next_base (sites_of g)) g.memory m start target.bytes ch.outside) (inl refl) there inside (omega arith) (omega arith)) g.world g.world
       (worlds_same x.table x.blocks x.small (all_sites x g line rest y) y.linked g.call.site (of_value to) g.world)
       g.call.site g.call.temps g.call.temps g.call.vars vars (of_value t) v (inl refl) kept
       (inr (λ is. ne (same_numbers (of_value t) (of_value to) is))) (y.hold.0.items (of_value t) v is_there e)
@@ -176,7 +176,7 @@ module _ (x : Basis) (g : Both) (line : BlockLine) (rest : List BlockLine) (y : 
       (size_is x (all_sites x g line rest y) y.linked g.call (inl refl) (of_value t) item.there item.plain v item.shaped)
       (small_word x (all_sites x g line rest y) y.linked g.call (inl refl) (of_value t) item.there item.plain v item.shaped)
       home spot a points lying true
-      (item_source x (all_sites x g line rest y) y.linked s.memory (call g.call.site g.call.temps s.vars) (of_value t) v (inl refl) item) (inr refl) in
+      (item_source x (all_sites x g line rest y) y.linked s.memory s.good (call g.call.site g.call.temps s.vars) (of_value t) v (inl refl) item) (inr refl) in
       record {
         sofar = record {
           memory = r.memory;

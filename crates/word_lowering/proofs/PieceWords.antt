@@ -8,10 +8,9 @@ use Rattle.rv32_isa.specs.declared.micro_op.Size.TheVariants.{Word}
 use Rattle.flat_code.specs.declared.line.Piece.{Piece}
 use Rattle.flat_code.specs.declared.line.Piece.TheVariants as P
 use Rattle.word_code.specs.Memory.{Memory, number_at}
-use Rattle.flat_code.specs.Pieces.{gathered, read_on, last_read, value_of, are_one, pieces_bytes}
+use Rattle.flat_code.specs.Pieces.{gathered, read_on, last_read, value_of, are_one, pieces_bytes, piece_words}
 use Rattle.word_lowering.specs.Aliases.{text_in}
 use Rattle.word_lowering.specs.Operations.{word}
-use Rattle.word_lowering.specs.LineCode.{piece_words}
 use Rattle.word_lowering.proofs.InMemory.{IsAt, AreAt, OfNumbers, AllOfNumbers, parts_bytes}
 
 -- ---- what a constant is

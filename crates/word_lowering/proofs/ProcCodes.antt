@@ -5,7 +5,7 @@ use Rattle.std.proofs.Common.{Some, None, Bool, true, false, not, ◌&&◌}
 use Rattle.std.proofs.Common.{refl, sym, ap, subst, ◌∙◌, arith, if◌then◌else◌, ◌==◌, nat_le}
 use Rattle.std.specs.Prelude.{slice_get}
 use Rattle.std.specs.Set.{is_member}
-use Rattle.std.proofs.lemmas.Bool.{and_parts, cases_Bool, eq-eqb, ne_eqb, leb-true, true≢false, false≢true}
+use Rattle.std.proofs.lemmas.Bool.{and_parts, eq-eqb, ne_eqb, leb-true, true≢false, false≢true}
 use Rattle.nim_types.specs.declared.types.TypeDef.{TypeDef}
 use Rattle.nim_types.specs.Types.{Ty, same_text}
 use Rattle.nim_types.specs.Table.{IsTable}
@@ -23,7 +23,7 @@ use Rattle.flat_code.specs.Scene.{known_in}
 use Rattle.flat_code.specs.Codes.{block_plain, proc_of}
 use Rattle.flat_code.specs.Sizes.{lines_texts, code_texts}
 use Rattle.flat_code.specs.Running.{last_of, before_last}
-use Rattle.word_code.specs.Words.{from_proc, most_room}
+use Rattle.word_code.specs.Words.{from_proc}
 use Rattle.flat_code.specs.Fits.{place_type, has_lines_for, Taken, and_param, taken_by, given_by, Signature, signature_of, signatures, proc_fits}
 use Rattle.flat_code.specs.Fits.{each_fits, start_places as start_places_in, is_declared}
 use Rattle.word_lowering.specs.declared.homes.Alias.TheVariants.{Own}
@@ -71,22 +71,6 @@ from_if : (runs : Bool) (p : WordProc) (procs : List WordProc) (n : ℕ) → (p.
     ≡ from_proc n procs
 from_if true p procs n e = from_other p procs n e
 from_if false p procs n e = refl
-
--- the places of each are within the most that one has
-room_among : (procs : List WordProc) (n : ℕ) (p : WordProc) (others : List WordProc) → from_proc n procs ≡ p ∷ others → p.room ≤ most_room procs
-room_among [] n p others e = absurd (nothing p others e)
-  where
-    nothing : (p : WordProc) (others : List WordProc) → [] ≡ p ∷ others → ⊥
-    nothing p others e = cc
-room_among (q ∷ procs) n p others e = by (q.number == n) e (room_among procs n p others)
-  where
-    first : (p q : WordProc) (xs ys : List WordProc) → q ∷ ys ≡ p ∷ xs → q ≡ p
-    first p q xs ys e = cc
-
-    by : (b : Bool) → (if b then q ∷ procs else from_proc n procs) ≡ p ∷ others → (from_proc n procs ≡ p ∷ others → p.room ≤ most_room procs)
-        → p.room ≤ max q.room (most_room procs)
-    by true e go = let h = ap (λ (z : WordProc). z.room) (first p q others procs e) in omega (arith, h)
-    by false e go = let h = go e in omega (arith, h)
 
 -- ---- parameters
 
@@ -241,6 +225,7 @@ module _ (table : List TypeDef) (blocks : Code BlockLine) where
         may = places.1;
         once = once;
         room = (fits_by table own p may).room;
+        handed = (fits_by table own p may).handed;
       }
 
   abbrev AllFit : List (CodeProc BlockLine) → Type 0
@@ -456,20 +441,10 @@ module _ (table : List TypeDef) (blocks : Code BlockLine) where
             × (from_proc (proc_number proc) (lowered table blocks).procs ≡ word_of table blocks body ∷ others)
         found some = let f = c.found some proc (omega arith) in (f.0, from_rest proc ∙ f.1)
 
-        within : (not (is_empty c.proc.lines) ≡ true) ⊎ (not (is_empty c.proc.lines) ≡ false) → (own_of c.proc).free.byte ≤ most_room
-            (lowered table blocks).procs
-        within (inl some) =
-            let f = found some in room_among (lowered table blocks).procs (proc_number proc) (word_of table blocks body) f.0 f.1
-        within (inr none) =
-            let e = no_places c.proc.places c.proc.lines c.lines (empty_is c.proc.lines none) in
-            let z : (own_of c.proc).free.byte ≡ 0 = ap (λ ps. (behind_all table false lines (free_at FIXED_BYTES) ps).byte) e in
-            omega (arith, z)
-
         is_called : IsBody table blocks body
         is_called = is_body table blocks is_table have false c.proc literals (proc_number proc) c.tested (record {
           globals = λ e. absurd (false≢true e);
           layout = λ e. absurd (false≢true e);
-          within = within (cases_Bool (not (is_empty c.proc.lines)));
         }) (record { behind = c.behind_it; others = c.others; whole = c.texts; at = omega arith; among = c.among })
 
     -- the start code, where there is one
@@ -479,7 +454,6 @@ module _ (table : List TypeDef) (blocks : Code BlockLine) where
         is_body table blocks is_table have true (last_of no_proc blocks.procs) 0 number tested (record {
           globals = λ s. start_places p ps e;
           layout = λ s. start_laid p ps e;
-          within = let h = ap (λ (l : Layout). l.free.byte) (start_laid p ps e) in omega (arith, h);
         }) (record {
           behind = [];
           others = texts.0;

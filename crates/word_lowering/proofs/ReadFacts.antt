@@ -5,7 +5,7 @@ use Rattle.std.proofs.lemmas.Bool.{cases_Bool}
 use Rattle.nim_types.specs.declared.types.TypeDef.{TypeDef}
 use Rattle.nim_types.specs.Types.{Ty}
 use Rattle.nim_types.specs.Table.{facts_in}
-use Rattle.nim_meaning.specs.Values.{Value, bytes, number_of, Standing, Location, Holds}
+use Rattle.nim_meaning.specs.Values.{Value, bytes, Standing, Location, Holds}
 use Rattle.nim_meaning.specs.State.{World, held, load, slot_at}
 use Rattle.nim_meaning.specs.Places.{place_at, through_slot, root_of}
 use Rattle.flat_code.specs.declared.block.BlockLine.{BlockLine}
@@ -21,23 +21,43 @@ use Rattle.word_lowering.specs.declared.spots.Spot.TheVariants.{Lies}
 use Rattle.word_lowering.specs.declared.texts.TheConstants.{FIXED_BYTES}
 use Rattle.word_lowering.specs.Layouts.{is_address}
 use Rattle.word_lowering.specs.LineCode.{variable_in, variable_of, named, place, location}
-use Rattle.word_lowering.proofs.InMemory.{IsAt}
-use Rattle.word_lowering.proofs.ShapeFacts.{never, shape_bytes, of_numbers, bytes_is}
+use Rattle.word_lowering.proofs.InMemory.{IsAt, HasWords}
+use Rattle.word_lowering.proofs.ShapeFacts.{never, shape_bytes, of_numbers, bytes_is, values_of_numbers}
 use Rattle.word_lowering.proofs.ShapePaths.{path_within}
-use Rattle.word_lowering.proofs.Arithmetic.{word_small}
-use Rattle.word_lowering.proofs.Moves.{is_single, single_word}
-use Rattle.word_lowering.proofs.LineFits.{single_is, number_fits}
+use Rattle.word_lowering.proofs.Moves.{is_single}
+use Rattle.word_lowering.proofs.LineFits.{single_is, has_words}
 use Rattle.word_lowering.proofs.Sites.{room, around, type_of, Housing, in_variable, by_address, in_places, in_data, InMemory, Site, AmongSites}
 use Rattle.word_lowering.proofs.Sites.{data_end, globals_of, IsHoused, IsGlobal, IsBody, Linked}
 use Rattle.word_lowering.proofs.Scenes.{address_of, Name, of_value, of_location, of_place, Call, site_of, house, Filled, IsNamed, IsThere, looked, IsItem}
-use Rattle.word_lowering.proofs.Scenes.{FromPlace, FromValue, IsRoot, IsInValue, IsLedBy, IsFilled}
+use Rattle.word_lowering.proofs.Scenes.{FromPlace, FromConstant, standing_from, FromValue, IsRoot, IsInValue, IsLedBy, IsFilled}
 use Rattle.word_lowering.proofs.SitesApart.{houses, site_at}
 use Rattle.word_lowering.proofs.Keeping.{location_address, declared_address, spot_memory, spot_address, from_memory}
-use Rattle.word_lowering.proofs.Located.{IsThereAt, CallAt, call_at, RootAt, root_at, place_located, led_located}
-use Rattle.word_lowering.proofs.Sources.{Lying, lying_all, lying_near, Source, lies_at, item_source, size_is, word_is, small_word}
-use Rattle.word_lowering.proofs.Related.{Both, body_of, called_by, calls_of}
+use Rattle.word_lowering.proofs.Located.{IsReadAt, read_there, CallAt, call_at, RootAt, root_at, place_located, led_located}
+use Rattle.word_lowering.proofs.Sources.{Lying, lying_all, lying_near, lying_readable, Source, lies_at, item_source, size_is, word_is, small_word}
+use Rattle.word_lowering.proofs.Related.{Both, IsClosed, body_of, called_by, calls_of}
+use Rattle.word_lowering.proofs.PieceWords.{room_of, words_room, words_are}
+use Rattle.word_lowering.proofs.SmallWords.{AllSmall, small_words}
+use Rattle.flat_code.specs.Pieces.{value_of, piece_words}
 use Rattle.word_lowering.proofs.Lines.{Basis, starts, IsGood, all_sites}
 use Rattle.word_lowering.proofs.ValueFacts.{has_type, look_of, value_there, place_there, location_of_numbers}
+
+module _ (x : Basis) where
+  -- the address of a location is one of the machine's
+  pub constant_near : (l : Location) (a : ℕ) (t : Shape) → FromConstant x.table x.blocks l a t → a + shape_bytes t < 2 ^ 32
+  constant_near l a t f =
+      let v : Value = value_of f.pieces in
+      let words = words_are f.pieces f.one in
+      let there = x.constants f.pieces (subst AllSmall (sym words) (small_words v f.shape f.numbers f.shaped)) f.among in
+      let room = ap room_of words ∙ words_room v (values_of_numbers v f.shape f.numbers f.shaped) in
+      let size = bytes_is v f.shape f.numbers f.shaped in
+      let within = path_within f.shape l.path f.offset t f.path in
+      let near = text_near (standing_from x.table x.blocks f.pieces) (room_of (piece_words f.pieces)) there.is_text.0 in
+      let e = f.address in
+      omega (arith, near, within, e, size, room)
+    where
+      text_near : (b n : ℕ) → IsClosed x.table x.blocks b n → b + n < 2 ^ 32
+      text_near b n (inl c) = omega (arith, c.1)
+      text_near b n (inr c) = omega (arith, c.1)
 
 module _ (x : Basis) (sites : List Site) (linked : Linked x.table x.blocks sites) where
   -- the address of a location is one of the machine's
@@ -88,7 +108,7 @@ module _ (x : Basis) (g : Both) (line : BlockLine) (rest : List BlockLine) (y : 
   pub record Read (all : Bool) (h : Housed) (v : Value) : Type 0 where
     pub word : h.is_word ≡ is_single v
     pub size : h.bytes ≡ bytes v
-    pub small : single_word v < 2 ^ 32
+    pub small : HasWords v
     pub source : Source x sites y.linked g.memory g.call.site.base g.call.vars all h v
 
   -- ---- of temporaries
@@ -103,7 +123,7 @@ module _ (x : Basis) (g : Both) (line : BlockLine) (rest : List BlockLine) (y : 
     word = word_is x sites y.linked g.call (inl refl) f item.there item.plain v item.shaped;
     size = size_is x sites y.linked g.call (inl refl) f item.there item.plain v item.shaped;
     small = small_word x sites y.linked g.call (inl refl) f item.there item.plain v item.shaped;
-    source = item_source x sites y.linked g.memory g.call f v (inl refl) item;
+    source = item_source x sites y.linked g.memory y.memory g.call f v (inl refl) item;
   }
 
   pub read_value : (t : ℕ) (v : Value) → IsThere g.call.site (of_value t) → g.call.temps.values t ≡ Some v → ValueRead t v
@@ -114,7 +134,7 @@ module _ (x : Basis) (g : Both) (line : BlockLine) (rest : List BlockLine) (y : 
   -- ---- at addresses
 
   pub read_address : (f : Name) → IsThere g.call.site f → is_address (house g.call.site f).kind ≡ true → (v : Value) (a : ℕ)
-      → g.call.vars (variable_of (house g.call.site f)) ≡ Some a → IsThereAt x sites y.linked g.memory v a (looked x.table g.call.site f)
+      → g.call.vars (variable_of (house g.call.site f)) ≡ Some a → IsReadAt x sites y.linked g.memory v a (looked x.table g.call.site f)
       → Read false (house g.call.site f) v
   read_address f there address v a is at = by place_is.where_is
     where
@@ -128,8 +148,8 @@ module _ (x : Basis) (g : Both) (line : BlockLine) (rest : List BlockLine) (y : 
       by (by_address u e k low) = record {
         word = sym (single_is v (looked x.table g.call.site f) at.numbers at.shaped ∙ place_is.word);
         size = sym (bytes_is v (looked x.table g.call.site f) at.numbers at.shaped ∙ place_is.bytes);
-        small = word_small (number_of v) (number_fits v (looked x.table g.call.site f) at.shaped);
-        source = lies_at (Variable u) (spot_address (house g.call.site f) u address e) low a (ap g.call.vars (sym (ap variable_in e)) ∙ is) at.is_at at.lying
+        small = has_words v (looked x.table g.call.site f) at.shaped;
+        source = lies_at (Variable u) (spot_address (house g.call.site f) u address e) low a (ap g.call.vars (sym (ap variable_in e)) ∙ is) at.is_at at.readable
             (λ no_all. never no_all);
       }
 
@@ -176,6 +196,8 @@ module _ (x : Basis) (g : Both) (line : BlockLine) (rest : List BlockLine) (y : 
           let s = f.other no_own in
           let at = place_located x (all_sites x g line rest y) y.linked g.memory g.world each_call s.location s.address
           (looked x.table g.call.site (of_place n)) s.leads in
+          let read = read_there x (all_sites x g line rest y) y.linked g.memory (load g.world s.location) s.address
+          (looked x.table g.call.site (of_place n)) y.memory at in
           let same : load g.world s.location ≡ root_value g.call.site.level n
           = sym (ap (λ o. load g.world (through_slot (Standing g.call.site.level n) o)) s.slot) in
           record {
@@ -183,7 +205,7 @@ module _ (x : Basis) (g : Both) (line : BlockLine) (rest : List BlockLine) (y : 
             all = false;
             read = subst (λ u. Read false (house g.call.site (of_place n)) u) same
                 (read_address (of_place n) there (declared_address (house g.call.site (of_place n)).kind there.kind no_own) (load g.world s.location)
-                s.address s.holds at);
+                s.address s.holds read);
           }
 
       by : (is_own (house g.call.site (of_place n)).kind ≡ true) ⊎ (is_own (house g.call.site (of_place n)).kind ≡ false)
@@ -243,6 +265,7 @@ module _ (x : Basis) (g : Both) (line : BlockLine) (rest : List BlockLine) (y : 
       let size = size_is x sites y.linked c r.start.among (of_place n) item.there item.plain v item.shaped in
       let address : address_of site0.base (house site0 (of_place n)).home ≡ address_of site0.base (Static r.global.datum) = ap
       (address_of site0.base) r.global.home in
+      let lying = lying_as address (lying_all x sites y.linked site0 (of_place n) (bytes v) r.start.among r.there r.home size) in
       let load_is : v ≡ root_value 0 n = subst (λ l. v ≡ root_value l n) r.start.level (sym (own_load site0.level n v r.root.slot)) in
       record {
         shaped = subst (λ u. has_shape u (shape_of (facts_in x.table) ty) ≡ true) load_is
@@ -254,7 +277,7 @@ module _ (x : Basis) (g : Both) (line : BlockLine) (rest : List BlockLine) (y : 
           small = small_word x sites y.linked c r.start.among (of_place n) item.there item.plain v item.shaped;
           source = lies_at (Static r.global.datum) (spot_memory (house site0 (of_place n)) item.plain r.home ∙ ap Lies r.global.home) tt
               (address_of site0.base (Static r.global.datum)) refl (subst (λ a. IsAt g.memory a v) address at)
-              (lying_as address (lying_all x sites y.linked site0 (of_place n) (bytes v) r.start.among r.there r.home size)) (λ e. size);
+              (lying_readable x sites y.linked g.memory (address_of site0.base (Static r.global.datum)) (bytes v) y.memory lying) (λ e. (lying, size));
         }));
       }
 
@@ -326,11 +349,11 @@ module _ (x : Basis) (g : Both) (line : BlockLine) (rest : List BlockLine) (y : 
           location_numbers : of_numbers (looked x.table g.call.site (of_location t)) ≡ true
           location_numbers = location_of_numbers x g.call.site t y.linked.0 n
 
-      by : (a : Alias) → (house g.call.site (of_location t)).alias ≡ a → IsLedBy x.table a (all_sites x g line rest y) g.world g.call t there
+      by : (a : Alias) → (house g.call.site (of_location t)).alias ≡ a → IsLedBy x.table x.blocks a (all_sites x g line rest y) g.world g.call t there
           → LocationRead t there
       by alias.Own is r =
           let there_is : IsThere g.call.site (of_location t) = record { among = n.among; number = n.number; kind = n.kind; own = is } in
-          let at = led_located x (all_sites x g line rest y) y.linked g.memory g.world each_call g.call (inl refl) y.hold.0.items there r.address
+          let at = led_located x (all_sites x g line rest y) y.linked g.memory g.world each_call y.memory g.call (inl refl) y.hold.0.items there r.address
           (looked x.table g.call.site (of_location t)) r.leads in
           record {
             shaped = at.shaped;

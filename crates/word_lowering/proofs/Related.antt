@@ -1,5 +1,5 @@
 -- The states of block code and of word code that belong together: both are made of one record, and what is true of it.
-use Rattle.std.proofs.Common.{◌≡◌, ◌⊎◌, ℕ, ◌+◌, ◌%◌, ◌≤◌, List, [], ◌∷◌, ◌++◌, length, map, Some, true}
+use Rattle.std.proofs.Common.{◌≡◌, ◌⊎◌, inl, inr, arith, ℕ, ◌+◌, ◌%◌, ◌≤◌, List, [], ◌∷◌, ◌++◌, length, map, Some, true}
 use Rattle.rv32_isa.specs.Image.{stack_at}
 use Rattle.nim_types.specs.declared.types.TypeDef.{TypeDef}
 use Rattle.nim_meaning.specs.State.{World}
@@ -7,17 +7,18 @@ use Rattle.flat_code.specs.declared.block.BlockLine.{BlockLine}
 use Rattle.flat_code.specs.declared.code.Code.{Code}
 use Rattle.word_code.specs.declared.word.WordInstr.{WordInstr}
 use Rattle.word_code.specs.declared.word.WordProc.{WordProc}
-use Rattle.rv32_isa.specs.Regions.{KeepsSizes}
 use Rattle.word_code.specs.declared.routine.TheConstants.{RUNTIME_DATA, SCRATCH_BYTES}
-use Rattle.word_code.specs.Memory.{Memory, as_state, bytes_at, own_data_at}
+use Rattle.word_code.specs.Memory.{Memory, bytes_at, own_data_at}
 use Rattle.word_code.specs.RoutineTable.{Cell, Beside}
 use Rattle.word_code.specs.Runtime.{routines_at}
 use Rattle.word_code.proofs.ForCallers.{Sized, Within, at}
-use Rattle.word_code.specs.Words.{Vars, no_words, WordFrame, WordState, places_size}
+use Rattle.word_code.specs.Words.{Vars, no_words, WordFrame, WordState}
 use Rattle.flat_code.specs.Scene.{known_in}
 use Rattle.flat_code.specs.Fits.{all_fit}
 use Rattle.flat_code.specs.Running.{Waiting, Machine}
 use Rattle.flat_code.specs.Codes.{block_plain}
+use Rattle.flat_code.specs.declared.line.Piece.{Piece}
+use Rattle.flat_code.specs.Pieces.{piece_words}
 use Rattle.word_lowering.specs.declared.homes.TheConstants.{FIRST}
 use Rattle.word_lowering.specs.declared.homes.Housed.{Housed}
 use Rattle.word_lowering.specs.declared.spots.Spot.{Spot}
@@ -29,8 +30,11 @@ use Rattle.word_lowering.specs.Spots.{spot_of}
 use Rattle.word_lowering.specs.LineCode.{lines_code, result_code, value, layout_at}
 use Rattle.word_lowering.specs.Lowered.{lowered, last_code, result_cleared}
 use Rattle.word_lowering.proofs.Frames.{IsFrame}
-use Rattle.word_lowering.proofs.Sites.{Body, lines_of, looks, Site, data_end, around, word_of, Linked, sigs, globals_of}
+use Rattle.word_lowering.proofs.Sites.{Body, lines_of, looks, Site, data_end, around, word_of, Linked, sigs, globals_of, next_base}
+use Rattle.word_lowering.proofs.PieceWords.{WordsAt, room_of}
+use Rattle.word_lowering.proofs.Scenes.{standing_from}
 use Rattle.word_lowering.proofs.Scenes.{of_value, IsNamed, IsThere, looked, Call, site_of, AllHold}
+use Rattle.word_code.specs.declared.word.TheConstants.{SPARE_ROOM}
 
 -- a call that waits: the lines that it goes on with, the temporary to which the result goes, and the procedure that it called
 pub record Waits : Type 0 where
@@ -145,11 +149,11 @@ module _ (table : List TypeDef) (blocks : Code BlockLine) where
 
   -- ---- memory
 
-  -- words that may be read and written: globals and places
-  abbrev pub IsOpen : ℕ → Type 0
-  IsOpen a =
+  -- words that may be read and written: globals, the places of these calls, and behind them those for arguments
+  abbrev pub IsOpen : List Site → ℕ → Type 0
+  IsOpen sites a =
       ((own_data_at + FIXED_BYTES ≤ a) × (a + 4 ≤ own_data_at + data_end table blocks))
-      ⊎ ((stack_at ≤ a) × (a + 4 ≤ stack_at + places_size procs))
+      ⊎ ((stack_at ≤ a) × (a + 4 ≤ next_base sites + SPARE_ROOM))
 
   -- data beside all places and the byte of a character: what each program has, and all behind the globals, with what routines have
   abbrev pub IsClosed : (at n : ℕ) → Type 0
@@ -164,11 +168,32 @@ module _ (table : List TypeDef) (blocks : Code BlockLine) where
   abbrev pub IsText : (at n : ℕ) → Type 0
   IsText at n = IsClosed at n × Beside at n routines SCRATCH_BYTES
 
-  -- beside the memory at the start
-  pub record MemoryGood (first m : Memory) : Type 0 where
+  -- a part of that
+  pub text_part : (a n b k : ℕ) → IsText a n → a ≤ b → b + k ≤ a + n → IsText b k
+  text_part a n b k text low high = (closed text.0, beside text.1)
+    where
+      closed : IsClosed a n → IsClosed b k
+      closed (inl c) = inl (omega (arith, c.0, low), omega (arith, c.1, high))
+      closed (inr c) = inr (omega (arith, c.0, low), omega (arith, c.1, high))
+
+      beside : Beside a n routines SCRATCH_BYTES → Beside b k routines SCRATCH_BYTES
+      beside (inl c) = inl (omega (arith, c, high))
+      beside (inr c) = inr (omega (arith, c, low))
+
+  -- a constant of the data at the start
+  pub record StandsThere (first : Memory) (pieces : List Piece) : Type 0 where
+    pub words : WordsAt first (standing_from table blocks pieces) (piece_words pieces)
+    pub cells : (o : ℕ) → o + 4 ≤ room_of (piece_words pieces) → o % 4 ≡ 0 → Cell first (standing_from table blocks pieces + o)
+    pub is_text : IsText (standing_from table blocks pieces) (room_of (piece_words pieces))
+    pub whole : standing_from table blocks pieces % 4 ≡ 0
+
+  -- beside the memory at the start, while these calls are active
+  pub record MemoryGood (sites : List Site) (first m : Memory) : Type 0 where
     pub sized : Sized m
-    pub sizes : KeepsSizes (as_state first) (as_state m)
-    pub cells : (a : ℕ) → a % 4 ≡ 0 → IsOpen a → Cell m a
+    pub statics : length m.statics ≡ length first.statics
+    pub heap : length m.heap ≡ length first.heap
+    pub places : stack_at + length m.places ≡ next_base sites + SPARE_ROOM
+    pub cells : (a : ℕ) → a % 4 ≡ 0 → IsOpen sites a → Cell m a
     pub texts : (at n : ℕ) → IsText at n → bytes_at m at n ≡ bytes_at first at n
 
   -- ---- where lines stand
@@ -206,8 +231,8 @@ module _ (table : List TypeDef) (blocks : Code BlockLine) where
   -- all that is true of both
   pub record Good (first : Memory) (g : Both) : Type 0 where
     pub linked : Linked table blocks (sites_of g)
-    pub memory : MemoryGood first g.memory
-    pub hold : AllHold table g.memory g.world (calls_of g)
+    pub memory : MemoryGood (sites_of g) first g.memory
+    pub hold : AllHold table blocks g.memory g.world (calls_of g)
     pub frames : AllFrames g.world (sites_of g)
     pub levels : length g.world.frames ≡ length (sites_of g)
     pub stands : StandAt (body_of g) g.rest

@@ -25,19 +25,23 @@ use Rattle.word_lowering.proofs.Gets.{memory_kept}
 use Rattle.word_lowering.proofs.Keeping.{spot_held, spot_memory, points_there, from_memory, to_memory, somewhere}
 use Rattle.word_lowering.proofs.LineFits.{single_is}
 use Rattle.word_lowering.proofs.Lines.{Basis, all_procs, starts, IsGood, Settles, all_sites}
-use Rattle.word_lowering.proofs.Moves.{is_single, single_word, same_first, same_more}
+use Rattle.word_lowering.proofs.Moves.{is_single, single_word, same_first, same_more, IsArea, single_small}
 use Rattle.word_lowering.proofs.Options.{some_same}
-use Rattle.word_lowering.proofs.Related.{Both, Waits, low, code_behind, awaits_in, goes_on, MayAnswer}
-use Rattle.word_lowering.proofs.Returned.{called}
+use Rattle.word_lowering.proofs.Related.{Both, Waits, low, code_behind, awaits_in, goes_on, MayAnswer, MemoryGood}
+use Rattle.word_lowering.proofs.Returned.{called, sites_left, linked_left, memory_left, good_left, left_read}
 use Rattle.word_lowering.proofs.ReturnLines.{place_high, after, HandsBack}
 use Rattle.word_lowering.proofs.Scenes.{address_of, of_value, of_place, house, looked, IsItem, IsNamed}
 use Rattle.word_lowering.proofs.ShapeFacts.{never}
-use Rattle.word_lowering.proofs.Sites.{room, looks, Housing, in_variable, by_address, in_places, in_data, InVariable, InMemory, data_end, around, IsHoused}
+use Rattle.word_lowering.proofs.Sites.{room, looks, Housing, in_variable, by_address, in_places, in_data, InVariable, InMemory, data_end, around, IsHoused, Linked}
 use Rattle.word_lowering.proofs.Sites.{Site, There}
-use Rattle.word_lowering.proofs.SitesApart.{houses}
-use Rattle.word_lowering.proofs.Sources.{lies_at, lying_all, size_is, small_word, to_bytes_by}
+use Rattle.word_lowering.proofs.SitesApart.{houses, InRange, site_at, next_least}
+use Rattle.word_lowering.proofs.Sources.{lying_all, size_is, small_word, address_whole, area_by, lying_range, lies_at, to_bytes_by, Lying, Readable}
 use Rattle.word_lowering.proofs.Targets.{found_or}
 use Rattle.word_lowering.proofs.ValueFacts.{value_plain}
+use Rattle.word_lowering.proofs.InMemory.{IsAt, carries, HasWords}
+use Rattle.word_code.specs.RoutineTable.{Separate}
+use Rattle.word_code.specs.Memory.{Memory}
+use Rattle.word_code.specs.declared.word.TheConstants.{SPARE_ROOM}
 
 no_word_both : (home : Home) → InVariable home → InMemory home → ⊥
 no_word_both (Variable v) i j = j
@@ -51,6 +55,19 @@ module _ (x : Basis) (h : Both) (w : Waits) (ws : List Waits) (line : BlockLine)
 
   abbrev sites : List Site
   sites = all_sites x g line rest y
+
+  -- the calls that are left, and memory then
+  abbrev left : List Site
+  left = sites_left x h w ws line rest y
+
+  abbrev linked : Linked x.table x.blocks left
+  linked = linked_left x h w ws line rest y
+
+  abbrev memory_now : Memory
+  memory_now = memory_left x h w ws line rest y
+
+  good_now : MemoryGood x.table x.blocks left x.first memory_now
+  good_now = good_left x h w ws line rest y
 
   abbrev to : Housed
   to = house w.call.site (of_value w.to)
@@ -67,7 +84,7 @@ module _ (x : Basis) (h : Both) (w : Waits) (ws : List Waits) (line : BlockLine)
 
   -- the state behind the return, by where the caller's temporary is
   abbrev state : Housed → Spot → ℕ → WordState
-  state t s n = at (within_back (awaits_in x.table x.blocks s)) h.memory (goes_on x.table x.blocks w.call.site.body t s w.proc k_next)
+  state t s n = at (within_back (awaits_in x.table x.blocks s)) memory_now (goes_on x.table x.blocks w.call.site.body t s w.proc k_next)
       (put w.call.vars (awaits_in x.table x.blocks s) n) no_words
 
   abbrev pub Goes : ℕ → Type 0
@@ -77,7 +94,7 @@ module _ (x : Basis) (h : Both) (w : Waits) (ws : List Waits) (line : BlockLine)
 
   pub unwanted : (IsNamed w.call.site (of_value w.to) → ⊥) → (u : Value) (work : ℕ) → 1 ≤ work → HandsBack x h w ws line rest y u code_here → Goes work
   unwanted unnamed u work some b =
-      settles_back x h w ws line rest y v work (put w.call.vars FIRST b.handed) h.memory no_words FIRST
+      settles_back x h w ws line rest y v work (put w.call.vars FIRST b.handed) memory_now no_words FIRST
       (good_nothing x h w ws line rest y v unnamed b.handed FIRST) b.steps b.some (let f = b.few in omega (arith, f, some))
       (subst (Runs x.live (all_procs x) b.steps (low x.table x.blocks (starts g line rest))) (ap (λ t. state t (spot_of t) b.handed) none) b.runs)
     where
@@ -110,7 +127,7 @@ module _ (x : Basis) (h : Both) (w : Waits) (ws : List Waits) (line : BlockLine)
     plain_to : is_address to.kind ≡ false
     plain_to = value_plain to.kind may.there.kind
 
-    small : single_word v < 2 ^ 32
+    small : HasWords v
     small = small_word x sites y.linked h.call (inl refl) (of_place p) item.there item.plain v item.shaped
 
     single_to : is_single v ≡ to.is_word
@@ -124,8 +141,8 @@ module _ (x : Basis) (h : Both) (w : Waits) (ws : List Waits) (line : BlockLine)
 
     in_variable_done : (u : ℕ) → to.home ≡ Variable u → to.is_word ≡ true → Done
     in_variable_done u home is_word =
-        settles_back x h w ws line rest y v (suc (bytes v)) (put w.call.vars u (single_word v)) h.memory no_words u
-        (good_word_back x h w ws line rest y v may.there shaped u home small u) b.steps b.some (let f = b.few in omega (arith, f))
+        settles_back x h w ws line rest y v (suc (bytes v)) (put w.call.vars u (single_word v)) memory_now no_words u
+        (good_word_back x h w ws line rest y v may.there shaped u home (single_small v small) u) b.steps b.some (let f = b.few in omega (arith, f))
         (subst (Runs x.live (all_procs x) b.steps (low x.table x.blocks (starts g line rest)))
         (ap₂ (state to) (spot_held to u plain_to home) (b.is (single_to ∙ is_word))) b.runs)
 
@@ -148,9 +165,9 @@ module _ (x : Basis) (h : Both) (w : Waits) (ws : List Waits) (line : BlockLine)
           ∙ ap (λ e. moved from.is_word from.bytes (spot_of to) (Lies (left_at (room w.call.site.body) e)) k_next) home
 
       first : Runs x.live (all_procs x) b.steps (low x.table x.blocks (starts g line rest))
-          (at (within_back FIRST) h.memory (moves to old k_next) vars_first no_words)
+          (at (within_back FIRST) memory_now (moves to old k_next) vars_first no_words)
       first = subst (Runs x.live (all_procs x) b.steps (low x.table x.blocks (starts g line rest)))
-          (ap₂ (λ q l. at (within_back q) h.memory l (put w.call.vars q b.handed) no_words)
+          (ap₂ (λ q l. at (within_back q) memory_now l (put w.call.vars q b.handed) no_words)
           (ap (awaits_in x.table x.blocks) (spot_memory to plain_to inside)) code_is) b.runs
 
       size_to : to.bytes ≡ bytes v
@@ -163,13 +180,26 @@ module _ (x : Basis) (h : Both) (w : Waits) (ws : List Waits) (line : BlockLine)
       placed_done =
           let from_inside : InMemory from.home = subst InMemory (sym home) tt in
           let was = from_memory h.memory h.call.site.base h.call.vars from v item.plain from_inside item.at in
-          let same_address : address_of h.call.site.base from.home ≡ w.call.site.base + (n + room w.call.site.body)
-          = ap (address_of h.call.site.base) home ∙ (let e = y.linked.4 in omega (arith, e)) in
-          let source = lies_at (Placed (n + room w.call.site.body)) refl tt (address_of h.call.site.base from.home) same_address was
-          (lying_all x sites y.linked h.call.site (of_place p) (bytes v) (inl refl) item.there from_inside size_from) (λ e. size_from) in
-          let lying = lying_all x sites y.linked w.call.site (of_value w.to) (bytes v) (inr (inl refl)) may.there inside size_to in
-          let r = to_bytes_by x sites y.linked (within_back FIRST) refl no_words h.memory y.memory k_next vars_first to old v (sym single_from) size_from small
-          to.home (spot_memory to plain_to inside) a (points_there w.call.site.base vars_first to.home inside) lying true source (inl size_to) in
+          let b_at : ℕ = address_of h.call.site.base from.home in
+          let begins = y.linked.4 in
+          let ends : n + bytes v ≤ SPARE_ROOM = (let s = y.linked.0.handed from n result_is home in omega (arith, s, size_from)) in
+          let at_end : b_at ≡ h.call.site.base + n = ap (address_of h.call.site.base) home in
+          let same_address : b_at ≡ w.call.site.base + (n + room w.call.site.body) = (let e = at_end in omega (arith, begins, e)) in
+          let least = next_least x.table x.blocks left linked in
+          let aligned = address_whole x sites y.linked h.call.site (of_place p) (inl refl) item.there from_inside in
+          let source : IsAt memory_now b_at v = carries h.memory memory_now b_at b_at v (λ o word inner is read.
+          left_read x h w ws line rest y (b_at + o) word (let e = same_address in omega (arith, e, ends, inner)) read) was in
+          let area : IsArea memory_now b_at (bytes v) = (λ q le. area_by memory_now q b_at aligned (λ c low high is. good_now.cells c is
+          (let e = same_address in inr (omega (arith, least, low, e), omega (arith, high, le, e, ends))))) in
+          let readable : Readable x left linked memory_now b_at (bytes v) = record {
+            area = area;
+            near = (let t = x.within left linked in let e = same_address in omega (arith, t, e, ends));
+            separate = λ c t all. apart c t b_at same_address (lying_range x left linked c (bytes v) t);
+          } in
+          let lying = lying_all x left linked w.call.site (of_value w.to) (bytes v) (inl refl) may.there inside size_to in
+          let r = to_bytes_by x left linked (within_back FIRST) refl no_words memory_now good_now k_next vars_first to old v (sym single_from) size_from small
+          to.home (spot_memory to plain_to inside) a (points_there w.call.site.base vars_first to.home inside) lying false
+          (lies_at (Placed (n + room w.call.site.body)) refl tt b_at same_address source readable (λ no. never no)) (inl size_to) in
           let kept = same_more w.call.vars vars_first r.vars (same_first w.call.vars b.handed) r.same in
           let s = b.some in
           let f = b.few in
@@ -177,12 +207,24 @@ module _ (x : Basis) (h : Both) (w : Waits) (ws : List Waits) (line : BlockLine)
           let few = r.few in
           settles_back x h w ws line rest y v (suc (bytes v)) r.vars r.memory r.words r.awaits
           (good_gets x h w ws line rest y v may.there shaped r.vars r.memory r.words r.awaits
-          (memory_kept x sites y.linked h.memory r.memory a (bytes v) y.memory r.changed lying)
-          (somewhere a (bytes v) r.changed.outside (inl refl) may.there inside (omega arith) (omega (arith, size)))
+          (memory_kept x left linked memory_now r.memory a (bytes v) good_now r.changed lying)
+          (somewhere a (bytes v) (λ c word before apart_c read. r.changed.outside c apart_c
+          ∙ left_read x h w ws line rest y c word (omega (arith, before)) read) (inl refl) may.there inside (omega arith) (omega (arith, size)))
           (λ f u is ne e. kept.others u (place_high x w.call.site y.linked.5.0 f u is e)) kept.left
           (to_memory r.memory w.call.site.base r.vars to v plain_to inside r.there))
           (b.steps + r.steps) (omega (arith, s)) (omega (arith, f, few))
           (then_runs x.live (all_procs x) first r.runs)
+        where
+          -- the places that are left end before it
+          apart : (c : ℕ) (t : Lying x (sites_left x h w ws line rest y) (linked_left x h w ws line rest y) c (bytes v)) (b_at : ℕ)
+              → b_at ≡ w.call.site.base + (n + room w.call.site.body) → InRange x.table x.blocks t.site c (bytes v) → Separate c b_at (bytes v)
+          apart c t b_at e (inl r) =
+              let d = x.small in
+              let least = (site_at x.table x.blocks (sites_left x h w ws line rest y) w.call.site (linked_left x h w ws line rest y) (inl refl)).least in
+              inr (inl (omega (arith, r.2, d, least, e)))
+          apart c t b_at e (inr r) =
+              let most = (site_at x.table x.blocks (sites_left x h w ws line rest y) t.site (linked_left x h w ws line rest y) t.among).most in
+              inr (inl (omega (arith, r.1, most, e)))
 
     in_memory_done : InMemory to.home → Done
     in_memory_done inside = by place_from.where_is

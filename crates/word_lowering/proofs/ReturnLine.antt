@@ -3,7 +3,6 @@ use Rattle.std.proofs.Common.{◌≡◌, ℕ, suc, ◌*◌, ◌≤◌, List, [],
 use Rattle.std.proofs.Common.{refl, sym, ap, subst, ◌∙◌, arith}
 use Rattle.std.proofs.lemmas.Bool.{eqb-true}
 use Rattle.arc_base.specs.Behaviour.{no_objects}
-use Rattle.arc_base.specs.Simulation.{Stops}
 use Rattle.nim_types.specs.Types.{Ty}
 use Rattle.nim_meaning.specs.Places.{place_at}
 use Rattle.nim_meaning.specs.State.{held, load, slot_at}
@@ -18,7 +17,7 @@ use Rattle.flat_code.specs.Scene.{Returns, Fails}
 use Rattle.word_code.specs.declared.word.WordInstr.{WordInstr}
 use Rattle.word_lowering.specs.declared.homes.Housed.{Housed}
 use Rattle.word_lowering.specs.Layouts.{found, result_in}
-use Rattle.word_lowering.specs.LineCode.{back_code, return_code}
+use Rattle.word_lowering.specs.LineCode.{back_code, return_code, exit_code}
 use Rattle.word_lowering.specs.Spots.{spot_of}
 use Rattle.word_lowering.proofs.ControlLines.{FollowedHere, plain}
 use Rattle.word_lowering.proofs.EndLines.{zero_exits}
@@ -26,15 +25,16 @@ use Rattle.word_lowering.proofs.Lines.{Basis, fits_here, starts, IsGood, known, 
 use Rattle.word_lowering.proofs.MovedLines.{own_declared}
 use Rattle.word_lowering.proofs.Options.{none_some}
 use Rattle.word_lowering.proofs.ReadFacts.{read_item}
-use Rattle.word_lowering.proofs.Related.{Both, Waits, low, high, code_behind}
+use Rattle.word_lowering.proofs.Related.{Both, Waits, low, high, code_behind, within}
 use Rattle.word_lowering.proofs.Returned.{called}
 use Rattle.word_lowering.proofs.ReturnFollowed.{unwanted, wanted}
 use Rattle.word_lowering.proofs.ReturnLines.{HandsBack, hands_back, hands_nothing}
 use Rattle.word_lowering.proofs.Scenes.{IsItem, house, of_place}
-use Rattle.word_lowering.proofs.Settling.{LabelsLead}
+use Rattle.word_lowering.proofs.Settling.{LabelsLead, stops_more}
 use Rattle.word_lowering.proofs.ShapeFacts.{never}
 use Rattle.word_lowering.proofs.Sites.{Among, Body, IsBody, ResultIs, There, around}
 use Rattle.word_lowering.proofs.ValueFacts.{place_there, type_in}
+use Rattle.word_code.proofs.ForCallers.{AlwaysStops, at}
 
 slot_there : (o : Option Slot) → is_there o ≡ true → (slot : Slot) × (o ≡ Some slot)
 slot_there None h = never h
@@ -135,7 +135,7 @@ module _ (x : Basis) (h : Both) (rest : List BlockLine) where
           let u = (y.hold.0.filled p there (slot_there (slot_at h.world h.call.site.level p) has)).own i.2 in
           subst (λ z. Settles x (starts g line rest) rest (Returns z (suc (bytes z)))) (sym (ap held u.1))
           (finish u.0 (y.hold.0.items (of_place p) u.0 there u.1)))
-          (λ no. tt)
+          (λ no before. tt)
 
   -- ---- the start code ends
 
@@ -150,9 +150,10 @@ module _ (x : Basis) (h : Both) (rest : List BlockLine) where
       let code : code_behind x.table x.blocks h.call.site.body (plain (L.Return result) ∷ rest)
       ≡ return_code (around x.table x.blocks h.call.site.body) true result k
       = ap (λ b. return_code (around x.table x.blocks h.call.site.body) b result k) y.linked.1 in
-      subst (λ c. Stops (lower x) (record (low x.table x.blocks (starts alone (plain (L.Return result)) rest))
+      subst (λ c. AlwaysStops (lower x) (record (low x.table x.blocks (starts alone (plain (L.Return result)) rest))
       { frame = record (low x.table x.blocks (starts alone (plain (L.Return result)) rest)).frame { left = c } }) [] (16 * work) 0 no_objects)
-      (sym code) (record { work = s.work; within = omega (arith, s.within, some); by = s.by })
+      (sym code) (stops_more (lower x) (at (within x.table x.blocks alone) h.memory (exit_code k) h.call.vars h.words) 2 (16 * work) 0 [] no_objects
+      (omega (arith, some)) s) x.fresh
 
   by_waiting : (result : Option ℕ) (ws : List Waits) → IsGood x (starts (record h { waiting = ws }) (plain (L.Return result)) rest)
       → Settles x (starts (record h { waiting = ws }) (plain (L.Return result)) rest) rest
@@ -161,7 +162,7 @@ module _ (x : Basis) (h : Both) (rest : List BlockLine) where
   by_waiting (Some p) [] y =
       let v : Value = load h.world (place_at h.call.site.level p) in
       branch_settles x (starts alone (plain (L.Return (Some p))) rest) rest (is_there (slot_at h.world h.call.site.level p)) (Returns v (suc (bytes v))) Fails
-      (λ has. start_ends (Some p) y v (suc (bytes v)) (omega arith)) (λ no. tt)
+      (λ has. start_ends (Some p) y v (suc (bytes v)) (omega arith)) (λ no before. tt)
   by_waiting None (w ∷ ws) y = return_none w ws y
   by_waiting (Some p) (w ∷ ws) y = return_some w ws p y
 

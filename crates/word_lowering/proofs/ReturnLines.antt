@@ -16,16 +16,16 @@ use Rattle.word_lowering.specs.declared.homes.TheConstants.{FIRST, LEFT, OWN_FRO
 use Rattle.word_lowering.specs.declared.texts.TheConstants.{FIXED_BYTES}
 use Rattle.word_lowering.specs.Spots.{spot_of, address}
 use Rattle.word_lowering.specs.LineCode.{back_code, word_back, variable_in}
-use Rattle.word_lowering.proofs.InMemory.{IsAt}
+use Rattle.word_lowering.proofs.InMemory.{IsAt, HasWords}
 use Rattle.word_lowering.proofs.Moves.{is_single, single_word, address_runs}
 use Rattle.word_lowering.proofs.Sites.{room, Housing, in_variable, by_address, in_places, in_data, InMemory, data_end, word_of, Site, IsBody}
 use Rattle.word_lowering.proofs.SitesApart.{houses}
 use Rattle.word_lowering.proofs.Scenes.{Points, Name, house, IsThere}
 use Rattle.word_lowering.proofs.Related.{Both, Waits, within, low, high, code_behind, frame_of, awaits_for, left_for}
 use Rattle.word_lowering.proofs.Lines.{Basis, all_procs, starts, IsGood, all_sites}
-use Rattle.word_lowering.proofs.Sources.{Source, held_in, lies_at, lying_near}
+use Rattle.word_lowering.proofs.Sources.{Source, held_in, lies_at}
 use Rattle.word_lowering.proofs.ReadFacts.{Read}
-use Rattle.word_lowering.proofs.Returned.{called}
+use Rattle.word_lowering.proofs.Returned.{called, memory_left}
 
 -- variables of places aren't those for what comes between
 pub place_high : (x : Basis) (s : Site) → IsBody x.table x.blocks s.body → (f : Name) (u : ℕ) → IsThere s f → (house s f).home
@@ -61,10 +61,10 @@ module _ (x : Basis) (h : Both) (w : Waits) (ws : List Waits) (line : BlockLine)
 
   run_back : (k : List WordInstr) (vars : Vars) (v a : ℕ) → vars v ≡ Some a
       → Runs x.live (all_procs x) 1 (at (within x.table x.blocks g) h.memory (Return v ∷ k) vars h.words)
-      (at after h.memory lines_left (vars_back a) no_words)
+      (at after (memory_left x h w ws line rest y) lines_left (vars_back a) no_words)
   run_back k vars v a e =
       let s : WordState = at (within x.table x.blocks g) h.memory (Return v ∷ k) vars h.words in
-      one (step x.live (all_procs x)) (ap (λ o. settled x.live (all_procs x) s k (using o (λ b. Returns b))) e)
+      one (step x.live (all_procs x)) (λ bytes. ap (λ o. settled x.live (all_procs x) bytes s k (using o (λ b. Returns b))) e)
 
   -- the caller gets a word, which is the value where that is one word
   pub record HandsBack (v : Value) (lines : List WordInstr) : Type 0 where
@@ -74,7 +74,7 @@ module _ (x : Basis) (h : Both) (w : Waits) (ws : List Waits) (line : BlockLine)
     pub some : 0 < steps
     pub few : steps ≤ 3
     pub runs : Runs x.live (all_procs x) steps (at (within x.table x.blocks g) h.memory lines h.call.vars h.words)
-        (at after h.memory lines_left (vars_back handed) no_words)
+        (at after (memory_left x h w ws line rest y) lines_left (vars_back handed) no_words)
 
   not_start : h.call.site.body.start ≡ false
   not_start = y.linked.1
@@ -93,7 +93,7 @@ module _ (x : Basis) (h : Both) (w : Waits) (ws : List Waits) (line : BlockLine)
   }
 
   lies_back : (v : Value) (k : List WordInstr) (home : Home) (b : ℕ) → Points h.call.site.base h.call.vars home b → IsAt h.memory b v
-      → b + bytes v < 2 ^ 32 → single_word v < 2 ^ 32
+      → b + bytes v < 2 ^ 32 → HasWords v
       → HandsBack v (word_back (is_single v) home k)
   lies_back (Number z) k home b points is_at near small =
       let v1 : Vars = put h.call.vars FIRST b in
@@ -130,6 +130,6 @@ module _ (x : Basis) (h : Both) (w : Waits) (ws : List Waits) (line : BlockLine)
         few = omega arith;
         runs = run_back k h.call.vars u (single_word v) e;
       })
-      by (lies_at home spot high b points is_at lying is_all) =
+      by (lies_at home spot high b points is_at readable is_all) =
           subst (λ l. HandsBack v l) (sym (ap₂ (λ c p. back_code c p k) read.word spot))
-          (lies_back v k home b points is_at (lying_near x (all_sites x (called x h w ws line rest) line rest y) y.linked b (bytes v) lying) read.small)
+          (lies_back v k home b points is_at readable.near read.small)

@@ -1,20 +1,23 @@
 -- What is true where a caller goes on.
-use Rattle.std.proofs.Common.{◌≡◌, ◌≢◌, inl, inr, ℕ, zero, suc, ◌<◌, ◌≤◌, List, [], ◌∷◌, length, map, refl, ap, ◌∙◌, arith}
+use Rattle.std.proofs.Common.{◌≡◌, ◌≢◌, inl, inr, ℕ, zero, suc, ◌<◌, ◌≤◌, List, [], ◌∷◌, length, map, refl, ap, ◌∙◌, arith, Ok, ◌+◌}
 use Rattle.std.specs.Prelude.{take, slice_get}
 use Rattle.nim_meaning.specs.Places.{through_slot}
 use Rattle.nim_meaning.specs.State.{World, down_to, slot_at, slot_of, frame_in}
 use Rattle.nim_meaning.specs.Values.{Standing}
 use Rattle.flat_code.specs.declared.block.BlockLine.{BlockLine}
 use Rattle.flat_code.specs.Scene.{Temps}
-use Rattle.word_code.specs.Memory.{Memory}
+use Rattle.word_code.specs.Memory.{Memory, without_places, number_at}
 use Rattle.word_code.specs.Words.{Vars}
 use Rattle.word_lowering.proofs.Frames.{IsFrame}
 use Rattle.word_lowering.proofs.Keeping.{AmongCalls, call, Edit, Worlds, Kept, New, holding_kept, all_kept}
 use Rattle.word_lowering.proofs.Lines.{Basis, starts, IsGood}
-use Rattle.word_lowering.proofs.Related.{Both, Waits, called_by, MemoryGood, AllFrames}
+use Rattle.word_lowering.proofs.Related.{Both, Waits, called_by, MemoryGood, AllFrames, sites_of}
 use Rattle.word_lowering.proofs.Scenes.{Call, Name, site_of}
-use Rattle.word_lowering.proofs.Sites.{Site, AmongSites, Linked}
-use Rattle.word_lowering.proofs.SitesApart.{site_at}
+use Rattle.word_lowering.proofs.Sites.{Site, AmongSites, Linked, room, next_base}
+use Rattle.word_lowering.proofs.SitesApart.{site_at, next_least}
+use Rattle.word_lowering.proofs.CallPlaces.{Grown, places_go, good_go, read_before}
+use Rattle.rv32_isa.specs.declared.micro_op.Size.TheVariants.{Word}
+use Rattle.word_code.specs.declared.word.TheConstants.{SPARE_ROOM}
 
 module _ {A : Type 0} where
   get_take : (n : ℕ) (xs : List A) (i : ℕ) → i < n → slice_get (take n xs) i ≡ slice_get xs i
@@ -56,6 +59,23 @@ module _ (x : Basis) (h : Both) (w : Waits) (ws : List Waits) (line : BlockLine)
     abbrev pub world_left : World
     world_left = down_to h.call.site.level h.world
 
+    -- memory without the places of the call
+    abbrev pub memory_left : Memory
+    memory_left = without_places h.memory (room h.call.site.body)
+
+    pub goes : Grown memory_left h.memory (room h.call.site.body)
+    goes = places_go h.memory (room h.call.site.body)
+        (let p = y.memory.places in let b = y.linked.4 in let l = next_least x.table x.blocks sites_left linked_left in omega (arith, p, b, l))
+
+    pub good_left : MemoryGood x.table x.blocks sites_left x.first memory_left
+    good_left = good_go memory_left h.memory (room h.call.site.body) goes x sites_left (sites_of called) linked_left
+        (ap (λ n. n + room h.call.site.body) y.linked.4) y.memory
+
+    -- what stands in the places that are left, and in those for arguments behind them
+    pub left_read : (a n : ℕ) → a + 4 ≤ next_base sites_left + SPARE_ROOM → number_at h.memory a Word ≡ Ok n → number_at memory_left a Word ≡ Ok n
+    left_read a n within read =
+        read_before memory_left h.memory (room h.call.site.body) goes a n (let p = good_left.places in omega (arith, within, p)) read
+
     below : (s : Site) → AmongSites s sites_left → s.level < h.call.site.level
     below s i = let z = site_at x.table x.blocks sites_left s linked_left i in omega (arith, z.level, y.linked.2)
 
@@ -88,7 +108,7 @@ module _ (x : Basis) (h : Both) (w : Waits) (ws : List Waits) (line : BlockLine)
     }
 
     pub good_back : (lo : Site) (e : Name) (temps : Temps) (vars : Vars) (m : Memory) (words : Vars) (awaits : ℕ)
-        → MemoryGood x.table x.blocks x.first m → Edit x.table x.blocks x.small sites_left linked_left lo e h.memory m
+        → MemoryGood x.table x.blocks sites_left x.first m → Edit x.table x.blocks x.small sites_left linked_left lo e h.memory m
         → Kept x.table x.blocks x.small sites_left linked_left lo e w.call.site w.call.temps temps w.call.vars vars
         → (w.call.site.level ≡ lo.level → New x.table x.blocks x.small sites_left linked_left lo e m world_left sites_left (call w.call.site temps vars))
         → ((c : Call) → AmongCalls c (map called_by ws) → c.site.level ≢ lo.level)

@@ -65,7 +65,7 @@ module _ (law : MemoryLaw) (live : Lives) (procs : List WordProc) (own : ℕ) (s
         is = copied_changed law u m called.memory sized there here called.leaves;
         steps = called.lines;
         few = called.few;
-        runs = then_runs live procs (then_runs live procs (then_runs live procs r1 r2) (then_runs live procs r3 r4)) called.steps;
+        runs = then_runs live procs (then_runs live procs (then_runs live procs r1 r2) (then_runs live procs r3 r4)) (record { by = called.steps });
       }
 
   -- ---- words are cleared
@@ -102,5 +102,5 @@ module _ (law : MemoryLaw) (live : Lives) (procs : List WordProc) (own : ℕ) (s
         is = cleared_changed law u m called.memory sized there called.leaves;
         steps = called.lines;
         few = called.few;
-        runs = then_runs live procs (then_runs live procs r1 (then_runs live procs r2 r3)) called.steps;
+        runs = then_runs live procs (then_runs live procs r1 (then_runs live procs r2 r3)) (record { by = called.steps });
       }

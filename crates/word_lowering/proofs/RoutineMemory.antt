@@ -9,8 +9,8 @@ use Rattle.rv32_isa.specs.Regions.{KeepsSizes}
 use Rattle.rv32_isa.specs.State.{readable}
 use Rattle.rv32_isa.specs.Steps.{number_of}
 use Rattle.word_code.specs.Memory.{Memory, as_state, number_at, bytes_at}
-use Rattle.word_code.specs.RoutineTable.{Cell, Area, SameWords, ZeroWords, Beside, IsRewritten, Moving, IsCopied, Clearing, IsCleared, AreSwapped}
-use Rattle.word_code.proofs.ForCallers.{MemoryLaw, Sized, aligned, at_same, Apart, SameOutside, Changed, CopiedTo}
+use Rattle.word_code.specs.RoutineTable.{Cell, Area, ZeroWords, Beside, IsRewritten, Moving, IsCopied, Clearing, IsCleared, AreSwapped, LowWords}
+use Rattle.word_code.proofs.ForCallers.{MemoryLaw, Sized, aligned, at_same, Apart, SameOutside, Changed, CopiedTo, low_word, low_read}
 
 -- ---- words of a range
 
@@ -43,14 +43,14 @@ area_at m (suc n) a area (suc (suc (suc (suc o)))) within whole =
     let e : a + 4 + o ≡ a + suc (suc (suc (suc o))) = omega arith in
     subst (Cell m) e (area_at m n (a + 4) area.1 o (omega (arith, within)) (omega (arith, whole)))
 
--- words of 32 bits that are read
+-- words that are read
 abbrev AreWords : Memory → (at n : ℕ) → Type 0
-AreWords m at n = (o : ℕ) → o + 4 ≤ n → o % 4 ≡ 0 → (w : ℕ) × (number_at m (at + o) Word ≡ Ok w) × (w < 2 ^ 32)
+AreWords m at n = (o : ℕ) → o + 4 ≤ n → o % 4 ≡ 0 → (w : ℕ) × (number_at m (at + o) Word ≡ Ok w)
 
 -- those of another range
-words_from : (m other : Memory) (from to n : ℕ) → Area m from n → SameWords m from other to (4 * n) → AreWords other to (4 * n)
+words_from : (m other : Memory) (from to n : ℕ) → Area m from n → LowWords m from other to (4 * n) → AreWords other to (4 * n)
 words_from m other from to n area same o within whole =
-    let c = area_at m n from area o within whole in (c.word, same o within whole ∙ c.reads, c.small)
+    let c = area_at m n from area o within whole in (low_word m (from + o), same o within whole ∙ low_read m (from + o) c)
 
 -- ---- a range is other than it was
 
@@ -59,15 +59,14 @@ module _ (law : MemoryLaw) (m other : Memory) (sizes : KeepsSizes (as_state m) (
   sized_still sized = law.regions (as_state m) (as_state other) sized sizes
 
   -- a word that is read there
-  cell_there : (b : ℕ) → Cell m b → (w : ℕ) → number_at other b Word ≡ Ok w → w < 2 ^ 32 → Cell other b
-  cell_there b c w reads small = record {
+  cell_there : (b : ℕ) → Cell m b → (w : ℕ) → number_at other b Word ≡ Ok w → Cell other b
+  cell_there b c w reads = record {
     may = ap (λ x. (b % 4 == 0) && x) (law.stores (as_state m) (as_state other) b 4 sizes) ∙ c.may;
     word = w;
     reads = reads;
-    small = small;
   }
 
-same_word : (m other : Memory) (b : ℕ) → bytes_at other b 4 ≡ bytes_at m b 4 → number_at other b Word ≡ number_at m b Word
+pub same_word : (m other : Memory) (b : ℕ) → bytes_at other b 4 ≡ bytes_at m b 4 → number_at other b Word ≡ number_at m b Word
 same_word m other b e = ap (λ o. if b % 4 == 0 then number_of o else Err Misaligned) e
 
 rewritten_changed : MemoryLaw → (m other : Memory) (at n : ℕ) → Sized m → at % 4 ≡ 0 → n % 4 ≡ 0 → IsRewritten m other at n → AreWords other at n
@@ -87,9 +86,9 @@ rewritten_changed law m other at n sized whole_at whole_n new words = record {
     cells b c = by (part_of b at n (aligned m b c) whole_at whole_n)
       where
         by : IsPart b at n → Cell other b
-        by (inl apart) = cell_there law m other new.sizes b c c.word (outside b apart ∙ c.reads) c.small
+        by (inl apart) = cell_there law m other new.sizes b c c.word (outside b apart ∙ c.reads)
         by (inr (o, is, within, whole)) =
-            let w = words o within whole in cell_there law m other new.sizes b c w.0 (at_same other b (at + o) is ∙ w.1) w.2
+            let w = words o within whole in cell_there law m other new.sizes b c w.0 (at_same other b (at + o) is ∙ w.1)
 
 first_whole : (m : Memory) (a n : ℕ) → Area m a (suc n) → a % 4 ≡ 0
 first_whole m a n area = aligned m a area.0
@@ -110,7 +109,7 @@ pub cleared_changed : MemoryLaw → (u : Clearing) (m other : Memory) → Sized 
     → ClearedAt m other u.to (4 * suc u.behind)
 cleared_changed law u m other sized there is = record {
   changed = rewritten_changed law m other u.to (4 * suc u.behind) sized (first_whole m u.to u.behind there) (omega arith) is.rewritten
-      (λ o within whole. (0, is.zeros o within whole, omega arith));
+      (λ o within whole. (0, is.zeros o within whole));
   zeros = is.zeros;
 }
 
@@ -122,8 +121,8 @@ pub record Trade (m other : Memory) (left right bytes : ℕ) : Type 0 where
   pub cells : (b : ℕ) → Cell m b → Cell other b
   pub outside : (b : ℕ) → Apart b left bytes → Apart b right bytes → number_at other b Word ≡ number_at m b Word
   pub beside : (b n : ℕ) → Beside b n left bytes → Beside b n right bytes → bytes_at other b n ≡ bytes_at m b n
-  pub to_left : SameWords m right other left bytes
-  pub to_right : SameWords m left other right bytes
+  pub to_left : LowWords m right other left bytes
+  pub to_right : LowWords m left other right bytes
 
 pub swapped_trade : MemoryLaw → (u : Moving) (m other : Memory) → Sized m → Area m u.to (suc u.behind) → Area m u.from (suc u.behind)
     → AreSwapped u m other → Trade m other u.to u.from (4 * suc u.behind)
@@ -148,11 +147,11 @@ swapped_trade law u m other sized there here is = record {
         by : IsPart b u.to (4 * suc u.behind) → IsPart b u.from (4 * suc u.behind) → Cell other b
         by (inr (o, e, within, whole)) right =
             let w = words_from m other u.from u.to (suc u.behind) here is.there o within whole in
-            cell_there law m other is.sizes b c w.0 (at_same other b (u.to + o) e ∙ w.1) w.2
+            cell_there law m other is.sizes b c w.0 (at_same other b (u.to + o) e ∙ w.1)
         by (inl left) (inr (o, e, within, whole)) =
             let w = words_from m other u.to u.from (suc u.behind) there is.back o within whole in
-            cell_there law m other is.sizes b c w.0 (at_same other b (u.from + o) e ∙ w.1) w.2
-        by (inl left) (inl right) = cell_there law m other is.sizes b c c.word (outside b left right ∙ c.reads) c.small
+            cell_there law m other is.sizes b c w.0 (at_same other b (u.from + o) e ∙ w.1)
+        by (inl left) (inl right) = cell_there law m other is.sizes b c c.word (outside b left right ∙ c.reads)
 
 -- ---- beside memory in which the words of the first range are in both
 
@@ -161,7 +160,7 @@ misaligned m b h = cond-false (b % 4 == 0) (number_of (readable (as_state m) b 4
 
 -- only the words of the first range are others
 pub still_outside : (m copy other : Memory) (left right n : ℕ) → right % 4 ≡ 0 → n % 4 ≡ 0 → SameOutside m copy right n
-    → SameWords m left copy right n → Trade m other left right n → SameOutside copy other left n
+    → LowWords m left copy right n → Trade m other left right n → SameOutside copy other left n
 still_outside m copy other left right n whole whole_n out same t b apart = by (cases_Bool (b % 4 == 0))
   where
     word : IsPart b right n → number_at other b Word ≡ number_at copy b Word

@@ -1,12 +1,15 @@
 -- What block code and word code have in common while they run: each value is where its place is, and each location has the address to
 -- which it leads.
-use Rattle.std.proofs.Common.{◌≡◌, ℕ, ◌+◌, List, [], ◌∷◌, ◌++◌, length, map, Some, Bool, true, false}
+use Rattle.std.proofs.Common.{◌≡◌, ◌⊎◌, inl, inr, subst, ℕ, ◌+◌, List, [], ◌∷◌, ◌++◌, length, map, Some, Bool, true, false}
 use Rattle.std.specs.Set.{is_member}
 use Rattle.nim_types.specs.Types.{same_text}
 use Rattle.nim_types.specs.declared.types.TypeDef.{TypeDef}
-use Rattle.nim_meaning.specs.Values.{Value, Fixed, number_of, Location, Standing, Slot, Holds, Stands}
+use Rattle.nim_meaning.specs.Values.{Value, Fixed, number_of, Base, Made, Location, Standing, Slot, Holds, Stands}
 use Rattle.nim_meaning.specs.Places.{root_of}
 use Rattle.nim_meaning.specs.State.{World, slot_at}
+use Rattle.flat_code.specs.declared.block.BlockLine.{BlockLine}
+use Rattle.flat_code.specs.declared.code.Code.{Code}
+use Rattle.flat_code.specs.declared.line.Piece.{Piece}
 use Rattle.flat_code.specs.declared.place.PlaceKind.{PlaceKind}
 use Rattle.word_code.specs.Memory.{Memory, own_data_at}
 use Rattle.word_code.specs.Words.{Vars}
@@ -21,16 +24,20 @@ use Rattle.word_lowering.specs.declared.homes.Home.TheVariants.{Variable, Placed
 use Rattle.word_lowering.specs.declared.homes.Housed.{Housed}
 use Rattle.word_lowering.specs.declared.spots.Spot.{Spot}
 use Rattle.word_lowering.specs.declared.spots.Spot.TheVariants.{Held, Lies}
+use Rattle.flat_code.specs.Codes.{block_plain}
 use Rattle.flat_code.specs.Lines.{level_at}
-use Rattle.flat_code.specs.Sizes.{lines_texts}
+use Rattle.flat_code.specs.Pieces.{value_of, are_one, standing_bytes}
+use Rattle.flat_code.specs.Sizes.{lines_texts, code_texts}
 use Rattle.word_lowering.specs.Aliases.{texts_of}
 use Rattle.word_lowering.specs.Layouts.{found, is_address}
 use Rattle.word_lowering.specs.Spots.{spot_of}
 use Rattle.word_lowering.specs.Operations.{word}
+use Rattle.word_lowering.specs.Texts.{texts_at, standing_place}
 use Rattle.word_lowering.specs.LineCode.{variable_of}
 use Rattle.word_lowering.proofs.InMemory.{IsAt}
+use Rattle.word_lowering.proofs.ShapeFacts.{of_numbers}
 use Rattle.word_lowering.proofs.ShapePaths.{PathTo}
-use Rattle.word_lowering.proofs.Sites.{Body, lines_of, Site, AmongSites, Among, looks, There, InMemory}
+use Rattle.word_lowering.proofs.Sites.{Body, data_end, lines_of, Site, AmongSites, Among, looks, There, InMemory}
 
 -- ---- where values are
 
@@ -112,6 +119,15 @@ pub record IsLiteral (b : Body) (behind bytes : ℕ) (x : Value) : Type 0 where
   pub at : length before ≡ behind
   pub among : is_member same_text (lines_texts (lines_of b)) text ≡ true
 
+-- in a place, and in no value or constant
+abbrev pub IsOfPlace : Base → Type 0
+IsOfPlace (Standing level number) = Unit {0}
+IsOfPlace base = ⊥
+
+abbrev pub OfPlace : Where → Type 0
+OfPlace (Located location) = IsOfPlace location.base
+OfPlace (Within temp path) = ⊥
+
 module _ (table : List TypeDef) where
   abbrev pub looked : Site → Name → Shape
   looked s name = looks table (house s name)
@@ -146,19 +162,7 @@ module _ (table : List TypeDef) where
     pub value : Value
     pub has : temps.values temp ≡ Some value
 
-  abbrev pub Leads : (sites : List Site) → World → (s : Site) → Temps → Where → ℕ → Shape → Type 0
-  Leads sites w s temps (Located location) a t = FromPlace sites w location a t
-  Leads sites w s temps (Within temp path) a t = FromValue s temps temp path a t
-
-  -- ---- temporaries with locations
-
-  -- with the address in a variable
-  pub record IsAddressed (sites : List Site) (w : World) (c : Call) (temp : ℕ) (there : Where) : Type 0 where
-    -- one that may be written is of a place
-    pub standing : is_standing (house c.site (of_location temp)).kind ≡ true → (location : Location) × (there ≡ Located location)
-    pub address : ℕ
-    pub holds : c.vars (variable_of (house c.site (of_location temp))) ≡ Some address
-    pub leads : Leads sites w c.site c.temps there address (looked c.site (of_location temp))
+  -- ---- temporaries with locations that are other names
 
   -- another name for a place
   pub record IsRoot (sites : List Site) (w : World) (c : Call) (place : ℕ) (global : Bool) (there : Where) : Type 0 where
@@ -175,15 +179,6 @@ module _ (table : List TypeDef) where
     pub value : Value
     pub has : c.temps.values t ≡ Some value
 
-  abbrev pub IsLedBy : Alias → (sites : List Site) → World → Call → (temp : ℕ) → Where → Type 0
-  IsLedBy alias.Own sites w c temp there = IsAddressed sites w c temp there
-  IsLedBy (alias.Place place global) sites w c temp there = IsRoot sites w c place global there
-  IsLedBy (alias.Value t) sites w c temp there = IsInValue c t there
-  IsLedBy (alias.Text behind bytes) sites w c temp there = ⊥
-
-  abbrev pub IsLed : (sites : List Site) → World → Call → (temp : ℕ) → Where → Type 0
-  IsLed sites w c temp there = IsLedBy (house c.site (of_location temp)).alias sites w c temp there
-
   -- ---- places
 
   -- a filled place: it has a value of its own, or stands for a location
@@ -198,16 +193,63 @@ module _ (table : List TypeDef) where
     pub own : is_own (house c.site (of_place n)).kind ≡ true → (x : Value) × (slot_at w c.site.level n ≡ Some (Holds x))
     pub other : is_own (house c.site (of_place n)).kind ≡ false → StandsFor sites w c n
 
-  -- ---- all of it
+  module _ (blocks : Code BlockLine) where
+    -- ---- constants that stand in the data
 
-  pub record Holding (m : Memory) (w : World) (sites : List Site) (c : Call) : Type 0 where
-    pub items : (name : Name) (x : Value) → IsThere c.site name → HasValue w c name x → IsItem m c name x
-    pub texts : (t behind bytes : ℕ) (x : Value) → IsNamed c.site (of_value t) → (house c.site (of_value t)).alias ≡ alias.Text behind bytes
-        → c.temps.values t ≡ Some x → IsLiteral c.site.body behind bytes x
-    pub led : (t : ℕ) (there : Where) → IsNamed c.site (of_location t) → c.temps.places t ≡ Some there → IsLed sites w c t there
-    pub filled : (n : ℕ) → IsThere c.site (of_place n) → Filled w c.site.level n → IsFilled sites w c n
-    pub left : c.site.body.start ≡ false → c.vars LEFT ≡ Some c.site.left
+    abbrev pub standing_from : List Piece → ℕ
+    standing_from pieces = own_data_at + (texts_at table (data_end table blocks) + standing_place blocks.procs pieces)
 
-  abbrev pub AllHold : Memory → World → List Call → Type 0
-  AllHold m w [] = Unit {0}
-  AllHold m w (c ∷ cs) = Holding m w (map site_of (c ∷ cs)) c × AllHold m w cs
+    -- an address is that of a location in a constant of the code
+    pub record FromConstant (location : Location) (a : ℕ) (t : Shape) : Type 0 where
+      pub pieces : List Piece
+      pub one : are_one pieces 0 ≡ true
+      pub among : is_member same_text (code_texts block_plain blocks.procs) (standing_bytes pieces) ≡ true
+      pub base : location.base ≡ Made (value_of pieces)
+      pub shape : Shape
+      pub shaped : has_shape (value_of pieces) shape ≡ true
+      pub numbers : of_numbers shape ≡ true
+      pub offset : ℕ
+      pub path : PathTo shape location.path offset t
+      pub address : a ≡ standing_from pieces + offset
+
+    abbrev pub Leads : (sites : List Site) → World → (s : Site) → Temps → Where → ℕ → Shape → Type 0
+    Leads sites w s temps (Located location) a t = FromPlace sites w location a t ⊎ FromConstant location a t
+    Leads sites w s temps (Within temp path) a t = FromValue s temps temp path a t
+
+    pub of_a_place : {sites : List Site} {w : World} {location : Location} {a : ℕ} {t : Shape} → IsOfPlace location.base
+        → FromPlace sites w location a t ⊎ FromConstant location a t → FromPlace sites w location a t
+    of_a_place is (inl f) = f
+    of_a_place is (inr f) = absurd (subst IsOfPlace f.base is)
+
+    -- ---- temporaries with locations
+
+    -- with the address in a variable
+    pub record IsAddressed (sites : List Site) (w : World) (c : Call) (temp : ℕ) (there : Where) : Type 0 where
+      -- one that may be written is of a place
+      pub standing : is_standing (house c.site (of_location temp)).kind ≡ true → OfPlace there
+      pub address : ℕ
+      pub holds : c.vars (variable_of (house c.site (of_location temp))) ≡ Some address
+      pub leads : Leads sites w c.site c.temps there address (looked c.site (of_location temp))
+
+    abbrev pub IsLedBy : Alias → (sites : List Site) → World → Call → (temp : ℕ) → Where → Type 0
+    IsLedBy alias.Own sites w c temp there = IsAddressed sites w c temp there
+    IsLedBy (alias.Place place global) sites w c temp there = IsRoot sites w c place global there
+    IsLedBy (alias.Value t) sites w c temp there = IsInValue c t there
+    IsLedBy (alias.Text behind bytes) sites w c temp there = ⊥
+
+    abbrev pub IsLed : (sites : List Site) → World → Call → (temp : ℕ) → Where → Type 0
+    IsLed sites w c temp there = IsLedBy (house c.site (of_location temp)).alias sites w c temp there
+
+    -- ---- all of it
+
+    pub record Holding (m : Memory) (w : World) (sites : List Site) (c : Call) : Type 0 where
+      pub items : (name : Name) (x : Value) → IsThere c.site name → HasValue w c name x → IsItem m c name x
+      pub texts : (t behind bytes : ℕ) (x : Value) → IsNamed c.site (of_value t) → (house c.site (of_value t)).alias ≡ alias.Text behind bytes
+          → c.temps.values t ≡ Some x → IsLiteral c.site.body behind bytes x
+      pub led : (t : ℕ) (there : Where) → IsNamed c.site (of_location t) → c.temps.places t ≡ Some there → IsLed sites w c t there
+      pub filled : (n : ℕ) → IsThere c.site (of_place n) → Filled w c.site.level n → IsFilled sites w c n
+      pub left : c.site.body.start ≡ false → c.vars LEFT ≡ Some c.site.left
+
+    abbrev pub AllHold : Memory → World → List Call → Type 0
+    AllHold m w [] = Unit {0}
+    AllHold m w (c ∷ cs) = Holding m w (map site_of (c ∷ cs)) c × AllHold m w cs

@@ -1,11 +1,10 @@
 -- What comes of a line by the runs of its words: it passes, gives a number, leaps, begins a turn, or ends the program with a trap.
 use Rattle.std.proofs.Common.{◌≡◌, inl, ℕ, ◌+◌, ◌*◌, ◌≤◌, List, [], ◌∷◌, ◌++◌, length, map, Option, Some, None, true, ℤ, refl, sym, ap, ◌∙◌, arith}
-use Rattle.std.proofs.Common.{append-nil, append_assoc, add_assoc}
+use Rattle.std.proofs.Common.{append_assoc}
 use Rattle.arc_base.specs.declared.outside.Stream.TheVariants.{Err}
 use Rattle.arc_base.specs.Event.{Event, writes}
-use Rattle.arc_base.specs.Behaviour.{Live, Ended}
-use Rattle.arc_base.specs.Stepping.{Next, seen}
-use Rattle.arc_base.specs.Simulation.{Steps, Stops}
+use Rattle.arc_base.specs.Behaviour.{Live}
+use Rattle.arc_base.specs.Stepping.{Next}
 use Rattle.nim_program.specs.Traps.{Trap, Overflow, DivisionByZero, IndexOutOfBounds, OutOfRange, NilDereference, LengthChanged, CallDepth, OutOfMemory}
 use Rattle.nim_program.specs.Traps.{trap_text}
 use Rattle.nim_meaning.specs.Values.{Number}
@@ -19,7 +18,7 @@ use Rattle.flat_code.specs.Running.{from_label as line_from, jumped}
 use Rattle.flat_code.specs.Codes.{block_plain, block_label}
 use Rattle.word_code.specs.declared.word.WordInstr.{WordInstr}
 use Rattle.word_code.specs.Words.{Vars, from_label}
-use Rattle.word_code.proofs.ForCallers.{at}
+use Rattle.word_code.proofs.ForCallers.{at, AlwaysSteps, AlwaysStops, stops_on}
 use Rattle.word_lowering.specs.Operations.{word, trap_label}
 use Rattle.word_lowering.specs.LineCode.{variable_of, own_label, label_before, line_code}
 use Rattle.word_lowering.specs.Lowered.{any_branches}
@@ -35,22 +34,13 @@ use Rattle.word_lowering.proofs.ValueFacts.{good_word}
 
 -- ---- runs that end
 
-pub stops_after : {S : Type 0} (machine : S → Next Event S) (s t : S) (l p q status : ℕ) (es : List Event) (left : Live)
-    → Steps machine l s [] p t → Stops machine t es q status left → Stops machine s es (p + q) status left
-stops_after machine s t l p q status es left x y = record {
-  work = x.work + y.work;
-  within = omega (arith, x.within, y.within);
-  by = let a = x.by y.by.0 in (
-    a.0,
-    λ out done. a.2 out done ∙ y.by.1 (out ++ []) (done + x.work)
-        ∙ ap (λ o. seen (o ++ es) (Ended status left) (done + x.work + y.work)) (append-nil out)
-        ∙ ap (seen (out ++ es) (Ended status left)) (add_assoc done x.work y.work),
-  );
-}
+pub stops_after : {S X : Type 0} (machine : X → S → Next Event S) (s t : S) (l p q status : ℕ) (es : List Event) (left : Live)
+    → AlwaysSteps machine l s [] p t → AlwaysStops machine t es q status left → AlwaysStops machine s es (p + q) status left
+stops_after machine s t l p q status es left x y = stops_on machine l p q status s t [] es left x y
 
-pub stops_more : {S : Type 0} (machine : S → Next Event S) (s : S) (p q status : ℕ) (es : List Event) (left : Live) → p ≤ q
-    → Stops machine s es p status left → Stops machine s es q status left
-stops_more machine s p q status es left le x = record { work = x.work; within = omega (arith, x.within, le); by = x.by }
+pub stops_more : {S X : Type 0} (machine : X → S → Next Event S) (s : S) (p q status : ℕ) (es : List Event) (left : Live) → p ≤ q
+    → AlwaysStops machine s es p status left → AlwaysStops machine s es q status left
+stops_more machine s p q status es left le x = λ gifts k. let r = x gifts k in record { work = r.work; within = omega (arith, r.within, le); by = r.by }
 
 module _ (x : Basis) where
   -- ---- what is true of the code of a procedure, by its labels
@@ -59,7 +49,7 @@ module _ (x : Basis) where
   pub record TrapStops (g : Both) (trap : Trap) : Type 0 where
     pub there : List WordInstr
     pub stands : from_label (trap_label trap) (word_of x.table x.blocks (body_of g)).lines ≡ Some there
-    pub stops : (v w : Vars) → Stops (lower x) (at (within x.table x.blocks g) g.memory there v w) (writes Err (line_of (trap_text trap))) 7 1 (live g.world)
+    pub stops : (v w : Vars) → AlwaysStops (lower x) (at (within x.table x.blocks g) g.memory there v w) (writes Err (line_of (trap_text trap))) 7 1 (live g.world)
 
   abbrev pub code_of_line : Both → BlockLine → List BlockLine → List WordInstr → List WordInstr
   code_of_line g line rest k = line_code (around x.table x.blocks (body_of g)) (block_plain line) (label_before (map block_plain rest)) k
@@ -158,7 +148,7 @@ module _ (x : Basis) where
         (omega (arith, l.few, long, some))
         (stops_after (lower x) (low x.table x.blocks (starts g line rest))
         (at (within x.table x.blocks g) g.memory t.there l.leads.vars g.words) l.steps l.steps 7 1 (writes Err (line_of (trap_text trap))) (live g.world)
-        l.leads.runs (t.stops l.leads.vars g.words))
+        l.leads.runs (t.stops l.leads.vars g.words)) x.fresh
 
     -- ---- labels
 
@@ -167,15 +157,16 @@ module _ (x : Basis) where
         → ((after : List BlockLine) → o ≡ Some after → line_from block_label name (body_of g).proc.lines ≡ Some after)
         → ((there : List WordInstr) → from_label (own_label name) (word_of x.table x.blocks (body_of g)).lines ≡ Some there → Comes there)
         → Follows x (starts g line rest) (jumped (high x.table x.blocks (starts g line rest)) temps o)
-    lands_settles labels temps same name None first comes = tt
+    lands_settles labels temps same name None first comes = λ before. tt
     lands_settles labels temps same name (Some after) first comes =
         let l = labels g line rest after name y (first after refl) in
         let led = comes (code_behind x.table x.blocks (body_of g) after) l.0 in
-        let good = good_with_temps x g line rest y after temps same led.leads.vars g.words g.awaits led.leads.same l.1 in (
-          low x.table x.blocks (changed g after temps led.leads.vars g.memory g.words g.awaits g.world),
+        let good = good_with_temps x g line rest y after temps same led.leads.vars g.words g.awaits led.leads.same l.1 in
+        λ before. let r = led.leads.runs.by x.fresh before in (
+          (r.0, low x.table x.blocks (changed g after temps led.leads.vars g.memory g.words g.awaits g.world)),
           led.steps,
-          record { work = led.leads.runs.work; within = omega (arith, led.leads.runs.within, led.few); by = led.leads.runs.by },
-          ((changed g after temps led.leads.vars g.memory g.words g.awaits g.world, good), refl, refl),
+          record { work = r.1.work; within = omega (arith, r.1.within, led.few); by = r.1.by },
+          ((changed g after temps led.leads.vars g.memory g.words g.awaits g.world, good, r.0), refl, refl),
           inl led.some,
         )
 

@@ -17,7 +17,6 @@ use Rattle.flat_code.specs.declared.block.BlockLine.{BlockLine}
 use Rattle.flat_code.specs.declared.code.Code.{Code}
 use Rattle.flat_code.specs.declared.code.CodeProc.{CodeProc}
 use Rattle.word_code.specs.declared.word.WordProc.{WordProc}
-use Rattle.word_code.specs.Words.{most_room}
 use Rattle.flat_code.specs.Scene.{known_in}
 use Rattle.flat_code.specs.Shapes.{Shape, number, block, row, parts, Shapes, shape_of}
 use Rattle.flat_code.specs.Fits.{if_kind, is_value, is_location, is_declared, is_global, is_own, is_standing, type_by_kind, place_named}
@@ -40,10 +39,11 @@ use Rattle.word_lowering.specs.Layouts.{result_in, is_empty, found, is_address}
 use Rattle.word_lowering.specs.MayLower.{lines_may}
 use Rattle.word_lowering.specs.Texts.{names_at, texts_at, texts_in}
 use Rattle.word_lowering.specs.LineCode.{Around}
-use Rattle.word_lowering.specs.Lowered.{all_layouts, start_layout, globals_end, word_proc, lowered}
+use Rattle.word_lowering.specs.Lowered.{all_layouts, start_layout, globals_end, word_proc}
 use Rattle.word_lowering.proofs.ShapeFacts.{nth_shape, shape_bytes, of_numbers}
 use Rattle.word_lowering.proofs.ShapePaths.{shapes_before}
 use Rattle.word_lowering.proofs.HomesApart.{AllApart}
+use Rattle.word_code.specs.declared.word.TheConstants.{SPARE_ROOM}
 
 -- ---- procedures
 
@@ -239,8 +239,8 @@ module _ (table : List TypeDef) (blocks : Code BlockLine) where
     pub result : ResultIs b.own.all (result_at (known_in table) b.proc.places) (result_in b.own.all)
     pub room_whole : room b % 4 ≡ 0
     pub room_most : room b ≤ MOST_ROOM
-    -- word code has places for it at each level
-    pub room_within : room b ≤ most_room (lowered table blocks).procs
+    -- a result stands within the room for arguments
+    pub handed : (h : Housed) (at : ℕ) → result_in b.own.all ≡ Some h → h.home ≡ Placed at → at + h.bytes ≤ SPARE_ROOM
     pub texts : HasTexts b
 
   -- active calls, the last one first

@@ -1,7 +1,7 @@
 -- Where values are that lines move: in a variable, or in memory within the place of a call.
 use Rattle.std.proofs.Common.{◌≡◌, ◌≢◌, ◌⊎◌, inl, inr, ℕ, zero, suc, ◌+◌, ◌*◌, ◌%◌, ◌^◌, ◌<◌, ◌≤◌, List, Some}
 use Rattle.std.proofs.Common.{ℤ, Bool, true, false, refl, sym, ap₂, subst, ◌∙◌, arith}
-use Rattle.nim_meaning.specs.Values.{Value, Number, Parts, Handle, Fixed, Ref, Resource, Gone, Vacant, bytes, number_of}
+use Rattle.nim_meaning.specs.Values.{Value, Number, Parts, Handle, Fixed, Ref, Resource, Gone, Vacant, bytes}
 use Rattle.word_code.specs.Memory.{Memory}
 use Rattle.word_code.specs.Words.{Vars}
 use Rattle.word_code.specs.declared.word.WordInstr.{WordInstr}
@@ -18,16 +18,15 @@ use Rattle.word_lowering.specs.declared.spots.Spot.TheVariants.{Held, Lies}
 use Rattle.word_lowering.specs.declared.texts.TheConstants.{FIXED_BYTES}
 use Rattle.word_lowering.specs.Layouts.{is_address}
 use Rattle.word_lowering.specs.Spots.{spot_of, moved, moves}
-use Rattle.word_lowering.proofs.InMemory.{IsAt}
-use Rattle.word_lowering.proofs.Arithmetic.{word_small}
+use Rattle.word_lowering.proofs.InMemory.{IsAt, HasWords}
 use Rattle.word_lowering.proofs.Moves.{is_single, single_word, IsHigh, MaySpot, IsArea, From, ToVariable, ToMemory, number_to_variable, number_to_memory}
 use Rattle.word_lowering.proofs.Moves.{high_behind, parts_to_memory}
-use Rattle.word_lowering.proofs.LineFits.{single_is, single_number, number_fits}
+use Rattle.word_lowering.proofs.LineFits.{single_is, single_number, has_words}
 use Rattle.word_lowering.proofs.Sites.{room, Housing, in_variable, by_address, in_places, in_data, InMemory, Site, AmongSites, data_end, IsHoused, Linked}
 use Rattle.word_lowering.proofs.Scenes.{address_of, Points, At, Name, Call, house, IsThere, looked, IsItem}
 use Rattle.word_lowering.proofs.SitesApart.{Beside, InRange, in_range, houses, SiteAt, site_at, one_level, ranges_apart}
 use Rattle.word_lowering.proofs.Keeping.{name_cases, number_cases, spot_memory, spot_held, points_there, from_memory}
-use Rattle.word_lowering.proofs.Related.{IsOpen, routines, MemoryGood}
+use Rattle.word_lowering.proofs.Related.{IsOpen, IsClosed, IsText, routines, MemoryGood}
 use Rattle.word_lowering.proofs.Lines.{Basis, all_procs, reaches, data_there}
 
 -- so many words, each of which may be read and written
@@ -59,17 +58,17 @@ module _ (x : Basis) (sites : List Site) (linked : Linked x.table x.blocks sites
       by (inl r) = inl (r.0, omega (arith, r.1, l.low), omega (arith, r.2, l.high))
       by (inr r) = inr (omega (arith, r.0, l.low), omega (arith, r.1, l.high))
 
-  lying_open : (a n : ℕ) → Lying a n → (b : ℕ) → a ≤ b → b + 4 ≤ a + n → IsOpen x.table x.blocks b
+  lying_open : (a n : ℕ) → Lying a n → (b : ℕ) → a ≤ b → b + 4 ≤ a + n → IsOpen x.table x.blocks sites b
   lying_open a n l b low high = by (lying_range a n l)
     where
       s : SiteAt x.table x.blocks sites l.site
       s = site_at x.table x.blocks sites l.site linked l.among
 
-      by : InRange x.table x.blocks l.site a n → IsOpen x.table x.blocks b
+      by : InRange x.table x.blocks l.site a n → IsOpen x.table x.blocks sites b
       by (inl r) = inl (omega (arith, r.1, low), omega (arith, r.2, high))
-      by (inr r) = let e = x.enough sites linked in inr (omega (arith, s.least, r.0, low), omega (arith, s.most, r.1, high, e))
+      by (inr r) = inr (omega (arith, s.least, r.0, low), omega (arith, s.most, r.1, high))
 
-  pub lying_area : (m : Memory) (a n : ℕ) → MemoryGood x.table x.blocks x.first m → Lying a n → IsArea m a n
+  pub lying_area : (m : Memory) (a n : ℕ) → MemoryGood x.table x.blocks sites x.first m → Lying a n → IsArea m a n
   lying_area m a n good l k le = area_by m k a l.whole (λ b low high is. good.cells b is (lying_open a n l b low (omega (arith, high, le))))
 
   pub lying_near : (a n : ℕ) → Lying a n → a + n < 2 ^ 32
@@ -80,7 +79,20 @@ module _ (x : Basis) (sites : List Site) (linked : Linked x.table x.blocks sites
 
       by : InRange x.table x.blocks l.site a n → a + n < 2 ^ 32
       by (inl r) = let d = x.small in omega (arith, r.2, d)
-      by (inr r) = let e = x.enough sites linked in let p = x.places in omega (arith, r.1, s.most, e, p)
+      by (inr r) = let e = x.within sites linked in omega (arith, r.1, s.most, e)
+
+  -- texts don't lie within a place
+  pub text_beside : (a n b k : ℕ) → Lying a n → IsText x.table x.blocks b k → (b + k ≤ a) ⊎ (a + n ≤ b)
+  text_beside a n b k l text = by (lying_range a n l) text.0
+    where
+      s : SiteAt x.table x.blocks sites l.site
+      s = site_at x.table x.blocks sites l.site linked l.among
+
+      by : InRange x.table x.blocks l.site a n → IsClosed x.table x.blocks b k → (b + k ≤ a) ⊎ (a + n ≤ b)
+      by (inl r) (inl t) = inl (omega (arith, r.1, t.1))
+      by (inl r) (inr t) = inr (omega (arith, r.2, t.0))
+      by (inr r) (inl t) = let h = s.least in inl (omega (arith, r.0, h, t.1))
+      by (inr r) (inr t) = let h = s.least in inl (omega (arith, r.0, h, t.1))
 
   -- two ranges of one size, one of which is all of a place, are the same or apart
   pub whole_separate : (a b n : ℕ) (t : Lying a n) (s : Lying b n) → (house t.site t.name).bytes ≡ n → Separate a b n
@@ -114,14 +126,49 @@ module _ (x : Basis) (sites : List Site) (linked : Linked x.table x.blocks sites
   abbrev pub IsAll : (a n : ℕ) → Lying a n → Type 0
   IsAll a n l = (house l.site l.name).bytes ≡ n
 
+  -- ---- what may be read: within a place, or in a constant of the data
+
+  pub record Readable (m : Memory) (a n : ℕ) : Type 0 where
+    pub area : IsArea m a n
+    pub near : a + n < 2 ^ 32
+    -- all of a place is the same or apart
+    pub separate : (b : ℕ) (t : Lying b n) → IsAll b n t → Separate b a n
+
+  pub lying_readable : (m : Memory) (a n : ℕ) → MemoryGood x.table x.blocks sites x.first m → Lying a n → Readable m a n
+  lying_readable m a n good l = record {
+    area = lying_area m a n good l;
+    near = lying_near a n l;
+    separate = λ b t all. whole_separate b a n t l all;
+  }
+
+  pub text_readable : (m : Memory) (a n : ℕ) → MemoryGood x.table x.blocks sites x.first m → IsText x.table x.blocks a n → a % 4 ≡ 0
+      → ((b : ℕ) → a ≤ b → b + 4 ≤ a + n → b % 4 ≡ 0 → Cell m b) → Readable m a n
+  text_readable m a n good text whole cells = record {
+    area = λ k le. area_by m k a whole (λ b low high is. cells b low (omega (arith, high, le)) is);
+    near = near text.0;
+    separate = λ b t all. inr (apart b (text_beside b n a n t text));
+  }
+    where
+      near : IsClosed x.table x.blocks a n → a + n < 2 ^ 32
+      near (inl t) = omega (arith, t.1)
+      near (inr t) = omega (arith, t.1)
+
+      apart : (b : ℕ) → (a + n ≤ b) ⊎ (b + n ≤ a) → (b + n ≤ a) ⊎ (a + n ≤ b)
+      apart b (inl h) = inr h
+      apart b (inr h) = inl h
+
+  -- all of a place
+  abbrev pub WholePlace : (a n : ℕ) → Type 0
+  WholePlace a n = (l : Lying a n) × IsAll a n l
+
   -- ---- sources and targets, in the running call, whose places begin at an address
 
   module _ (m : Memory) (base : ℕ) (vars : Vars) where
-    -- all of a place, or a part of one
+    -- all of a place, or a part of one or of a constant
     pub data Source (all : Bool) (h : Housed) (v : Value) : Type 0 where
       held_in : (u : ℕ) → spot_of h ≡ Held u → MaySpot (Held u) v → vars u ≡ Some (single_word v) → Source all h v
-      lies_at : (home : Home) → spot_of h ≡ Lies home → IsHigh home → (a : ℕ) → Points base vars home a → IsAt m a v → (l : Lying a (bytes v))
-          → (all ≡ true → IsAll a (bytes v) l) → Source all h v
+      lies_at : (home : Home) → spot_of h ≡ Lies home → IsHigh home → (a : ℕ) → Points base vars home a → IsAt m a v → Readable m a (bytes v)
+          → (all ≡ true → WholePlace a (bytes v)) → Source all h v
 
   -- ---- of places
 
@@ -172,17 +219,21 @@ module _ (x : Basis) (sites : List Site) (linked : Linked x.table x.blocks sites
     pub word_is : (house c.site f).is_word ≡ is_single v
     word_is = sym (single_is v (looked x.table c.site f) place.numbers shaped ∙ place.word)
 
-    pub small_word : single_word v < 2 ^ 32
-    small_word = word_small (number_of v) (number_fits v (looked x.table c.site f) shaped)
+    pub small_word : HasWords v
+    small_word = has_words v (looked x.table c.site f) shaped
 
-    pub place_source : (m : Memory) → At m c.site.base c.vars (spot_of (house c.site f)) v → Source m c.site.base c.vars true (house c.site f) v
-    place_source m at = by place.where_is
+    pub place_source : (m : Memory) → MemoryGood x.table x.blocks sites x.first m → At m c.site.base c.vars (spot_of (house c.site f)) v
+        → Source m c.site.base c.vars true (house c.site f) v
+    place_source m good at = by place.where_is
       where
+        all_of : InMemory (house c.site f).home → Lying (address_of c.site.base (house c.site f).home) (bytes v)
+        all_of h = lying_all c.site f (bytes v) i there h size_is
+
         inside : InMemory (house c.site f).home → Source m c.site.base c.vars true (house c.site f) v
         inside h = lies_at (house c.site f).home (spot_memory (house c.site f) plain h) (high_memory (house c.site f).home h)
             (address_of c.site.base (house c.site f).home)
             (points_there c.site.base c.vars (house c.site f).home h) (from_memory m c.site.base c.vars (house c.site f) v plain h at)
-            (lying_all c.site f (bytes v) i there h size_is) (λ e. size_is)
+            (lying_readable m (address_of c.site.base (house c.site f).home) (bytes v) good (all_of h)) (λ e. (all_of h, size_is))
 
         by : Housing (room c.site.body) FIXED_BYTES (data_end x.table x.blocks) c.site.body.start (house c.site f) → Source m c.site.base c.vars true
             (house c.site f) v
@@ -193,13 +244,13 @@ module _ (x : Basis) (sites : List Site) (linked : Linked x.table x.blocks sites
         by (in_places n e p whole within) = inside (subst InMemory (sym e) tt)
         by (in_data n e p whole low within start) = inside (subst InMemory (sym e) tt)
 
-  pub item_source : (m : Memory) (c : Call) (f : Name) (v : Value) → AmongSites c.site sites → IsItem x.table m c f v
-      → Source m c.site.base c.vars true (house c.site f) v
-  item_source m c f v i item = place_source c i f item.there item.plain v item.shaped m item.at
+  pub item_source : (m : Memory) → MemoryGood x.table x.blocks sites x.first m → (c : Call) (f : Name) (v : Value) → AmongSites c.site sites
+      → IsItem x.table m c f v → Source m c.site.base c.vars true (house c.site f) v
+  item_source m good c f v i item = place_source c i f item.there item.plain v item.shaped m good item.at
 
   -- ---- moves
 
-  module _ (c : Within) (from_first : c.proc.data_from ≡ 0) (g : Vars) (m : Memory) (good : MemoryGood x.table x.blocks x.first m) (k : List WordInstr)
+  module _ (c : Within) (from_first : c.proc.data_from ≡ 0) (g : Vars) (m : Memory) (good : MemoryGood x.table x.blocks sites x.first m) (k : List WordInstr)
       (vars : Vars) where
     abbrev IntoMemory : List WordInstr → ℕ → Value → ℕ → Type 0
     IntoMemory lines a v most = ToMemory x.law x.live (all_procs x) c from_first g m lines vars a v most k
@@ -220,7 +271,7 @@ module _ (x : Basis) (sites : List Site) (linked : Linked x.table x.blocks sites
     }
 
     module _ (home : Home) (a : ℕ) (points : Points c.base vars home a) where
-      held_to_memory : (v : Value) → single_word v < 2 ^ 32 → Lying a (bytes v) → (u : ℕ) → MaySpot (Held u) v → vars u ≡ Some (single_word v)
+      held_to_memory : (v : Value) → HasWords v → Lying a (bytes v) → (u : ℕ) → MaySpot (Held u) v → vars u ≡ Some (single_word v)
           → IntoMemory (moved (is_single v) (bytes v) (Lies home) (Held u) k) a v (10 + 2 * bytes v)
       held_to_memory (Parts vs) small lying u may is = absurd may
       held_to_memory (Handle n k) small lying u may is = absurd may
@@ -236,45 +287,45 @@ module _ (x : Basis) (sites : List Site) (linked : Linked x.table x.blocks sites
           (number_to_memory x.law x.live (all_procs x) c from_first g m good.sized k vars home a points z small area.0 (omega (arith, near)) 4
           (Held u) may is)
 
-      lies_to_memory : (v : Value) → single_word v < 2 ^ 32 → Lying a (bytes v) → (other : Home) → IsHigh other → (b : ℕ)
+      lies_to_memory : (v : Value) → HasWords v → Lying a (bytes v) → (other : Home) → IsHigh other → (b : ℕ)
           → Points c.base vars other b → IsAt m b v
-          → Lying b (bytes v) → Separate a b (bytes v) → IntoMemory (moved (is_single v) (bytes v) (Lies home) (Lies other) k) a v
+          → Readable m b (bytes v) → Separate a b (bytes v) → IntoMemory (moved (is_single v) (bytes v) (Lies home) (Lies other) k) a v
           (10 + 2 * bytes v)
-      lies_to_memory (Number z) small lying other high b points' at lying' apart =
+      lies_to_memory (Number z) small lying other high b points' at readable apart =
           let area = lying_area m a 4 good lying 1 (omega arith) in
           let near = lying_near a 4 lying in
           more_steps (moved true 4 (Lies home) (Lies other) k) a 4 18 (Number z) (omega arith)
           (number_to_memory x.law x.live (all_procs x) c from_first g m good.sized k vars home a points z small area.0 (omega (arith, near)) 4
           (Lies other) high
-          (b, points', at, lying_near b 4 lying', lying_area m b 4 good lying'))
-      lies_to_memory (Parts vs) small lying other high b points' at lying' apart =
+          (b, points', at, readable.near, readable.area))
+      lies_to_memory (Parts vs) small lying other high b points' at readable apart =
           parts_to_memory x.law x.live (all_procs x) c from_first g m good.sized k vars home a points (routines x.table x.blocks) x.runtime.statics (reaches x)
-          (data_there x m good) vs
+          (data_there x sites m good) vs small
           (lying_area m a (bytes (Parts vs)) good lying) (lying_near a (bytes (Parts vs)) lying) other (high_behind other high)
-          (b, points', at, lying_near b (bytes (Parts vs)) lying', lying_area m b (bytes (Parts vs)) good lying') apart
-      lies_to_memory (Handle n k) small lying other high b points' at lying' apart = absurd at
-      lies_to_memory (Fixed t) small lying other high b points' at lying' apart = absurd at
-      lies_to_memory (Ref r) small lying other high b points' at lying' apart = absurd at
-      lies_to_memory (Resource vs i) small lying other high b points' at lying' apart = absurd at
-      lies_to_memory (Gone v f) small lying other high b points' at lying' apart = absurd at
-      lies_to_memory Vacant small lying other high b points' at lying' apart = absurd at
+          (b, points', at, readable.near, readable.area) apart
+      lies_to_memory (Handle n k) small lying other high b points' at readable apart = absurd at
+      lies_to_memory (Fixed t) small lying other high b points' at readable apart = absurd at
+      lies_to_memory (Ref r) small lying other high b points' at readable apart = absurd at
+      lies_to_memory (Resource vs i) small lying other high b points' at readable apart = absurd at
+      lies_to_memory (Gone v f) small lying other high b points' at readable apart = absurd at
+      lies_to_memory Vacant small lying other high b points' at readable apart = absurd at
 
     module _ (to from : Housed) (v : Value) (word_from : from.is_word ≡ is_single v) (size_from : from.bytes ≡ bytes v)
-        (small : single_word v < 2 ^ 32) where
+        (small : HasWords v) where
       -- the code, by where both are
       code_is : (p q : Spot) → spot_of to ≡ p → spot_of from ≡ q → moves to from k ≡ moved (is_single v) (bytes v) p q k
       code_is p q e f = ap₂ (λ a b. moved a b (spot_of to) (spot_of from) k) word_from size_from ∙ ap₂ (λ a b. moved (is_single v) (bytes v) a b k) e f
 
       pub source_from : {all : Bool} → Source m c.base vars all from v → (q : Spot) → spot_of from ≡ q → From m c.base vars q v
       source_from (held_in u e may is) q f = subst (λ p. From m c.base vars p v) (sym e ∙ f) is
-      source_from (lies_at home e high a points at lying is_all) q f =
-          subst (λ p. From m c.base vars p v) (sym e ∙ f) (a, points, at, lying_near a (bytes v) lying, lying_area m a (bytes v) good lying)
+      source_from (lies_at home e high a points at readable is_all) q f =
+          subst (λ p. From m c.base vars p v) (sym e ∙ f) (a, points, at, readable.near, readable.area)
 
       pub to_word_by : (t : ℕ) → spot_of to ≡ Held t → OWN_FROM ≤ t → (z : ℤ) → v ≡ Number z → (all : Bool)
           → Source m c.base vars all from v
           → ToVariable x.law x.live (all_procs x) c from_first g m (moves to from k) vars t v k
       to_word_by t e high z is all source =
-          let w = number_to_variable x.law x.live (all_procs x) c from_first g m k vars t high z (subst (λ y. single_word y < 2 ^ 32) is small)
+          let w = number_to_variable x.law x.live (all_procs x) c from_first g m k vars t high z (subst (λ y. HasWords y) is small)
           (is_single v) (bytes v) (spot_of from)
           (subst (From m c.base vars (spot_of from)) is (source_from source (spot_of from) refl)) in
           subst (λ l. ToVariable x.law x.live (all_procs x) c from_first g m l vars t v k) (sym (code_is (Held t) (spot_of from) e refl))
@@ -285,13 +336,13 @@ module _ (x : Basis) (sites : List Site) (linked : Linked x.table x.blocks sites
           → Source m c.base vars all from v → (IsAll a (bytes v) lying ⊎ (all ≡ true)) → IntoMemory (moves to from k) a v (10 + 2 * bytes v)
       to_bytes_by home e a points lying all (held_in u f may is) apart =
           subst (λ l. IntoMemory l a v (10 + 2 * bytes v)) (sym (code_is (Lies home) (Held u) e f)) (held_to_memory home a points v small lying u may is)
-      to_bytes_by home e a points lying all (lies_at other f high b points' at lying' is_all) apart =
+      to_bytes_by home e a points lying all (lies_at other f high b points' at readable is_all) apart =
           subst (λ l. IntoMemory l a v (10 + 2 * bytes v)) (sym (code_is (Lies home) (Lies other) e f))
-          (lies_to_memory home a points v small lying other high b points' at lying' (by apart))
+          (lies_to_memory home a points v small lying other high b points' at readable (by apart))
         where
           by : (IsAll a (bytes v) lying ⊎ (all ≡ true)) → Separate a b (bytes v)
-          by (inl h) = whole_separate a b (bytes v) lying lying' h
-          by (inr h) = separate_turned b a (bytes v) (whole_separate b a (bytes v) lying' lying (is_all h))
+          by (inl h) = readable.separate a lying h
+          by (inr h) = let w = is_all h in separate_turned b a (bytes v) (whole_separate b a (bytes v) w.0 lying w.1)
 
       pub number_of_single : (w : Value) → is_single w ≡ true → (z : ℤ) × (w ≡ Number z)
       number_of_single w h = single_number w h

@@ -76,7 +76,7 @@ no_results known (p ∷ ps) e = by p.kind e (no_results known ps)
     by K.Counter e go = go e
 
 module _ (table : List TypeDef) (blocks : Code BlockLine) (b : Body) (is : IsBody table blocks b) (start : b.start ≡ true) (heap : ℕ) (input : List ℕ)
-    (first : Memory) (memory : MemoryGood table blocks first first) where
+    (first : Memory) where
   abbrev as_proc : Proc BlockLine
   as_proc = proc_of (known_in table) b.proc
 
@@ -95,7 +95,7 @@ module _ (table : List TypeDef) (blocks : Code BlockLine) (b : Body) (is : IsBod
     waiting = [];
   }
 
-  module _ (none_given : as_proc.result ≡ []) where
+  module _ (memory : MemoryGood table blocks (site ∷ []) first first) (none_given : as_proc.result ≡ []) where
     no_slot : (n : ℕ) → Filled first_pair.world 0 n → ⊥
     no_slot n h = none_filled b.proc.span (n - b.proc.first) as_proc.result h.0 none_given h.1
 

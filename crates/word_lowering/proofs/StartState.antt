@@ -1,5 +1,5 @@
 -- The start of word code: it is at the first line of block code, and both states belong together there.
-use Rattle.std.proofs.Common.{◌≡◌, ℕ, List, [], ◌∷◌, ◌++◌, map, None, true, refl, sym, ap, subst}
+use Rattle.std.proofs.Common.{◌≡◌, ℕ, List, [], ◌∷◌, ◌++◌, map, None, true, refl, sym, ap, subst, ◌+◌}
 use Rattle.std.proofs.Common.{◌∙◌}
 use Rattle.std.proofs.lemmas.Bool.{and_parts, false≢true}
 use Rattle.rv32_isa.specs.Machine.{Lives}
@@ -25,11 +25,12 @@ use Rattle.word_lowering.specs.Lowered.{no_proc, start_layout, lowered}
 use Rattle.word_lowering.specs.Lowers.{IsFitting}
 use Rattle.word_lowering.specs.MayLower.{may_lower}
 use Rattle.word_lowering.specs.Stored.{HaveForms}
-use Rattle.word_lowering.proofs.Sites.{Body, globals_of, ResultIs, IsBody}
+use Rattle.word_lowering.proofs.Sites.{Body, globals_of, ResultIs, IsBody, Site, next_base}
 use Rattle.word_lowering.proofs.Related.{Both, low, high, MemoryGood, Good}
-use Rattle.word_lowering.proofs.FirstMemory.{first_memory}
+use Rattle.word_lowering.proofs.FirstMemory.{first_memory, start_room}
 use Rattle.word_lowering.proofs.ProcCodes.{start_laid, start_places, start_is_body}
 use Rattle.word_lowering.proofs.StartPair.{no_results, first_pair, first_good, first_runs}
+use Rattle.rv32_isa.specs.Image.{stack_at}
 
 none_behind : (xs ys : List ℕ) → are_none (xs ++ ys) ≡ true → ys ≡ []
 none_behind [] [] h = refl
@@ -64,7 +65,8 @@ module _ (table : List TypeDef) (blocks : Code BlockLine) (runtime : WordCode) (
     pub same : high table blocks both ≡ at_first block_label (block_does (known_in table)) (procs_of (known_in table) blocks) heap input
 
   module _ (is_table : IsTable table) (have : HaveForms table) (fits : IsFitting table blocks) (may : may_lower table blocks ≡ true)
-      (p : CodeProc BlockLine) (ps : List (CodeProc BlockLine)) (some : blocks.procs ≡ p ∷ ps) (memory : MemoryGood table blocks first first) where
+      (p : CodeProc BlockLine) (ps : List (CodeProc BlockLine)) (some : blocks.procs ≡ p ∷ ps)
+      (memory : (sites : List Site) → next_base sites ≡ stack_at + start_room code → MemoryGood table blocks sites first first) where
     start_is : IsBody table blocks start_body
     start_is =
         subst (λ (own : Layout). IsBody table blocks (record {
@@ -85,13 +87,16 @@ module _ (table : List TypeDef) (blocks : Code BlockLine) (runtime : WordCode) (
     no_place : result_in start_body.own.all ≡ None
     no_place = subst (λ o. ResultIs table blocks start_body.own.all o (result_in start_body.own.all)) no_result.0 start_is.result
 
+    start_memory : MemoryGood table blocks (record { body = start_body; level = 0; base = stack_at; left = ACTIVE_CALLS } ∷ []) first first
+    start_memory = memory (record { body = start_body; level = 0; base = stack_at; left = ACTIVE_CALLS } ∷ []) refl
+
     pub begins : (live : Lives) → Begins live
     unfolding word_start
     begins live =
         record {
-          both = first_pair table blocks start_body start_is refl heap input first memory;
-          good = first_good table blocks start_body start_is refl heap input first memory no_result.1;
-          runs = first_runs table blocks start_body start_is refl heap input first memory no_result.1 live code.procs no_place;
+          both = first_pair table blocks start_body start_is refl heap input first;
+          good = first_good table blocks start_body start_is refl heap input first start_memory no_result.1;
+          runs = first_runs table blocks start_body start_is refl heap input first start_memory no_result.1 live code.procs no_place;
           same = ap (λ (q : Proc BlockLine). record {
             now = beginning q 0 ACTIVE_CALLS;
             waiting = [];

@@ -13,12 +13,12 @@ use Rattle.word_lowering.proofs.PartsInMemory.{offset, InPath, put_at, part_with
 use Rattle.word_lowering.proofs.ShapePaths.{path_in, path_put, path_numbers}
 use Rattle.word_lowering.proofs.Frames.{slot_here, slot_elsewhere, length_set, IsFrame}
 use Rattle.word_lowering.proofs.OrdinalRuns.{AllSame}
-use Rattle.word_lowering.proofs.Sites.{Site, AmongSites, IsHoused}
+use Rattle.word_lowering.proofs.Sites.{Site, AmongSites, IsHoused, next_base}
 use Rattle.word_lowering.proofs.Scenes.{address_of, Name, of_place, Call, site_of, house, IsThere, looked, IsItem, FromPlace, IsFilled, Filled}
 use Rattle.word_lowering.proofs.SitesApart.{houses, site_at, one_level}
-use Rattle.word_lowering.proofs.Keeping.{number_cases, call, AmongCalls, somewhere, Worlds, New, to_memory, from_memory, same_numbers, location_no_place}
+use Rattle.word_lowering.proofs.Keeping.{number_cases, call, AmongCalls, somewhere, Worlds, New, to_memory, from_memory, same_numbers, location_no_place, outside_still}
 use Rattle.word_lowering.proofs.Keeping.{away_cases, value_no_place}
-use Rattle.word_lowering.proofs.Related.{Both, body_of, called_by, StandAt, MemoryGood}
+use Rattle.word_lowering.proofs.Related.{Both, body_of, called_by, StandAt, MemoryGood, sites_of}
 use Rattle.word_lowering.proofs.Located.{RootAt, root_at, own_place}
 use Rattle.word_lowering.proofs.Sources.{Lying}
 use Rattle.word_lowering.proofs.Lines.{Basis, changed, starts, IsGood, all_sites, good_changed}
@@ -185,14 +185,14 @@ module _ (x : Basis) (g : Both) (line : BlockLine) (rest : List BlockLine) (y : 
                 });
           })
 
-      pub good_rewritten : MemoryGood x.table x.blocks x.first m → (after : List BlockLine) (stand : StandAt x.table x.blocks (body_of g) after)
+      pub good_rewritten : MemoryGood x.table x.blocks (sites_of g) x.first m → (after : List BlockLine) (stand : StandAt x.table x.blocks (body_of g) after)
           (temps : Temps) (same_temps : SameTemps x g line rest y temps) (vars words : Vars) (awaits : ℕ) → AllSame g.call.vars vars
           → IsGood x (changed g after temps vars m words awaits (store g.world l v))
       good_rewritten memory after stand temps same_temps vars words awaits same =
           subst (λ w. IsGood x (changed g after temps vars m words awaits w)) (sym store_is)
           (good_changed x g line rest y after f.site place temps vars m words awaits new_world
           memory
-          (somewhere a (bytes v) outside f.among f.there f.home (let e = f.address in omega (arith, e))
+          (somewhere a (bytes v) (outside_still (next_base (sites_of g)) g.memory m a (bytes v) outside) f.among f.there f.home (let e = f.address in omega (arith, e))
           (let e = f.address in let h = inside_place in omega (arith, e, h)))
           store_worlds
           (kept_temps x g line rest y f.site place temps vars same_temps (λ h u other away home. same.others u (high_variable x g line rest y h u other home))

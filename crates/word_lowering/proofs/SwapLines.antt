@@ -28,7 +28,7 @@ use Rattle.word_code.specs.declared.word.WordInstr.{WordInstr}
 use Rattle.word_code.specs.Memory.{Memory}
 use Rattle.word_code.specs.RoutineTable.{Area, Separate}
 use Rattle.word_code.specs.Words.{no_words}
-use Rattle.word_code.proofs.ForCallers.{sizes_more, with_copied, span, span_is, SameOutside, Changed, CopiedTo, copied_to, Runs, at}
+use Rattle.word_code.proofs.ForCallers.{with_copied, span, span_is, SameOutside, Changed, CopiedTo, copied_to, Runs, at}
 use Rattle.word_lowering.specs.declared.homes.TheConstants.{FIRST}
 use Rattle.word_lowering.specs.declared.homes.Home.{Home}
 use Rattle.word_lowering.specs.Aliases.{handed_by, is_among, places_in}
@@ -36,32 +36,33 @@ use Rattle.word_lowering.specs.LineCode.{location, swap_code}
 use Rattle.word_lowering.proofs.AddressFacts.{handed_at}
 use Rattle.word_lowering.proofs.ApplyFits.{applies}
 use Rattle.word_lowering.proofs.ControlLines.{FollowedHere, plain, value_type}
-use Rattle.word_lowering.proofs.Gets.{SameTemps, same_temps, text_beside}
-use Rattle.word_lowering.proofs.InMemory.{IsAt, bytes_whole, bytes_some, carried}
+use Rattle.word_lowering.proofs.Gets.{SameTemps, same_temps}
+use Rattle.word_lowering.proofs.InMemory.{IsAt, bytes_whole, bytes_some, copied_there}
 use Rattle.word_lowering.proofs.Keeping.{number_cases, same_numbers}
-use Rattle.word_lowering.proofs.LineFits.{are_of, no_type, same_type}
+use Rattle.word_lowering.proofs.LineFits.{are_of, no_type, same_type, has_words}
 use Rattle.word_lowering.proofs.Lines.{Basis, IsGood, Settles, all_procs, all_sites, changed, data_there, goes_on, known, mapped_settles, reaches}
 use Rattle.word_lowering.proofs.Lines.{stands_next, starts}
 use Rattle.word_lowering.proofs.Located.{IsThereAt, place_located}
 use Rattle.word_lowering.proofs.Moves.{IsHigh, all_same, words_of}
-use Rattle.word_lowering.proofs.OutPlaces.{written_at}
+use Rattle.word_lowering.proofs.OutPlaces.{written_at, written_stands}
 use Rattle.word_lowering.proofs.ReadFacts.{each_call, read_location}
 use Rattle.word_lowering.proofs.Related.{Both, MemoryGood, body_of, high, routines, within}
 use Rattle.word_lowering.proofs.RoutineCalls.{awaiting}
 use Rattle.word_lowering.proofs.RoutineMemory.{still_outside}
-use Rattle.word_lowering.proofs.Scenes.{FromPlace, Leads, Points, address_of, house, looked, of_location, of_place}
+use Rattle.word_lowering.proofs.Scenes.{FromPlace, Leads, Points, of_a_place, address_of, house, looked, of_location, of_place}
 use Rattle.word_lowering.proofs.Settling.{LabelsLead, code_here, code_next}
 use Rattle.word_lowering.proofs.ShapeFacts.{bytes_is, never, shape_bytes, values_of_numbers}
 use Rattle.word_lowering.proofs.ShapePaths.{PathTo, path_within}
 use Rattle.word_lowering.proofs.ShapesApart.{SameOrApart, paths_apart}
 use Rattle.word_lowering.proofs.Sites.{Linked, Site, around}
 use Rattle.word_lowering.proofs.SitesApart.{Beside, houses, one_level, ranges_apart, site_at}
-use Rattle.word_lowering.proofs.Sources.{Lying, lying_area, lying_near, separate_turned}
+use Rattle.word_lowering.proofs.Sources.{Lying, text_beside, lying_area, lying_near, separate_turned}
 use Rattle.word_lowering.proofs.StoreLines.{none_temps}
 use Rattle.word_lowering.proofs.Stores.{good_rewritten, good_stored, leads_still}
 use Rattle.word_lowering.proofs.SwapRuns.{Swapped, swap_called}
 use Rattle.word_lowering.proofs.Targets.{pointed}
 use Rattle.word_lowering.proofs.ValueFacts.{type_in}
+use Rattle.rv32_isa.specs.Image.{stack_at}
 
 -- ---- parts of one shape, at two locations
 
@@ -142,7 +143,9 @@ module _ (x : Basis) (g : Both) (line : BlockLine) (rest : List BlockLine) (y : 
       let a = handed_at x g line rest y t there p.named e standing handed in
       let leads : FromPlace x.table sites g.world l a.address shape
       = subst (λ s. FromPlace x.table sites g.world l a.address s) p.look
-      (subst (λ k. Leads x.table sites g.world g.call.site g.call.temps k a.address (looked x.table g.call.site (of_location t))) w.is a.leads_to) in
+      (of_a_place x.table x.blocks (written_stands x g line rest y w.written)
+      (subst (λ k. Leads x.table x.blocks sites g.world g.call.site g.call.temps k a.address (looked x.table g.call.site (of_location t))) w.is
+      a.leads_to)) in
       let there_at = place_located x sites y.linked g.memory g.world (each_call x g line rest y) l a.address shape leads in
       let size : bytes (load g.world l) ≡ shape_bytes shape = bytes_is (load g.world l) shape there_at.numbers there_at.shaped in
       let r = read_location x g line rest y t there p.named e in
@@ -204,7 +207,7 @@ module _ (x : Basis) (g : Both) (line : BlockLine) (rest : List BlockLine) (y : 
           let near_right = lying_near x sites y.linked f.address (shape_bytes shape) lying_right in
           swap_called x.law x.live (all_procs x) (within x.table x.blocks g) refl g.memory (routines x.table x.blocks) x.runtime.statics (reaches x)
           (code_next x g line rest y) j (house_of left) (house_of right) e.address f.address g.call.vars g.words e.points f.high_is f.points
-          (omega (arith, near_left, words)) (omega (arith, near_right, words)) y.memory.sized (data_there x g.memory y.memory) area_left area_right
+          (omega (arith, near_left, words)) (omega (arith, near_right, words)) y.memory.sized (data_there x sites g.memory y.memory) area_left area_right
           (subst (Separate e.address f.address) (span_is (suc j)) apart)
 
       abbrev memory : Memory
@@ -222,12 +225,12 @@ module _ (x : Basis) (g : Both) (line : BlockLine) (rest : List BlockLine) (y : 
       v_there : IsAt middle f.address v
       v_there =
           let size = e.size in
-          carried g.memory middle e.address f.address v (λ o within is. copy.same o (omega (arith, within, size)) is) e.at_address.is_at
+          copied_there g.memory middle e.address f.address v (has_words v shape e.at_address.shaped) (λ o within is. copy.same o (omega (arith, within, size)) is) e.at_address.is_at
 
       w_there : IsAt memory e.address w
       w_there =
           let size = f.size in
-          carried g.memory memory f.address e.address w (λ o within is. called.is.to_left o (omega (arith, within, size, words)) is) f.at_address.is_at
+          copied_there g.memory memory f.address e.address w (has_words w shape f.at_address.shaped) (λ o within is. called.is.to_left o (omega (arith, within, size, words)) is) f.at_address.is_at
 
       abbrev between : Both
       between = changed g rest temps called.vars middle no_words FIRST world
@@ -237,14 +240,16 @@ module _ (x : Basis) (g : Both) (line : BlockLine) (rest : List BlockLine) (y : 
           (subst (Changed g.memory middle f.address) (sym e.size) copy.changed) v_there (line ∷ rest) y.stands temps same_at called.vars no_words FIRST
           called.same (subst (Lying x sites y.linked f.address) (sym e.size) lying_right)
 
-      memory_good : MemoryGood x.table x.blocks x.first memory
+      memory_good : MemoryGood x.table x.blocks sites x.first memory
       memory_good =
           let left_bytes = subst (λ n. Lying x sites y.linked e.address n) words lying_left in
           let right_bytes = subst (λ n. Lying x sites y.linked f.address n) words lying_right in
           let trade = called.is in
           record {
             sized = trade.sized;
-            sizes = sizes_more x.first g.memory memory y.memory.sizes trade.sizes;
+            statics = trade.sizes.statics ∙ y.memory.statics;
+            heap = trade.sizes.heap ∙ y.memory.heap;
+            places = ap (λ n. stack_at + n) trade.sizes.stack ∙ y.memory.places;
             cells = λ b whole is_open. trade.cells b (y.memory.cells b whole is_open);
             texts = λ b k text. trade.beside b k (text_beside x sites y.linked e.address (4 * suc j) b k left_bytes text)
                 (text_beside x sites y.linked f.address (4 * suc j) b k right_bytes text) ∙ y.memory.texts b k text;

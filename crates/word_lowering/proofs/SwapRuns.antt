@@ -96,5 +96,5 @@ module _ (law : MemoryLaw) (live : Lives) (procs : List WordProc) (c : Within) (
         some = omega arith;
         few = (let p = r1.few in let q = r2.few in let f = called.few in omega (arith, p, q, f));
         runs = then_runs live procs (then_runs live procs r1.runs r2.runs)
-            (then_runs live procs (then_runs live procs r3 r4) called.steps);
+            (then_runs live procs (then_runs live procs r3 r4) (record { by = called.steps }));
       }

@@ -3,7 +3,6 @@ use Rattle.std.proofs.Common.{◌≡◌, ℕ, ◌+◌, ◌^◌, ◌<◌, ◌≤�
 use Rattle.std.specs.Set.{is_member}
 use Rattle.arc_base.specs.Event.{writes}
 use Rattle.arc_base.specs.declared.outside.Stream.TheVariants.{Out}
-use Rattle.arc_base.specs.Simulation.{Steps}
 use Rattle.nim_types.specs.Types.{same_text}
 use Rattle.flat_code.specs.declared.block.BlockLine.{BlockLine}
 use Rattle.flat_code.specs.Sizes.{lines_texts}
@@ -11,14 +10,14 @@ use Rattle.word_code.specs.declared.word.WordInstr.{WordInstr}
 use Rattle.word_code.specs.declared.word.WordInstr.TheVariants.{Constant}
 use Rattle.word_code.specs.Memory.{Memory, bytes_at, own_data_at}
 use Rattle.word_code.specs.Words.{Vars, WordState, put, scene_of as word_scene, settled, shows, using}
-use Rattle.word_code.proofs.ForCallers.{at, got, on, one, run_constant, run_datum, then_runs}
+use Rattle.word_code.proofs.ForCallers.{at, got, on, one, run_constant, run_datum, then_runs, AlwaysSteps}
 use Rattle.word_lowering.specs.declared.homes.TheConstants.{FIRST, SECOND}
 use Rattle.word_lowering.specs.declared.texts.TheConstants.{FIXED_BYTES, LINE_END_AT}
 use Rattle.word_lowering.specs.Aliases.{texts_of}
 use Rattle.word_lowering.specs.LineCode.{text_code, write_code, literal_at}
 use Rattle.word_lowering.proofs.Lines.{Basis, IsGood, all_procs, lower, starts}
 use Rattle.word_lowering.proofs.Moves.{same_first, same_more, same_second}
-use Rattle.word_lowering.proofs.Related.{Both, IsText, within}
+use Rattle.word_lowering.proofs.Related.{Both, IsText, within, sites_of}
 use Rattle.word_lowering.proofs.Sites.{Body, IsBody, around, data_end, lines_of}
 use Rattle.word_lowering.proofs.Told.{Tells, none_tells, told_none}
 
@@ -38,12 +37,12 @@ module _ (x : Basis) (least : FIXED_BYTES ≤ data_end x.table x.blocks) (g : Bo
     (y : IsGood x (starts g line rest)) where
   -- the last line of each
   pub write_one : (m : Memory) (k : List WordInstr) (v : Vars) (a n : ℕ) (text : List ℕ) → v FIRST ≡ Some a → v SECOND ≡ Some n → bytes_at m a n ≡ Some text
-      → Steps (lower x) 1 (at (within x.table x.blocks g) m (write_code k) v g.words) (writes Out text) 1 (at (within x.table x.blocks g) m k v g.words)
+      → AlwaysSteps (lower x) 1 (at (within x.table x.blocks g) m (write_code k) v g.words) (writes Out text) 1 (at (within x.table x.blocks g) m k v g.words)
   write_one m k v a n text e1 e2 here =
       let s : WordState = at (within x.table x.blocks g) m (write_code k) v g.words in
-      one (lower x) (ap₂ (λ o p. settled x.live (all_procs x) s k
+      one (lower x) (λ fresh. ap₂ (λ o p. settled x.live (all_procs x) fresh s k
       (using o (λ b. using p (λ e. shows (word_scene s) Out (bytes_at m b e))))) e1 e2
-      ∙ ap (λ o. settled x.live (all_procs x) s k (shows (word_scene s) Out o)) here)
+      ∙ ap (λ o. settled x.live (all_procs x) fresh s k (shows (word_scene s) Out o)) here)
 
   -- a text that is in memory from the beginning
   pub text_still : (from : ℕ) (text : List ℕ) → TextAt x from text → bytes_at g.memory (own_data_at + from) (length text) ≡ Some text
@@ -65,7 +64,7 @@ module _ (x : Basis) (least : FIXED_BYTES ≤ data_end x.table x.blocks) (g : Bo
         vars = v2;
         same = same_more g.call.vars v1 v2 (same_first g.call.vars (own_data_at + 0 + from)) (same_second v1 n);
         memory = g.memory;
-        told = told_none x least g.memory y.memory;
+        told = told_none x least (sites_of g) g.memory y.memory;
         words = g.words;
         awaits = g.awaits;
         count = 3;

@@ -5,7 +5,6 @@ use Rattle.std.specs.Prelude.{◌==◌, ◌&&◌, if◌then◌else◌}
 use Rattle.arc_base.specs.Event.{writes}
 use Rattle.arc_base.specs.declared.outside.Stream.{Stream}
 use Rattle.arc_base.specs.declared.outside.Stream.TheVariants.{Out}
-use Rattle.arc_base.specs.Simulation.{Steps}
 use Rattle.rv32_isa.specs.declared.micro_op.Size.TheVariants.{Word}
 use Rattle.rv32_isa.specs.declared.machine.FaultKind.TheVariants.{Misaligned}
 use Rattle.rv32_isa.specs.Steps.{number_of}
@@ -17,39 +16,42 @@ use Rattle.word_code.specs.declared.word.WordInstr.{WordInstr}
 use Rattle.word_code.specs.Memory.{Memory, as_state, number_at, own_data_at}
 use Rattle.word_code.specs.RoutineTable.{Beside, Cell, IsRewritten}
 use Rattle.word_code.specs.Words.{Vars}
-use Rattle.word_code.proofs.ForCallers.{at, none, on, sizes_more}
+use Rattle.word_code.proofs.ForCallers.{at, none, on, AlwaysSteps}
 use Rattle.word_lowering.specs.declared.texts.TheConstants.{FIXED_BYTES}
 use Rattle.word_lowering.proofs.Gets.{SameTemps, high_variable, kept_temps, same_temps}
 use Rattle.word_lowering.proofs.Keeping.{AmongCalls, aside, worlds_same}
 use Rattle.word_lowering.proofs.Lines.{Basis, IsGood, Settles, all_sites, changed, good_changed, lower, stands_next, starts}
 use Rattle.word_lowering.proofs.Moves.{all_same, same_more}
 use Rattle.word_lowering.proofs.OrdinalRuns.{AllSame}
-use Rattle.word_lowering.proofs.Related.{Both, IsClosed, IsOpen, IsText, MemoryGood, StandAt, body_of, called_by, low, routines, within}
+use Rattle.word_lowering.proofs.Related.{Both, IsClosed, IsOpen, IsText, MemoryGood, StandAt, body_of, called_by, low, routines, within, sites_of}
 use Rattle.word_lowering.proofs.RoutineCalls.{awaiting}
 use Rattle.word_lowering.proofs.Scenes.{Call, of_value, site_of}
 use Rattle.word_lowering.proofs.Settling.{code_here, code_next}
 use Rattle.word_lowering.proofs.Sites.{AmongSites, Site, data_end}
 use Rattle.word_lowering.proofs.SitesApart.{IsPlace, site_at}
+use Rattle.rv32_isa.specs.Image.{stack_at}
 
 -- what is true where bytes beside all places and texts are others
-module _ (x : Basis) (least : FIXED_BYTES ≤ data_end x.table x.blocks) where
+module _ (x : Basis) (least : FIXED_BYTES ≤ data_end x.table x.blocks) (sites : List Site) where
   pub record IsTold (m m' : Memory) : Type 0 where
-    pub good : MemoryGood x.table x.blocks x.first m'
+    pub good : MemoryGood x.table x.blocks sites x.first m'
     pub places : (a : ℕ) → IsPlace x.table x.blocks a → number_at m' a Word ≡ number_at m a Word
 
   pub told_more : (m m' m'' : Memory) → IsTold m m' → IsTold m' m'' → IsTold m m''
   told_more m m' m'' s t = record { good = t.good; places = λ a h. t.places a h ∙ s.places a h }
 
-  pub told_none : (m : Memory) → MemoryGood x.table x.blocks x.first m → IsTold m m
+  pub told_none : (m : Memory) → MemoryGood x.table x.blocks sites x.first m → IsTold m m
   told_none m good = record { good = good; places = λ a h. refl }
 
-  module _ (m m' : Memory) (good : MemoryGood x.table x.blocks x.first m) where
+  module _ (m m' : Memory) (good : MemoryGood x.table x.blocks sites x.first m) where
     told_beside : (at n : ℕ) → IsRewritten m m' at n → ((a : ℕ) → IsPlace x.table x.blocks a → Beside a 4 at n)
         → ((b k : ℕ) → IsText x.table x.blocks b k → Beside b k at n) → IsTold m m'
     told_beside at n new place text = record {
       good = record {
         sized = x.law.regions (as_state m) (as_state m') good.sized new.sizes;
-        sizes = sizes_more x.first m m' good.sizes new.sizes;
+        statics = new.sizes.statics ∙ good.statics;
+        heap = new.sizes.heap ∙ good.heap;
+        places = ap (λ n. stack_at + n) new.sizes.stack ∙ good.places;
         cells = λ a whole h. cell a (place a (open_place a h)) (good.cells a whole h);
         texts = λ b k h. new.beside b k (text b k h) ∙ good.texts b k h;
       };
@@ -64,10 +66,9 @@ module _ (x : Basis) (least : FIXED_BYTES ≤ data_end x.table x.blocks) where
           may = ap (λ b. (a % 4 == 0) && b) (x.law.stores (as_state m) (as_state m') a 4 new.sizes) ∙ c.may;
           word = c.word;
           reads = word_still a h ∙ c.reads;
-          small = c.small;
         }
 
-        open_place : (a : ℕ) → IsOpen x.table x.blocks a → IsPlace x.table x.blocks a
+        open_place : (a : ℕ) → IsOpen x.table x.blocks sites a → IsPlace x.table x.blocks a
         open_place a (inl h) = inl h
         open_place a (inr h) = inr h.0
 
@@ -103,12 +104,12 @@ module _ (x : Basis) (least : FIXED_BYTES ≤ data_end x.table x.blocks) (g : Bo
     pub vars : Vars
     pub same : AllSame g.call.vars vars
     pub memory : Memory
-    pub told : IsTold x least g.memory memory
+    pub told : IsTold x least (sites_of g) g.memory memory
     pub words : Vars
     pub awaits : ℕ
     pub count : ℕ
     pub few : count ≤ 16 * length text
-    pub steps : Steps (lower x) count (at (within x.table x.blocks g) g.memory lines g.call.vars g.words) (writes Out text) count
+    pub steps : AlwaysSteps (lower x) count (at (within x.table x.blocks g) g.memory lines g.call.vars g.words) (writes Out text) count
         (at (awaiting (within x.table x.blocks g) awaits) memory k vars words)
 
   -- nothing
@@ -117,7 +118,7 @@ module _ (x : Basis) (least : FIXED_BYTES ≤ data_end x.table x.blocks) (g : Bo
     vars = g.call.vars;
     same = all_same g.call.vars;
     memory = g.memory;
-    told = told_none x least g.memory y.memory;
+    told = told_none x least (sites_of g) g.memory y.memory;
     words = g.words;
     awaits = g.awaits;
     count = 0;
@@ -126,7 +127,7 @@ module _ (x : Basis) (least : FIXED_BYTES ≤ data_end x.table x.blocks) (g : Bo
   }
 
   pub good_told : (after : List BlockLine) (temps : Temps) → SameTemps x g line rest y temps → (vars words : Vars) (awaits : ℕ) (memory : Memory)
-      → IsTold x least g.memory memory → AllSame g.call.vars vars → StandAt x.table x.blocks (body_of g) after
+      → IsTold x least (sites_of g) g.memory memory → AllSame g.call.vars vars → StandAt x.table x.blocks (body_of g) after
       → IsGood x (changed g after temps vars memory words awaits g.world)
   good_told after temps same_at vars words awaits memory told same stand =
       good_changed x g line rest y after above (of_value 0) temps vars memory words awaits g.world told.good (aside told.places)
@@ -155,11 +156,12 @@ module _ (x : Basis) (least : FIXED_BYTES ≤ data_end x.table x.blocks) (g : Bo
       → (work : ℕ) → length text ≤ work → Settles x (starts g line rest) rest (Passes (Answers (writes Out text) work temps g.world))
   tells_settles temps same_at text s work enough =
       let behind : Both = changed g rest temps s.vars s.memory s.words s.awaits g.world in
-      let good = good_told rest temps same_at s.vars s.words s.awaits s.memory s.told s.same (stands_next x.table x.blocks (body_of g) line rest y.stands) in (
-        low x.table x.blocks behind,
+      let good = good_told rest temps same_at s.vars s.words s.awaits s.memory s.told s.same (stands_next x.table x.blocks (body_of g) line rest y.stands) in
+      λ before. let r = s.steps.by x.fresh before in (
+        (r.0, low x.table x.blocks behind),
         s.count,
-        record { work = s.steps.work; within = (let h = s.steps.within in let f = s.few in omega (arith, h, f, enough)); by = s.steps.by },
-        ((behind, good), refl, refl),
+        record { work = r.1.work; within = (let h = r.1.within in let f = s.few in omega (arith, h, f, enough)); by = r.1.by },
+        ((behind, good, r.0), refl, refl),
         inr (omega arith),
       )
 
@@ -183,11 +185,11 @@ module _ (x : Basis) (least : FIXED_BYTES ≤ data_end x.table x.blocks) (g : Bo
         vars = s.vars;
         same = same_more g.call.vars t.vars s.vars t.same s.same;
         memory = s.memory;
-        told = told_more x least g.memory t.memory s.memory t.told s.told;
+        told = told_more x least (sites_of g) g.memory t.memory s.memory t.told s.told;
         words = s.words;
         awaits = s.awaits;
         count = t.count + s.count;
         few = omega (arith, f, h, long);
-        steps = subst (λ es. Steps (lower x) (t.count + s.count) (at (within x.table x.blocks g) g.memory lines g.call.vars g.words) es (t.count + s.count)
+        steps = subst (λ es. AlwaysSteps (lower x) (t.count + s.count) (at (within x.table x.blocks g) g.memory lines g.call.vars g.words) es (t.count + s.count)
             (at (awaiting (within x.table x.blocks g) s.awaits) s.memory k s.vars s.words)) (sym (writes_both Out a b)) (on (lower x) t.steps s.steps);
       }

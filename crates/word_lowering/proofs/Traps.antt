@@ -4,7 +4,6 @@ use Rattle.std.proofs.lemmas.Bool.{false≢true}
 use Rattle.arc_base.specs.Event.{writes}
 use Rattle.arc_base.specs.declared.outside.Stream.TheVariants.{Err}
 use Rattle.arc_base.specs.Behaviour.{no_objects}
-use Rattle.arc_base.specs.Simulation.{Stops}
 use Rattle.nim_program.specs.Traps.{Trap, Overflow, DivisionByZero, IndexOutOfBounds, OutOfRange, NilDereference, LengthChanged, CallDepth}
 use Rattle.nim_program.specs.Traps.{OutOfMemory, trap_text}
 use Rattle.nim_meaning.specs.Acts.{line_of}
@@ -15,7 +14,7 @@ use Rattle.word_code.specs.declared.word.WordInstr.TheVariants.{Label, Call}
 use Rattle.word_code.specs.Memory.{Memory}
 use Rattle.word_code.specs.Words.{Vars, WordState}
 use Rattle.word_code.specs.RoutineTable.{WritesTrap, trap_number, is_built}
-use Rattle.word_code.proofs.ForCallers.{stops_on, Within, at, run_label}
+use Rattle.word_code.proofs.ForCallers.{stops_on, Within, at, run_label, AlwaysStops}
 use Rattle.word_lowering.specs.declared.homes.TheConstants.{FIRST}
 use Rattle.word_lowering.specs.Operations.{trap_label}
 use Rattle.word_lowering.specs.LineCode.{label_before, lines_code}
@@ -24,22 +23,22 @@ use Rattle.word_lowering.proofs.CallLabels.{ArgumentLabels}
 use Rattle.word_lowering.proofs.LabelFacts.{line_branches}
 use Rattle.word_lowering.proofs.LabelsHere.{first_lines, own_label_at, own_label_here, trap_label_here, branches_here, label_leads}
 use Rattle.word_lowering.proofs.TrapEnds.{trap_stands}
-use Rattle.word_lowering.proofs.Sites.{lines_of, around}
-use Rattle.word_lowering.proofs.Related.{Both, body_of, within, MemoryGood}
+use Rattle.word_lowering.proofs.Sites.{lines_of, around, Site}
+use Rattle.word_lowering.proofs.Related.{Both, body_of, within, MemoryGood, sites_of}
 use Rattle.word_lowering.proofs.Lines.{Basis, IsGood, all_procs, data_there, lower, starts}
 use Rattle.word_lowering.proofs.Settling.{TrapStops, TrapsStop, LabelsLead, OwnLabels, code_of_line}
 
 module _ (x : Basis) where
   -- from the label on
-  label_stops : (c : Within) (m : Memory) → MemoryGood x.table x.blocks x.first m → (trap : Trap) → is_built trap ≡ true → (k : List WordInstr) (v g : Vars)
-      → Stops (lower x) (at c m (Label (trap_label trap) ∷ Call FIRST (trap_number trap) ∷ k) v g) (writes Err (line_of (trap_text trap))) 7 1 no_objects
-  label_stops c m good trap built k v g =
+  label_stops : (c : Within) (sites : List Site) (m : Memory) → MemoryGood x.table x.blocks sites x.first m → (trap : Trap) → is_built trap ≡ true → (k : List WordInstr) (v g : Vars)
+      → AlwaysStops (lower x) (at c m (Label (trap_label trap) ∷ Call FIRST (trap_number trap) ∷ k) v g) (writes Err (line_of (trap_text trap))) 7 1 no_objects
+  label_stops c sites m good trap built k v g =
       let l1 : List WordInstr = Call FIRST (trap_number trap) ∷ k in
       let s0 : WordState = at c m (Label (trap_label trap) ∷ l1) v g in
       let s1 : WordState = at c m l1 v g in
       let r1 = run_label x.live (all_procs x) c m l1 v g (trap_label trap) in
-      let called = x.kept (WritesTrap trap built) tt s1 FIRST k (record { next = refl; given = tt }) good.sized (data_there x m good) tt in
-      subst (Stops (lower x) s0 (writes Err (line_of (trap_text trap))) 7 1) (x.none called.memory)
+      let called = x.kept (WritesTrap trap built) tt s1 FIRST k (record { next = refl; given = tt }) good.sized (data_there x sites m good) tt in
+      subst (λ left. AlwaysStops (lower x) s0 (writes Err (line_of (trap_text trap))) 7 1 left) (x.none called.memory)
       (stops_on (lower x) 1 1 6 1 s0 s1 [] (writes Err (line_of (trap_text trap))) _ r1 called.stops)
 
   module _ (g : Both) (line : BlockLine) (rest : List BlockLine) (y : IsGood x (starts g line rest)) where
@@ -52,7 +51,7 @@ module _ (x : Basis) where
         record {
           there = Label (trap_label trap) ∷ Call FIRST (trap_number trap) ∷ s.0;
           stands = trap_label_here x.table x.blocks (body_of g) (trap_label trap) low ∙ s.1;
-          stops = λ v w. label_stops (within x.table x.blocks g) g.memory y.memory trap built s.0 v w;
+          stops = λ v w. label_stops (within x.table x.blocks g) (sites_of g) g.memory y.memory trap built s.0 v w;
         }
 
     unbuilt_stops : (trap : Trap) → 6 ≤ trap_label trap → trap_label trap ≤ 7

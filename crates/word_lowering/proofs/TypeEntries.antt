@@ -13,7 +13,9 @@ use Rattle.nim_types.specs.Entries.{meant_at, said_at, one_if}
 use Rattle.nim_types.proofs.ForCallers.{by_entry, said_by}
 use Rattle.nim_program.specs.Ints.{is_true}
 use Rattle.nim_meaning.specs.Values.{Value, number_of, text_in}
-use Rattle.nim_meaning.specs.Texts.{bool_text, name_in, plain_text, text_at, below_distinct, base_or as type_or}
+use Rattle.nim_meaning.specs.Texts.{value_text, text_at}
+use Rattle.nim_program.specs.Texts.{bool_text, name_in}
+use Rattle.nim_program.specs.Kinds.{below_distinct, base_or as type_or}
 use Rattle.word_lowering.specs.Stored.{base_or, base_within, base_at, entry_at}
 use Rattle.word_lowering.proofs.Options.{none_some, some_same}
 use Rattle.word_lowering.proofs.TypeShapes.{base_below, Stays, stays_not, Looked, a_distinct, another, look}
@@ -145,7 +147,7 @@ module _ (ds : List TypeDef) (table : IsTable ds) where
           let none = slice_get_past ds i h in
           type_stays (length facts) i None none refl ∙ ap (type_at ts) (sym (base_stays (length ds) i None none (λ go j. refl)))
 
-  text_by : (o : Option TypeDef) (v : Value) → fact_of facts (meant_at ts o) ≡ said_at ts o → plain_text facts (meant_at ts o) v ≡ entry_text o v
+  text_by : (o : Option TypeDef) (v : Value) → fact_of facts (meant_at ts o) ≡ said_at ts o → value_text facts (meant_at ts o) v ≡ entry_text o v
   text_by None v h = refl
   text_by (Some D.Int) v h = refl
   text_by (Some D.Bool) v h = refl
@@ -163,5 +165,5 @@ module _ (ds : List TypeDef) (table : IsTable ds) where
 
   pub type_text : (ty : ℕ) (v : Value) → text_at facts (Some (type_at ts ty)) v ≡ entry_text (entry_at ds ty) v
   type_text ty v =
-      ap (λ t. plain_text facts t v) (base_is ty ∙ by_entry ds table (base_at ds ty) (entry_at ds ty) refl)
+      ap (λ t. value_text facts t v) (base_is ty ∙ by_entry ds table (base_at ds ty) (entry_at ds ty) refl)
       ∙ text_by (entry_at ds ty) v (said_by ds table (base_at ds ty) (entry_at ds ty) refl)

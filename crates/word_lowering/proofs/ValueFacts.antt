@@ -129,7 +129,7 @@ module _ (x : Basis) where
     pub shaped : has_shape v (looked x.table c.site (of_value t)) ≡ true
 
   pub operand : (m : Memory) (w : World) (from : List Site) (c : Call) (t : ℕ) (v : Value) (values : Option ℕ) → IsBody x.table x.blocks c.site.body
-      → Holding x.table m w from c → IsNamed c.site (of_value t) → c.temps.values t ≡ Some v
+      → Holding x.table x.blocks m w from c → IsNamed c.site (of_value t) → c.temps.values t ≡ Some v
       → looked x.table c.site (of_value t) ≡ number values → Operand c t v
   operand m w from c t v values b hold named e look =
       let there = value_there c.site t b named (ap of_numbers look) in

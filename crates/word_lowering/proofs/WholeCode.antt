@@ -1,6 +1,6 @@
 -- All of word code, from what makes its parts.
-use Rattle.std.proofs.Common.{◌≡◌, ℕ, zero, suc, ◌-◌, List, [], ◌∷◌, ◌++◌, length, Some, slice_get}
-use Rattle.std.proofs.Common.{sym, ap, ap₂, ◌∙◌, arith}
+use Rattle.std.proofs.Common.{◌≡◌, ◌<◌, ℕ, zero, suc, ◌-◌, List, [], ◌∷◌, ◌++◌, length, Some, None, slice_get}
+use Rattle.std.proofs.Common.{refl, sym, ap, ap₂, ◌∙◌, arith}
 use Rattle.std.proofs.Common.{map, ◌+◌, ◌==◌, true, false, add-one, length-append}
 use Rattle.std.proofs.lemmas.Bool.{true≢false}
 use Rattle.std.proofs.lemmas.Option.{none-some, same_Some}
@@ -14,6 +14,7 @@ use Rattle.flat_code.specs.Codes.{block_plain}
 use Rattle.flat_code.specs.Running.{last_of}
 use Rattle.word_lowering.specs.declared.homes.Layout.{Layout}
 use Rattle.word_lowering.specs.Emission.{Puts}
+use Rattle.word_lowering.specs.Layouts.{layouts}
 use Rattle.word_lowering.specs.LineCode.{Around, no_layout, proc_number}
 use Rattle.word_lowering.specs.Texts.{texts_of, texts_in, padded, data_in}
 use Rattle.word_lowering.specs.Lowered.{word_proc, with_own, if_runs, word_procs, no_proc, all_layouts, around_start, lowered}
@@ -31,6 +32,20 @@ last_at none (y ∷ z ∷ xs) (suc n) x e f = last_at y (z ∷ xs) n x (omega (a
 pub last_is : {A : Type 0} (none : A) (xs : List A) (x : A) → slice_get xs (length xs - 1) ≡ Some x → last_of none xs ≡ x
 last_is none [] x f = absurd (none-some x f)
 last_is none (y ∷ xs) x f = last_at none (y ∷ xs) (length (y ∷ xs) - 1) x (omega arith) f
+
+-- where there are items there is a last one
+item_there : {A : Type 0} (xs : List A) (n : ℕ) → n < length xs → None ≡ slice_get xs n → ⊥
+item_there [] n l e = omega (arith, l)
+item_there (x ∷ xs) zero l e = none-some x e
+item_there (x ∷ xs) (suc n) l e = item_there xs n (omega (arith, l)) e
+
+pub last_there : {A : Type 0} (xs : List A) → 0 < length xs → None ≡ slice_get xs (length xs - 1) → ⊥
+last_there xs l e = item_there xs (length xs - 1) (omega (arith, l)) e
+
+-- each procedure has a layout
+pub layouts_length : (table : List TypeDef) (datum : ℕ) (ps : List (CodeProc BlockLine)) → length (layouts table datum ps) ≡ length ps
+layouts_length table datum [] = refl
+layouts_length table datum (p ∷ ps) = ap suc (layouts_length table datum ps)
 
 -- the procedures as they are put together
 pub procs_are : (x : Around) (start : CodeProc BlockLine) (procs : List (CodeProc BlockLine)) (p : WordProc) (first second : List WordProc)

@@ -8,7 +8,6 @@ use Rattle.std.proofs.lemmas.Fmt.{decimal_nonempty}
 use Rattle.std.proofs.lemmas.Int.{ints}
 use Rattle.arc_base.specs.Event.{writes}
 use Rattle.arc_base.specs.declared.outside.Stream.TheVariants.{Out}
-use Rattle.arc_base.specs.Simulation.{Steps}
 use Rattle.rv32_isa.specs.Values.{added, subtracted, shifted_left}
 use Rattle.rv32_isa.specs.declared.micro_op.Size.TheVariants.{Byte, Word}
 use Rattle.rv32_isa.specs.declared.machine.FaultKind.TheVariants.{Misaligned}
@@ -20,7 +19,7 @@ use Rattle.word_code.specs.declared.word.WordInstr.{WordInstr}
 use Rattle.word_code.specs.declared.word.WordInstr.TheVariants.{Constant, Compute, Datum, Load, Store}
 use Rattle.word_code.specs.Memory.{Memory, bytes_at, number_at, own_data_at, with_number}
 use Rattle.word_code.specs.Words.{Vars, no_words, put}
-use Rattle.word_code.proofs.ForCallers.{got, at, on, then_runs, run_datum, run_constant, run_compute, run_load, run_store}
+use Rattle.word_code.proofs.ForCallers.{got, at, on, then_runs, run_datum, run_constant, run_compute, run_load, run_store, AlwaysSteps}
 use Rattle.word_lowering.specs.declared.homes.TheConstants.{FIRST, SECOND, THIRD, OWN_FROM}
 use Rattle.word_lowering.specs.declared.texts.TheConstants.{FIXED_BYTES, FALSE_AT}
 use Rattle.word_lowering.specs.Operations.{word}
@@ -28,7 +27,7 @@ use Rattle.word_lowering.specs.LineCode.{write_code, number_code, bool_code, cha
 use Rattle.word_lowering.proofs.OrdinalRuns.{AllSame, put_low}
 use Rattle.word_lowering.proofs.Moves.{same_first, same_second, same_third, same_more}
 use Rattle.word_lowering.proofs.Sites.{data_end}
-use Rattle.word_lowering.proofs.Related.{Both, within, IsText}
+use Rattle.word_lowering.proofs.Related.{Both, within, IsText, sites_of}
 use Rattle.word_lowering.proofs.Lines.{Basis, all_procs, starts, IsGood, lower}
 use Rattle.word_lowering.proofs.TextLines.{TextAt, text_still, write_one}
 use Rattle.word_lowering.proofs.Told.{Tells, told_letter, told_none, told_scratch}
@@ -36,7 +35,6 @@ use Rattle.rv32_isa.specs.Words.{word_bytes}
 use Rattle.rv32_isa.specs.Values.{signed}
 use Rattle.word_code.specs.declared.routine.TheConstants.{NUMBER}
 use Rattle.word_code.specs.declared.word.WordInstr.TheVariants.{Call}
-use Rattle.word_code.specs.Memory.{with_number}
 use Rattle.word_code.specs.RoutineTable.{WritesNumber}
 use Rattle.word_code.proofs.ForCallers.{run_argument, store_here, store_rewritten}
 use Rattle.word_lowering.proofs.Arithmetic.{fits_signed, signed_word, word_small}
@@ -77,8 +75,8 @@ module _ (x : Basis) (least : FIXED_BYTES ≤ data_end x.table x.blocks) (g : Bo
       let small = word_small z f in
       let r1 = run_argument x.live (all_procs x) (within x.table x.blocks g) g.memory (Call FIRST NUMBER ∷ k) v g.words 0 from e in
       let called = x.kept WritesNumber (word z) (at (within x.table x.blocks g) g.memory (Call FIRST NUMBER ∷ k) v words) FIRST k
-      (record { next = refl; given = (got (word z) small, tt) }) y.memory.sized (data_there x g.memory y.memory) small in
-      let all = on (lower x) r1 called.steps in
+      (record { next = refl; given = (got (word z) small, tt) }) y.memory.sized (data_there x (sites_of g) g.memory y.memory) small in
+      let all = on (lower x) r1 (record { by = called.steps }) in
       let few = called.few in
       let some = number_some z f in
       let text : signed_decimal (signed (word z)) ≡ signed_decimal z = ap signed_decimal (signed_word z f) in
@@ -87,12 +85,12 @@ module _ (x : Basis) (least : FIXED_BYTES ≤ data_end x.table x.blocks) (g : Bo
         vars = put v FIRST called.word;
         same = same_first v called.word;
         memory = called.memory;
-        told = told_scratch x least g.memory called.memory y.memory called.leaves;
+        told = told_scratch x least (sites_of g) g.memory called.memory y.memory called.leaves;
         words = no_words;
         awaits = FIRST;
         count = 1 + called.lines;
         few = omega (arith, few, long, some);
-        steps = subst (λ t. Steps (lower x) (1 + called.lines) (at (within x.table x.blocks g) g.memory (number_code from k) v g.words) (writes Out t)
+        steps = subst (λ t. AlwaysSteps (lower x) (1 + called.lines) (at (within x.table x.blocks g) g.memory (number_code from k) v g.words) (writes Out t)
             (1 + called.lines) (at (awaiting (within x.table x.blocks g) FIRST) called.memory k (put v FIRST called.word) no_words)) text all;
       }
 
@@ -106,7 +104,7 @@ module _ (x : Basis) (least : FIXED_BYTES ≤ data_end x.table x.blocks) (g : Bo
       let a : ℕ = own_data_at + 0 + 0 in
       let v1 : Vars = put g.call.vars FIRST a in
       let v2 : Vars = put v1 SECOND 1 in
-      let may = letter_there x m y.memory in
+      let may = letter_there x (sites_of g) m y.memory in
       let l3 : List WordInstr = write_code k in
       let l2 : List WordInstr = Constant SECOND 1 ∷ l3 in
       let l1 : List WordInstr = Store FIRST from Byte ∷ l2 in
@@ -121,7 +119,7 @@ module _ (x : Basis) (least : FIXED_BYTES ≤ data_end x.table x.blocks) (g : Bo
         vars = v2;
         same = same_more g.call.vars v1 v2 (same_first g.call.vars a) (same_second v1 1);
         memory = m1;
-        told = told_letter x least m m1 y.memory (store_rewritten x.law m own_data_at Byte n y.memory.sized may);
+        told = told_letter x least (sites_of g) m m1 y.memory (store_rewritten x.law m own_data_at Byte n y.memory.sized may);
         words = g.words;
         awaits = g.awaits;
         count = 4;
@@ -175,7 +173,7 @@ module _ (x : Basis) (least : FIXED_BYTES ≤ data_end x.table x.blocks) (g : Bo
         vars = v6;
         same = s6;
         memory = m;
-        told = told_none x least m y.memory;
+        told = told_none x least (sites_of g) m y.memory;
         words = g.words;
         awaits = g.awaits;
         count = 7;
@@ -262,7 +260,7 @@ module _ (x : Basis) (least : FIXED_BYTES ≤ data_end x.table x.blocks) (g : Bo
         vars = v11;
         same = s11;
         memory = m;
-        told = told_none x least m y.memory;
+        told = told_none x least (sites_of g) m y.memory;
         words = g.words;
         awaits = g.awaits;
         count = 12;

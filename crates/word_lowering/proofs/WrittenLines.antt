@@ -9,7 +9,8 @@ use Rattle.nim_types.specs.declared.types.TypeDef.TheVariants as D
 use Rattle.nim_types.specs.Table.{type_at, types_in, facts_in}
 use Rattle.nim_types.specs.Types.{Ty}
 use Rattle.nim_program.specs.Ints.{is_true, inside, fits as is_int_number}
-use Rattle.nim_meaning.specs.Texts.{bool_text, name_in, text_at}
+use Rattle.nim_meaning.specs.Texts.{text_at}
+use Rattle.nim_program.specs.Texts.{bool_text, name_in}
 use Rattle.nim_meaning.specs.Values.{Number, Value, number_of, text_in}
 use Rattle.flat_code.specs.declared.block.BlockLine.{BlockLine}
 use Rattle.flat_code.specs.Fits.{is_value}

@@ -39,6 +39,7 @@ value_to line = None
 abbrev pub location_to : Line → Option ℕ
 location_to (L.Root to place global) = Some to
 location_to (L.Fresh to from) = Some to
+location_to (L.Standing to ty pieces) = Some to
 location_to (L.Part to from field) = Some to
 location_to (L.Item to from index) = Some to
 location_to (L.Object to from) = Some to

@@ -10,6 +10,7 @@ use Rattle.flat_code.specs.declared.line.Line.TheVariants as L
 use Rattle.flat_code.specs.declared.line.Piece.{Piece}
 use Rattle.flat_code.specs.declared.line.Piece.TheVariants as P
 use Rattle.flat_code.specs.Codes.{block_plain}
+use Rattle.flat_code.specs.Pieces.{standing_bytes}
 use Rattle.flat_code.specs.Sizes.{distinct_texts}
 use Rattle.word_lowering.specs.declared.laid_texts.Laying.{Laying}
 use Rattle.word_lowering.specs.Texts.{laid, place_among, texts_in}
@@ -37,8 +38,9 @@ pieces_before [] met = met
 pieces_before (piece ∷ pieces) met = piece_before piece (pieces_before pieces met)
 
 abbrev pub line_before : Line → Before
-line_before (L.Constant to how ty pieces) = pieces_before pieces
-line_before line = λ met. met
+line_before (L.Constant to how ty pieces) met = pieces_before pieces met
+line_before (L.Standing to ty pieces) met = standing_bytes pieces ∷ pieces_before pieces met
+line_before line met = met
 
 abbrev pub lines_before : List BlockLine → Before
 lines_before [] met = met

@@ -21,6 +21,7 @@ use Rattle.flat_code.specs.declared.line.Line.{Line}
 use Rattle.flat_code.specs.declared.line.Line.TheVariants as L
 use Rattle.flat_code.specs.declared.line.Piece.{Piece}
 use Rattle.flat_code.specs.declared.line.Piece.TheVariants as P
+use Rattle.flat_code.specs.Pieces.{piece_words}
 use Rattle.flat_code.specs.Fits.{is_value, is_location, is_own, is_declared, is_global}
 use Rattle.word_code.specs.declared.routine.TheConstants.{SWAP, NUMBER, PROCS_FROM}
 use Rattle.word_code.specs.declared.word.WordOperation.TheVariants as operation
@@ -45,7 +46,7 @@ use Rattle.word_lowering.specs.Spots.{spot_of, shifted, address, moved, moves, p
 use Rattle.word_lowering.specs.Operations.{word, trap_label, binary_code, unary_code, compare_code, narrow_code, unless_code, if_code, fits_code}
 use Rattle.word_lowering.specs.Operations.{beyond_code, turn_code}
 use Rattle.word_lowering.specs.Aliases.{text_in}
-use Rattle.word_lowering.specs.Texts.{names_before, place_of}
+use Rattle.word_lowering.specs.Texts.{names_before, place_of, standing_place}
 
 -- ---- labels: those of traps are below 8, those of the lines are even, and those that code of a line has are odd
 
@@ -83,14 +84,6 @@ pieces_code to (piece ∷ pieces) k = pieces_code to pieces k
 abbrev pub truth_word : Bool → ℕ
 truth_word true = 1
 truth_word false = 0
-
--- the words of pieces: a value without parts has one that nobody looks at
-abbrev pub piece_words : List Piece → List ℕ
-piece_words [] = []
-piece_words (P.Ordinal z ∷ pieces) = word z ∷ piece_words pieces
-piece_words (P.Parts zero ∷ pieces) = 0 ∷ piece_words pieces
-piece_words (P.Elements zero ∷ pieces) = 0 ∷ piece_words pieces
-piece_words (piece ∷ pieces) = piece_words pieces
 
 abbrev pub first_word : List ℕ → ℕ
 first_word [] = 0
@@ -384,6 +377,10 @@ module _ (x : Around) where
   abbrev pub literal_at : (behind bytes : ℕ) → ℕ
   literal_at behind bytes = x.setting.texts + place_of x.procs (x.setting.literals + behind) bytes
 
+  -- and a constant that stands in the data
+  abbrev pub standing_at : List Piece → ℕ
+  standing_at pieces = x.setting.texts + standing_place x.procs pieces
+
   -- The text of an operand by what its type is; `enum` is the type's number. What the table lacks is an int.
   abbrev pub written_code : Option TypeDef → (enum : ℕ) → Housed → List WordInstr → List WordInstr
   written_code None enum from k = number_code (variable_of from) k
@@ -437,6 +434,7 @@ module _ (x : Around) where
   line_code (L.Look to from) label k = moves (value to) (location from) k
   line_code (L.Root to p global) label k = k
   line_code (L.Fresh to from) label k = k
+  line_code (L.Standing to ty pieces) label k = Datum (led to) (standing_at pieces) ∷ k
   line_code (L.Part to from field) label k = part_code (led to) (location from).home (part_at x.table (location from).ty field) k
   line_code (L.Item to from index) label k = item_code (led to) (location from).home (held index) (count_at from) (bytes_each from) k
   -- refs come with the heap

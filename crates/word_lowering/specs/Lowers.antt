@@ -20,7 +20,7 @@ use Rattle.word_code.specs.declared.word.WordProc.{WordProc}
 use Rattle.word_code.specs.declared.word.WordCode.{WordCode}
 use Rattle.word_code.specs.Memory.{Memory, as_state}
 use Rattle.word_code.specs.Sizes.{word_weight, longest_chain, has_no_circle}
-use Rattle.word_code.specs.Words.{is_counted, have_no_hooks, is_word_code, word_meaning}
+use Rattle.word_code.specs.Words.{is_counted, have_no_hooks, is_word_code, word_meaning, Fresh}
 use Rattle.word_code.specs.Joined.{joined, AreApart}
 use Rattle.word_code.specs.Runtime.{IsSmallRoutine, IsRuntime}
 use Rattle.word_lowering.specs.declared.lowering.TheConstants.{WORD_PACE, MOST_HEAP, START_WEIGHT, MORE_DATA}
@@ -51,14 +51,14 @@ AreSilent [] = Unit {0}
 AreSilent (p ∷ procs) = (p.lines ≡ [] → p.hook ≡ None) × AreSilent procs
 
 -- Where block code fits, each hook has lines, and it never comes to a fault, whole word code does the same on each input, with each heap that the
--- machine has and each stack.
+-- machine has and each stack, whatever bytes new places bring.
 pub record Lowers (table : List TypeDef) (blocks : Code BlockLine) (code : WordCode) : Type 0 where
-  pub agrees : (live : Lives) (heap stack : ℕ) (input : List ℕ) → HasNoObjects live → heap ≤ MOST_HEAP → IsFitting table blocks
+  pub agrees : (live : Lives) (fresh : Fresh) (heap stack : ℕ) (input : List ℕ) → HasNoObjects live → heap ≤ MOST_HEAP → IsFitting table blocks
       → AreSilent blocks.procs → Sound (block_meaning table blocks heap input)
-      → Agrees (word_meaning live code heap stack input) (block_meaning table blocks heap input)
-  pub paced : (live : Lives) (heap stack : ℕ) (input : List ℕ) → HasNoObjects live → heap ≤ MOST_HEAP → IsFitting table blocks
+      → Agrees (word_meaning live code fresh heap stack input) (block_meaning table blocks heap input)
+  pub paced : (live : Lives) (fresh : Fresh) (heap stack : ℕ) (input : List ℕ) → HasNoObjects live → heap ≤ MOST_HEAP → IsFitting table blocks
       → AreSilent blocks.procs → Sound (block_meaning table blocks heap input)
-      → Paced WORD_PACE (word_meaning live code heap stack input) (block_meaning table blocks heap input)
+      → Paced WORD_PACE (word_meaning live code fresh heap stack input) (block_meaning table blocks heap input)
   -- it is well formed, whatever block code does
   pub formed : is_word_code code ≡ true
   -- frames and places of 2,001 calls have room in a machine's stack

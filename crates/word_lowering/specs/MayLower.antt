@@ -1,5 +1,5 @@
--- What `words` asks of block code, and tests of names alone: that no form comes that word code has no room for, and none that isn't built. Block code
--- that comes from a program without what the heap is for has no such form.
+-- What `words` asks of block code: that no form comes that word code has no room for, and none that isn't built. Block code that comes from a program
+-- without what the heap is for has no such form.
 use Rattle.std.specs.Prelude.{ℕ, ◌+◌, nat_eq, nat_le, nat_lt, Bool, true, false, not, ◌&&◌, ◌||◌, if◌then◌else◌}
 use Rattle.std.specs.Prelude.{List, [], ◌∷◌, length, map, Option, Some, None}
 use Rattle.nim_types.specs.declared.types.TypeDef.{TypeDef}
@@ -30,7 +30,7 @@ use Rattle.word_lowering.specs.declared.homes.Housed.{Housed}
 use Rattle.word_lowering.specs.declared.homes.Layout.{Layout}
 use Rattle.word_lowering.specs.declared.may_lower.TheConstants.{MOST_ROOM, MOST_VARS, MOST_DATA}
 use Rattle.word_lowering.specs.Aliases.{value_to, location_to, alias_by, is_it, texts_of}
-use Rattle.word_lowering.specs.Layouts.{is_empty, found, params_in, kept_in, is_param}
+use Rattle.word_lowering.specs.Layouts.{is_empty, found, params_in, kept_in, is_param, result_in}
 use Rattle.word_lowering.specs.Lowered.{all_layouts, data_of}
 
 -- ---- places
@@ -137,15 +137,6 @@ abbrev pub defs_may : List TypeDef → Bool
 defs_may [] = true
 defs_may (def ∷ defs) = def_may def && defs_may defs
 
--- of that, what is tested: each member of an enum has a name
-abbrev pub has_names : TypeDef → Bool
-has_names (D.Enum name at members) = none_empty members
-has_names def = true
-
-abbrev pub have_names : List TypeDef → Bool
-have_names [] = true
-have_names (def ∷ defs) = has_names def && have_names defs
-
 -- ---- sizes
 
 -- the bytes of those that are in the places of the call
@@ -157,10 +148,21 @@ abbrev pub placed_bytes : List Housed → ℕ
 placed_bytes [] = 0
 placed_bytes (h ∷ hs) = and_placed h.home h.bytes (placed_bytes hs)
 
+-- where one of them ends
+abbrev pub placed_end : Home → (bytes : ℕ) → ℕ
+placed_end (Placed at) bytes = at + bytes
+placed_end home bytes = 0
+
+abbrev pub result_end : Option Housed → ℕ
+result_end None = 0
+result_end (Some h) = placed_end h.home h.bytes
+
+-- what a call hands on and back stands within the room for arguments
 abbrev pub sizes_may : Layout → Bool
 sizes_may own =
     nat_le own.free.byte MOST_ROOM && (nat_le (placed_bytes (params_in own.all)) SPARE_ROOM
-    && (nat_le own.free.variable MOST_VARS && nat_le (OWN_FROM + kept_in (params_in own.all)) MOST_ARGUMENTS))
+    && (nat_le own.free.variable MOST_VARS && (nat_le (OWN_FROM + kept_in (params_in own.all)) MOST_ARGUMENTS
+    && nat_le (result_end (result_in own.all)) SPARE_ROOM)))
 
 -- ---- all of it
 

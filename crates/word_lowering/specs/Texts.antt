@@ -1,4 +1,5 @@
--- The data of word code: what each program has, then globals, then the names of enums with where each ends, then the distinct texts of constants.
+-- The data of word code: what each program has, then globals, then the names of enums with where each ends, then the distinct texts of constants and
+-- the constants that stand in the data, each from a word on.
 -- Each procedure's data is all of it. No public contract speaks of it.
 use Rattle.std.specs.Prelude.{ℕ, suc, ◌+◌, ◌*◌, ◌-◌, ◌%◌, if◌then◌else◌, List, [], ◌∷◌, ◌++◌, length, map, take, drop, replicate, codes, Option, Some, None}
 use Rattle.nim_types.specs.Types.{same_text}
@@ -8,7 +9,9 @@ use Rattle.nim_types.specs.declared.types.TheConstants.{WORD_BYTES}
 use Rattle.rv32_isa.specs.Words.{word_bytes}
 use Rattle.flat_code.specs.declared.block.BlockLine.{BlockLine}
 use Rattle.flat_code.specs.declared.code.CodeProc.{CodeProc}
+use Rattle.flat_code.specs.declared.line.Piece.{Piece}
 use Rattle.flat_code.specs.Codes.{block_plain}
+use Rattle.flat_code.specs.Pieces.{standing_bytes}
 use Rattle.flat_code.specs.Sizes.{distinct_texts}
 use Rattle.word_lowering.specs.declared.texts.TheConstants.{FIXED_BYTES}
 pub use Rattle.word_lowering.specs.Aliases.{text_of, texts_of}
@@ -62,7 +65,7 @@ texts_in (p ∷ procs) = texts_in procs ++ texts_of (map block_plain p.lines)
 
 abbrev pub laid : List (List ℕ) → List ℕ
 laid [] = []
-laid (text ∷ texts) = laid texts ++ text
+laid (text ∷ texts) = laid texts ++ padded text
 
 -- where a text begins
 abbrev pub place_among : List (List ℕ) → (text : List ℕ) → Option ℕ
@@ -80,6 +83,10 @@ laid_texts procs = laid (distinct_texts block_plain procs)
 abbrev pub place_of : List (CodeProc BlockLine) → (offset bytes : ℕ) → ℕ
 place_of procs offset bytes = or_zero (place_among (distinct_texts block_plain procs) (take bytes (drop offset (texts_in procs))))
 
+-- where a constant is laid out that stands in the data
+abbrev pub standing_place : List (CodeProc BlockLine) → List Piece → ℕ
+standing_place procs pieces = or_zero (place_among (distinct_texts block_plain procs) (standing_bytes pieces))
+
 -- ---- all of it
 
 -- where the names stand, and the texts; globals end at a byte, and the ends of names come first
@@ -87,9 +94,9 @@ abbrev pub names_at : List TypeDef → ℕ → ℕ
 names_at table globals_end = globals_end + WORD_BYTES * suc (length (all_names table))
 
 abbrev pub texts_at : List TypeDef → ℕ → ℕ
-texts_at table globals_end = names_at table globals_end + length (joined_all (all_names table))
+texts_at table globals_end = names_at table globals_end + length (padded (joined_all (all_names table)))
 
 abbrev pub data_in : List TypeDef → (globals_end : ℕ) → List (CodeProc BlockLine) → List ℕ
 data_in table globals_end procs =
     replicate WORD_BYTES 0 ++ (fixed_texts ++ (replicate (globals_end - FIXED_BYTES) 0
-    ++ (ends_from 0 (all_names table) ++ (joined_all (all_names table) ++ laid_texts procs))))
+    ++ (ends_from 0 (all_names table) ++ (padded (joined_all (all_names table)) ++ laid_texts procs))))

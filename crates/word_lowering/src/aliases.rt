@@ -58,6 +58,7 @@ pub fn location_to(line: &BlockLine) -> Option<u32>
             OwnedLine::Plain(
                 Line::Root { to, .. }
                 | Line::Fresh { to, .. }
+                | Line::Standing { to, .. }
                 | Line::Part { to, .. }
                 | Line::Item { to, .. }
                 | Line::Object { to, .. },

@@ -1,15 +1,18 @@
-// The texts of code, each distinct one laid out once. The last one comes first.
+// The texts of code and its constants that stand in the data, each distinct one laid out once, from a
+// word on. The last one comes first.
 ghost use Rattle.std.specs.Prelude.{◌≡◌, [], ◌∷◌, ◌++◌, ℕ, List, length, Some, IfOk, OnOk};
 ghost use Rattle.std.specs.Prelude.{if◌then◌else◌};
 ghost use Rattle.std.specs.HashMap.{get};
 ghost use Rattle.nim_types.specs.Types.{same_text};
 ghost use Rattle.flat_code.specs.Codes.{block_plain};
+ghost use Rattle.flat_code.specs.Pieces.{standing_bytes};
 ghost use Rattle.word_lowering.specs.LaidTexts.{AreLaid, piece_before, pieces_before, line_before};
 ghost use Rattle.word_lowering.specs.LaidTexts.{lines_before, procs_before};
-ghost use Rattle.word_lowering.specs.Texts.{or_zero, laid_texts, place_of};
+ghost use Rattle.word_lowering.specs.Texts.{padded, or_zero, laid_texts, place_of, standing_place};
 
 use crate::spots::more;
-use crate::texts::push_texts_in;
+use crate::standing::standing_bytes;
+use crate::texts::{push_padded, push_texts_in};
 use arc_base::{Bytes, Memory};
 use flat_code::{BlockLine, CodeProc, Line, OwnedLine, Piece};
 use std::alloc::Global;
@@ -40,7 +43,7 @@ fn no_text(alloc: Global) -> Laying
 
 // Behind all.
 fn add_text(alloc: Global, laying: &mut Laying, text: &Bytes) -> Result<(), Memory>
-    ensures bytes { OnOk result (laying.new.bytes ≡ laying.old.bytes ++ text.now) }
+    ensures bytes { OnOk result (laying.new.bytes ≡ laying.old.bytes ++ padded text.now) }
     ensures places { OnOk result ((other : List ℕ) → get same_text laying.new.places other
         ≡ (if same_text text.now other then Some (length laying.old.bytes)
         else get same_text laying.old.places other)) }
@@ -49,7 +52,7 @@ fn add_text(alloc: Global, laying: &mut Laying, text: &Bytes) -> Result<(), Memo
     let at = more(0, laying.bytes.as_slice())?;
     let copy = Bytes::from_slice(alloc, text.as_slice())?;
     laying.places.insert(copy, at)?;
-    laying.bytes.append(text.as_slice())
+    push_padded(&mut laying.bytes, text.as_slice())
 }
 
 #[tactic(auto, using(crate::proofs::LayingTexts::laid_again, crate::proofs::LayingTexts::laid_more, crate::proofs::LayingTexts::laid_none))]
@@ -87,6 +90,18 @@ fn put_pieces(alloc: Global, laying: &mut Laying, pieces: &[Piece])
     }
 }
 
+// A constant that stands in the data.
+#[tactic(auto, using(crate::proofs::LayingTexts::laid_none))]
+fn put_standing(alloc: Global, laying: &mut Laying, pieces: &[Piece])
+    ensures { (texts : List (List ℕ)) → AreLaid laying.old texts
+        → AreLaid laying.new (standing_bytes pieces.now ∷ texts) }
+{
+    match standing_bytes(alloc, pieces) {
+        Ok(bytes) => put_text(alloc, laying, &bytes),
+        Err(_) => laying.lost = true,
+    }
+}
+
 fn put_line(alloc: Global, laying: &mut Laying, line: &BlockLine)
     ensures { (texts : List (List ℕ)) → AreLaid laying.old texts
         → AreLaid laying.new (line_before (block_plain line.now) texts) }
@@ -94,6 +109,10 @@ fn put_line(alloc: Global, laying: &mut Laying, line: &BlockLine)
     match line {
         BlockLine::Plain(OwnedLine::Plain(Line::Constant { pieces, .. })) => {
             put_pieces(alloc, laying, pieces.as_slice())
+        }
+        BlockLine::Plain(OwnedLine::Plain(Line::Standing { pieces, .. })) => {
+            put_pieces(alloc, laying, pieces.as_slice());
+            put_standing(alloc, laying, pieces.as_slice())
         }
         _ => {}
     }
@@ -200,5 +219,13 @@ impl LaidTexts<'_> {
         let to = (bytes as usize).min(all.len() - from);
         let text = Bytes::from_slice(self.alloc, &all[from..from + to])?;
         Ok(place_in(&self.places, &text))
+    }
+
+    /// Where a constant is laid out that stands in the data.
+    pub fn standing_place(&self, pieces: &[Piece]) -> Result<u32, Memory>
+        ensures { IfOk result (λ at. at ≡ standing_place self.now pieces.now) }
+    {
+        let bytes = standing_bytes(self.alloc, pieces)?;
+        Ok(place_in(&self.places, &bytes))
     }
 }

@@ -17,6 +17,7 @@ mod rows;
 mod scope;
 mod setting;
 mod spots;
+mod standing;
 mod stored;
 mod survey;
 mod tails;

@@ -6,7 +6,7 @@ ghost use Rattle.word_lowering.specs.Emission.{Puts};
 ghost use Rattle.word_lowering.specs.LineCode.{part_code, item_code, element_code, own_label};
 ghost use Rattle.word_lowering.specs.LineCode.{value, location, held, led, count_at, bytes_each};
 ghost use Rattle.word_lowering.specs.LineCode.{operands, row_code, line_code, lines_code, labels_in};
-ghost use Rattle.word_lowering.specs.LineCode.{is_control};
+ghost use Rattle.word_lowering.specs.LineCode.{is_control, standing_at};
 ghost use Rattle.word_lowering.specs.Operations.{trap_label};
 ghost use Rattle.word_lowering.specs.Scope.{around_of};
 ghost use Rattle.word_lowering.specs.Spots.{spot_of, moved};
@@ -19,13 +19,13 @@ use crate::operations::{LENGTH, emit_beyond, emit_fits, emit_if, emit_turn, emit
 use crate::rows::emit_row;
 use crate::scope::{Scope, label_before, labels_in, labels_of, own_label};
 use crate::spots::{
-    Spot, branch, constant, emit, emit_clears, emit_moved, emit_moves, emit_passes, spot_of,
-    sum_with,
+    Spot, address, branch, constant, emit, emit_clears, emit_moved, emit_moves, emit_passes,
+    spot_of, sum_with,
 };
 use crate::stored::part_at;
 use crate::values::{emit_constant, emit_construct, truth_word};
 use arc_base::{Items, Memory};
-use flat_code::{BlockLine, From, Line, OwnedLine};
+use flat_code::{BlockLine, From, Line, OwnedLine, Piece};
 use nim_program::Operation;
 use nim_types::TypeId;
 use word_code::{Test, WordInstr};
@@ -183,6 +183,20 @@ fn emit_control(
     }
 }
 
+// The address of a constant that stands in the data.
+fn emit_standing(
+    code: &mut Items<WordInstr>,
+    x: &Scope,
+    to: u32,
+    pieces: &[Piece],
+) -> Result<(), Memory>
+    ensures { OnOk result (Puts code.old code.new
+        (λ k. WordInstr.Datum (led (around_of x.now) to) (standing_at (around_of x.now) pieces.now) ∷ k)) }
+{
+    let at = x.standing_at(pieces)?;
+    emit(code, &[address(x.led(to), Home::Static(at))])
+}
+
 // The code of a line with a label of its own.
 fn emit_line(code: &mut Items<WordInstr>, x: &Scope, line: &Line, label: u32) -> Result<(), Memory>
     requires { HaveForms x.now.types.now }
@@ -218,6 +232,7 @@ fn emit_line(code: &mut Items<WordInstr>, x: &Scope, line: &Line, label: u32) ->
         Line::Get { to, from, .. } | Line::Look { to, from } => {
             emit_moves(code, x.value(*to), x.location(*from))
         }
+        Line::Standing { to, pieces, .. } => emit_standing(code, x, *to, pieces.as_slice()),
         Line::Root { .. } | Line::Fresh { .. } | Line::Object { .. } | Line::Enter => Ok(()),
         Line::Part { to, from, field } => emit_part_at(code, x, *to, *from, *field),
         Line::Item { to, from, index } => emit_item_at(code, x, *to, *from, *index),

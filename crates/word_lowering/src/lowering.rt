@@ -1,12 +1,12 @@
 // From block code to word code.
-ghost use Rattle.std.specs.Prelude.{◌≡◌, ◌∷◌, ◌++◌, true, map, IfOk, OnOk};
+ghost use Rattle.std.specs.Prelude.{◌≡◌, ◌<◌, ◌∷◌, ◌++◌, true, length, map, IfOk, OnOk};
 ghost use Rattle.flat_code.specs.Codes.{block_plain};
 ghost use Rattle.word_lowering.specs.Emission.{Puts};
 ghost use Rattle.word_lowering.specs.LineCode.{proc_number};
 ghost use Rattle.word_lowering.specs.Lowered.{result_cleared, kind_of, kind_in, code_of, word_proc};
 ghost use Rattle.word_lowering.specs.Lowered.{with_own, if_runs, word_procs, all_layouts, around_start};
 ghost use Rattle.word_lowering.specs.Lowers.{LowersWithRuntime};
-ghost use Rattle.word_lowering.specs.MayLower.{have_names, may_lower};
+ghost use Rattle.word_lowering.specs.MayLower.{may_lower};
 ghost use Rattle.word_lowering.specs.Scope.{around_of};
 ghost use Rattle.word_lowering.specs.Stored.{HaveForms};
 
@@ -15,7 +15,6 @@ use crate::homes::{Housed, Layout, OWN_FROM};
 use crate::laid_texts::{LaidTexts, laid_texts};
 use crate::layouts::{kept_in, layouts, result_in};
 use crate::line_code::emit_lines;
-use crate::may_lower::have_names;
 use crate::scope::Scope;
 use crate::setting::Setting;
 use crate::spots::{emit_clears, sum};
@@ -226,21 +225,19 @@ fn words_of(
 ) -> Result<WordCode, Memory>
     requires forms { HaveForms types.now }
     requires layouts { layouts.now ≡ all_layouts types.now blocks.now.procs }
-    requires may { have_names types.now ≡ true → may_lower types.now blocks.now ≡ true }
+    requires some { 0 < length blocks.now.procs }
+    requires may { may_lower types.now blocks.now ≡ true }
     ensures { IfOk result (λ code. LowersWithRuntime types.now blocks.now code) }
 {
     memories();
     let _types = types.count();
     let procs = blocks.procs.as_slice();
     let Some(own) = layouts.last() else {
-        return Err(Memory);
+        unreachable!()
     };
     let Some(start) = procs.last() else {
-        return Err(Memory);
+        unreachable!()
     };
-    if !have_names(types) {
-        return Err(Memory);
-    }
     let texts = laid_texts(alloc, procs)?;
     let statics = data(alloc, types, own.free.datum, &texts)?;
     let x = start_scope(types, &texts, layouts, own)?;
@@ -250,11 +247,10 @@ fn words_of(
 
 /// The word code of block code, which calls routines by their numbers: it is to be joined with a
 /// runtime.
-///
-/// `Memory` comes too where a member of an enum has no name.
 pub fn words(alloc: Global, blocks: &Blocks, types: &TypeTable) -> Result<WordCode, Memory>
     requires forms { HaveForms types.now }
-    requires may { have_names types.now ≡ true → may_lower types.now blocks.now ≡ true }
+    requires some { 0 < length blocks.now.procs }
+    requires may { may_lower types.now blocks.now ≡ true }
     ensures { IfOk result (λ code. LowersWithRuntime types.now blocks.now code) }
 {
     let all = layouts(alloc, types, FIXED_BYTES, blocks.procs.as_slice())?;

@@ -6,7 +6,7 @@ ghost use Rattle.word_lowering.specs.LineCode.{own_label, arguments_of, labels_i
 ghost use Rattle.word_lowering.specs.LineCode.{value, location_by, location, own_place, place};
 ghost use Rattle.word_lowering.specs.LineCode.{operand, operands, operand_at, held, led};
 ghost use Rattle.word_lowering.specs.LineCode.{layout_at, variable_of, count_at, bytes_each};
-ghost use Rattle.word_lowering.specs.LineCode.{literal_at};
+ghost use Rattle.word_lowering.specs.LineCode.{literal_at, standing_at};
 ghost use Rattle.word_lowering.specs.Scope.{around_of};
 ghost use Rattle.word_lowering.specs.Stored.{HaveForms};
 
@@ -18,7 +18,7 @@ use crate::setting::Setting;
 use crate::spots::sum;
 use crate::stored::{count_in, element_bytes};
 use arc_base::Memory;
-use flat_code::{BlockLine, From, Line, OwnedLine};
+use flat_code::{BlockLine, From, Line, OwnedLine, Piece};
 use nim_types::TypeTable;
 
 /// What is around the lines of a procedure.
@@ -135,6 +135,13 @@ impl Scope<'_> {
     {
         let offset = sum(self.setting.literals, behind)?;
         sum(self.setting.texts, self.texts.place_of(offset, bytes)?)
+    }
+
+    /// Where a constant stands in the data.
+    pub fn standing_at(&self, pieces: &[Piece]) -> Result<u32, Memory>
+        ensures { IfOk result (λ at. at ≡ standing_at (around_of self.now) pieces.now) }
+    {
+        sum(self.setting.texts, self.texts.standing_place(pieces)?)
     }
 
     /// The variable of an ordinal.

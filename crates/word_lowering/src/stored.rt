@@ -6,16 +6,16 @@ ghost use Rattle.word_lowering.specs.Stored.{limit_in, limit_at, HaveForms};
 
 use crate::spots::sum;
 use arc_base::Memory;
-use nim_types::{TypeDef, TypeId, TypeTable, entry, type_forms};
+use nim_types::{TypeDef, TypeId, TypeTable, WORD_BYTES, entry, type_forms};
 
-/// The bytes of a type.
+/// The bytes of a type. One beyond the table is int.
 pub fn bytes_at(types: &TypeTable, ty: TypeId) -> Result<u32, Memory>
     requires { HaveForms types.now }
     ensures { IfOk result (λ bytes. bytes ≡ bytes_at types.now ty) }
 {
     type_forms();
     if ty >= types.count() {
-        return Err(Memory);
+        return Ok(WORD_BYTES);
     }
     let bytes = types.size_of(ty);
     if bytes == u32::MAX {

@@ -42,6 +42,14 @@ fn push_zeros(bytes: &mut Bytes, count: usize) -> Result<(), Memory>
     Ok(())
 }
 
+/// A text, and zeros up to a whole number of words.
+pub fn push_padded(bytes: &mut Bytes, text: &[u8]) -> Result<(), Memory>
+    ensures { OnOk result (bytes.new ≡ bytes.old ++ padded text.now) }
+{
+    bytes.append(text)?;
+    push_zeros(bytes, (4 - text.len() % 4) % 4)
+}
+
 // The texts of a procedure, those of the last line first.
 fn push_texts_of(bytes: &mut Bytes, lines: &[BlockLine]) -> Result<(), Memory>
     ensures { OnOk result (bytes.new ≡ bytes.old ++ texts_of (map block_plain lines.now)) }
@@ -190,15 +198,26 @@ fn name_bytes(n: u32, names: &[Bytes]) -> Result<u32, Memory>
     Ok(n)
 }
 
-/// Where the texts of literals are laid out.
+// How many bytes all names have.
+fn names_length(types: &TypeTable) -> Result<u32, Memory>
+    ensures { IfOk result (λ n. n ≡ length (joined_all (all_names types.now))) }
+{
+    let mut n = 0;
+    for id in 0..types.count() {
+        n = name_bytes(n, members_of(types.get(id)))?;
+    }
+    Ok(n)
+}
+
+/// Where the texts of literals are laid out, and the constants that stand in the data.
 pub fn texts_at(types: &TypeTable, globals_end: u32) -> Result<u32, Memory>
     ensures { IfOk result (λ at. at ≡ texts_at types.now globals_end) }
 {
-    let mut at = names_at(types, globals_end)?;
-    for id in 0..types.count() {
-        at = name_bytes(at, members_of(types.get(id)))?;
-    }
-    Ok(at)
+    let n = names_length(types)?;
+    let names = sum(n, (4 - n % 4) % 4)?;
+    let at = names_at(types, globals_end)?;
+    let end = sum(at, names)?;
+    Ok(end)
 }
 
 /// All data, where globals end at a byte.
@@ -215,7 +234,9 @@ pub fn data(
     bytes.append(FIXED_TEXTS)?;
     push_zeros(&mut bytes, globals_end.saturating_sub(FIXED_BYTES) as usize)?;
     push_ends(&mut bytes, types)?;
-    push_names(&mut bytes, types)?;
+    let mut names = Bytes::new(alloc);
+    push_names(&mut names, types)?;
+    push_padded(&mut bytes, names.as_slice())?;
     bytes.append(texts.bytes())?;
     let missing = (4 - bytes.as_slice().len() % 4) % 4;
     push_zeros(&mut bytes, missing)?;

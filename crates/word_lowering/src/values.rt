@@ -1,7 +1,8 @@
 // The word code of values with parts.
 ghost use Rattle.std.specs.Prelude.{◌≡◌, [], ◌∷◌, OnOk};
 ghost use Rattle.word_lowering.specs.Emission.{Puts};
-ghost use Rattle.word_lowering.specs.LineCode.{truth_word, unless_zero, pieces_code, piece_words};
+ghost use Rattle.word_lowering.specs.LineCode.{truth_word, unless_zero, pieces_code};
+ghost use Rattle.flat_code.specs.Pieces.{piece_words};
 ghost use Rattle.word_lowering.specs.LineCode.{constant_at, constant_code, parts_code, fields_code};
 ghost use Rattle.word_lowering.specs.LineCode.{first_word, operands, value};
 ghost use Rattle.word_lowering.specs.Scope.{around_of};

@@ -1,20 +1,29 @@
 use Rattle.std.proofs.Common.{refl, subst, length}
+use Rattle.std.proofs.lemmas.Bool.{and_parts}
 use Rattle.std.proofs.lemmas.Result.{err_from_is_err_and}
 use Rattle.arc_base.specs.declared.place.Code.TheVariants.{TooLarge}
 use Rattle.arc_base.proofs.ForCallers.{refuses, stops}
 use Rattle.rv32_isa.specs.declared.image.Image.{Image as RustImage}
 use Rattle.rv32_isa.specs.Image.{image_of}
+use Rattle.nim_program.specs.Kinds.{are_declared}
 use Rattle.program_limits.specs.Frames.{beginning}
 use Rattle.program_limits.specs.Limits.{program_in, tree_limits}
 use Rattle.core_compiler.specs.Limits.{code_limits, build_limits}
 use Rattle.core_compiler.specs.Stages.{IsTooLarge}
 use Rattle.core_compiler.proofs.Composing.{has_code, does_program}
+use Rattle.core_compiler.proofs.EnumMembers.{enums_may}
 use Rattle.core_compiler.proofs.Refusals.{code_fits, code_large, refused_before, refused_with}
 use Rattle.core_compiler.proofs.program.compile_core.Goals as goal
 
--- what flat code is may be lowered
+-- what flat code is may be lowered, and enums have members with names
 pub words_of-requires-clause-may : goal.words_of-requires-clause-may
 words_of-requires-clause-may c = c.in_ok-flat.ensures.may
+
+pub words_of-requires-clause-enums : goal.words_of-requires-clause-enums
+words_of-requires-clause-enums c =
+    let program = program_in c.args.program.now in
+    enums_may c.args.program.now.types c.count-types.ensures.table
+    (and_parts (are_declared program.facts program.types) _ c.requires.typed.typed).0 c.requires.named
 
 -- ---- it is refused before, or no memory
 

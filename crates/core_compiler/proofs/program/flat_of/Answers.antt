@@ -1,8 +1,5 @@
 use Rattle.std.proofs.Common.{ℕ, List, refl}
-use Rattle.std.proofs.lemmas.Bool.{and_parts}
-use Rattle.nim_program.specs.Kinds.{are_declared}
 use Rattle.program_limits.specs.Limits.{program_in}
-use Rattle.core_compiler.proofs.EnumMembers.{enums_have}
 use Rattle.core_compiler.proofs.Flattened.{is_flat_of}
 use Rattle.core_compiler.proofs.FrameSums.{sums_within, data_few}
 use Rattle.core_compiler.proofs.Refusals.{plain_within}
@@ -31,4 +28,3 @@ returns c =
     (c.may_be_lowered.ensures.alike table program refl typed plain plan)
     (c.may_be_lowered.ensures.plain table program refl typed numbered plain 16384 (sums_within program c.requires.within) plan)
     (data_few program c.requires.within)
-    (enums_have table c.count-types.ensures.table (and_parts (are_declared program.facts program.types) _ typed.typed).0)

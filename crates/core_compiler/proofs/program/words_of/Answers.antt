@@ -2,7 +2,7 @@ use Rattle.std.proofs.Common.{sym, subst}
 use Rattle.std.proofs.lemmas.Result.{IfOk-weaker}
 use Rattle.core_compiler.specs.Stages.{AreWordsOf}
 use Rattle.core_compiler.proofs.Composing.{words_of_flat}
-use Rattle.core_compiler.proofs.MayLower.{may_be}
+use Rattle.core_compiler.proofs.MayLower.{may_be, some_blocks}
 use Rattle.core_compiler.proofs.program.words_of.Goals as goal
 
 -- `join` asks that no procedure is in both
@@ -11,9 +11,14 @@ join-requires c = c.in_ok-words.ensures.apart c.in_ok-runtime.runtime c.in_ok-ru
 
 -- `words` asks that block code may become word code
 pub words-requires-clause-may : goal.words-requires-clause-may
-words-requires-clause-may c = λ names.
+words-requires-clause-may c =
     may_be c.args.plan.now c.args.types.now c.args.flat.now c.in_ok-owned.owned c.in_ok-blocks.blocks (c.in_ok-owned.ensures c.requires.ordered)
-    c.in_ok-blocks.ensures c.requires.may names
+    c.in_ok-blocks.ensures c.requires.may c.requires.enums
+
+pub words-requires-clause-some : goal.words-requires-clause-some
+words-requires-clause-some c =
+    some_blocks c.args.plan.now c.args.types.now c.args.flat.now c.in_ok-owned.owned c.in_ok-blocks.blocks (c.in_ok-owned.ensures c.requires.ordered)
+    c.in_ok-blocks.ensures c.requires.may
 
 pub returns : goal.returns
 returns c =

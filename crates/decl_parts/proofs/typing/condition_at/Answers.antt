@@ -6,7 +6,8 @@ use Rattle.nim_types.specs.Types.{Ty}
 use Rattle.expr_rules.specs.Env.{Env}
 use Rattle.expr_parts.proofs.ForCallers.{nothing_left}
 use Rattle.decl_rules.specs.Values.{condition}
-use Rattle.decl_parts.specs.View.{env_in, numbered_of, NumberedWithin}
+use Rattle.decl_parts.specs.View.{env_in, NumberedWithin}
+use Rattle.decl_written.specs.ViewWritten.{numbered_of}
 use Rattle.decl_parts.proofs.Judging.{typing_as, typing_refuses}
 use Rattle.decl_parts.proofs.typing.condition_at.Goals as goal
 

@@ -5,7 +5,8 @@ use Rattle.nim_types.specs.Types.{Ty}
 use Rattle.expr_rules.specs.Env.{Env}
 use Rattle.nim_program.specs.View.{if_type}
 use Rattle.decl_rules.specs.Definitions.{definition_value}
-use Rattle.decl_parts.specs.View.{numbered_of, NumberedWithin}
+use Rattle.decl_written.specs.ViewWritten.{numbered_of}
+use Rattle.decl_parts.specs.View.{NumberedWithin}
 use Rattle.decl_parts.proofs.Judging.{typing_from, typing_forgets}
 use Rattle.decl_parts.proofs.typing.definition_first.Goals as goal
 

@@ -7,7 +7,8 @@ use Rattle.expr_rules.specs.Env.{Env}
 use Rattle.expr_parts.specs.View.{valued_of}
 use Rattle.expr_parts.proofs.ForCallers.{answers_as}
 use Rattle.decl_rules.specs.Values.{Value, of_type, accepted_if}
-use Rattle.decl_parts.specs.View.{numbered_of, NumberedWithin}
+use Rattle.decl_written.specs.ViewWritten.{numbered_of}
+use Rattle.decl_parts.specs.View.{NumberedWithin}
 use Rattle.decl_parts.proofs.Growing.{ok_by}
 use Rattle.decl_parts.proofs.Judging.{typing_then, typing_stops}
 use Rattle.decl_parts.proofs.typing.value_as_at.Goals as goal

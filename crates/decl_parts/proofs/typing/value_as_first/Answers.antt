@@ -5,7 +5,8 @@ use Rattle.nim_types.specs.Types.{Ty}
 use Rattle.expr_rules.specs.Env.{Env}
 use Rattle.nim_types.specs.Table.{type_at}
 use Rattle.decl_rules.specs.Values.{value_as}
-use Rattle.decl_parts.specs.View.{numbered_of, NumberedWithin}
+use Rattle.decl_written.specs.ViewWritten.{numbered_of}
+use Rattle.decl_parts.specs.View.{NumberedWithin}
 use Rattle.decl_parts.proofs.Judging.{typing_from, typing_forgets}
 use Rattle.decl_parts.proofs.typing.value_as_first.Goals as goal
 

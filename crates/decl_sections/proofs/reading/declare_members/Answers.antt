@@ -4,7 +4,7 @@ use Rattle.nim_types.specs.Table.{type_at}
 use Rattle.expr_parts.specs.View.{entry_of}
 use Rattle.expr_parts.proofs.ForCallers.{next_item, none_left}
 use Rattle.decl_rules.specs.Sections.{seen_members}
-use Rattle.decl_types.specs.ViewBodies.{member_entries}
+use Rattle.decl_sections.specs.ViewBodies.{member_entries}
 use Rattle.decl_sections.proofs.Membering.{one_member, member_within, member_next}
 use Rattle.decl_sections.proofs.reading.declare_members.Goals as goal
 

@@ -6,7 +6,7 @@ use Rattle.expr_parts.specs.declared.scope.Decl.{Decl}
 use Rattle.expr_parts.specs.View.{entry_of, DeclsWithin}
 use Rattle.decl_rules.specs.Sections.{seen_members}
 use Rattle.decl_written.specs.ViewWritten.{HasNames}
-use Rattle.decl_types.specs.ViewBodies.{member_entries}
+use Rattle.decl_sections.specs.ViewBodies.{member_entries}
 use Rattle.decl_sections.proofs.reading.declare_members.Given as goal
 
 abbrev pub invariant-loop-member : goal.invariant-loop-member

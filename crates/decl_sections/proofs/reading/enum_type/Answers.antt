@@ -1,6 +1,6 @@
 use Rattle.std.proofs.Common.{ap, ◌∙◌}
-use Rattle.decl_sections.specs.ViewSections.{type_by}
-use Rattle.decl_sections.proofs.Outcomes.{if_map}
+use Rattle.decl_types.specs.ViewScoped.{type_by}
+use Rattle.decl_types.proofs.ForCallers.{if_map}
 use Rattle.decl_sections.proofs.reading.enum_type.Goals as goal
 
 pub returns-in-Enum-clause-means : goal.returns-in-Enum-clause-means

@@ -4,7 +4,7 @@ use Rattle.nim_tree.specs.Types.{body_of}
 use Rattle.nim_types.specs.Types as type
 use Rattle.expr_parts.proofs.ForCallers.{answers_as}
 use Rattle.decl_rules.specs.Sections.{members_rule}
-use Rattle.decl_types.specs.ViewBodies.{member_entries}
+use Rattle.decl_sections.specs.ViewBodies.{member_entries}
 use Rattle.decl_sections.specs.ViewSections.{members_in}
 use Rattle.decl_sections.proofs.reading.members_of.Goals as goal
 

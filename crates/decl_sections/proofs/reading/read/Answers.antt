@@ -6,19 +6,21 @@ use Rattle.nim_types.specs.Types as type
 use Rattle.nim_types.specs.Table.{facts_in}
 use Rattle.expr_parts.specs.View.{env_of}
 use Rattle.expr_parts.proofs.ForCallers.{answers_as, grown_same}
-use Rattle.decl_parts.proofs.ForCallers.{ready_more}
+use Rattle.expr_steps.proofs.ForCallers.{ready_on}
 use Rattle.decl_rules.specs.Meanings.{key_of, keys_of}
 use Rattle.decl_rules.specs.Written.{later}
 use Rattle.decl_rules.specs.Sections.{Section, declaration_rule, seen_members, type_names}
 use Rattle.decl_written.specs.ViewWritten.{HasNames}
-use Rattle.decl_types.specs.declared.bodies.Declared.{Declared as Seen}
-use Rattle.decl_types.specs.ViewBodies.{member_entries, said_by}
+use Rattle.decl_sections.specs.declared.bodies.Declared.{Declared as Seen}
+use Rattle.decl_sections.specs.ViewBodies.{member_entries, said_by}
 use Rattle.decl_types.specs.ViewNodes.{names_env_of}
 use Rattle.decl_types.proofs.ForCallers.{kept_grown, kept_on}
-use Rattle.decl_sections.specs.ViewSections.{KnowsAll, said_in}
+use Rattle.decl_types.specs.ViewScoped.{KnowsAll}
+use Rattle.decl_sections.specs.ViewSections.{said_in}
 use Rattle.decl_sections.specs.ViewWalk.{StageOf}
 use Rattle.decl_sections.proofs.Leading.{head_stops, members_stops, said_stops, definition_leads, stage_declared, said_by_scope}
-use Rattle.decl_sections.proofs.Outcomes.{on_any, on_one, leads_last}
+use Rattle.decl_types.proofs.ForCallers.{on_any, on_one}
+use Rattle.decl_sections.proofs.Staging.{leads_last}
 use Rattle.decl_sections.proofs.Readying.{ready_further}
 use Rattle.decl_sections.proofs.Staging.{said_rule, stage_as, stage_next}
 use Rattle.decl_sections.proofs.reading.read.Goals as goal
@@ -86,7 +88,7 @@ pub returns-clause-ready : goal.returns-clause-ready
 returns-clause-ready c =
     on_one c.take_members.result c.take_members.ensures.decls (λ m.
     ready_further c.take_up.new.types c.take_up.new.scope c.take_members.new.scope m.0 m.1 c.take_members.ensures.kinds m.2
-    (c.in_ok-take_up.ensures.ready (ready_more c.read_definition.ensures.grown c.requires.ready)))
+    (c.in_ok-take_up.ensures.ready (ready_on c.read_definition.ensures.grown c.requires.ready)))
 
 pub returns-clause-count : goal.returns-clause-count
 returns-clause-count c =

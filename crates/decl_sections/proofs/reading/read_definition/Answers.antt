@@ -1,7 +1,8 @@
 use Rattle.std.proofs.Common.{ap, ◌∙◌}
 use Rattle.std.specs.Prelude.{Ok}
-use Rattle.decl_types.specs.ViewBodies.{meant_in}
-use Rattle.decl_types.specs.ViewNodes.{node_types, formed_since}
+use Rattle.decl_sections.specs.ViewBodies.{meant_in}
+use Rattle.decl_types.specs.ViewNodes.{node_types}
+use Rattle.decl_sections.specs.ViewSpelled.{formed_since}
 use Rattle.decl_sections.proofs.reading.read_definition.Goals as goal
 
 pub returns-in-Ok-clause-answers : goal.returns-in-Ok-clause-answers

@@ -4,9 +4,9 @@ use Rattle.nim_types.specs.Types as type
 use Rattle.decl_rules.specs.Sections.{seen_members}
 use Rattle.decl_written.proofs.ForCallers.{empty_is}
 use Rattle.decl_types.specs.declared.known.Definition.{Definition}
-use Rattle.decl_types.specs.ViewBodies.{member_entries}
+use Rattle.decl_sections.specs.ViewBodies.{member_entries}
 use Rattle.decl_types.specs.ViewKnown.{key_by}
-use Rattle.decl_sections.proofs.Outcomes.{last_is, on_one}
+use Rattle.decl_types.proofs.ForCallers.{last_is, on_one}
 use Rattle.decl_sections.proofs.reading.take_members.Goals as goal
 
 pub returns-then-is_empty-clause-decls : goal.returns-then-is_empty-clause-decls

@@ -1,6 +1,6 @@
 use Rattle.std.proofs.Common.{◌∷◌, [], length, ap, subst, arith, length-append}
-use Rattle.decl_sections.specs.ViewSections.{KnowsAll}
-use Rattle.decl_sections.proofs.Outcomes.{on_one}
+use Rattle.decl_types.specs.ViewScoped.{KnowsAll}
+use Rattle.decl_types.proofs.ForCallers.{on_one}
 use Rattle.decl_sections.proofs.reading.take_up.Goals as goal
 
 pub returns-clause-knows : goal.returns-clause-knows

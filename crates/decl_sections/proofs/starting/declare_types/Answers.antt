@@ -3,7 +3,8 @@ use Rattle.std.specs.Prelude.{map}
 use Rattle.nim_tree.specs.Types.{declaration_of}
 use Rattle.expr_parts.proofs.ForCallers.{next_item}
 use Rattle.expr_parts.specs.ViewDecls.{declares}
-use Rattle.decl_sections.specs.ViewSections.{numbers_by, decls_by, none_known}
+use Rattle.decl_types.specs.ViewScoped.{numbers_by, decls_by}
+use Rattle.decl_sections.specs.ViewSections.{none_known}
 use Rattle.decl_sections.proofs.Starts.{StartsLeft, starts_next}
 use Rattle.decl_sections.proofs.starting.declare_types.Goals as goal
 

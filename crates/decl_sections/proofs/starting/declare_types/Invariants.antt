@@ -2,7 +2,8 @@ use Rattle.std.proofs.Common.{◌≡◌, [], ◌++◌, drop}
 use Rattle.std.specs.Prelude.{map}
 use Rattle.nim_tree.specs.Types.{declaration_of}
 use Rattle.expr_parts.specs.ViewDecls.{declares}
-use Rattle.decl_sections.specs.ViewSections.{numbers_by, decls_by, none_known}
+use Rattle.decl_types.specs.ViewScoped.{numbers_by, decls_by}
+use Rattle.decl_sections.specs.ViewSections.{none_known}
 use Rattle.decl_sections.proofs.Starts.{StartsLeft}
 use Rattle.decl_sections.proofs.starting.declare_types.Given as goal
 

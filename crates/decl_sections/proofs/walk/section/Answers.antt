@@ -7,7 +7,7 @@ use Rattle.expr_parts.proofs.ForCallers.{grown_same}
 use Rattle.decl_rules.specs.Sections.{section_rule}
 use Rattle.decl_types.proofs.ForCallers.{kept_grown}
 use Rattle.decl_sections.proofs.Ending.{nothing_declared}
-use Rattle.decl_sections.proofs.Outcomes.{none_first}
+use Rattle.decl_types.proofs.ForCallers.{none_first}
 use Rattle.decl_sections.proofs.walk.section.Goals as goal
 
 pub ordered-requires : goal.ordered-requires

@@ -9,14 +9,15 @@ use Rattle.decl_rules.specs.Meanings.{keys_of, known_of}
 use Rattle.decl_rules.specs.Sections.{none_read, containment_rule, declarations_rule, sizes_rule}
 use Rattle.decl_types.specs.ViewKnown.{KnownAs, meaning_by}
 use Rattle.decl_types.specs.ViewReading.{all_defined}
-use Rattle.decl_parts.proofs.ForCallers.{over_old, ready_more}
+use Rattle.expr_steps.proofs.ForCallers.{ready_on}
 use Rattle.decl_types.proofs.ForCallers.{kept_grown, kept_on}
 use Rattle.decl_sections.specs.declared.starting.TheConstants.{MOST_DEFINITIONS}
-use Rattle.decl_sections.specs.ViewSections.{Reads, own_in, decls_by}
-use Rattle.decl_sections.specs.ViewWalk.{StageOf, Whole}
-use Rattle.decl_sections.proofs.Meaning.{known_as}
+use Rattle.decl_types.specs.ViewScoped.{Reads, own_in, decls_by}
+use Rattle.decl_sections.specs.ViewWalk.{StageOf}
+use Rattle.decl_types.specs.ViewScoped.{Whole}
+use Rattle.decl_types.proofs.ForCallers.{known_as}
 use Rattle.decl_sections.proofs.Ending.{leads_answers, contained_behind, whole_is, section_contained, section_sized, section_untouched}
-use Rattle.decl_sections.proofs.Outcomes.{on_any}
+use Rattle.decl_types.proofs.ForCallers.{on_any}
 use Rattle.decl_sections.proofs.walk.walk.Goals as goal
 
 pub returns-in-Err-clause-answers : goal.returns-in-Err-clause-answers
@@ -45,7 +46,7 @@ returns-clause-kept c =
     (kept_grown c.read_all.new.types c.check_sizes.new.types c.check_sizes.ensures.grown)
 
 pub returns-clause-ready : goal.returns-clause-ready
-returns-clause-ready c = on_any c.check_sizes.result (ready_more c.check_sizes.ensures.grown c.in-Ok.ensures.ready)
+returns-clause-ready c = on_any c.check_sizes.result (ready_on c.check_sizes.ensures.grown c.in-Ok.ensures.ready)
 
 pub returns-clause-answers : goal.returns-clause-answers
 returns-clause-answers c = λ ts st old u f empty g.
@@ -55,7 +56,7 @@ returns-clause-answers c = λ ts st old u f empty g.
     let es = c.check_sizes.new.types in
     let scope = c.read_all.new.scope in
     let reading = c.read_all.new.reading in
-    let v = over_old mid es ts c.check_sizes.ensures.grown u in
+    let v = (kept_grown mid es c.check_sizes.ensures.grown).under ts (facts_in es) u in
     let read = c.in-Ok.ensures.leads ts st old v f empty g in
     let k = known_of (keys_of all) read.0.defined in
     let count = c.in-Ok.ensures.count empty ∙ sym (length-map c.args.defs.now declaration_of) in
@@ -77,7 +78,9 @@ returns-clause-answers c = λ ts st old u f empty g.
 pub returns-clause-begins : goal.returns-clause-begins
 returns-clause-begins c = λ ts st old u f empty g.
     let all = map declaration_of c.args.defs.now in
-    let v = over_old c.read_all.new.types c.check_sizes.new.types ts c.check_sizes.ensures.grown u in
+    let mid = c.read_all.new.types in
+    let es = c.check_sizes.new.types in
+    let v = (kept_grown mid es c.check_sizes.ensures.grown).under ts (facts_in es) u in
     let read = c.in-Ok.ensures.leads ts st old v f empty g in
     let here = read.2.scoped in
     on_any c.check_sizes.result (decls_by (own_in st) [] c.read_all.new.reading.known.items all ++ here.seen, here.decls)

@@ -33,7 +33,8 @@ use Rattle.decl_rules.specs.State.{Around, State, Stated, stated_as, and_more, B
 use Rattle.decl_rules.specs.Bodies.{loop_variable}
 use Rattle.decl_rules.specs.Values.{Value, value_as, element_rule, selector_rule}
 use Rattle.decl_rules.specs.Stated.{Branched, Armed, stated, all_stated, all_branches, all_arms, covered}
-use Rattle.decl_parts.specs.View.{around_of, place_of, if_result, bodies_in, arm_bodies_in, state_of, env_in, all_stated_as, numbered_of, Stating}
+use Rattle.decl_parts.specs.View.{around_of, place_of, if_result, bodies_in, arm_bodies_in, state_of, env_in, all_stated_as, Stating}
+use Rattle.decl_written.specs.ViewWritten.{numbered_of}
 use Rattle.decl_parts.specs.View.{Beside, InsideWithin}
 use Rattle.decl_parts.specs.declared.state.State.{State as RustState}
 use Rattle.decl_parts.proofs.ForCallers.{inside_more, further_as, further_on, further_same, further_to, further_typed, ready_typed, ready_grown}

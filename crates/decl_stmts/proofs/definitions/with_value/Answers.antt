@@ -13,7 +13,8 @@ use Rattle.expr_rules.specs.Env.{Env, variable}
 use Rattle.expr_parts.specs.View.{entry_of}
 use Rattle.decl_rules.specs.State.{State, declares}
 use Rattle.decl_rules.specs.Definitions.{initialised, is_var_binding}
-use Rattle.decl_parts.specs.View.{around_of, numbered_of, place_of}
+use Rattle.decl_parts.specs.View.{around_of, place_of}
+use Rattle.decl_written.specs.ViewWritten.{numbered_of}
 use Rattle.decl_stmts.proofs.Defining.{new_is, still_kept, defining_made, defining_forgets}
 use Rattle.decl_stmts.proofs.definitions.with_value.Goals as goal
 

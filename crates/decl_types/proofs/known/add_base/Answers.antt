@@ -1,6 +1,6 @@
 use Rattle.std.proofs.Common.{length}
 use Rattle.expr_parts.proofs.ForCallers.{if_ok}
-use Rattle.decl_types.proofs.Knowing.{below_at}
+use Rattle.decl_types.proofs.Numbering.{below_at}
 use Rattle.decl_types.proofs.known.add_base.Goals as goal
 
 pub add_distinct-requires : goal.add_distinct-requires

@@ -1,7 +1,7 @@
 use Rattle.std.proofs.Common.{refl, sym, ap, subst, ◌∙◌}
 use Rattle.expr_parts.proofs.ForCallers.{if_ok}
-use Rattle.decl_types.specs.declared.bodies.Meaning.{Meaning}
-use Rattle.decl_types.specs.declared.bodies.Meaning.TheVariants as M
+use Rattle.decl_types.specs.declared.known.Meaning.{Meaning}
+use Rattle.decl_types.specs.declared.known.Meaning.TheVariants as M
 use Rattle.decl_types.specs.ViewKnown.{AddsMeant}
 use Rattle.decl_types.proofs.Becoming.{object_meant}
 use Rattle.decl_types.proofs.known.add_meant.Goals as goal

@@ -1,5 +1,5 @@
 use Rattle.std.proofs.Common.{arith}
-use Rattle.decl_types.proofs.Knowing.{added_new}
+use Rattle.decl_types.proofs.Numbering.{added_new}
 use Rattle.decl_types.proofs.known.add_new.Goals as goal
 
 pub returns-clause-declares : goal.returns-clause-declares

@@ -2,7 +2,7 @@ use Rattle.std.proofs.Common.{◌∷◌, [], length, ap, ◌∙◌, arith, lengt
 use Rattle.std.specs.Prelude.{false}
 use Rattle.nim_types.specs.declared.types.TypeDef.TheVariants as D
 use Rattle.nim_types.proofs.ForCallers.{all_more}
-use Rattle.decl_types.proofs.Knowing.{object_declared}
+use Rattle.decl_types.proofs.Numbering.{object_declared}
 use Rattle.decl_types.proofs.known.add_object.Goals as goal
 
 pub complete-requires-clause-below : goal.complete-requires-clause-below

@@ -1,6 +1,6 @@
 use Rattle.std.proofs.Common.{◌+◌, ◌∷◌, ◌++◌, [], drop, sym, ap, ◌∙◌, arith, append-nil, append_assoc}
 use Rattle.expr_parts.proofs.ForCallers.{next_item, none_left}
-use Rattle.decl_types.proofs.Knowing.{same_field}
+use Rattle.decl_types.proofs.Numbering.{same_field}
 use Rattle.decl_types.proofs.known.field_copies.Goals as goal
 
 pub loop-field-preserved : goal.loop-field-preserved

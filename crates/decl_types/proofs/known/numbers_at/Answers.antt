@@ -4,8 +4,8 @@ use Rattle.std.proofs.lemmas.List.{map-append}
 use Rattle.std.specs.Prelude.{map}
 use Rattle.nim_types.specs.Table.{type_at, AllBelow}
 use Rattle.expr_parts.proofs.ForCallers.{none_left}
-use Rattle.decl_written.proofs.ForCallers.{below_last}
-use Rattle.decl_types.proofs.Knowing.{below_at, copied, number_type}
+use Rattle.decl_types.proofs.Numbering.{below_last}
+use Rattle.decl_types.proofs.Numbering.{below_at, copied, number_type}
 use Rattle.decl_types.proofs.known.numbers_at.Goals as goal
 
 pub loop-node-init : goal.loop-node-init

@@ -1,6 +1,6 @@
 use Rattle.std.proofs.Common.{sym, ap}
 use Rattle.nim_types.specs.Types as type
-use Rattle.decl_types.proofs.Knowing.{number_type, below_at}
+use Rattle.decl_types.proofs.Numbering.{number_type, below_at}
 use Rattle.decl_types.proofs.known.sequence_of.Goals as goal
 
 pub returns-clause-within : goal.returns-clause-within

@@ -2,7 +2,7 @@ use Rattle.std.proofs.Common.{ap₂}
 use Rattle.std.specs.Prelude.{map}
 use Rattle.nim_types.specs.Types as type
 use Rattle.nim_types.specs.Table.{type_at}
-use Rattle.decl_types.proofs.Knowing.{types_each}
+use Rattle.decl_types.proofs.Numbering.{types_each}
 use Rattle.decl_types.proofs.known.tuple_of.Goals as goal
 
 pub returns-clause-means : goal.returns-clause-means

@@ -6,7 +6,7 @@ use Rattle.expr_parts.proofs.ForCallers.{if_ok}
 use Rattle.decl_rules.specs.Meanings.{renamed}
 use Rattle.decl_types.specs.ViewNodes.{node_type}
 use Rattle.decl_types.specs.ViewKnown.{NodeIn}
-use Rattle.decl_types.proofs.Knowing.{renamed_sequence, renamed_array, renamed_tuple}
+use Rattle.decl_types.proofs.Numbering.{renamed_sequence, renamed_array, renamed_tuple}
 use Rattle.decl_types.proofs.known.type_of.Goals as goal
 
 pub returns-in-Known-clause-means : goal.returns-in-Known-clause-means

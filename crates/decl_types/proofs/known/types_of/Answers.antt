@@ -5,9 +5,9 @@ use Rattle.nim_types.specs.Table.{type_at, AllBelow}
 use Rattle.nim_types.proofs.ForCallers.{all_more}
 use Rattle.expr_parts.proofs.ForCallers.{grown_on, grown_same, next_item, none_left, take_all}
 use Rattle.decl_rules.specs.Meanings.{renamed}
-use Rattle.decl_written.proofs.ForCallers.{below_last}
+use Rattle.decl_types.proofs.Numbering.{below_last}
 use Rattle.decl_types.specs.ViewNodes.{node_type, node_types}
-use Rattle.decl_types.proofs.Knowing.{node_at, types_next}
+use Rattle.decl_types.proofs.Numbering.{node_at, types_next}
 use Rattle.decl_types.proofs.known.types_of.Goals as goal
 
 pub loop-node-init : goal.loop-node-init

@@ -7,7 +7,7 @@ use Rattle.expr_rules.specs.Names.{length_rule}
 use Rattle.expr_parts.specs.View.{env_of, valued_of}
 use Rattle.expr_parts.proofs.ForCallers.{answers_as, stops}
 use Rattle.decl_rules.specs.Values.{Value, valued_term, length_value}
-use Rattle.decl_parts.specs.View.{numbered_of}
+use Rattle.decl_written.specs.ViewWritten.{numbered_of}
 use Rattle.decl_written.proofs.lengths.length_value.Goals as goal
 
 pub returns-in-Ok-clause-answers : goal.returns-in-Ok-clause-answers

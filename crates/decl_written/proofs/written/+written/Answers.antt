@@ -18,10 +18,10 @@ use Rattle.expr_parts.proofs.ForCallers.{grown_on, grown_same, answers_as, stops
 use Rattle.decl_rules.specs.Values.{length_value}
 use Rattle.decl_rules.specs.Written.{Spelled, at_once, spelled, all_spelled, spelled_as, named_by, array_rule, parts_spelled, tuple_of, formed_rule}
 use Rattle.decl_rules.specs.Written.{field_names_rule}
-use Rattle.decl_parts.proofs.ForCallers.{ready_more}
+use Rattle.expr_steps.proofs.ForCallers.{ids_and, ready_on}
 use Rattle.decl_written.specs.ViewWritten.{at_once_of, tuple_in, normal_names, HasNamesBehind, PartsLeft}
 use Rattle.decl_written.proofs.NameSets.{no_names}
-use Rattle.decl_written.proofs.AtOnce.{then_ok, array_once, tuple_once, front, none_before, one_before, all_before, below_last}
+use Rattle.decl_written.proofs.AtOnce.{then_ok, array_once, tuple_once, front, none_before, one_before, all_before}
 use Rattle.decl_written.proofs.AtOnce.{below_each, on_ok, if_err, group_done, names_refused, type_refused, no_parts_yet, all_parts}
 use Rattle.decl_written.proofs.written.+written.Goals as goal
 
@@ -51,7 +51,7 @@ named-returns-clause-answers t c = λ ts facts u.
     c.in-Err.stop (c.in-Err.ensures ts facts))
 
 pub applied-by_name-requires-clause-ready : goal.applied-by_name-requires-clause-ready
-applied-by_name-requires-clause-ready t c = ready_more c.given.ensures.grown c.requires.ready
+applied-by_name-requires-clause-ready t c = ready_on c.given.ensures.grown c.requires.ready
 
 pub applied-returns-in-Ok-clause-grown : goal.applied-returns-in-Ok-clause-grown
 applied-returns-in-Ok-clause-grown t c = grown_on c.given.ensures.grown c.by_name.ensures.grown
@@ -119,9 +119,9 @@ given-loop-argument-preserved t c =
     record {
       light = omega (arith, w, at.invariant.light);
       grown = grown_on at.invariant.grown g;
-      ready = ready_more g at.invariant.ready;
+      ready = ready_on g at.invariant.ready;
       within = subst (λ is. AllBelow n is) (sym pushed)
-          (below_last n c.in-Ok.id at.ids.items (all_more (length at.types) n at.ids.items g.length at.invariant.within) c.in-Ok.ensures.within);
+          (ids_and at.ids.items c.in-Ok.id (all_more (length at.types) n at.ids.items g.length at.invariant.within) c.in-Ok.ensures.within);
       left = λ ts facts u.
           let env = env_of ts facts c.args.scope.now in
           let done = map (at_once_of ts) at.ids.items in
@@ -143,7 +143,7 @@ given-returns-clause-answers t c = λ ts facts u.
 -- ---- arrays
 
 pub array-array_of-requires : goal.array-array_of-requires
-array-array_of-requires t c = (omega arith, ready_more c.length_value.ensures.grown c.requires.ready)
+array-array_of-requires t c = (omega arith, ready_on c.length_value.ensures.grown c.requires.ready)
 
 pub array-returns-in-Ok-clause-grown : goal.array-returns-in-Ok-clause-grown
 array-returns-in-Ok-clause-grown t c = grown_on c.length_value.ensures.grown c.array_of.ensures.grown
@@ -248,7 +248,7 @@ parts-loop-field-preserved t c =
     record {
       light = omega (arith, nodes, at.invariant.light);
       grown = grown_on at.invariant.grown c.group.ensures.grown;
-      ready = ready_more c.group.ensures.grown at.invariant.ready;
+      ready = ready_on c.group.ensures.grown at.invariant.ready;
       within = c.in-Ok.ensures.within;
       left = (
         g.0,

@@ -2,7 +2,8 @@ use Rattle.std.proofs.Common.{◌<◌, ◌++◌, ap, ap₂, sym, ◌∙◌, arit
 use Rattle.std.specs.Prelude.{length}
 use Rattle.nim_types.specs.Table.{type_at, types_in, facts_in}
 use Rattle.nim_program.specs.Program.{Characters}
-use Rattle.nim_program.specs.Texts.{below_distinct, plain_text}
+use Rattle.nim_program.specs.Texts.{plain_text}
+use Rattle.nim_program.specs.Kinds.{below_distinct}
 use Rattle.plain_values.specs.Values.{text_of}
 use Rattle.expr_rules.specs.Constants.{limited}
 use Rattle.expr_parts.proofs.ForCallers.{front_of}

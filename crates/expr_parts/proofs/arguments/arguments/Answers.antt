@@ -72,6 +72,7 @@ pub returns : goal.returns
 returns c = λ ts facts u given h.
     let at = c.loop-operand in
     let said = arguments_by [] given in
-    let empty : into_iter_items at.operand-iterator ≡ [] = nothing_left (into_iter_items at.operand-iterator) (sym at.invariant.count ∙ c.in-None.ensures.steps.0) in
+    let empty : into_iter_items at.operand-iterator ≡ [] =
+    nothing_left (into_iter_items at.operand-iterator) (sym at.invariant.count ∙ c.in-None.ensures.steps.0) in
     no_more ts at.rest.now at.args.items said
     (subst (λ all. ArgumentsLeft ts at.rest.now all at.args.items said) empty (at.invariant.left ts facts u given h))

@@ -21,7 +21,8 @@ returns-in-Some-clause-answers c = λ ts facts.
     let x = normal c.args.text.now in
     let name : x ≡ c.as_slice.result.now = sym (c.as_slice.ensures ∙ c.in_ok-name.ensures) in
     let s = subst (λ o. Stands ts (option_copied o) (known_as env c.as_slice.result.now)) c.in-Some.is (c.find.ensures.stands ts facts) in
-    answers_as of (name_rule c.args.number at (is_built_in x) (known_as env x)) (name_rule c.args.number at (is_built_in x) (known_next s.0 (entry_of ts c.in-Some.decl.now)))
+    answers_as of (name_rule c.args.number at (is_built_in x) (known_as env x))
+    (name_rule c.args.number at (is_built_in x) (known_next s.0 (entry_of ts c.in-Some.decl.now)))
     c.value_by.result
     (ap (name_rule c.args.number at (is_built_in x)) (ap (known_as env) name ∙ s.1))
     (c.value_by.ensures.answers ts (is_built_in x) s.0 c.in-Some.decl.now.name)
@@ -36,7 +37,8 @@ returns-clause-answers c = λ ts facts.
     let again : x ≡ c.as_slice-in-None.result.now = sym (c.as_slice-in-None.ensures ∙ c.in_ok-name.ensures) in
     let s : known_as env c.as_slice.result.now ≡ unknown =
     subst (λ o. Stands ts (option_copied o) (known_as env c.as_slice.result.now)) c.in-None.is (c.find.ensures.stands ts facts) in
-    answers_as of (name_rule c.args.number at (is_built_in x) (known_as env x)) (name_rule c.args.number at c.is_built_in.result unknown) (Err c.undeclared.result)
+    answers_as of (name_rule c.args.number at (is_built_in x) (known_as env x)) (name_rule c.args.number at c.is_built_in.result unknown)
+    (Err c.undeclared.result)
     (ap (λ k. name_rule c.args.number at (is_built_in x) k) (ap (known_as env) name ∙ s)
     ∙ ap (λ b. name_rule c.args.number at b unknown) (ap is_built_in again ∙ c.is_built_in.ensures))
     (no_value_is of c.args.number at c.is_built_in.result c.undeclared.result c.undeclared.ensures.built_in c.undeclared.ensures.unknown)

@@ -28,6 +28,13 @@ pub returns-clause-bumping_outside : goal.returns-clause-bumping_outside
 unfolding digits
 returns-clause-bumping_outside c = refl
 
+pub returns-clause-standing : goal.returns-clause-standing
+unfolding digits
+returns-clause-standing c = refl
+
+pub returns-clause-standing_outside : goal.returns-clause-standing_outside
+returns-clause-standing_outside c = refl
+
 pub returns-clause-filled : goal.returns-clause-filled
 unfolding digits
 returns-clause-filled c = refl

@@ -13,6 +13,15 @@ returns-clause-place_written c = refl
 pub returns-clause-fresh_written : goal.returns-clause-fresh_written
 returns-clause-fresh_written c = refl
 
+pub returns-clause-standing : goal.returns-clause-standing
+returns-clause-standing c = refl
+
+pub returns-clause-standing_written : goal.returns-clause-standing_written
+returns-clause-standing_written c = refl
+
+pub returns-clause-standing_as_place : goal.returns-clause-standing_as_place
+returns-clause-standing_as_place c = refl
+
 pub returns-clause-bumping_value : goal.returns-clause-bumping_value
 returns-clause-bumping_value c = refl
 

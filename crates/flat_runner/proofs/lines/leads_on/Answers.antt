@@ -15,6 +15,14 @@ returns-in-Fresh c =
     of_line a.types.now plan w a.level a.temps.now a.frames.now.items a.line.now _ c.fresh.result c.fresh.new.temps a.frames.now.items c.in-Fresh.is
     (c.fresh.ensures a.types.now plan w a.level a.frames.now.items)
 
+pub returns-in-Standing : goal.returns-in-Standing
+returns-in-Standing c =
+    λ plan w.
+    let a = c.args in
+    of_line a.types.now plan w a.level a.temps.now a.frames.now.items a.line.now _ c.standing.result c.standing.new.temps a.frames.now.items
+    c.in-Standing.is
+    (c.standing.ensures a.types.now plan w a.level c.in-Standing.ty a.frames.now.items)
+
 pub returns-in-Part : goal.returns-in-Part
 returns-in-Part c =
     λ plan w.

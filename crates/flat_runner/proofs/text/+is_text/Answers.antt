@@ -1,6 +1,6 @@
 use Rattle.std.proofs.Common.{◌≡◌, ◌-◌, suc, ◌∙◌, ap, sym, arith, Some, None, refl}
 use Rattle.std.specs.Prelude.{option_map}
-use Rattle.nim_meaning.specs.Texts.{below_distinct}
+use Rattle.nim_program.specs.Kinds.{below_distinct}
 use Rattle.nim_types.specs.declared.types.TypeDef.TheVariants as D
 use Rattle.nim_types.specs.Table.{type_at, types_in, facts_in}
 use Rattle.flat_runner.specs.Texts.{is_text}

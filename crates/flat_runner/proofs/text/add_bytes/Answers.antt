@@ -2,7 +2,8 @@ use Rattle.std.proofs.Common.{◌≡◌, true, false, ap, sym, ◌∙◌, length
 use Rattle.std.specs.Prelude.{pos}
 use Rattle.nim_types.specs.Table.{type_at, types_in, facts_in}
 use Rattle.nim_program.specs.View.{if_type}
-use Rattle.nim_meaning.specs.Texts.{text_at, below_distinct}
+use Rattle.nim_meaning.specs.Texts.{text_at}
+use Rattle.nim_program.specs.Kinds.{below_distinct}
 use Rattle.nim_meaning.specs.Values.{Fixed}
 use Rattle.plain_values.specs.Values.{text_of}
 use Rattle.flat_runner.specs.Texts.{is_text}

@@ -1,6 +1,6 @@
 use Rattle.std.proofs.Common.{◌≡◌, true, false, sym, ap, ◌∙◌, suc, refl, map, Some}
 use Rattle.nim_meaning.specs.Values.{slots_for}
-use Rattle.nim_meaning.specs.Meaning.{handed_bytes}
+use Rattle.nim_meaning.specs.Aims.{handed_bytes}
 use Rattle.flat_code.specs.Scene.{Calls}
 use Rattle.flat_runner.specs.Fetched.{are_there}
 use Rattle.flat_runner.specs.View.{temps_is, operands_in}

@@ -1,4 +1,4 @@
-use Rattle.std.proofs.Common.{◌≡◌, ◌+◌, Bool, List, [], ◌∷◌, Some, drop, refl, sym, ap, ap₂, ◌∙◌, arith}
+use Rattle.std.proofs.Common.{◌≡◌, ◌+◌, Bool, List, [], ◌∷◌, length, Some, drop, refl, sym, ap, ap₂, ◌∙◌, arith}
 use Rattle.std.specs.Prelude.{◌&&◌, map, option_map}
 use Rattle.nim_types.specs.Table.{type_at}
 use Rattle.nim_program.specs.Program as T
@@ -14,7 +14,7 @@ use Rattle.flattening.specs.ExprLines.{ready_lines, choice_lines, arm_label, arm
 use Rattle.flattening.specs.Views.{types_of, modes_of, result_of, uses_of, branch_lines, ArmsLast}
 use Rattle.flattening.proofs.Writing.{puts_two, puts_none}
 use Rattle.flattening.proofs.ExprPuts.{drop_next, drop_turn, drop_end, turned, ended, of_same, apply_put, early_put, conditions_put, labels_put, others_same}
-use Rattle.flattening.proofs.ExprPuts.{ready_next, chosen_lines, choice_next, arm_last, arm_next}
+use Rattle.flattening.proofs.ExprPuts.{ready_next, chosen_lines, choice_next, arm_last, arm_next, pick_count}
 use Rattle.flattening.proofs.LastOnes.{last_one}
 use Rattle.flattening.proofs.expr_code.+exprs.Goals as goal
 
@@ -100,8 +100,9 @@ add_case-returns-in-Closed t c begins =
     (operand_before ts x (picks_of ts given.branches.items (if_value ts (option_map (λ v. v.value) given.otherwise)))))
     (sym c.deref-selector.ensures) in
     of_same ts modes _ _ c.args.how c.args.t whole
-    (labels_put ts modes (result_of a) ts given.node (if_type ts given.ty) labels selector rest c.args.how c.args.t c.args.u
-    c.in-Some.v covered begins c.in-Some.ensures refl
+    (labels_put ts modes (result_of a) ts given.node (if_type ts given.ty) labels selector rest c.args.how (length given.branches.items) c.args.t
+    c.args.u c.in-Some.s c.in-Some-behind_selector.v covered begins c.in-Some.ensures (sym (pick_count given.branches.items))
+    c.in-Some-behind_selector.ensures refl
     (puts_two c.add_selector.ensures
     (puts_two (c.add_value_tests.ensures other)
     (puts_two c.put_jump.ensures (puts_two (c.in-Closed.ensures covered (last, c.may_close-closes.ensures)) c.put_label.ensures)))))
@@ -123,8 +124,9 @@ add_case-returns-in-Open t c begins =
     (operand_before ts x (picks_of ts given.branches.items (if_value ts (option_map (λ v. v.value) given.otherwise)))))
     (sym c.deref-selector.ensures) in
     of_same ts modes _ _ c.args.how c.args.t whole
-    (labels_put ts modes (result_of a) ts given.node (if_type ts given.ty) labels selector rest c.args.how c.args.t c.args.u
-    c.in-Some.v covered begins c.in-Some.ensures refl
+    (labels_put ts modes (result_of a) ts given.node (if_type ts given.ty) labels selector rest c.args.how (length given.branches.items) c.args.t
+    c.args.u c.in-Some.s c.in-Some-behind_selector.v covered begins c.in-Some.ensures (sym (pick_count given.branches.items))
+    c.in-Some-behind_selector.ensures refl
     (puts_two c.add_selector.ensures
     (puts_two (c.add_value_tests.ensures other)
     (puts_two c.put_jump.ensures

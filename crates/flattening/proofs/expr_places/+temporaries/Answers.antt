@@ -1,4 +1,4 @@
-use Rattle.std.proofs.Common.{◌+◌, ◌++◌, Some, drop, sym, ap, ap₂, ◌∙◌}
+use Rattle.std.proofs.Common.{◌+◌, ◌++◌, length, Some, drop, sym, ap, ap₂, ◌∙◌}
 use Rattle.std.specs.Prelude.{map, option_map}
 use Rattle.nim_types.specs.Table.{type_at}
 use Rattle.nim_program.specs.Program as T
@@ -9,9 +9,9 @@ use Rattle.flat_code.specs.declared.place.PlaceKind.TheVariants as K
 use Rattle.flattening.specs.Places.{temporary, location, expr_places, path_places, operand_places}
 use Rattle.flattening.specs.Views.{types_of}
 use Rattle.flattening.specs.PlaceViews.{first_places}
-use Rattle.flattening.proofs.ExprPuts.{drop_turn}
+use Rattle.flattening.proofs.ExprPuts.{drop_turn, pick_count}
 use Rattle.flattening.proofs.PlacePuts.{joined, three, listed_as, listed_more, exprs_as, applied_list, early_list, chosen_list}
-use Rattle.flattening.proofs.PlacePuts.{operands_list, selected_list, last_list, choices_list, field_list, element_list}
+use Rattle.flattening.proofs.PlacePuts.{operands_list, selected_list, last_list, choices_list, field_list, element_list, deref_list, fresh_list}
 use Rattle.flattening.proofs.expr_places.+temporaries.Goals as goal
 
 pub list_expr-returns-in-Apply : goal.list_expr-returns-in-Apply
@@ -58,8 +58,10 @@ list_path-returns-in-Fresh t c =
     let ts = types_of c.args.around.now in
     let given = c.in-Fresh in
     let whole = ap (path_of ts) given.is ∙ ap (λ x. T.Fresh (expr_of ts x)) (sym c.deref-value.ensures) in
-    listed_as _ _ (ap (λ p. path_places ts p c.args.t) whole)
-    (joined _ _ (listed_as _ _ (sym (ap (λ p. location ts p c.args.t) whole)) c.put_location-in-Fresh.ensures) c.list_expr.ensures)
+    listed_as _ _ (ap (λ p. path_places ts p c.args.t) whole
+    ∙ fresh_list ts (expr_of ts c.deref-value.result.now) c.args.t c.in-Some.u c.in-Some.ensures)
+    (joined (location ts (T.Fresh (expr_of ts c.deref-value.result.now)) c.args.t) _
+    (listed_as _ _ (sym (ap (λ p. location ts p c.args.t) whole)) c.put_location-in-Fresh.ensures) c.list_fresh.ensures)
 
 pub list_early-returns : goal.list_early-returns
 list_early-returns t c begins =
@@ -97,12 +99,14 @@ list_case-returns t c begins =
     (sym c.deref-selector.ensures) in
     exprs_as ts _ _ c.args.t whole
     (listed_as _ _ (selected_list ts ts given.node (if_type ts given.ty) (pick_labels given.branches.items) c.deref-selector.result.now
-    (picks_of ts given.branches.items last) c.args.t c.args.u c.in-Some.v begins c.in-Some.ensures)
+    (picks_of ts given.branches.items last) (length given.branches.items) c.args.t c.args.u c.in-Some.s c.in-Some-selector_from.from
+    c.in-Some-behind_selector.v begins c.in-Some.ensures (sym (pick_count given.branches.items)) (c.in-Some-selector_from.ensures ts)
+    c.in-Some-behind_selector.ensures)
     (joined _ _ c.put_temporary.ensures
     (three _ _ _ c.put_selector.ensures c.list_operand.ensures (c.in-Some-list_picks.ensures last _ c.list_else.ensures))))
 
-pub list_path-returns-in-Some : goal.list_path-returns-in-Some
-list_path-returns-in-Some t c =
+pub list_path-returns-in-Field : goal.list_path-returns-in-Field
+list_path-returns-in-Field t c =
     let ts = types_of c.args.around.now in
     let given = c.in-Field in
     let whole = ap (path_of ts) given.is
@@ -111,6 +115,16 @@ list_path-returns-in-Some t c =
     ∙ field_list ts given.node (type_at ts given.ty) (path_of ts c.deref-base.result.now) given.field c.args.t c.in-Some.u c.in-Some.ensures)
     (joined (location ts (T.Field given.node (type_at ts given.ty) (path_of ts c.deref-base.result.now) given.field) c.args.t) _
     (listed_as _ _ (sym (ap (λ p. location ts p c.args.t) whole)) c.put_location-in-Field.ensures) c.list_path.ensures)
+
+pub list_path-returns-in-Deref : goal.list_path-returns-in-Deref
+list_path-returns-in-Deref t c =
+    let ts = types_of c.args.around.now in
+    let given = c.in-Deref in
+    let whole = ap (path_of ts) given.is ∙ ap (λ x. T.Deref (type_at ts given.ty) (path_of ts x)) (sym c.deref-base-in-Deref.ensures) in
+    listed_as _ _ (ap (λ p. path_places ts p c.args.t) whole
+    ∙ deref_list ts (type_at ts given.ty) (path_of ts c.deref-base-in-Deref.result.now) c.args.t c.in-Some.u c.in-Some.ensures)
+    (joined (location ts (T.Deref (type_at ts given.ty) (path_of ts c.deref-base-in-Deref.result.now)) c.args.t) _
+    (listed_as _ _ (sym (ap (λ p. location ts p c.args.t) whole)) c.put_location-in-Deref.ensures) c.list_path-in-Deref.ensures)
 
 pub list_path-returns-in-Some-behind_path : goal.list_path-returns-in-Some-behind_path
 list_path-returns-in-Some-behind_path t c =
@@ -121,12 +135,12 @@ list_path-returns-in-Some-behind_path t c =
     (sym c.deref-index.ensures) in
     listed_as _ _ (ap (λ p. path_places ts p c.args.t) whole
     ∙ element_list ts given.node (type_at ts given.ty) (path_of ts c.deref-base-in-Element.result.now) (expr_of ts c.deref-index.result.now) given.constant
-    c.args.t c.in-Some-next.u c.in-Some-behind_path.v c.in-Some-next.ensures c.in-Some-behind_path.ensures)
+    c.args.t c.in-Some.u c.in-Some-behind_path.v c.in-Some.ensures c.in-Some-behind_path.ensures)
     (three
     (location ts (T.Element given.node (type_at ts given.ty) (path_of ts c.deref-base-in-Element.result.now) (expr_of ts c.deref-index.result.now)
     given.constant)
     c.args.t) _ _ (listed_as _ _ (sym (ap (λ p. location ts p c.args.t) whole)) c.put_location-in-Element.ensures) c.list_path-in-Element.ensures
-    c.list_expr-in-Element.ensures)
+    c.list_expr.ensures)
 
 pub list_operands-loop-operand-preserved : goal.list_operands-loop-operand-preserved
 list_operands-loop-operand-preserved t c =

@@ -9,5 +9,5 @@ use Rattle.flattening.proofs.finds.add_settled.Given as goal
 abbrev pub invariant-loop-operand : goal.invariant-loop-operand
 invariant-loop-operand l =
     let ts = types_of l.around in
-    (new : Option (List Line)) → IsPut l.code new (settle_lines (operands_of ts (drop l.operand-index l.operands.items)) l.u) →
-    IsPut l.fn.code new (settle_lines (operands_of ts l.operands.items) l.t)
+    (new : Option (List Line)) → IsPut l.code new (settle_lines ts (operands_of ts (drop l.operand-index l.operands.items)) l.u) →
+    IsPut l.fn.code new (settle_lines ts (operands_of ts l.operands.items) l.t)

@@ -53,8 +53,8 @@ add_select-returns-in-Closed t c begins =
     let whole = ap (λ s. stmt_before ts s Empty) given.is ∙ selected_statement ts given.node Empty given.selector given.branches given.otherwise in
     block_same ts (modes_of a) (result_of a) exits _ _ c.args.t whole
     (selected_put ts (modes_of a) (result_of a) exits ts given.node given.branches.items given.selector (case_blocks ts given.branches.items last)
-    c.args.t c.args.u c.in-Some.s c.in-Some-behind_operand.v covered begins c.in-Some.ensures
-    c.in-Some-behind_operand.ensures refl
+    c.args.t c.args.u c.in-Some.s c.in-Some-behind_selector.v covered begins c.in-Some.ensures
+    c.in-Some-behind_selector.ensures refl
     (puts_two c.add_selector.ensures
     (puts_two (c.put_block_tests.ensures ts last)
     (puts_two c.put_jump.ensures (puts_two (c.in-Closed.ensures covered (last, c.may_close-closes.ensures)) c.put_label.ensures)))))
@@ -70,8 +70,8 @@ add_select-returns-in-Open t c begins =
     let whole = ap (λ s. stmt_before ts s Empty) given.is ∙ selected_statement ts given.node Empty given.selector given.branches given.otherwise in
     block_same ts (modes_of a) (result_of a) exits _ _ c.args.t whole
     (selected_put ts (modes_of a) (result_of a) exits ts given.node given.branches.items given.selector (case_blocks ts given.branches.items last)
-    c.args.t c.args.u c.in-Some.s c.in-Some-behind_operand.v covered begins c.in-Some.ensures
-    c.in-Some-behind_operand.ensures refl
+    c.args.t c.args.u c.in-Some.s c.in-Some-behind_selector.v covered begins c.in-Some.ensures
+    c.in-Some-behind_selector.ensures refl
     (puts_two c.add_selector.ensures
     (puts_two (c.put_block_tests.ensures ts last)
     (puts_two c.put_jump.ensures

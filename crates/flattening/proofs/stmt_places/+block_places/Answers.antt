@@ -6,7 +6,7 @@ use Rattle.nim_program.proofs.ForCallers.{decided, selected_statement, repeated}
 use Rattle.flattening.specs.Places.{expr_places, block_places, branch_places, arm_places}
 use Rattle.flattening.specs.Views.{types_of}
 use Rattle.flattening.specs.PlaceViews.{places_of_first}
-use Rattle.flattening.proofs.StmtPuts.{behind_is, label_count}
+use Rattle.flattening.proofs.StmtPuts.{label_count}
 use Rattle.flattening.proofs.ExprPuts.{drop_turn, drop_end}
 use Rattle.flattening.proofs.Writing.{puts_none}
 use Rattle.flattening.proofs.PlacePuts.{joined, three, listed_as, listed_more, listed_end, block_as, stmts_list, stmts_end, decided_list, cases_list}
@@ -38,9 +38,8 @@ list_stmt-returns-in-Some-list_arms t c =
     let whole = ap (λ s. stmt_before ts s Empty) given.is ∙ selected_statement ts given.node Empty given.selector given.branches given.otherwise in
     block_as ts _ _ c.args.t whole
     (listed_as _ _ (cases_list ts ts given.node (branch_labels given.branches.items) given.selector (case_blocks ts given.branches.items last)
-    (length given.branches.items) c.args.t c.in-Some.u c.in-Some-behind_count.s c.in-Some-behind_operand.v c.in-Some.ensures
-    c.in-Some-behind_count.ensures (sym (label_count given.branches.items))
-    (c.in-Some-behind_operand.ensures ∙ behind_is ts given.selector c.in-Some-behind_count.s))
+    (length given.branches.items) c.args.t c.in-Some.u c.in-Some-behind_cases.s c.in-Some-selector_from.from c.in-Some-behind_selector.v c.in-Some.ensures
+    c.in-Some-behind_cases.ensures (sym (label_count given.branches.items)) (c.in-Some-selector_from.ensures ts) c.in-Some-behind_selector.ensures)
     (three _ _ _ c.put_selector.ensures c.list_operand.ensures (c.in-Some-list_arms.ensures last _ c.list_block-in-Case.ensures)))
 
 pub list_block-loop-stmt-preserved : goal.list_block-loop-stmt-preserved

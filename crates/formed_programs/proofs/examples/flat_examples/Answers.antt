@@ -38,6 +38,14 @@ pub returns-clause-constants : goal.returns-clause-constants
 unfolding digits
 returns-clause-constants c = λ plan heap input. refl
 
+pub returns-clause-constant_in_place : goal.returns-clause-constant_in_place
+unfolding digits
+returns-clause-constant_in_place c = λ plan heap input. refl
+
+pub returns-clause-listing : goal.returns-clause-listing
+unfolding digits
+returns-clause-listing c = λ plan heap input. refl
+
 pub returns-clause-converting : goal.returns-clause-converting
 unfolding digits
 returns-clause-converting c = λ plan heap input. refl

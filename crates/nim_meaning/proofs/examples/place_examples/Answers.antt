@@ -65,3 +65,7 @@ returns-clause-constants c = record { plain = refl; sees = λ plan heap input. r
 pub returns-clause-to_itself : goal.returns-clause-to_itself
 unfolding digits
 returns-clause-to_itself c = record { plain = refl; sees = λ plan heap input. refl }
+
+pub returns-clause-constant_in_place : goal.returns-clause-constant_in_place
+unfolding digits
+returns-clause-constant_in_place c = record { plain = refl; works = λ plan heap input. refl }

@@ -2,7 +2,7 @@ use Rattle.std.proofs.Common.{◌∙◌, sym, ap, ap₂}
 use Rattle.nim_program.specs.Program.{Empty}
 use Rattle.nim_program.specs.View.{stmt_before, stmts_of, case_blocks}
 use Rattle.nim_program.specs.Folds.{in_turn, total_of, each_block}
-use Rattle.nim_program.specs.FoldParts.{own_first}
+use Rattle.nim_program.specs.FoldParts.{seen_first, own_if}
 use Rattle.nim_program.proofs.StmtRows.{decided, selected, repeated, tried, deferred}
 use Rattle.nim_program.proofs.FoldLemmas.{one_first}
 use Rattle.nim_program.proofs.fold_stmts.+stmts.Goals as goal
@@ -13,7 +13,7 @@ stmt_total-returns-in-If g t c rest e =
     let ts = g.F.Fold.types c.args.fold.now in
     let sum = g.F.Fold.sum c.args.fold.now in
     let own = g.F.Fold.own c.args.fold.now in
-    let alone = c.of_stmt-own.ensures ∙ ap (λ s. own_first sum own (stmt_before ts s Empty)) given.is in
+    let alone = c.of_stmt-own.ensures ∙ ap (λ s. own_if sum own (seen_first (stmt_before ts s Empty))) given.is in
     let whole = ap (λ s. total_of sum own (stmt_before ts s rest)) given.is
     ∙ ap (total_of sum own) (decided ts given.node rest given.branches given.otherwise) in
     let last = c.plus-last.ensures ∙ ap₂ sum.plus c.total_of.ensures c.none.ensures in
@@ -26,7 +26,8 @@ stmt_total-returns-in-Case g t c rest e =
     let ts = g.F.Fold.types c.args.fold.now in
     let sum = g.F.Fold.sum c.args.fold.now in
     let own = g.F.Fold.own c.args.fold.now in
-    let alone = c.of_stmt-own.ensures ∙ ap (λ s. own_first sum own (stmt_before ts s Empty)) given.is in
+    let alone = c.of_stmt-own.ensures ∙ ap (λ s. own_if sum own (seen_first (stmt_before ts s Empty))) given.is
+    ∙ ap (λ b. own_if sum own (seen_first b)) (selected ts given.node Empty given.selector given.branches given.otherwise) in
     let whole = ap (λ s. total_of sum own (stmt_before ts s rest)) given.is
     ∙ ap (total_of sum own) (selected ts given.node rest given.selector given.branches given.otherwise) in
     let last = c.plus-last-in-Case.ensures ∙ ap₂ sum.plus c.total_of-in-Case.ensures c.none-in-Case.ensures in
@@ -42,7 +43,7 @@ stmt_total-returns-in-Loop g t c rest e =
     let ts = g.F.Fold.types c.args.fold.now in
     let sum = g.F.Fold.sum c.args.fold.now in
     let own = g.F.Fold.own c.args.fold.now in
-    let alone = c.of_stmt-own.ensures ∙ ap (λ s. own_first sum own (stmt_before ts s Empty)) given.is in
+    let alone = c.of_stmt-own.ensures ∙ ap (λ s. own_if sum own (seen_first (stmt_before ts s Empty))) given.is in
     let whole = ap (λ s. total_of sum own (stmt_before ts s rest)) given.is
     ∙ ap (total_of sum own) (repeated ts given.node rest given.kind given.head given.body) in
     let parts = c.plus-parts-in-Loop.ensures ∙ ap₂ sum.plus c.totals-in-Loop.ensures c.total_of-in-Loop.ensures in
@@ -54,7 +55,7 @@ stmt_total-returns-in-Try g t c rest e =
     let ts = g.F.Fold.types c.args.fold.now in
     let sum = g.F.Fold.sum c.args.fold.now in
     let own = g.F.Fold.own c.args.fold.now in
-    let alone = c.of_stmt-own.ensures ∙ ap (λ s. own_first sum own (stmt_before ts s Empty)) given.is in
+    let alone = c.of_stmt-own.ensures ∙ ap (λ s. own_if sum own (seen_first (stmt_before ts s Empty))) given.is in
     let whole = ap (λ s. total_of sum own (stmt_before ts s rest)) given.is
     ∙ ap (total_of sum own) (tried ts given.node rest given.body given.handlers given.last) in
     let behind = c.plus-behind.ensures ∙ ap₂ sum.plus c.handler_totals.ensures c.total_of-in-Try.ensures in
@@ -67,7 +68,7 @@ stmt_total-returns-in-Defer g t c rest e =
     let ts = g.F.Fold.types c.args.fold.now in
     let sum = g.F.Fold.sum c.args.fold.now in
     let own = g.F.Fold.own c.args.fold.now in
-    let alone = c.of_stmt-own.ensures ∙ ap (λ s. own_first sum own (stmt_before ts s Empty)) given.is in
+    let alone = c.of_stmt-own.ensures ∙ ap (λ s. own_if sum own (seen_first (stmt_before ts s Empty))) given.is in
     let whole = ap (λ s. total_of sum own (stmt_before ts s rest)) given.is
     ∙ ap (total_of sum own) (deferred ts given.node rest given.last) in
     let parts = c.plus-in-Defer.ensures ∙ ap₂ sum.plus c.total_of-in-Defer.ensures e in

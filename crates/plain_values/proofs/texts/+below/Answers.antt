@@ -1,5 +1,5 @@
 use Rattle.std.proofs.Common.{◌≡◌, ◌-◌, suc, ◌∙◌, ap, sym, arith}
-use Rattle.nim_program.specs.Texts.{below_distinct}
+use Rattle.nim_program.specs.Kinds.{below_distinct}
 use Rattle.nim_types.specs.Table.{type_at, types_in, facts_in}
 use Rattle.plain_values.specs.Entries.{base_at}
 use Rattle.plain_values.proofs.TextRows.{below_none, below_some}

@@ -1,4 +1,4 @@
-use Rattle.std.proofs.Common.{◌∙◌, sym, ap, ap₂, subst, true}
+use Rattle.std.proofs.Common.{◌∙◌, refl, sym, ap, ap₂, subst, true}
 use Rattle.std.specs.Prelude.{option_map}
 use Rattle.nim_types.specs.Table.{type_at}
 use Rattle.nim_program.specs.Program as T
@@ -6,7 +6,8 @@ use Rattle.nim_program.specs.Program.{ByValue, NoArg, ByConditions, ByLabels}
 use Rattle.nim_program.specs.View.{expr_of, path_of, operand_before, choices_of, picks_of, pick_labels, if_value, if_type}
 use Rattle.nim_program.specs.Folds.{total, total_at}
 use Rattle.nim_program.proofs.ForCallers.{applied, called, constructed, chosen, selected}
-use Rattle.program_limits.specs.Meeting.{Met, before, own_before}
+use Rattle.program_limits.specs.Meeting.{Met, before, own_before, standing_before}
+use Rattle.program_limits.proofs.Meets.{fresh_before}
 use Rattle.program_limits.proofs.texts.+exprs.Goals as goal
 
 pub of_expr-returns-in-Apply : goal.of_expr-returns-in-Apply
@@ -33,8 +34,11 @@ of_expr-returns-in-Read t c ts met h =
 
 pub of_path-returns-in-Fresh : goal.of_path-returns-in-Fresh
 of_path-returns-in-Fresh t c ts read met h =
-    let whole = ap (path_of ts) c.in-Fresh.is ∙ ap (λ v. T.Fresh (expr_of ts v)) (sym c.deref.ensures) in
-    subst (λ p. Met c.of_expr.new.texts (total_at before own_before read p met)) (sym whole) (c.of_expr.ensures ts met h)
+    let value = expr_of ts c.deref-begun.result.now in
+    let whole = ap (path_of ts) c.in-Fresh.is ∙ ap (λ v. T.Fresh (expr_of ts v)) (sym c.deref-begun.ensures) in
+    let kept = c.of_standing.ensures ts (total before own_before value met) (c.of_expr.ensures ts met h) in
+    subst (λ p. Met c.of_standing.new.texts (total_at before own_before read p met)) (sym whole)
+    (subst (λ ms. Met c.of_standing.new.texts ms) (sym (fresh_before read value met)) kept)
 
 pub of_expr-returns-in-Early : goal.of_expr-returns-in-Early
 of_expr-returns-in-Early t c ts met h =

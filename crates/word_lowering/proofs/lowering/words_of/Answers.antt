@@ -1,15 +1,26 @@
-use Rattle.std.proofs.Common.{◌∙◌, sym, ap, subst}
+use Rattle.std.proofs.Common.{◌≡◌, ◌-◌, ◌∙◌, length, slice_get, sym, ap, subst, arith}
+use Rattle.std.specs.Option.{option_copied}
+use Rattle.word_lowering.specs.declared.texts.TheConstants.{FIXED_BYTES}
 use Rattle.word_lowering.specs.LineCode.{Around}
 use Rattle.word_lowering.specs.Lowered.{around_start}
 use Rattle.word_lowering.specs.Scope.{around_of}
 use Rattle.word_lowering.specs.Stored.{HaveForms}
 use Rattle.word_lowering.specs.Texts.{padded, data_in}
 use Rattle.word_lowering.proofs.BlocksFollowed.{lowers_given}
-use Rattle.word_lowering.proofs.WholeCode.{both, whole_by}
+use Rattle.word_lowering.proofs.WholeCode.{last_there, layouts_length, both, whole_by}
 use Rattle.word_lowering.proofs.lowering.words_of.Goals as goal
 
 pub all_procs-requires : goal.all_procs-requires
 all_procs-requires c = subst HaveForms (sym (ap (λ (a : Around). a.table) c.in_ok-x.ensures)) c.requires.forms
+
+-- there is a last procedure, and so a last layout
+pub unreachable-requires : goal.unreachable-requires
+unreachable-requires c =
+    let n = layouts_length c.args.types.now FIXED_BYTES c.args.blocks.now.procs in
+    let l = ap length c.requires.layouts in
+    let some = c.requires.some in
+    let all = c.args.layouts.now in
+    last_there all (omega (arith, n, l, some)) (subst (λ r. option_copied r ≡ slice_get all (length all - 1)) c.in_default.is c.last.ensures.value)
 
 pub returns : goal.returns
 returns c =
@@ -28,4 +39,4 @@ returns c =
     (c.in_ok-x.ensures ∙ ap (λ ps. around_start c.args.types.now ps c.args.layouts.now c.in-Some.own.now) c.in_ok-texts.ensures)
     c.in_ok-procs.ensures
     (c.in_ok-statics.ensures ∙ ap (λ ps. padded (data_in c.args.types.now c.in-Some.own.now.free.datum ps)) c.in_ok-texts.ensures)
-    (c.requires.may (c.have_names.ensures c.if-not-have_names.false)))
+    c.requires.may)

@@ -1,15 +1,9 @@
-use Rattle.std.proofs.Common.{suc, length, drop, ap, arith, add-one, length-append}
-use Rattle.word_lowering.specs.Texts.{all_names, members_of, joined_all}
-use Rattle.word_lowering.proofs.EntryNames.{names_from, joined_append}
+use Rattle.std.proofs.Common.{arith}
+use Rattle.word_lowering.specs.Texts.{all_names, joined_all}
+use Rattle.word_lowering.proofs.Padding.{padded_length}
 use Rattle.word_lowering.proofs.texts.texts_at.Goals as goal
 
-pub loop-id-preserved : goal.loop-id-preserved
-loop-id-preserved c =
-    let t = c.args.types.now in
-    let names = members_of c.get.result.now in
-    let rest = all_names (drop (suc c.loop-id.id) t) in
-    let e = ap (λ l. length (joined_all l)) (names_from t c.loop-id.id _ c.get.ensures.entry) in
-    let f = ap length (joined_append names rest) in
-    let g = length-append (joined_all names) (joined_all rest) in
-    let h = ap (λ l. length (joined_all l)) c.members_of.ensures in
-    rw add-one (omega (arith, e, f, g, h, c.loop-id.invariant, c.in_ok-at-2.ensures))
+pub returns : goal.returns
+returns c =
+    let e = padded_length (joined_all (all_names c.args.types.now)) in
+    omega (arith, e, c.in_ok-n.ensures, c.in_ok-names.ensures, c.in_ok-at.ensures, c.in_ok-end.ensures)

@@ -1,5 +1,6 @@
 use Rattle.std.proofs.Common.{◌≡◌, drop}
-use Rattle.word_lowering.specs.LineCode.{piece_words, first_word}
+use Rattle.flat_code.specs.Pieces.{piece_words}
+use Rattle.word_lowering.specs.LineCode.{first_word}
 use Rattle.word_lowering.proofs.values.first_word.Given as goal
 
 -- with what is left, it is all

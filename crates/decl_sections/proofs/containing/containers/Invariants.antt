@@ -1,6 +1,0 @@
-use Rattle.std.proofs.Common.{◌≡◌}
-use Rattle.decl_sections.specs.ViewContained.{contained}
-use Rattle.decl_sections.proofs.containing.containers.Given as goal
-
-abbrev pub invariant-loop-definition : goal.invariant-loop-definition
-invariant-loop-definition l = l.marks.items ≡ contained l._definition-index l.read l.number

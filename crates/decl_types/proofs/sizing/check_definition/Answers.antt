@@ -1,0 +1,54 @@
+use Rattle.std.proofs.Common.{◌≡◌, length, sym, ap, subst, ◌∙◌}
+use Rattle.std.specs.Prelude.{Ok, Err, map}
+use Rattle.arc_base.specs.Refusal.{and_then, Answers}
+use Rattle.nim_types.specs.Table.{type_at, AllBelow}
+use Rattle.expr_parts.proofs.ForCallers.{answers_as, stops}
+use Rattle.decl_rules.specs.Meanings.{renamed}
+use Rattle.decl_rules.specs.Sections.{formed_within, meant_within}
+use Rattle.decl_types.specs.ViewKnown.{NodesIn, key_by, meant_by, meaning_by}
+use Rattle.decl_types.specs.ViewNodes.{formed_nodes, node_types}
+use Rattle.decl_types.specs.ViewSized.{nodes_sized}
+use Rattle.decl_types.proofs.Sizes.{sized_is}
+use Rattle.decl_types.proofs.sizing.check_definition.Goals as goal
+
+pub returns-in-Ok-clause-answers : goal.returns-in-Ok-clause-answers
+returns-in-Ok-clause-answers c = λ n m ts facts keys k u sound known same.
+    let d = c.args.definition.now in
+    let nodes = d.nodes.items in
+    let us = map (type_at ts) c.in_ok-ids.ids.items in
+    let types = c.in_ok-ids.ensures.means n m (subst (NodesIn n m) (sym c.as_slice.ensures.value) sound.nodes) ts facts u keys (meaning_by k) known same
+    ∙ ap (λ ns. map (renamed (meaning_by k)) (node_types ts keys ns)) c.as_slice.ensures.value in
+    let sized = sized_is ts keys facts k nodes us types in
+    let rest = meant_within facts (key_by d) (meant_by ts keys d) in
+    let done : nodes_sized facts nodes us ≡ Ok tt =
+    subst (λ ns. nodes_sized facts ns us ≡ Ok tt) c.as_slice-2.ensures.value
+    (subst (λ is. nodes_sized facts c.as_slice-2.result.now (map (type_at ts) is) ≡ Ok tt) c.as_slice-3.ensures.value (c.in-Ok.ensures ts facts u)) in
+    answers_as (λ (_ : Unit {0}). tt) (and_then (formed_within facts k (formed_nodes ts keys nodes)) (λ _. rest)) rest c.check_meant.result
+    (ap (λ z. and_then z (λ _. rest)) (sized ∙ done)) (c.check_meant.ensures ts facts keys u)
+
+pub returns-clause-answers : goal.returns-clause-answers
+returns-clause-answers c = λ n m ts facts keys k u sound known same.
+    let d = c.args.definition.now in
+    let nodes = d.nodes.items in
+    let us = map (type_at ts) c.in_ok-ids.ids.items in
+    let types = c.in_ok-ids.ensures.means n m (subst (NodesIn n m) (sym c.as_slice.ensures.value) sound.nodes) ts facts u keys (meaning_by k) known same
+    ∙ ap (λ ns. map (renamed (meaning_by k)) (node_types ts keys ns)) c.as_slice.ensures.value in
+    let sized = sized_is ts keys facts k nodes us types in
+    let rest = meant_within facts (key_by d) (meant_by ts keys d) in
+    let stopped = subst (λ ns. Answers {A = Unit {0}} {T = Unit {0}} (λ _. tt) (nodes_sized facts ns us) (Err c.in-Err.stop)) c.as_slice-2.ensures.value
+    (subst (λ is. Answers {A = Unit {0}} {T = Unit {0}} (λ _. tt) (nodes_sized facts c.as_slice-2.result.now (map (type_at ts) is)) (Err c.in-Err.stop))
+    c.as_slice-3.ensures.value (c.in-Err.ensures ts facts u)) in
+    answers_as (λ (_ : Unit {0}). tt) (and_then (formed_within facts k (formed_nodes ts keys nodes)) (λ _. rest))
+    (and_then (nodes_sized facts nodes us) (λ _. rest)) (Err c.in-Err.stop) (ap (λ z. and_then z (λ _. rest)) sized)
+    (stops (λ (_ : Unit {0}). tt) (λ (_ : Unit {0}). tt) (nodes_sized facts nodes us) (λ _. rest) c.in-Err.stop stopped)
+
+pub check_nodes-requires-clause-formed : goal.check_nodes-requires-clause-formed
+check_nodes-requires-clause-formed c = c.types_of.ensures.grown.formed c.requires
+
+pub check_nodes-requires-clause-within : goal.check_nodes-requires-clause-within
+check_nodes-requires-clause-within c =
+    subst (AllBelow (length c.types_of.new.types)) (sym c.as_slice-3.ensures.value) c.in_ok-ids.ensures.within
+
+pub check_nodes-requires-clause-count : goal.check_nodes-requires-clause-count
+check_nodes-requires-clause-count c =
+    ap length c.as_slice-3.ensures.value ∙ c.in_ok-ids.ensures.count ∙ ap length (c.as_slice.ensures.value ∙ sym c.as_slice-2.ensures.value)

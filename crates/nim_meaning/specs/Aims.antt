@@ -1,0 +1,60 @@
+-- Paths whose indexes are evaluated, and operands that wait to be worked on.
+use Rattle.std.specs.Prelude.{ℕ, ◌+◌, ℤ, Bool, true, false, List, [], ◌∷◌}
+use Rattle.nim_meaning.specs.Values.{Value, Fixed, bytes, Base, Waiting, at_base, Location, Operand, Given, At}
+use Rattle.nim_meaning.specs.Acts.{Does, give, ◌>>=◌}
+use Rattle.nim_meaning.specs.Deeds.{carry}
+use Rattle.nim_meaning.specs.Places.{rooted, made, to_part, to_item, to_object}
+
+-- ---- paths
+
+-- a path whose indexes are evaluated, before it is looked up
+pub data Aim : Type 0 where
+  Root : (base : Base) → Aim
+  Value_of : (value : Value) → Aim
+  PartOf : (aim : Aim) (part : ℕ) → Aim
+  ItemOf : (aim : Aim) (index : ℤ) → Aim
+  ObjectOf : (aim : Aim) → Aim
+
+-- it is looked up in the present state
+abbrev pub find : Aim → Does Location
+find (Root base) = carry (rooted base)
+find (Value_of v) = carry (made v)
+find (PartOf aim i) = find aim >>= (λ location. carry (to_part location i))
+find (ItemOf aim z) = find aim >>= (λ location. carry (to_item location z))
+find (ObjectOf aim) = find aim >>= (λ location. carry (to_object location))
+
+-- where a path leads that begins with a fresh value: one with hooks waits for the end of its statement, unless nobody owns it
+abbrev pub fresh_root : (hooked : Bool) → (level node : ℕ) → Value → Aim
+fresh_root false level node v = Value_of v
+fresh_root true level node (Fixed t) = Value_of (Fixed t)
+fresh_root true level node v = Root (Waiting level node)
+
+-- ---- operands
+
+-- an operand that is evaluated, and one whose place is looked up behind the last operand
+pub data Ready : Type 0 where
+  Evaluated : (operand : Operand) → Ready
+  Aimed : (aim : Aim) → Ready
+
+-- a value without hooks, and a text that nobody owns, is handed over; one with hooks waits where it is
+abbrev pub operand_for : (hooked : Bool) → (level node : ℕ) → Value → Operand
+operand_for false level node v = Given v
+operand_for true level node (Fixed t) = Given (Fixed t)
+operand_for true level node v = At (at_base (Waiting level node))
+
+-- the places are looked up now, in their order
+abbrev pub settle : List Ready → Does (List Operand)
+settle [] = give []
+settle (Evaluated x ∷ rest) = do
+  xs ← settle rest
+  give (x ∷ xs)
+settle (Aimed aim ∷ rest) = do
+  location ← find aim
+  xs ← settle rest
+  give (At location ∷ xs)
+
+-- what is handed over to a call: values, and a word for each location
+abbrev pub handed_bytes : List Operand → ℕ
+handed_bytes [] = 0
+handed_bytes (Given v ∷ xs) = bytes v + handed_bytes xs
+handed_bytes (At location ∷ xs) = 4 + handed_bytes xs

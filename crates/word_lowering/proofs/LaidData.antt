@@ -1,0 +1,74 @@
+-- Where the texts of code and its constants are laid out in the data.
+use Rattle.std.proofs.Common.{◌≡◌, ℕ, ◌+◌, ◌-◌, ◌%◌, ◌≤◌, List, ◌++◌, length, replicate, true, sym, ap, ◌∙◌, arith, append_assoc, length-append}
+use Rattle.std.specs.Set.{is_member}
+use Rattle.nim_types.specs.Types.{same_text}
+use Rattle.nim_types.specs.declared.types.TypeDef.{TypeDef}
+use Rattle.flat_code.specs.declared.block.BlockLine.{BlockLine}
+use Rattle.flat_code.specs.declared.code.Code.{Code}
+use Rattle.flat_code.specs.Codes.{block_plain}
+use Rattle.flat_code.specs.Sizes.{code_texts, distinct_texts}
+use Rattle.word_code.specs.declared.word.WordCode.{WordCode}
+use Rattle.word_lowering.specs.declared.texts.TheConstants.{FIXED_BYTES}
+use Rattle.word_lowering.specs.declared.may_lower.TheConstants.{MOST_DATA}
+use Rattle.word_lowering.specs.Texts.{padded, all_names, joined_all, ends_from, texts_at, laid_texts, place_among, or_zero}
+use Rattle.word_lowering.proofs.DistinctTexts.{is_laid, unique_has}
+use Rattle.word_lowering.proofs.FirstMemory.{own, own_is, globals, fixed, behind, pad}
+use Rattle.word_lowering.proofs.FirstNames.{ends_length, behind_is}
+use Rattle.word_lowering.proofs.Padding.{zeros_length, padded_length, padded_whole}
+
+module _ (table : List TypeDef) (blocks : Code BlockLine) where
+  abbrev pub distinct : List (List ℕ)
+  distinct = distinct_texts block_plain blocks.procs
+
+  -- where a text of the code is laid out, or a constant that stands in the data
+  abbrev pub laid_at : (text : List ℕ) → ℕ
+  laid_at text = texts_at table (globals table blocks) + or_zero (place_among distinct text)
+
+  -- it begins at a word behind the globals
+  pub record LaidAt (text : List ℕ) : Type 0 where
+    pub before : List ℕ
+    pub after : List ℕ
+    pub whole : own table blocks ≡ before ++ (text ++ after)
+    pub at : length before ≡ laid_at text
+    pub at_word : laid_at text % 4 ≡ 0
+    pub behind_globals : globals table blocks ≤ laid_at text
+
+  module _ (runtime : WordCode) (heap stack : ℕ) (least : FIXED_BYTES ≤ globals table blocks) (whole : globals table blocks % 4 ≡ 0)
+      (most : length (own table blocks) ≤ MOST_DATA) where
+    pub laid_there : (text : List ℕ) → is_member same_text (code_texts block_plain blocks.procs) text ≡ true → LaidAt text
+    laid_there text among =
+        let there = is_laid distinct text (unique_has (code_texts block_plain blocks.procs) text ∙ among) in
+        let zeros : List ℕ = replicate (globals table blocks - FIXED_BYTES) 0 in
+        let front : List ℕ = fixed table blocks ++ zeros in
+        let joined : List ℕ = joined_all (all_names table) in
+        let names : List ℕ = padded joined in
+        let ends : List ℕ = ends_from 0 (all_names table) in
+        let tail : List ℕ = pad table blocks in
+        let texts : List ℕ = laid_texts blocks.procs in
+        let more : List ℕ = text ++ (there.after ++ tail) in
+        let middle : List ℕ = ends ++ (names ++ there.before) in
+        let laid : texts ++ tail ≡ there.before ++ more
+        = ap (λ l. l ++ tail) there.whole ∙ append_assoc there.before (text ++ there.after) tail
+        ∙ ap (λ l. there.before ++ l) (append_assoc text there.after tail) in
+        let behind_so : behind table blocks ++ tail ≡ middle ++ more
+        = behind_is table blocks runtime heap stack least whole most ∙ ap (λ l. ends ++ (names ++ l)) laid
+        ∙ ap (λ l. ends ++ l) (sym (append_assoc names there.before more)) ∙ sym (append_assoc ends (names ++ there.before) more) in
+        let place : or_zero (place_among distinct text) ≡ length there.before = ap or_zero there.place in
+        let e = ends_length 0 (0 + length joined) (all_names table) in
+        let f = padded_length joined in
+        let g = padded_whole joined in
+        let word = there.at_word in
+        let a = length-append front middle in
+        let b = length-append (fixed table blocks) zeros in
+        let c = length-append ends (names ++ there.before) in
+        let d = length-append names there.before in
+        let z = zeros_length (globals table blocks - FIXED_BYTES) in
+        record {
+          before = front ++ middle;
+          after = there.after ++ tail;
+          whole = own_is table blocks ∙ sym (append_assoc (fixed table blocks) zeros (behind table blocks ++ tail))
+              ∙ ap (λ l. front ++ l) behind_so ∙ sym (append_assoc front middle more);
+          at = omega (arith, a, b, c, d, z, e, place, least);
+          at_word = omega (arith, place, g, word, whole);
+          behind_globals = omega (arith, place);
+        }
