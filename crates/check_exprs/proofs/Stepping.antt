@@ -61,10 +61,6 @@ refused_here ds of said within code at s is a = record {
 }
 
 -- nothing is asked of what is answered
-pub always : {T E : Type 0} (r : Result T E) → IfOk r (λ (_ : T). Unit {0})
-always (Ok x) = tt
-always (Err s) = tt
-
 abbrev pub Always : ℕ → Unit {0} → Type 0
 Always n x = Unit {0}
 

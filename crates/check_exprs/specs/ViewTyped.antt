@@ -36,7 +36,7 @@ use Rattle.expr_rules.specs.Demands.{Asks, anything, exactly, want_in, Demand, o
 use Rattle.expr_rules.specs.Typed.{Value, Values, Part, Several, typed, values, value_by, operand_by, part_by, operands, conditions, picks, labels}
 use Rattle.expr_rules.specs.Typed.{label_from, read_type, read_array, read_types}
 use Rattle.expr_rules.specs.Typed as typing
-use Rattle.expr_parts.specs.View.{env_of, want_of, typed_of, operand_of}
+use Rattle.expr_parts.specs.View.{env_of, want_of, typed_of, operand_of, IsProper}
 use Rattle.expr_steps.specs.ViewDemands.{demand_of}
 use Rattle.expr_steps.specs.ViewTyping.{Judges, TypedWithin, given_of, GivenWithin, part_of, PartWithin, asks_of, values_of, AllWithin, operands_of}
 use Rattle.expr_steps.specs.ViewTyping.{AllOperandsWithin}
@@ -183,17 +183,17 @@ abbrev pub label_said : Env → Ty → Term → Answer Label
 label_said env ty (term.range at a b) = range_said env ty at a b
 label_said env ty a = one_label_said env ty a
 
-abbrev pub AnyLabel : ℕ → RustLabel → Type 0
-AnyLabel n l = Unit {0}
+abbrev pub LabelProper : ℕ → RustLabel → Type 0
+LabelProper n l = IsProper (label_of l)
 
 abbrev pub LabelSo : (old new : List TypeDef) → Scope → ℕ → Term → Result RustLabel Stop → Type 0
-LabelSo old new s ty t r = Judges old new (λ ts. label_of) (λ ts facts. label_said (env_of ts facts s) (type_at ts ty) t) AnyLabel r
+LabelSo old new s ty t r = Judges old new (λ ts. label_of) (λ ts facts. label_said (env_of ts facts s) (type_at ts ty) t) LabelProper r
 
 abbrev pub OneLabelSo : (old new : List TypeDef) → Scope → ℕ → Term → Result RustLabel Stop → Type 0
-OneLabelSo old new s ty t r = Judges old new (λ ts. label_of) (λ ts facts. one_label_said (env_of ts facts s) (type_at ts ty) t) AnyLabel r
+OneLabelSo old new s ty t r = Judges old new (λ ts. label_of) (λ ts facts. one_label_said (env_of ts facts s) (type_at ts ty) t) LabelProper r
 
 abbrev pub RangeSo : (old new : List TypeDef) → Scope → ℕ → Place → Term → Term → Result RustLabel Stop → Type 0
-RangeSo old new s ty at a b r = Judges old new (λ ts. label_of) (λ ts facts. range_said (env_of ts facts s) (type_at ts ty) at a b) AnyLabel r
+RangeSo old new s ty at a b r = Judges old new (λ ts. label_of) (λ ts facts. range_said (env_of ts facts s) (type_at ts ty) at a b) LabelProper r
 
 -- ---- written types
 

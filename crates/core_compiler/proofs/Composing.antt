@@ -67,6 +67,14 @@ silent (p ∷ procs) none = (λ lines. none.0, silent procs none.1)
 pub sound_low : {low high : Behaviour Event} → Agrees low high → Sound low
 sound_low a = record { no_fault = a.no_fault; right = a.low_right }
 
+-- word code without its runtime has data of few bytes
+pub own_data_small : {table : List TypeDef} {blocks : Code BlockLine} (own runtime : WordCode) → LowersWithRuntime table blocks own → IsRuntime runtime
+    → length own.statics ≤ 4294967295
+own_data_small own runtime lowered routines =
+    let both = length-append own.statics runtime.statics in
+    let most = (lowered.lowers runtime routines).data_most in
+    omega (arith, both, most)
+
 module _ (law : AgreesLaw) (pace : PaceLaw) where
   -- ---- flat code, owned code, block code, word code
 

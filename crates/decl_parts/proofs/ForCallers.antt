@@ -1,6 +1,7 @@
 -- The lemmas that proofs of other crates may cite.
 pub use Rattle.decl_parts.proofs.Branching.{one_step, lists_as}
-pub use Rattle.decl_parts.proofs.Growing.{below_more, result_more, inside_more, decls_more, decls_both, scope_by, facts_kept, over_old}
+pub use Rattle.expr_parts.proofs.ForCallers.{below_more, decls_both, decls_more}
+pub use Rattle.decl_parts.proofs.Growing.{facts_kept, inside_more, over_old, result_more, scope_by}
 pub use Rattle.decl_parts.proofs.Judging.{typing_any, typing_as, typing_stops, typing_then, typing_here}
 pub use Rattle.decl_parts.proofs.Judging.{further_grown, further_typed, ready_typed, ready_grown, same_view}
 pub use Rattle.decl_parts.proofs.Stating.{further_same, further_on, further_as, further_to, stands_still}

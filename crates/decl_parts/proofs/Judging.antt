@@ -16,7 +16,8 @@ use Rattle.expr_parts.specs.ViewReady.{IsReady}
 use Rattle.expr_parts.proofs.ForCallers.{grown_same, forgets, refuses, answers_as, goes, stops}
 use Rattle.decl_parts.specs.declared.state.State.{State as RustState}
 use Rattle.decl_parts.specs.View.{Over, Beside, env_in, state_of, Ready, Further, Typing}
-use Rattle.decl_parts.proofs.Growing.{ready_more, facts_kept, under_kept, over_old}
+use Rattle.expr_parts.proofs.ForCallers.{ready_on}
+use Rattle.decl_parts.proofs.Growing.{facts_kept, under_kept, over_old}
 
 -- ---- from calls on the table
 
@@ -129,7 +130,7 @@ further_typed j = further_grown j.grown
 
 pub ready_grown : (old new : RustState) → Grown old.types new.types → new.scope ≡ old.scope → new.outside ≡ old.outside → Ready old → Ready new
 ready_grown old new g s o h = record {
-  all = subst (IsReady new.types) (sym s) (ready_more g h.all);
+  all = subst (IsReady new.types) (sym s) (ready_on g h.all);
   outside = subst (λ n. n ≤ length new.scope.decls) (sym o) (subst (λ (z : Scope). old.outside ≤ length z.decls) (sym s) h.outside);
 }
 

@@ -21,7 +21,6 @@ use Rattle.decl_types.specs.ViewKnown.{Untouched, meaning_by}
 use Rattle.decl_types.specs.ViewReading.{all_defined}
 use Rattle.decl_sections.specs.declared.starting.Frame.{Frame}
 use Rattle.decl_sections.specs.declared.starting.Reading.{Reading}
-use Rattle.decl_sections.specs.declared.starting.TheConstants.{MOST_DEFINITIONS}
 use Rattle.decl_sections.specs.ViewSections.{Leads}
 use Rattle.decl_sections.specs.ViewWalk.{Framed, StageOf}
 use Rattle.decl_types.specs.ViewScoped.{Whole}
@@ -43,7 +42,7 @@ contained_behind st all s = and_then (containment_rule s.defined s.defined) (siz
 
 pub whole_is : (ts : List Ty) (st : State) (all : List Declaration) (old : List Decl) (frame : Frame) (ds : List TypeDef) (scope : Scope)
     (reading : Reading) (s : Section) → Framed ts st all old frame → StageOf ts st all old frame ds scope reading s
-    → length reading.read.items ≡ length all → Whole ts frame.types MOST_DEFINITIONS (keys_of all) reading.read.items
+    → length reading.read.items ≡ length all → Whole ts frame.types (length all) (keys_of all) reading.read.items
 whole_is ts st all old frame ds scope reading s f g count = record {
   reads = g.reads;
   count = count ∙ sym (keys_count all);

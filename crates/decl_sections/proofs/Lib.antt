@@ -5,6 +5,7 @@ mod Productions
 mod Saying
 mod Declaring
 mod Staging
+mod Outside
 mod Starts
 mod Ending
 mod Readying

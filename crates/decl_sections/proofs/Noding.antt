@@ -1,5 +1,5 @@
 -- Nodes of types that are written in a section: what was there stays behind further ones.
-use Rattle.std.proofs.Common.{◌≡◌, ℕ, ◌+◌, ◌≤◌, ◌<◌, List, [], ◌∷◌, ◌++◌, length, drop, refl, sym, ap, ap₂}
+use Rattle.std.proofs.Common.{◌≡◌, ℕ, suc, subst, ◌+◌, ◌≤◌, ◌<◌, List, [], ◌∷◌, ◌++◌, length, drop, refl, sym, ap, ap₂}
 use Rattle.std.proofs.Common.{◌∙◌, length-append, append-nil, append_assoc, arith}
 use Rattle.std.specs.Prelude.{map, Result, Ok, Err, OnOk, IfOk, IfErr}
 use Rattle.arc_base.specs.declared.place.Stop.{Stop}
@@ -19,7 +19,8 @@ use Rattle.decl_rules.specs.Written.{Spelled, spelled_as, Formed, Sizing, later}
 use Rattle.decl_types.specs.declared.nodes.Node.{Node}
 use Rattle.decl_types.specs.declared.nodes.Names.{Names}
 use Rattle.decl_types.specs.ViewNodes.{node_type, nodes_onto, node_types, node_formed, formed_onto}
-use Rattle.decl_sections.specs.ViewSpelled.{formed_since, Further, Adds, Spells}
+use Rattle.decl_types.specs.ViewKnown.{Ordered, MadeBelow, NodeIn, NodesIn}
+use Rattle.decl_sections.specs.ViewSpelled.{formed_since, Further, Outer, Adds, Spells}
 use Rattle.decl_types.specs.ViewNodes.{names_env_of}
 use Rattle.decl_sections.specs.ViewSpelled.{one_in, IsNode}
 
@@ -73,10 +74,10 @@ drop_front [] ys = refl
 drop_front (x ∷ xs) ys = drop_front xs ys
 
 abbrev pub further_same : (nodes : List Node) → Further nodes nodes
-further_same nodes = ([], sym (append-nil nodes))
+further_same nodes = ([], sym (append-nil nodes), λ h. h)
 
 abbrev pub further_on : (old mid new : List Node) → Further old mid → Further mid new → Further old new
-further_on old mid new a b = (a.0 ++ b.0, b.1 ∙ ap (λ z. z ++ b.0) a.1 ∙ append_assoc old a.0 b.0)
+further_on old mid new a b = (a.0 ++ b.0, b.1 ∙ ap (λ z. z ++ b.0) a.1 ∙ append_assoc old a.0 b.0, λ h. b.2 (a.2 h))
 
 pub further_count : (old new : List Node) → Further old new → length old ≤ length new
 further_count old new w = let e = ap length w.1 in omega (arith, e, length-append old w.0)
@@ -121,6 +122,17 @@ last_type ts keys old node =
     ap₂ type_at (onto_more ts keys [] old (node ∷ [])) (sym (count ts keys old))
     ∙ type_last (node_types ts keys old) (node_type ts keys (node_types ts keys old) node)
 
+ordered_from : (i n : ℕ) (nodes : List Node) (node : Node) → n ≡ i + length nodes → Ordered i nodes → MadeBelow n node → Ordered i (nodes ++ node ∷ [])
+ordered_from i n [] node e h made = let k : n ≡ i = omega (arith, e) in (subst (λ j. MadeBelow j node) k made, tt)
+ordered_from i n (x ∷ nodes) node e h made = (h.0, ordered_from (suc i) n nodes node (omega (arith, e)) h.1 made)
+
+ordered_more : (old new : List Node) (node : Node) → new ≡ old ++ node ∷ [] → MadeBelow (length old) node → Ordered 0 old → Ordered 0 new
+ordered_more old new node e made h = subst (Ordered 0) (sym e) (ordered_from 0 (length old) old node (omega arith) h made)
+
+nodes_last : (n m : ℕ) (nodes : List Node) (node : Node) → NodesIn n m nodes → NodeIn n m node → NodesIn n m (nodes ++ node ∷ [])
+nodes_last n m [] node h i = (i, tt)
+nodes_last n m (x ∷ nodes) node h i = (h.0, nodes_last n m nodes node h.1 i)
+
 -- what a node means
 abbrev pub Means : List Node → Scope → Names → (Env → List Ty → Answer Ty) → Node → Type 0
 Means old scope names rule node =
@@ -129,22 +141,25 @@ Means old scope names rule node =
 
 pub adds : (old new : List Node) (node : Node) (scope : Scope) (names : Names) (rule : Env → List Ty → Answer Ty) (formed : Ty → List Formed)
     (r : Result ℕ Stop) → OnOk r (new ≡ old ++ node ∷ []) → IfOk r (λ i. i ≡ length old) → IfErr r (λ s. s ≡ stop.Memory)
-    → Means old scope names rule node → ((ty : Ty) → node_formed node ty ≡ formed ty) → Adds old new scope names rule formed r
-adds old new node scope names rule formed (Ok i) e n m means f = record {
-  further = (node ∷ [], e);
+    → Means old scope names rule node → ((ty : Ty) → node_formed node ty ≡ formed ty) → MadeBelow (length old) node
+    → ((n m : ℕ) → Outer n m names scope.decls → NodeIn n m node) → Adds old new scope names rule formed r
+adds old new node scope names rule formed (Ok i) e n m means f made sound = record {
+  further = (node ∷ [], e, ordered_more old new node e made);
   since = λ ts keys.
       ap (formed_since ts keys old) e ∙ node_formed_one ts keys old node ∙ f (node_type ts keys (node_types ts keys old) node)
       ∙ ap formed (sym (ap₂ (λ z k. type_at (node_types ts keys z) k) e n ∙ last_type ts keys old node));
   answers = λ ts before keys.
       means ts before keys ∙ ap Ok (sym (ap₂ (λ z k. type_at (node_types ts keys z) k) e n ∙ last_type ts keys old node));
   within = let l = ap length e in omega (arith, n, l, length-append old (node ∷ []));
+  sound = λ a b o h. subst (NodesIn a b) (sym e) (nodes_last a b old node h (sound a b o));
 }
-adds old new node scope names rule formed (Err s) e n m means f = record {
+adds old new node scope names rule formed (Err s) e n m means f made sound = record {
   further = tt;
   since = tt;
   answers = λ ts before keys.
       forgets (type_at (node_types ts keys new)) (rule (names_env_of ts before keys names scope) (node_types ts keys old)) s m;
   within = tt;
+  sound = λ n m o h. tt;
 }
 
 -- what stops before a node is added
@@ -157,6 +172,7 @@ adds_stops old new scope names rule formed s h = record {
   since = tt;
   answers = λ ts before keys. h ts before keys (node_types ts keys new);
   within = tt;
+  sound = λ n m o h. tt;
 }
 
 -- ---- productions
@@ -217,6 +233,7 @@ then_adds {A} {T} {ds} {es} {old} {mid} {scope} {names} {of} {rule} {Within} x n
       (formed_both ts keys old mid new (and_then (add env done) (λ ty. Ok (spelled_as ty (fs ++ formed ty)))) r s.further a.further
       (one_answer ts keys mid new fs formed (add env done) r (a.answers ts before keys) (at_each mid new formed ts keys r a.since)));
   within = a.within;
+  sound = λ n m o h. a.sound n m o (s.sound n m o h);
 }
 
 -- a part that stops, stops the whole
@@ -239,6 +256,7 @@ spells_stops {A} {B} {S} {T} {ds} {es} {old} {mid} {scope} {names} {of} {rule} {
       (stops (to (node_types ts keys new) (formed_since ts keys old new)) (of (node_types ts keys mid) (formed_since ts keys old mid))
       (rule (later known) env) (go (later known) env) s (h.answers ts facts before keys u));
   within = tt;
+  sound = λ n m o h. tt;
 }
 
 -- the same said in other words
@@ -258,6 +276,7 @@ spells_as {A} {T} {ds} {es} {old} {new} {scope} {names} {of} {rule} {Within} {r}
       answers_as (of (node_types ts keys new) (formed_since ts keys old new)) (whole sizing env) (rule sizing env) r (link ts facts before keys u)
       (h.answers ts facts before keys u);
   within = h.within;
+  sound = h.sound;
 }
 
 -- behind what only adds types
@@ -277,6 +296,7 @@ spells_behind {A} {T} {ds} {mid} {es} {old} {new} {scope} {names} {of} {rule} {W
       answers_as (of (node_types ts keys new) (formed_since ts keys old new)) (whole sizing env) (rule sizing env) r
       (link ts facts before keys (h.grown.under ts facts u)) (h.answers ts facts before keys u);
   within = h.within;
+  sound = h.sound;
 }
 
 -- what is refused, whatever was added
@@ -286,7 +306,7 @@ pub spells_err : {A T : Type 0} {ds es : List TypeDef} {old new : List Node} {sc
     → Answers (of (node_types ts keys new) (formed_since ts keys old new))
     (rule (later (env_of ts facts scope)) (names_env_of ts before keys names scope)) (Err s))
     → Spells ds es old new scope names of rule Within (Err s)
-spells_err of rule Within s g h = record { grown = g; further = tt; answers = h; within = tt }
+spells_err of rule Within s g h = record { grown = g; further = tt; answers = h; within = tt; sound = λ n m o z. tt }
 
 pub spells_forgets : {A T : Type 0} {ds es : List TypeDef} {old new : List Node} {scope : Scope} {names : Names} (of : List Ty → List Formed → T → A)
     (rule : Sizing → Env → Answer A) (Within : ℕ → T → Type 0) (s : Stop) → Grown ds es → s ≡ stop.Memory
@@ -298,6 +318,7 @@ spells_forgets {A} {T} {ds} {es} {old} {new} {scope} {names} of rule Within s g 
       forgets (of (node_types ts keys new) (formed_since ts keys old new))
       (rule (later (env_of ts facts scope)) (names_env_of ts before keys names scope)) s e;
   within = tt;
+  sound = λ n m o h. tt;
 }
 
 -- what is made of parts alone
@@ -316,4 +337,5 @@ spells_map {A} {B} {S} {T} {ds} {es} {old} {new} {scope} {names} {of} {rule} {Wi
       link (env_of ts facts scope) (names_env_of ts before keys names scope) (node_types ts keys new) (formed_since ts keys old new)
       (h.answers ts facts before keys u);
   within = inside (length new) h.within;
+  sound = λ n m o z. h.sound n m o z;
 }

@@ -10,7 +10,7 @@ use Rattle.expr_parts.specs.declared.scope.Scope.{Scope}
 use Rattle.expr_parts.specs.declared.scope.What.{What}
 use Rattle.expr_parts.specs.View.{DeclsWithin, KindsIn}
 use Rattle.expr_parts.specs.ViewReady.{IsReady}
-use Rattle.decl_types.proofs.ForCallers.{decls_both}
+use Rattle.expr_parts.proofs.ForCallers.{decls_both}
 use Rattle.decl_sections.specs.declared.starting.Frame.{Frame}
 use Rattle.decl_sections.specs.declared.starting.Reading.{Reading}
 use Rattle.decl_types.specs.ViewScoped.{decls_by, type_decl}

@@ -19,7 +19,9 @@ use Rattle.decl_rules.specs.Meanings.{an_object}
 use Rattle.decl_rules.specs.State.{State}
 use Rattle.decl_rules.specs.Written.{Sizing, Spelled, Part, Parted, spelled, parts_spelled, parts_as, parts_behind, field_names_rule, fields_of}
 use Rattle.decl_written.specs.ViewWritten.{HasNames}
-use Rattle.decl_sections.specs.ViewSpelled.{PartsMeant, all_parted}
+use Rattle.std.proofs.Common.{length-append}
+use Rattle.std.proofs.lemmas.List.{length-map}
+use Rattle.decl_sections.specs.ViewSpelled.{PartsMeant, all_parted, part_count}
 use Rattle.expr_parts.specs.declared.scope.Scope.{Scope}
 use Rattle.decl_sections.specs.declared.bodies.Declared.{Declared as Seen}
 use Rattle.decl_sections.specs.ViewBodies.{own_decls, NoneTwice, IsDeclared, member_entries, field_name, all_field_names, Said, said_with}
@@ -184,3 +186,11 @@ same_declared st old new scope e f d =
 
 pub named_field : (name : List ℕ) (d : Declared) → name ≡ d.text → record { name = name; shown = d.shown } ≡ field_name d
 named_field name d e = λ i. record { name = e i; shown = d.shown }
+
+-- ---- as many names as parts
+
+pub name_count : (fs : Fields) → length (all_field_names fs) ≡ part_count fs
+name_count no_fields = refl
+name_count (fields names of rest) =
+    let r = name_count rest in
+    omega (arith, r, length-append (map field_name names) (all_field_names rest), length-map names field_name)

@@ -1,7 +1,7 @@
 -- Names in types, where types of a section are names: what they are known as.
-use Rattle.std.proofs.Common.{◌≡◌, ℕ, suc, List, [], ◌∷◌, ◌++◌, length, refl, sym, ap, ap₂, subst, ◌∙◌, append_assoc}
+use Rattle.std.proofs.Common.{◌≡◌, ℕ, zero, suc, ◌+◌, ◌<◌, List, [], ◌∷◌, ◌++◌, length, refl, sym, ap, ap₂, subst, ◌∙◌, append_assoc}
 use Rattle.std.proofs.Common.{length-append, arith}
-use Rattle.std.specs.Prelude.{Bool, true, false, Option, Some, None, map, slice_get, if◌then◌else◌}
+use Rattle.std.specs.Prelude.{Bool, true, false, Option, Some, None, map, slice_get, if◌then◌else◌, replicate}
 use Rattle.std.proofs.lemmas.Option.{none-some}
 use Rattle.arc_base.specs.declared.place.Place.{Place}
 use Rattle.arc_base.specs.declared.place.Code.TheVariants.{UnknownName}
@@ -21,6 +21,8 @@ use Rattle.expr_parts.specs.declared.scope.What.{What}
 use Rattle.expr_parts.specs.declared.scope.What.TheVariants as what
 use Rattle.expr_parts.specs.View.{env_of, entry_of, entry_by}
 use Rattle.expr_parts.specs.ViewDecls.{last_of, has_name}
+use Rattle.nim_types.specs.Table.{type_at}
+use Rattle.decl_sections.specs.ViewSpelled.{Outer}
 use Rattle.decl_types.specs.declared.nodes.Names.{Names}
 use Rattle.decl_types.specs.ViewNodes.{key_at, number_in, seen_entry, seen_entries, names_env_of}
 
@@ -187,6 +189,81 @@ seen_in ts facts before keys names scope x =
     (last_is scope.decls [] scope.decls x 0 refl refl)
     (seen_all ts keys names x None 0 scope.decls unknown unknown
     (record { of_section = λ n h. absurd (none-some n h); of_others = λ h at built. refl }))
+
+-- ---- types below a number
+
+bool_at : (n i : ℕ) → i < n → type_at (replicate n type.bool) i ≡ type.bool
+bool_at zero i h = absurd (omega (arith, h))
+bool_at (suc n) zero h = refl
+bool_at (suc n) (suc i) h = bool_at n i (omega (arith, h))
+
+bool_below : (n i : ℕ) → type_at (replicate n type.bool) i ≡ type.bool → i < n
+bool_below zero i e = cc
+bool_below (suc n) zero e = omega arith
+bool_below (suc n) (suc i) e = let r = bool_below n i e in omega (arith, r)
+
+abbrev IsBool : Known → Type 0
+IsBool (a_type t) = t ≡ type.bool
+IsBool _ = Unit {0}
+
+what_bool : (n : ℕ) (x : List ℕ) (w : What) (before : Known) → ((id : ℕ) → w ≡ what.Type id → id < n)
+    → IsBool (known_next before (entry_by (replicate n type.bool) x w))
+what_bool n x (what.Variable place ty writable global) before h = tt
+what_bool n x (what.Constant ty l) before h = tt
+what_bool n x (what.Type id) before h = bool_at n id (h id refl)
+what_bool n x what.Pending before h = tt
+what_bool n x (what.Procedure p) before h = tt
+what_bool n x what.Input before h = tt
+
+-- from a number on
+abbrev AreOuter : ℕ → Names → ℕ → List Decl → Type 0
+AreOuter n names i ds =
+    (j id : ℕ) (d : Decl) → slice_get ds j ≡ Some d → number_in names (Some (i + j)) ≡ None → d.what ≡ what.Type id → id < n
+
+outer_all : (n : ℕ) (names : Names) (x : List ℕ) (o : Option ℕ) (i : ℕ) (ds : List Decl) (before : Known) → AreOuter n names i ds
+    → (number_in names o ≡ None → IsBool before) → number_in names (last_onto o x i ds) ≡ None
+    → IsBool (known_behind before x (map (entry_of (replicate n type.bool)) ds))
+outer_all n names x o i [] before h b e = b e
+outer_all n names x o i (d ∷ ds) before h b e =
+    let f = entry_of (replicate n type.bool) d in
+    let same = same_text x d.name in
+    let here : i + 0 ≡ i = omega arith in
+    let first : number_in names (Some i) ≡ None → IsBool (known_next before f) =
+    λ g. what_bool n d.name d.what before (λ id t. h 0 id d refl (ap (λ k. number_in names (Some k)) here ∙ g) t) in
+    let rest : AreOuter n names (suc i) ds =
+    λ j id c get g t. let next : i + suc j ≡ suc i + j = omega arith in h (suc j) id c get (ap (λ k. number_in names (Some k)) next ∙ g) t in
+    subst (λ (c : Bool). IsBool (known_behind (if c then known_next before f else before) x (map (entry_of (replicate n type.bool)) ds)))
+    (ap (same_text x) (sym (entry_name (replicate n type.bool) d.name d.what)))
+    (outer_all n names x (if same then Some i else o) (suc i) ds (if same then known_next before f else before) rest
+    (by_name names o i before f same first b) e)
+  where
+    by_name : (names : Names) (o : Option ℕ) (i : ℕ) (before : Known) (f : Entry) (c : Bool)
+        → (number_in names (Some i) ≡ None → IsBool (known_next before f)) → (number_in names o ≡ None → IsBool before)
+        → number_in names (if c then Some i else o) ≡ None → IsBool (if c then known_next before f else before)
+    by_name names o i before f true first b g = first g
+    by_name names o i before f false first b g = b g
+
+bool_rule : (at : Place) (built : Bool) (k : Known) (t : Ty) → IsBool k → type_rule at built k ≡ Ok t → t ≡ type.bool
+bool_rule at built (a_type u) t h e = let same : u ≡ t = cc in sym same ∙ h
+bool_rule at true unknown t h e = cc
+bool_rule at false unknown t h e = cc
+bool_rule at built (e.a_variable place of writable global) t h s = cc
+bool_rule at built (e.a_constant of value) t h s = cc
+bool_rule at built e.a_pending_type t h s = cc
+bool_rule at built (e.procedures all) t h s = cc
+bool_rule at built e.the_input t h s = cc
+
+-- a name that no type of the section has names one of these
+pub outer_number : (n m : ℕ) (facts : Facts) (names : Names) (scope : Scope) (at : Place) (x : List ℕ) (id : ℕ) → Outer n m names scope.decls
+    → number_in names (last_of scope.decls (normal x) (length scope.decls)) ≡ None
+    → named_type (env_of (replicate n type.bool) facts scope) at x ≡ Ok (type_at (replicate n type.bool) id) → id < n
+outer_number n m facts names scope at x id o none e =
+    let first : AreOuter n names 0 scope.decls =
+    λ j k d get g t. let here : j ≡ 0 + j = omega arith in o.types j k d get (ap (λ l. number_in names (Some l)) here ∙ g) t in
+    let is = outer_all n names (normal x) None 0 scope.decls unknown first (λ _. tt)
+    (ap (number_in names) (last_is scope.decls [] scope.decls (normal x) 0 refl refl) ∙ none) in
+    bool_below n id (bool_rule at (is_built_in (normal x)) (known_as (env_of (replicate n type.bool) facts scope) (normal x))
+    (type_at (replicate n type.bool) id) is e)
 
 -- a type of the section
 pub section_type : (ts : List Ty) (before : Facts) (keys : List Key) (names : Names) (scope : Scope) (at : Place) (x : List ℕ) (n : ℕ)

@@ -2,7 +2,7 @@
 use Rattle.std.proofs.Common.{◌≡◌, ℕ, zero, suc, ◌<◌, List, [], ◌∷◌, ◌++◌, length, drop, Some, refl, sym, ap, ap₂, subst, ◌∙◌}
 use Rattle.std.proofs.Common.{arith}
 use Rattle.std.proofs.Common.{append_assoc, length-append}
-use Rattle.std.specs.Prelude.{Ok, Err, Option, ◌⊎◌, map, slice_get}
+use Rattle.std.specs.Prelude.{Ok, Err, Option, ◌⊎◌, map, slice_get, Bool, true, false, if◌then◌else◌, pos}
 use Rattle.std.proofs.Common.{⊎_elim, inl, inr}
 use Rattle.std.proofs.lemmas.List.{map-append}
 use Rattle.std.proofs.lemmas.Option.{none-some, same_Some}
@@ -18,7 +18,9 @@ use Rattle.nim_types.specs.Types as type
 use Rattle.nim_types.specs.Types.{Ty, Key}
 use Rattle.nim_types.specs.Table.{facts_in}
 use Rattle.expr_rules.specs.Answers.{Answer}
-use Rattle.expr_rules.specs.Env.{Env, Entry}
+use Rattle.nim_program.specs.Program.{Number}
+use Rattle.expr_rules.specs.Constructions.{is_among}
+use Rattle.expr_rules.specs.Env.{Env, Entry, constant}
 use Rattle.expr_parts.specs.declared.scope.Decl.{Decl}
 use Rattle.expr_parts.specs.declared.scope.Scope.{Scope}
 use Rattle.expr_parts.specs.View.{Under, entry_of}
@@ -37,9 +39,8 @@ use Rattle.decl_sections.specs.ViewBodies.{Said, said_with, said_by, member_entr
 use Rattle.decl_types.specs.ViewKnown.{IsSound, key_by}
 use Rattle.decl_types.specs.ViewNodes.{key_at}
 use Rattle.decl_types.specs.ViewReading.{defined_by, all_defined}
-use Rattle.decl_sections.specs.declared.starting.TheConstants.{MOST_DEFINITIONS}
 use Rattle.decl_types.specs.ViewScoped.{own_in, decls_by, Fixed, Scoped, Reads, KnowsAll}
-use Rattle.decl_sections.specs.ViewSections.{members_in, said_in, Stage, Leads}
+use Rattle.decl_sections.specs.ViewSections.{members_in, said_in, AreConstants, Stage, Leads}
 use Rattle.decl_types.proofs.ForCallers.{of_last}
 use Rattle.decl_sections.proofs.Declaring.{members_fresh, fresh_more, names_members, names_turned}
 use Rattle.std.proofs.Common.{◌+◌, ◌-◌}
@@ -161,14 +162,14 @@ key_next (x ∷ all) zero d rest e = (ap (first_key (key_of x)) e, omega arith)
 key_next (x ∷ all) (suc i) d rest e = let r = key_next all i d rest e in (r.0, omega (arith, r.1))
 
 pub reads_more : (n : ℕ) (all : List Declaration) (d : Declaration) (rest : List Declaration) (read : List Definition) (def : Definition)
-    → Reads n MOST_DEFINITIONS (keys_of all) read → drop (length read) all ≡ d ∷ rest → key_by def ≡ key_of d → IsSound n MOST_DEFINITIONS def
-    → Reads n MOST_DEFINITIONS (keys_of all) (read ++ def ∷ [])
+    → Reads n (length all) (keys_of all) read → drop (length read) all ≡ d ∷ rest → key_by def ≡ key_of d → IsSound n (length all) def
+    → Reads n (length all) (keys_of all) (read ++ def ∷ [])
 reads_more n all d rest read def r e key sound =
     let next = key_next all (length read) d rest e in
     record {
       sound = λ i x at.
           ⊎_elim (λ (h : slice_get read i ≡ Some x). r.sound i x h)
-          (λ (h : (def ≡ x) × (i ≡ length read)). subst (IsSound n MOST_DEFINITIONS) h.0 sound)
+          (λ (h : (def ≡ x) × (i ≡ length read)). subst (IsSound n (length all)) h.0 sound)
           (get_last read def x i at);
       key = λ i x at.
           ⊎_elim (λ (h : slice_get read i ≡ Some x). r.key i x h)
@@ -182,6 +183,20 @@ defined_more : (ts : List Ty) (keys : List Key) (read : List Definition) (def : 
 defined_more ts keys read def = map-append (defined_by ts keys) read (def ∷ [])
 
 -- ---- further members
+
+constants_both : (es more : List Entry) → AreConstants es → AreConstants more → AreConstants (es ++ more)
+constants_both [] more h k = k
+constants_both (e ∷ es) more h k = (h.0, constants_both es more h.1 k)
+
+members_constant : (types : List (List ℕ)) (ty : Ty) (i : ℕ) (ms : List (List ℕ)) → AreConstants (seen_members types (member_entries ty i ms))
+members_constant types ty i [] = tt
+members_constant types ty i (x ∷ ms) = by_name (is_among x types) (members_constant types ty (suc i) ms)
+  where
+    by_name : (b : Bool) → AreConstants (seen_members types (member_entries ty (suc i) ms))
+        → AreConstants (if b then seen_members types (member_entries ty (suc i) ms)
+        else constant x ty (Number (pos i)) ∷ seen_members types (member_entries ty (suc i) ms))
+    by_name true go = go
+    by_name false go = (tt, go)
 
 pub scoped_more : (ts : List Ty) (st : State) (all : List Declaration) (old : List Decl) (known : List (Option ℕ)) (k : List KnownType)
     (members es : List Entry) (ds : List TypeDef) (scope new : Scope) (seen : List Decl) → Scoped ts st all old known k members ds scope
@@ -215,7 +230,7 @@ pub stage_next : {S R : Type 0} (ts : List Ty) (st : State) (all : List Declarat
     (d : Declaration) (rest : List Declaration) (ds mid es : List TypeDef) (scope between new : Scope) (outside start : ℕ) (seen : HashSet (List ℕ) S)
     (more : HashSet (List ℕ) R) (known now : List (Option ℕ)) (read : List Definition) (def : Definition) (ms : List (List ℕ)) (shown : List Decl)
     → Under es ts (facts_in es) → Fixed ts st all old names n → Stage ts st all old n ds scope outside start seen known read s
-    → facts_in mid ≡ facts_in ds → drop (length read) all ≡ d ∷ rest → key_by def ≡ key_of d → IsSound n MOST_DEFINITIONS def
+    → facts_in mid ≡ facts_in ds → drop (length read) all ≡ d ∷ rest → key_by def ≡ key_of d → IsSound n (length all) def
     → KnowsAll mid es scope between names known now (read ++ def ∷ []) → HasNames more (ms ++ (normal d.name.text ∷ s.names))
     → members_in st (normal d.name.text ∷ s.names) (key_of d) d.body ≡ Ok (member_entries (type.enum (key_of d)) 0 ms)
     → new.decls ≡ between.decls ++ shown → new.home ≡ between.home
@@ -232,7 +247,7 @@ stage_next ts st all old names n s d rest ds mid es scope between new outside st
     let defined : s.defined ++ one ∷ [] ≡ all_defined ts keys (read ++ def ∷ []) =
     ap₂ (λ xs x. xs ++ x ∷ []) g.defined (sym by_key) ∙ sym (defined_more ts keys read def) in
     let reads = reads_more n all d rest read def g.reads e key sound in
-    let behind = ka ts st all old n MOST_DEFINITIONS (known_of keys s.defined) s.members u f reads
+    let behind = ka ts st all old n (length all) (known_of keys s.defined) s.members u f reads
     (scoped_grown ts st all old known (known_of keys s.defined) s.members ds mid scope grown g.scoped) in
     let k : known_behind keys (all_defined ts keys (read ++ def ∷ [])) (known_of keys s.defined) ≡ known_of keys (s.defined ++ one ∷ []) =
     ap (λ ds. known_behind keys ds (known_of keys s.defined)) (sym defined) ∙ sym (of_last keys s.defined one) in
@@ -246,6 +261,8 @@ stage_next ts st all old names n s d rest ds mid es scope between new outside st
       fresh = fresh_more st (type_names all) s.members entries g.fresh (members_fresh st (normal d.name.text ∷ s.names) (key_of d) d.body entries members);
       begins = g.begins;
       starts = g.starts;
+      constants = constants_both s.members (seen_members (type_names all) entries) g.constants
+          (members_constant (type_names all) (type.enum (key_of d)) 0 ms);
     }
 
 -- the same with other names for what is equal
@@ -256,9 +273,10 @@ pub stage_as : {S : Type 0} (ts : List Ty) (st : State) (all : List Declaration)
 stage_as ts st all old n ds scope outside now start begin seen known read more s g e f h = record {
   scoped = g.scoped;
   defined = g.defined ∙ ap (all_defined ts (keys_of all)) (sym h);
-  reads = subst (Reads n MOST_DEFINITIONS (keys_of all)) (sym h) g.reads;
+  reads = subst (Reads n (length all) (keys_of all)) (sym h) g.reads;
   names = g.names;
   fresh = g.fresh;
   begins = e ∙ g.begins;
   starts = f ∙ g.starts;
+  constants = g.constants;
 }

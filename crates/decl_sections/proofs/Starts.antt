@@ -1,8 +1,9 @@
 -- What is declared before the first definition of a section is read.
-use Rattle.std.proofs.Common.{◌≡◌, ℕ, zero, suc, ◌≤◌, List, [], ◌∷◌, ◌++◌, length, drop, None, refl, sym, ap, ap₂, subst}
+use Rattle.std.proofs.Common.{◌≡◌, ℕ, zero, suc, ◌≤◌, List, [], ◌∷◌, ◌++◌, length, drop, None, Some, refl, sym, ap, ap₂, subst}
 use Rattle.std.proofs.Common.{◌∙◌, arith}
 use Rattle.std.proofs.Common.{append_assoc, append-nil, length-append}
-use Rattle.std.specs.Prelude.{Bool, true, false, ◌||◌, if◌then◌else◌, replicate}
+use Rattle.std.specs.Prelude.{Bool, true, false, ◌||◌, if◌then◌else◌, replicate, Option, slice_get}
+use Rattle.std.proofs.lemmas.Option.{none-some, same_Some}
 use Rattle.std.specs.HashSet.{HashSet, contains}
 use Rattle.std.proofs.lemmas.Cmp.{nat_list_eq_equiv}
 use Rattle.std.proofs.lemmas.List.{drop-map}
@@ -15,7 +16,7 @@ use Rattle.expr_rules.specs.Constructions.{is_among}
 use Rattle.expr_rules.specs.Env.{Env, Entry}
 use Rattle.expr_parts.specs.declared.scope.Decl.{Decl}
 use Rattle.expr_parts.specs.declared.scope.Scope.{Scope}
-use Rattle.expr_parts.specs.View.{Under, entry_of, env_of}
+use Rattle.expr_parts.specs.View.{Under, entry_of, env_of, DeclsWithin}
 use Rattle.expr_parts.specs.ViewDecls.{declares}
 use Rattle.decl_rules.specs.State.{State, is_declared}
 use Rattle.decl_rules.specs.Meanings.{keys_of}
@@ -23,12 +24,13 @@ use Rattle.decl_rules.specs.Sections.{none_read}
 use Rattle.decl_types.specs.ViewReading.{all_defined}
 use Rattle.decl_sections.specs.declared.starting.Frame.{Frame}
 use Rattle.decl_sections.specs.declared.starting.Reading.{Reading}
-use Rattle.decl_sections.specs.declared.starting.TheConstants.{MOST_DEFINITIONS}
+use Rattle.decl_types.specs.declared.known.Definition.{Definition}
+use Rattle.decl_types.specs.ViewKnown.{Holds}
 use Rattle.decl_types.specs.ViewPlaces.{Ascends, AllFar}
 use Rattle.decl_types.specs.ViewScoped.{own_in, numbers_by, decls_by, type_decl, AreKnown, Away, Reads}
 use Rattle.decl_sections.specs.ViewSections.{none_known}
 use Rattle.decl_sections.specs.ViewWalk.{own_by, Begins, Framed, StageOf}
-use Rattle.decl_types.proofs.ForCallers.{all_differ, no_key_among}
+use Rattle.decl_types.proofs.ForCallers.{all_differ, holds_none, no_key_among}
 use Rattle.decl_types.proofs.ForCallers.{all_away}
 use Rattle.decl_sections.proofs.Declaring.{declared_as, declares_both}
 
@@ -156,8 +158,8 @@ pub none_count : (all : List Declaration) → length (none_known all) ≡ length
 none_count [] = refl
 none_count (d ∷ rest) = ap suc (none_count rest)
 
-nothing_read : (n : ℕ) (keys : List Key) → Reads n MOST_DEFINITIONS keys []
-nothing_read n keys = record { sound = λ i d e. cc; key = λ i d e. cc; within = omega arith }
+nothing_read : (n m : ℕ) (keys : List Key) → Reads n m keys []
+nothing_read n m keys = record { sound = λ i d e. cc; key = λ i d e. cc; within = omega arith }
 
 own_is : (ts : List Ty) (st : State) (ds : List TypeDef) (scope : Scope) (outside : ℕ) → st.env ≡ env_of ts (facts_in ds) scope → st.outside ≡ outside
     → (x : List ℕ) → own_by outside scope.decls x ≡ own_in st x
@@ -167,8 +169,9 @@ own_is ts st ds scope outside e o x =
 
 pub begun_frame : (ts : List Ty) (st : State) (ds : List TypeDef) (old new : Scope) (outside home last : ℕ) (all : List Declaration) (frame : Frame)
     (reading : Reading) (facts : Facts) → Begins ds old new outside all frame reading → outside ≤ length old.decls → Ascends home last all
-    → AllFar home last ds → Under ds ts facts → st.env ≡ env_of ts (facts_in ds) old → st.outside ≡ outside → Framed ts st all old.decls frame
-begun_frame ts st ds old new outside home last all frame reading facts b le o far u e out = record {
+    → AllFar home last ds → DeclsWithin (length ds) old.decls → Under ds ts facts → st.env ≡ env_of ts (facts_in ds) old → st.outside ≡ outside →
+    Framed ts st all old.decls frame
+begun_frame ts st ds old new outside home last all frame reading facts b le o far w u e out = record {
   fixed = record {
     entries = ap (λ (env : Env). env.entries) e;
     outside = omega (arith, out, le);
@@ -179,6 +182,7 @@ begun_frame ts st ds old new outside home last all frame reading facts b le o fa
     none = no_key_among home last all o;
   };
   names = b.names;
+  outer = subst (λ n. DeclsWithin n old.decls) (sym b.types) w;
 }
 
 pub begun_stage : (ts : List Ty) (st : State) (ds : List TypeDef) (old new : Scope) (outside : ℕ) (all : List Declaration) (frame : Frame)
@@ -197,9 +201,22 @@ begun_stage ts st ds old new outside all frame reading b e out = record {
     knows = record { each = subst (AreKnown ts [] (keys_of all)) (sym b.known) (unknown_all ts all); only = λ key h. refl };
   };
   defined = ap (λ read. all_defined ts (keys_of all) read) (sym b.read);
-  reads = subst (Reads frame.types MOST_DEFINITIONS (keys_of all)) (sym b.read) (nothing_read frame.types (keys_of all));
+  reads = subst (Reads frame.types (length all) (keys_of all)) (sym b.read) (nothing_read frame.types (length all) (keys_of all));
   names = b.seen;
   fresh = λ x h. cc;
   begins = b.begins ∙ sym out;
   starts = b.starts;
+  constants = tt;
 }
+
+-- ---- what is known
+
+none_there : (all : List Declaration) (k id : ℕ) → slice_get (none_known all) k ≡ Some (Some id) → ⊥
+none_there [] k id e = none-some (Some id) e
+none_there (d ∷ all) zero id e = none-some id (same_Some None (Some id) e)
+none_there (d ∷ all) (suc k) id e = none_there all k id e
+
+pub begun_holds : (ds : List TypeDef) (all : List Declaration) (known : List (Option ℕ)) (read : List Definition) → known ≡ none_known all → read ≡ []
+    → Holds ds known read
+begun_holds ds all known read e f =
+    holds_none ds known read f (λ k id g. none_there all k id (ap (λ (l : List (Option ℕ)). slice_get l k) (sym e) ∙ g))

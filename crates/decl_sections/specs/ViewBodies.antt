@@ -1,12 +1,11 @@
 -- What the code's values stand for where definitions of a section are read. Contracts of the pass alone speak of it.
-use Rattle.std.specs.Prelude.{◌≡◌, ℕ, suc, pos, ◌<◌, ◌≤◌, true, false, List, [], ◌∷◌, ◌++◌, length, map, take, drop, Ok}
+use Rattle.std.specs.Prelude.{◌≡◌, ℕ, suc, pos, ◌≤◌, true, false, List, [], ◌∷◌, ◌++◌, length, map, take, drop, Ok}
 use Rattle.arc_base.specs.Refusal.{and_then}
 use Rattle.nim_tree.specs.declared.name.Declared.{Declared}
 use Rattle.nim_tree.specs.Types as body
 use Rattle.nim_tree.specs.Types.{Body, Fields, no_fields, fields}
 use Rattle.nim_types.specs.declared.types.FieldName.{FieldName}
 use Rattle.nim_types.specs.Types.{Ty}
-use Rattle.nim_types.specs.Table.{AllBelow}
 use Rattle.nim_program.specs.Program.{Number}
 use Rattle.expr_rules.specs.Env.{Env, Entry, constant}
 use Rattle.expr_rules.specs.Answers.{Answer}
@@ -19,7 +18,6 @@ use Rattle.decl_rules.specs.Sections.{is_plain_object, if_plain, texts_of}
 use Rattle.decl_rules.specs.Written.{Formed, Sizing, spelled, parts_spelled, fields_of}
 use Rattle.decl_sections.specs.declared.bodies.Declared.{Declared as Seen}
 use Rattle.decl_types.specs.declared.known.Meaning.{Meaning}
-use Rattle.decl_types.specs.declared.known.Meaning.TheVariants as M
 use Rattle.decl_types.specs.ViewKnown.{meant_of}
 
 -- ---- names
@@ -53,12 +51,6 @@ all_field_names no_fields = []
 all_field_names (fields names of rest) = map field_name names ++ all_field_names rest
 
 -- ---- bodies
-
-abbrev pub MeaningWithin : ℕ → Meaning → Type 0
-MeaningWithin n (M.Object names is) = AllBelow n is
-MeaningWithin n (M.Enum members) = Unit {0}
-MeaningWithin n (M.Distinct i) = i < n
-MeaningWithin n (M.Alias i) = i < n
 
 -- what a definition says, with what is written in it
 pub record Said : Type 0 where

@@ -12,7 +12,7 @@ use Rattle.nim_types.specs.declared.types.TypeDef.{TypeDef}
 use Rattle.nim_types.specs.Types as type
 use Rattle.nim_types.specs.Types.{Ty, Key}
 use Rattle.expr_rules.specs.Answers.{Answer}
-use Rattle.expr_rules.specs.Env.{Entry}
+use Rattle.expr_rules.specs.Env.{Entry, constant}
 use Rattle.expr_parts.specs.declared.scope.Decl.{Decl}
 use Rattle.expr_parts.specs.declared.scope.Scope.{Scope}
 use Rattle.expr_parts.specs.declared.scope.What.TheVariants as what
@@ -25,7 +25,6 @@ use Rattle.decl_sections.specs.ViewBodies.{Said, said_with}
 use Rattle.decl_types.specs.ViewKnown.{meant_by}
 use Rattle.decl_types.specs.ViewNodes.{formed_nodes}
 use Rattle.decl_types.specs.ViewReading.{all_defined}
-use Rattle.decl_sections.specs.declared.starting.TheConstants.{MOST_DEFINITIONS}
 use Rattle.decl_types.specs.ViewScoped.{Reads, Scoped, own_in}
 
 -- ---- names of types
@@ -46,16 +45,26 @@ members_in st names key _ = Ok []
 abbrev pub said_in : List Ty → List Key → Definition → Said
 said_in ts keys d = said_with (meant_by ts keys d) (formed_nodes ts keys d.nodes.items)
 
+-- members are constants
+abbrev pub IsConstant : Entry → Type 0
+IsConstant (constant name of value) = Unit {0}
+IsConstant _ = ⊥
+
+abbrev pub AreConstants : List Entry → Type 0
+AreConstants [] = Unit {0}
+AreConstants (e ∷ rest) = IsConstant e × AreConstants rest
+
 -- behind what has been read
 pub record Stage {S : Type 0} (ts : List Ty) (st : State) (all : List Declaration) (old : List Decl) (n : ℕ) (ds : List TypeDef) (scope : Scope)
     (outside start : ℕ) (seen : HashSet (List ℕ) S) (known : List (Option ℕ)) (read : List Definition) (s : Section) : Type 0 where
   pub scoped : Scoped ts st all old known (known_of (keys_of all) s.defined) s.members ds scope
   pub defined : s.defined ≡ all_defined ts (keys_of all) read
-  pub reads : Reads n MOST_DEFINITIONS (keys_of all) read
+  pub reads : Reads n (length all) (keys_of all) read
   pub names : HasNames seen s.names
   pub fresh : (x : List ℕ) → is_declared x s.members ≡ true → own_in st x ≡ false
   pub begins : outside ≡ st.outside
   pub starts : start ≡ length old
+  pub constants : AreConstants s.members
 
 -- a call is answered so, and behind it this holds
 abbrev pub Leads : {A T : Type 0} → (A → Type 0) → Answer A → Result T Stop → Type 0

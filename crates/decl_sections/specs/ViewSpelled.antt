@@ -1,7 +1,7 @@
 -- What is added where the types that are written in a section are read, and what is said of that. Contracts of the pass alone speak of it.
 use Rattle.std.specs.Prelude.{◌≡◌, ℕ, ◌<◌, List, [], ◌∷◌, ◌++◌, length, map}
 use Rattle.std.specs.Prelude.{drop}
-use Rattle.std.specs.Prelude.{Result, Ok, IfOk, OnOk}
+use Rattle.std.specs.Prelude.{Result, Ok, IfOk, OnOk, ◌+◌, Option, Some, None, slice_get}
 use Rattle.std.proofs.Common.{Vec, Global}
 use Rattle.arc_base.specs.declared.place.Place.{Place}
 use Rattle.arc_base.specs.declared.place.Stop.{Stop}
@@ -19,10 +19,15 @@ use Rattle.decl_rules.specs.Written.{Spelled, spelled_as, Formed, Sizing, later,
 use Rattle.decl_written.specs.declared.parts.Parts.{Parts}
 use Rattle.decl_types.specs.declared.nodes.Node.{Node}
 use Rattle.decl_types.specs.declared.nodes.Names.{Names}
-use Rattle.decl_types.specs.ViewNodes.{formed_onto, names_env_of, node_types}
+use Rattle.nim_tree.specs.Types.{Fields, no_fields, fields}
+use Rattle.expr_parts.specs.declared.scope.Decl.{Decl}
+use Rattle.expr_parts.specs.declared.scope.What.TheVariants as what
+use Rattle.decl_types.specs.ViewKnown.{Ordered, NodesIn}
+use Rattle.decl_types.specs.ViewNodes.{number_in, formed_onto, names_env_of, node_types}
 
+-- behind what was there, and made of what stands before
 abbrev pub Further : List Node → List Node → Type 0
-Further old new = (more : List Node) × (new ≡ old ++ more)
+Further old new = (more : List Node) × (new ≡ old ++ more) × (Ordered 0 old → Ordered 0 new)
 
 -- the array and tuple types that were added
 abbrev pub formed_since : List Ty → List Key → (old new : List Node) → List Formed
@@ -75,8 +80,22 @@ all_parted said = and_then said (λ all. Ok (meant_parts all))
 abbrev pub parts_in : List Ty → List Formed → Parts → PartsMeant
 parts_in done formed parts = parts_meant parts.names (map (type_at done) parts.types) formed
 
-abbrev pub ArePartNodes : ℕ → Parts → Type 0
-ArePartNodes n parts = AllBelow n parts.types
+abbrev pub part_count : Fields → ℕ
+part_count no_fields = 0
+part_count (fields names of rest) = length names + part_count rest
+
+-- as many as there are names
+abbrev pub ArePartNodes : ℕ → ℕ → Parts → Type 0
+ArePartNodes count n parts = AllBelow n parts.types × (length parts.types ≡ count)
+
+-- what isn't declared in a section names types below a number, and what is, definitions below another
+pub record Outer (n m : ℕ) (names : Names) (ds : List Decl) : Type 0 where
+  pub types : (i id : ℕ) (d : Decl) → slice_get ds i ≡ Some d → number_in names (Some i) ≡ None → d.what ≡ what.Type id → id < n
+  pub numbers : (o : Option ℕ) (k : ℕ) → number_in names o ≡ Some k → k < m
+
+-- so do the nodes that are added
+abbrev pub AddsSound : {T : Type 0} → (old new : List Node) → Scope → Names → Result T Stop → Type 0
+AddsSound old new scope names r = (n m : ℕ) → Outer n m names scope.decls → NodesIn n m old → OnOk r (NodesIn n m new)
 
 -- What a call adds that looks at names alone: one node, as the rule says.
 pub record Adds (old new : List Node) (scope : Scope) (names : Names) (rule : Env → List Ty → Answer Ty) (formed : Ty → List Formed)
@@ -86,6 +105,7 @@ pub record Adds (old new : List Node) (scope : Scope) (names : Names) (rule : En
   pub answers : (ts : List Ty) (before : Facts) (keys : List Key)
       → Answers (type_at (node_types ts keys new)) (rule (names_env_of ts before keys names scope) (node_types ts keys old)) r
   pub within : IfOk r (IsNode (length new))
+  pub sound : AddsSound old new scope names r
 
 -- whatever is named
 abbrev pub AddsIn : (old new : List Node) → Scope → (rule : Env → List Ty → Answer Ty) → (formed : Ty → List Formed) → Result ℕ Stop → Type 0
@@ -104,3 +124,4 @@ pub record Spells {A T : Type 0} (ds es : List TypeDef) (old new : List Node) (s
       → Answers (of (node_types ts keys new) (formed_since ts keys old new))
       (rule (later (env_of ts facts scope)) (names_env_of ts before keys names scope)) r
   pub within : IfOk r (Within (length new))
+  pub sound : AddsSound old new scope names r

@@ -7,6 +7,7 @@ use Rattle.nim_program.specs.declared.expr.Literal.TheVariants as V
 use Rattle.expr_parts.specs.declared.scope.Decl.{Decl}
 use Rattle.expr_parts.specs.declared.scope.Scope.{Scope}
 use Rattle.expr_parts.specs.declared.scope.What.TheVariants as what
+use Rattle.expr_parts.specs.View.{DeclsWithin}
 use Rattle.expr_parts.specs.ViewDecls.{declares}
 use Rattle.decl_rules.specs.State.{State}
 use Rattle.decl_rules.specs.Sections.{Section, type_names}
@@ -38,6 +39,7 @@ pub record Begins (ds : List TypeDef) (old new : Scope) (outside : ℕ) (all : L
 pub record Framed (ts : List Ty) (st : State) (all : List Declaration) (old : List Decl) (frame : Frame) : Type 0 where
   pub fixed : Fixed ts st all old frame.names frame.types
   pub names : HasNames frame.all (type_names all)
+  pub outer : DeclsWithin frame.types old
 
 -- behind what has been read
 abbrev pub StageOf : List Ty → State → List Declaration → List Decl → Frame → List TypeDef → Scope → Reading → Section → Type 0

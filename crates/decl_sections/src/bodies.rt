@@ -18,7 +18,8 @@ ghost use Rattle.decl_written.specs.ViewWritten.{HasNames};
 ghost use Rattle.decl_sections.specs.ViewSpelled.{Spells};
 ghost use Rattle.decl_sections.specs.ViewBodies.{own_decls, NoneTwice, IsDeclared, member_entries};
 ghost use Rattle.decl_sections.specs.ViewBodies.{field_name, all_field_names, meant_in};
-ghost use Rattle.decl_sections.specs.ViewBodies.{MeaningWithin, said_with, said_by};
+ghost use Rattle.decl_sections.specs.ViewBodies.{said_with, said_by};
+ghost use Rattle.decl_types.specs.ViewKnown.{MeaningWithin};
 
 use crate::spelling::{parts, spelled};
 use arc_base::{Bytes, Code, Items, Place, Stop};

@@ -1,6 +1,6 @@
 // The definitions of a section, one after another.
 ghost use Rattle.std.specs.Prelude.{◌≡◌, ◌<◌, ◌≤◌, ◌+◌, ◌++◌, ◌∷◌, [], ℕ, List, suc, pos, drop, map};
-ghost use Rattle.std.specs.Prelude.{length, Ok};
+ghost use Rattle.std.specs.Prelude.{false, length, slice_get, Some, Ok};
 ghost use Rattle.std.specs.Prelude.{if◌then◌else◌, IfOk, IfErr, OnOk};
 ghost use Rattle.std.specs.HashSet.{contains};
 ghost use Rattle.arc_base.specs.declared.place.Stop.TheVariants as Stop;
@@ -21,17 +21,19 @@ ghost use Rattle.decl_rules.specs.Sections.{declaration_rule, declarations_rule,
 ghost use Rattle.decl_written.specs.ViewWritten.{HasNames};
 ghost use Rattle.decl_types.specs.ViewNodes.{names_env_of};
 ghost use Rattle.decl_sections.specs.ViewBodies.{IsDeclared, member_entries, said_by};
-ghost use Rattle.decl_types.specs.ViewKnown.{Kept, key_by, IsSound};
-ghost use Rattle.decl_sections.specs.declared.starting.TheConstants.{MOST_DEFINITIONS};
+ghost use Rattle.decl_types.specs.ViewKnown.{Kept, key_by, InOrder, IsSound, Holds};
+ghost use Rattle.decl_types.specs.ViewKnown.{KnownBelow, HasType};
+ghost use Rattle.decl_types.specs.ViewMarks.{Stuck, is_enum};
+ghost use Rattle.decl_sections.specs.ViewSpelled.{Outer};
 ghost use Rattle.decl_sections.specs.ViewSections.{members_in, said_in, Leads};
-ghost use Rattle.decl_types.specs.ViewScoped.{KnowsAll};
+ghost use Rattle.decl_types.specs.ViewScoped.{is_unknown, KnowsAll};
 ghost use Rattle.decl_sections.specs.ViewWalk.{Framed, StageOf, member_decl};
 
 use crate::bodies::{Declared, body, check_single, new_in_section, new_members};
-use crate::starting::{Frame, MOST_DEFINITIONS, Reading};
+use crate::starting::{Frame, Reading};
 use arc_base::{Bytes, Items, Memory, Stop};
-use decl_types::knowing::{declared_type, definition_at, know_all};
-use decl_types::known::{Definition, Meaning, is_sound};
+use decl_types::knowing::{definition_at, know_all, known_type};
+use decl_types::known::{Definition, Meaning};
 use decl_types::nodes::Names;
 use expr_parts::scope::{Decl, Scope, What};
 use expr_steps::given::behind;
@@ -108,6 +110,8 @@ fn read_definition(
         scope.now)) (names_env_of ts before keys names.now scope.now) (body_of def.now.body))
         result }
     ensures key { IfOk result (λ d. key_by d ≡ key_of (declaration_of def.now)) }
+    ensures ordered { IfOk result InOrder }
+    ensures sound { (n m : ℕ) → Outer n m names.now scope.now.decls → IfOk result (IsSound n m) }
 {
     let name = Bytes::from_slice(alloc, def.name.text.as_slice())?;
     let mut nodes = Vec::new(alloc);
@@ -186,53 +190,39 @@ fn declare_members(
     Ok(())
 }
 
-// The type of an enum.
-fn enum_type(
-    types: &TypeTable,
-    known: &[Option<TypeId>],
-    number: usize,
-    definition: &Definition,
-) -> Result<TypeId, Stop>
-    ensures within { IfOk result (λ id. id < length types.now) }
-    ensures means { IfOk result (λ id. (ts : List Ty) (facts : Facts) → Under types.now ts facts
-        → type_at ts id ≡ type.enum (key_by definition.now)) }
-    ensures memory { IfErr result (λ stop. stop ≡ Stop.Memory) }
-{
-    match &definition.meaning {
-        Meaning::Enum(_) => declared_type(types, known, number, definition),
-        _ => Err(Stop::Memory),
-    }
-}
-
-// Declares the members of the enum that has been read last, whose type is known.
+// Declares the members of the definition that has been read last, where it is an enum.
 fn take_members(
     alloc: Global,
-    types: &TypeTable,
     scope: &mut Scope,
     frame: &Frame,
     reading: &Reading,
     members: &[Bytes],
 ) -> Result<(), Stop>
     requires read { 0 < length reading.now.read.items }
+    requires room { length reading.now.read.items ≤ length reading.now.known.items }
+    requires stuck { Stuck (map is_unknown reading.now.known.items) reading.now.read.items }
     ensures decls { OnOk result ((seen : List Decl) × (scope.new.decls ≡ scope.old.decls ++ seen)
-        × DeclsWithin (length types.now) seen
-        × ((ts : List Ty) (facts : Facts) (section : List (List ℕ)) (before : List Definition)
-        (d : Definition) → Under types.now ts facts → HasNames frame.now.all section
-        → reading.now.read.items ≡ before ++ d ∷ []
+        × ((n : ℕ) → KnownBelow n reading.now.known.items → DeclsWithin n seen)
+        × ((ts : List Ty) (section : List (List ℕ)) (before : List Definition) (d : Definition)
+        → HasNames frame.now.all section → reading.now.read.items ≡ before ++ d ∷ []
+        → ((id : ℕ) → slice_get reading.now.known.items (length before) ≡ Some (Some id)
+        → HasType d d.meaning (type_at ts id))
+        → (is_enum d.meaning ≡ false → members.now ≡ [])
         → map (entry_of ts) seen ≡ seen_members section
         (member_entries (type.enum (key_by d)) 0 members.now))) }
     ensures kinds { scope.new.kinds ≡ scope.old.kinds }
     ensures home { scope.new.home ≡ scope.old.home }
     ensures memory { IfErr result (λ stop. stop ≡ Stop.Memory) }
 {
-    if members.is_empty() {
-        return Ok(());
-    }
     let read = reading.read.as_slice();
     let last = read.len() - 1;
-    let definition = definition_at(read, last);
-    let ty = enum_type(types, reading.known.as_slice(), last, definition)?;
-    declare_members(alloc, scope, &frame.all, ty, members)
+    match &definition_at(read, last).meaning {
+        Meaning::Enum(_) => {
+            let ty = known_type(reading.known.as_slice(), last);
+            declare_members(alloc, scope, &frame.all, ty, members)
+        }
+        Meaning::Object { .. } | Meaning::Distinct(_) | Meaning::Alias(_) => Ok(()),
+    }
 }
 
 // ---- definitions
@@ -247,21 +237,24 @@ fn take_up(
     definition: Definition,
 ) -> Result<(), Stop>
     requires room { length reading.old.read.items < length reading.old.known.items }
+    requires holds { Holds types.old reading.old.known.items reading.old.read.items }
+    requires ordered { InOrder definition }
+    requires sound { (m : ℕ) × IsSound (length types.old) m definition }
     ensures kept { Kept types.old types.new }
     ensures ready { IsReady types.old scope.old → OnOk result (IsReady types.new scope.new) }
     ensures read { OnOk result (reading.new.read.items
         ≡ reading.old.read.items ++ definition ∷ []) }
-    ensures sound { OnOk result (IsSound frame.now.types MOST_DEFINITIONS definition) }
+    ensures holds { OnOk result (Holds types.new reading.new.known.items
+        reading.new.read.items) }
     ensures knows { OnOk result (KnowsAll types.old types.new scope.old scope.new frame.now.names
         reading.old.known.items reading.new.known.items reading.new.read.items) }
     ensures count { OnOk result (length reading.new.known.items
         ≡ length reading.old.known.items) }
+    ensures stuck { OnOk result (Stuck (map is_unknown reading.new.known.items)
+        reading.new.read.items) }
     ensures declared { reading.new.declared ≡ reading.old.declared }
     ensures memory { IfErr result (λ stop. stop ≡ Stop.Memory) }
 {
-    if !is_sound(&definition, frame.types, MOST_DEFINITIONS) {
-        return Err(Stop::Memory);
-    }
     reading.read.push(definition)?;
     know_all(
         alloc,
@@ -284,8 +277,11 @@ fn read(
 ) -> Result<(), Stop>
     requires ready { IsReady types.old scope.old }
     requires room { length reading.old.read.items < length reading.old.known.items }
+    requires holds { Holds types.old reading.old.known.items reading.old.read.items }
     ensures kept { Kept types.old types.new }
     ensures ready { OnOk result (IsReady types.new scope.new) }
+    ensures holds { OnOk result (Holds types.new reading.new.known.items
+        reading.new.read.items) }
     ensures count { OnOk result (length reading.new.read.items
         ≡ suc (length reading.old.read.items)) }
     ensures known { OnOk result (length reading.new.known.items
@@ -311,7 +307,7 @@ fn read(
         Err(stop) => return Err(stop),
     };
     take_up(alloc, types, scope, frame, reading, definition)?;
-    take_members(alloc, types, scope, frame, reading, members.as_slice())
+    take_members(alloc, scope, frame, reading, members.as_slice())
 }
 
 /// Reads all definitions.
@@ -326,8 +322,11 @@ pub fn read_all(
     requires ready { IsReady types.old scope.old }
     requires room { length reading.old.read.items + length defs.now
         ≤ length reading.old.known.items }
+    requires holds { Holds types.old reading.old.known.items reading.old.read.items }
     ensures kept { Kept types.old types.new }
     ensures ready { OnOk result (IsReady types.new scope.new) }
+    ensures holds { OnOk result (Holds types.new reading.new.known.items
+        reading.new.read.items) }
     ensures count { reading.old.read.items ≡ [] → OnOk result (length reading.new.read.items
         ≡ length defs.now) }
     ensures leads { (ts : List Ty) (st : State) (old : List Decl)

@@ -1,12 +1,12 @@
 // Types that are written in a section, as nodes.
-ghost use Rattle.std.specs.Prelude.{◌≡◌, ◌∷◌, [], List, map, codes, Ok, IfOk};
+ghost use Rattle.std.specs.Prelude.{◌≡◌, ◌<◌, ◌∷◌, [], ℕ, List, length, map, codes, Ok, IfOk, None};
 ghost use Rattle.arc_base.specs.Refusal.{Answers, and_then};
 ghost use Rattle.indent_scanner.specs.Words.{normal};
 ghost use Rattle.nim_tree.specs.Terms.{term_of};
 ghost use Rattle.nim_tree.specs.Types.{written_of, arguments_of, fields_of, named, array, tuple_of};
 ghost use Rattle.nim_types.specs.Types as type;
 ghost use Rattle.nim_types.specs.Types.{Ty, Key, Facts};
-ghost use Rattle.nim_types.specs.Table.{type_at, types_at};
+ghost use Rattle.nim_types.specs.Table.{type_at, types_at, AllBelow};
 ghost use Rattle.expr_rules.specs.Demands.{former_of};
 ghost use Rattle.expr_rules.specs.Names.{named_type, formed_by, array_by, length_limit};
 ghost use Rattle.expr_parts.specs.View.{env_of, former_in};
@@ -18,7 +18,12 @@ ghost use Rattle.decl_sections.specs.ViewSpelled.{given_in, all_given};
 ghost use Rattle.decl_sections.specs.ViewSpelled.{AreNodes, named_with};
 ghost use Rattle.decl_types.specs.ViewNodes.{names_env_of, node_type};
 ghost use Rattle.decl_types.specs.ViewNodes.{node_formed};
-ghost use Rattle.decl_sections.specs.ViewSpelled.{parts_in, all_parted, ArePartNodes};
+ghost use Rattle.decl_types.specs.declared.nodes.Names.{Names};
+ghost use Rattle.decl_types.specs.ViewNodes.{number_in};
+ghost use Rattle.decl_types.specs.ViewKnown.{MadeBelow, NodeIn};
+ghost use Rattle.expr_parts.specs.ViewDecls.{last_of};
+ghost use Rattle.decl_sections.specs.ViewSpelled.{parts_in, all_parted, part_count, ArePartNodes};
+ghost use Rattle.decl_sections.specs.ViewSpelled.{Outer};
 
 use arc_base::{Code, Items, Place, Stop};
 use decl_types::nodes::{Names, Node, add};
@@ -42,6 +47,10 @@ fn outer_node(alloc: Global, scope: &Scope, at: Place, text: &[u8]) -> Result<No
         → Answers (node_type ts keys done) (named_type (env_of ts facts scope.now) at text.now)
         result }
     ensures formed { IfOk result (λ node. (ty : Ty) → node_formed node ty ≡ []) }
+    ensures sound { (n m : ℕ) (names : Names) → Outer n m names scope.now.decls → number_in names
+        (last_of scope.now.decls (normal text.now) (length scope.now.decls)) ≡ None
+        → IfOk result (NodeIn n m) }
+    ensures made { IfOk result (λ node. (n : ℕ) → MadeBelow n node) }
 {
     match named_type(alloc, scope, at, text) {
         Ok(id) => Ok(Node::Known(id)),
@@ -63,6 +72,8 @@ fn name_node(
         → Answers (node_type ts keys done) (named_type
         (names_env_of ts before keys names.now scope.now) at text.now) result }
     ensures formed { IfOk result (λ node. (ty : Ty) → node_formed node ty ≡ []) }
+    ensures sound { (n m : ℕ) → Outer n m names.now scope.now.decls → IfOk result (NodeIn n m) }
+    ensures made { IfOk result (λ node. (n : ℕ) → MadeBelow n node) }
 {
     match names.number_of(scope, name) {
         Some(number) => Ok(Node::Named(number)),
@@ -75,6 +86,8 @@ fn sequence_node(at: Place, former: Former, given: &[u32]) -> Result<Node, Stop>
         → Answers (node_type ts keys done) (formed_by at (former_in former)
         (map (type_at done) given.now)) result }
     ensures formed { IfOk result (λ node. (ty : Ty) → node_formed node ty ≡ []) }
+    ensures sound { (n m : ℕ) → IfOk result (NodeIn n m) }
+    ensures made { IfOk result (λ node. (n : ℕ) → AllBelow n given.now → MadeBelow n node) }
 {
     match (former, given) {
         (Former::Sequences, [of]) => Ok(Node::Sequence(*of)),
@@ -96,6 +109,8 @@ fn named_node(
         (names_env_of ts before keys names.now scope.now) at text.now
         (map (type_at done) given.now)) result }
     ensures formed { IfOk result (λ node. (ty : Ty) → node_formed node ty ≡ []) }
+    ensures sound { (n m : ℕ) → Outer n m names.now scope.now.decls → IfOk result (NodeIn n m) }
+    ensures made { IfOk result (λ node. (n : ℕ) → AllBelow n given.now → MadeBelow n node) }
 {
     let name = normal_form(alloc, text)?;
     if given.is_empty() {
@@ -111,6 +126,8 @@ fn limited_node(at: Place, len: i32, of: u32) -> Result<Node, Stop>
         (λ n. Ok (type.array n (type_at done of)))) result }
     ensures formed { IfOk result (λ node. (ty : Ty)
         → node_formed node ty ≡ record { at = at; of = ty } ∷ []) }
+    ensures sound { (n m : ℕ) → IfOk result (NodeIn n m) }
+    ensures made { IfOk result (λ node. (n : ℕ) → of < n → MadeBelow n node) }
 {
     match length_limit(at, len) {
         Ok(len) => Ok(Node::Array { at, len, of }),
@@ -125,6 +142,8 @@ fn array_node(at: Place, former: Former, len: i32, of: u32) -> Result<Node, Stop
         result }
     ensures formed { IfOk result (λ node. (ty : Ty)
         → node_formed node ty ≡ record { at = at; of = ty } ∷ []) }
+    ensures sound { (n m : ℕ) → IfOk result (NodeIn n m) }
+    ensures made { IfOk result (λ node. (n : ℕ) → of < n → MadeBelow n node) }
 {
     match former {
         Former::Arrays => limited_node(at, len, of),
@@ -143,6 +162,7 @@ fn add_named(
     text: &[u8],
     given: &[u32],
 ) -> Result<u32, Stop>
+    requires { AllBelow (length out.old.items) given.now }
     ensures { Adds out.old.items out.new.items scope.now names.now (λ env done.
         named_with env at text.now (map (type_at done) given.now)) (λ _. []) result }
 {
@@ -153,6 +173,7 @@ fn add_named(
 }
 
 fn add_array(scope: &Scope, out: &mut Vec<Node>, at: Place, len: i32, of: u32) -> Result<u32, Stop>
+    requires { of < length out.old.items }
     ensures { AddsIn out.old.items out.new.items scope.now (λ env done.
         array_by at (former_of env (codes "array")) len (type_at done of))
         (λ ty. record { at = at; of = ty } ∷ []) result }
@@ -164,6 +185,7 @@ fn add_array(scope: &Scope, out: &mut Vec<Node>, at: Place, len: i32, of: u32) -
 }
 
 fn add_tuple(out: &mut Vec<Node>, at: Place, parts: Parts) -> Result<u32, Stop>
+    requires { AllBelow (length out.old.items) parts.types }
     ensures { AddsAnywhere out.old.items out.new.items (λ _ done.
         Ok (type.tuple parts.names (types_at done parts.types)))
         (λ ty. record { at = at; of = ty } ∷ []) result }
@@ -361,7 +383,7 @@ pub fn parts(
     requires ready { IsReady types.old scope.now }
     ensures { Spells types.old types.new out.old.items out.new.items scope.now names.now parts_in
         (λ sizing env. all_parted (parts_spelled sizing env [] (fields_of fields.now)))
-        ArePartNodes result }
+        (ArePartNodes (part_count (fields_of fields.now))) result }
 {
     let mut seen = HashSet::new(alloc);
     let mut parts = Parts {

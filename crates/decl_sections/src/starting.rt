@@ -23,9 +23,6 @@ use nim_types::{TypeId, TypeTable};
 use std::alloc::Global;
 use std::collections::HashSet;
 
-/// Numbers of definitions are below it.
-pub const MOST_DEFINITIONS: u32 = u32::MAX;
-
 /// What stays the same while a section is read.
 #[derive(Drop)]
 pub struct Frame {

@@ -9,7 +9,7 @@ ghost use Rattle.expr_parts.specs.View.{Under, env_of};
 ghost use Rattle.expr_parts.specs.ViewReady.{IsReady};
 ghost use Rattle.decl_rules.specs.State.{State};
 ghost use Rattle.decl_rules.specs.Sections.{section_rule, none_read};
-ghost use Rattle.decl_types.specs.ViewKnown.{Kept};
+ghost use Rattle.decl_types.specs.ViewKnown.{Kept, Holds};
 ghost use Rattle.decl_types.specs.ViewPlaces.{Ascends, AllFar};
 ghost use Rattle.decl_sections.specs.ViewWalk.{Framed, StageOf};
 
@@ -36,6 +36,7 @@ fn walk(
     requires ready { IsReady types.old scope.old }
     requires room { length reading.old.read.items + length defs.now
         ≤ length reading.old.known.items }
+    requires holds { Holds types.old reading.old.known.items reading.old.read.items }
     ensures kept { Kept types.old types.new }
     ensures ready { OnOk result (IsReady types.new scope.new) }
     ensures answers { (ts : List Ty) (st : State) (old : List Decl)

@@ -9,10 +9,11 @@ ghost use Rattle.nim_tree.specs.Types.{written_of};
 ghost use Rattle.indent_scanner.specs.Words.{normal};
 ghost use Rattle.nim_types.specs.Types.{Ty};
 ghost use Rattle.nim_types.specs.Table.{type_at, IsBelow};
-ghost use Rattle.nim_program.specs.View.{if_type, literal_of};
+ghost use Rattle.nim_program.specs.View.{expr_of, if_type, literal_of};
 ghost use Rattle.expr_rules.specs.Env.{Env, constant};
 ghost use Rattle.expr_parts.specs.declared.scope.Decl.{Decl};
 ghost use Rattle.expr_parts.specs.View.{Under, entry_of, valued_of, WhatWithin, DeclsWithin};
+ghost use Rattle.expr_constants.specs.ViewFixed.{IsFixed};
 ghost use Rattle.decl_rules.specs.Definitions.{constant_entries, fixed_value, constant_value};
 ghost use Rattle.decl_rules.specs.Definitions.{constants_by, constants_in, constants_rule};
 ghost use Rattle.decl_rules.specs.Written.{if_written};
@@ -41,7 +42,8 @@ pub struct Fixed {
 }
 
 fn fixed_value(alloc: Global, types: &TypeTable, value: Value) -> Result<Fixed, Stop>
-    requires { value.ty < length types.now }
+    requires value { value.ty < length types.now }
+    requires fixed { IsFixed types.now (λ ts. expr_of ts value.expr) }
     ensures answers { (ts : List Ty) (env : Env) → Under types.now ts env.facts
         → Answers (fixed_of ts) (fixed_value env (valued_of ts value)) result }
     ensures fits { IfOk result (FixedWithin (length types.now)) }

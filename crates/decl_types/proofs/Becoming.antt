@@ -19,7 +19,7 @@ use Rattle.decl_types.specs.declared.known.Meaning.TheVariants as M
 use Rattle.decl_types.specs.declared.known.Definition.{Definition}
 use Rattle.decl_types.specs.ViewNodes.{node_types}
 use Rattle.decl_types.specs.ViewKnown.{meant_of, typed_fields}
-use Rattle.decl_types.specs.ViewKnown.{KnownAs, Untouched, NodesIn, Declares, Kept, object_def, enum_def, distinct_def, AddsMeant, Becomes}
+use Rattle.decl_types.specs.ViewKnown.{KnownAs, Untouched, NodesIn, Declares, Kept, object_def, enum_def, distinct_def, AddsMeant, Becomes, HasType}
 use Rattle.decl_types.specs.ViewKnown.{meaning_by, key_by}
 use Rattle.decl_types.proofs.Numbering.{mapped_at, number_type, below_at}
 use Rattle.decl_types.proofs.Declaring.{FormsStay, kept_grown, kept_on, kept_declared, declared_type, declared_facts, type_front, under_declared}
@@ -200,3 +200,11 @@ becomes old mid new known ids id d g t b are a = record {
       means_as old mid new ids id d d.meaning k (node_types ts keys d.nodes.items) ts facts (g.under ts (facts_in mid) v).said t b a
       (are n m w.nodes ts (facts_in mid) v keys (meaning_by k) knows same) v u;
 }
+
+-- the type of what is added
+pub typed_as : (mid new : List TypeDef) (ids : List ℕ) (id : ℕ) (d : Definition) (m : Meaning) (ts : List Ty) (facts : Facts)
+    → AddsMeant mid new ids d m id → Under new ts facts → HasType d m (type_at ts id)
+typed_as mid new ids id d (M.Object names is) ts facts a u = declared_type mid new (object_def d names a.0) id ts facts a.4 u
+typed_as mid new ids id d (M.Enum members) ts facts a u = declared_type mid new (enum_def d members) id ts facts a u
+typed_as mid new ids id d (M.Distinct i) ts facts a u = declared_type mid new (distinct_def d a.0) id ts facts a.2 u
+typed_as mid new ids id d (M.Alias i) ts facts a u = tt

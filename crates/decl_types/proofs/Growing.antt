@@ -11,9 +11,7 @@ use Rattle.nim_types.specs.Table.{facts_in}
 use Rattle.expr_rules.specs.Env.{Entry}
 use Rattle.expr_parts.specs.declared.scope.Decl.{Decl}
 use Rattle.expr_parts.specs.declared.scope.Scope.{Scope}
-use Rattle.expr_parts.specs.declared.scope.What.TheVariants as what
 use Rattle.expr_parts.specs.View.{Under}
-use Rattle.expr_parts.specs.ViewDecls.{mended}
 use Rattle.decl_rules.specs.State.{State}
 use Rattle.decl_rules.specs.Meanings.{KnownType, as_known, known_facts, known_keys, keys_of, or_name, next_in, known_more, and_known, is_key_among}
 use Rattle.decl_rules.specs.Meanings.{is_next as is_next_key}
@@ -21,10 +19,11 @@ use Rattle.decl_types.specs.declared.known.Definition.{Definition}
 use Rattle.decl_types.specs.declared.nodes.Names.{Names}
 use Rattle.decl_types.specs.ViewKnown.{Kept, Becomes, Untouched, meaning_by, key_by}
 use Rattle.decl_types.specs.ViewReading.{defined_by, all_defined, defined_at, defined_or, is_open, IsReading}
-use Rattle.decl_types.specs.ViewScoped.{own_in, decls_by, is_unknown, Knows, Fixed, Scoped, Reads, KnowsOne, KnowsAll}
+use Rattle.decl_types.specs.ViewScoped.{own_in, numbers_by, decls_by, declaration_from, mended_from, is_unknown, Knows, Fixed, Scoped, Reads, KnowsOne}
+use Rattle.decl_types.specs.ViewScoped.{KnowsAll}
 use Rattle.decl_types.proofs.Positions.{key_among}
 use Rattle.decl_types.proofs.Meaning.{known_count, known_as, closed_key, marks_open, knows_more, facts_more, next_holds, next_new}
-use Rattle.decl_types.proofs.Scoping.{mended_types, mended_behind, keys_count}
+use Rattle.decl_types.proofs.Scoping.{mended_types, keys_count}
 
 -- ---- one
 
@@ -44,9 +43,9 @@ names_untouched ts st all old names n k known f h = f.away.untouched (meaning_by
 
 pub knows_one : (ds es : List TypeDef) (scope new : Scope) (names : Names) (known more : List (Option ℕ)) (read : List Definition) (number id : ℕ)
     (d : Definition) → slice_get read number ≡ Some d → Becomes ds es known d id → more ≡ slice_set known number (Some id)
-    → slice_get names.numbers.items number ≡ Some number → new.decls ≡ mended scope.decls (names.start + number) (what.Type id)
+    → new.decls ≡ mended_from scope.decls names.start (declaration_from 0 names.numbers.items number) id
     → new.home ≡ scope.home → KnowsOne ds es scope new names known more read number
-knows_one ds es scope new names known more read number id d at b now first decls home =
+knows_one ds es scope new names known more read number id d at b now decls home =
     λ ts st all old n m k members e u f r h get fresh.
     let keys = keys_of all in
     let same : d ≡ e = same_Some d e (sym at ∙ get) in
@@ -56,14 +55,14 @@ knows_one ds es scope new names known more read number id d at b now first decls
     let lt : number < length keys = let a = get_below read number d at in let w = r.within in omega (arith, a, w) in
     let count : length known ≡ length all = known_count ts keys k known h.knows ∙ keys_count all in
     let zero_on : number ≡ 0 + number = omega arith in
+    let start : names.start + 0 ≡ length old = omega (arith, f.start) in
     let types = decls_by (own_in st) [] known all in
     let done : Scoped ts st all old more (k ++ x ∷ []) members es new = record {
       seen = h.seen;
       decls =
-          decls ∙ ap₂ (λ (xs : List Decl) (i : ℕ). mended xs (i + number) (what.Type id)) h.decls f.start
-          ∙ mended_behind old (types ++ h.seen) number (what.Type id)
-          ∙ ap (λ l. old ++ l) (mended_types (own_in st) [] known all 0 number id h.seen count
-          (ap (λ ns. slice_get ns number) (sym f.numbers) ∙ first ∙ ap Some zero_on))
+          decls ∙ ap₂ (λ (xs : List Decl) (ns : List ℕ). mended_from xs names.start (declaration_from 0 ns number) id) h.decls f.numbers
+          ∙ ap (λ j. mended_from (old ++ (types ++ h.seen)) names.start (declaration_from 0 (numbers_by (own_in st) [] 0 all) j) id) zero_on
+          ∙ mended_types (own_in st) [] known all 0 0 names.start number id old h.seen count start
           ∙ ap (λ ks. old ++ (decls_by (own_in st) [] ks all ++ h.seen)) (sym now);
       shown = h.shown;
       home = home ∙ h.home;

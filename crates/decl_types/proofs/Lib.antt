@@ -1,5 +1,7 @@
 mod Outcomes
 mod Numbering
+mod Ordering
+mod Counting
 mod Declaring
 mod Becoming
 mod Marking

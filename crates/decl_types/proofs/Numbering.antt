@@ -36,6 +36,12 @@ below_at n [] i id h e = absurd (none-some id e)
 below_at n (j ∷ ids) zero id h e = omega (arith, h.0, same_Some j id e)
 below_at n (j ∷ ids) (suc i) id h e = below_at n ids i id h.1 e
 
+pub first_below : (n x : ℕ) (rest : List ℕ) → AllBelow n (x ∷ rest) → x < n
+first_below n x rest h = h.0
+
+pub left_behind : (n x : ℕ) (rest : List ℕ) → AllBelow n (x ∷ rest) → AllBelow n rest
+left_behind n x rest h = h.1
+
 pub mapped_all : (by : Key → Ty) (done : List Ty) (is : List ℕ) → types_at (map (renamed by) done) is ≡ renamed_all by (types_at done is)
 mapped_all by done [] = refl
 mapped_all by done (i ∷ is) = ap₂ type.types (mapped_at (renamed by) refl done i) (mapped_all by done is)
@@ -128,7 +134,3 @@ object_declared old mid new id copy name at args copies fields none given h e f 
     (subst (λ (x : List ℕ). Declares old mid (D.Object x at [] fields false none) id) e
     (subst (λ (xs : List ℕ). Declares old mid (D.Object copy at xs fields false none) id) f
     (subst (λ (fs : List FieldName). Declares old mid (D.Object copy at args fs false none) id) g h))) c
-
-pub below_last : (n i : ℕ) (is : List ℕ) → AllBelow n is → i < n → AllBelow n (is ++ i ∷ [])
-below_last n i [] h k = (k, tt)
-below_last n i (j ∷ is) h k = (h.0, below_last n i is h.1 k)

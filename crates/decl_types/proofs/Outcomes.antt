@@ -48,6 +48,9 @@ get_end : {X : Type 0} (xs : List X) (x : X) → slice_get (xs ++ x ∷ []) (len
 get_end [] x = refl
 get_end (y ∷ xs) x = get_end xs x
 
+pub last_there : {X : Type 0} (xs more : List X) (x : X) → more ≡ xs ++ x ∷ [] → slice_get more (length xs) ≡ Some x
+last_there xs more x e = ap (λ l. slice_get l (length xs)) e ∙ get_end xs x
+
 -- the last one
 pub last_is : {X : Type 0} (xs before : List X) (x y : X) → Some y ≡ slice_get xs (length xs - 1) → xs ≡ before ++ x ∷ [] → y ≡ x
 last_is xs before x y h e =

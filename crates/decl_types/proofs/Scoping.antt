@@ -1,11 +1,10 @@
 -- The declarations of a section: how they change, and what they are for the rules.
 use Rattle.std.proofs.Common.{◌≡◌, ℕ, zero, suc, ◌+◌, ◌-◌, ◌<◌, ◌≤◌, List, [], ◌∷◌, ◌++◌, length, drop, Some, None, refl}
 use Rattle.std.proofs.Common.{sym, ap, ap₂}
-use Rattle.std.proofs.Common.{◌∙◌, arith}
+use Rattle.std.proofs.Common.{◌∙◌, arith, add-one, append_assoc, length-append}
 use Rattle.std.specs.Prelude.{Bool, true, false, ◌||◌, if◌then◌else◌, Option, slice_get, slice_set, map}
-use Rattle.std.proofs.lemmas.Bool.{lt-ltb, le-ltb}
+use Rattle.std.proofs.lemmas.Bool.{lt-ltb, le-ltb, eq-eqb, ne_eqb}
 use Rattle.std.proofs.lemmas.List.{map-append}
-use Rattle.std.proofs.lemmas.Option.{none-some, same_Some}
 use Rattle.indent_scanner.specs.Words.{normal}
 use Rattle.nim_tree.specs.Types.{Declaration}
 use Rattle.nim_types.specs.declared.types.TypeDef.{TypeDef}
@@ -26,58 +25,105 @@ use Rattle.decl_rules.specs.Meanings.{KnownType, key_of, keys_of, meaning_in}
 use Rattle.decl_rules.specs.Sections.{Section, types_by, name_entry, known_entry, entry_by, names_env, env_with}
 use Rattle.decl_types.specs.declared.nodes.Names.{Names}
 use Rattle.decl_types.specs.ViewNodes.{key_at, number_in, seen_entry, seen_entries, names_env_of}
-use Rattle.decl_types.specs.ViewScoped.{own_in, numbers_by, decls_by, type_decl, AreKnown, Fixed, Scoped}
+use Rattle.decl_types.specs.ViewScoped.{own_in, numbers_by, decls_by, type_decl, declaration_from, mended_from, AreKnown, Fixed, Scoped}
 
 -- ---- a type that becomes known
-
-at_least : (own : List ℕ → Bool) (names : List (List ℕ)) (i : ℕ) (all : List Declaration) (j n : ℕ)
-    → slice_get (numbers_by own names i all) j ≡ Some n
-    → i + j ≤ n
-at_least own names i [] j n e = absurd (none-some n e)
-at_least own names i (d ∷ rest) j n e =
-    by_name (own (normal d.name.text) || is_among (normal d.name.text) names) j e (λ more j f. at_least own more (suc i) rest j n f)
-  where
-    by_name : (b : Bool) (j : ℕ)
-        → slice_get (if b then numbers_by own names (suc i) rest else i ∷ numbers_by own (normal d.name.text ∷ names) (suc i) rest) j ≡ Some n
-        → ((more : List (List ℕ)) (j : ℕ) → slice_get (numbers_by own more (suc i) rest) j ≡ Some n → suc i + j ≤ n) → i + j ≤ n
-    by_name true j e go = let r = go names j e in omega (arith, r)
-    by_name false zero e go = let r = same_Some i n e in omega (arith, r)
-    by_name false (suc j) e go = let r = go (normal d.name.text ∷ names) j e in omega (arith, r)
-
--- where no name before it counts twice, the declaration has the number of the definition
-pub mended_types : (own : List ℕ → Bool) (names : List (List ℕ)) (known : List (Option ℕ)) (all : List Declaration) (i j id : ℕ) (seen : List Decl)
-    → length known ≡ length all → slice_get (numbers_by own names i all) j ≡ Some (i + j)
-    → mended (decls_by own names known all ++ seen) j (what.Type id) ≡ decls_by own names (slice_set known j (Some id)) all ++ seen
-mended_types own names [] [] i j id seen n e = absurd (none-some (i + j) e)
-mended_types own names (o ∷ known) [] i j id seen n e = absurd (none-some (i + j) e)
-mended_types own names [] (d ∷ rest) i j id seen n e = absurd (omega (arith, n))
-mended_types own names (o ∷ known) (d ∷ rest) i j id seen n e =
-    by_name (own (normal d.name.text) || is_among (normal d.name.text) names) refl j e
-    (λ more j f. mended_types own more known rest (suc i) j id seen (omega (arith, n)) f)
-  where
-    by_name : (b : Bool) → (own (normal d.name.text) || is_among (normal d.name.text) names) ≡ b → (j : ℕ)
-        → slice_get (if b then numbers_by own names (suc i) rest else i ∷ numbers_by own (normal d.name.text ∷ names) (suc i) rest) j ≡ Some (i + j)
-        → ((more : List (List ℕ)) (j : ℕ) → slice_get (numbers_by own more (suc i) rest) j ≡ Some (suc i + j)
-        → mended (decls_by own more known rest ++ seen) j (what.Type id) ≡ decls_by own more (slice_set known j (Some id)) rest ++ seen)
-        → mended ((if b then decls_by own names known rest else type_decl (normal d.name.text) o ∷ decls_by own (normal d.name.text ∷ names) known rest)
-        ++ seen) j (what.Type id)
-        ≡ decls_by own names (slice_set (o ∷ known) j (Some id)) (d ∷ rest) ++ seen
-    by_name true t j e go = let r = at_least own names (suc i) rest j (i + j) e in absurd (omega (arith, r))
-    by_name false t zero e go =
-        ap (λ (b : Bool). (if b then decls_by own names known rest else type_decl (normal d.name.text) (Some id)
-        ∷ decls_by own (normal d.name.text ∷ names) known rest) ++ seen) (sym t)
-    by_name false t (suc j) e go =
-        let s : i + suc j ≡ suc i + j = omega arith in
-        ap (λ l. type_decl (normal d.name.text) o ∷ l)
-        (go (normal d.name.text ∷ names) j (e ∙ ap Some s))
-        ∙ ap (λ (b : Bool). (if b then decls_by own names (slice_set known j (Some id)) rest else type_decl (normal d.name.text) o
-        ∷ decls_by own (normal d.name.text ∷ names) (slice_set known j (Some id)) rest) ++ seen) (sym t)
 
 pub mended_behind : (xs ys : List Decl) (i : ℕ) (w : What) → mended (xs ++ ys) (length xs + i) w ≡ xs ++ mended ys i w
 mended_behind [] ys i w = let e : 0 + i ≡ i = omega arith in ap (λ k. mended ys k w) e
 mended_behind (x ∷ xs) ys i w =
     let e : suc (length xs) + i ≡ suc (length xs + i) = omega arith in
     ap (λ k. mended (x ∷ (xs ++ ys)) k w) e ∙ ap (λ l. x ∷ l) (mended_behind xs ys i w)
+
+mended_beyond : (ds : List Decl) (i : ℕ) (w : What) → length ds ≤ i → mended ds i w ≡ ds
+mended_beyond [] i w h = refl
+mended_beyond (d ∷ ds) zero w h = absurd (omega (arith, h))
+mended_beyond (d ∷ ds) (suc i) w h = ap (λ l. d ∷ l) (mended_beyond ds i w (omega (arith, h)))
+
+-- where there is no such declaration
+pub none_mended : (ds : List Decl) (start i id : ℕ) → length ds ≤ start + i → mended_from ds start (Some i) id ≡ ds
+none_mended ds start i id h = mended_beyond ds (start + i) (what.Type id) h
+
+pub declared_here : (i first number : ℕ) (rest : List ℕ) → first ≡ number → declaration_from i (first ∷ rest) number ≡ Some i
+declared_here i first number rest e = ap (λ (b : Bool). if b then Some i else declaration_from (suc i) rest number) (eq-eqb first number e)
+
+pub declared_later : (i first number : ℕ) (rest : List ℕ) → (first ≡ number → ⊥)
+    → declaration_from i (first ∷ rest) number ≡ declaration_from (i + 1) rest number
+declared_later i first number rest e =
+    rw add-one (ap (λ (b : Bool). if b then Some i else declaration_from (suc i) rest number) (ne_eqb first number e))
+
+-- numbers from one on have none below it
+absent : (own : List ℕ → Bool) (names : List (List ℕ)) (all : List Declaration) (i q n : ℕ) → n < i
+    → declaration_from q (numbers_by own names i all) n ≡ None
+absent own names [] i q n h = refl
+absent own names (d ∷ rest) i q n h =
+    by_name (own (normal d.name.text) || is_among (normal d.name.text) names) (λ more k. absent own more rest (suc i) k n (omega (arith, h)))
+  where
+    by_name : (b : Bool) → ((more : List (List ℕ)) (k : ℕ) → declaration_from k (numbers_by own more (suc i) rest) n ≡ None)
+        → declaration_from q (if b then numbers_by own names (suc i) rest else i ∷ numbers_by own (normal d.name.text ∷ names) (suc i) rest) n ≡ None
+    by_name true go = go names q
+    by_name false go =
+        ap (λ (b : Bool). if b then Some q else declaration_from (suc q) (numbers_by own (normal d.name.text ∷ names) (suc i) rest) n)
+        (ne_eqb i n (λ e. omega (arith, e, h)))
+        ∙ go (normal d.name.text ∷ names) (suc q)
+
+-- the type of a definition stands behind the others that are known
+pub mended_types : (own : List ℕ → Bool) (names : List (List ℕ)) (known : List (Option ℕ)) (all : List Declaration) (i q start j id : ℕ)
+    (pre seen : List Decl) → length known ≡ length all → start + q ≡ length pre
+    → mended_from (pre ++ (decls_by own names known all ++ seen)) start (declaration_from q (numbers_by own names i all) (i + j)) id
+    ≡ pre ++ (decls_by own names (slice_set known j (Some id)) all ++ seen)
+mended_types own names [] [] i q start j id pre seen n s = refl
+mended_types own names (o ∷ known) [] i q start j id pre seen n s = absurd (omega (arith, n))
+mended_types own names [] (d ∷ rest) i q start j id pre seen n s = absurd (omega (arith, n))
+mended_types own names (o ∷ known) (d ∷ rest) i q start zero id pre seen n s = by_name (own x || is_among x names)
+  where
+    x : List ℕ
+    x = normal d.name.text
+
+    by_name : (b : Bool)
+        → mended_from (pre ++ ((if b then decls_by own names known rest else type_decl x o ∷ decls_by own (x ∷ names) known rest) ++ seen)) start
+        (declaration_from q (if b then numbers_by own names (suc i) rest else i ∷ numbers_by own (x ∷ names) (suc i) rest) (i + 0)) id
+        ≡ pre ++ ((if b then decls_by own names known rest else type_decl x (Some id) ∷ decls_by own (x ∷ names) known rest) ++ seen)
+    by_name true =
+        ap (λ p. mended_from (pre ++ (decls_by own names known rest ++ seen)) start p id) (absent own names rest (suc i) q (i + 0) (omega arith))
+    by_name false =
+        let behind = decls_by own (x ∷ names) known rest ++ seen in
+        let at : start + q ≡ length pre + 0 = omega (arith, s) in
+        let same : i ≡ i + 0 = omega arith in
+        ap (λ p. mended_from (pre ++ (type_decl x o ∷ behind)) start p id) (declared_here q i (i + 0) (numbers_by own (x ∷ names) (suc i) rest) same)
+        ∙ ap (λ k. mended (pre ++ (type_decl x o ∷ behind)) k (what.Type id)) at
+        ∙ mended_behind pre (type_decl x o ∷ behind) 0 (what.Type id)
+mended_types own names (o ∷ known) (d ∷ rest) i q start (suc j) id pre seen n s =
+    by_name (own (normal d.name.text) || is_among (normal d.name.text) names)
+    (λ more k front e. mended_types own more known rest (suc i) k start j id front seen (omega (arith, n)) e)
+  where
+    x : List ℕ
+    x = normal d.name.text
+
+    by_name : (b : Bool) → ((more : List (List ℕ)) (k : ℕ) (front : List Decl) → start + k ≡ length front
+        → mended_from (front ++ (decls_by own more known rest ++ seen)) start (declaration_from k (numbers_by own more (suc i) rest) (suc i + j)) id
+        ≡ front ++ (decls_by own more (slice_set known j (Some id)) rest ++ seen))
+        → mended_from (pre ++ ((if b then decls_by own names known rest else type_decl x o ∷ decls_by own (x ∷ names) known rest) ++ seen)) start
+        (declaration_from q (if b then numbers_by own names (suc i) rest else i ∷ numbers_by own (x ∷ names) (suc i) rest) (i + suc j)) id
+        ≡ pre ++ ((if b then decls_by own names (slice_set known j (Some id)) rest
+        else type_decl x o ∷ decls_by own (x ∷ names) (slice_set known j (Some id)) rest) ++ seen)
+    by_name true go =
+        let next : i + suc j ≡ suc i + j = omega arith in
+        ap (λ k. mended_from (pre ++ (decls_by own names known rest ++ seen)) start (declaration_from q (numbers_by own names (suc i) rest) k) id) next
+        ∙ go names q pre s
+    by_name false go =
+        let here : Decl = type_decl x o in
+        let numbers = numbers_by own (x ∷ names) (suc i) rest in
+        let behind = decls_by own (x ∷ names) known rest ++ seen in
+        let next : i + suc j ≡ suc i + j = omega arith in
+        let later : declaration_from q (i ∷ numbers) (i + suc j) ≡ declaration_from (suc q) numbers (suc i + j) =
+        ap (λ (b : Bool). if b then Some q else declaration_from (suc q) numbers (i + suc j)) (ne_eqb i (i + suc j) (λ e. omega (arith, e)))
+        ∙ ap (declaration_from (suc q) numbers) next in
+        let count : start + suc q ≡ length (pre ++ here ∷ []) = omega (arith, s, length-append pre (here ∷ [])) in
+        ap (λ p. mended_from (pre ++ (here ∷ behind)) start p id) later
+        ∙ ap (λ l. mended_from l start (declaration_from (suc q) numbers (suc i + j)) id) (sym (append_assoc pre (here ∷ []) behind))
+        ∙ go (x ∷ names) (suc q) (pre ++ here ∷ []) count
+        ∙ append_assoc pre (here ∷ []) (decls_by own (x ∷ names) (slice_set known j (Some id)) rest ++ seen)
 
 -- ---- entries
 
@@ -128,7 +174,7 @@ below_start ts keys names i (d ∷ ds) more h =
     (lt-ltb i names.start lt))
     (below_start ts keys names (suc i) ds more (omega (arith, h)) ∙ ap (λ k. map (entry_of ts) ds ++ seen_entries ts keys names k more) e)
 
-number_behind : (names : Names) (j i : ℕ) → i ≡ names.start + j → number_in names (Some i) ≡ slice_get names.numbers.items j
+pub number_behind : (names : Names) (j i : ℕ) → i ≡ names.start + j → number_in names (Some i) ≡ slice_get names.numbers.items j
 number_behind names j i e =
     let le : names.start ≤ i = omega (arith, e) in
     let m : i - names.start ≡ j = omega (arith, e) in

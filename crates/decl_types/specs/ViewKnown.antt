@@ -1,8 +1,9 @@
 -- Types of a section that are known, by number, under a renaming of what they are in types. Contracts of the pass alone speak of it.
-use Rattle.std.specs.Prelude.{◌≡◌, ℕ, ◌<◌, ◌≤◌, false, List, [], ◌∷◌, ◌++◌, length, map, Option, Some, slice_get}
+use Rattle.std.specs.Prelude.{◌≡◌, ℕ, suc, ◌<◌, ◌≤◌, false, List, [], ◌∷◌, ◌++◌, length, map, Option, Some, slice_get}
 use Rattle.nim_types.specs.declared.types.FieldName.{FieldName}
 use Rattle.nim_types.specs.declared.types.TypeDef.{TypeDef}
 use Rattle.nim_types.specs.declared.types.TypeDef.TheVariants as D
+use Rattle.nim_types.specs.Types as type
 use Rattle.nim_types.specs.Types.{Ty, Key, Facts}
 use Rattle.nim_types.specs.Table.{type_at, types_in, facts_in, meant, AllBelow}
 use Rattle.expr_parts.specs.declared.scope.Kinds.{Kinds}
@@ -52,9 +53,37 @@ abbrev pub OneEach : Meaning → Type 0
 OneEach (M.Object names is) = length names ≡ length is
 OneEach _ = Unit {0}
 
+-- the nodes that a node is made of are below a number
+abbrev pub MadeBelow : ℕ → Node → Type 0
+MadeBelow n (N.Sequence i) = i < n
+MadeBelow n (N.Array at len i) = i < n
+MadeBelow n (N.Tuple at names is) = AllBelow n is
+MadeBelow n _ = Unit {0}
+
+-- each is made of nodes before it, where the first has a number
+abbrev pub Ordered : ℕ → List Node → Type 0
+Ordered i [] = Unit {0}
+Ordered i (node ∷ rest) = MadeBelow i node × Ordered (suc i) rest
+
+-- each has a node, an object one for each name
+abbrev pub MeaningWithin : ℕ → Meaning → Type 0
+MeaningWithin n (M.Object names is) = AllBelow n is × (length names ≡ length is)
+MeaningWithin n (M.Enum members) = Unit {0}
+MeaningWithin n (M.Distinct i) = i < n
+MeaningWithin n (M.Alias i) = i < n
+
+-- a definition is made of its nodes, and these of one another
+pub record InOrder (d : Definition) : Type 0 where
+  pub nodes : Ordered 0 d.nodes.items
+  pub meaning : MeaningWithin (length d.nodes.items) d.meaning
+
 pub record IsSound (types definitions : ℕ) (d : Definition) : Type 0 where
   pub nodes : NodesIn types definitions d.nodes.items
   pub fields : OneEach d.meaning
+
+-- what is known stands in a table of so many types
+abbrev pub KnownBelow : ℕ → List (Option ℕ) → Type 0
+KnownBelow n known = (k id : ℕ) → slice_get known k ≡ Some (Some id) → id < n
 
 -- ---- entries
 
@@ -88,6 +117,26 @@ meaning_by known key = or_name key (meaning_in key known)
 
 abbrev pub key_by : Definition → Key
 key_by d = record { name = d.name; at = d.at }
+
+-- the type of a definition; that of an alias may be any
+abbrev pub HasType : Definition → Meaning → Ty → Type 0
+HasType d (M.Object names is) ty = ty ≡ type.object (key_by d) type.no_types
+HasType d (M.Enum members) ty = ty ≡ type.enum (key_by d)
+HasType d (M.Distinct i) ty = ty ≡ type.distinct (key_by d)
+HasType d (M.Alias i) ty = Unit {0}
+
+-- what is known of a definition is its type
+abbrev pub Stands : List TypeDef → List (Option ℕ) → ℕ → Definition → Type 0
+Stands ds known i d =
+    (id : ℕ) → slice_get known i ≡ Some (Some id) → (ts : List Ty) (facts : Facts) → Under ds ts facts → HasType d d.meaning (type_at ts id)
+
+-- definitions that have been read, and what is known of them
+pub record Holds (ds : List TypeDef) (known : List (Option ℕ)) (read : List Definition) : Type 0 where
+  pub order : (i : ℕ) (d : Definition) → slice_get read i ≡ Some d → InOrder d
+  pub sound : (i : ℕ) (d : Definition) → slice_get read i ≡ Some d → (m : ℕ) × IsSound (length ds) m d
+  pub below : KnownBelow (length ds) known
+  pub first : (i id : ℕ) → slice_get known i ≡ Some (Some id) → i < length read
+  pub stands : (i : ℕ) (d : Definition) → slice_get read i ≡ Some d → Stands ds known i d
 
 -- what a definition says by its nodes
 abbrev pub meant_by : List Ty → List Key → Definition → Meant

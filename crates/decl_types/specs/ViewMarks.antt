@@ -1,5 +1,5 @@
 -- Which marked definitions are named in others, by number. Contracts of the pass alone speak of it.
-use Rattle.std.specs.Prelude.{◌≡◌, ◌<◌, ℕ, suc, Bool, false, not, ◌||◌, if◌then◌else◌, List, [], ◌∷◌, ◌++◌, Option, Some, None}
+use Rattle.std.specs.Prelude.{◌≡◌, ◌<◌, ℕ, suc, Bool, true, false, not, ◌||◌, if◌then◌else◌, List, [], ◌∷◌, ◌++◌, Option, Some, None}
 use Rattle.std.specs.Prelude.{slice_get, unwrap_or}
 use Rattle.nim_types.specs.Types.{Ty, Key}
 use Rattle.nim_types.specs.Table.{type_at}
@@ -50,6 +50,14 @@ is_next marks i d = if mark_at marks i then not (definition_mark marks d) else f
 abbrev pub next_from : List Bool → ℕ → List Definition → Option ℕ
 next_from marks i [] = None
 next_from marks i (d ∷ rest) = if is_next marks i d then Some i else next_from marks (suc i) rest
+
+-- each that is marked names a marked one
+abbrev pub Stuck : List Bool → List Definition → Type 0
+Stuck marks read = (i : ℕ) (d : Definition) → slice_get read i ≡ Some d → is_next marks i d ≡ false
+
+abbrev pub is_enum : Meaning → Bool
+is_enum (M.Enum members) = true
+is_enum _ = false
 
 -- those are marked that are meant
 abbrev pub Marks : List Key → List Bool → (is_meant : Key → Bool) → Type 0

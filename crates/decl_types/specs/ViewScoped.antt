@@ -1,7 +1,7 @@
 -- The scope and the table by which definitions of a section are known. Contracts of the pass alone speak of it.
 use Rattle.std.specs.Prelude.{◌≡◌, ℕ, suc, ◌<◌, ◌≤◌, Bool, true, false, ◌||◌, if◌then◌else◌, List, [], ◌∷◌, ◌++◌, length}
 use Rattle.std.specs.Prelude.{map}
-use Rattle.std.specs.Prelude.{Option, Some, None, slice_get}
+use Rattle.std.specs.Prelude.{◌+◌, nat_eq, Option, Some, None, slice_get}
 use Rattle.indent_scanner.specs.Words.{normal}
 use Rattle.nim_tree.specs.Types.{Declaration}
 use Rattle.nim_types.specs.declared.types.TypeDef.{TypeDef}
@@ -16,11 +16,10 @@ use Rattle.expr_parts.specs.declared.scope.Scope.{Scope}
 use Rattle.expr_parts.specs.declared.scope.What.{What}
 use Rattle.expr_parts.specs.declared.scope.What.TheVariants as what
 use Rattle.expr_parts.specs.View.{Under, entry_of}
+use Rattle.expr_parts.specs.ViewDecls.{mended}
 use Rattle.decl_rules.specs.State.{State, own_entries, is_declared}
 use Rattle.decl_rules.specs.Meanings.{KnownType, meaning_in, as_known, known_facts, is_key_among, known_keys, known_behind}
 use Rattle.decl_rules.specs.Meanings.{keys_of}
-use Rattle.decl_types.specs.declared.known.Meaning.{Meaning}
-use Rattle.decl_types.specs.declared.known.Meaning.TheVariants as M
 use Rattle.decl_types.specs.declared.known.Definition.{Definition}
 use Rattle.decl_types.specs.declared.nodes.Names.{Names}
 use Rattle.decl_types.specs.ViewKnown.{IsSound, key_by, Untouched}
@@ -56,6 +55,16 @@ decls_by own names (o ∷ known) (d ∷ rest) =
     then decls_by own names known rest
     else type_decl (normal d.name.text) o ∷ decls_by own (normal d.name.text ∷ names) known rest
 decls_by own names _ _ = []
+
+-- the first of the numbers that is a definition's, counted from one
+abbrev pub declaration_from : ℕ → List ℕ → ℕ → Option ℕ
+declaration_from i [] number = None
+declaration_from i (first ∷ rest) number = if nat_eq first number then Some i else declaration_from (suc i) rest number
+
+-- the type of a definition is known, where it has a declaration behind these
+abbrev pub mended_from : List Decl → ℕ → Option ℕ → ℕ → List Decl
+mended_from ds start None id = ds
+mended_from ds start (Some i) id = mended ds (start + i) (what.Type id)
 
 -- ---- keys
 
@@ -132,11 +141,3 @@ KnowsAll ds es scope new names known more read =
     (ts : List Ty) (st : State) (all : List Declaration) (old : List Decl) (n m : ℕ) (k : List KnownType) (members : List Entry)
     → Under es ts (facts_in es) → Fixed ts st all old names n → Reads n m (keys_of all) read → Scoped ts st all old known k members ds scope
     → Scoped ts st all old more (known_behind (keys_of all) (all_defined ts (keys_of all) read) k) members es new
-
--- ---- definitions
-
--- the type of an object or an enum
-abbrev pub type_by : Definition → Meaning → Ty
-type_by d (M.Object names is) = type.object (key_by d) type.no_types
-type_by d (M.Enum members) = type.enum (key_by d)
-type_by d _ = type.distinct (key_by d)

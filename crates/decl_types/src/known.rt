@@ -1,6 +1,6 @@
 // Types of a section that become known.
 ghost use Rattle.std.specs.Prelude.{◌≡◌, ◌<◌, ℕ, List, Some, map, length, slice_get, IfOk, IfErr};
-ghost use Rattle.std.specs.Prelude.{OnOk, OnErr, true};
+ghost use Rattle.std.specs.Prelude.{OnOk, OnErr};
 ghost use Rattle.arc_base.specs.declared.place.Stop.TheVariants as Stop;
 ghost use Rattle.nim_types.specs.Types as type;
 ghost use Rattle.nim_types.specs.Types.{Ty, Key, Facts};
@@ -9,7 +9,8 @@ ghost use Rattle.expr_parts.specs.View.{Under, Grown, IsBuilt};
 ghost use Rattle.decl_rules.specs.Meanings.{renamed};
 ghost use Rattle.decl_types.specs.ViewNodes.{node_type, node_types};
 ghost use Rattle.decl_types.specs.ViewKnown.{KnownAs, Untouched, NodeIn, NodesIn};
-ghost use Rattle.decl_types.specs.ViewKnown.{OneEach, IsSound, AddsMeant, Becomes, Kept};
+ghost use Rattle.decl_types.specs.ViewKnown.{MadeBelow, Ordered, MeaningWithin, InOrder, KnownBelow};
+ghost use Rattle.decl_types.specs.ViewKnown.{OneEach, IsSound, AddsMeant, Becomes, Kept, HasType};
 ghost use Rattle.decl_types.specs.ViewKnown.{Declares, object_def, enum_def, distinct_def};
 
 use crate::nodes::Node;
@@ -41,62 +42,17 @@ pub struct Definition {
     pub nodes: Vec<Node>,
 }
 
-// Whether a node names types and definitions that are below these numbers.
-fn is_node_in(node: &Node, types: u32, definitions: u32) -> bool
-    ensures { result ≡ true → NodeIn types definitions node.now }
+/// The type that stands at a number.
+pub fn id_at(ids: &[TypeId], number: usize) -> TypeId
+    requires { number < length ids.now }
+    ensures { slice_get ids.now number ≡ Some result }
 {
-    match node {
-        Node::Known(id) => *id < types,
-        Node::Named(number) => *number < definitions,
-        Node::Sequence(_) | Node::Array { .. } | Node::Tuple { .. } => true,
-    }
-}
-
-// Whether all nodes name types and definitions that are below these numbers.
-fn are_nodes_in(nodes: &[Node], types: u32, definitions: u32) -> bool
-    ensures { result ≡ true → NodesIn types definitions nodes.now }
-{
-    for node in nodes {
-        if !is_node_in(node, types, definitions) {
-            return false;
-        }
-    }
-    true
-}
-
-// Whether an object has as many types as names of fields.
-fn has_one_each(meaning: &Meaning) -> bool
-    ensures { result ≡ true → OneEach meaning.now }
-{
-    match meaning {
-        Meaning::Object { fields, types } => fields.as_slice().len() == types.as_slice().len(),
-        Meaning::Enum(_) | Meaning::Distinct(_) | Meaning::Alias(_) => true,
-    }
-}
-
-/// Whether a definition names types and definitions that are below these numbers, and has a type
-/// for each field. Those that are read do.
-pub fn is_sound(definition: &Definition, types: u32, definitions: u32) -> bool
-    ensures { result ≡ true → IsSound types definitions definition.now }
-{
-    if !has_one_each(&definition.meaning) {
-        return false;
-    }
-    are_nodes_in(definition.nodes.as_slice(), types, definitions)
-}
-
-// The type that stands at a number.
-fn number_at(ids: &[TypeId], node: u32) -> Result<TypeId, Memory>
-    ensures { IfOk result (λ id. slice_get ids.now node ≡ Some id) }
-{
-    match ids.get(node as usize) {
-        Some(id) => Ok(*id),
-        None => Err(Memory),
-    }
+    ids[number]
 }
 
 // The types that stand at numbers.
 fn numbers_at(alloc: Global, ids: &[TypeId], nodes: &[u32]) -> Result<Items<TypeId>, Memory>
+    requires { AllBelow (length ids.now) nodes.now }
     ensures within { IfOk result (λ all. (n : ℕ) → AllBelow n ids.now → AllBelow n all) }
     ensures each { IfOk result (λ all. (ts : List Ty) → map (type_at ts) all
         ≡ map (type_at (map (type_at ts) ids.now)) nodes.now) }
@@ -104,7 +60,7 @@ fn numbers_at(alloc: Global, ids: &[TypeId], nodes: &[u32]) -> Result<Items<Type
 {
     let mut all = Items::new(alloc);
     for node in nodes {
-        all.push(number_at(ids, *node)?)?;
+        all.push(id_at(ids, *node as usize))?;
     }
     Ok(all)
 }
@@ -133,12 +89,12 @@ fn field_copies(alloc: Global, fields: &[FieldName]) -> Result<Items<FieldName>,
     Ok(copies)
 }
 
-// The type of a definition that is known.
-fn known_at(known: &[Option<TypeId>], number: u32) -> Result<TypeId, Stop>
+/// The type of a definition that is known.
+pub fn known_at(known: &[Option<TypeId>], number: usize) -> Result<TypeId, Stop>
     ensures known { IfOk result (λ id. slice_get known.now number ≡ Some (Some id)) }
     ensures memory { IfErr result (λ stop. stop ≡ Stop.Memory) }
 {
-    match known.get(number as usize) {
+    match known.get(number) {
         Some(Some(id)) => Ok(*id),
         _ => Err(Stop::Memory),
     }
@@ -146,25 +102,27 @@ fn known_at(known: &[Option<TypeId>], number: u32) -> Result<TypeId, Stop>
 
 // The entries of nodes that are made of others.
 
-fn sequence_of(ids: &[TypeId], of: u32) -> Result<TypeDef, Memory>
-    ensures built { IfOk result (λ def. IsBuilt def) }
-    ensures within { IfOk result (λ def. (n : ℕ) → AllBelow n ids.now → IsWithin n def) }
-    ensures means { IfOk result (λ def. (ts : List Ty) → meant ts def
-        ≡ type.sequence (type_at (map (type_at ts) ids.now) of)) }
+fn sequence_of(ids: &[TypeId], of: u32) -> TypeDef
+    requires { of < length ids.now }
+    ensures built { IsBuilt result }
+    ensures within { (n : ℕ) → AllBelow n ids.now → IsWithin n result }
+    ensures means { (ts : List Ty) → meant ts result
+        ≡ type.sequence (type_at (map (type_at ts) ids.now) of) }
 {
-    Ok(TypeDef::Seq(number_at(ids, of)?))
+    TypeDef::Seq(id_at(ids, of as usize))
 }
 
-fn array_of(ids: &[TypeId], len: u32, of: u32) -> Result<TypeDef, Memory>
-    ensures built { IfOk result (λ def. IsBuilt def) }
-    ensures within { IfOk result (λ def. (n : ℕ) → AllBelow n ids.now → IsWithin n def) }
-    ensures means { IfOk result (λ def. (ts : List Ty) → meant ts def
-        ≡ type.array len (type_at (map (type_at ts) ids.now) of)) }
+fn array_of(ids: &[TypeId], len: u32, of: u32) -> TypeDef
+    requires { of < length ids.now }
+    ensures built { IsBuilt result }
+    ensures within { (n : ℕ) → AllBelow n ids.now → IsWithin n result }
+    ensures means { (ts : List Ty) → meant ts result
+        ≡ type.array len (type_at (map (type_at ts) ids.now) of) }
 {
-    Ok(TypeDef::Array {
+    TypeDef::Array {
         len,
-        of: number_at(ids, of)?,
-    })
+        of: id_at(ids, of as usize),
+    }
 }
 
 fn tuple_of(
@@ -173,6 +131,7 @@ fn tuple_of(
     names: &[Bytes],
     parts: &[u32],
 ) -> Result<TypeDef, Memory>
+    requires { AllBelow (length ids.now) parts.now }
     ensures built { IfOk result (λ def. IsBuilt def) }
     ensures within { IfOk result (λ def. (n : ℕ) → AllBelow n ids.now → IsWithin n def) }
     ensures means { IfOk result (λ def. (ts : List Ty) → meant ts def
@@ -184,18 +143,6 @@ fn tuple_of(
     })
 }
 
-// A number that is of the table.
-fn within(types: &TypeTable, id: TypeId) -> Result<TypeId, Stop>
-    ensures same { IfOk result (λ same. same ≡ id) }
-    ensures within { IfOk result (λ same. same < length types.now) }
-    ensures memory { IfErr result (λ stop. stop ≡ Stop.Memory) }
-{
-    if id >= types.count() {
-        return Err(Stop::Memory);
-    }
-    Ok(id)
-}
-
 // The type of a node, by those of the nodes before it.
 fn type_of(
     alloc: Global,
@@ -204,7 +151,10 @@ fn type_of(
     node: &Node,
     ids: &[TypeId],
 ) -> Result<TypeId, Stop>
-    requires { AllBelow (length types.old) ids.now }
+    requires below { AllBelow (length types.old) ids.now }
+    requires ordered { MadeBelow (length ids.now) node.now }
+    requires node { (m : ℕ) × NodeIn (length types.old) m node.now }
+    requires known { KnownBelow (length types.old) known.now }
     ensures grown { Grown types.old types.new }
     ensures within { IfOk result (λ id. id < length types.new) }
     ensures means { IfOk result (λ id. (n m : ℕ) → NodeIn n m node.now
@@ -215,10 +165,10 @@ fn type_of(
     ensures memory { IfErr result (λ stop. stop ≡ Stop.Memory) }
 {
     match node {
-        Node::Known(id) => within(types, *id),
-        Node::Named(number) => within(types, known_at(known, *number)?),
-        Node::Sequence(of) => add(types, sequence_of(ids, *of)?),
-        Node::Array { len, of, .. } => add(types, array_of(ids, *len, *of)?),
+        Node::Known(id) => Ok(*id),
+        Node::Named(number) => known_at(known, *number as usize),
+        Node::Sequence(of) => add(types, sequence_of(ids, *of)),
+        Node::Array { len, of, .. } => add(types, array_of(ids, *len, *of)),
         Node::Tuple { names, parts, .. } => {
             add(
                 types,
@@ -235,6 +185,9 @@ pub fn types_of(
     known: &[Option<TypeId>],
     nodes: &[Node],
 ) -> Result<Vec<TypeId>, Stop>
+    requires ordered { Ordered 0 nodes.now }
+    requires nodes { (m : ℕ) × NodesIn (length types.old) m nodes.now }
+    requires known { KnownBelow (length types.old) known.now }
     ensures grown { Grown types.old types.new }
     ensures within { IfOk result (λ ids. AllBelow (length types.new) ids.items) }
     ensures count { IfOk result (λ ids. length ids.items ≡ length nodes.now) }
@@ -354,14 +307,15 @@ fn add_base(
     ids: &[TypeId],
     base: u32,
 ) -> Result<TypeId, Stop>
-    requires { AllBelow (length types.old) ids.now }
+    requires below { AllBelow (length types.old) ids.now }
+    requires base { base < length ids.now }
     ensures declares { IfOk result (λ id. (base_id : ℕ) × (slice_get ids.now base ≡ Some base_id)
         × Declares types.old types.new (distinct_def definition.now base_id) id) }
     ensures grows { OnOk result (Grows types.old types.new) }
     ensures same { OnErr result (types.new ≡ types.old) }
     ensures memory { IfErr result (λ stop. stop ≡ Stop.Memory) }
 {
-    let base = number_at(ids, base)?;
+    let base = id_at(ids, base as usize);
     add_distinct(alloc, types, definition, base)
 }
 
@@ -374,7 +328,9 @@ fn add_fields(
     fields: &[FieldName],
     nodes: &[u32],
 ) -> Result<TypeId, Stop>
-    requires { AllBelow (length types.old) ids.now }
+    requires below { AllBelow (length types.old) ids.now }
+    requires nodes { AllBelow (length ids.now) nodes.now }
+    requires one_each { length fields.now ≡ length nodes.now }
     ensures declares { IfOk result (λ id. (parts : List ℕ)
         × ((ts : List Ty) → map (type_at ts) parts
         ≡ map (type_at (map (type_at ts) ids.now)) nodes.now)
@@ -385,9 +341,6 @@ fn add_fields(
     ensures memory { IfErr result (λ stop. stop ≡ Stop.Memory) }
 {
     let parts = numbers_at(alloc, ids, nodes)?;
-    if parts.as_slice().len() != fields.len() {
-        return Err(Stop::Memory);
-    }
     add_object(alloc, types, definition, fields, parts)
 }
 
@@ -398,7 +351,9 @@ fn add_meant(
     definition: &Definition,
     ids: &[TypeId],
 ) -> Result<TypeId, Stop>
-    requires { AllBelow (length types.old) ids.now }
+    requires below { AllBelow (length types.old) ids.now }
+    requires meaning { MeaningWithin (length ids.now) definition.now.meaning }
+    requires one_each { OneEach definition.now.meaning }
     ensures adds { IfOk result (λ id. AddsMeant types.old types.new ids.now definition.now
         definition.now.meaning id) }
     ensures grows { OnOk result (Grows types.old types.new) }
@@ -420,7 +375,7 @@ fn add_meant(
         ),
         Meaning::Enum(members) => add_enum(alloc, types, definition, members.as_slice()),
         Meaning::Distinct(base) => add_base(alloc, types, definition, ids, *base),
-        Meaning::Alias(of) => Ok(number_at(ids, *of)?),
+        Meaning::Alias(of) => Ok(id_at(ids, *of as usize)),
     }
 }
 
@@ -432,8 +387,13 @@ pub fn add_known(
     known: &[Option<TypeId>],
     definition: &Definition,
 ) -> Result<TypeId, Stop>
+    requires ordered { InOrder definition.now }
+    requires sound { (m : ℕ) × IsSound (length types.old) m definition.now }
+    requires known { KnownBelow (length types.old) known.now }
     ensures kept { Kept types.old types.new }
     ensures becomes { IfOk result (λ id. Becomes types.old types.new known.now definition.now id) }
+    ensures typed { IfOk result (λ id. (ts : List Ty) (facts : Facts) → Under types.new ts facts
+        → HasType definition.now definition.now.meaning (type_at ts id)) }
     ensures memory { IfErr result (λ stop. stop ≡ Stop.Memory) }
 {
     table_growth();

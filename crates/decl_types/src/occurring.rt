@@ -1,13 +1,14 @@
 // Types of the section in what definitions are made of, by marks of definitions.
-ghost use Rattle.std.specs.Prelude.{◌≡◌, ◌<◌, ℕ, List, Bool, Some, IfOk, IfSome, length, map, drop};
+ghost use Rattle.std.specs.Prelude.{◌≡◌, ◌<◌, ℕ, List, Bool, Some, None, IfOk, IfSome, length, map};
+ghost use Rattle.std.specs.Prelude.{drop, true};
 ghost use Rattle.nim_types.specs.Types.{Ty, Key};
 ghost use Rattle.decl_rules.specs.Meanings.{occurs_in_any, made_of, KnownType, next_in};
 ghost use Rattle.decl_rules.specs.Meanings.{is_next as is_next_key};
-ghost use Rattle.decl_types.specs.ViewReading.{IsReading, NoneBefore, all_defined, defined_at};
+ghost use Rattle.decl_types.specs.ViewReading.{IsReading, all_defined, defined_at};
 ghost use Rattle.decl_types.specs.ViewKnown.{IsSound, meant_by};
 ghost use Rattle.decl_types.specs.ViewMarks.{mark_at, any_at, node_mark, node_marks, meaning_mark};
 ghost use Rattle.decl_types.specs.ViewMarks.{definition_mark, is_next, next_from, Marks};
-ghost use Rattle.decl_types.specs.ViewMarks.{Apart};
+ghost use Rattle.decl_types.specs.ViewMarks.{Apart, Stuck};
 
 use crate::known::{Definition, Meaning};
 use crate::nodes::Node;
@@ -122,21 +123,20 @@ fn next_from(
     Ok(None)
 }
 
-/// The first definition that becomes known next, where those that aren't known are marked, and none
-/// of them stands before a number.
+/// The first definition that becomes known next, where those that aren't known are marked.
 pub fn next_known(
     alloc: Global,
     marks: &[bool],
     read: &[Definition],
-    from: usize,
 ) -> Result<Option<usize>, Memory>
     ensures next { IfOk result (λ next. (n m : ℕ) (ts : List Ty) (keys : List Key)
-        (known : List KnownType) → IsReading n m ts keys known marks.now read.now
-        → NoneBefore marks.now from → next_in (is_next_key keys (all_defined ts keys read.now)
+        (known : List KnownType) → IsReading n m ts keys known marks.now read.now → next_in (is_next_key keys (all_defined ts keys read.now)
         known) (all_defined ts keys read.now) ≡ defined_at ts keys read.now next) }
     ensures within { IfOk result (λ next. IfSome next (λ n. n < length read.now)) }
+    ensures marked { IfOk result (λ next. IfSome next (λ n. mark_at marks.now n ≡ true)) }
+    ensures stuck { IfOk result (λ next. next ≡ None → Stuck marks.now read.now) }
 {
-    next_from(alloc, marks, read, from)
+    next_from(alloc, marks, read, 0)
 }
 
 /// Which definitions name marked ones in what they are made of.

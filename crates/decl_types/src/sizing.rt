@@ -1,5 +1,5 @@
 // Sizes of the types of a section, and of what is written in it.
-ghost use Rattle.std.specs.Prelude.{◌≡◌, ◌<◌, ℕ, List, Some, length, map, slice_get};
+ghost use Rattle.std.specs.Prelude.{◌≡◌, ◌<◌, ℕ, List, length, map};
 ghost use Rattle.arc_base.specs.Refusal.{Answers, and_then};
 ghost use Rattle.nim_types.specs.Types.{Ty, Key, Facts};
 ghost use Rattle.nim_types.specs.Table.{type_at, AllBelow};
@@ -8,14 +8,14 @@ ghost use Rattle.decl_rules.specs.Meanings.{KnownType};
 ghost use Rattle.decl_rules.specs.Written.{within_size};
 ghost use Rattle.decl_rules.specs.Sections.{formed_within, meant_within, sizes_rule};
 ghost use Rattle.decl_types.specs.ViewNodes.{formed_nodes};
-ghost use Rattle.decl_types.specs.ViewKnown.{IsSound, KnownAs, Untouched, key_by, meant_by};
+ghost use Rattle.decl_types.specs.ViewKnown.{IsSound, InOrder, KnownBelow, KnownAs, Untouched, Stands};
+ghost use Rattle.decl_types.specs.ViewKnown.{Holds, key_by, meant_by};
 ghost use Rattle.decl_types.specs.ViewKnown.{meaning_by};
 ghost use Rattle.decl_types.specs.ViewReading.{all_defined};
 ghost use Rattle.decl_types.specs.ViewScoped.{Reads};
 ghost use Rattle.decl_types.specs.ViewSized.{node_sized, nodes_sized};
 
-use crate::knowing::declared_type;
-use crate::known::{Definition, Meaning, types_of};
+use crate::known::{Definition, Meaning, id_at, known_at, types_of};
 use crate::nodes::Node;
 use arc_base::{Code, Place, Stop};
 use expr_parts::sizes::is_sized;
@@ -50,13 +50,6 @@ fn check_node(types: &TypeTable, node: &Node, id: TypeId) -> Result<(), Stop>
     }
 }
 
-fn id_at(ids: &[TypeId], number: usize) -> TypeId
-    requires { number < length ids.now }
-    ensures { slice_get ids.now number ≡ Some result }
-{
-    ids[number]
-}
-
 // Refuses the first array or tuple type that is too large, where nodes have these types.
 fn check_nodes(types: &TypeTable, nodes: &[Node], ids: &[TypeId]) -> Result<(), Stop>
     requires formed { AllFormed types.now }
@@ -83,14 +76,16 @@ fn check_meant(
     number: usize,
     definition: &Definition,
 ) -> Result<(), Stop>
-    requires { AllFormed types.now }
+    requires formed { AllFormed types.now }
+    requires below { KnownBelow (length types.now) known.now }
+    requires stands { Stands types.now known.now number definition.now }
     ensures { (ts : List Ty) (facts : Facts) (keys : List Key) → Under types.now ts facts
         → Answers (λ _. tt) (meant_within facts (key_by definition.now)
         (meant_by ts keys definition.now)) result }
 {
     match &definition.meaning {
         Meaning::Object { .. } => {
-            let id = declared_type(types, known, number, definition)?;
+            let id = known_at(known, number)?;
             check_size(types, id, definition.at)
         }
         Meaning::Enum(_) | Meaning::Distinct(_) | Meaning::Alias(_) => Ok(()),
@@ -105,7 +100,11 @@ fn check_definition(
     number: usize,
     definition: &Definition,
 ) -> Result<(), Stop>
-    requires { AllFormed types.old }
+    requires formed { AllFormed types.old }
+    requires ordered { InOrder definition.now }
+    requires sound { (m : ℕ) × IsSound (length types.old) m definition.now }
+    requires known { KnownBelow (length types.old) known.now }
+    requires stands { Stands types.old known.now number definition.now }
     ensures grown { Grown types.old types.new }
     ensures answers { (n m : ℕ) (ts : List Ty) (facts : Facts) (keys : List Key)
         (k : List KnownType) → Under types.new ts facts → IsSound n m definition.now
@@ -128,7 +127,8 @@ pub fn check_sizes(
     known: &[Option<TypeId>],
     read: &[Definition],
 ) -> Result<(), Stop>
-    requires { AllFormed types.old }
+    requires formed { AllFormed types.old }
+    requires holds { Holds types.old known.now read.now }
     ensures grown { Grown types.old types.new }
     ensures answers { (n m : ℕ) (ts : List Ty) (facts : Facts) (keys : List Key)
         (k : List KnownType) → Under types.new ts facts → Reads n m keys read.now

@@ -1,12 +1,12 @@
 // The labels of a `case` so far.
-ghost use Rattle.std.specs.Prelude.{◌≡◌, ◌<◌, ◌++◌, [], ◌∷◌, List, length, map, OnOk};
+ghost use Rattle.std.specs.Prelude.{◌≡◌, ◌<◌, ◌++◌, [], ◌∷◌, List, length, map, int_le, true, OnOk};
 ghost use Rattle.arc_base.specs.Refusal.{Answers};
 ghost use Rattle.nim_types.specs.Types.{Ty, Facts};
-ghost use Rattle.nim_types.specs.Table.{type_at, IsBelow};
+ghost use Rattle.nim_types.specs.Table.{type_at};
 ghost use Rattle.nim_program.specs.Program.{Ordinals, Exactly};
 ghost use Rattle.nim_program.specs.View.{label_of, if_type};
 ghost use Rattle.expr_rules.specs.Choices.{new_label, covers, is_enough, cover_rule};
-ghost use Rattle.expr_parts.specs.View.{Under};
+ghost use Rattle.expr_parts.specs.View.{Under, IsProper};
 ghost use Rattle.expr_builds.specs.ViewLabels.{span_in};
 
 use crate::ranges::{Range, Span, add_range, covers, has_some, span_of};
@@ -57,6 +57,7 @@ impl Labels {
 
     /// Takes one more label, and refuses one that has a value of an earlier one.
     pub fn take(&mut self, alloc: Global, at: Place, label: &Label) -> Result<(), Stop>
+        requires { IsProper (label_of label.now) }
         ensures answers { Answers (λ _. label_of label.now) (new_label at self.old
             (label_of label.now)) result }
         ensures taken { OnOk result (self.new ≡ self.old ++ label_of label.now ∷ []) }
@@ -68,14 +69,11 @@ impl Labels {
     }
 
     fn take_range(&mut self, at: Place, low: i32, high: i32) -> Result<(), Stop>
+        requires { int_le low high ≡ true }
         ensures answers { Answers (λ _. Ordinals low high) (new_label at self.old
             (Ordinals low high)) result }
         ensures taken { OnOk result (self.new ≡ self.old ++ Ordinals low high ∷ []) }
     {
-        // No label is made of a range whose end is below its start.
-        if high < low {
-            return Err(Stop::Memory);
-        }
         let range = Range { low, high };
         if has_some(self.ranges.as_slice(), &range) {
             return Err(refusal(Code::CaseCover, at));

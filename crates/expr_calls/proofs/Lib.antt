@@ -1,4 +1,3 @@
-mod Dotted
 mod Echoing
 mod Firsts
 mod Operating

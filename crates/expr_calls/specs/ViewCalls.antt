@@ -1,25 +1,17 @@
 -- What calls by name look up and take apart. It serves the proofs of the code alone.
-use Rattle.std.specs.Prelude.{◌≡◌, ℕ, Bool, true, false, List, [], ◌∷◌, Option, Some, None, Ok}
+use Rattle.std.specs.Prelude.{◌≡◌, Bool, true, false, List, [], ◌∷◌, Option, Some, None, Ok}
 use Rattle.arc_base.specs.declared.place.Place.{Place}
 use Rattle.nim_types.specs.Types.{Ty}
-use Rattle.nim_types.specs.Table.{type_at}
-use Rattle.nim_program.specs.Program.{Expr, Args}
+use Rattle.nim_program.specs.Program.{Args}
 use Rattle.nim_program.specs.View.{expr_of}
 use Rattle.nim_program.specs.declared.expr.Expr.{Expr as RustExpr}
 use Rattle.expr_parts.specs.declared.operators.Meaning.{Meaning}
 use Rattle.expr_parts.specs.declared.operators.Meaning.TheVariants as meaning
 use Rattle.expr_rules.specs.Answers.{Answer, not_typed, Valued, Operand, value, exprs_of}
 use Rattle.expr_rules.specs.Calls.{Fit}
-use Rattle.expr_rules.specs.Constructions.{Found, field_named}
-use Rattle.expr_rules.specs.Demands.{is_a_type}
-use Rattle.expr_rules.specs.Env.{Env, Known, a_type}
-use Rattle.expr_rules.specs.Names.{all_shown, can_show, if_field}
+use Rattle.expr_rules.specs.Env.{Env}
+use Rattle.expr_rules.specs.Names.{all_shown, can_show}
 use Rattle.expr_parts.specs.View.{HasMeaning}
-
--- the type that a name is known as
-abbrev pub IsKnownType : List Ty → Known → Option ℕ → Type 0
-IsKnownType ts known (Some id) = known ≡ a_type (type_at ts id)
-IsKnownType ts known None = is_a_type known ≡ false
 
 -- ---- `$`
 
@@ -37,17 +29,6 @@ IsShown ts env o None = (rest : List Operand) → all_shown env (o ∷ rest) ≡
 abbrev pub shown_by : Place → Option (List Valued) → Answer Args
 shown_by at (Some vs) = Ok (exprs_of vs)
 shown_by at None = not_typed at
-
--- ---- fields
-
--- the field of the name that a value has
-abbrev pub field_found : Env → List ℕ → Operand → Option Found
-field_found env x (value v) = field_named env x v.of
-field_found env x o = None
-
-abbrev pub read_found : ℕ → Place → Operand → Option Found → Option Expr
-read_found n at (value v) f = if_field n at v f
-read_found n at o f = None
 
 -- ---- operators
 

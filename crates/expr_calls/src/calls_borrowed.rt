@@ -9,13 +9,13 @@ ghost use Rattle.expr_rules.specs.Calls.{arguments_for, borrowed_call, called};
 ghost use Rattle.expr_rules.specs.Env.{Parameter as Passed};
 ghost use Rattle.expr_parts.specs.View.{Under, KindsIn, OperandWithin, OperandsWithin};
 ghost use Rattle.expr_parts.specs.View.{ParametersWithin, operand_of, parameter_of};
-ghost use Rattle.expr_parts.specs.View.{procedure_of, fit, number_of, valued_of};
+ghost use Rattle.expr_parts.specs.View.{procedure_of, do_fit, fit, number_of, valued_of};
 
 use arc_base::{Code, Place, Stop};
-use expr_operations::operand_lists::{Given, taken_apart};
 use expr_parts::borrowed::{borrowed_on_one, borrowed_on_two, comparison_named};
+use expr_parts::operand_lists::{Given, taken_apart};
 use expr_parts::scope::{Kinds, Parameter, Procedure};
-use expr_parts::settle::settle;
+use expr_parts::settle::settled;
 use expr_parts::value::{Operand, Value, refusal};
 use nim_program::{Comparison, Expr};
 use nim_types::TypeTable;
@@ -35,6 +35,7 @@ fn borrowed_one(
     requires kinds { KindsIn types.now kinds }
     requires params { ParametersWithin (length types.now) params.now }
     requires operand { OperandWithin (length types.now) operand }
+    requires fits { do_fit types.now params.now (operand ∷ []) ≡ true }
     ensures answers { (ts : List Ty) (facts : Facts) → Under types.now ts facts
         → (given : List (Passed × Valued))
         → arguments_for (map (parameter_of ts) params.now) (operand_of ts operand ∷ [])
@@ -43,13 +44,10 @@ fn borrowed_one(
     ensures within { IfOk result (λ e. IsBelow (length types.now) (number_of e)) }
 {
     let Some((param, _rest)) = params.split_first() else {
-        drop(operand);
-        return Err(Stop::Memory);
+        unreachable!();
     };
-    match settle(alloc, types, param.ty, operand) {
-        Some(value) => borrowed_on_one(alloc, types, kinds, number, at, comparison, value),
-        None => Err(Stop::Memory),
-    }
+    let value = settled(alloc, types, param.ty, operand);
+    borrowed_on_one(alloc, types, kinds, number, at, comparison, value)
 }
 
 // With the first operand as a value already.
@@ -67,6 +65,7 @@ fn borrowed_behind(
     requires kinds { KindsIn types.now kinds }
     requires params { ParametersWithin (length types.now) params.now }
     requires operand { OperandWithin (length types.now) operand }
+    requires fits { do_fit types.now params.now (operand ∷ []) ≡ true }
     ensures answers { (ts : List Ty) (facts : Facts) → Under types.now ts facts
         → (p : Passed) (given : List (Passed × Valued))
         → arguments_for (map (parameter_of ts) params.now) (operand_of ts operand ∷ [])
@@ -76,17 +75,10 @@ fn borrowed_behind(
     ensures within { IfOk result (λ e. IsBelow (length types.now) (number_of e)) }
 {
     let Some((param, _rest)) = params.split_first() else {
-        drop(left);
-        drop(operand);
-        return Err(Stop::Memory);
+        unreachable!();
     };
-    match settle(alloc, types, param.ty, operand) {
-        Some(right) => borrowed_on_two(alloc, types, kinds, number, at, comparison, left, right),
-        None => {
-            drop(left);
-            Err(Stop::Memory)
-        }
-    }
+    let right = settled(alloc, types, param.ty, operand);
+    borrowed_on_two(alloc, types, kinds, number, at, comparison, left, right)
 }
 
 // A borrowed operation on two operands.
@@ -105,6 +97,7 @@ fn borrowed_two(
     requires params { ParametersWithin (length types.now) params.now }
     requires left { OperandWithin (length types.now) left }
     requires right { OperandWithin (length types.now) right }
+    requires fits { do_fit types.now params.now (left ∷ right ∷ []) ≡ true }
     ensures answers { (ts : List Ty) (facts : Facts) → Under types.now ts facts
         → (given : List (Passed × Valued))
         → arguments_for (map (parameter_of ts) params.now)
@@ -113,19 +106,12 @@ fn borrowed_two(
     ensures within { IfOk result (λ e. IsBelow (length types.now) (number_of e)) }
 {
     let Some((param, others)) = params.split_first() else {
-        drop(left);
-        drop(right);
-        return Err(Stop::Memory);
+        unreachable!();
     };
-    match settle(alloc, types, param.ty, left) {
-        Some(value) => borrowed_behind(
-            alloc, types, kinds, number, at, comparison, value, others, right,
-        ),
-        None => {
-            drop(right);
-            Err(Stop::Memory)
-        }
-    }
+    let value = settled(alloc, types, param.ty, left);
+    borrowed_behind(
+        alloc, types, kinds, number, at, comparison, value, others, right,
+    )
 }
 
 /// The borrowed operation that a call of a procedure means, where its operands fit.
@@ -142,6 +128,7 @@ pub fn call_borrowed(
     requires kinds { KindsIn types.now kinds }
     requires params { ParametersWithin (length types.now) callee.now.params }
     requires operands { OperandsWithin (length types.now) operands.items }
+    requires fits { do_fit types.now callee.now.params operands.items ≡ true }
     ensures answers { (ts : List Ty) (facts : Facts) → Under types.now ts facts
         → (given : List (Passed × Valued))
         → arguments_for (procedure_of ts callee.now).params (map (operand_of ts) operands.items)

@@ -1,5 +1,5 @@
-// Calls by a name: of a procedure that fits, else of a type, else of an operation that is built in.
-ghost use Rattle.std.specs.Prelude.{◌≡◌, ℕ, List, length, map, slice_get, Some, IfOk};
+// Calls of procedures by name.
+ghost use Rattle.std.specs.Prelude.{◌≡◌, List, length, map, slice_get, true, Some, IfOk};
 ghost use Rattle.std.specs.Option.{option_copied};
 ghost use Rattle.arc_base.specs.Refusal.{Answers};
 ghost use Rattle.nim_types.specs.Types.{Ty, Facts};
@@ -8,37 +8,33 @@ ghost use Rattle.nim_program.specs.View.{expr_of};
 ghost use Rattle.nim_program.specs.Program.{Expr as CoreExpr};
 ghost use Rattle.expr_rules.specs.Answers.{Answer, Valued, not_typed};
 ghost use Rattle.expr_rules.specs.Calls.{Fit, arguments_for, called, fitting, one_of};
-ghost use Rattle.expr_rules.specs.Env.{Known, Parameter as Passed, callable, known_as, known_next};
-ghost use Rattle.expr_rules.specs.Names.{call_named, unless_type};
+ghost use Rattle.expr_rules.specs.Env.{Parameter as Passed, callable, known_as};
 ghost use Rattle.expr_parts.specs.declared.scope.What.TheVariants as What;
 ghost use Rattle.expr_parts.specs.declared.scope.Procedure.{Procedure};
 ghost use Rattle.expr_parts.specs.View.{Under, KindsIn, OperandsWithin, WhatWithin};
 ghost use Rattle.expr_parts.specs.View.{ParametersWithin, operand_of, procedure_of, fit};
-ghost use Rattle.expr_parts.specs.View.{number_of, env_of, entry_by, Chooses, IsChosen};
-ghost use Rattle.expr_parts.specs.View.{DeclsWithin};
-ghost use Rattle.expr_calls.specs.ViewCalls.{IsKnownType};
+ghost use Rattle.expr_parts.specs.View.{number_of, env_of, Chooses, IsChosen, ChosenFits};
+ghost use Rattle.expr_parts.specs.View.{do_fit, WhatFits, DeclFits};
 ghost use Rattle.expr_parts.specs.ViewReady.{IsReady};
 
 use crate::calls_borrowed::call_borrowed;
 use arc_base::{Code, Place, Stop};
-use expr_operations::built_in_calls::operation_rule;
 use expr_parts::calls::{Chosen, call_procedure, choose};
-use expr_parts::conversions::conversion;
-use expr_parts::names::is_default;
 use expr_parts::scope::{Decl, Kinds, Procedure, Scope, What};
 use expr_parts::value::{Operand, refusal};
 use nim_program::Expr;
-use nim_types::{TypeId, TypeTable};
+use nim_types::TypeTable;
 use std::alloc::Global;
 
 /// The declaration that a call of a name, in normal form, means.
-fn chosen(types: &TypeTable, scope: &Scope, name: &[u8], operands: &[Operand]) -> Chosen
+pub fn chosen(types: &TypeTable, scope: &Scope, name: &[u8], operands: &[Operand]) -> Chosen
     requires ready { IsReady types.now scope.now }
     requires operands { OperandsWithin (length types.now) operands.now }
-    ensures { (ts : List Ty) (facts : Facts) → Under types.now ts facts
+    ensures means { (ts : List Ty) (facts : Facts) → Under types.now ts facts
         → Chooses ts scope.now.decls (map (operand_of ts) operands.now) result
         (fitting (callable (known_as (env_of ts facts scope.now) name.now))
         (map (operand_of ts) operands.now)) }
+    ensures fits { ChosenFits types.now scope.now.decls operands.now result }
 {
     choose(types, &scope.decls, name, operands)
 }
@@ -58,6 +54,7 @@ fn call_fitting(
     requires gives { IsBelow (length types.now) callee.now.gives }
     requires params { ParametersWithin (length types.now) callee.now.params }
     requires operands { OperandsWithin (length types.now) operands.items }
+    requires fits { do_fit types.now callee.now.params operands.items ≡ true }
     ensures answers { (ts : List Ty) (facts : Facts) → Under types.now ts facts
         → (given : List (Passed × Valued))
         → arguments_for (procedure_of ts callee.now).params (map (operand_of ts) operands.items)
@@ -71,7 +68,7 @@ fn call_fitting(
     call_procedure(alloc, types, number, at, callee, operands)
 }
 
-// The call of what is declared, where that is a procedure that the operands fit.
+// The call of what is declared, a procedure that the operands fit.
 fn call_declared(
     alloc: Global,
     types: &TypeTable,
@@ -85,6 +82,7 @@ fn call_declared(
     requires kinds { KindsIn types.now kinds }
     requires what { WhatWithin (length types.now) what.now }
     requires operands { OperandsWithin (length types.now) operands.items }
+    requires fits { WhatFits types.now operands.items what.now }
     ensures answers { (ts : List Ty) (facts : Facts) → Under types.now ts facts
         → (callee : Procedure) (given : List (Passed × Valued))
         → what.now ≡ What.Procedure callee
@@ -97,7 +95,7 @@ fn call_declared(
         What::Procedure(callee) => {
             call_fitting(alloc, types, kinds, number, at, name, callee, operands)
         }
-        _ => Err(Stop::Memory),
+        _ => unreachable!(),
     }
 }
 
@@ -107,8 +105,8 @@ fn decl_at(decls: &[Decl], i: usize) -> Option<&Decl>
     decls.get(i)
 }
 
-// The call of the only procedure that fits, by the number of its declaration.
-fn call_at(
+/// The call of the only procedure that fits, by the number of its declaration.
+pub fn call_at(
     alloc: Global,
     types: &TypeTable,
     scope: &Scope,
@@ -120,6 +118,7 @@ fn call_at(
 ) -> Result<Expr, Stop>
     requires ready { IsReady types.now scope.now }
     requires operands { OperandsWithin (length types.now) operands.items }
+    requires fits { DeclFits types.now operands.items (slice_get scope.now.decls i) }
     ensures answers { (ts : List Ty) (facts : Facts) → Under types.now ts facts
         → (all : List Fit) (otherwise : Answer CoreExpr)
         → IsChosen ts scope.now.decls (map (operand_of ts) operands.items) i all
@@ -137,7 +136,7 @@ fn call_at(
             &decl.what,
             operands,
         ),
-        None => Err(Stop::Memory),
+        None => unreachable!(),
     }
 }
 
@@ -161,80 +160,6 @@ pub fn one_fitting(
 {
     match chosen(types, scope, name, operands.as_slice()) {
         Chosen::Nothing => Err(refusal(Code::NotTyped, at)),
-        Chosen::One(i) => call_at(alloc, types, scope, number, at, name, i, operands),
-        Chosen::Several => Err(refusal(Code::Ambiguous, at)),
-    }
-}
-
-fn type_in(what: &What) -> Option<TypeId>
-    ensures known { (ts : List Ty) (before : Known) (x : List ℕ)
-        → IsKnownType ts (known_next before (entry_by ts x what.now)) result }
-    ensures within { (n : ℕ) → WhatWithin n what.now → IsBelow n result }
-{
-    match what {
-        What::Type(id) => Some(*id),
-        _ => None,
-    }
-}
-
-// The type that a name, in normal form, is known as.
-fn type_known(scope: &Scope, name: &[u8]) -> Option<TypeId>
-    ensures known { (ts : List Ty) (facts : Facts)
-        → IsKnownType ts (known_as (env_of ts facts scope.now) name.now) result }
-    ensures within { (n : ℕ) → DeclsWithin n scope.now.decls → IsBelow n result }
-{
-    match scope.find(name) {
-        Some(decl) => type_in(&decl.what),
-        None => None,
-    }
-}
-
-// A conversion where the name is that of a type, else an operation that is built in.
-fn unless_type(
-    alloc: Global,
-    types: &TypeTable,
-    scope: &Scope,
-    number: u32,
-    at: Place,
-    name: &[u8],
-    operands: Vec<Operand>,
-) -> Result<Expr, Stop>
-    requires ready { IsReady types.now scope.now }
-    requires operands { OperandsWithin (length types.now) operands.items }
-    ensures answers { (ts : List Ty) (facts : Facts) → Under types.now ts facts
-        → Answers (expr_of ts) (unless_type (env_of ts facts scope.now) number at
-        (known_as (env_of ts facts scope.now) name.now) name.now
-        (map (operand_of ts) operands.items)) result }
-    ensures within { IfOk result (λ e. IsBelow (length types.now) (number_of e)) }
-{
-    match type_known(scope, name) {
-        Some(ty) => conversion(alloc, types, scope.kinds.int, number, at, ty, operands),
-        None => operation_rule(alloc, types, scope.kinds, number, at, name, operands),
-    }
-}
-
-/// A call by a name, in normal form, that isn't `echo`.
-pub fn call_named(
-    alloc: Global,
-    types: &TypeTable,
-    scope: &Scope,
-    number: u32,
-    at: Place,
-    name: &[u8],
-    operands: Vec<Operand>,
-) -> Result<Expr, Stop>
-    requires ready { IsReady types.now scope.now }
-    requires operands { OperandsWithin (length types.now) operands.items }
-    ensures answers { (ts : List Ty) (facts : Facts) → Under types.now ts facts
-        → Answers (expr_of ts) (call_named (env_of ts facts scope.now) number at name.now
-        (map (operand_of ts) operands.items)) result }
-    ensures within { IfOk result (λ e. IsBelow (length types.now) (number_of e)) }
-{
-    if is_default(name) {
-        return operation_rule(alloc, types, scope.kinds, number, at, name, operands);
-    }
-    match chosen(types, scope, name, operands.as_slice()) {
-        Chosen::Nothing => unless_type(alloc, types, scope, number, at, name, operands),
         Chosen::One(i) => call_at(alloc, types, scope, number, at, name, i, operands),
         Chosen::Several => Err(refusal(Code::Ambiguous, at)),
     }

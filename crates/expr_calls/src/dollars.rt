@@ -19,10 +19,10 @@ ghost use Rattle.expr_parts.specs.ViewReady.{IsReady};
 
 use crate::calls_by_name::one_fitting;
 use arc_base::{Code, Place, Stop};
-use expr_operations::operand_lists::alone;
 use expr_parts::decls::Decls;
 use expr_parts::kinds::{entry, is_same, is_shown};
 use expr_parts::nodes::applied;
+use expr_parts::operand_lists::alone;
 use expr_parts::scope::{Parameter, Scope};
 use expr_parts::settle::place_of_no_fit;
 use expr_parts::value::{Operand, Value, refusal};

@@ -1,7 +1,6 @@
 //! Calls and operators.
 #![tactic(auto)]
 
-pub mod any_call;
 pub mod calls_borrowed;
 pub mod calls_by_name;
 pub mod dollars;

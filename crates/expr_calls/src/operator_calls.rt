@@ -14,8 +14,8 @@ ghost use Rattle.expr_parts.specs.ViewReady.{IsReady};
 
 use crate::calls_by_name::one_fitting;
 use arc_base::{Code, Place, Stop};
-use expr_operations::operand_lists::both_in;
 use expr_parts::kinds::{entry, is_same};
+use expr_parts::operand_lists::both_in;
 use expr_parts::operations::operation;
 use expr_parts::operators::{Meaning, is_comparison, meaning_on};
 use expr_parts::scope::Scope;

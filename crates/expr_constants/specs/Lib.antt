@@ -1,1 +1,2 @@
 pub mod ViewConstants
+pub mod ViewFixed

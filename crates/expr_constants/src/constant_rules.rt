@@ -1,5 +1,5 @@
 // Where a constant is needed.
-ghost use Rattle.std.specs.Prelude.{◌<◌, ℕ, ℤ, List, length};
+ghost use Rattle.std.specs.Prelude.{◌<◌, ℕ, ℤ, List, length, IfOk};
 ghost use Rattle.arc_base.specs.Refusal.{Answers, and_then};
 ghost use Rattle.nim_types.specs.Types.{Ty, Facts};
 ghost use Rattle.nim_types.specs.Table.{type_at};
@@ -7,8 +7,9 @@ ghost use Rattle.nim_program.specs.View.{expr_of, label_of, literal_of};
 ghost use Rattle.expr_rules.specs.Choices.{label_by, label_value};
 ghost use Rattle.expr_rules.specs.Constants.{constant_rule, if_comes, value_in};
 ghost use Rattle.expr_rules.specs.Names.{length_by, length_limit, length_rule};
-ghost use Rattle.expr_parts.specs.View.{Under, valued_of};
+ghost use Rattle.expr_parts.specs.View.{Under, IsProper, valued_of};
 ghost use Rattle.expr_constants.specs.ViewConstants.{evaluated_of};
+ghost use Rattle.expr_constants.specs.ViewFixed.{IsFixed};
 
 use crate::evaluated::Evaluated;
 use crate::evaluation::value_in;
@@ -36,6 +37,7 @@ pub fn constant_at(
     at: Place,
     expr: &Expr,
 ) -> Result<Literal, Stop>
+    requires { IsFixed types.now (λ ts. expr_of ts expr.now) }
     ensures { (ts : List Ty) (facts : Facts) → Under types.now ts facts
         → Answers literal_of (if_comes at (value_in facts (expr_of ts expr.now))) result }
 {
@@ -50,6 +52,7 @@ pub fn constant_at(
 ///
 /// The refusal, or want of memory.
 pub fn constant_rule(alloc: Global, types: &TypeTable, value: Value) -> Result<Literal, Stop>
+    requires { IsFixed types.now (λ ts. expr_of ts value.expr) }
     ensures { (ts : List Ty) (facts : Facts) → Under types.now ts facts
         → Answers literal_of (constant_rule facts (valued_of ts value)) result }
 {
@@ -61,7 +64,8 @@ pub fn constant_rule(alloc: Global, types: &TypeTable, value: Value) -> Result<L
 // ---- labels
 
 fn label_by(at: Place, literal: Literal) -> Result<Label, Stop>
-    ensures { Answers label_of (label_by at (literal_of literal)) result }
+    ensures answers { Answers label_of (label_by at (literal_of literal)) result }
+    ensures proper { IfOk result (λ l. IsProper (label_of l)) }
 {
     match literal {
         Literal::Ordinal(value) => Ok(Label::Ordinals {
@@ -77,9 +81,11 @@ fn label_by(at: Place, literal: Literal) -> Result<Label, Stop>
 
 // The label of a constant expression.
 fn constant_label(alloc: Global, types: &TypeTable, at: Place, expr: &Expr) -> Result<Label, Stop>
-    ensures { (ts : List Ty) (facts : Facts) → Under types.now ts facts
+    requires { IsFixed types.now (λ ts. expr_of ts expr.now) }
+    ensures answers { (ts : List Ty) (facts : Facts) → Under types.now ts facts
         → Answers label_of (and_then (if_comes at (value_in facts (expr_of ts expr.now)))
         (label_by at)) result }
+    ensures proper { IfOk result (λ l. IsProper (label_of l)) }
 {
     match constant_at(alloc, types, at, expr) {
         Ok(literal) => label_by(at, literal),
@@ -100,8 +106,10 @@ pub fn label_value(
 ) -> Result<Label, Stop>
     requires ty { ty < length types.now }
     requires value { value.ty < length types.now }
-    ensures { (ts : List Ty) (facts : Facts) → Under types.now ts facts
+    requires fixed { IsFixed types.now (λ ts. expr_of ts value.expr) }
+    ensures answers { (ts : List Ty) (facts : Facts) → Under types.now ts facts
         → Answers label_of (label_value facts (type_at ts ty) (valued_of ts value)) result }
+    ensures proper { IfOk result (λ l. IsProper (label_of l)) }
 {
     let at = value.expr.node().at;
     if !is_same(types, ty, value.ty) {
@@ -128,6 +136,7 @@ fn length_by(at: Place, literal: &Literal) -> Result<i32, Stop>
 
 // The length by a constant expression.
 fn constant_length(alloc: Global, types: &TypeTable, at: Place, expr: &Expr) -> Result<i32, Stop>
+    requires { IsFixed types.now (λ ts. expr_of ts expr.now) }
     ensures { (ts : List Ty) (facts : Facts) → Under types.now ts facts
         → Answers (λ (z : ℤ). z) (and_then (if_comes at (value_in facts (expr_of ts expr.now)))
         (length_by at)) result }
@@ -144,7 +153,8 @@ fn constant_length(alloc: Global, types: &TypeTable, at: Place, expr: &Expr) -> 
 ///
 /// The refusal, or want of memory.
 pub fn length_rule(alloc: Global, types: &TypeTable, value: Value) -> Result<i32, Stop>
-    requires { value.ty < length types.now }
+    requires value { value.ty < length types.now }
+    requires fixed { IsFixed types.now (λ ts. expr_of ts value.expr) }
     ensures { (ts : List Ty) (facts : Facts) → Under types.now ts facts
         → Answers (λ (z : ℤ). z) (length_rule facts (valued_of ts value)) result }
 {

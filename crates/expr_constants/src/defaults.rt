@@ -1,7 +1,7 @@
 // What values of types start at, and objects with values of some fields.
 ghost use Rattle.std.specs.Prelude.{◌≡◌, ◌<◌, List, length, IfOk, Some};
-ghost use Rattle.nim_types.specs.Types.{Ty, Facts};
-ghost use Rattle.nim_types.specs.Table.{type_at, facts_in, AllBelow};
+ghost use Rattle.nim_types.specs.Types.{Ty, Facts, fact_of};
+ghost use Rattle.nim_types.specs.Table.{type_at, facts_in, meant, said_of, parts_of, AllBelow};
 ghost use Rattle.nim_program.specs.Program.{Literal as Meant, PartsOf};
 ghost use Rattle.nim_program.specs.View.{literal_of, literals_of};
 ghost use Rattle.expr_rules.specs.Constants.{given_or, object_of, on_one, with_values};
@@ -9,11 +9,12 @@ ghost use Rattle.nim_program.specs.Defaults.{default_literal};
 ghost use Rattle.expr_parts.specs.View.{Under};
 ghost use Rattle.expr_constants.specs.ViewConstants.{evaluated_of, literal_or, values_of};
 ghost use Rattle.expr_constants.specs.ViewConstants.{known_parts, field_values};
+ghost use Rattle.expr_constants.specs.ViewFixed.{IsFixed};
 
 use crate::evaluated::{Evaluated, limited};
 use arc_base::Memory;
 use expr_parts::constants::copied;
-use expr_parts::kinds::known;
+use expr_parts::kinds::entry;
 use nim_program::Literal;
 use nim_types::{TypeDef, TypeId, TypeTable, declared_types};
 use plain_values::start_of;
@@ -112,6 +113,21 @@ fn known_parts(def: &TypeDef) -> &[TypeId]
     }
 }
 
+// The entry of a type of the table.
+fn known(types: &TypeTable, id: TypeId) -> &TypeDef
+    requires { IsFixed types.now (λ ts. type_at ts id) }
+    ensures means { (ts : List Ty) (facts : Facts) → Under types.now ts facts
+        → type_at ts id ≡ meant ts result.now }
+    ensures says { (ts : List Ty) (facts : Facts) → Under types.now ts facts
+        → fact_of facts (meant ts result.now) ≡ said_of ts result.now }
+    ensures parts { AllBelow (length types.now) (parts_of result.now) }
+{
+    if id >= types.count() {
+        unreachable!();
+    }
+    entry(types, id)
+}
+
 // An object with these values of fields.
 fn object_with(
     alloc: Global,
@@ -120,11 +136,12 @@ fn object_with(
     fields: &[u32],
     values: &[Literal],
 ) -> Result<Evaluated<Literal>, Memory>
+    requires { IsFixed types.now (λ ts. type_at ts ty) }
     ensures { IfOk result (λ e. (ts : List Ty) (facts : Facts) → Under types.now ts facts
         → evaluated_of literal_of e ≡ object_of facts (Some (type_at ts ty))
         (with_values fields.now (literals_of values.now))) }
 {
-    let def = known(types, ty)?;
+    let def = known(types, ty);
     let all = field_literals(alloc, types, known_parts(def), fields, values)?;
     Ok(limited(parts_with(all)))
 }
@@ -137,6 +154,7 @@ pub fn construct(
     fields: &[u32],
     values: &Evaluated<Vec<Literal>>,
 ) -> Result<Evaluated<Literal>, Memory>
+    requires { IsFixed types.now (λ ts. type_at ts ty) }
     ensures { IfOk result (λ e. (ts : List Ty) (facts : Facts) → Under types.now ts facts
         → evaluated_of literal_of e
         ≡ on_one (λ ls. object_of facts (Some (type_at ts ty)) (with_values fields.now ls))

@@ -1,5 +1,5 @@
 // The value of an expression that is known before any run.
-ghost use Rattle.std.specs.Prelude.{◌≡◌, List, IfOk, Option, Some};
+ghost use Rattle.std.specs.Prelude.{◌≡◌, ◌∷◌, [], List, IfOk, Option, Some};
 ghost use Rattle.nim_types.specs.Types.{Ty, Facts};
 ghost use Rattle.nim_types.specs.Table.{type_at};
 ghost use Rattle.nim_program.specs.Program.{Building, Doing, types_in};
@@ -9,6 +9,7 @@ ghost use Rattle.expr_rules.specs.Constants.{index_number, number_in, of_literal
 ghost use Rattle.expr_rules.specs.Constants.{value_in, value_at, values_in};
 ghost use Rattle.expr_parts.specs.View.{Under};
 ghost use Rattle.expr_constants.specs.ViewConstants.{evaluated_of, values_of, is_text, value_of};
+ghost use Rattle.expr_constants.specs.ViewFixed.{IsFixed};
 
 use crate::defaults::construct;
 use crate::evaluated::{
@@ -50,6 +51,8 @@ fn operate(
     operation: Operation,
     values: Evaluated<Vec<Literal>>,
 ) -> Result<Evaluated<Literal>, Memory>
+    requires ty { IsFixed types.now (λ ts. if_type ts ty) }
+    requires first { IsFixed types.now (λ ts. if_type ts first) }
     ensures { IfOk result (λ e. (ts : List Ty) (facts : Facts) → Under types.now ts facts
         → (tys : List (Option Ty)) → first_type tys ≡ if_type ts first
         → evaluated_of literal_of e ≡ if_computed (computing facts (if_type ts ty) tys operation)
@@ -59,7 +62,7 @@ fn operate(
         Operation::Unary(operator) => Ok(unary(operator, &only(values))),
         Operation::Binary(operator) => Ok(binary(operator, &two_of(values))),
         Operation::Compare(comparison) => Ok(compare(comparison, &two_of(values))),
-        Operation::Convert => convert(types, ty, only(values)),
+        Operation::Convert => Ok(convert(types, ty, only(values))),
         Operation::Join => join(alloc, &two_of(values)),
         Operation::Show => show(alloc, types, first, only(values)),
         Operation::Measure(of) => measure(of, &only(values)),
@@ -104,6 +107,7 @@ fn first_type(operands: &[Operand]) -> Option<TypeId>
 /// What an expression comes to before any run.
 #[cycle(values)]
 pub fn value_in(alloc: Global, types: &TypeTable, expr: &Expr) -> Result<Evaluated<Literal>, Memory>
+    requires { IsFixed types.now (λ ts. expr_of ts expr.now) }
     ensures { IfOk result (λ e. (ts : List Ty) (facts : Facts) → Under types.now ts facts
         → evaluated_of literal_of e ≡ value_in facts (expr_of ts expr.now)) }
 {
@@ -139,6 +143,8 @@ pub fn value_in(alloc: Global, types: &TypeTable, expr: &Expr) -> Result<Evaluat
 // What both operands come to.
 #[cycle(values)]
 fn pair_in(alloc: Global, types: &TypeTable, left: &Expr, right: &Expr) -> Result<Pair, Memory>
+    requires left { IsFixed types.now (λ ts. expr_of ts left.now) }
+    requires right { IsFixed types.now (λ ts. expr_of ts right.now) }
     ensures left { IfOk result (λ p. (ts : List Ty) (facts : Facts) → Under types.now ts facts
         → evaluated_of literal_of p.left ≡ value_in facts (expr_of ts left.now)) }
     ensures right { IfOk result (λ p. (ts : List Ty) (facts : Facts) → Under types.now ts facts
@@ -158,6 +164,8 @@ fn applied(
     operation: Operation,
     operands: &[Operand],
 ) -> Result<Evaluated<Literal>, Memory>
+    requires ty { IsFixed types.now (λ ts. if_type ts ty) }
+    requires operands { IsFixed types.now (λ ts. operands_of ts operands.now) }
     ensures { IfOk result (λ e. (ts : List Ty) (facts : Facts) → Under types.now ts facts
         → evaluated_of literal_of e
         ≡ act_value facts (if_type ts ty) (types_in (operands_of ts operands.now)) (Doing operation)
@@ -176,6 +184,8 @@ fn object_in(
     fields: &[u32],
     operands: &[Operand],
 ) -> Result<Evaluated<Literal>, Memory>
+    requires ty { IsFixed types.now (λ ts. type_at ts ty) }
+    requires operands { IsFixed types.now (λ ts. operands_of ts operands.now) }
     ensures { IfOk result (λ e. (ts : List Ty) (facts : Facts) → Under types.now ts facts
         → evaluated_of literal_of e ≡ act_value facts (Some (type_at ts ty))
         (types_in (operands_of ts operands.now)) (Building fields.now)
@@ -188,6 +198,7 @@ fn object_in(
 // What stands at a path: a fresh value alone.
 #[cycle(values)]
 fn value_at(alloc: Global, types: &TypeTable, path: &Path) -> Result<Evaluated<Literal>, Memory>
+    requires { IsFixed types.now (λ ts. path_of ts path.now) }
     ensures { IfOk result (λ e. (ts : List Ty) (facts : Facts) → Under types.now ts facts
         → evaluated_of literal_of e ≡ value_at facts (path_of ts path.now)) }
 {
@@ -207,6 +218,7 @@ fn value_of(
     types: &TypeTable,
     operand: &Operand,
 ) -> Result<Evaluated<Literal>, Memory>
+    requires { IsFixed types.now (λ ts. operands_of ts (operand.now ∷ [])) }
     ensures { IfOk result (λ e. (ts : List Ty) (facts : Facts) → Under types.now ts facts
         → evaluated_of literal_of e ≡ value_of facts ts operand.now) }
 {
@@ -222,6 +234,7 @@ fn values_in(
     types: &TypeTable,
     operands: &[Operand],
 ) -> Result<Evaluated<Vec<Literal>>, Memory>
+    requires { IsFixed types.now (λ ts. operands_of ts operands.now) }
     ensures { IfOk result (λ e. (ts : List Ty) (facts : Facts) → Under types.now ts facts
         → evaluated_of values_of e ≡ values_in facts (operands_of ts operands.now)) }
 {
@@ -235,6 +248,7 @@ fn values_in(
 
 /// The number of an index that is constant.
 pub fn index_number(alloc: Global, types: &TypeTable, index: &Expr) -> Result<Option<i32>, Memory>
+    requires { IsFixed types.now (λ ts. expr_of ts index.now) }
     ensures { IfOk result (λ z. (ts : List Ty) (facts : Facts) → Under types.now ts facts
         → index_number facts (expr_of ts index.now) ≡ z) }
 {

@@ -14,6 +14,7 @@ ghost use Rattle.expr_rules.specs.Constructions.{numbered_part, read_part};
 ghost use Rattle.expr_rules.specs.Env.{Env};
 ghost use Rattle.expr_parts.specs.View.{KindsIn, Under, env_of, number_of, typed_of, valued_of};
 ghost use Rattle.expr_constants.specs.ViewConstants.{behind, natural, tuple_parts};
+ghost use Rattle.expr_constants.specs.ViewFixed.{IsFixed};
 
 use crate::constant_rules::constant_at;
 use crate::evaluation::index_number;
@@ -119,6 +120,7 @@ fn constant_part(
     parts: &[TypeId],
     index: &Expr,
 ) -> Result<Expr, Stop>
+    requires { IsFixed types.now (λ ts. expr_of ts index.now) }
     ensures answers { (ts : List Ty) (facts : Facts) → Under types.now ts facts
         → Answers (expr_of ts) (and_then (if_comes at (value_in facts (expr_of ts index.now)))
         (numbered_part number at (valued_of ts value) (types_at ts parts.now))) result }
@@ -155,6 +157,7 @@ fn element_at(
     index: Value,
     ty: Option<TypeId>,
 ) -> Result<Expr, Stop>
+    requires { IsFixed types.now (λ ts. expr_of ts index.expr) }
     ensures answers { (ts : List Ty) (facts : Facts) (k : ℕ) → Under types.now ts facts
         → Answers (λ e. typed_as (expr_of ts e) k) (element_of facts number k at
         (valued_of ts value) (valued_of ts index) (if_type ts ty)) result }
@@ -181,6 +184,7 @@ fn read(
 ) -> Result<Expr, Stop>
     requires chars { slice_get types.now chars ≡ Some Char }
     requires value { value.ty < length types.now }
+    requires index { IsFixed types.now (λ ts. expr_of ts index.expr) }
     ensures answers { (ts : List Ty) (env : Env) (k : ℕ) → Under types.now ts env.facts
         → Answers (λ e. typed_as (expr_of ts e) k) (indexed env number k k at (valued_of ts value)
         (type_at ts value.ty) (valued_of ts index)) result }
@@ -231,6 +235,7 @@ pub fn index_rule(
     requires kinds { KindsIn types.now scope.now.kinds }
     requires value { value.ty < length types.now }
     requires index { index.ty < length types.now }
+    requires fixed { IsFixed types.now (λ ts. expr_of ts index.expr) }
     ensures answers { (ts : List Ty) (facts : Facts) → Under types.now ts facts
         → Answers (typed_of ts) (index_rule (env_of ts facts scope.now) number behind_value
         behind_index at (valued_of ts value) (valued_of ts index)) result }

@@ -7,6 +7,7 @@ ghost use Rattle.nim_program.specs.View.{literal_of, if_type};
 ghost use Rattle.expr_rules.specs.Constants.{on_one, among, converted, shown};
 ghost use Rattle.expr_parts.specs.View.{Under};
 ghost use Rattle.expr_constants.specs.ViewConstants.{evaluated_of};
+ghost use Rattle.expr_constants.specs.ViewFixed.{IsFixed};
 
 use crate::evaluated::{Evaluated, limited, number_or_trap};
 use arc_base::{Bytes, Memory};
@@ -27,48 +28,40 @@ fn among(values: usize, a: Literal) -> Evaluated<Literal>
     }
 }
 
-// As one of a type. All numbers of a tree are of the table.
-fn converted_to(types: &TypeTable, ty: TypeId, a: Literal) -> Result<Evaluated<Literal>, Memory>
-    ensures { IfOk result (λ e. (ts : List Ty) (facts : Facts) → Under types.now ts facts
-        → evaluated_of literal_of e ≡ converted facts (Some (type_at ts ty)) (literal_of a)) }
+// As one of a type.
+fn converted_to(types: &TypeTable, ty: TypeId, a: Literal) -> Evaluated<Literal>
+    requires { IsFixed types.now (λ ts. type_at ts ty) }
+    ensures { (ts : List Ty) (facts : Facts) → Under types.now ts facts
+        → evaluated_of literal_of result ≡ converted facts (Some (type_at ts ty)) (literal_of a) }
 {
-    if ty >= types.count() {
-        return Err(Memory);
-    }
     match limit_of(types, ty) {
-        Some(values) => Ok(among(values, a)),
-        None => Ok(Evaluated::Comes(a)),
+        Some(values) => among(values, a),
+        None => Evaluated::Comes(a),
     }
 }
 
-fn converted(
-    types: &TypeTable,
-    ty: Option<TypeId>,
-    a: Literal,
-) -> Result<Evaluated<Literal>, Memory>
-    ensures { IfOk result (λ e. (ts : List Ty) (facts : Facts) → Under types.now ts facts
-        → evaluated_of literal_of e ≡ converted facts (if_type ts ty) (literal_of a)) }
+fn converted(types: &TypeTable, ty: Option<TypeId>, a: Literal) -> Evaluated<Literal>
+    requires { IsFixed types.now (λ ts. if_type ts ty) }
+    ensures { (ts : List Ty) (facts : Facts) → Under types.now ts facts
+        → evaluated_of literal_of result ≡ converted facts (if_type ts ty) (literal_of a) }
 {
     match ty {
         Some(ty) => converted_to(types, ty, a),
-        None => Ok(Evaluated::Comes(a)),
+        None => Evaluated::Comes(a),
     }
 }
 
 /// A value as one of another type.
-pub fn convert(
-    types: &TypeTable,
-    ty: Option<TypeId>,
-    a: Evaluated<Literal>,
-) -> Result<Evaluated<Literal>, Memory>
-    ensures { IfOk result (λ e. (ts : List Ty) (facts : Facts) → Under types.now ts facts
-        → evaluated_of literal_of e
-        ≡ on_one (converted facts (if_type ts ty)) (evaluated_of literal_of a)) }
+pub fn convert(types: &TypeTable, ty: Option<TypeId>, a: Evaluated<Literal>) -> Evaluated<Literal>
+    requires { IsFixed types.now (λ ts. if_type ts ty) }
+    ensures { (ts : List Ty) (facts : Facts) → Under types.now ts facts
+        → evaluated_of literal_of result
+        ≡ on_one (converted facts (if_type ts ty)) (evaluated_of literal_of a) }
 {
     match a {
         Evaluated::Comes(a) => converted(types, ty, a),
-        Evaluated::Traps => Ok(Evaluated::Traps),
-        Evaluated::Varies => Ok(Evaluated::Varies),
+        Evaluated::Traps => Evaluated::Traps,
+        Evaluated::Varies => Evaluated::Varies,
     }
 }
 
@@ -81,12 +74,10 @@ fn shown_number(
     ty: TypeId,
     z: i32,
 ) -> Result<Evaluated<Literal>, Memory>
+    requires { IsFixed types.now (λ ts. type_at ts ty) }
     ensures { IfOk result (λ e. (ts : List Ty) (facts : Facts) → Under types.now ts facts
         → evaluated_of literal_of e ≡ shown facts (Some (type_at ts ty)) (Number z)) }
 {
-    if ty >= types.count() {
-        return Err(Memory);
-    }
     let mut text = Bytes::new(alloc);
     add_text(types, Some(ty), z, &mut text)?;
     Ok(limited(Literal::Text(text)))
@@ -98,6 +89,7 @@ fn shown(
     ty: Option<TypeId>,
     a: Literal,
 ) -> Result<Evaluated<Literal>, Memory>
+    requires { IsFixed types.now (λ ts. if_type ts ty) }
     ensures { IfOk result (λ e. (ts : List Ty) (facts : Facts) → Under types.now ts facts
         → evaluated_of literal_of e ≡ shown facts (if_type ts ty) (literal_of a)) }
 {
@@ -120,6 +112,7 @@ pub fn show(
     ty: Option<TypeId>,
     a: Evaluated<Literal>,
 ) -> Result<Evaluated<Literal>, Memory>
+    requires { IsFixed types.now (λ ts. if_type ts ty) }
     ensures { IfOk result (λ e. (ts : List Ty) (facts : Facts) → Under types.now ts facts
         → evaluated_of literal_of e
         ≡ on_one (shown facts (if_type ts ty)) (evaluated_of literal_of a)) }

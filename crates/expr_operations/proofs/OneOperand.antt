@@ -7,7 +7,7 @@ use Rattle.expr_parts.specs.declared.value.Operand.{Operand as RustOperand}
 use Rattle.expr_rules.specs.Answers.{not_typed}
 use Rattle.expr_rules.specs.Names.{new_sequence_rule}
 use Rattle.expr_parts.specs.View.{operand_of, no_fit_at}
-use Rattle.expr_operations.specs.ViewOperands.{IsOnly}
+use Rattle.expr_parts.specs.ViewOperands.{IsOnly}
 use Rattle.expr_parts.proofs.ForCallers.{no_fit_is}
 
 -- `newSeq` of another number of operands than one

@@ -1,2 +1,1 @@
-pub mod ViewOperands
 pub mod ViewOperations

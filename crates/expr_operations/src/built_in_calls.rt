@@ -15,10 +15,10 @@ use crate::built_in::{
 };
 use crate::built_in_nodes::make;
 use crate::built_in_pairs::on_two;
-use crate::operand_lists::{Given, taken_apart};
 use arc_base::{Code, Place, Stop};
 use expr_parts::kinds::{entry, is_int};
 use expr_parts::nodes::{applied, constant};
+use expr_parts::operand_lists::{Given, taken_apart};
 use expr_parts::scope::Kinds;
 use expr_parts::settle::place_of_no_fit;
 use expr_parts::value::{Operand, Value, refusal};

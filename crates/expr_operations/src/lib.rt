@@ -6,4 +6,3 @@ pub mod built_in_calls;
 pub mod built_in_nodes;
 pub mod built_in_pairs;
 pub mod new_sequences;
-pub mod operand_lists;

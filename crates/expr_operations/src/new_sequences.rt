@@ -13,10 +13,10 @@ ghost use Rattle.expr_parts.specs.View.{Under, Grown, OperandWithin, OperandsWit
 ghost use Rattle.expr_parts.specs.View.{operand_of, number_of, no_fit_at};
 ghost use Rattle.expr_parts.specs.ViewReady.{IsReady};
 
-use crate::operand_lists::only_operand;
 use arc_base::{Code, Place, Stop};
 use expr_parts::grow::add;
 use expr_parts::nodes::on_one;
+use expr_parts::operand_lists::only_operand;
 use expr_parts::scope::Scope;
 use expr_parts::settle::{place_of_no_fit, settle};
 use expr_parts::value::{Operand, refusal};

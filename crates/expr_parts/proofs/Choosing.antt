@@ -1,16 +1,22 @@
 -- Which of the procedures of a name fits.
-use Rattle.std.proofs.Common.{◌≡◌, ℕ, zero, suc, ◌+◌, ◌≤◌, List, [], ◌∷◌, ◌++◌, length, refl, ap, ap₂, ◌∙◌, subst}
+use Rattle.std.proofs.Common.{◌≡◌, ℕ, zero, suc, ◌+◌, ◌≤◌, List, [], ◌∷◌, ◌++◌, length, refl, sym, ap, ap₂, ◌∙◌, subst}
 use Rattle.std.proofs.Common.{Some, None, take, arith}
-use Rattle.std.specs.Prelude.{Bool, ◌&&◌, is_some, map, Option, slice_get, if◌then◌else◌}
+use Rattle.std.specs.Prelude.{Bool, true, false, ◌&&◌, is_some, map, Option, slice_get, if◌then◌else◌}
+use Rattle.std.proofs.lemmas.Bool.{both_ways}
 use Rattle.std.proofs.lemmas.Option.{none-some, same_Some}
+use Rattle.nim_types.specs.declared.types.TypeDef.{TypeDef}
 use Rattle.nim_types.specs.Types.{Ty, same_text}
 use Rattle.expr_parts.specs.declared.scope.Parameter.{Parameter as RustParameter}
+use Rattle.expr_parts.specs.declared.scope.Procedure.{Procedure as RustProcedure}
+use Rattle.expr_parts.specs.declared.scope.What.TheVariants as what
 use Rattle.expr_parts.specs.declared.scope.Decl.{Decl}
+use Rattle.expr_parts.specs.declared.calls.Chosen.{Chosen}
+use Rattle.expr_parts.specs.declared.calls.Chosen.TheVariants as chosen
 use Rattle.expr_parts.specs.declared.value.Operand.{Operand as RustOperand}
 use Rattle.expr_rules.specs.Answers.{Valued, Operand, settled}
 use Rattle.expr_rules.specs.Env.{Entry, Parameter, Procedure, Known, known_next, known_behind, name_in}
 use Rattle.expr_rules.specs.Calls.{Fit, onto, arguments_for, if_fits, fitting}
-use Rattle.expr_parts.specs.View.{operand_of, parameter_of, DeclsWithin, WhatWithin}
+use Rattle.expr_parts.specs.View.{operand_of, parameter_of, DeclsWithin, WhatWithin, is_of, do_fit, WhatFits, DeclFits, ChosenFits, one_more}
 
 some_onto : (p : Parameter) (a : Option Valued) (b : Option (List (Parameter × Valued))) → is_some (onto p a b) ≡ is_some a && is_some b
 some_onto p (Some v) (Some rest) = refl
@@ -27,6 +33,34 @@ both_fit ts p ps o os params operands a b is are h k =
     ap₂ (λ x y. is_some (arguments_for (map (parameter_of ts) x) (map (operand_of ts) y))) is are
     ∙ some_onto (parameter_of ts p) (settled (parameter_of ts p).of (operand_of ts o)) (arguments_for (map (parameter_of ts) ps)
     (map (operand_of ts) os)) ∙ ap₂ (λ x y. x && y) h k
+
+-- ---- operands that fit, by numbers
+
+both_true : (a b : Bool) → a && b ≡ true → (a ≡ true) × (b ≡ true)
+both_true true true h = (refl, refl)
+both_true true false h = absurd (both_ways false refl h)
+both_true false b h = absurd (both_ways false refl h)
+
+-- a first operand of several that fit
+pub fit_first : (ds : List TypeDef) (params : List RustParameter) (operands : List RustOperand) (p : RustParameter) (ps : List RustParameter)
+    (o : RustOperand) (os : List RustOperand) → params ≡ p ∷ ps → operands ≡ o ∷ os → do_fit ds params operands ≡ true
+    → (is_of ds p.ty o ≡ true) × (do_fit ds ps os ≡ true)
+fit_first ds params operands p ps o os is are h = both_true (is_of ds p.ty o) (do_fit ds ps os) (sym (ap₂ (do_fit ds) is are) ∙ h)
+
+-- no operand is left over
+pub fit_none : (ds : List TypeDef) (params : List RustParameter) (operands : List RustOperand) (o : RustOperand) (os : List RustOperand)
+    → params ≡ [] → operands ≡ o ∷ os → do_fit ds params operands ≡ true → ⊥
+fit_none ds params operands o os is are h = both_ways false refl (sym (ap₂ (do_fit ds) is are) ∙ h)
+
+-- ---- the one that fits
+
+pub fits_further : (ds : List TypeDef) (decls : List Decl) (os : List RustOperand) (i : ℕ) (d : Decl) (p : RustProcedure) (c : Chosen) (fits : Bool)
+    → slice_get decls i ≡ Some d → d.what ≡ what.Procedure p → do_fit ds p.params os ≡ fits → ChosenFits ds decls os c
+    → ChosenFits ds decls os (if fits then one_more i c else c)
+fits_further ds decls os i d p c false at w h k = k
+fits_further ds decls os i d p chosen.Nothing true at w h k = subst (DeclFits ds os) (sym at) (subst (WhatFits ds os) (sym w) h)
+fits_further ds decls os i d p (chosen.One j) true at w h k = tt
+fits_further ds decls os i d p chosen.Several true at w h k = tt
 
 fits_before : (p : Procedure) (o : Option (List (Parameter × Valued))) (xs ys : List Fit) → if_fits p o (xs ++ ys) ≡ if_fits p o xs ++ ys
 fits_before p None xs ys = refl

@@ -12,5 +12,6 @@ mod Overlapping
 mod Rows
 mod Settling
 mod Sizing
+mod Within
 mod TypeNumbers
 pub mod ForCallers

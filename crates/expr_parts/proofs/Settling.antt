@@ -1,5 +1,5 @@
 -- Operands as values of a type.
-use Rattle.std.proofs.Common.{◌≡◌, ℕ, suc, ◌<◌, ◌++◌, arith, List, [], ◌∷◌, length, refl, sym, ap, ap₂, ◌∙◌, Some, None}
+use Rattle.std.proofs.Common.{◌≡◌, ℕ, suc, ◌<◌, ◌++◌, arith, List, [], ◌∷◌, length, refl, sym, subst, ap, ap₂, ◌∙◌, Some, None}
 use Rattle.std.specs.Prelude.{Bool, true, false, is_some, Option, option_map, map, Ok}
 use Rattle.std.proofs.lemmas.Bool.{both_ways}
 use Rattle.arc_base.specs.declared.place.Place.{Place}
@@ -72,6 +72,9 @@ none_open (type.exception key) at n h = refl
 pub map_only : {A B : Type 0} (f : A → B) (b : Bool) (x : A) → option_map f (only_if b x) ≡ only_if b (f x)
 map_only f true x = refl
 map_only f false x = refl
+
+pub value_below : (n : ℕ) (o : RustOperand) (v : RustValue) → o ≡ operand.Value v → OperandWithin n o → v.ty < n
+value_below n o v e h = subst (OperandWithin n) e h
 
 -- what has no type by itself is named
 pub no_fit_is : {A : Type 0} (ts : List Ty) (at : Place) (os : List RustOperand) → no_fit {A = A} at (map (operand_of ts) os) ≡ not_typed (no_fit_at at os)

@@ -1,3 +1,4 @@
 pub mod View
 pub mod ViewDecls
 pub mod ViewReady
+pub mod ViewOperands

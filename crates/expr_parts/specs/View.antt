@@ -1,5 +1,5 @@
 -- What the code's values stand for under a list of types, by their numbers.
-use Rattle.std.specs.Prelude.{◌≡◌, ℕ, suc, ◌<◌, ◌≤◌, List, [], ◌∷◌, ◌++◌, length, map, slice_get, Bool, true, false, not, ◌&&◌, ◌||◌, nat_eq, nat_le}
+use Rattle.std.specs.Prelude.{◌≡◌, ℕ, suc, ◌<◌, ◌≤◌, List, [], ◌∷◌, ◌++◌, length, map, slice_get, Bool, true, false, not, ◌&&◌, ◌||◌, nat_eq, nat_le, int_le}
 use Rattle.std.specs.Prelude.{Option, Some, None, Ok, if◌then◌else◌}
 use Rattle.arc_base.specs.declared.place.Place.{Place}
 use Rattle.indent_scanner.specs.Words.{normal}
@@ -10,7 +10,7 @@ use Rattle.nim_types.specs.declared.types.TypeDef.{TypeDef}
 use Rattle.nim_types.specs.declared.types.TypeDef.TheVariants as D
 use Rattle.nim_types.specs.Types.{Ty, sequence, array, Fact, Facts, fields, same_text}
 use Rattle.nim_types.specs.Forms.{Form, HasForm}
-use Rattle.nim_types.specs.Table.{type_at, types_in, facts_in, IsTable, IsBelow}
+use Rattle.nim_types.specs.Table.{type_at, types_in, facts_in, meant, IsTable, IsBelow}
 use Rattle.nim_program.specs.declared.expr.Expr.{Expr as RustExpr}
 use Rattle.nim_program.specs.declared.expr.Expr.TheVariants as E
 use Rattle.nim_program.specs.declared.expr.Path.{Path as RustPath}
@@ -51,7 +51,7 @@ use Rattle.expr_rules.specs.Paths.{Step, field, element, overlaps_any}
 use Rattle.expr_rules.specs.Env.{Env, Entry, variable, constant, named, pending, procedure, input, Parameter, Procedure, Known, unknown, known_next}
 use Rattle.arc_base.specs.declared.place.Code.{Code}
 use Rattle.arc_base.specs.Refusal.{and_then, refused}
-use Rattle.nim_program.specs.Program.{Expr, Args, Path}
+use Rattle.nim_program.specs.Program.{Expr, Args, Path, Label, Ordinals, Exactly}
 use Rattle.nim_program.specs.Nodes.{make}
 use Rattle.expr_rules.specs.declared.limits.TheConstants.{MOST_ELEMENTS}
 use Rattle.expr_rules.specs.Sizes.{is_sized}
@@ -192,6 +192,32 @@ abbrev pub OperandsWithin : ℕ → List RustOperand → Type 0
 OperandsWithin n [] = Unit {0}
 OperandsWithin n (o ∷ rest) = OperandWithin n o × OperandsWithin n rest
 
+-- What an entry is doesn't depend on the types that it names.
+abbrev pub is_sequence_in : Option TypeDef → Bool
+is_sequence_in None = false
+is_sequence_in (Some d) = is_sequence (meant [] d)
+
+-- whether an operand is a value of the type with a number
+abbrev pub is_of : List TypeDef → ℕ → RustOperand → Bool
+is_of ds id (operand.Value v) = nat_eq id v.ty
+is_of ds id (operand.Open at number) = is_sequence_in (slice_get ds id)
+is_of ds id _ = false
+
+-- whether the operands are values of the types of the parameters
+abbrev pub do_fit : List TypeDef → List RustParameter → List RustOperand → Bool
+do_fit ds [] [] = true
+do_fit ds (p ∷ params) (o ∷ operands) = is_of ds p.ty o && do_fit ds params operands
+do_fit ds _ _ = false
+
+-- what is declared is a procedure that they fit
+abbrev pub WhatFits : List TypeDef → List RustOperand → What → Type 0
+WhatFits ds os (what.Procedure p) = do_fit ds p.params os ≡ true
+WhatFits ds os _ = ⊥
+
+abbrev pub DeclFits : List TypeDef → List RustOperand → Option Decl → Type 0
+DeclFits ds os None = ⊥
+DeclFits ds os (Some d) = WhatFits ds os d.what
+
 -- the place of the first operand that has no type by itself, else this one
 abbrev pub no_fit_at : Place → List RustOperand → Place
 no_fit_at at [] = at
@@ -246,6 +272,11 @@ one_more i chosen.Nothing = chosen.One i
 one_more i (chosen.One j) = chosen.Several
 one_more i chosen.Several = chosen.Several
 
+-- where it is one declaration, the operands fit it
+abbrev pub ChosenFits : List TypeDef → List Decl → List RustOperand → Chosen → Type 0
+ChosenFits ds decls os (chosen.One i) = DeclFits ds os (slice_get decls i)
+ChosenFits ds decls os _ = Unit {0}
+
 abbrev pub fit : Procedure → List (Parameter × Valued) → Fit
 fit callee arguments = record { callee = callee; arguments = arguments }
 
@@ -263,6 +294,13 @@ abbrev pub Chooses : List Ty → List Decl → List Operand → Chosen → List 
 Chooses ts ds os chosen.Nothing all = all ≡ []
 Chooses ts ds os (chosen.One i) all = IsChosen ts ds os i all
 Chooses ts ds os chosen.Several all = (a : Fit) × (b : Fit) × (rest : List Fit) × (all ≡ a ∷ b ∷ rest)
+
+-- ---- labels
+
+-- which has a value
+abbrev pub IsProper : Label → Type 0
+IsProper (Ordinals low high) = int_le low high ≡ true
+IsProper (Exactly s) = Unit {0}
 
 -- ---- branches
 

@@ -1,5 +1,5 @@
 // Arguments of procedures.
-ghost use Rattle.std.specs.Prelude.{◌≡◌, ◌<◌, List, [], length, map, Some};
+ghost use Rattle.std.specs.Prelude.{◌≡◌, ◌<◌, List, [], length, map, true, Some};
 ghost use Rattle.arc_base.specs.Refusal.{Answers};
 ghost use Rattle.nim_types.specs.Types.{Ty, Facts};
 ghost use Rattle.nim_types.specs.Table.{type_at};
@@ -9,14 +9,14 @@ ghost use Rattle.expr_rules.specs.Calls.{no_overlap, argument_by, arguments_by, 
 ghost use Rattle.expr_rules.specs.Answers.{Valued, settled};
 ghost use Rattle.expr_rules.specs.Env.{Parameter as Given};
 ghost use Rattle.expr_parts.specs.View.{Under, OperandWithin, OperandsWithin, ParametersWithin};
-ghost use Rattle.expr_parts.specs.View.{operand_of, parameter_of};
+ghost use Rattle.expr_parts.specs.View.{operand_of, parameter_of, is_of, do_fit};
 ghost use Rattle.expr_rules.specs.Paths.{overlaps_any};
 ghost use Rattle.expr_parts.specs.View.{paths_in, argument_of, as_var, valued_of};
 
 use crate::overlap::overlaps_any;
 use crate::paths::path_of;
 use crate::scope::Parameter;
-use crate::settle::settle;
+use crate::settle::settled;
 use crate::value::{Operand, Value, refusal};
 use arc_base::{Code, Place, Stop};
 use nim_program::{Mode, Operand as Argument, Path};
@@ -90,15 +90,14 @@ fn settled_argument(
 ) -> Result<Argument, Stop>
     requires param { param.ty < length types.now }
     requires operand { OperandWithin (length types.now) operand }
+    requires fits { is_of types.now param.ty operand ≡ true }
     ensures { (ts : List Ty) (facts : Facts) → Under types.now ts facts → (v : Valued)
         → settled (type_at ts param.ty) (operand_of ts operand) ≡ Some v
         → Answers (argument_of ts) (argument_by (map (path_in ts) (paths_in before.now))
         param.mode v) result }
 {
-    match settle(alloc, types, param.ty, operand) {
-        Some(value) => argument(alloc, param.mode, value, before),
-        None => Err(Stop::Memory),
-    }
+    let value = settled(alloc, types, param.ty, operand);
+    argument(alloc, param.mode, value, before)
 }
 
 /// The arguments of a call, where the operands are values of the types of the parameters.
@@ -110,6 +109,7 @@ pub fn arguments(
 ) -> Result<Vec<Argument>, Stop>
     requires params { ParametersWithin (length types.now) params.now }
     requires operands { OperandsWithin (length types.now) operands.items }
+    requires fits { do_fit types.now params.now operands.items ≡ true }
     ensures { (ts : List Ty) (facts : Facts) → Under types.now ts facts
         → (given : List (Given × Valued))
         → arguments_for (map (parameter_of ts) params.now) (map (operand_of ts) operands.items)
@@ -120,8 +120,7 @@ pub fn arguments(
     let mut rest = params;
     for operand in operands {
         let Some((param, others)) = rest.split_first() else {
-            drop(operand);
-            return Err(Stop::Memory);
+            unreachable!();
         };
         rest = others;
         match settled_argument(alloc, types, *param, operand, args.as_slice()) {

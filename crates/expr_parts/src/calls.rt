@@ -1,5 +1,5 @@
 // Calls of procedures: which one is meant.
-ghost use Rattle.std.specs.Prelude.{◌≡◌, ◌<◌, ℕ, List, length, map, is_some, if◌then◌else◌, false, Some, IfOk};
+ghost use Rattle.std.specs.Prelude.{◌≡◌, ◌<◌, ℕ, List, length, map, is_some, if◌then◌else◌, true, false, Some, IfOk};
 ghost use Rattle.nim_types.specs.Types.{Ty, Facts};
 ghost use Rattle.arc_base.specs.Refusal.{Answers};
 ghost use Rattle.nim_program.specs.View.{expr_of};
@@ -10,7 +10,7 @@ ghost use Rattle.expr_parts.specs.View.{procedure_of, fit, number_of};
 ghost use Rattle.expr_rules.specs.Env.{callable, known_behind, unknown};
 ghost use Rattle.expr_parts.specs.View.{Under, OperandsWithin, ParametersWithin};
 ghost use Rattle.expr_parts.specs.View.{operand_of, parameter_of, one_more};
-ghost use Rattle.expr_parts.specs.View.{DeclsWithin, Chooses, entry_of};
+ghost use Rattle.expr_parts.specs.View.{DeclsWithin, Chooses, ChosenFits, do_fit, entry_of};
 
 use crate::arguments::arguments;
 use crate::decls::Decls;
@@ -27,9 +27,10 @@ use std::alloc::Global;
 pub fn fits(types: &TypeTable, params: &[Parameter], operands: &[Operand]) -> bool
     requires params { ParametersWithin (length types.now) params.now }
     requires operands { OperandsWithin (length types.now) operands.now }
-    ensures { (ts : List Ty) (facts : Facts) → Under types.now ts facts
+    ensures means { (ts : List Ty) (facts : Facts) → Under types.now ts facts
         → is_some (arguments_for (map (parameter_of ts) params.now)
         (map (operand_of ts) operands.now)) ≡ result }
+    ensures numbers { do_fit types.now params.now operands.now ≡ result }
 {
     match (params.split_first(), operands.split_first()) {
         (None, None) => true,
@@ -65,10 +66,11 @@ fn one_more(chosen: Chosen, i: usize, is_fitting: bool) -> Chosen
 pub fn choose(types: &TypeTable, decls: &Decls, name: &[u8], operands: &[Operand]) -> Chosen
     requires decls { DeclsWithin (length types.now) decls.now }
     requires operands { OperandsWithin (length types.now) operands.now }
-    ensures { (ts : List Ty) (facts : Facts) → Under types.now ts facts
+    ensures means { (ts : List Ty) (facts : Facts) → Under types.now ts facts
         → Chooses ts decls.now (map (operand_of ts) operands.now) result
         (fitting (callable (known_behind unknown name.now (map (entry_of ts) decls.now)))
         (map (operand_of ts) operands.now)) }
+    ensures fits { ChosenFits types.now decls.now operands.now result }
 {
     let mut chosen = Chosen::Nothing;
     let mut next = decls.last(name);
@@ -96,6 +98,7 @@ pub fn call_procedure(
 ) -> Result<Expr, Stop>
     requires params { ParametersWithin (length types.now) callee.now.params }
     requires operands { OperandsWithin (length types.now) operands.items }
+    requires fits { do_fit types.now callee.now.params operands.items ≡ true }
     ensures answers { (ts : List Ty) (facts : Facts) → Under types.now ts facts
         → (x : List ℕ) (given : List (Given × Valued))
         → arguments_for (procedure_of ts callee.now).params (map (operand_of ts) operands.items)

@@ -1,5 +1,5 @@
 // Kinds of types, by their entries in the table.
-ghost use Rattle.std.specs.Prelude.{◌≡◌, ◌<◌, ℕ, List, length, IfOk, OnOk};
+ghost use Rattle.std.specs.Prelude.{◌≡◌, ◌<◌, ℕ, List, length, slice_get, Some};
 ghost use Rattle.nim_types.specs.Types.{Ty, Facts, fact_of, same};
 ghost use Rattle.nim_types.specs.Table.{type_at, meant, said_of, parts_of, AllBelow, IsBelow};
 ghost use Rattle.nim_types.specs.Table.{IsWithin};
@@ -7,17 +7,16 @@ ghost use Rattle.expr_rules.specs.Builtins.{is_int, is_bool, is_text, is_ordinal
 ghost use Rattle.expr_rules.specs.Builtins.{has_length};
 ghost use Rattle.expr_rules.specs.Operators.{is_text_or_char};
 ghost use Rattle.nim_program.specs.View.{if_type};
-ghost use Rattle.expr_rules.specs.Answers.{open_as};
 ghost use Rattle.expr_rules.specs.Constructions.{base_of};
 ghost use Rattle.expr_parts.specs.View.{Under, is_sequence};
 
-use arc_base::Memory;
 use nim_types::{TypeDef, TypeId, TypeTable};
 
 /// The entry of a type.
 
 pub fn entry(types: &TypeTable, id: TypeId) -> &TypeDef
     requires { id < length types.now }
+    ensures entry { slice_get types.now id ≡ Some result.now }
     ensures means { (ts : List Ty) (facts : Facts) → Under types.now ts facts
         → type_at ts id ≡ meant ts result.now }
     ensures says { (ts : List Ty) (facts : Facts) → Under types.now ts facts
@@ -105,21 +104,5 @@ pub fn base_of(def: &TypeDef) -> Option<TypeId>
     match def {
         TypeDef::Distinct { base, .. } => Some(*base),
         _ => None,
-    }
-}
-
-/// The entry of a type that a tree names. All numbers of a tree are of the table.
-pub fn known(types: &TypeTable, id: TypeId) -> Result<&TypeDef, Memory>
-    ensures means { IfOk result (λ d. (ts : List Ty) (facts : Facts) → Under types.now ts facts
-        → type_at ts id ≡ meant ts d.now) }
-    ensures says { IfOk result (λ d. (ts : List Ty) (facts : Facts) → Under types.now ts facts
-        → fact_of facts (meant ts d.now) ≡ said_of ts d.now) }
-    ensures parts { IfOk result (λ d. AllBelow (length types.now) (parts_of d.now)) }
-    ensures below { OnOk result (id < length types.now) }
-{
-    if id < types.count() {
-        Ok(entry(types, id))
-    } else {
-        Err(Memory)
     }
 }

@@ -16,6 +16,7 @@ pub mod labels;
 pub mod literals;
 pub mod names;
 pub mod nodes;
+pub mod operand_lists;
 pub mod operations;
 pub mod operators;
 pub mod overlap;

@@ -70,10 +70,6 @@ pub fn operation(
             Argument::Value(left.expr),
             Argument::Value(right.expr),
         ),
-        Meaning::Nothing => {
-            drop(left);
-            drop(right);
-            Err(Stop::Memory)
-        }
+        Meaning::Nothing => unreachable!(),
     }
 }

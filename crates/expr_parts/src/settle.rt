@@ -1,5 +1,6 @@
 // Operands as values of a type.
-ghost use Rattle.std.specs.Prelude.{◌≡◌, ◌<◌, false, List, length, is_some, option_map, IfSome};
+ghost use Rattle.std.specs.Prelude.{◌≡◌, ◌<◌, true, false, List, length, is_some, option_map};
+ghost use Rattle.std.specs.Prelude.{Some, IfSome};
 ghost use Rattle.nim_types.specs.Types.{Ty, Facts};
 ghost use Rattle.nim_types.specs.Table.{type_at, meant};
 ghost use Rattle.nim_program.specs.Program.{NoArg};
@@ -7,9 +8,9 @@ ghost use Rattle.nim_program.specs.Nodes.{sequence};
 ghost use Rattle.nim_program.specs.View.{expr_of};
 ghost use Rattle.expr_rules.specs.Answers.{node, settled, open_as, only_if};
 ghost use Rattle.expr_parts.specs.View.{Under, OperandWithin, operand_of, valued_of};
-ghost use Rattle.expr_parts.specs.View.{no_fit_at};
+ghost use Rattle.expr_parts.specs.View.{is_of, is_sequence_in, no_fit_at};
 
-use crate::kinds::{entry, is_same, is_sequence};
+use crate::kinds::{entry, is_sequence};
 use crate::nodes::applied;
 use crate::value::{Operand, Value};
 use arc_base::Place;
@@ -21,11 +22,12 @@ use std::alloc::Global;
 pub fn settles(types: &TypeTable, ty: TypeId, operand: &Operand) -> bool
     requires ty { ty < length types.now }
     requires operand { OperandWithin (length types.now) operand.now }
-    ensures { (ts : List Ty) (facts : Facts) → Under types.now ts facts
+    ensures means { (ts : List Ty) (facts : Facts) → Under types.now ts facts
         → is_some (settled (type_at ts ty) (operand_of ts operand.now)) ≡ result }
+    ensures number { is_of types.now ty operand.now ≡ result }
 {
     match operand {
-        Operand::Value(value) => is_same(types, ty, value.ty),
+        Operand::Value(value) => ty == value.ty,
         Operand::Open { .. } => is_sequence(entry(types, ty)),
         _ => false,
     }
@@ -45,6 +47,7 @@ pub fn only_if(holds: bool, value: Value) -> Option<Value>
 fn open_as(alloc: Global, def: &TypeDef, ty: TypeId, at: Place, number: u32) -> Option<Value>
     ensures given { (ts : List Ty) → type_at ts ty ≡ meant ts def.now
         → option_map (valued_of ts) result ≡ open_as (type_at ts ty) at number }
+    ensures comes { is_some result ≡ is_sequence_in (Some def.now) }
     ensures ty { IfSome result (λ v. v.ty ≡ ty) }
 {
     if is_sequence(def) {
@@ -73,12 +76,28 @@ pub fn settle(alloc: Global, types: &TypeTable, ty: TypeId, operand: Operand) ->
     requires operand { OperandWithin (length types.now) operand }
     ensures given { (ts : List Ty) (facts : Facts) → Under types.now ts facts
         → option_map (valued_of ts) result ≡ settled (type_at ts ty) (operand_of ts operand) }
+    ensures comes { is_some result ≡ is_of types.now ty operand }
     ensures within { IfSome result (λ v. v.ty < length types.now) }
 {
     match operand {
-        Operand::Value(value) => only_if(is_same(types, ty, value.ty), value),
+        Operand::Value(value) => only_if(ty == value.ty, value),
         Operand::Open { at, number } => open_as(alloc, entry(types, ty), ty, at, number),
         _ => None,
+    }
+}
+
+/// An operand that is a value of a type, as one.
+pub fn settled(alloc: Global, types: &TypeTable, ty: TypeId, operand: Operand) -> Value
+    requires ty { ty < length types.now }
+    requires operand { OperandWithin (length types.now) operand }
+    requires fits { is_of types.now ty operand ≡ true }
+    ensures given { (ts : List Ty) (facts : Facts) → Under types.now ts facts
+        → settled (type_at ts ty) (operand_of ts operand) ≡ Some (valued_of ts result) }
+    ensures within { result.ty < length types.now }
+{
+    match settle(alloc, types, ty, operand) {
+        Some(value) => value,
+        None => unreachable!(),
     }
 }
 

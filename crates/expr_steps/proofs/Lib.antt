@@ -1,6 +1,7 @@
 mod Asking
 mod Branched
 mod Demanding
+mod Dotted
 mod Finishing
 mod Judging
 mod Within

@@ -1,24 +1,19 @@
 -- What stands in a table stands in a longer one.
 use Rattle.std.proofs.Common.{ℕ, ◌<◌, ◌≤◌, ◌++◌, List, [], ◌∷◌, Option, Some, None, arith}
 use Rattle.nim_types.specs.Table.{IsBelow, AllBelow}
-use Rattle.nim_types.specs.declared.types.TypeDef.{TypeDef}
 use Rattle.expr_steps.specs.declared.asks.Asks.{Asks}
 use Rattle.expr_steps.specs.declared.asks.Asks.TheVariants as asks
 use Rattle.expr_parts.specs.declared.branching.Branching.{Branching}
 use Rattle.expr_parts.specs.declared.branching.Branching.TheVariants as branching
 use Rattle.expr_parts.specs.declared.parts.Found.{Found}
-use Rattle.expr_parts.specs.declared.scope.Parameter.{Parameter}
 use Rattle.expr_parts.specs.declared.scope.What.{What}
-use Rattle.expr_parts.specs.declared.scope.What.TheVariants as what
-use Rattle.expr_parts.specs.declared.scope.Decl.{Decl}
-use Rattle.expr_parts.specs.declared.scope.Scope.{Scope}
 use Rattle.expr_parts.specs.declared.value.Value.{Value}
 use Rattle.expr_parts.specs.declared.value.Want.{Want}
 use Rattle.expr_parts.specs.declared.value.Want.TheVariants as want
 use Rattle.expr_parts.specs.declared.value.Operand.{Operand}
 use Rattle.expr_parts.specs.declared.value.Operand.TheVariants as operand
-use Rattle.expr_parts.specs.View.{Grown, ParametersWithin, WhatWithin, DeclsWithin, OperandWithin, OperandsWithin}
-use Rattle.expr_parts.specs.ViewReady.{IsReady, ValuesWithin, WantWithin, BranchesWithin}
+use Rattle.expr_parts.specs.View.{OperandWithin, OperandsWithin}
+use Rattle.expr_parts.specs.ViewReady.{ValuesWithin, WantWithin, BranchesWithin}
 use Rattle.expr_builds.specs.ViewBuilt.{FoundsWithin}
 use Rattle.expr_steps.specs.ViewTyping.{AsksWithin}
 
@@ -29,22 +24,6 @@ below_more h (Some i) b = omega (arith, h, b)
 pub all_below_more : {n m : ℕ} → n ≤ m → (is : List ℕ) → AllBelow n is → AllBelow m is
 all_below_more h [] b = tt
 all_below_more h (i ∷ is) b = (let c = b.0 in omega (arith, h, c), all_below_more h is b.1)
-
-params_more : {n m : ℕ} → n ≤ m → (ps : List Parameter) → ParametersWithin n ps → ParametersWithin m ps
-params_more h [] b = tt
-params_more h (p ∷ ps) b = (let c = b.0 in omega (arith, h, c), params_more h ps b.1)
-
-what_more : {n m : ℕ} → n ≤ m → (w : What) → WhatWithin n w → WhatWithin m w
-what_more h (what.Variable place ty writable global) b = omega (arith, h, b)
-what_more h (what.Constant ty l) b = omega (arith, h, b)
-what_more h (what.Type id) b = omega (arith, h, b)
-what_more h (what.Procedure p) b = (below_more h p.gives b.0, params_more h p.params b.1)
-what_more h what.Input b = tt
-what_more h what.Pending b = tt
-
-decls_more : {n m : ℕ} → n ≤ m → (ds : List Decl) → DeclsWithin n ds → DeclsWithin m ds
-decls_more h [] b = tt
-decls_more h (d ∷ ds) b = (what_more h d.what b.0, decls_more h ds b.1)
 
 pub operand_more : {n m : ℕ} → n ≤ m → (o : Operand) → OperandWithin n o → OperandWithin m o
 operand_more h (operand.Value v) b = omega (arith, h, b)
@@ -68,10 +47,6 @@ pub values_and : {n : ℕ} → (vs : List Value) (v : Value) → ValuesWithin n 
 values_and [] v b c = (c, tt)
 values_and (x ∷ vs) v b c = (b.0, values_and vs v b.1 c)
 
-pub ids_and : {n : ℕ} → (is : List ℕ) (i : ℕ) → AllBelow n is → i < n → AllBelow n (is ++ i ∷ [])
-ids_and [] i b c = (c, tt)
-ids_and (x ∷ is) i b c = (b.0, ids_and is i b.1 c)
-
 pub want_more : {n m : ℕ} → n ≤ m → (w : Want) → WantWithin n w → WantWithin m w
 want_more h want.Nothing b = tt
 want_more h (want.Whole id) b = omega (arith, h, b)
@@ -92,10 +67,3 @@ found_more h (f ∷ all) b = (let c = b.0 in omega (arith, h, c), found_more h a
 pub branches_more : {n m : ℕ} → n ≤ m → (b : Branching) → BranchesWithin n b → BranchesWithin m b
 branches_more h (branching.Undecided w) b = want_more h w b
 branches_more h (branching.Decided w ty) b = (want_more h w b.0, below_more h ty b.1)
-
-pub ready_on : {old new : List TypeDef} {s : Scope} → Grown old new → IsReady old s → IsReady new s
-ready_on {s = s} g ready = record {
-  formed = g.formed ready.formed;
-  kinds = g.kinds s.kinds ready.kinds;
-  decls = decls_more g.length s.decls ready.decls;
-}

@@ -1,3 +1,4 @@
+pub mod ViewCalls
 pub mod ViewTyping
 pub mod ViewChoices
 pub mod ViewEndings

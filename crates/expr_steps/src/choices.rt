@@ -12,6 +12,8 @@ ghost use Rattle.expr_rules.specs.Answers.{within};
 ghost use Rattle.expr_rules.specs.Choices.{branch_want, undecided};
 ghost use Rattle.expr_rules.specs.Typed.{label_from};
 ghost use Rattle.expr_parts.specs.View.{Under, want_of, number_of, typed_of, branching_of};
+ghost use Rattle.expr_parts.specs.View.{IsProper};
+ghost use Rattle.expr_constants.specs.ViewFixed.{IsFixed};
 ghost use Rattle.expr_parts.specs.ViewReady.{BranchesWithin, WantWithin};
 ghost use Rattle.expr_steps.specs.ViewTyping.{TypedWithin, given_of};
 ghost use Rattle.expr_steps.specs.ViewChoices.{conditions_of, ConditionsWithin, next_condition};
@@ -189,8 +191,10 @@ pub fn with_pick(
 pub fn label_from(alloc: Global, types: &TypeTable, ty: TypeId, typed: Typed) -> Result<Label, Stop>
     requires ty { ty < length types.now }
     requires typed { TypedWithin (length types.now) typed }
-    ensures { (ts : List Ty) (facts : Facts) → Under types.now ts facts
+    requires fixed { IsFixed types.now (λ ts. expr_of ts typed.expr) }
+    ensures answers { (ts : List Ty) (facts : Facts) → Under types.now ts facts
         → Answers label_of (label_from facts (type_at ts ty) (Ok (typed_of ts typed))) result }
+    ensures proper { IfOk result (λ l. IsProper (label_of l)) }
 {
     match value_of(typed.expr) {
         Ok(value) => label_value(alloc, types, ty, value),
@@ -231,6 +235,7 @@ fn with_own(own: Items<Label>, label: Label, all: Labels) -> Result<Tests, Stop>
 
 /// One more label.
 pub fn with_label(alloc: Global, before: Tests, at: Place, label: Label) -> Result<Tests, Stop>
+    requires { IsProper (label_of label) }
     ensures { Answers tests_of (next_test (tests_of before) at (label_of label)) result }
 {
     let mut all = before.all;

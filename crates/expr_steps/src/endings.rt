@@ -12,6 +12,7 @@ ghost use Rattle.expr_rules.specs.Constructions.{part_names};
 ghost use Rattle.expr_parts.specs.View.{env_of, number_of, want_of, typed_of};
 ghost use Rattle.expr_parts.specs.ViewReady.{IsReady, WantWithin};
 ghost use Rattle.expr_builds.specs.ViewBuilt.{plan_of, PlanWithin};
+ghost use Rattle.expr_constants.specs.ViewFixed.{IsFixed};
 ghost use Rattle.expr_steps.specs.ViewTyping.{Judges, TypedWithin, given_of, GivenWithin};
 ghost use Rattle.expr_steps.specs.ViewTyping.{part_of, PartWithin, values_of, AllWithin};
 ghost use Rattle.expr_steps.specs.ViewTyping.{operands_of, AllOperandsWithin};
@@ -22,13 +23,13 @@ ghost use Rattle.expr_steps.specs.ViewEndings.{field_end, call_end, new_sequence
 ghost use Rattle.expr_steps.specs.ViewEndings.{binary_end, index_end, if_end, case_end};
 ghost use Rattle.expr_steps.specs.ViewEndings.{case_else_end};
 
+use crate::any_call::{call_rule, field_rule, unary_call};
 use crate::choices::{Conditions, Picked};
 use crate::given::{Given, Operands, Part, Values, typed_from};
 use arc_base::{Place, Stop};
 use expr_builds::label_list::cover_rule;
 use expr_builds::plans::{Plan, construct_rule};
 use expr_builds::tuples::{array_rule, sequence_rule, tuple_rule};
-use expr_calls::any_call::{call_rule, field_rule, unary_call};
 use expr_calls::operator_calls::binary_rule;
 use expr_constants::indexing::index_rule;
 use expr_operations::new_sequences::new_sequence_rule;
@@ -243,6 +244,7 @@ pub fn index_from(
     requires ready { IsReady types.now scope.now }
     requires value { GivenWithin (length types.now) value }
     requires index { GivenWithin (length types.now) index }
+    requires fixed { IsFixed types.now (λ ts. expr_of ts index.value.expr) }
     ensures { Judges types.now types.now typed_of (λ ts facts. index_end
         (env_of ts facts scope.now) number at (given_of ts value) (given_of ts index))
         TypedWithin result }

@@ -15,6 +15,7 @@ ghost use Rattle.expr_rules.specs.Names.{is_echoed, is_field, is_shown_by_call, 
 ghost use Rattle.expr_rules.specs.Typed.{accepted, as_value, value_by};
 ghost use Rattle.expr_parts.specs.View.{Under, env_of, found_of, typed_of, valued_of, number_of};
 ghost use Rattle.expr_parts.specs.ViewReady.{IsReady};
+ghost use Rattle.expr_constants.specs.ViewFixed.{IsFixed};
 ghost use Rattle.expr_steps.specs.ViewDemands.{demand_of, receiver_of};
 ghost use Rattle.expr_steps.specs.ViewTyping.{asks_of, AsksWithin, given_of, GivenWithin};
 ghost use Rattle.expr_steps.specs.ViewTyping.{part_of, PartWithin, TypedWithin, shown_part};
@@ -352,6 +353,7 @@ pub fn alone_in(alloc: Global, operand: Operand) -> Result<Vec<Operand>, Stop>
 /// The length of an array, by what stands for it.
 pub fn length_from(alloc: Global, types: &TypeTable, typed: Typed) -> Result<i32, Stop>
     requires typed { TypedWithin (length types.now) typed }
+    requires fixed { IsFixed types.now (λ ts. expr_of ts typed.expr) }
     ensures { (ts : List Ty) (facts : Facts) → Under types.now ts facts
         → Answers (λ (z : ℤ). z) (and_then (value_of (expr_of ts typed.expr)) (length_rule facts))
         result }

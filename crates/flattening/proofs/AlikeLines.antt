@@ -21,13 +21,13 @@ use Rattle.flattening.specs.Alike.{gives_as, AreAlike, AllAlike}
 use Rattle.flattening.specs.Flattened.{modes_of}
 use Rattle.flattening.specs.Given.{flat_body, flat_proc, flat_procs}
 use Rattle.flattening.specs.Numbering.{width_of}
-use Rattle.flattening.specs.StmtLines.{outermost, returned, body_lines}
+use Rattle.flattening.specs.StmtLines.{returned, body_lines}
 use Rattle.flattening.proofs.Parts.{Each, apart}
 use Rattle.flattening.proofs.Plain.{neither, none_earlier}
 use Rattle.flattening.proofs.Simple.{AreSimpleStmts}
 use Rattle.flattening.proofs.Simples.{block_simple, code_simple}
+use Rattle.flattening.proofs.NameTallies.{body_named}
 use Rattle.flattening.proofs.Tallies.{tally, count, no_flags, below_one}
-use Rattle.flattening.proofs.TallyStmts.{block, ends}
 
 pub none_mapped : (o : Option Node) → option_map (λ (node : Node). node.at) o ≡ None → o ≡ None
 none_mapped None e = refl
@@ -44,8 +44,7 @@ pub body_alike : (types : List Ty) (modes : (proc position : ℕ) → Mode) (fac
     AreAlike (body_lines types modes body)
 unfolding tally
 body_alike types modes facts body s = λ name has of_values is.
-    let t = (block types modes facts name has of_values is body.result body.stmts (outermost body.result) 0 s
-    (ends types modes facts name has of_values is body.result) no_flags).all (returned body.result []) in
+    let t = (body_named types modes facts name has of_values is body.result body.stmts s no_flags).all (returned body.result []) in
     let one = below_one name (8 * (0 + width_of body.stmts)) in
     few (gives_as name has true (body_lines types modes body)) (gives_as name has false (body_lines types modes body)) (omega (arith, t, one))
 

@@ -1,6 +1,6 @@
 -- What is counted of a program by how much each part takes, each literal that is built, and each one that is read where it stands; where that is a
 -- multiple of what is counted of each, so is the whole.
-use Rattle.std.proofs.Common.{◌≡◌, ℕ, ◌+◌, ◌*◌, true, false, List, [], ◌∷◌, length, Option, Some, None, refl, arith}
+use Rattle.std.proofs.Common.{◌≡◌, ℕ, ◌+◌, ◌*◌, true, false, List, [], ◌∷◌, length, Option, refl, arith}
 use Rattle.nim_program.specs.Program.{Literal, Label, Act, Doing, Building, Giving, Calling, Chooser, ByConditions, ByLabels}
 use Rattle.nim_program.specs.Program.{Expr, Path, Args, Stmt, Stmts, Blocks, Handlers, Body, Proc, Program}
 use Rattle.nim_program.specs.Folds.{Named, Standing, Begun, ToField, ToElement, ToObject}

@@ -28,7 +28,7 @@ use Rattle.flattening.proofs.Runs.{Runs, spares}
 use Rattle.flattening.proofs.Worlds.{Since, since_none}
 use Rattle.flattening.proofs.Temps.{Kept, kept_none, kept_wide}
 use Rattle.flattening.proofs.Puts.{found, found_here, puts_label, puts_wide, ◌>>◌}
-use Rattle.flattening.proofs.PutsExprs.{puts_expr, puts_tests, puts_arms}
+use Rattle.flattening.proofs.PutsParts.{puts_expr, puts_tests, puts_arms}
 use Rattle.flattening.proofs.Spots.{Spot, here_of, there, Lands, brings, further, goes, leaps}
 use Rattle.flattening.proofs.Standing.{Stands}
 use Rattle.flattening.proofs.Choices.{Has, ExprFollows, TestsFollow, valued, ends_at, none_follows}

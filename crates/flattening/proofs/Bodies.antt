@@ -16,7 +16,7 @@ use Rattle.flattening.specs.Formed.{AtFirst, BodyFormed}
 use Rattle.flattening.proofs.Runs.{Fixed, M, Runs}
 use Rattle.flattening.proofs.Worlds.{Since}
 use Rattle.flattening.proofs.Puts.{puts_none, puts_line, is_empty}
-use Rattle.flattening.proofs.PutsStmts.{PutsExits, puts_stmts}
+use Rattle.flattening.proofs.PutsParts.{PutsExits, puts_stmts}
 use Rattle.flattening.proofs.Spots.{Spot, here_of, there, weaker}
 use Rattle.flattening.proofs.Standing.{grounded, Stands}
 use Rattle.flattening.proofs.Acting.{CallsFollow}

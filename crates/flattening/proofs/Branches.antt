@@ -25,8 +25,8 @@ use Rattle.flattening.proofs.Runs.{Runs, pays, spares}
 use Rattle.flattening.proofs.Worlds.{since_none}
 use Rattle.flattening.proofs.Temps.{kept_none, kept_wide}
 use Rattle.flattening.proofs.Puts.{Puts, found, found_here, puts_none, puts_line, puts_label, puts_wide, ◌>>◌}
-use Rattle.flattening.proofs.PutsExprs.{puts_expr}
-use Rattle.flattening.proofs.PutsStmts.{puts_stmts, puts_branches}
+use Rattle.flattening.proofs.PutsParts.{puts_expr}
+use Rattle.flattening.proofs.PutsParts.{puts_stmts, puts_branches}
 use Rattle.flattening.proofs.Spots.{Spot, here_of, there, after, goes, leaps}
 use Rattle.flattening.proofs.Standing.{grounded, Stands, stands_since}
 use Rattle.flattening.proofs.Acting.{CallsFollow}

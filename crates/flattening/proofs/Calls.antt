@@ -19,14 +19,14 @@ use Rattle.nim_meaning.specs.Ways.{Point}
 use Rattle.nim_meaning.specs.Here.{Here}
 use Rattle.nim_meaning.specs.Places.{place_at}
 use Rattle.nim_meaning.specs.Acts.{Broke, Continued, Returned, Raised, Outcome, On, Out, Does}
-use Rattle.nim_meaning.specs.Acts.{onward, worked, said, left_with, with_trail, exit_of, stop, line_of}
+use Rattle.nim_meaning.specs.Acts.{onward, worked, said, left_with, with_trail, exit_of, line_of}
 use Rattle.nim_meaning.specs.Acts.{spending, elsewhere, branch, change, costs}
 use Rattle.nim_meaning.specs.Acts as acting
 use Rattle.nim_meaning.specs.Meaning.{calls, called, entered, from_level, result_slots, frame_of, params_end}
 use Rattle.nim_meaning.specs.Meaning.{ends, handed, handing, result_of, result_bytes, seen_call, exec_all}
 use Rattle.flat_code.specs.declared.line.Line.{Line}
 use Rattle.flat_code.specs.declared.line.Line.TheVariants as L
-use Rattle.flat_code.specs.Scene.{Temps, no_temps, with_value, Did, Calls, Returns}
+use Rattle.flat_code.specs.Scene.{Temps, no_temps, with_value, Calls, Returns}
 use Rattle.flat_code.specs.Scene as scenes
 use Rattle.flat_code.specs.Lines.{is_there}
 use Rattle.flat_code.specs.Running.{Proc, Waiting, callable, before_last, slot_bytes, beginning}

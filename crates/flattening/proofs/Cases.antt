@@ -33,8 +33,8 @@ use Rattle.flattening.proofs.Runs.{Runs, pays, spares}
 use Rattle.flattening.proofs.Worlds.{Since, since_none, since_then}
 use Rattle.flattening.proofs.Temps.{Kept, kept_none, kept_then, kept_wide, kept_value, put_same}
 use Rattle.flattening.proofs.Puts.{Puts, found, found_here, puts_line, puts_label, puts_wide, ◌>>◌}
-use Rattle.flattening.proofs.PutsExprs.{puts_arm}
-use Rattle.flattening.proofs.PutsStmts.{puts_stmts, puts_block_tests, puts_arm_blocks, puts_selector}
+use Rattle.flattening.proofs.PutsParts.{puts_arm}
+use Rattle.flattening.proofs.PutsParts.{puts_stmts, puts_block_tests, puts_arm_blocks, puts_selector}
 use Rattle.flattening.proofs.Spots.{Spot, here_of, there, scene, Lands, after, further, goes, leaps, performs_alone, at_point}
 use Rattle.flattening.proofs.Standing.{grounded, Stands, stands_since}
 use Rattle.flattening.proofs.Acting.{CallsFollow}

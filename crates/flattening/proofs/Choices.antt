@@ -24,7 +24,7 @@ use Rattle.nim_meaning.specs.Meaning.{eval, early, handed_on, handed_by, first_v
 use Rattle.flat_code.specs.declared.line.Line.{Line}
 use Rattle.flat_code.specs.declared.line.Line.TheVariants as L
 use Rattle.flat_code.specs.Scene.{Temps, with_value}
-use Rattle.flat_code.specs.Lines.{using, using_number, leaps_where}
+use Rattle.flat_code.specs.Lines.{using, leaps_where}
 use Rattle.flat_code.specs.Lines as does
 use Rattle.flattening.specs.declared.numbers.Purpose.TheVariants.{End, Next, Arm}
 use Rattle.flattening.specs.Numbering.{width, widths, label}
@@ -36,7 +36,7 @@ use Rattle.flattening.proofs.Runs.{Runs, spares}
 use Rattle.flattening.proofs.Worlds.{Since, since_none}
 use Rattle.flattening.proofs.Temps.{Kept, kept_none, kept_wide, kept_value, put_same, put_other}
 use Rattle.flattening.proofs.Puts.{found, found_here, puts_label, puts_wide, ◌>>◌}
-use Rattle.flattening.proofs.PutsExprs.{puts_expr, puts_choice}
+use Rattle.flattening.proofs.PutsParts.{puts_expr, puts_choice}
 use Rattle.flattening.proofs.Spots.{Spot, here_of, there, scene, does_at, Lands, after, after_both, answers, brings, further, goes, leaps}
 use Rattle.flattening.proofs.Standing.{Stands, stands_since}
 use Rattle.flattening.proofs.Acting.{Comes, hands_follow, default_follows}

@@ -11,7 +11,7 @@ use Rattle.nim_meaning.specs.Values.{Value, Number, number_of, Holds, Given}
 use Rattle.nim_meaning.specs.State.{World, State}
 use Rattle.nim_meaning.specs.ActTree.{Turns, Chooses, Fills, Begins}
 use Rattle.nim_meaning.specs.Ways.{At as Point}
-use Rattle.nim_meaning.specs.Acts.{Outcome, On, Does, onward, branch, worked, left_with, with_trail, at_exit, costs, loop, again, no_more, next, turn_of}
+use Rattle.nim_meaning.specs.Acts.{Outcome, On, Does, branch, worked, left_with, with_trail, at_exit, costs, loop, again, no_more, next, turn_of}
 use Rattle.nim_meaning.specs.Acts as acting
 use Rattle.nim_meaning.specs.Deeds.{Opens, changed}
 use Rattle.nim_meaning.specs.Deeds as deeds
@@ -33,8 +33,8 @@ use Rattle.flattening.proofs.Runs.{M, Runs, walks_spared, pays, spares, lands, T
 use Rattle.flattening.proofs.Worlds.{Since, since_then, since_slot}
 use Rattle.flattening.proofs.Temps.{Kept, kept_then, kept_wide, kept_value, put_same, put_other, value_before}
 use Rattle.flattening.proofs.Puts.{Puts, found, found_here, puts_line, puts_label, puts_wide, ◌>>◌}
-use Rattle.flattening.proofs.PutsExprs.{puts_ready}
-use Rattle.flattening.proofs.PutsStmts.{puts_stmts}
+use Rattle.flattening.proofs.PutsParts.{puts_ready}
+use Rattle.flattening.proofs.PutsParts.{puts_stmts}
 use Rattle.flattening.proofs.Spots.{Spot, here_of, there, scene, does_at, after, walks_line, walks_leap, goes, turns, enters}
 use Rattle.flattening.proofs.Standing.{grounded, Stands, stands_since}
 use Rattle.flattening.proofs.Acting.{CallsFollow}

@@ -40,8 +40,8 @@ use Rattle.flattening.proofs.Runs.{M, Runs, Walks, walks_on, pays, spares, lands
 use Rattle.flattening.proofs.Worlds.{Since, since_then, since_slot}
 use Rattle.flattening.proofs.Temps.{Kept, kept_none, kept_then, kept_wide, kept_value, put_same, put_other, value_before}
 use Rattle.flattening.proofs.Puts.{Puts, found, found_here, puts_line, puts_label, puts_wide, ◌>>◌}
-use Rattle.flattening.proofs.PutsExprs.{puts_ready, puts_find}
-use Rattle.flattening.proofs.PutsStmts.{puts_stmts}
+use Rattle.flattening.proofs.PutsParts.{puts_ready, puts_find}
+use Rattle.flattening.proofs.PutsParts.{puts_stmts}
 use Rattle.flattening.proofs.Spots.{Spot, here_of, there, scene, does_at, after, both_falling, walks_line, walks_leap, goes, leaps, turns, performs}
 use Rattle.flattening.proofs.Standing.{grounded, Stands, stands_since}
 use Rattle.flattening.proofs.Acting.{CallsFollow}

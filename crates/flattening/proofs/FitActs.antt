@@ -25,14 +25,14 @@ use Rattle.flat_code.specs.declared.line.Line.TheVariants as L
 use Rattle.flat_code.specs.declared.place.FlatPlace.{FlatPlace}
 use Rattle.flat_code.specs.Scene.{Known}
 use Rattle.flat_code.specs.Fits as fit
-use Rattle.flat_code.specs.Fits.{Taken, Signature, operation_fits, writes, are_arguments}
+use Rattle.flat_code.specs.Fits.{Signature, operation_fits, writes, are_arguments}
 use Rattle.flattening.specs.Formed.{IfListed, AreListed}
 use Rattle.flattening.specs.Numbering.{if_number, all_numbers, width, width_at}
 use Rattle.flattening.specs.ExprLines.{froms, act_line}
 use Rattle.flattening.proofs.Acting.{type_is, types_are}
 use Rattle.flattening.proofs.Direct.{is_text, of_act}
 use Rattle.flattening.proofs.Fit.{Among, fitting}
-use Rattle.flattening.proofs.FitParts.{never, of_same, value_same, itself, both_are, both_some, takes_of}
+use Rattle.flattening.proofs.FitParts.{never, both_are, both_some, takes_of}
 use Rattle.flattening.proofs.FitParts as parts
 use Rattle.flattening.proofs.FitPaths as paths
 

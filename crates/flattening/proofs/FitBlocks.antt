@@ -5,7 +5,7 @@ use Rattle.std.specs.Prelude.{nat_eq, if◌then◌else◌, take}
 use Rattle.std.proofs.lemmas.Bool.{eqb-true}
 use Rattle.nim_types.specs.Types.{Ty, Facts}
 use Rattle.nim_types.specs.Types as type
-use Rattle.nim_program.specs.Program.{Label, ByLabels, Expr, Args, NoArg, ByValue, ByPath, Proc, Declared}
+use Rattle.nim_program.specs.Program.{Expr, Args, NoArg, ByValue, ByPath, Proc, Declared}
 use Rattle.nim_program.specs.Folds.{Seen, lists, total, total_at, totals, each}
 use Rattle.nim_program.specs.Kinds.{kind_of, declared_kind, is_int}
 use Rattle.nim_program.specs.Scopes.{Placed, placed, Here, look}

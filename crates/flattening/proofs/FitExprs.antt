@@ -32,7 +32,7 @@ use Rattle.flattening.specs.ExprLines.{lines, aim_lines, ready_lines, choice_lin
 use Rattle.flattening.proofs.Acting.{type_is}
 use Rattle.flattening.proofs.Direct.{are_direct}
 use Rattle.flattening.proofs.Fit.{Among, Fit, fitting, fit_none, fit_line, ◌>>◌, fit_if}
-use Rattle.flattening.proofs.FitParts.{value_turned, never, of_same, value_same, itself, both_are}
+use Rattle.flattening.proofs.FitParts.{value_turned, never, of_same, itself, both_are}
 use Rattle.flattening.proofs.FitParts as parts
 use Rattle.flattening.proofs.FitPaths as paths
 use Rattle.flattening.proofs.FitActs as acts

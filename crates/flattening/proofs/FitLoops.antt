@@ -31,10 +31,10 @@ use Rattle.flattening.specs.StmtLines.{Exits, in_loop}
 use Rattle.flattening.specs.StmtLines.{lines_in, lines_of}
 use Rattle.flattening.proofs.Direct.{all_direct}
 use Rattle.flattening.proofs.Fit.{Among, Fit, fit_line, ◌>>◌}
-use Rattle.flattening.proofs.FitBlocks.{the_int, together_each}
+use Rattle.flattening.proofs.FitBlocks.{the_int}
 use Rattle.flattening.proofs.FitBlocks as blocks
 use Rattle.flattening.proofs.FitExprs as exprs
-use Rattle.flattening.proofs.FitParts.{turned, never, of_same, itself, both_are, both_some}
+use Rattle.flattening.proofs.FitParts.{turned, never, both_some}
 use Rattle.flattening.proofs.FitParts as parts
 use Rattle.flattening.proofs.FitPaths as paths
 use Rattle.flattening.proofs.Numbered.{Owns, owns_first, owns_second, owns_inner}

@@ -1,5 +1,5 @@
 -- What is known of typed parts where they stand: their types are those of the table, and their temporaries have them.
-use Rattle.std.proofs.Common.{◌≡◌, ℕ, suc, ◌+◌, ◌≤◌, Bool, true, false, List, [], ◌∷◌, ◌++◌, Option, Some, None, refl, sym, ap, ap₂, ◌∙◌, subst, arith}
+use Rattle.std.proofs.Common.{◌≡◌, ℕ, suc, ◌+◌, ◌≤◌, Bool, true, false, List, [], ◌∷◌, ◌++◌, Option, Some, None, refl, sym, ap, ap₂, ◌∙◌, arith}
 use Rattle.std.specs.Prelude.{◌&&◌, ◌||◌, not, ℤ, slice_get, take}
 use Rattle.std.proofs.lemmas.Bool.{both_ways, and_parts}
 use Rattle.nim_types.specs.Types.{Ty, Facts}

@@ -24,7 +24,7 @@ use Rattle.flattening.specs.Numbering.{type_number, width, width_at}
 use Rattle.flattening.specs.ExprLines.{begin_line, froms, find_lines, settle_lines}
 use Rattle.flattening.proofs.Direct.{is_text, is_direct}
 use Rattle.flattening.proofs.Fit.{Among, Fit, fitting, fit_none, fit_line, ◌>>◌}
-use Rattle.flattening.proofs.FitParts.{turned, never, of_same, value_same, itself, both_are, both_some}
+use Rattle.flattening.proofs.FitParts.{turned, never, of_same, itself, both_some}
 use Rattle.flattening.proofs.FitParts as parts
 use Rattle.flattening.proofs.Literals.{pieces_value}
 use Rattle.flattening.proofs.OnePiece.{is_one}

@@ -52,7 +52,7 @@ use Rattle.flattening.proofs.Fit.{Fit, fit_none, fit_line, ◌>>◌}
 use Rattle.flattening.proofs.FitBlocks as blocks
 use Rattle.flattening.proofs.FitBodies as bodies
 use Rattle.flattening.proofs.FitBodies.{look_each, each_placed}
-use Rattle.flattening.proofs.FitParts.{never, of_same, value_same, takes_of}
+use Rattle.flattening.proofs.FitParts.{never, value_same, takes_of}
 use Rattle.flattening.proofs.FitParts as parts
 use Rattle.flattening.proofs.FitTests as standing
 use Rattle.flattening.proofs.FitLoops as loops
@@ -62,7 +62,7 @@ use Rattle.flattening.proofs.PlaceNumbers.{stmt_numbers, block_numbers}
 use Rattle.flattening.proofs.Parts.{Each, apart}
 use Rattle.flattening.proofs.Plain.{neither, none_earlier}
 use Rattle.flattening.proofs.Puts as puts
-use Rattle.flattening.proofs.PutsStmts.{puts_stmts}
+use Rattle.flattening.proofs.PutsParts.{puts_stmts}
 
 pub none_mapped : (o : Option Node) → option_map (λ (node : Node). node.at) o ≡ None → o ≡ None
 none_mapped None e = refl

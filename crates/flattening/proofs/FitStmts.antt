@@ -29,10 +29,10 @@ use Rattle.flattening.specs.StmtLines.{Exits, in_loop}
 use Rattle.flattening.specs.StmtLines.{lines_in, lines_of, branch_lines, arm_blocks}
 use Rattle.flattening.proofs.Direct.{is_direct, are_direct, all_direct}
 use Rattle.flattening.proofs.Fit.{Among, Fit, fit_none, fit_line, ◌>>◌, fit_if}
-use Rattle.flattening.proofs.FitBlocks.{the_int, together_each}
+use Rattle.flattening.proofs.FitBlocks.{together_each}
 use Rattle.flattening.proofs.FitBlocks as blocks
 use Rattle.flattening.proofs.FitExprs as exprs
-use Rattle.flattening.proofs.FitParts.{turned, never, of_same, itself, both_are, both_some}
+use Rattle.flattening.proofs.FitParts.{never}
 use Rattle.flattening.proofs.FitParts as parts
 use Rattle.flattening.proofs.Numbered.{numbered_wide, ◌>>◌ as joined, Owns, owns_first, owns_second, owns_less, owns_inner}
 use Rattle.flattening.proofs.Parts.{Each, EachIn, apart, taking_turns}

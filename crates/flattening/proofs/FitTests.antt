@@ -1,5 +1,5 @@
 -- What the lines of statements stand on: ways out, tests and selectors.
-use Rattle.std.proofs.Common.{◌≡◌, ℕ, suc, ◌+◌, Bool, true, false, List, [], ◌∷◌, ◌++◌, Option, Some, None, refl, sym, ap, ap₂, ◌∙◌, subst, arith, append-nil}
+use Rattle.std.proofs.Common.{◌≡◌, ℕ, suc, ◌+◌, Bool, true, false, List, [], ◌∷◌, Option, Some, None, refl, sym, ap, ap₂, ◌∙◌, subst, append-nil}
 use Rattle.std.specs.Prelude.{◌&&◌, ◌||◌}
 use Rattle.std.proofs.lemmas.Bool.{and_parts}
 use Rattle.nim_types.specs.Types.{Ty, Facts}
@@ -7,7 +7,7 @@ use Rattle.nim_program.specs.declared.operation.Use.TheVariants.{Looked}
 use Rattle.nim_program.specs.declared.program.Mode.{Mode}
 use Rattle.nim_program.specs.declared.stmt.Leaving.{Leaving}
 use Rattle.nim_program.specs.declared.stmt.Leaving.TheVariants as K
-use Rattle.nim_program.specs.Program.{Label, ByLabels, Expr, Read, Args, NoArg, ByValue, ByPath, Proc, Declared, type_of, type_at}
+use Rattle.nim_program.specs.Program.{Label, Expr, Args, NoArg, ByValue, ByPath, Proc, Declared, type_of, type_at}
 use Rattle.nim_program.specs.Program.{Stmt}
 use Rattle.nim_program.specs.Program.{Stmts, Blocks, Otherwise, Block}
 use Rattle.nim_program.specs.Folds.{lists, total, totals, total_in, total_of, own_places}
@@ -31,10 +31,9 @@ use Rattle.flattening.specs.Places.{stmt_places, block_places}
 use Rattle.flattening.specs.StmtLines.{Exits, leaving_by, in_loop, back_lines, result_line, block_tests, selector_lines}
 use Rattle.flattening.proofs.Direct.{direct, all_direct}
 use Rattle.flattening.proofs.Fit.{Among, Fit, fit_none, fit_line, ◌>>◌}
-use Rattle.flattening.proofs.FitBlocks.{the_int, together_each}
 use Rattle.flattening.proofs.FitBlocks as blocks
 use Rattle.flattening.proofs.FitExprs as exprs
-use Rattle.flattening.proofs.FitParts.{turned, never, of_same, itself, both_are, both_some}
+use Rattle.flattening.proofs.FitParts.{turned, never, both_some}
 use Rattle.flattening.proofs.FitParts as parts
 use Rattle.flattening.proofs.FitPaths as paths
 use Rattle.flattening.proofs.Numbered.{Owns}

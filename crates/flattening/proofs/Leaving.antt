@@ -22,7 +22,7 @@ use Rattle.flattening.proofs.Runs.{M, Runs, Walks, walks_none, walks_spared, pay
 use Rattle.flattening.proofs.Worlds.{Since, since_then, since_slot, is_opened}
 use Rattle.flattening.proofs.Temps.{Kept, kept_then, kept_wide}
 use Rattle.flattening.proofs.Puts.{Puts, found}
-use Rattle.flattening.proofs.PutsStmts.{PutsExits, puts_in_loop}
+use Rattle.flattening.proofs.PutsParts.{PutsExits, puts_in_loop}
 use Rattle.flattening.proofs.Spots.{Spot, there, At, weaker, do_assoc}
 use Rattle.flattening.proofs.Standing.{grounded, Stands, stands_since}
 

@@ -1,5 +1,5 @@
 -- Lines in front of others lead somewhere: the labels behind to which they may lead stand there, and those before stand among all lines.
-use Rattle.std.proofs.Common.{◌≡◌, ℕ, ◌⊎◌, inl, inr, Bool, true, false, List, ◌∷◌, Some, None, refl, sym, ap, subst}
+use Rattle.std.proofs.Common.{◌≡◌, ℕ, ◌⊎◌, inl, inr, Bool, true, false, List, ◌∷◌, Some, None, refl, sym, ap}
 use Rattle.std.specs.Prelude.{◌&&◌, if◌then◌else◌}
 use Rattle.std.proofs.lemmas.Bool.{and_from, eq-eqb}
 use Rattle.flat_code.specs.declared.line.Line.{Line}
@@ -7,7 +7,6 @@ use Rattle.flat_code.specs.declared.line.Line.TheVariants as L
 use Rattle.flat_code.specs.Codes.{flat_plain}
 use Rattle.flat_code.specs.Running.{from_label, is_name}
 use Rattle.flat_code.specs.Whole.{label_in, target, back_to, falls, is_found, is_followed, stands, all_lead}
-use Rattle.flattening.specs.ExprLines.{arm_label}
 
 pub either : {A B C : Type 0} → (A → C) → (B → C) → A ⊎ B → C
 either f g (inl a) = f a
@@ -31,10 +30,6 @@ here n m k e = ap (λ b. is_found (if b then Some (L.Label n ∷ k) else from_la
 followed : (b : Bool) (k : List Line) → is_followed true k ≡ true → is_followed b k ≡ true
 followed true k h = h
 followed false k h = refl
-
--- as a record, since it stands beside others in one induction
-pub record IsThere (n : ℕ) (k : List Line) : Type 0 where
-  pub found : Found n k
 
 -- ---- lines in front of others
 
@@ -98,7 +93,7 @@ module _ (whole : List Line) where
 
   -- ---- one line
 
-  a_line : (needs backs : Names) (line : Line) →
+  pub a_line : (needs backs : Names) (line : Line) →
       ((k : List Line) → ((n : ℕ) → needs n → Found n k) → stands label_in flat_plain k (target line) ≡ true) →
       (((n : ℕ) → backs n → Found n whole) → stands label_in flat_plain whole (back_to line) ≡ true) → Led whole needs backs (λ k. line ∷ k)
   a_line needs backs line behind before = record {
@@ -115,16 +110,6 @@ module _ (whole : List Line) where
   silent needs backs line e f =
       a_line needs backs line (λ k found. ap (stands label_in flat_plain k) e) (λ before. ap (stands label_in flat_plain whole) f)
 
-  pub forward : (needs backs : Names) (line : Line) (n : ℕ) → target line ≡ Some n → back_to line ≡ None → needs n → Led whole needs backs (λ k. line ∷ k)
-  forward needs backs line n e f need =
-      a_line needs backs line (λ k found. subst (λ o. stands label_in flat_plain k o ≡ true) (sym e) (found n need))
-      (λ before. ap (stands label_in flat_plain whole) f)
-
-  pub backward : (needs backs : Names) (line : Line) (n : ℕ) → target line ≡ None → back_to line ≡ Some n → backs n → Led whole needs backs (λ k. line ∷ k)
-  backward needs backs line n e f back =
-      a_line needs backs line (λ k found. ap (stands label_in flat_plain k) e)
-      (λ before. subst (λ o. stands label_in flat_plain whole o ≡ true) (sym f) (before n back))
-
   -- ---- labels
 
   -- behind the lines that need it
@@ -140,27 +125,3 @@ module _ (whole : List Line) where
         and_from _ _ (p.goes_on k on) (p.all k on found (λ m h. either (λ e. ends m (here n m (F k) e)) (λ b. before m b) h)
         (λ m h. ends m (past (L.Label n) m (F k) h)) rest);
   }
-
-  -- ---- arms
-
-  pub arm_then : {needs backs : Names} (last : Bool) (other arm : ℕ) {F G : List Line → List Line} → Led whole needs backs F → Led whole needs backs G →
-      Led whole needs backs (λ k. arm_label last other arm (F (if last then k else G k)))
-  arm_then {needs} {backs} true other arm p q = silent needs backs (L.Label other) refl refl >> (silent needs backs (L.Label arm) refl refl >> p)
-  arm_then {needs} {backs} false other arm p q = silent needs backs (L.Label arm) refl refl >> (p >> q)
-
--- where arms begin
-pub arm_here : (last : Bool) (other arm n : ℕ) (k : List Line) → n ≡ arm → Found n (arm_label last other arm k)
-arm_here true other arm n k e = past (L.Label other) n (L.Label arm ∷ k) (here arm n k e)
-arm_here false other arm n k e = here arm n k e
-
--- the last arm has the other label, or those behind have it
-pub other_there : (last : Bool) (other arm n : ℕ) (F G : List Line → List Line) (k : List Line) → n ≡ other →
-    ((l : List Line) → Found n l → Found n (F l)) → Found n (G k) → Found n (arm_label last other arm (F (if last then k else G k)))
-other_there true other arm n F G k e keeps h = here other n (L.Label arm ∷ F k) e
-other_there false other arm n F G k e keeps h = past (L.Label arm) n (F (G k)) (keeps (G k) h)
-
--- another arm, behind one that isn't the last
-pub later_arm : (other arm end n : ℕ) (behind : List Line) {whole : List Line} {needs backs : Names} {F : List Line → List Line} →
-    Led whole needs backs F → Found n behind → Found n (arm_label false other arm (F (L.Jump end ∷ behind)))
-later_arm other arm end n behind {whole} {needs} {backs} {F} p h =
-    past (L.Label arm) n (F (L.Jump end ∷ behind)) (p.keeps n (L.Jump end ∷ behind) (past (L.Jump end) n behind h))

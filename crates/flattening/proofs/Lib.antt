@@ -6,8 +6,14 @@ mod Temps
 mod Spots
 mod Widths
 mod Puts
-mod PutsExprs
-mod PutsStmts
+mod LineNames
+mod Simple
+mod Costs
+mod CostExprs
+mod CostStmts
+mod Tallies
+mod NameCosts
+mod PutsParts
 mod Standing
 mod Paths
 mod Literals
@@ -66,7 +72,6 @@ mod DeclaredGlobals
 mod FitPrograms
 mod CodeHandedOn
 mod NoHooks
-mod Spares
 mod Amounts
 mod Measures
 mod Weights
@@ -74,11 +79,8 @@ mod Texts
 mod GlobalSizes
 mod DataSizes
 mod LastOnes
-mod Simple
 mod Simples
-mod Tallies
-mod TallyExprs
-mod TallyStmts
+mod NameTallies
 mod AlikeLines
 mod Covers
 mod CoversExprs
@@ -86,6 +88,5 @@ mod CoversStmts
 mod PlainBodies
 mod PlainPrograms
 mod Led
-mod LedExprs
-mod LedStmts
+mod LedParts
 pub mod ForCallers

@@ -15,7 +15,7 @@ use Rattle.flat_code.specs.Lines.{using_number, leaps_where}
 use Rattle.flattening.specs.ExprLines.{label_tests}
 use Rattle.flattening.proofs.Runs.{M, Runs, pays}
 use Rattle.flattening.proofs.Puts.{found}
-use Rattle.flattening.proofs.PutsExprs.{puts_labels}
+use Rattle.flattening.proofs.PutsParts.{puts_labels}
 use Rattle.flattening.proofs.Spots.{Spot, there, scene, goes, leaps}
 
 -- what is done behind a choice is done behind each of its ends

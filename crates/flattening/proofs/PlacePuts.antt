@@ -11,8 +11,8 @@ use Rattle.nim_program.specs.declared.stmt.Stmt.{Stmt as RustStmt}
 use Rattle.nim_program.specs.declared.stmt.Stmt.TheVariants as S
 use Rattle.nim_program.specs.declared.stmt.Leaving.TheVariants.{Break}
 use Rattle.nim_program.specs.Program as T
-use Rattle.nim_program.specs.Program.{Chooser, ByConditions, ByLabels, Label, Expr, Apply, Early, Choose, Path, Variable, Fresh, Field, Element, Deref}
-use Rattle.nim_program.specs.Program.{Act, Args, NoArg, ByValue, type_at, node_at, Stmt, Select, Loop, Kind, While, Count, Each, Stmts, Empty, Then, Blocks}
+use Rattle.nim_program.specs.Program.{ByConditions, ByLabels, Label, Expr, Apply, Early, Choose, Path, Fresh, Field, Element, Deref}
+use Rattle.nim_program.specs.Program.{Act, Args, NoArg, ByValue, Stmt, Select, Stmts, Empty, Then, Blocks}
 use Rattle.nim_program.specs.Program.{Block}
 use Rattle.nim_program.specs.declared.operation.Short.{Short}
 use Rattle.nim_program.specs.View.{expr_of, if_type, if_value, operand_before, operands_of, stmt_before}

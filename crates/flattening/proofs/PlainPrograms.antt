@@ -41,7 +41,8 @@ use Rattle.flattening.proofs.GlobalSizes.{IsAmong, block_told}
 use Rattle.flattening.proofs.Parts.{Each, apart}
 use Rattle.flattening.proofs.Plain.{kept, neither, none_earlier}
 use Rattle.flattening.proofs.PlaceNumbers.{block_numbers}
-use Rattle.flattening.proofs.PlainBodies.{block_small, params_small, result_small, others_none, result_none, params_first, params_are, others_apart, handed_first, handed_are}
+use Rattle.flattening.proofs.PlainBodies.{block_small, params_small, result_small, others_none, result_none, params_first, params_are, others_apart}
+use Rattle.flattening.proofs.PlainBodies.{handed_first, handed_are}
 use Rattle.flattening.proofs.Simple.{IsFine, AreSimpleStmts}
 
 -- ---- declared places are within those of the call
@@ -267,7 +268,16 @@ module _ (program : Program) (plan : Plan) where
         left_out_in_proc facts params body ≡ None → sum_if program params body ≤ most →
         IsPlainProc (known_of program) most start (flat_proc program plan hook params body)
     proc_plain start hook params gives None h n p sum =
-        record { places = tt; lines = tt; lead = refl; globals = λ e. refl; params_bytes = omega arith; handed = refl; handed_bytes = omega arith; bytes = omega arith }
+        record {
+          places = tt;
+          lines = tt;
+          lead = refl;
+          globals = λ e. refl;
+          params_bytes = omega arith;
+          handed = refl;
+          handed_bytes = omega arith;
+          bytes = omega arith;
+        }
     proc_plain start hook params gives (Some body) h n p sum =
         let q = and_parts (are_among_types types (body_types params body) && _) _ h in
         let r = and_parts (are_among_types types (body_types params body)) _ q.0 in

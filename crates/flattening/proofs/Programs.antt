@@ -18,7 +18,7 @@ use Rattle.nim_meaning.specs.Meaning.{frame_of, at_first, reported, goes_through
 use Rattle.flat_code.specs.declared.line.Line.{Line}
 use Rattle.flat_code.specs.declared.line.Line.TheVariants as L
 use Rattle.flat_code.specs.Scene.{no_temps, Returns}
-use Rattle.flat_code.specs.Running.{Proc, last_of, start_of, beginning}
+use Rattle.flat_code.specs.Running.{Proc, last_of, beginning}
 use Rattle.flat_code.specs.Running as running
 use Rattle.flattening.specs.StmtLines.{number_of}
 use Rattle.flattening.specs.Flattened.{code_of_body, flat_start, flat_meaning, IsExact}

@@ -48,7 +48,3 @@ puts_wide {lo} {hi} {lo'} {hi'} {F} low high p = record {
   skips = λ name k out. p.skips name k (λ le. let h = out (omega (arith, low, le)) in omega (arith, h, high));
   some = p.some;
 }
-
-pub puts_if : {lo hi : ℕ} {F G : List Line → List Line} (b : Bool) → Puts lo hi F → Puts lo hi G → Puts lo hi (λ k. if b then F k else G k)
-puts_if true p q = p
-puts_if false p q = q

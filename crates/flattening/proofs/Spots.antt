@@ -14,7 +14,7 @@ use Rattle.nim_meaning.specs.Shapes.{has_node}
 use Rattle.nim_meaning.specs.Meaning.{calls, at_node, at_path}
 use Rattle.flat_code.specs.declared.line.Line.{Line}
 use Rattle.flat_code.specs.Scene.{Temps, Scene, Did, Passes, Leaps, Enters, Turns}
-use Rattle.flat_code.specs.Running.{Waiting, Machine, from_label, jumped, went}
+use Rattle.flat_code.specs.Running.{Waiting, from_label, jumped}
 use Rattle.flat_code.specs.Running as running
 use Rattle.flat_code.specs.Whole.{label_in}
 use Rattle.flattening.specs.Flattened.{modes_of}

@@ -14,7 +14,7 @@ use Rattle.nim_program.specs.declared.stmt.Stmt.{Stmt as RustStmt}
 use Rattle.nim_program.specs.declared.stmt.Stmt.TheVariants as S
 use Rattle.nim_program.specs.declared.stmt.Leaving.TheVariants.{Break}
 use Rattle.nim_program.specs.Program as T
-use Rattle.nim_program.specs.Program.{Label, Declared, ByConditions, ByLabels, Expr, Args, NoArg, ByValue, Stmt, Give, Select, Loop, While, Count, Each}
+use Rattle.nim_program.specs.Program.{Label, Declared, ByConditions, ByLabels, Expr, Args, NoArg, ByValue, Stmt, Give, Select, While, Count, Each}
 use Rattle.nim_program.specs.Program.{Stmts, Empty, Then, Declare, Blocks, Block}
 use Rattle.nim_program.specs.View.{expr_of, path_of, declared_of, if_type, if_value, operand_before, operands_of, stmt_before, stmts_of, branch_labels}
 use Rattle.nim_program.specs.Folds.{numbers, looked_type, total_at}

@@ -30,8 +30,8 @@ use Rattle.flattening.proofs.Runs.{Runs, pays, lands}
 use Rattle.flattening.proofs.Worlds.{Since, since_none, since_then, since_slot}
 use Rattle.flattening.proofs.Temps.{Kept, kept_none, kept_then, kept_wide}
 use Rattle.flattening.proofs.Puts.{puts_line, puts_wide, ◌>>◌}
-use Rattle.flattening.proofs.PutsExprs.{puts_expr}
-use Rattle.flattening.proofs.PutsStmts.{puts_stmt, puts_stmts}
+use Rattle.flattening.proofs.PutsParts.{puts_expr}
+use Rattle.flattening.proofs.PutsParts.{puts_stmt, puts_stmts}
 use Rattle.flattening.proofs.Spots.{Spot, here_of, there, scene, Lands, after, after_both, answers, goes, leaps, performs}
 use Rattle.flattening.proofs.Standing.{grounded, Stands, stands_since}
 use Rattle.flattening.proofs.Acting.{CallsFollow}

@@ -1,7 +1,7 @@
 -- How lines give one name, each in front of those behind: whether some have a property, and whether some haven't. What repeats a name is free where a
 -- flag says that it is given so already. Each number of a part pays for the names of that number.
 use Rattle.std.proofs.Common.{◌≡◌, ℕ, zero, suc, ◌+◌, ◌*◌, ◌≤◌, Bool, true, false, List, [], ◌∷◌, Some, None, refl, sym, ap, ◌∙◌, arith}
-use Rattle.std.specs.Prelude.{◌&&◌, ◌||◌, nat_eq, nat_lt, if◌then◌else◌}
+use Rattle.std.specs.Prelude.{◌&&◌, ◌||◌, nat_eq, nat_lt}
 use Rattle.std.proofs.lemmas.Bool.{eqb-true, eq-eqb, ltb-true, lt-ltb, both_ways}
 use Rattle.flat_code.specs.declared.line.Line.{Line}
 use Rattle.flattening.specs.declared.numbers.Purpose.TheVariants.{Arm, End, Next, Turn}
@@ -18,15 +18,10 @@ tally_none = record { all = λ k. omega arith }
 
 infixl 10 ◌>>◌
 pub ◌>>◌ : {m : List Line → ℕ} {r s a b : ℕ} {F G : List Line → List Line} → Tally m r a F → Tally m s b G → Tally m (r + s) (a + b) (λ k. F (G k))
-◌>>◌ {m} {r} {s} {a} {b} {F} {G} p q = record { all = λ k. let h = p.all (G k) in let i = q.all k in omega (arith, h, i) }
+◌>>◌ {m} {r} {s} {a} {b} {F} {G} p q = record { all = λ k. omega (arith, p.all (G k), q.all k) }
 
 pub tally_most : {m : List Line → ℕ} {r a : ℕ} {F : List Line → List Line} (r' a' : ℕ) → r' + a ≤ a' + r → Tally m r a F → Tally m r' a' F
-tally_most {m} {r} {a} {F} r' a' le p = record { all = λ k. let h = p.all k in omega (arith, h, le) }
-
-pub tally_if : {m : List Line → ℕ} {r a : ℕ} {F G : List Line → List Line} (b : Bool) → Tally m r a F → Tally m r a G →
-    Tally m r a (λ k. if b then F k else G k)
-tally_if true p q = p
-tally_if false p q = q
+tally_most {m} {r} {a} {F} r' a' le p = record { all = λ k. omega (arith, p.all k, le) }
 
 -- ---- how one name is given
 
@@ -111,14 +106,12 @@ module _ (name : ℕ) where
   below_next x = at (nat_lt name x) refl (nat_eq x name) refl
     where
       at : (a : Bool) → nat_lt name x ≡ a → (b : Bool) → nat_eq x name ≡ b → count b + count a ≤ below (suc x)
-      at true e true f = let h = ltb-true name x e in let i = eqb-true x name f in absurd (omega (arith, h, i))
+      at true e true f = absurd (omega (arith, ltb-true name x e, eqb-true x name f))
       at true e false f =
-          let h = ltb-true name x e in
-          let i : below (suc x) ≡ 1 = ap count (lt-ltb name (suc x) (omega (arith, h))) in
+          let i : below (suc x) ≡ 1 = ap count (lt-ltb name (suc x) (omega (arith, ltb-true name x e))) in
           omega (arith, i)
       at false e true f =
-          let h = eqb-true x name f in
-          let i : below (suc x) ≡ 1 = ap count (lt-ltb name (suc x) (omega (arith, h))) in
+          let i : below (suc x) ≡ 1 = ap count (lt-ltb name (suc x) (omega (arith, eqb-true x name f))) in
           omega (arith, i)
       at false e false f = omega arith
 
@@ -128,8 +121,7 @@ module _ (name : ℕ) where
     where
       at : (a : Bool) → nat_lt name x ≡ a → count a ≤ below y
       at true e =
-          let h = ltb-true name x e in
-          let i : below y ≡ 1 = ap count (lt-ltb name y (omega (arith, h, le))) in
+          let i : below y ≡ 1 = ap count (lt-ltb name y (omega (arith, ltb-true name x e, le))) in
           omega (arith, i)
       at false e = omega arith
 
@@ -169,12 +161,6 @@ module _ (name : ℕ) where
 
   pub all_names : (t : ℕ) → arm t + value t + led t + end t + next t + turn t + upto t ≤ upto (suc t)
   all_names t =
-      let a = below_next (label_name (label Arm t)) in
-      let v = below_next (value_name t) in
-      let e = below_next (label_name (label End t)) in
-      let l = below_next (location_name t) in
-      let n = below_next (label_name (label Next t)) in
-      let r = below_next (label_name (label Turn t)) in
       let m0 = below_more (8 * t) (label_name (label Arm t)) (omega arith) in
       let m1 = below_more (suc (label_name (label Arm t))) (value_name t) (omega arith) in
       let m2 = below_more (suc (value_name t)) (label_name (label End t)) (omega arith) in
@@ -182,7 +168,7 @@ module _ (name : ℕ) where
       let m4 = below_more (suc (location_name t)) (label_name (label Next t)) (omega arith) in
       let m5 = below_more (suc (label_name (label Next t))) (label_name (label Turn t)) (omega arith) in
       let m6 = below_more (suc (label_name (label Turn t))) (8 * suc t) (omega arith) in
-      omega (arith, a, v, e, l, n, r, m0, m1, m2, m3, m4, m5, m6)
+      omega (arith, below_next (label_name (label Arm t)), below_next (value_name t), below_next (label_name (label End t)), below_next (location_name t), below_next (label_name (label Next t)), below_next (label_name (label Turn t)), m0, m1, m2, m3, m4, m5, m6)
 
   -- ---- lines
 
@@ -207,9 +193,8 @@ module _ (name : ℕ) where
     unfolding is_it tally
     tally_line z line x e = record {
       all = λ k.
-          let h = one_more (is_named name (name_of line)) (has line k) z.with_it z.without (gives_as name has true k) (gives_as name has false k) in
           let i : count (is_named name (name_of line)) ≡ is_it x = ap (λ o. count (is_named name o)) e in
-          omega (arith, h, i);
+          omega (arith, one_more (is_named name (name_of line)) (has line k) z.with_it z.without (gives_as name has true k) (gives_as name has false k), i);
     }
 
     pub tally_free : (z : Flags) (line : Line) (t : ℕ) → name_of line ≡ Some (value_name t) → gives_text line ≡ false → Free z t →
@@ -238,18 +223,17 @@ module _ (name : ℕ) where
     unfolding tally
     tally_raised z b {F} r a p = record {
       all = λ k.
-          let h = p.all k in
           let low = (up b z (gives_as name has true (F k)) (gives_as name has false (F k))).0 in
           let high = (up b z (gives_as name has true k) (gives_as name has false k)).1 in
-          omega (arith, h, low, high);
+          omega (arith, p.all k, low, high);
     }
 
-    -- what is free stays so
+    -- what flags say stays so
     abbrev pub Keeps : (old new : Flags) → Type 0
-    Keeps z z' = (t : ℕ) → Free z t → Free z' t
+    Keeps z z' = (c : Bool) → flag z c ≡ true → flag z' c ≡ true
 
     keeps_raised : (z : Flags) (b : Bool) → Keeps z (raised b z)
-    keeps_raised z b t free e = raised_keeps b of_values z (free e)
+    keeps_raised z b c h = raised_keeps b c z h
 
     -- a value that is given again and again is given once
     pub once : (z : Flags) (t : ℕ) {F : List Line → List Line} (r a : ℕ) →
@@ -262,7 +246,7 @@ module _ (name : ℕ) where
             tally_most r (a + 1) (omega arith)
             (tally_raised z of_values r a (go (raised of_values z) (keeps_raised z of_values) (λ f. raised_is of_values z)))
         at false e =
-            tally_most r (a + 0) (omega arith) (go z (λ u free. free) (λ f. absurd (both_ways false refl (sym e ∙ eq-eqb (value_name t) name f))))
+            tally_most r (a + 0) (omega arith) (go z (λ c h. h) (λ f. absurd (both_ways false refl (sym e ∙ eq-eqb (value_name t) name f))))
 
     -- what is given somehow is given somehow once, however often
     pub once_as : (z : Flags) (b : Bool) (c : ℕ) {F : List Line → List Line} (r a : ℕ) →

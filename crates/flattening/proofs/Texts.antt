@@ -1,5 +1,5 @@
 -- The texts in flat code are those of its program: each constant stands in one line, or, where a `for` is over it, in two.
-use Rattle.std.proofs.Common.{◌≡◌, ℕ, suc, ◌+◌, ◌*◌, ◌≤◌, ◌∙◌, true, false, List, [], ◌∷◌, ◌++◌, Option, Some, None, refl, ap, ap₂, arith}
+use Rattle.std.proofs.Common.{◌≡◌, ℕ, suc, ◌+◌, ◌*◌, ◌≤◌, ◌∙◌, true, false, List, [], ◌∷◌, ◌++◌, Option, Some, None, refl, ap, arith}
 use Rattle.std.specs.Prelude.{map}
 use Rattle.nim_types.specs.Types.{Ty}
 use Rattle.nim_plan.specs.declared.plan.Plan.{Plan}
@@ -7,14 +7,13 @@ use Rattle.nim_program.specs.declared.operation.Use.{Use}
 use Rattle.nim_program.specs.declared.program.HookOf.{HookOf}
 use Rattle.nim_program.specs.declared.program.Mode.{Mode}
 use Rattle.nim_program.specs.Program.{Literal, Label}
-use Rattle.nim_program.specs.Program.{Act, Doing, Building, Giving, Calling, ByConditions, ByLabels, Args, Declared, types_in}
+use Rattle.nim_program.specs.Program.{Act, Doing, Building, Giving, Calling, ByConditions, ByLabels, Args, types_in}
 use Rattle.nim_program.specs.Program.{Stmts, Param, Body, Proc, Program}
 use Rattle.nim_program.specs.Folds.{Named, Standing, Begun, ToField, ToElement, ToObject}
 use Rattle.nim_program.specs.Folds.{Part, Acting, Stopping, Choosing, Leading, Stating, Declaring, Looping, Handling, numbers, total_of, if_body, in_procs}
 use Rattle.nim_program.proofs.ForCallers.{related_of}
 use Rattle.flat_code.specs.declared.code.CodeProc.{CodeProc}
 use Rattle.flat_code.specs.declared.line.Line.{Line}
-use Rattle.flat_code.specs.declared.line.Line.TheVariants as L
 use Rattle.flat_code.specs.Codes.{flat_plain}
 use Rattle.flat_code.specs.Sizes.{texts_in, lines_texts, summed, code_texts}
 use Rattle.flattening.specs.Counted.{times, built_texts, standing_texts, part_texts, own_times, body_times, program_times}
@@ -22,10 +21,9 @@ use Rattle.flattening.proofs.Amounts.{act_counted, labels_counted, branches_coun
 use Rattle.flattening.specs.ExprLines.{none_fits, froms, act_line}
 use Rattle.flattening.specs.Flattened.{modes_of}
 use Rattle.flattening.specs.Given.{flat_body, flat_proc, flat_procs}
-use Rattle.flattening.specs.StmtLines.{outermost, returned, number_of, body_lines}
+use Rattle.flattening.specs.StmtLines.{returned, body_lines}
 use Rattle.flattening.proofs.FitPrograms.{map_same}
-use Rattle.flattening.proofs.Measures.{reserved, Bounds, ExitsSpare, block_spare}
-use Rattle.flattening.proofs.Spares.{spare_none, spare_line}
+use Rattle.flattening.proofs.Measures.{reserved, Bounds, body_spare}
 
 module _ (text : List ℕ) where
   -- of a constant that is built, and of one that is read where it stands, whose path a `for` looks up at two places
@@ -134,21 +132,12 @@ module _ (text : List ℕ) where
     }
 
   module _ (program : Program) (plan : Plan) where
-    exits_spare : (result : Option Declared) → ExitsSpare program.types (modes_of program plan) times_in 0 built standing 0 0 0
-        (text_bounds program.types (modes_of program plan)) result (outermost result)
-    exits_spare result = record {
-      breaks = spare_none;
-      continues = spare_none;
-      returns = spare_line (L.Return (number_of result));
-    }
-
     body_most : (hook : Option HookOf) (params : List Param) (body : Body) →
         times text (lines_texts (map flat_plain (flat_body program plan hook params body).lines)) ≤ 2 * body_times text body
     body_most hook params body =
         let lines = body_lines program.types (modes_of program plan) body in
-        let s = (block_spare program.types (modes_of program plan) times_in 0 built standing 0 0 0
-        (text_bounds program.types (modes_of program plan)) body.result body.stmts (outermost body.result) 0 (exits_spare body.result)).all
-        (returned body.result []) in
+        let s = (body_spare program.types (modes_of program plan) times_in 0 built standing 0 0 0
+        (text_bounds program.types (modes_of program plan)) body.result body.stmts).all (returned body.result []) in
         let e = ap (λ ls. times text (lines_texts ls)) (map_same lines) ∙ in_lines lines in
         let i = block_within body.stmts in
         omega (arith, s, e, i)

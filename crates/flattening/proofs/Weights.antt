@@ -10,10 +10,9 @@ use Rattle.nim_program.specs.declared.operation.Use.{Use}
 use Rattle.nim_program.specs.declared.program.HookOf.{HookOf}
 use Rattle.nim_program.specs.declared.program.Mode.{Mode}
 use Rattle.nim_program.specs.Program.{Literal, Number, Characters, NoObject, PartsOf, ElementsOf, Literals, NoLiteral, ALiteral}
-use Rattle.nim_program.specs.Program.{Act, Doing, Building, Giving, Calling, Args, NoArg, ByValue, ByPath, Declared, Param, Body, Proc, Program, types_in}
+use Rattle.nim_program.specs.Program.{Act, Doing, Building, Giving, Calling, Args, NoArg, ByValue, ByPath, Param, Body, Proc, Program, types_in}
 use Rattle.flat_code.specs.declared.code.CodeProc.{CodeProc}
 use Rattle.flat_code.specs.declared.line.Line.{Line}
-use Rattle.flat_code.specs.declared.line.Line.TheVariants as L
 use Rattle.flat_code.specs.Codes.{flat_plain}
 use Rattle.flat_code.specs.declared.line.Piece.{Piece}
 use Rattle.flat_code.specs.declared.line.Piece.TheVariants as P
@@ -24,11 +23,10 @@ use Rattle.flattening.specs.ExprLines.{froms, act_line}
 use Rattle.flattening.specs.Flattened.{modes_of}
 use Rattle.flattening.specs.Given.{flat_body, flat_proc, flat_procs}
 use Rattle.flattening.specs.Numbering.{width, width_at}
-use Rattle.flattening.specs.StmtLines.{outermost, returned, number_of, body_lines}
+use Rattle.flattening.specs.StmtLines.{returned, body_lines}
 use Rattle.flattening.proofs.Amounts.{act_counted, body_counted, if_counted, procs_counted, taken, program_scaled, none_of}
 use Rattle.flattening.proofs.FitPrograms.{map_same}
-use Rattle.flattening.proofs.Measures.{reserved, Bounds, ExitsSpare, block_spare}
-use Rattle.flattening.proofs.Spares.{spare_none, spare_line, spare_most}
+use Rattle.flattening.proofs.Measures.{reserved, Bounds, body_spare}
 
 -- ---- what one takes
 
@@ -120,14 +118,6 @@ module _ (types : List Ty) (modes : (proc position : ℕ) → Mode) where
   }
 
 module _ (program : Program) (plan : Plan) where
-  exits_spare : (result : Option Declared) → ExitsSpare program.types (modes_of program plan) weight 25 taken none_of 12 7 3
-      (weight_bounds program.types (modes_of program plan)) result (outermost result)
-  exits_spare result = record {
-    breaks = spare_most 0 3 (omega arith) spare_none;
-    continues = spare_most 0 3 (omega arith) spare_none;
-    returns = spare_line (L.Return (number_of result));
-  }
-
   some_most : (lines : List Line) → proc_weight lines ≤ 18 + summed weight lines
   some_most [] = omega arith
   some_most (l ∷ lines) = omega arith
@@ -136,8 +126,8 @@ module _ (program : Program) (plan : Plan) where
       proc_weight (map flat_plain (flat_body program plan hook params body).lines) ≤ body_counted 25 taken none_of body
   body_most hook params body =
       let lines = body_lines program.types (modes_of program plan) body in
-      let s = (block_spare program.types (modes_of program plan) weight 25 taken none_of 12 7 3 (weight_bounds program.types (modes_of program plan))
-      body.result body.stmts (outermost body.result) 0 (exits_spare body.result)).all (returned body.result []) in
+      let s = (body_spare program.types (modes_of program plan) weight 25 taken none_of 12 7 3 (weight_bounds program.types (modes_of program plan))
+      body.result body.stmts).all (returned body.result []) in
       let a = some_most lines in
       let e = ap proc_weight (map_same lines) in
       omega (arith, s, a, e)

@@ -28,8 +28,8 @@ use Rattle.flattening.proofs.Runs.{M, Runs, walks_spared, pays, spares, lands, T
 use Rattle.flattening.proofs.Worlds.{Since, since_none, since_then}
 use Rattle.flattening.proofs.Temps.{Kept, kept_none, kept_then, kept_wide}
 use Rattle.flattening.proofs.Puts.{Puts, found, found_here, puts_line, puts_label, puts_wide, ◌>>◌}
-use Rattle.flattening.proofs.PutsExprs.{puts_expr}
-use Rattle.flattening.proofs.PutsStmts.{puts_stmts}
+use Rattle.flattening.proofs.PutsParts.{puts_expr}
+use Rattle.flattening.proofs.PutsParts.{puts_stmts}
 use Rattle.flattening.proofs.Spots.{Spot, here_of, there, scene, At, both_falling, walks_line, goes, leaps, turns}
 use Rattle.flattening.proofs.Standing.{grounded, Stands, stands_since}
 use Rattle.flattening.proofs.Acting.{CallsFollow}

@@ -122,9 +122,8 @@ fn flat_proc(
 /// has by the definitions, and at last those of the start code. It means what its laws say
 /// (`flat_code`).
 ///
-/// `Memory` where none was found. It would also come for a body of more parts than the 2^30 that
-/// temporaries can be numbered by, and for a constant of 2^32 parts: no typed program of a source
-/// has these.
+/// `Memory` where none was found; also for a body of more parts than the 2^30 that temporaries can
+/// be numbered by, and for a constant of 2^32 parts, which take gigabytes.
 pub fn flatten(alloc: Global, program: &Program, plan: &Plan) -> Result<Flat, Memory>
     ensures procs { IfOk result (λ flat. flat.procs ≡ flat_procs (program_under
         (types_in program.now.types) (facts_in program.now.types) program.now) plan.now) }

@@ -13,3 +13,15 @@ mod NumberTexts
 mod NumberRuns
 mod NumberKept
 mod Whole
+mod BlockLists
+mod Counts
+mod Kept
+mod HeapWords
+mod HeapMemory
+mod TakeRuns
+mod GiveRuns
+mod ClassRuns
+mod HeapKept
+mod HeapWhole
+mod Walks
+mod HeapUses

@@ -15,7 +15,7 @@ use Rattle.word_code.proofs.ForCallers.{Sized}
 
 -- ---- parts of regions
 
-part_there : (base : ℕ) (region : List ℕ) (b k : ℕ) → base ≤ b → b + k ≤ base + length region
+pub part_there : (base : ℕ) (region : List ℕ) (b k : ℕ) → base ≤ b → b + k ≤ base + length region
     → (lies_in base region b k ≡ true) × (part_of base region b k ≡ Some (take k (drop (b - base) region)))
 part_there base region b k low high =
     let h : lies_in base region b k ≡ true = and_from (nat_le base b) (nat_le (b + k) (base + length region)) (le-leb base b low)
@@ -29,7 +29,7 @@ part_past base region b k past =
     let l : b + k ≤ base + length region = leb-true (b + k) (base + length region) p.1 in
     absurd (omega (arith, l, past))))
 
-lies : (base : ℕ) (region : List ℕ) (b k : ℕ) → lies_in base region b k ≡ true → (base ≤ b) × (b + k ≤ base + length region)
+pub lies : (base : ℕ) (region : List ℕ) (b k : ℕ) → lies_in base region b k ≡ true → (base ≤ b) × (b + k ≤ base + length region)
 lies base region b k e =
     let p = and_parts (nat_le base b) (nat_le (b + k) (base + length region)) e in
     (leb-true base b p.0, leb-true (b + k) (base + length region) p.1)
@@ -222,3 +222,22 @@ cell_low m sized a c =
 pub area_low : (m : Memory) → Sized m → (n a : ℕ) → Area m a (suc n) → a + 4 * suc n < 2 ^ 32
 area_low m sized zero a area = cell_low m sized a area.0
 area_low m sized (suc n) a area = let h = area_low m sized n (a + 4) area.1 in omega (arith, h)
+
+-- ---- ranges of the heap and of the data
+
+module _ (m : Memory) (sized : Sized m) (b k : ℕ) where
+  pub heap_part : heap_at ≤ b → b + k ≤ heap_at + length m.heap → bytes_at m b k ≡ Some (take k (drop (b - heap_at) m.heap))
+  unfolding heap
+  heap_part low high = (heap m sized).reads b k low high
+
+  pub heap_open : heap_at ≤ b → b + k ≤ heap_at + length m.heap → writable (as_state m) b k ≡ true
+  unfolding heap
+  heap_open low high = (heap m sized).writes b k low high
+
+  pub data_part : statics_at ≤ b → b + k ≤ statics_at + length m.statics → bytes_at m b k ≡ Some (take k (drop (b - statics_at) m.statics))
+  unfolding statics
+  data_part low high = (statics m sized).reads b k low high
+
+  pub data_open : statics_at ≤ b → b + k ≤ statics_at + length m.statics → writable (as_state m) b k ≡ true
+  unfolding statics
+  data_open low high = (statics m sized).writes b k low high

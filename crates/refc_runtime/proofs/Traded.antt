@@ -5,7 +5,8 @@ use Rattle.rv32_isa.specs.declared.micro_op.Size.TheVariants.{Word}
 use Rattle.word_code.specs.Memory.{Memory, as_state, number_at, with_number, bytes_at}
 use Rattle.rv32_isa.specs.Regions.{KeepsSizes}
 use Rattle.word_code.specs.RoutineTable.{Cell, Area, low, LowWords, Separate}
-use Rattle.word_code.proofs.ForCallers.{MemoryLaw, Sized, sizes_same, sizes_more, put_here, low_word, low_small, low_read, at_same, Apart, span, Changed, changed_word}
+use Rattle.word_code.proofs.ForCallers.{MemoryLaw, Sized, sizes_same, sizes_more, put_here, low_word, low_small, low_read, at_same, Apart, span, Changed}
+use Rattle.word_code.proofs.ForCallers.{changed_word}
 use Rattle.word_code.proofs.ForCallers.{separate_on}
 
 -- words trade places, one after another

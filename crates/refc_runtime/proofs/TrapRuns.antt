@@ -95,7 +95,8 @@ module _ (live : Lives) (procs : List WordProc) (n : ℕ) (others : List WordPro
       let r3 : AlwaysSteps machine 1 (at c m l2 v2 no_words) (writes Err (trap_line trap)) 1 (at c m l3 v2 no_words)
       = run_write live procs c m l3 v2 no_words Err 0 1 (trap_line trap) (got a l.low) (got len l.short) l.here in
       let r4 = run_constant live procs c m l4 v2 no_words 0 1 in
-      let r5 : AlwaysStops machine (at c m l4 v3 no_words) [] 1 1 (live (as_state m)) = ends_one machine (at c m l4 v3 no_words) [] 1 1 (live (as_state m)) (λ bytes. refl) in
+      let r5 : AlwaysStops machine (at c m l4 v3 no_words) [] 1 1 (live (as_state m)) =
+      ends_one machine (at c m l4 v3 no_words) [] 1 1 (live (as_state m)) (λ bytes. refl) in
       let front = on machine (on machine r0 (on machine r1 r2)) r3 in
       let back : AlwaysStops machine (at c m l3 v2 no_words) [] 2 1 (live (as_state m))
       = stops_on machine 1 1 1 1 (at c m l3 v2 no_words) (at c m l4 v3 no_words) [] [] (live (as_state m)) r4 r5 in

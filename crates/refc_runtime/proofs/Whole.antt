@@ -36,7 +36,7 @@ all_put a b c d empty first second third fourth all none e f g h puts is_a is_b 
 is_routine : (number params vars : ℕ) (lines : List WordInstr) → 0 < number → number < PROCS_FROM → vars ≤ ROUTINE_VARIABLES
     → IsRoutine (routine number params vars lines)
 is_routine number params vars lines some last few =
-    record { first = some; last = last; kind = refl; small = record { room = omega arith; variables = few } }
+    record { first = some; last = last; kind = refl; whole_data = refl; small = record { room = omega arith; variables = few } }
 
 trap_is : (trap : Trap) → IsRoutine (trap_routine trap)
 trap_is Overflow = is_routine _ 0 2 _ (omega arith) (omega arith) (omega arith)

@@ -32,13 +32,13 @@ pub const LENGTH_AT: u32 = 108;
 /// Of one call too many.
 pub const DEPTH_AT: u32 = 132;
 
-fn constant(to: u32, value: u32) -> WordInstr
+pub fn constant(to: u32, value: u32) -> WordInstr
     ensures { result ≡ WordInstr.Constant to value }
 {
     WordInstr::Constant { to, value }
 }
 
-fn compute(to: u32, operation: WordOperation, left: u32, right: u32) -> WordInstr
+pub fn compute(to: u32, operation: WordOperation, left: u32, right: u32) -> WordInstr
     ensures { result ≡ WordInstr.Compute to operation left right }
 {
     WordInstr::Compute {
@@ -49,19 +49,25 @@ fn compute(to: u32, operation: WordOperation, left: u32, right: u32) -> WordInst
     }
 }
 
-fn sum_with(to: u32, from: u32, value: u32) -> WordInstr
+pub fn sum_with(to: u32, from: u32, value: u32) -> WordInstr
     ensures { result ≡ WordInstr.Sum to from value }
 {
     WordInstr::Sum { to, from, value }
 }
 
-fn load(to: u32, address: u32, size: Size) -> WordInstr
+pub fn datum(to: u32, at: u32) -> WordInstr
+    ensures { result ≡ WordInstr.Datum to at }
+{
+    WordInstr::Datum { to, at }
+}
+
+pub fn load(to: u32, address: u32, size: Size) -> WordInstr
     ensures { result ≡ WordInstr.Load to address size }
 {
     WordInstr::Load { to, address, size }
 }
 
-fn store(address: u32, from: u32, size: Size) -> WordInstr
+pub fn store(address: u32, from: u32, size: Size) -> WordInstr
     ensures { result ≡ WordInstr.Store address from size }
 {
     WordInstr::Store {
@@ -71,7 +77,7 @@ fn store(address: u32, from: u32, size: Size) -> WordInstr
     }
 }
 
-fn branch(test: Test, left: u32, right: u32, to: u32) -> WordInstr
+pub fn branch(test: Test, left: u32, right: u32, to: u32) -> WordInstr
     ensures { result ≡ WordInstr.Branch test left right to }
 {
     WordInstr::Branch {
@@ -82,7 +88,7 @@ fn branch(test: Test, left: u32, right: u32, to: u32) -> WordInstr
     }
 }
 
-fn routine(
+pub fn routine(
     alloc: Global,
     number: u32,
     params: u32,
@@ -181,10 +187,7 @@ fn number_routine(alloc: Global) -> Result<WordProc, Memory>
         7,
         &[
             constant(5, 10),
-            WordInstr::Datum {
-                to: 2,
-                at: SCRATCH_BYTES - 1,
-            },
+            datum(2, SCRATCH_BYTES - 1),
             WordInstr::Copy { to: 1, from: 0 },
             sum_with(6, 1, 48),
             branch(Test::Below, 1, 5, 2),
@@ -206,10 +209,7 @@ fn number_routine(alloc: Global) -> Result<WordProc, Memory>
             constant(6, 45),
             WordInstr::Label { name: 2 },
             store(2, 6, Size::Byte),
-            WordInstr::Datum {
-                to: 3,
-                at: SCRATCH_BYTES,
-            },
+            datum(3, SCRATCH_BYTES),
             compute(3, WordOperation::Subtract, 3, 2),
             WordInstr::Write {
                 stream: Stream::Out,
@@ -231,7 +231,7 @@ fn trap_routine(alloc: Global, number: u32, at: u32, len: u32) -> Result<WordPro
         0,
         2,
         &[
-            WordInstr::Datum { to: 0, at },
+            datum(0, at),
             constant(1, len),
             WordInstr::Write {
                 stream: Stream::Err,

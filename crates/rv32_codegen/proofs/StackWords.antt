@@ -110,7 +110,8 @@ module _ (places : List ℕ) (ws : List ℕ) (k : ℕ) where
 pub word_dropped : (ws : List ℕ) (room n k : ℕ) → room ≡ 4 * n → word_in (drop room ws) k ≡ word_in ws (n + k)
 unfolding word_in
 word_dropped ws room n k e =
-    ap (λ l. little (take 4 l)) (drop-drop (4 * k) room ws) ∙ ap (λ i. little (take 4 (drop i ws))) (let is : room + 4 * k ≡ 4 * (n + k) = omega (arith, e) in is)
+    ap (λ l. little (take 4 l)) (drop-drop (4 * k) room ws)
+    ∙ ap (λ i. little (take 4 (drop i ws))) (let is : room + 4 * k ≡ 4 * (n + k) = omega (arith, e) in is)
 
 -- and give them back
 pub word_given : (more ws : List ℕ) (n k : ℕ) → length more ≡ 4 * n → word_in (more ++ ws) (n + k) ≡ word_in ws k

@@ -106,9 +106,6 @@ module _ (law : MemoryLaw) (m : Memory) (a w : ℕ) (sized : Sized m) (may : may
   pub put_rewritten : IsRewritten m (with_number m a Word w) a 4
   put_rewritten = store_rewritten law m a Word w sized may
 
-  pub put_long : length (with_number m a Word w).places ≡ length m.places
-  put_long = put_rewritten.sizes.stack
-
   -- the same words may be put
   pub put_may : (b : ℕ) → may_put (with_number m a Word w) b Word ≡ may_put m b Word
   put_may b = ap (λ x. (b % 4 == 0) && x) (store_writes law m a Word w sized may b 4)

@@ -14,3 +14,4 @@ pub use Rattle.word_code.proofs.CopiedWords.{low_read, changed_word, CopiedTo, s
 -- ---- procedures of codes that are joined
 pub use Rattle.word_code.proofs.JoinedProcs.{found_first, found_last, free_of, joined_formed, joined_ranked}
 pub use Rattle.word_code.proofs.JoinedProcs.{joined_unhooked}
+pub use Rattle.word_code.proofs.DataRoom.{routines_room}

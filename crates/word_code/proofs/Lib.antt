@@ -5,4 +5,5 @@ mod Areas
 mod CopiedWords
 mod WordRuns
 mod JoinedProcs
+mod DataRoom
 pub mod ForCallers

@@ -1,5 +1,5 @@
 -- Two word codes as one: the procedures of both, and the data of both, one behind the other.
-use Rattle.std.specs.Prelude.{◌≡◌, ℕ, ◌+◌, List, [], ◌∷◌, ◌++◌, length}
+use Rattle.std.specs.Prelude.{◌≡◌, ◌≤◌, ℕ, ◌+◌, List, [], ◌∷◌, ◌++◌, length}
 use Rattle.word_code.specs.declared.word.WordProc.{WordProc}
 use Rattle.word_code.specs.declared.word.WordCode.{WordCode}
 
@@ -23,3 +23,8 @@ IsFree number (p ∷ procs) = (p.number ≡ number → ⊥) × IsFree number pro
 abbrev pub AreApart : List WordProc → List WordProc → Type 0
 AreApart [] others = Unit {0}
 AreApart (p ∷ procs) others = IsFree p.number others × AreApart procs others
+
+-- so many bytes later the data of each still begins at a number of 32 bits
+abbrev pub HaveRoom : ℕ → List WordProc → Type 0
+HaveRoom n [] = Unit {0}
+HaveRoom n (p ∷ procs) = (n + p.data_from ≤ 4294967295) × HaveRoom n procs

@@ -21,11 +21,12 @@ pub record IsSmallRoutine (p : WordProc) : Type 0 where
   pub room : p.room ≤ ROUTINE_ROOM
   pub variables : p.vars ≤ ROUTINE_VARIABLES
 
--- a procedure of a runtime, with one of the numbers between the start code's and those of a program's procedures
+-- a procedure of a runtime, with one of the numbers between the start code's and those of a program's procedures, and all data of the runtime
 pub record IsRoutine (p : WordProc) : Type 0 where
   pub first : 0 < p.number
   pub last : p.number < PROCS_FROM
   pub kind : p.kind ≡ Uncounted
+  pub whole_data : p.data_from ≡ 0
   pub small : IsSmallRoutine p
 
 abbrev pub AreRoutines : List WordProc → Type 0

@@ -1,5 +1,6 @@
 -- Where the places of a call come to memory, and where they go again: all that stands before them is as it was.
-use Rattle.std.proofs.Common.{◌≡◌, inl, inr, ℕ, zero, suc, ◌+◌, ◌-◌, ◌%◌, ◌≤◌, ◌⊎◌, List, ◌++◌, length, take, drop, replicate, Some, None, Ok, Err, Bool, true, false, []}
+use Rattle.std.proofs.Common.{◌≡◌, inl, inr, ℕ, zero, suc, ◌+◌, ◌-◌, ◌%◌, ◌≤◌, ◌⊎◌, List, ◌++◌, length, take, drop, replicate, Some, None, Ok, Err, Bool, true}
+use Rattle.std.proofs.Common.{false, []}
 use Rattle.std.proofs.Common.{refl, sym, ap, ap₂, ◌∙◌, arith, length-append, length-drop, length-take-le, le-leb}
 use Rattle.std.specs.Prelude.{◌==◌, ◌||◌, ◌&&◌, nat_le, if◌then◌else◌}
 use Rattle.std.proofs.lemmas.Bool.{and_parts, and_from, leb-true, eq-eqb, cond-true, cond-false, false_from_ne_true}

@@ -85,7 +85,7 @@ starts_length n (name ∷ names) k =
     let h = starts_length (n + length name) names k in
     omega (arith, e, f, h)
 
-ends_length : (n : ℕ) (names : List (List ℕ)) → length (ends_from n names) ≡ 4 * length names + 4
+pub ends_length : (n : ℕ) (names : List (List ℕ)) → length (ends_from n names) ≡ 4 * length names + 4
 ends_length n names =
     let e = starts_length n names (word_bytes (n + length (joined_all names))) in
     let f = length-word_bytes (n + length (joined_all names)) in
@@ -103,7 +103,7 @@ kept_datum : (kept : Bool) (n : ℕ) (free : Free) → (free_behind false kept n
 kept_datum true n free = refl
 kept_datum false n free = refl
 
-datum_by : (alias : Alias) (kept : Bool) (n : ℕ) (free : Free) → (free_by alias free (free_behind false kept n free)).datum ≡ free.datum + 0
+pub datum_by : (alias : Alias) (kept : Bool) (n : ℕ) (free : Free) → (free_by alias free (free_behind false kept n free)).datum ≡ free.datum + 0
 datum_by alias kept n free = free_datum alias free (free_behind false kept n free) (kept_datum kept n free)
 
 datum_step : (kind : PlaceKind) (number : ℕ) (lines : List Line) (kept : Bool) (n : ℕ) (free : Free)
@@ -137,7 +137,7 @@ module _ (table : List TypeDef) where
 
 -- ---- all of it
 
-six_parts : (a b c d e f : List ℕ) → length (a ++ (b ++ (c ++ (d ++ (e ++ f))))) ≡ length a + (length b + (length c + (length d + (length e + length f))))
+pub six_parts : (a b c d e f : List ℕ) → length (a ++ (b ++ (c ++ (d ++ (e ++ f))))) ≡ length a + (length b + (length c + (length d + (length e + length f))))
 six_parts a b c d e f =
     let h = length-append a (b ++ (c ++ (d ++ (e ++ f)))) in
     let i = length-append b (c ++ (d ++ (e ++ f))) in

@@ -244,7 +244,8 @@ module _ (x : Basis) (labels : LabelsLead x) (g : Both) (rest : List BlockLine) 
           (parts_to_memory x.law x.live (all_procs x) (within x.table x.blocks g) refl g.words g.memory good_there.memory.sized k f.vars into.home start
           (points_there g.call.site.base f.vars into.home inside) (routines x.table x.blocks) x.runtime.statics (reaches x)
           (data_there x sites g.memory good_there.memory) vs
-          (has_words v (looked x.table g.call.site (of_value to)) there.shaped) (lying_area x sites good_there.linked g.memory start (bytes v) good_there.memory lying)
+          (has_words v (looked x.table g.call.site (of_value to)) there.shaped)
+          (lying_area x sites good_there.linked g.memory start (bytes v) good_there.memory lying)
           (lying_near x sites good_there.linked start (bytes v) lying) (Variable FIFTH) (omega arith) (from_there v there)
           (there.readable.separate start lying (size v there))))
 

@@ -101,7 +101,8 @@ module _ (code : WordCode) (heap stack : ℕ) where
   first_reads places i n some within =
       let long = data_length heap stack code.statics in
       let place : own_data_at + i ≡ statics_at + (8 + i) = omega arith in
-      ap (λ a. bytes_at (record first { places = places }) a n) place ∙ bytes_here (record first { places = places }) (8 + i) n some (omega (arith, within, long))
+      ap (λ a. bytes_at (record first { places = places }) a n) place
+      ∙ bytes_here (record first { places = places }) (8 + i) n some (omega (arith, within, long))
       ∙ ap (λ l. Some (take n l)) (whole_drop heap stack i code.statics)
 
   -- a word of the data may be written

@@ -139,7 +139,8 @@ module _ (x : Basis) (g : Both) (line : BlockLine) (rest : List BlockLine) (y : 
           good = memory_kept x sites y.linked g.memory r.memory (address_of site.base (house site f).home) (bytes v) y.memory r.changed
               (lying_all x sites y.linked site f (bytes v) (inl refl) there inside size);
           edit = somewhere (address_of site.base (house site f).home) (bytes v)
-              (outside_still (next_base sites) g.memory r.memory (address_of site.base (house site f).home) (bytes v) r.changed.outside) (inl refl) there inside (omega arith)
+              (outside_still (next_base sites) g.memory r.memory (address_of site.base (house site f).home) (bytes v) r.changed.outside) (inl refl) there inside
+              (omega arith)
               (omega (arith, size));
           variables = λ h u other ne is. r.same.others u (high_variable h u other is);
           left = r.same.left;

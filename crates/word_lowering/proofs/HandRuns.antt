@@ -14,7 +14,8 @@ use Rattle.word_code.specs.declared.word.WordProc.{WordProc}
 use Rattle.word_code.specs.Memory.{Memory, with_number}
 use Rattle.word_code.specs.Words.{Vars, put, from_label}
 use Rattle.word_code.specs.RoutineTable.{Cell, Area}
-use Rattle.word_code.proofs.ForCallers.{MemoryLaw, Sized, put_sized, put_area, with_copied, Runs, then_runs, Within, at, run_label, run_load, low_word, low_small, got_low}
+use Rattle.word_code.proofs.ForCallers.{MemoryLaw, Sized, put_sized, put_area, with_copied, Runs, then_runs, Within, at, run_label, run_load, low_word}
+use Rattle.word_code.proofs.ForCallers.{low_small, got_low}
 use Rattle.word_code.proofs.ForCallers.{run_store, run_compute, run_constant, run_past, run_off, got, got_sum}
 use Rattle.word_lowering.specs.declared.homes.Home.{Home}
 use Rattle.word_lowering.specs.declared.homes.TheConstants.{FIRST, SECOND, THIRD, FOURTH, FIFTH}

@@ -27,6 +27,7 @@ mod ConstantWords
 mod ConstructLines
 mod ControlLines
 mod CountRuns
+mod CountedLayouts
 mod DataEnd
 mod DataSizes
 mod DistinctTexts
@@ -78,6 +79,7 @@ mod Moves
 mod NamedCode
 mod NamedLines
 mod NamedProcs
+mod NamesRoom
 mod NewCalls
 mod NewStates
 mod NextHome
@@ -135,6 +137,7 @@ mod SwapLines
 mod SwapRuns
 mod Targets
 mod TextLines
+mod TextRoom
 mod Told
 mod TrapEnds
 mod Traps

@@ -9,7 +9,8 @@ use Rattle.nim_program.specs.Ints.{fits as is_int_number}
 use Rattle.nim_program.specs.Kinds as kind
 use Rattle.nim_program.specs.Kinds.{element_of, has_length, TypeKind, declared_kind, kind_of, kind_if, is_int, is_bool, is_ordinal, is_of, same_value}
 use Rattle.nim_meaning.specs.Values.{Values, Nil, More, count, length_of, Value, Number, Parts, Handle, Fixed, Ref, Resource, Gone, Vacant, number_of}
-use Rattle.flat_code.specs.Shapes.{Shape, number, reference, block, elements, row, parts, resource, has_shape, is_ordinal as is_ordinal_value, Shapes, no_shapes, shapes, are_all, are_rows, have_shapes}
+use Rattle.flat_code.specs.Shapes.{Shape, number, reference, block, elements, row, parts, resource, has_shape, is_ordinal as is_ordinal_value, Shapes}
+use Rattle.flat_code.specs.Shapes.{no_shapes, shapes, are_all, are_rows, have_shapes}
 use Rattle.flat_code.specs.Shapes.{shape_by, shape_within}
 use Rattle.flat_code.specs.Shapes.{shape_of}
 use Rattle.word_lowering.proofs.ShapeFacts.{never, of_numbers}

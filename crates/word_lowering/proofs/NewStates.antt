@@ -33,7 +33,8 @@ use Rattle.word_lowering.proofs.InMemory.{AllZero, blank_zero, bytes_some}
 use Rattle.word_lowering.proofs.Keeping.{call, beyond}
 use Rattle.word_lowering.proofs.Lines.{Basis, IsGood, all_procs, changed, known, lower, stands_next, starts}
 use Rattle.word_lowering.proofs.MovedLines.{own_plain}
-use Rattle.word_lowering.proofs.NewCalls.{VarsThen, all_frames_then, frame_with, holding_then, level_is, level_last, levels_then, linked_then, params_long, sites_then}
+use Rattle.word_lowering.proofs.NewCalls.{VarsThen, all_frames_then, frame_with, holding_then, level_is, level_last, levels_then, linked_then, params_long}
+use Rattle.word_lowering.proofs.NewCalls.{sites_then}
 use Rattle.word_lowering.proofs.NewCalls.{site_then, slots_few, world_first}
 use Rattle.word_lowering.proofs.Related.{Answers, Both, StandAt, Waits, body_of, calls_of, sites_of, within, MemoryGood}
 use Rattle.word_lowering.proofs.RoutineCalls.{awaiting}
@@ -86,7 +87,8 @@ module _ (x : Basis) (g : Both) (line : BlockLine) (rest : List BlockLine) (y : 
   stand_then lines is = subst (StandAt x.table x.blocks c.body) is (record { before = []; whole = refl; fits = c.is.fits })
 
   callers_then : AllHold x.table x.blocks m first_world (calls_of g)
-  callers_then = callers_hold x (calls_of g) y.linked g.world (frame []) y.levels here (level_is x g line rest y c m slots gave left e) g.memory m (beyond still) y.hold
+  callers_then = callers_hold x (calls_of g) y.linked g.world (frame []) y.levels here (level_is x g line rest y c m slots gave left e) g.memory m
+      (beyond still) y.hold
 
   module _ (vars : Vars) (is : VarsThen x g line rest y c m slots gave left e vars) where
     pub good_begun : (lines : List BlockLine) → c.body.proc.lines ≡ lines → IsGood x (begun vars lines)

@@ -123,7 +123,8 @@ module _ (x : Basis) (g : Both) (line : BlockLine) (rest : List BlockLine) (y : 
       → g.call.temps.values t ≡ Some v → IsThere g.call.site (of_value t) → t ≢ to → IsItem x.table m (call g.call.site g.call.temps vars) (of_value t) v
   item_stays m vars ch same t v e is_there ne =
       item_kept x.table x.blocks x.small (all_sites x g line rest y) y.linked g.call.site (of_value to) g.memory m
-      (somewhere start target.bytes (outside_still (next_base (sites_of g)) g.memory m start target.bytes ch.outside) (inl refl) there inside (omega arith) (omega arith)) g.world g.world
+      (somewhere start target.bytes (outside_still (next_base (sites_of g)) g.memory m start target.bytes ch.outside) (inl refl) there inside (omega arith)
+      (omega arith)) g.world g.world
       (worlds_same x.table x.blocks x.small (all_sites x g line rest y) y.linked g.call.site (of_value to) g.world)
       g.call.site g.call.temps g.call.temps g.call.vars vars (of_value t) v (inl refl) kept
       (inr (λ is. ne (same_numbers (of_value t) (of_value to) is))) (y.hold.0.items (of_value t) v is_there e)

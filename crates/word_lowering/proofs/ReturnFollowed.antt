@@ -32,7 +32,8 @@ use Rattle.word_lowering.proofs.Returned.{called, sites_left, linked_left, memor
 use Rattle.word_lowering.proofs.ReturnLines.{place_high, after, HandsBack}
 use Rattle.word_lowering.proofs.Scenes.{address_of, of_value, of_place, house, looked, IsItem, IsNamed}
 use Rattle.word_lowering.proofs.ShapeFacts.{never}
-use Rattle.word_lowering.proofs.Sites.{room, looks, Housing, in_variable, by_address, in_places, in_data, InVariable, InMemory, data_end, around, IsHoused, Linked}
+use Rattle.word_lowering.proofs.Sites.{room, looks, Housing, in_variable, by_address, in_places, in_data, InVariable, InMemory, data_end, around, IsHoused}
+use Rattle.word_lowering.proofs.Sites.{Linked}
 use Rattle.word_lowering.proofs.Sites.{Site, There}
 use Rattle.word_lowering.proofs.SitesApart.{houses, InRange, site_at, next_least}
 use Rattle.word_lowering.proofs.Sources.{lying_all, size_is, small_word, address_whole, area_by, lying_range, lies_at, to_bytes_by, Lying, Readable}

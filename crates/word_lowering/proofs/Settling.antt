@@ -49,7 +49,8 @@ module _ (x : Basis) where
   pub record TrapStops (g : Both) (trap : Trap) : Type 0 where
     pub there : List WordInstr
     pub stands : from_label (trap_label trap) (word_of x.table x.blocks (body_of g)).lines ≡ Some there
-    pub stops : (v w : Vars) → AlwaysStops (lower x) (at (within x.table x.blocks g) g.memory there v w) (writes Err (line_of (trap_text trap))) 7 1 (live g.world)
+    pub stops : (v w : Vars) → AlwaysStops (lower x) (at (within x.table x.blocks g) g.memory there v w) (writes Err (line_of (trap_text trap))) 7 1
+        (live g.world)
 
   abbrev pub code_of_line : Both → BlockLine → List BlockLine → List WordInstr → List WordInstr
   code_of_line g line rest k = line_code (around x.table x.blocks (body_of g)) (block_plain line) (label_before (map block_plain rest)) k

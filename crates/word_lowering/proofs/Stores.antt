@@ -16,7 +16,8 @@ use Rattle.word_lowering.proofs.OrdinalRuns.{AllSame}
 use Rattle.word_lowering.proofs.Sites.{Site, AmongSites, IsHoused, next_base}
 use Rattle.word_lowering.proofs.Scenes.{address_of, Name, of_place, Call, site_of, house, IsThere, looked, IsItem, FromPlace, IsFilled, Filled}
 use Rattle.word_lowering.proofs.SitesApart.{houses, site_at, one_level}
-use Rattle.word_lowering.proofs.Keeping.{number_cases, call, AmongCalls, somewhere, Worlds, New, to_memory, from_memory, same_numbers, location_no_place, outside_still}
+use Rattle.word_lowering.proofs.Keeping.{number_cases, call, AmongCalls, somewhere, Worlds, New, to_memory, from_memory, same_numbers, location_no_place}
+use Rattle.word_lowering.proofs.Keeping.{outside_still}
 use Rattle.word_lowering.proofs.Keeping.{away_cases, value_no_place}
 use Rattle.word_lowering.proofs.Related.{Both, body_of, called_by, StandAt, MemoryGood, sites_of}
 use Rattle.word_lowering.proofs.Located.{RootAt, root_at, own_place}
@@ -192,7 +193,8 @@ module _ (x : Basis) (g : Both) (line : BlockLine) (rest : List BlockLine) (y : 
           subst (λ w. IsGood x (changed g after temps vars m words awaits w)) (sym store_is)
           (good_changed x g line rest y after f.site place temps vars m words awaits new_world
           memory
-          (somewhere a (bytes v) (outside_still (next_base (sites_of g)) g.memory m a (bytes v) outside) f.among f.there f.home (let e = f.address in omega (arith, e))
+          (somewhere a (bytes v) (outside_still (next_base (sites_of g)) g.memory m a (bytes v) outside) f.among f.there f.home
+          (let e = f.address in omega (arith, e))
           (let e = f.address in let h = inside_place in omega (arith, e, h)))
           store_worlds
           (kept_temps x g line rest y f.site place temps vars same_temps (λ h u other away home. same.others u (high_variable x g line rest y h u other home))

@@ -225,12 +225,14 @@ module _ (x : Basis) (g : Both) (line : BlockLine) (rest : List BlockLine) (y : 
       v_there : IsAt middle f.address v
       v_there =
           let size = e.size in
-          copied_there g.memory middle e.address f.address v (has_words v shape e.at_address.shaped) (λ o within is. copy.same o (omega (arith, within, size)) is) e.at_address.is_at
+          copied_there g.memory middle e.address f.address v (has_words v shape e.at_address.shaped)
+          (λ o within is. copy.same o (omega (arith, within, size)) is) e.at_address.is_at
 
       w_there : IsAt memory e.address w
       w_there =
           let size = f.size in
-          copied_there g.memory memory f.address e.address w (has_words w shape f.at_address.shaped) (λ o within is. called.is.to_left o (omega (arith, within, size, words)) is) f.at_address.is_at
+          copied_there g.memory memory f.address e.address w (has_words w shape f.at_address.shaped)
+          (λ o within is. called.is.to_left o (omega (arith, within, size, words)) is) f.at_address.is_at
 
       abbrev between : Both
       between = changed g rest temps called.vars middle no_words FIRST world

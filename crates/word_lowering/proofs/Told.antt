@@ -190,6 +190,7 @@ module _ (x : Basis) (least : FIXED_BYTES ≤ data_end x.table x.blocks) (g : Bo
         awaits = s.awaits;
         count = t.count + s.count;
         few = omega (arith, f, h, long);
-        steps = subst (λ es. AlwaysSteps (lower x) (t.count + s.count) (at (within x.table x.blocks g) g.memory lines g.call.vars g.words) es (t.count + s.count)
+        steps = subst (λ es. AlwaysSteps (lower x) (t.count + s.count) (at (within x.table x.blocks g) g.memory lines g.call.vars g.words) es
+            (t.count + s.count)
             (at (awaiting (within x.table x.blocks g) s.awaits) s.memory k s.vars s.words)) (sym (writes_both Out a b)) (on (lower x) t.steps s.steps);
       }

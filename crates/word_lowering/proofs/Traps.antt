@@ -30,7 +30,8 @@ use Rattle.word_lowering.proofs.Settling.{TrapStops, TrapsStop, LabelsLead, OwnL
 
 module _ (x : Basis) where
   -- from the label on
-  label_stops : (c : Within) (sites : List Site) (m : Memory) → MemoryGood x.table x.blocks sites x.first m → (trap : Trap) → is_built trap ≡ true → (k : List WordInstr) (v g : Vars)
+  label_stops : (c : Within) (sites : List Site) (m : Memory) → MemoryGood x.table x.blocks sites x.first m → (trap : Trap) → is_built trap ≡ true →
+      (k : List WordInstr) (v g : Vars)
       → AlwaysStops (lower x) (at c m (Label (trap_label trap) ∷ Call FIRST (trap_number trap) ∷ k) v g) (writes Err (line_of (trap_text trap))) 7 1 no_objects
   label_stops c sites m good trap built k v g =
       let l1 : List WordInstr = Call FIRST (trap_number trap) ∷ k in

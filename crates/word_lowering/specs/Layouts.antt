@@ -1,7 +1,7 @@
 -- Where the places and temporaries of a procedure are in word code. An ordinal is a variable, unless a line hands its address on; a location is one
 -- too, with the address to which it leads, unless it is another name for a place or a value. All else is in memory: globals in the data, the rest in
 -- the places of the call. No public contract speaks of it.
-use Rattle.std.specs.Prelude.{ℕ, suc, ◌+◌, Bool, true, false, not, ◌&&◌, List, [], ◌∷◌, map}
+use Rattle.std.specs.Prelude.{◌≤◌, ℕ, suc, ◌+◌, Bool, true, false, not, ◌&&◌, List, [], ◌∷◌, map}
 use Rattle.nim_types.specs.declared.types.TypeDef.{TypeDef}
 use Rattle.nim_types.specs.declared.types.TheConstants.{WORD_BYTES}
 use Rattle.nim_program.specs.declared.program.Mode.TheVariants.{Var}
@@ -13,6 +13,7 @@ use Rattle.flat_code.specs.declared.block.BlockLine.{BlockLine}
 use Rattle.flat_code.specs.declared.code.CodeProc.{CodeProc}
 use Rattle.flat_code.specs.Codes.{block_plain}
 use Rattle.word_lowering.specs.declared.homes.TheConstants.{FIRST, OWN_FROM}
+use Rattle.word_lowering.specs.declared.may_lower.TheConstants.{MOST_ROOM}
 use Rattle.word_lowering.specs.declared.homes.Alias.{Alias}
 use Rattle.word_lowering.specs.declared.homes.Alias.TheVariants.{Own}
 use Rattle.word_lowering.specs.declared.homes.Home.{Home}
@@ -125,3 +126,31 @@ layout_of table start datum p = laid table start datum p.lines p.places
 abbrev pub layouts : List TypeDef → (datum : ℕ) → List (CodeProc BlockLine) → List Layout
 layouts table datum [] = []
 layouts table datum (p ∷ ps) = layout_of table (is_empty ps) datum p ∷ layouts table datum ps
+
+-- ---- numbers of 32 bits
+
+-- variables, bytes of places and of data
+pub record AreNumbers (free : Free) : Type 0 where
+  pub variable : free.variable ≤ 4294967295
+  pub byte : free.byte ≤ 4294967295
+  pub datum : free.datum ≤ 4294967295
+
+-- in the places of the call, at most so many bytes from their begin
+abbrev pub BeginsBy : ℕ → Home → Type 0
+BeginsBy n (Placed at) = at ≤ n
+BeginsBy n home = Unit {0}
+
+abbrev pub AllBeginBy : ℕ → List Housed → Type 0
+AllBeginBy n [] = Unit {0}
+AllBeginBy n (h ∷ hs) = BeginsBy n h.home × AllBeginBy n hs
+
+-- of a layout: what it takes, the variables that a call is given, and where its places are
+pub record IsCounted (own : Layout) : Type 0 where
+  pub free : AreNumbers own.free
+  pub given : OWN_FROM + kept_in (params_in own.all) ≤ 4294967295
+  pub room : own.free.byte ≤ MOST_ROOM
+  pub places : AllBeginBy MOST_ROOM own.all
+
+abbrev pub AreCounted : List Layout → Type 0
+AreCounted [] = Unit {0}
+AreCounted (own ∷ owns) = IsCounted own × AreCounted owns

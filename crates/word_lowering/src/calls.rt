@@ -1,13 +1,14 @@
 // The word code of calls and returns.
-ghost use Rattle.std.specs.Prelude.{◌≡◌, ◌∷◌, ◌+◌, ◌*◌, suc, IfOk, OnOk};
+ghost use Rattle.std.specs.Prelude.{◌≡◌, ◌≤◌, ◌∷◌, ◌+◌, ◌*◌, suc, IfSome, IfOk, OnOk};
 ghost use Rattle.word_lowering.specs.Emission.{Puts};
 ghost use Rattle.word_lowering.specs.LineCode.{proc_number, left_at, result_code, entered_code};
 ghost use Rattle.word_lowering.specs.LineCode.{argument_code, arguments_code, operands, value};
 ghost use Rattle.word_lowering.specs.LineCode.{checked_code, nothing_code, given_code};
 ghost use Rattle.word_lowering.specs.LineCode.{call_code, back_code, return_code, exit_code};
-ghost use Rattle.word_lowering.specs.Layouts.{params_in};
+ghost use Rattle.word_lowering.specs.Layouts.{params_in, BeginsBy, AllBeginBy};
 ghost use Rattle.word_lowering.specs.LineCode.{layout_at};
-ghost use Rattle.word_lowering.specs.Scope.{around_of};
+ghost use Rattle.word_lowering.specs.Scope.{around_of, HasRoom};
+ghost use Rattle.word_lowering.specs.declared.may_lower.TheConstants.{MOST_ROOM};
 ghost use Rattle.word_lowering.specs.Spots.{spot_of};
 
 use crate::homes::{FIRST, Home, Housed, LEFT, SECOND};
@@ -36,12 +37,14 @@ pub fn proc_number(proc: u32) -> Result<u32, Memory>
 }
 
 // Where the places of a call behind so many bytes left something.
-fn left_at(room: u32, home: Home) -> Result<Home, Memory>
-    ensures { IfOk result (λ other. other ≡ left_at room home) }
+fn left_at(room: u32, home: Home) -> Home
+    requires room { room ≤ MOST_ROOM }
+    requires home { BeginsBy MOST_ROOM home }
+    ensures { result ≡ left_at room home }
 {
     match home {
-        Home::Placed(at) => Ok(Home::Placed(sum(at, room)?)),
-        _ => Ok(Home::Placed(room)),
+        Home::Placed(at) => Home::Placed(at + room),
+        _ => Home::Placed(room),
     }
 }
 
@@ -52,12 +55,14 @@ fn emit_result(
     to: Housed,
     own: Option<Housed>,
 ) -> Result<(), Memory>
+    requires room { HasRoom (around_of x.now) }
+    requires own { IfSome own (λ r. BeginsBy MOST_ROOM r.home) }
     ensures { OnOk result (Puts code.old code.new (result_code (around_of x.now) to own)) }
 {
     match own {
         None => Ok(()),
         Some(r) => {
-            let from = left_at(x.own.free.byte, r.home)?;
+            let from = left_at(x.own.free.byte, r.home);
             emit_moved(code, r.is_word, r.bytes, spot_of(to), Spot::Lies(from))
         }
     }
@@ -71,6 +76,7 @@ fn emit_entered(
     to: Housed,
     spot: Spot,
 ) -> Result<(), Memory>
+    requires { HasRoom (around_of x.now) }
     ensures { OnOk result (Puts code.old code.new (entered_code (around_of x.now) proc to spot)) }
 {
     let callee = proc_number(proc)?;
@@ -84,6 +90,7 @@ fn emit_entered(
 }
 
 fn emit_given(code: &mut Items<WordInstr>, x: &Scope, proc: u32, to: u32) -> Result<(), Memory>
+    requires { HasRoom (around_of x.now) }
     ensures { OnOk result (Puts code.old code.new (given_code (around_of x.now) proc to)) }
 {
     let place = x.value(to);
@@ -113,13 +120,15 @@ fn emit_argument(
     param: Home,
     from: Housed,
 ) -> Result<(), Memory>
+    requires room { HasRoom (around_of x.now) }
+    requires param { BeginsBy MOST_ROOM param }
     ensures { OnOk result (Puts code.old code.new
         (argument_code (around_of x.now) label param from)) }
 {
     match param {
         Home::Variable(v) => emit_word_argument(code, v, from.home),
         Home::Placed(at) => {
-            let at = sum(x.own.free.byte, at)?;
+            let at = x.own.free.byte + at;
             emit(code, &[WordInstr::Place { to: FIRST, at }])?;
             emit_handed(code, label, from.bytes, spot_of(from))
         }
@@ -144,6 +153,8 @@ fn emit_arguments(
     params: &[Housed],
     from: &[From],
 ) -> Result<(), Memory>
+    requires room { HasRoom (around_of x.now) }
+    requires params { AllBeginBy MOST_ROOM params.now }
     ensures { OnOk result (Puts code.old code.new
         (arguments_code (around_of x.now) label params.now
         (operands (around_of x.now) from.now))) }
@@ -191,6 +202,7 @@ fn emit_running(
     to: u32,
     from: &[From],
 ) -> Result<(), Memory>
+    requires { HasRoom (around_of x.now) }
     ensures { OnOk result (Puts code.old code.new (λ k.
         arguments_code (around_of x.now) label (params_in (layout_at (around_of x.now) proc).all)
         (operands (around_of x.now) from.now)
@@ -213,6 +225,7 @@ pub fn emit_call(
     to: u32,
     from: &[From],
 ) -> Result<(), Memory>
+    requires { HasRoom (around_of x.now) }
     ensures { OnOk result (Puts code.old code.new
         (call_code (around_of x.now) label proc ty to from.now)) }
 {

@@ -10,7 +10,6 @@ ghost use Rattle.word_lowering.specs.LaidTexts.{AreLaid, piece_before, pieces_be
 ghost use Rattle.word_lowering.specs.LaidTexts.{lines_before, procs_before};
 ghost use Rattle.word_lowering.specs.Texts.{padded, or_zero, laid_texts, place_of, standing_place};
 
-use crate::spots::more;
 use crate::standing::standing_bytes;
 use crate::texts::{push_padded, push_texts_in};
 use arc_base::{Bytes, Memory};
@@ -20,7 +19,7 @@ use std::collections::HashMap;
 use std::marker::Model;
 
 /// Where each text begins.
-pub type Places = HashMap<Bytes, u32>;
+pub type Places = HashMap<Bytes, usize>;
 
 /// What is laid out so far.
 #[derive(Drop)]
@@ -49,7 +48,7 @@ fn add_text(alloc: Global, laying: &mut Laying, text: &Bytes) -> Result<(), Memo
         else get same_text laying.old.places other)) }
     ensures lost { laying.new.lost ≡ laying.old.lost }
 {
-    let at = more(0, laying.bytes.as_slice())?;
+    let at = laying.bytes.as_slice().len();
     let copy = Bytes::from_slice(alloc, text.as_slice())?;
     laying.places.insert(copy, at)?;
     push_padded(&mut laying.bytes, text.as_slice())
@@ -193,7 +192,7 @@ pub fn laid_texts<'a>(
 }
 
 // Where a text begins, or 0.
-fn place_in(places: &Places, text: &Bytes) -> u32
+fn place_in(places: &Places, text: &Bytes) -> usize
     ensures { result ≡ or_zero (get same_text places.now text.now) }
 {
     match places.get(text) {
@@ -211,18 +210,18 @@ impl LaidTexts<'_> {
     }
 
     /// Where the literal of so many bytes is laid out that stands at this offset in the code.
-    pub fn place_of(&self, offset: u32, bytes: u32) -> Result<u32, Memory>
+    pub fn place_of(&self, offset: usize, bytes: u32) -> Result<usize, Memory>
         ensures { IfOk result (λ at. at ≡ place_of self.now offset bytes) }
     {
         let all = self.all.as_slice();
-        let from = (offset as usize).min(all.len());
+        let from = offset.min(all.len());
         let to = (bytes as usize).min(all.len() - from);
         let text = Bytes::from_slice(self.alloc, &all[from..from + to])?;
         Ok(place_in(&self.places, &text))
     }
 
     /// Where a constant is laid out that stands in the data.
-    pub fn standing_place(&self, pieces: &[Piece]) -> Result<u32, Memory>
+    pub fn standing_place(&self, pieces: &[Piece]) -> Result<usize, Memory>
         ensures { IfOk result (λ at. at ≡ standing_place self.now pieces.now) }
     {
         let bytes = standing_bytes(self.alloc, pieces)?;

@@ -6,7 +6,7 @@ ghost use Rattle.word_lowering.specs.Layouts.{is_kept, is_static, home_at, free_
 ghost use Rattle.word_lowering.specs.Layouts.{home_by, free_by, housed, behind};
 ghost use Rattle.word_lowering.specs.Layouts.{all_housed, behind_all, laid, layout_of, layouts};
 ghost use Rattle.word_lowering.specs.Layouts.{is_sort, is_param, params_in};
-ghost use Rattle.word_lowering.specs.Layouts.{result_in, kept_in, nowhere};
+ghost use Rattle.word_lowering.specs.Layouts.{result_in, kept_in, nowhere, AreNumbers, AreCounted};
 ghost use Rattle.word_lowering.specs.Survey.{IsSurvey};
 ghost use Rattle.word_lowering.specs.Stored.{HaveForms};
 
@@ -14,7 +14,6 @@ use crate::addresses::{addressed, is_among};
 use crate::aliases::put_aliases;
 use crate::homes::{Alias, FIRST, Free, Home, Housed, Layout, OWN_FROM, Sort};
 use crate::place_table::places_of;
-use crate::spots::sum;
 use crate::stored::{bytes_at, is_word};
 use crate::survey::Survey;
 use arc_base::{Items, Memory};
@@ -60,18 +59,19 @@ fn home_at(fixed: bool, kept: bool, free: Free) -> Home
     }
 }
 
-fn free_behind(fixed: bool, kept: bool, bytes: u32, free: Free) -> Result<Free, Memory>
-    ensures { IfOk result (λ other. other ≡ free_behind fixed kept bytes free) }
+fn free_behind(fixed: bool, kept: bool, bytes: u32, free: Free) -> Free
+    requires { AreNumbers (free_behind fixed kept bytes free) }
+    ensures { result ≡ free_behind fixed kept bytes free }
 {
     let mut free = free;
     if fixed {
-        free.datum = sum(free.datum, bytes)?;
+        free.datum += bytes;
     } else if kept {
-        free.variable = sum(free.variable, 1)?;
+        free.variable += 1;
     } else {
-        free.byte = sum(free.byte, bytes)?;
+        free.byte += bytes;
     }
-    Ok(free)
+    free
 }
 
 // Another name has no home.
@@ -118,19 +118,23 @@ fn housed(
 }
 
 // What isn't taken behind it.
-fn behind(survey: &Survey, start: bool, free: Free, place: Housed) -> Result<Free, Memory>
-    requires { IsSurvey survey.now }
-    ensures { IfOk result (λ other. other ≡ free_by place.alias free
+fn behind(survey: &Survey, start: bool, free: Free, place: Housed) -> Free
+    requires survey { IsSurvey survey.now }
+    requires small { AreNumbers (free_by place.alias free
         (free_behind (is_static start place.kind)
         (is_kept (is_among place.number (addressed (map block_plain survey.now.lines.now)))
         place.is_word place.kind) place.bytes free)) }
+    ensures { result ≡ free_by place.alias free
+        (free_behind (is_static start place.kind)
+        (is_kept (is_among place.number (addressed (map block_plain survey.now.lines.now)))
+        place.is_word place.kind) place.bytes free) }
 {
     match place.alias {
         Alias::Own => {
             let kept = is_kept(place.number, survey.addressed, place.is_word, place.kind);
             free_behind(is_static(start, place.kind), kept, place.bytes, free)
         }
-        _ => Ok(free),
+        _ => free,
     }
 }
 
@@ -145,13 +149,15 @@ fn put_housed(
 ) -> Result<(), Memory>
     requires forms { HaveForms types.now }
     requires survey { IsSurvey survey.now }
+    requires small { AreNumbers
+        (behind types.now start (map block_plain survey.now.lines.now) free.old place.now) }
     ensures all { OnOk result (all.new ≡ all.old
         ++ housed types.now start (map block_plain survey.now.lines.now) free.old place.now ∷ []) }
     ensures free { OnOk result (free.new
         ≡ behind types.now start (map block_plain survey.now.lines.now) free.old place.now) }
 {
     let h = housed(types, start, survey, *free, place)?;
-    let other = behind(survey, start, *free, h)?;
+    let other = behind(survey, start, *free, h);
     all.push(h)?;
     *free = other;
     Ok(())
@@ -168,6 +174,8 @@ fn put_all_housed(
 ) -> Result<(), Memory>
     requires forms { HaveForms types.now }
     requires survey { IsSurvey survey.now }
+    requires small { AreNumbers
+        (behind_all types.now start (map block_plain survey.now.lines.now) free.old places.now) }
     ensures all { OnOk result (all.new ≡ all.old
         ++ all_housed types.now start (map block_plain survey.now.lines.now) free.old places.now) }
     ensures free { OnOk result (free.new
@@ -190,6 +198,8 @@ fn laid(
 ) -> Result<Layout, Memory>
     requires forms { HaveForms types.now }
     requires survey { IsSurvey survey.now }
+    requires small { AreNumbers
+        (laid types.now start datum survey.now.lines.now places.now).free }
     ensures { IfOk result (λ own. own
         ≡ laid types.now start datum survey.now.lines.now places.now) }
 {
@@ -213,7 +223,8 @@ pub fn layout_of(
     datum: u32,
     proc: &CodeProc<BlockLine>,
 ) -> Result<Layout, Memory>
-    requires { HaveForms types.now }
+    requires forms { HaveForms types.now }
+    requires small { AreNumbers (layout_of types.now start datum proc.now).free }
     ensures { IfOk result (λ own. own ≡ layout_of types.now start datum proc.now) }
 {
     let lines = proc.lines.as_slice();
@@ -237,7 +248,8 @@ pub fn layouts(
     datum: u32,
     procs: &[CodeProc<BlockLine>],
 ) -> Result<Items<Layout>, Memory>
-    requires { HaveForms types.now }
+    requires forms { HaveForms types.now }
+    requires counted { AreCounted (layouts types.now datum procs.now) }
     ensures { IfOk result (λ all. all ≡ layouts types.now datum procs.now) }
 {
     let mut all = Items::new(alloc);
@@ -306,14 +318,14 @@ pub fn result_in(all: &[Housed]) -> Option<Housed>
 }
 
 /// How many parameters are in variables.
-pub fn kept_in(all: &[Housed]) -> Result<u32, Memory>
-    ensures { IfOk result (λ n. n ≡ kept_in (params_in all.now)) }
+pub fn kept_in(all: &[Housed]) -> usize
+    ensures { result ≡ kept_in (params_in all.now) }
 {
     let mut n = 0;
     for h in all {
         if is_param(h.kind) && matches!(h.home, Home::Variable(_)) {
-            n = sum(n, 1)?;
+            n += 1;
         }
     }
-    Ok(n)
+    n
 }

@@ -8,7 +8,7 @@ ghost use Rattle.word_lowering.specs.LineCode.{value, location, held, led, count
 ghost use Rattle.word_lowering.specs.LineCode.{operands, row_code, line_code, lines_code, labels_in};
 ghost use Rattle.word_lowering.specs.LineCode.{is_control, standing_at};
 ghost use Rattle.word_lowering.specs.Operations.{trap_label};
-ghost use Rattle.word_lowering.specs.Scope.{around_of};
+ghost use Rattle.word_lowering.specs.Scope.{around_of, HasRoom};
 ghost use Rattle.word_lowering.specs.Spots.{spot_of, moved};
 ghost use Rattle.word_lowering.specs.Stored.{part_at, HaveForms};
 
@@ -41,6 +41,7 @@ fn emit_apply(
     of: &[Option<TypeId>],
     from: &[From],
 ) -> Result<(), Memory>
+    requires { HasRoom (around_of x.now) }
     ensures { OnOk result (Puts code.old code.new (row_code (around_of x.now) operation label ty
         of.now (value (around_of x.now) to) (operands (around_of x.now) from.now))) }
 {
@@ -190,6 +191,7 @@ fn emit_standing(
     to: u32,
     pieces: &[Piece],
 ) -> Result<(), Memory>
+    requires { HasRoom (around_of x.now) }
     ensures { OnOk result (Puts code.old code.new
         (λ k. WordInstr.Datum (led (around_of x.now) to) (standing_at (around_of x.now) pieces.now) ∷ k)) }
 {
@@ -199,7 +201,7 @@ fn emit_standing(
 
 // The code of a line with a label of its own.
 fn emit_line(code: &mut Items<WordInstr>, x: &Scope, line: &Line, label: u32) -> Result<(), Memory>
-    requires { HaveForms x.now.types.now }
+    requires { HasRoom (around_of x.now) }
     ensures { OnOk result (Puts code.old code.new (line_code (around_of x.now) line.now label)) }
 {
     match line {
@@ -265,7 +267,7 @@ fn emit_next_line(
     line: &BlockLine,
     label: u32,
 ) -> Result<(), Memory>
-    requires { HaveForms x.now.types.now }
+    requires { HasRoom (around_of x.now) }
     ensures { OnOk result (Puts code.old code.new
         (line_code (around_of x.now) (block_plain line.now) label)) }
 {
@@ -279,7 +281,7 @@ fn emit_next_line(
 
 /// The code of lines.
 pub fn emit_lines(code: &mut Items<WordInstr>, x: &Scope, lines: &[BlockLine]) -> Result<(), Memory>
-    requires { HaveForms x.now.types.now }
+    requires { HasRoom (around_of x.now) }
     ensures { OnOk result (Puts code.old code.new
         (lines_code (around_of x.now) (map block_plain lines.now))) }
 {

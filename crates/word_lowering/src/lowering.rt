@@ -1,5 +1,5 @@
 // From block code to word code.
-ghost use Rattle.std.specs.Prelude.{◌≡◌, ◌<◌, ◌∷◌, ◌++◌, true, length, map, IfOk, OnOk};
+ghost use Rattle.std.specs.Prelude.{◌≡◌, ◌<◌, ◌≤◌, ◌∷◌, ◌++◌, true, length, map, IfOk, OnOk};
 ghost use Rattle.flat_code.specs.Codes.{block_plain};
 ghost use Rattle.word_lowering.specs.Emission.{Puts};
 ghost use Rattle.word_lowering.specs.LineCode.{proc_number};
@@ -7,8 +7,9 @@ ghost use Rattle.word_lowering.specs.Lowered.{result_cleared, kind_of, kind_in, 
 ghost use Rattle.word_lowering.specs.Lowered.{with_own, if_runs, word_procs, all_layouts, around_start};
 ghost use Rattle.word_lowering.specs.Lowers.{LowersWithRuntime};
 ghost use Rattle.word_lowering.specs.MayLower.{may_lower};
-ghost use Rattle.word_lowering.specs.Scope.{around_of};
+ghost use Rattle.word_lowering.specs.Scope.{around_of, HasRoom};
 ghost use Rattle.word_lowering.specs.Stored.{HaveForms};
+ghost use Rattle.word_lowering.specs.Texts.{texts_at};
 
 use crate::calls::proc_number;
 use crate::homes::{Housed, Layout, OWN_FROM};
@@ -53,7 +54,7 @@ fn emit_result(code: &mut Items<WordInstr>, own: Option<Housed>) -> Result<(), M
 }
 
 fn code_of(alloc: Global, x: &Scope, lines: &[BlockLine]) -> Result<Items<WordInstr>, Memory>
-    requires { HaveForms x.now.types.now }
+    requires { HasRoom (around_of x.now) }
     ensures { IfOk result (λ code. code ≡ code_of (around_of x.now) (map block_plain lines.now)) }
 {
     let mut code = Items::new(alloc);
@@ -91,10 +92,10 @@ fn word_proc(
     number: u32,
     proc: &CodeProc<BlockLine>,
 ) -> Result<WordProc, Memory>
-    requires { HaveForms x.now.types.now }
+    requires { HasRoom (around_of x.now) }
     ensures { IfOk result (λ p. p ≡ word_proc (around_of x.now) number proc.now) }
 {
-    let params = sum(OWN_FROM, kept_in(x.own.all.as_slice())?)?;
+    let params = OWN_FROM + kept_in(x.own.all.as_slice()) as u32;
     let lines = code_of(alloc, x, proc.lines.as_slice())?;
     Ok(WordProc {
         number,
@@ -128,7 +129,7 @@ fn push_proc(
     index: u32,
     proc: &CodeProc<BlockLine>,
 ) -> Result<(), Memory>
-    requires { HaveForms x.now.types.now }
+    requires { HasRoom (around_of x.now) }
     ensures { OnOk result (Puts all.old all.new
         (if_runs x.now.own.now.runs (word_proc (around_of x.now) (proc_number index) proc.now))) }
 {
@@ -146,7 +147,7 @@ fn push_procs(
     x: &Scope,
     procs: &[CodeProc<BlockLine>],
 ) -> Result<(), Memory>
-    requires { HaveForms x.now.types.now }
+    requires { HasRoom (around_of x.now) }
     ensures { OnOk result (all.new ≡
         all.old ++ word_procs (around_of x.now) 0 x.now.layouts.now procs.now) }
 {
@@ -178,7 +179,7 @@ fn all_procs(
     start: &CodeProc<BlockLine>,
     procs: &[CodeProc<BlockLine>],
 ) -> Result<Items<WordProc>, Memory>
-    requires { HaveForms x.now.types.now }
+    requires { HasRoom (around_of x.now) }
     ensures { IfOk result (λ all. all ≡ word_proc (around_of x.now) 0 start.now
         ∷ word_procs (around_of x.now) 0 x.now.layouts.now procs.now) }
 {
@@ -194,26 +195,26 @@ fn start_scope<'a>(
     texts: &'a LaidTexts<'a>,
     layouts: &'a [Layout],
     own: &'a Layout,
-) -> Result<Scope<'a>, Memory>
-    ensures { IfOk result (λ x. around_of x
-        ≡ around_start types.now texts.now layouts.now own.now) }
+) -> Scope<'a>
+    requires { texts_at types.now own.now.free.datum ≤ 4294967295 }
+    ensures { around_of result ≡ around_start types.now texts.now layouts.now own.now }
 {
     let ends = own.free.datum;
     let setting = Setting {
         start: true,
         ends,
-        names: names_at(types, ends)?,
-        texts: texts_at(types, ends)?,
+        names: names_at(types, ends),
+        texts: texts_at(types, ends),
         literals: 0,
     };
-    Ok(Scope {
+    Scope {
         types,
         texts,
         layouts,
         own,
         globals: &own.all,
         setting,
-    })
+    }
 }
 
 // The word code of block code whose procedures have these layouts.
@@ -240,7 +241,7 @@ fn words_of(
     };
     let texts = laid_texts(alloc, procs)?;
     let statics = data(alloc, types, own.free.datum, &texts)?;
-    let x = start_scope(types, &texts, layouts, own)?;
+    let x = start_scope(types, &texts, layouts, own);
     let procs = all_procs(alloc, &x, start, procs)?;
     Ok(WordCode { procs, statics })
 }

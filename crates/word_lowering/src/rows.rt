@@ -3,7 +3,7 @@ ghost use Rattle.std.specs.Prelude.{◌≡◌, OnOk};
 ghost use Rattle.word_lowering.specs.Emission.{Puts};
 ghost use Rattle.word_lowering.specs.LineCode.{converted_code, updated_code, update_code, quit_code};
 ghost use Rattle.word_lowering.specs.LineCode.{operands, row_code};
-ghost use Rattle.word_lowering.specs.Scope.{around_of};
+ghost use Rattle.word_lowering.specs.Scope.{around_of, HasRoom};
 
 use crate::calls::emit_exit;
 use crate::homes::{FIFTH, FIRST, FOURTH, Housed, SECOND};
@@ -107,6 +107,7 @@ pub fn emit_row(
     to: Housed,
     from: &[From],
 ) -> Result<(), Memory>
+    requires { HasRoom (around_of x.now) }
     ensures { OnOk result (Puts code.old code.new (row_code (around_of x.now) operation label ty
         of.now to (operands (around_of x.now) from.now))) }
 {

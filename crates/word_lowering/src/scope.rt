@@ -7,7 +7,7 @@ ghost use Rattle.word_lowering.specs.LineCode.{value, location_by, location, own
 ghost use Rattle.word_lowering.specs.LineCode.{operand, operands, operand_at, held, led};
 ghost use Rattle.word_lowering.specs.LineCode.{layout_at, variable_of, count_at, bytes_each};
 ghost use Rattle.word_lowering.specs.LineCode.{literal_at, standing_at};
-ghost use Rattle.word_lowering.specs.Scope.{around_of};
+ghost use Rattle.word_lowering.specs.Scope.{around_of, HasRoom};
 ghost use Rattle.word_lowering.specs.Stored.{HaveForms};
 
 use crate::homes::{Alias, FIRST, Home, Housed, Layout, Sort};
@@ -131,17 +131,21 @@ impl Scope<'_> {
 
     /// Where a literal of the procedure is laid out: so many bytes, behind so many of its literals.
     pub fn literal_at(&self, behind: u32, bytes: u32) -> Result<u32, Memory>
+        requires { HasRoom (around_of self.now) }
         ensures { IfOk result (λ at. at ≡ literal_at (around_of self.now) behind bytes) }
     {
-        let offset = sum(self.setting.literals, behind)?;
-        sum(self.setting.texts, self.texts.place_of(offset, bytes)?)
+        let offset = self.setting.literals as usize + behind as usize;
+        let place = self.texts.place_of(offset, bytes)?;
+        Ok(self.setting.texts + place as u32)
     }
 
     /// Where a constant stands in the data.
     pub fn standing_at(&self, pieces: &[Piece]) -> Result<u32, Memory>
+        requires { HasRoom (around_of self.now) }
         ensures { IfOk result (λ at. at ≡ standing_at (around_of self.now) pieces.now) }
     {
-        sum(self.setting.texts, self.texts.standing_place(pieces)?)
+        let place = self.texts.standing_place(pieces)?;
+        Ok(self.setting.texts + place as u32)
     }
 
     /// The variable of an ordinal.

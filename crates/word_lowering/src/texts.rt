@@ -1,5 +1,5 @@
 // The data of word code.
-ghost use Rattle.std.specs.Prelude.{◌≡◌, ◌+◌, ◌++◌, length, map, replicate, IfOk, OnOk};
+ghost use Rattle.std.specs.Prelude.{◌≡◌, ◌≤◌, ◌+◌, ◌++◌, length, map, replicate, IfOk, OnOk};
 ghost use Rattle.flat_code.specs.Codes.{block_plain};
 ghost use Rattle.rv32_isa.specs.Words.{word_bytes};
 ghost use Rattle.word_lowering.specs.Emission.{Puts};
@@ -111,18 +111,15 @@ fn members_of(def: &TypeDef) -> &[Bytes]
 }
 
 /// How many names stand before those of an enum, by its number.
-pub fn names_before(types: &TypeTable, ty: TypeId) -> Result<u32, Memory>
-    ensures { IfOk result (λ n. n ≡ names_before types.now ty) }
+pub fn names_before(types: &TypeTable, ty: TypeId) -> u32
+    requires { length (all_names types.now) ≤ 4294967295 }
+    ensures { result ≡ names_before types.now ty }
 {
     let mut n = 0;
     for id in 0..ty.min(types.count()) {
-        let count = members_of(types.get(id)).len();
-        if count > u32::MAX as usize {
-            return Err(Memory);
-        }
-        n = sum(n, count as u32)?;
+        n += members_of(types.get(id)).len() as u32;
     }
-    Ok(n)
+    n
 }
 
 #[tactic(auto, unfolding(rv32_isa::specs::Words::word_bytes))]
@@ -134,19 +131,21 @@ fn push_word(bytes: &mut Bytes, n: u32) -> Result<(), Memory>
 
 // Where names begin, the first one at n; and where the last one ends.
 fn push_starts(bytes: &mut Bytes, n: u32, names: &[Bytes]) -> Result<u32, Memory>
+    requires { n + length (joined_all names.now) ≤ 4294967295 }
     ensures pushed { OnOk result (Puts bytes.old bytes.new (λ k. starts_from n names.now k)) }
     ensures end { IfOk result (λ end. end ≡ n + length (joined_all names.now)) }
 {
     let mut at = n;
     for name in names {
         push_word(bytes, at)?;
-        at = more(at, name.as_slice())?;
+        at += name.as_slice().len() as u32;
     }
     Ok(at)
 }
 
 // The ends of all names.
 fn push_ends(bytes: &mut Bytes, types: &TypeTable) -> Result<(), Memory>
+    requires { length (joined_all (all_names types.now)) ≤ 4294967295 }
     ensures { OnOk result (bytes.new ≡ bytes.old ++ ends_from 0 (all_names types.now)) }
 {
     let mut n = 0;
@@ -177,47 +176,46 @@ fn push_names(bytes: &mut Bytes, types: &TypeTable) -> Result<(), Memory>
 }
 
 /// Where the names stand, where globals end at a byte.
-pub fn names_at(types: &TypeTable, globals_end: u32) -> Result<u32, Memory>
-    ensures { IfOk result (λ at. at ≡ names_at types.now globals_end) }
+pub fn names_at(types: &TypeTable, globals_end: u32) -> u32
+    requires { names_at types.now globals_end ≤ 4294967295 }
+    ensures { result ≡ names_at types.now globals_end }
 {
-    let count = sum(names_before(types, types.count())?, 1)?;
-    if count > u32::MAX / WORD_BYTES {
-        return Err(Memory);
-    }
-    sum(globals_end, WORD_BYTES * count)
+    let count = names_before(types, types.count()) + 1;
+    globals_end + WORD_BYTES * count
 }
 
 // How many bytes some names have.
-fn name_bytes(n: u32, names: &[Bytes]) -> Result<u32, Memory>
-    ensures { IfOk result (λ m. m ≡ n + length (joined_all names.now)) }
+fn name_bytes(n: u32, names: &[Bytes]) -> u32
+    requires { n + length (joined_all names.now) ≤ 4294967295 }
+    ensures { result ≡ n + length (joined_all names.now) }
 {
     let mut n = n;
     for name in names {
-        n = more(n, name.as_slice())?;
+        n += name.as_slice().len() as u32;
     }
-    Ok(n)
+    n
 }
 
 // How many bytes all names have.
-fn names_length(types: &TypeTable) -> Result<u32, Memory>
-    ensures { IfOk result (λ n. n ≡ length (joined_all (all_names types.now))) }
+fn names_length(types: &TypeTable) -> u32
+    requires { length (joined_all (all_names types.now)) ≤ 4294967295 }
+    ensures { result ≡ length (joined_all (all_names types.now)) }
 {
     let mut n = 0;
     for id in 0..types.count() {
-        n = name_bytes(n, members_of(types.get(id)))?;
+        n = name_bytes(n, members_of(types.get(id)));
     }
-    Ok(n)
+    n
 }
 
 /// Where the texts of literals are laid out, and the constants that stand in the data.
-pub fn texts_at(types: &TypeTable, globals_end: u32) -> Result<u32, Memory>
-    ensures { IfOk result (λ at. at ≡ texts_at types.now globals_end) }
+pub fn texts_at(types: &TypeTable, globals_end: u32) -> u32
+    requires { texts_at types.now globals_end ≤ 4294967295 }
+    ensures { result ≡ texts_at types.now globals_end }
 {
-    let n = names_length(types)?;
-    let names = sum(n, (4 - n % 4) % 4)?;
-    let at = names_at(types, globals_end)?;
-    let end = sum(at, names)?;
-    Ok(end)
+    let n = names_length(types);
+    let at = names_at(types, globals_end);
+    at + (n + (4 - n % 4) % 4)
 }
 
 /// All data, where globals end at a byte.
@@ -227,6 +225,7 @@ pub fn data(
     globals_end: u32,
     texts: &LaidTexts,
 ) -> Result<Bytes, Memory>
+    requires { length (joined_all (all_names types.now)) ≤ 4294967295 }
     ensures { IfOk result (λ bytes. bytes ≡ padded (data_in types.now globals_end texts.now)) }
 {
     let mut bytes = Bytes::new(alloc);

@@ -1,17 +1,17 @@
 // The word code of what is written.
-ghost use Rattle.std.specs.Prelude.{◌≡◌, ◌+◌, ◌*◌, IfOk, OnOk};
+ghost use Rattle.std.specs.Prelude.{◌≡◌, ◌+◌, ◌*◌, OnOk};
 ghost use Rattle.word_lowering.specs.Emission.{Puts};
 ghost use Rattle.word_lowering.specs.LineCode.{number_code, bool_code, char_code, name_code};
 ghost use Rattle.word_lowering.specs.LineCode.{text_code, literal_at, literal_code, written_code};
 ghost use Rattle.word_lowering.specs.LineCode.{typed_code};
 ghost use Rattle.word_lowering.specs.LineCode.{texts_code, operands, variable_of};
-ghost use Rattle.word_lowering.specs.Scope.{around_of};
+ghost use Rattle.word_lowering.specs.Scope.{around_of, HasRoom};
 ghost use Rattle.word_lowering.specs.Stored.{entry_at, base_at};
 ghost use Rattle.word_lowering.specs.Texts.{names_before};
 
 use crate::homes::{Alias, FIRST, Housed, SECOND, THIRD};
 use crate::scope::{Scope, variable_of};
-use crate::spots::{argument, call, compute, constant, emit, load, sum};
+use crate::spots::{argument, call, compute, constant, emit, load};
 use crate::stored::{base_at, entry_at};
 use crate::texts::{FALSE_AT, names_before};
 use arc_base::{Items, Memory, Stream};
@@ -89,15 +89,12 @@ fn emit_name(code: &mut Items<WordInstr>, ends: u32, names: u32, from: u32) -> R
 }
 
 // The ends of the names of an enum, with distinct types looked through.
-fn ends_of(x: &Scope, ty: TypeId) -> Result<u32, Memory>
-    ensures { IfOk result (λ at. at ≡ x.now.setting.ends
-        + 4 * names_before x.now.types.now (base_at x.now.types.now ty)) }
+fn ends_of(x: &Scope, ty: TypeId) -> u32
+    requires { HasRoom (around_of x.now) }
+    ensures { result ≡ x.now.setting.ends
+        + 4 * names_before x.now.types.now (base_at x.now.types.now ty) }
 {
-    let before = names_before(x.types, base_at(x.types, ty))?;
-    if before > u32::MAX / 4 {
-        return Err(Memory);
-    }
-    sum(x.setting.ends, 4 * before)
+    x.setting.ends + 4 * names_before(x.types, base_at(x.types, ty))
 }
 
 /// So many bytes of the data; nothing is done for none.
@@ -112,6 +109,7 @@ pub fn emit_text(code: &mut Items<WordInstr>, at: u32, bytes: u32) -> Result<(),
 
 // A text that a temporary is another name for.
 fn emit_literal(code: &mut Items<WordInstr>, x: &Scope, alias: Alias) -> Result<(), Memory>
+    requires { HasRoom (around_of x.now) }
     ensures { OnOk result (Puts code.old code.new
         (literal_code (literal_at (around_of x.now)) alias)) }
 {
@@ -131,6 +129,7 @@ fn emit_written(
     ty: TypeId,
     from: Housed,
 ) -> Result<(), Memory>
+    requires { HasRoom (around_of x.now) }
     ensures { OnOk result (Puts code.old code.new (written_code (around_of x.now)
         (entry_at x.now.types.now ty) (base_at x.now.types.now ty) from)) }
 {
@@ -140,8 +139,7 @@ fn emit_written(
         Some(TypeDef::Char) => emit_char(code, variable_of(from)),
         Some(TypeDef::Text) => emit_literal(code, x, from.alias),
         Some(TypeDef::Enum { .. }) => {
-            let ends = ends_of(x, ty)?;
-            emit_name(code, ends, x.setting.names, variable_of(from))
+            emit_name(code, ends_of(x, ty), x.setting.names, variable_of(from))
         }
         _ => Ok(()),
     }
@@ -153,6 +151,7 @@ fn emit_typed(
     ty: Option<TypeId>,
     from: Housed,
 ) -> Result<(), Memory>
+    requires { HasRoom (around_of x.now) }
     ensures { OnOk result (Puts code.old code.new (typed_code (around_of x.now) ty from)) }
 {
     match ty {
@@ -168,6 +167,7 @@ pub fn emit_texts(
     of: &[Option<TypeId>],
     from: &[From],
 ) -> Result<(), Memory>
+    requires { HasRoom (around_of x.now) }
     ensures { OnOk result (Puts code.old code.new
         (texts_code (around_of x.now) of.now (operands (around_of x.now) from.now))) }
 {

@@ -37,10 +37,12 @@ use Rattle.expr_steps.specs.ViewTyping.{operands_of, AllOperandsWithin, shown_pa
 use Rattle.expr_steps.proofs.ForCallers.{said_so, stops_there, goes_on, ready_on, want_more, asks_more, values_more, values_and, operand_more, operands_more}
 use Rattle.expr_steps.proofs.ForCallers.{forgotten, operands_and, branches_more, ids_and, all_below_more}
 use Rattle.check_exprs.specs.ViewTyped.{value_said, values_said, operand_said, operands_said, types_said, test_said, condition_said, conditions_said}
-use Rattle.check_exprs.specs.ViewTyped.{pick_said, picks_said, labels_said, no_tests, label_said, one_label_said, case_by, AreAll, AnyLabel, ids_of, IdWithin}
+use Rattle.check_exprs.specs.ViewTyped.{pick_said, picks_said, labels_said, no_tests, label_said, one_label_said, case_by, AreAll, LabelProper, ids_of}
+use Rattle.check_exprs.specs.ViewTyped.{IdWithin}
 use Rattle.check_exprs.specs.ViewTyped.{IdsWithin}
 use Rattle.check_exprs.proofs.Stepping.{exits, exits_without, stays, made_here, here, refused_here, checked, stop_as, go_as, said_from, yet_first, yet_stops}
-use Rattle.check_exprs.proofs.Stepping.{yet_goes, yet_ends, always, AnyLength, Any}
+use Rattle.check_exprs.proofs.Stepping.{yet_goes, yet_ends, AnyLength, Any}
+use Rattle.check_exprs.proofs.Handing.{typed_fixed, given_fixed}
 use Rattle.check_exprs.proofs.Folding.{value_then, values_first, values_next, values_last, operands_next, operands_last, types_first, types_next, types_last}
 use Rattle.check_exprs.proofs.Folding.{conditions_next, conditions_last, picks_next, picks_last, labels_next, labels_last, next_all, label_by_typed}
 use Rattle.check_exprs.proofs.Chains.{tuple_chain, array_chain, sequence_chain, object_go, object_chain, field_chain, element_go, element_chain, unary_chain}
@@ -623,6 +625,8 @@ forms::element-index_from-requires t c =
       ready = ready_on g (ready_on c.in_ok-value.ensures.grown c.requires.ready);
       value = (let l = g.length in let v = c.in_ok-value.ensures.fits in omega (arith, l, v));
       index = c.in-Ok.ensures.fits;
+      fixed = given_fixed c.args.scope.now (λ env. value_said env anything c.in_ok-value.value.next (term_of c.args.index.now)) c.in-Ok.index
+          (ready_on c.in_ok-value.ensures.grown c.requires.ready).decls c.in-Ok.ensures;
     }
 
 pub forms::element-returns-in_err-value : goal.forms::element-returns-in_err-value
@@ -2495,7 +2499,7 @@ labels::range_at-returns-in_err-low t c =
     exits c.in_err-low.field-0.0 c.from_residual.result c.from_residual.ensures.1
     (stops_there (λ (ts : List Ty). label_of)
     (λ (ts : List Ty) (facts : Facts) (low : Label). and_then (one_label_said (env_of ts facts s) (type_at ts c.args.ty) b)
-    (λ high. range_of c.args.at low high)) AnyLabel c.in_err-low.ensures)
+    (λ high. range_of c.args.at low high)) LabelProper c.in_err-low.ensures)
 
 pub labels::range_at-returns-in_err-high : goal.labels::range_at-returns-in_err-high
 labels::range_at-returns-in_err-high t c =
@@ -2506,7 +2510,7 @@ labels::range_at-returns-in_err-high t c =
     (goes_on (λ (ts : List Ty) (facts : Facts) (low : Label). and_then (one_label_said (env_of ts facts s) (type_at ts c.args.ty) b)
     (λ high. range_of c.args.at low high)) c.in_ok-low.ensures
     (stops_there (λ (ts : List Ty). label_of) (λ (ts : List Ty) (facts : Facts) (high : Label). range_of c.args.at (label_of c.in_ok-low.low) high)
-    AnyLabel c.in_err-high.ensures))
+    LabelProper c.in_err-high.ensures))
 
 pub labels::range_at-returns : goal.labels::range_at-returns
 labels::range_at-returns t c =
@@ -2517,8 +2521,8 @@ labels::range_at-returns t c =
     (λ high. range_of c.args.at low high)) c.in_ok-low.ensures
     (goes_on (λ (ts : List Ty) (facts : Facts) (high : Label). range_of c.args.at (label_of c.in_ok-low.low) high) c.in_ok-high.ensures
     (stays c.one_label-2.new.types (λ (ts : List Ty). label_of) (λ ts facts. range_of c.args.at (label_of c.in_ok-low.low) (label_of c.in_ok-high.high))
-    AnyLabel
-    c.range_of.result (λ ts facts u. c.range_of.ensures) (always c.range_of.result)))
+    LabelProper
+    c.range_of.result (λ ts facts u. c.range_of.ensures.answers) c.range_of.ensures.proper))
 
 pub labels::one_label-typed-requires : goal.labels::one_label-typed-requires
 labels::one_label-typed-requires t c =
@@ -2529,13 +2533,15 @@ labels::one_label-label_from-requires t c =
     record {
       ty = (let g = c.in_ok-typed.ensures.grown.length in let h = c.requires.ty in omega (arith, g, h));
       typed = c.in_ok-typed.ensures.fits;
+      fixed = typed_fixed c.args.scope.now (λ env. typed env nothing 0 (term_of c.args.tree.now)) c.in_ok-typed.typed c.requires.ready.decls
+          c.in_ok-typed.ensures;
     }
 
 pub labels::one_label-returns-in_err-typed : goal.labels::one_label-returns-in_err-typed
 labels::one_label-returns-in_err-typed t c =
     let s = c.args.scope.now in
     exits c.in_err-typed.field-0.0 c.from_residual.result c.from_residual.ensures.1
-    (stop_as (λ (ts : List Ty). label_of) (λ ts facts. one_label_said (env_of ts facts s) (type_at ts c.args.ty) (term_of c.args.tree.now)) AnyLabel
+    (stop_as (λ (ts : List Ty). label_of) (λ ts facts. one_label_said (env_of ts facts s) (type_at ts c.args.ty) (term_of c.args.tree.now)) LabelProper
     (λ (ts : List Ty) (facts : Facts) (x : Typed). label_from facts (type_at ts c.args.ty) (Ok x))
     (λ ts facts u. label_by_typed facts (type_at ts c.args.ty) (typed (env_of ts facts s) nothing 0 (term_of c.args.tree.now))) c.in_err-typed.ensures)
 
@@ -2546,8 +2552,8 @@ labels::one_label-returns t c =
     (λ (ts : List Ty) (facts : Facts) (x : Typed). label_from facts (type_at ts c.args.ty) (Ok x))
     (λ ts facts u. label_by_typed facts (type_at ts c.args.ty) (typed (env_of ts facts s) nothing 0 (term_of c.args.tree.now))) c.in_ok-typed.ensures
     (stays c.typed.new.types (λ (ts : List Ty). label_of) (λ ts facts. label_from facts (type_at ts c.args.ty) (Ok (typed_of ts c.in_ok-typed.typed)))
-    AnyLabel c.label_from.result
-    c.label_from.ensures (always c.label_from.result))
+    LabelProper c.label_from.result
+    c.label_from.ensures.answers c.label_from.ensures.proper)
 
 -- ---- written types
 
@@ -2710,7 +2716,11 @@ written::array_of-typed-requires t c =
 
 pub written::array_of-length_from-requires : goal.written::array_of-length_from-requires
 written::array_of-length_from-requires t c =
-    record { typed = c.in_ok-typed.ensures.fits }
+    record {
+      typed = c.in_ok-typed.ensures.fits;
+      fixed = typed_fixed c.args.scope.now (λ env. typed env nothing 0 (term_of c.args.len.now)) c.in_ok-typed.typed c.requires.ready.decls
+          c.in_ok-typed.ensures;
+    }
 
 pub written::array_of-read_type-requires : goal.written::array_of-read_type-requires
 written::array_of-read_type-requires t c =

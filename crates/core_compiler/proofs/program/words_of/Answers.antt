@@ -1,13 +1,23 @@
-use Rattle.std.proofs.Common.{sym, subst}
+use Rattle.std.proofs.Common.{sym, subst, length}
 use Rattle.std.proofs.lemmas.Result.{IfOk-weaker}
 use Rattle.core_compiler.specs.Stages.{AreWordsOf}
-use Rattle.core_compiler.proofs.Composing.{words_of_flat}
+use Rattle.core_compiler.proofs.Composing.{words_of_flat, own_data_small}
 use Rattle.core_compiler.proofs.MayLower.{may_be, some_blocks}
 use Rattle.core_compiler.proofs.program.words_of.Goals as goal
+use Rattle.word_code.proofs.ForCallers.{routines_room}
 
 -- `join` asks that no procedure is in both
-pub join-requires : goal.join-requires
-join-requires c = c.in_ok-words.ensures.apart c.in_ok-runtime.runtime c.in_ok-runtime.ensures
+pub join-requires-clause-apart : goal.join-requires-clause-apart
+join-requires-clause-apart c = c.in_ok-words.ensures.apart c.in_ok-runtime.runtime c.in_ok-runtime.ensures
+
+-- and that data begins at numbers of 32 bits
+pub join-requires-clause-small : goal.join-requires-clause-small
+join-requires-clause-small c = own_data_small c.in_ok-words.words c.in_ok-runtime.runtime c.in_ok-words.ensures c.in_ok-runtime.ensures
+
+pub join-requires-clause-room : goal.join-requires-clause-room
+join-requires-clause-room c =
+    routines_room (length c.in_ok-words.words.statics) c.in_ok-runtime.runtime.procs c.in_ok-runtime.ensures.routines
+    (own_data_small c.in_ok-words.words c.in_ok-runtime.runtime c.in_ok-words.ensures c.in_ok-runtime.ensures)
 
 -- `words` asks that block code may become word code
 pub words-requires-clause-may : goal.words-requires-clause-may

@@ -13,7 +13,8 @@ use Rattle.decl_rules.specs.Values.{Value, valued_term, accepted_if, result_want
 use Rattle.decl_rules.specs.Definitions.{annotated}
 use Rattle.decl_written.specs.ViewWritten.{numbered_of}
 use Rattle.decl_parts.specs.View.{no_other_type, env_in, NumberedWithin}
-use Rattle.decl_parts.proofs.Growing.{ok_by, below_more}
+use Rattle.expr_parts.proofs.ForCallers.{below_more}
+use Rattle.decl_parts.proofs.Growing.{ok_by}
 use Rattle.decl_parts.proofs.Judging.{typing_as, typing_then, typing_stops}
 use Rattle.decl_parts.proofs.typing.definition_value.Goals as goal
 

@@ -5,7 +5,8 @@ use Rattle.nim_tree.specs.Types.{written_of}
 use Rattle.decl_rules.specs.Meanings.{an_alias}
 use Rattle.decl_rules.specs.Written.{spelled}
 use Rattle.decl_types.specs.declared.known.Meaning.TheVariants as M
-use Rattle.decl_sections.specs.ViewBodies.{meant_in, MeaningWithin, said_with}
+use Rattle.decl_types.specs.ViewKnown.{MeaningWithin}
+use Rattle.decl_sections.specs.ViewBodies.{meant_in, said_with}
 use Rattle.decl_sections.proofs.Noding.{spells_map, spells_stops}
 use Rattle.decl_sections.proofs.bodies.alias.Goals as goal
 

@@ -9,7 +9,8 @@ use Rattle.decl_rules.specs.Meanings.{an_enum}
 use Rattle.decl_rules.specs.Sections.{texts_of}
 use Rattle.decl_rules.specs.Written.{later}
 use Rattle.decl_types.specs.ViewNodes.{names_env_of}
-use Rattle.decl_sections.specs.ViewBodies.{meant_in, MeaningWithin, said_with, said_by}
+use Rattle.decl_types.specs.ViewKnown.{MeaningWithin}
+use Rattle.decl_sections.specs.ViewBodies.{meant_in, said_with, said_by}
 use Rattle.decl_sections.proofs.Noding.{further_same, formed_none, spells_as, spells_forgets}
 use Rattle.decl_sections.proofs.bodies.body.Goals as goal
 
@@ -34,6 +35,7 @@ returns-in_ok-texts_of-in-Enum c = record {
       ∙ ap₂ (λ texts fs. Ok (said_with (an_enum texts) fs)) (sym (c.in_ok-texts_of-in-Enum.ensures.texts
       ∙ ap texts_of c.as_slice-in-Enum.ensures.value)) (sym (formed_none ts keys c.args.out.now.items));
   within = tt;
+  sound = λ n m o h. h;
 }
 
 pub returns-in-Distinct : goal.returns-in-Distinct

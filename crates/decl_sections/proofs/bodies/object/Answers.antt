@@ -1,4 +1,4 @@
-use Rattle.std.proofs.Common.{[], sym, ap, ◌∙◌}
+use Rattle.std.proofs.Common.{[], length, sym, ap, ◌∙◌}
 use Rattle.std.specs.Prelude.{Ok}
 use Rattle.std.proofs.lemmas.Result.{err_from_is_err_and}
 use Rattle.arc_base.specs.Refusal.{and_then}
@@ -9,9 +9,10 @@ use Rattle.decl_rules.specs.Written.{later, parts_spelled}
 use Rattle.decl_rules.specs.Written.{fields_of as object_fields}
 use Rattle.decl_types.specs.declared.known.Meaning.TheVariants as M
 use Rattle.decl_sections.specs.ViewSpelled.{parts_in}
-use Rattle.decl_sections.specs.ViewBodies.{all_field_names, meant_in, MeaningWithin, said_with}
+use Rattle.decl_types.specs.ViewKnown.{MeaningWithin}
+use Rattle.decl_sections.specs.ViewBodies.{all_field_names, meant_in, said_with}
 use Rattle.decl_sections.proofs.Noding.{spells_map, spells_stops, spells_forgets}
-use Rattle.decl_sections.proofs.Saying.{object_whole, object_stops}
+use Rattle.decl_sections.proofs.Saying.{name_count, object_whole, object_stops}
 use Rattle.decl_sections.proofs.bodies.object.Goals as goal
 
 pub returns-in_err-declared : goal.returns-in_err-declared
@@ -30,7 +31,7 @@ returns-in-Ok c =
     (λ known env done fs h.
     object_stops (later known) env inside ∙ ap (λ z. and_then z (object_whole (all_field_names inside))) h
     ∙ ap (λ ns. object_whole ns (parts_in done fs c.in-Ok.parts)) (sym c.in_ok-declared.ensures.names))
-    (λ n h. h)
+    (λ n h. (h.0, ap length c.in_ok-declared.ensures.names ∙ name_count inside ∙ sym h.1))
 
 pub returns-in-Err : goal.returns-in-Err
 returns-in-Err c =

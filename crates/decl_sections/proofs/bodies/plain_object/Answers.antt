@@ -10,7 +10,8 @@ use Rattle.decl_rules.specs.Written.{fields_of as object_fields}
 use Rattle.expr_parts.specs.View.{env_of}
 use Rattle.decl_types.specs.ViewNodes.{node_types, names_env_of}
 use Rattle.decl_sections.specs.ViewSpelled.{formed_since}
-use Rattle.decl_sections.specs.ViewBodies.{meant_in, MeaningWithin, said_with, said_by}
+use Rattle.decl_types.specs.ViewKnown.{MeaningWithin}
+use Rattle.decl_sections.specs.ViewBodies.{meant_in, said_with, said_by}
 use Rattle.decl_sections.proofs.Noding.{spells_as, spells_err}
 use Rattle.decl_sections.proofs.bodies.plain_object.Goals as goal
 

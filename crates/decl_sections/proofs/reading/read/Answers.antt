@@ -1,4 +1,4 @@
-use Rattle.std.proofs.Common.{◌≡◌, [], ◌∷◌, ◌++◌, length, refl, sym, ap, ap₂, subst, ◌∙◌, arith, length-append}
+use Rattle.std.proofs.Common.{◌≡◌, ℕ, [], ◌∷◌, ◌++◌, length, refl, sym, ap, ap₂, subst, ◌∙◌, arith, length-append}
 use Rattle.std.specs.Prelude.{Err}
 use Rattle.indent_scanner.specs.Words.{normal}
 use Rattle.nim_tree.specs.Types.{declaration_of}
@@ -6,7 +6,7 @@ use Rattle.nim_types.specs.Types as type
 use Rattle.nim_types.specs.Table.{facts_in}
 use Rattle.expr_parts.specs.View.{env_of}
 use Rattle.expr_parts.proofs.ForCallers.{answers_as, grown_same}
-use Rattle.expr_steps.proofs.ForCallers.{ready_on}
+use Rattle.expr_parts.proofs.ForCallers.{ready_on}
 use Rattle.decl_rules.specs.Meanings.{key_of, keys_of}
 use Rattle.decl_rules.specs.Written.{later}
 use Rattle.decl_rules.specs.Sections.{Section, declaration_rule, seen_members, type_names}
@@ -19,8 +19,10 @@ use Rattle.decl_types.specs.ViewScoped.{KnowsAll}
 use Rattle.decl_sections.specs.ViewSections.{said_in}
 use Rattle.decl_sections.specs.ViewWalk.{StageOf}
 use Rattle.decl_sections.proofs.Leading.{head_stops, members_stops, said_stops, definition_leads, stage_declared, said_by_scope}
-use Rattle.decl_types.proofs.ForCallers.{on_any, on_one}
+use Rattle.decl_types.proofs.ForCallers.{holds_more, last_there, on_any, on_one, sound_more}
+use Rattle.decl_sections.proofs.Outside.{outer_ready, outer_stage, some_bound}
 use Rattle.decl_sections.proofs.Staging.{leads_last}
+use Rattle.decl_sections.proofs.Membering.{no_members}
 use Rattle.decl_sections.proofs.Readying.{ready_further}
 use Rattle.decl_sections.proofs.Staging.{said_rule, stage_as, stage_next}
 use Rattle.decl_sections.proofs.reading.read.Goals as goal
@@ -87,7 +89,8 @@ returns-clause-kept c =
 pub returns-clause-ready : goal.returns-clause-ready
 returns-clause-ready c =
     on_one c.take_members.result c.take_members.ensures.decls (λ m.
-    ready_further c.take_up.new.types c.take_up.new.scope c.take_members.new.scope m.0 m.1 c.take_members.ensures.kinds m.2
+    ready_further c.take_up.new.types c.take_up.new.scope c.take_members.new.scope m.0 m.1 c.take_members.ensures.kinds
+    (m.2 (length c.take_up.new.types) c.in_ok-take_up.ensures.holds.below)
     (c.in_ok-take_up.ensures.ready (ready_on c.read_definition.ensures.grown c.requires.ready)))
 
 pub returns-clause-count : goal.returns-clause-count
@@ -129,16 +132,22 @@ returns-clause-leads c = λ ts st all old s rest u f e g.
     let read = c.in_ok-take_up.ensures.read in
     let knows = subst (KnowsAll mid es scope between frame.names reading.known.items now.known.items) read c.in_ok-take_up.ensures.knows in
     let entries = member_entries (type.enum (key_of d)) 0 ms in
+    let sound = c.in-Ok-read_definition.ensures.sound frame.types (length all) (outer_stage ts st all old frame ds scope reading s f g) in
     leads_last (StageOf ts st all old frame es new now) (declaration_rule st all s d) c.take_members.result c.take_members.ensures.memory
     c.take_members.ensures.decls (λ m.
-    let shown = m.3 ts (facts_in es) (type_names all) reading.read.items def u f.names read
+    let own = λ (id : ℕ) (g : _). c.in_ok-take_up.ensures.holds.stands (length reading.read.items) def
+    (last_there reading.read.items now.read.items def read) id g ts (facts_in es) u in
+    let plain = λ (e : _). c.as_slice.ensures ∙ no_members (later (env_of ts (facts_in mid) scope))
+    (names_env_of ts (st.env.facts ++ []) (keys_of all) frame.names scope) ts (keys_of all) st names (key_of d) d.body ms def members
+    (c.in-Ok-read_definition.ensures.answers ts (facts_in mid) (st.env.facts ++ []) (keys_of all) v) e in
+    let shown = m.3 ts (type_names all) reading.read.items def f.names read own plain
     ∙ ap₂ (λ ty xs. seen_members (type_names all) (member_entries ty 0 xs)) (ap type.enum c.in-Ok-read_definition.ensures.key) c.as_slice.ensures in
     definition_leads (StageOf ts st all old frame es new now) st all s d entries (said_in ts (keys_of all) def) head members said
     (stage_as ts st all old frame.types es new reading.declared.outside now.declared.outside reading.declared.start now.declared.start
     now.declared.seen now.known.items (reading.read.items ++ def ∷ []) now.read.items _
     (stage_next ts st all old frame.names frame.types s d rest ds mid es scope between new reading.declared.outside reading.declared.start
     reading.declared.seen now.declared.seen reading.known.items now.known.items reading.read.items def ms m.0 u f.fixed g
-    (grown.under ts (facts_in mid) v).said e c.in-Ok-read_definition.ensures.key c.in_ok-take_up.ensures.sound knows named members m.1
+    (grown.under ts (facts_in mid) v).said e c.in-Ok-read_definition.ensures.key sound knows named members m.1
     c.take_members.ensures.home shown) outside start read))
 
 pub returns-clause-known : goal.returns-clause-known
@@ -147,4 +156,29 @@ returns-clause-known c = on_any c.take_members.result c.in_ok-take_up.ensures.co
 pub take_members-requires : goal.take_members-requires
 take_members-requires c =
     let l = ap length c.in_ok-take_up.ensures.read in
-    record { read = omega (arith, l, length-append c.args.reading.now.read.items (c.in-Ok-read_definition.definition ∷ [])) }
+    let n = length-append c.args.reading.now.read.items (c.in-Ok-read_definition.definition ∷ []) in
+    record {
+      read = omega (arith, l, n);
+      room = let k = c.in_ok-take_up.ensures.count in let r = c.requires.room in omega (arith, l, n, k, r);
+      stuck = c.in_ok-take_up.ensures.stuck;
+    }
+
+pub returns-clause-holds : goal.returns-clause-holds
+returns-clause-holds c = on_any c.take_members.result c.in_ok-take_up.ensures.holds
+
+pub take_up-requires-clause-sound : goal.take_up-requires-clause-sound
+take_up-requires-clause-sound c =
+    let old = length c.args.types.now in
+    let names = c.args.frame.now.names in
+    let some = some_bound names in
+    let o = outer_ready old some.0 names c.args.scope.now.decls c.requires.ready.decls some.1 in (
+      some.0,
+      sound_more old (length c.read_definition.new.types) some.0 c.in-Ok-read_definition.definition c.read_definition.ensures.grown.length
+          (c.in-Ok-read_definition.ensures.sound old some.0 o),
+    )
+
+pub take_up-requires-clause-holds : goal.take_up-requires-clause-holds
+take_up-requires-clause-holds c =
+    let reading = c.args.reading.now in
+    holds_more c.args.types.now c.read_definition.new.types reading.known.items reading.read.items
+    (kept_grown c.args.types.now c.read_definition.new.types c.read_definition.ensures.grown) c.requires.holds

@@ -15,6 +15,7 @@ loop-def-init c = record {
   kept = kept_grown c.args.types.now c.args.types.now (grown_same c.args.types.now);
   ready = c.requires.ready;
   room = c.requires.room;
+  holds = c.requires.holds;
   count = λ empty. ap length empty;
   left = λ ts st old u f empty g. (none_read, g, refl);
 }
@@ -53,6 +54,7 @@ loop-def-preserved c =
           let m = c.in-Ok.ensures.known in
           let l = ap length e in
           omega (arith, at.invariant.room, n, m, l);
+      holds = c.in-Ok.ensures.holds;
       count = λ empty. let n = at.invariant.count empty in let m = c.in-Ok.ensures.count in omega (arith, n, m);
       left = λ ts st old u f empty g.
           let all = map declaration_of defs in
@@ -87,3 +89,6 @@ read-requires-clause-room c =
     let at = c.loop-def in
     let l = ap length (next_item c.args.defs.now at.def-index c.def-item.result c.def-item.is c.loop-def-test.true) in
     omega (arith, at.invariant.room, l)
+
+pub returns-clause-holds : goal.returns-clause-holds
+returns-clause-holds c = c.loop-def.invariant.holds

@@ -8,7 +8,7 @@ use Rattle.expr_parts.specs.View.{Under}
 use Rattle.expr_parts.specs.ViewReady.{IsReady}
 use Rattle.decl_rules.specs.State.{State}
 use Rattle.decl_rules.specs.Sections.{Section, none_read, declarations_rule}
-use Rattle.decl_types.specs.ViewKnown.{Kept}
+use Rattle.decl_types.specs.ViewKnown.{Kept, Holds}
 use Rattle.decl_sections.specs.ViewWalk.{Framed, StageOf}
 use Rattle.decl_sections.proofs.reading.read_all.Given as goal
 
@@ -17,6 +17,7 @@ invariant-loop-def l = record {
   kept : Kept l.fn.types l.types;
   ready : IsReady l.types l.scope;
   room : length l.reading.read.items + length (drop l.def-index l.defs) ≤ length l.reading.known.items;
+  holds : Holds l.types l.reading.known.items l.reading.read.items;
   count : l.fn.reading.read.items ≡ [] → length l.reading.read.items ≡ l.def-index;
   left : (ts : List Ty) (st : State) (old : List Decl) → Under l.types ts (facts_in l.types)
       → Framed ts st (map declaration_of l.defs) old l.frame → l.fn.reading.read.items ≡ []

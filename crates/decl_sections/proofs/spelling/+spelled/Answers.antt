@@ -1,3 +1,5 @@
+use Rattle.std.proofs.Common.{length-append}
+use Rattle.std.proofs.lemmas.List.{length-map}
 use Rattle.std.proofs.Common.{◌≡◌, ℕ, ◌+◌, List, ◌∷◌, ◌++◌, [], refl, ap, ap₂, sym, subst, ◌∙◌, drop, arith, rules, length, to_z}
 use Rattle.std.proofs.Common.{of_z, w32}
 use Rattle.std.proofs.Common.{to_z-of_z as ranged}
@@ -21,13 +23,13 @@ use Rattle.expr_parts.proofs.ForCallers.{grown_on, grown_same, answers_as, stops
 use Rattle.decl_rules.specs.Values.{length_value}
 use Rattle.decl_rules.specs.Written.{Spelled, later, spelled, all_spelled, named_by, array_rule, parts_spelled}
 use Rattle.decl_rules.specs.Written.{field_names_rule, Parted, parts_behind}
-use Rattle.expr_steps.proofs.ForCallers.{ready_on}
+use Rattle.expr_parts.proofs.ForCallers.{ready_on}
 use Rattle.decl_written.specs.ViewWritten.{normal_names, HasNamesBehind}
 use Rattle.decl_written.proofs.ForCallers.{no_names, below_each, stops_first}
-use Rattle.decl_types.proofs.ForCallers.{below_last}
+use Rattle.expr_parts.proofs.ForCallers.{ids_and}
 use Rattle.decl_types.specs.ViewNodes.{node_types, names_env_of}
 use Rattle.decl_sections.specs.ViewSpelled.{formed_since, one_in, IsNode, given_as, given_in, AreNodes, all_given, named_with}
-use Rattle.decl_sections.specs.ViewSpelled.{parts_in, ArePartNodes, all_parted}
+use Rattle.decl_sections.specs.ViewSpelled.{parts_in, part_count, ArePartNodes, all_parted}
 use Rattle.decl_sections.proofs.Noding.{further_same, further_on, further_count, formed_none, then_adds, spells_stops, spells_as, spells_behind, spells_err}
 use Rattle.decl_sections.proofs.Noding.{spells_forgets}
 use Rattle.decl_sections.proofs.Seeing.{callee_alike}
@@ -133,6 +135,7 @@ given-loop-argument-init t c = record {
   ready = c.requires.ready;
   further = further_same c.args.out.now.items;
   within = subst (AllBelow (length c.args.out.now.items)) (sym c.new-nodes.ensures.items) tt;
+  sound = λ n m o h. h;
   left = λ ts facts before keys u.
       let sizing = later (env_of ts facts c.args.scope.now) in
       let env = names_env_of ts before keys c.args.names.now c.args.scope.now in
@@ -161,8 +164,9 @@ given-loop-argument-preserved t c =
       ready = ready_on g at.invariant.ready;
       further = further_on c.args.out.now.items old new at.invariant.further f;
       within = subst (λ is. AllBelow (length new) is) (sym pushed)
-          (below_last (length new) c.in-Ok.node at.nodes.items (all_more (length old) (length new) at.nodes.items (further_count old new f) at.invariant.within)
+          (ids_and at.nodes.items c.in-Ok.node (all_more (length old) (length new) at.nodes.items (further_count old new f) at.invariant.within)
           c.in-Ok.ensures.within);
+      sound = λ n m o h. c.in-Ok.ensures.sound n m o (at.invariant.sound n m o h);
       left = λ ts facts before keys u.
           let sizing = later (env_of ts facts c.args.scope.now) in
           let env = names_env_of ts before keys c.args.names.now c.args.scope.now in
@@ -217,6 +221,7 @@ given-returns t c =
           let a = given_now ts keys c.args.out.now.items at.out.items at.nodes.items in
           at.invariant.left ts facts before keys u ∙ ap (λ l. front_given a (all_given (all_spelled sizing env (arguments_of l)))) none ∙ given_end a;
       within = at.invariant.within;
+      sound = at.invariant.sound;
     }
 
 -- ---- arrays
@@ -299,6 +304,8 @@ parts-loop-field-init t c = record {
   ready = c.requires.ready;
   further = further_same c.args.out.now.items;
   within = subst (AllBelow (length c.args.out.now.items)) (sym c.new-2.ensures) tt;
+  sound = λ n m o h. h;
+  count = let z = ap length c.new-2.ensures in omega (arith, z);
   left = (
     [],
     no_names c.new-seen.result c.new-seen.ensures.empty,
@@ -341,6 +348,13 @@ parts-loop-field-preserved t c =
       within = subst (λ is. AllBelow (length new) is) (sym pushed)
           (below_each (length new) c.in-Ok-spelled.node at.parts.types group
           (all_more (length old) (length new) at.parts.types (further_count old new f) at.invariant.within) c.in-Ok-spelled.ensures.within);
+      sound = λ n m o h. c.in-Ok-spelled.ensures.sound n m o (at.invariant.sound n m o h);
+      count =
+          let p = ap length pushed in
+          let l = length-append at.parts.types (map (λ _. c.in-Ok-spelled.node) group) in
+          let g = length-map group (λ _. c.in-Ok-spelled.node) in
+          let fs = ap (λ l. part_count (fields_of l)) e in
+          omega (arith, at.invariant.count, p, l, g, fs);
       left = (
         seen.0,
         seen.2,
@@ -369,7 +383,7 @@ parts-returns-in-Err t c =
     let inside = fields_of c.args.fields.now in
     let w = at.invariant.left in
     let new = at.out.items in
-    spells_err parts_in (λ sizing env. all_parted (parts_spelled sizing env [] inside)) ArePartNodes c.in-Err.stop at.invariant.grown
+    spells_err parts_in (λ sizing env. all_parted (parts_spelled sizing env [] inside)) (ArePartNodes (part_count inside)) c.in-Err.stop at.invariant.grown
     (λ ts facts before keys u.
     let sizing = later (env_of ts facts c.args.scope.now) in
     let env = names_env_of ts before keys c.args.names.now c.args.scope.now in
@@ -398,7 +412,8 @@ parts-returns-in-Err-spelled t c =
     let new = c.spelled.new.out.items in
     let group = x.names.items in
     let seen = subst (λ ds. HasNamesBehind c.new_names.new.seen w.0 ds) c.as_slice.ensures.value (c.in-Ok.ensures.seen w.0 w.1) in
-    spells_err parts_in (λ sizing env. all_parted (parts_spelled sizing env [] inside)) ArePartNodes c.in-Err-spelled.stop (grown_on at.invariant.grown g)
+    spells_err parts_in (λ sizing env. all_parted (parts_spelled sizing env [] inside)) (ArePartNodes (part_count inside)) c.in-Err-spelled.stop
+    (grown_on at.invariant.grown g)
     (λ ts facts before keys u.
     let sizing = later (env_of ts facts c.args.scope.now) in
     let env = names_env_of ts before keys c.args.names.now c.args.scope.now in
@@ -418,7 +433,7 @@ pub parts-returns-in_err-push_all-in-Ok-spelled : goal.parts-returns-in_err-push
 parts-returns-in_err-push_all-in-Ok-spelled t c =
     let inside = fields_of c.args.fields.now in
     let p = err_from_is_err_and c.from_residual.result c.from_residual.ensures.1 in
-    rw (p.1, p.2) (spells_forgets parts_in (λ sizing env. all_parted (parts_spelled sizing env [] inside)) ArePartNodes _
+    rw (p.1, p.2) (spells_forgets parts_in (λ sizing env. all_parted (parts_spelled sizing env [] inside)) (ArePartNodes (part_count inside)) _
     (grown_on c.loop-field.invariant.grown c.spelled.ensures.grown) refl)
 
 pub parts-returns : goal.parts-returns
@@ -434,5 +449,9 @@ parts-returns t c =
           let env = names_env_of ts before keys c.args.names.now c.args.scope.now in
           let a = parts_now ts keys c.args.out.now.items at.out.items at.parts.names at.parts.types in
           w.2 ts facts before keys u ∙ ap (λ l. front_parts a (all_parted (parts_spelled sizing env w.0 (fields_of l)))) none ∙ parts_end a;
-      within = at.invariant.within;
+      within = (at.invariant.within, let n = ap (λ l. part_count (fields_of l)) none in let k = at.invariant.count in omega (arith, k, n));
+      sound = at.invariant.sound;
     }
+
+pub tuple-add_tuple-requires : goal.tuple-add_tuple-requires
+tuple-add_tuple-requires t c = c.in-Ok.ensures.within.0

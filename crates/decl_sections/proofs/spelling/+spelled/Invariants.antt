@@ -7,7 +7,8 @@ use Rattle.expr_parts.specs.ViewReady.{IsReady}
 use Rattle.decl_rules.specs.Written.{later, all_spelled, parts_spelled}
 use Rattle.decl_written.specs.ViewWritten.{HasNames}
 use Rattle.decl_types.specs.ViewNodes.{names_env_of}
-use Rattle.decl_sections.specs.ViewSpelled.{Further, all_given, all_parted}
+use Rattle.decl_sections.specs.ViewSpelled.{Further, AddsSound, part_count, all_given, all_parted}
+use Rattle.std.specs.Prelude.{Ok}
 use Rattle.decl_sections.proofs.Listing.{front_given, given_now, front_parts, parts_now}
 use Rattle.decl_sections.proofs.spelling.+spelled.Given as goal
 
@@ -42,6 +43,7 @@ invariant-given-loop-argument l = record {
   ready : IsReady l.types l.scope;
   further : Further l.fn.out.items l.out.items;
   within : AllBelow (length l.out.items) l.nodes.items;
+  sound : AddsSound {T = Unit {0}} l.fn.out.items l.out.items l.scope l.names (Ok tt);
   left : (ts : List Ty) (facts before : Facts) (keys : List Key) → Under l.types ts facts
       → all_given (all_spelled (later (env_of ts facts l.scope)) (names_env_of ts before keys l.names l.scope) (arguments_of l.fn.arguments))
       ≡ front_given (given_now ts keys l.fn.out.items l.out.items l.nodes.items)
@@ -56,6 +58,8 @@ invariant-parts-loop-field l = record {
   ready : IsReady l.types l.scope;
   further : Further l.fn.out.items l.out.items;
   within : AllBelow (length l.out.items) l.parts.types;
+  sound : AddsSound {T = Unit {0}} l.fn.out.items l.out.items l.scope l.names (Ok tt);
+  count : length l.parts.types + part_count (fields_of (drop l.field-index l.fields)) ≡ part_count (fields_of l.fn.fields);
   left : (seen : List (List ℕ)) × HasNames l.seen seen × ((ts : List Ty) (facts before : Facts) (keys : List Key) → Under l.types ts facts
       → all_parted (parts_spelled (later (env_of ts facts l.scope)) (names_env_of ts before keys l.names l.scope) [] (fields_of l.fn.fields))
       ≡ front_parts (parts_now ts keys l.fn.out.items l.out.items l.parts.names l.parts.types)

@@ -1,4 +1,4 @@
-use Rattle.std.proofs.Common.{◌∷◌, [], sym, ap, ◌∙◌, to_z, of_z, w32, to_z-of_z}
+use Rattle.std.proofs.Common.{◌∷◌, [], length, sym, ap, ◌∙◌, to_z, of_z, w32, to_z-of_z}
 use Rattle.std.specs.Prelude.{codes, Err}
 use Rattle.nim_types.specs.Table.{type_at}
 use Rattle.expr_rules.specs.Demands.{former_of}
@@ -23,7 +23,8 @@ returns-in-Ok c = λ names.
     let done = node_types ts keys c.args.out.now.items in
     ap (λ f. array_by at f k (type_at done c.args.of)) (former_alike ts before before keys names scope (codes "array") ∙ c.former_of.ensures ts before)
     ∙ ap (λ z. array_by at (former_in c.former_of.result) z (type_at done c.args.of)) (sym (to_z-of_z c.ranges.len))
-    ∙ c.in-Ok.ensures.answers ts keys done) c.in-Ok.ensures.formed
+    ∙ c.in-Ok.ensures.answers ts keys done) c.in-Ok.ensures.formed (c.in-Ok.ensures.made (length c.args.out.now.items) c.requires)
+    (λ n m o. c.in-Ok.ensures.sound n m)
 
 pub returns-in-Err : goal.returns-in-Err
 returns-in-Err c = λ names.

@@ -1,4 +1,4 @@
-use Rattle.std.proofs.Common.{[]}
+use Rattle.std.proofs.Common.{[], length}
 use Rattle.std.specs.Prelude.{map}
 use Rattle.nim_types.specs.Table.{type_at}
 use Rattle.decl_types.specs.ViewNodes.{node_types, node_type, names_env_of}
@@ -13,6 +13,7 @@ returns-in-Ok c =
     (λ env done. named_with env c.args.at c.args.text.now (map (type_at done) c.args.given.now)) (λ _. []) c.add.result
     c.add.ensures.nodes c.add.ensures.number c.add.ensures.memory
     (λ ts before keys. c.in-Ok.ensures.answers ts before keys (node_types ts keys c.args.out.now.items)) c.in-Ok.ensures.formed
+    (c.in-Ok.ensures.made (length c.args.out.now.items) c.requires) (λ n m o. c.in-Ok.ensures.sound n m o)
 
 pub returns-in-Err : goal.returns-in-Err
 returns-in-Err c =

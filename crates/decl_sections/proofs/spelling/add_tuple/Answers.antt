@@ -13,4 +13,4 @@ returns c = λ scope names.
     adds c.args.out.now.items c.add.new.nodes.items (N.Tuple at parts.names parts.types) scope names
     (λ _ done. Ok (type.tuple parts.names (types_at done parts.types)))
     (λ ty. record { at = at; of = ty } ∷ []) c.add.result c.add.ensures.nodes c.add.ensures.number c.add.ensures.memory (λ ts before keys. refl)
-    (λ ty. refl)
+    (λ ty. refl) c.requires (λ n m o. tt)

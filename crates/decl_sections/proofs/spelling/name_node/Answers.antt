@@ -26,3 +26,15 @@ returns-in-None-clause-answers c = λ ts before keys done.
     (outer_type ts before before keys names scope at x
     (subst (λ y. number_in names (last_of scope.decls y (length scope.decls)) ≡ None) c.requires (sym c.number_of.ensures ∙ c.in-None.is)))
     (c.outer_node.ensures.answers ts before keys done)
+
+pub returns-in-Some-clause-sound : goal.returns-in-Some-clause-sound
+returns-in-Some-clause-sound c = λ n m o.
+    let scope = c.args.scope.now in
+    o.numbers (last_of scope.decls c.args.name.now (length scope.decls)) c.in-Some.number (sym c.number_of.ensures ∙ c.in-Some.is)
+
+pub returns-in-None-clause-sound : goal.returns-in-None-clause-sound
+returns-in-None-clause-sound c = λ n m o.
+    let names = c.args.names.now in
+    let scope = c.args.scope.now in
+    c.outer_node.ensures.sound n m names o
+    (subst (λ y. number_in names (last_of scope.decls y (length scope.decls)) ≡ None) c.requires (sym c.number_of.ensures ∙ c.in-None.is))

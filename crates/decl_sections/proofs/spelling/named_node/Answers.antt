@@ -35,3 +35,9 @@ returns-clause-answers c = λ ts before keys done.
     ∙ ap (λ f. formed_by at f given) (former_alike ts before before keys c.args.names.now c.args.scope.now (normal x)
     ∙ ap (former_of (env_of ts before c.args.scope.now)) (sym name) ∙ c.former_of.ensures ts before))
     (c.sequence_node.ensures.answers ts keys done)
+
+pub returns-then-is_empty-clause-sound : goal.returns-then-is_empty-clause-sound
+returns-then-is_empty-clause-sound c = λ n m o. c.name_node.ensures.sound n m o
+
+pub returns-clause-sound : goal.returns-clause-sound
+returns-clause-sound c = λ n m o. c.sequence_node.ensures.sound n m

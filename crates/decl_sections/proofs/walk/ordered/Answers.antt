@@ -6,7 +6,7 @@ use Rattle.nim_types.specs.Table.{facts_in, types_in}
 use Rattle.expr_parts.specs.View.{Under, env_of}
 use Rattle.decl_rules.specs.State.{State}
 use Rattle.decl_sections.proofs.Readying.{ready_begun}
-use Rattle.decl_sections.proofs.Starts.{begun_frame, begun_stage, none_count}
+use Rattle.decl_sections.proofs.Starts.{begun_frame, begun_holds, begun_stage, none_count}
 use Rattle.decl_sections.proofs.walk.ordered.Goals as goal
 
 pub walk-requires-clause-ready : goal.walk-requires-clause-ready
@@ -24,7 +24,7 @@ returns-in-Ok-clause-answers c = λ ts st u e o.
     let b = c.in_ok-frame.ensures.begins in
     let v = c.walk.ensures.kept.under ts (facts_in c.walk.new.types) u in
     let f = begun_frame ts st ds old c.begin.new.scope c.args.outside c.args.home c.args.last all frame reading (facts_in ds) b c.requires.outside
-    c.requires.ascends c.requires.far v e o in
+    c.requires.ascends c.requires.far c.requires.ready.decls v e o in
     c.in-Ok.ensures.answers ts st old.decls u f b.read (begun_stage ts st ds old c.begin.new.scope c.args.outside all frame reading b e o)
 
 pub returns-in-Ok-clause-begins : goal.returns-in-Ok-clause-begins
@@ -49,7 +49,7 @@ returns-in-Ok-clause-begins c =
     } in
     let v = c.walk.ensures.kept.under ts (facts_in es) u in
     let f = begun_frame ts st ds old c.begin.new.scope c.args.outside c.args.home c.args.last all frame reading (facts_in ds) b c.requires.outside
-    c.requires.ascends c.requires.far v refl refl in
+    c.requires.ascends c.requires.far c.requires.ready.decls v refl refl in
     c.in-Ok.ensures.begins ts st old.decls u f b.read (begun_stage ts st ds old c.begin.new.scope c.args.outside all frame reading b refl refl)
 
 pub returns-clause-answers : goal.returns-clause-answers
@@ -62,7 +62,7 @@ returns-clause-answers c = λ ts st u e o.
     let b = c.in_ok-frame.ensures.begins in
     let v = c.walk.ensures.kept.under ts (facts_in c.walk.new.types) u in
     let f = begun_frame ts st ds old c.begin.new.scope c.args.outside c.args.home c.args.last all frame reading (facts_in ds) b c.requires.outside
-    c.requires.ascends c.requires.far v e o in
+    c.requires.ascends c.requires.far c.requires.ready.decls v e o in
     c.in-Err.ensures.answers ts st old.decls u f b.read (begun_stage ts st ds old c.begin.new.scope c.args.outside all frame reading b e o)
 
 pub walk-requires-clause-room : goal.walk-requires-clause-room
@@ -72,3 +72,9 @@ walk-requires-clause-room c =
     let k = ap length b.known in
     let all = map declaration_of c.args.defs.now in
     omega (arith, r, k, none_count all, length-map c.args.defs.now declaration_of)
+
+pub walk-requires-clause-holds : goal.walk-requires-clause-holds
+walk-requires-clause-holds c =
+    let b = c.in_ok-frame.ensures.begins in
+    begun_holds c.args.types.now (map declaration_of c.args.defs.now) c.in_ok-frame.reading.known.items c.in_ok-frame.reading.read.items
+    b.known b.read

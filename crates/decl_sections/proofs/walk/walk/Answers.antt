@@ -1,4 +1,4 @@
-use Rattle.std.proofs.Common.{◌≡◌, [], sym, subst, ◌∙◌, ◌++◌}
+use Rattle.std.proofs.Common.{◌≡◌, [], length, sym, subst, ◌∙◌, ◌++◌}
 use Rattle.std.specs.Prelude.{Ok, Err, map}
 use Rattle.arc_base.specs.Refusal.{Answers}
 use Rattle.std.proofs.lemmas.List.{length-map}
@@ -7,11 +7,10 @@ use Rattle.nim_types.specs.Table.{facts_in}
 use Rattle.expr_parts.specs.View.{env_of}
 use Rattle.decl_rules.specs.Meanings.{keys_of, known_of}
 use Rattle.decl_rules.specs.Sections.{none_read, containment_rule, declarations_rule, sizes_rule}
-use Rattle.decl_types.specs.ViewKnown.{KnownAs, meaning_by}
+use Rattle.decl_types.specs.ViewKnown.{KnownAs, Holds, meaning_by}
 use Rattle.decl_types.specs.ViewReading.{all_defined}
-use Rattle.expr_steps.proofs.ForCallers.{ready_on}
+use Rattle.expr_parts.proofs.ForCallers.{ready_on}
 use Rattle.decl_types.proofs.ForCallers.{kept_grown, kept_on}
-use Rattle.decl_sections.specs.declared.starting.TheConstants.{MOST_DEFINITIONS}
 use Rattle.decl_types.specs.ViewScoped.{Reads, own_in, decls_by}
 use Rattle.decl_sections.specs.ViewWalk.{StageOf}
 use Rattle.decl_types.specs.ViewScoped.{Whole}
@@ -37,8 +36,8 @@ returns-in-Err-check_contained-clause-answers c = λ ts st old u f empty g.
     (λ _. env_of ts (facts_in c.read_all.new.types) c.read_all.new.scope) c.in-Err-check_contained.stop read.1 read.2
     (subst (λ ds. Answers {A = Unit {0}} {T = Unit {0}} (λ _. tt) (containment_rule (all_defined ts (keys_of all) ds) (all_defined ts (keys_of all) ds))
     (Err c.in-Err-check_contained.stop)) c.as_slice.ensures.value
-    (c.in-Err-check_contained.ensures ts c.args.frame.now.types MOST_DEFINITIONS (keys_of all)
-    (subst (Whole ts c.args.frame.now.types MOST_DEFINITIONS (keys_of all)) (sym c.as_slice.ensures.value) whole)))
+    (c.in-Err-check_contained.ensures ts c.args.frame.now.types (length all) (keys_of all)
+    (subst (Whole ts c.args.frame.now.types (length all) (keys_of all)) (sym c.as_slice.ensures.value) whole)))
 
 pub returns-clause-kept : goal.returns-clause-kept
 returns-clause-kept c =
@@ -62,12 +61,12 @@ returns-clause-answers c = λ ts st old u f empty g.
     let count = c.in-Ok.ensures.count empty ∙ sym (length-map c.args.defs.now declaration_of) in
     let whole = whole_is ts st all old frame mid scope reading read.0 f read.2 count in
     let contained = subst (λ ds. containment_rule (all_defined ts (keys_of all) ds) (all_defined ts (keys_of all) ds) ≡ Ok tt) c.as_slice.ensures.value
-    (c.in-Ok-check_contained.ensures ts frame.types MOST_DEFINITIONS (keys_of all)
-    (subst (Whole ts frame.types MOST_DEFINITIONS (keys_of all)) (sym c.as_slice.ensures.value) whole)) in
+    (c.in-Ok-check_contained.ensures ts frame.types (length all) (keys_of all)
+    (subst (Whole ts frame.types (length all) (keys_of all)) (sym c.as_slice.ensures.value) whole)) in
     let sizes = subst (λ ds. Answers {A = Unit {0}} {T = Unit {0}} (λ _. tt) (sizes_rule (facts_in es) k (all_defined ts (keys_of all) ds))
     c.check_sizes.result) c.as_slice-3.ensures.value
-    (c.check_sizes.ensures.answers frame.types MOST_DEFINITIONS ts (facts_in es) (keys_of all) k u
-    (subst (Reads frame.types MOST_DEFINITIONS (keys_of all)) (sym c.as_slice-3.ensures.value) read.2.reads)
+    (c.check_sizes.ensures.answers frame.types (length all) ts (facts_in es) (keys_of all) k u
+    (subst (Reads frame.types (length all) (keys_of all)) (sym c.as_slice-3.ensures.value) read.2.reads)
     (subst (λ ks. KnownAs ts (keys_of all) ks (meaning_by k)) (sym c.as_slice-2.ensures.value)
     (known_as ts (keys_of all) k reading.known.items read.2.scoped.knows))
     (section_untouched ts st all old frame mid scope reading read.0 f read.2)) in
@@ -85,5 +84,11 @@ returns-clause-begins c = λ ts st old u f empty g.
     let here = read.2.scoped in
     on_any c.check_sizes.result (decls_by (own_in st) [] c.read_all.new.reading.known.items all ++ here.seen, here.decls)
 
-pub check_sizes-requires : goal.check_sizes-requires
-check_sizes-requires c = c.in-Ok.ensures.ready.formed
+pub check_sizes-requires-clause-formed : goal.check_sizes-requires-clause-formed
+check_sizes-requires-clause-formed c = c.in-Ok.ensures.ready.formed
+
+pub check_sizes-requires-clause-holds : goal.check_sizes-requires-clause-holds
+check_sizes-requires-clause-holds c =
+    let n = c.read_all.new.types in
+    subst (Holds n c.as_slice-2.result.now) (sym c.as_slice-3.ensures.value)
+    (subst (λ known. Holds n known c.read_all.new.reading.read.items) (sym c.as_slice-2.ensures.value) c.in-Ok.ensures.holds)

@@ -1,4 +1,6 @@
-use Rattle.std.proofs.Common.{sym, subst, ◌∙◌, arith}
+use Rattle.std.proofs.Common.{◌≡◌, sym, subst, ◌∙◌}
+use Rattle.std.specs.Prelude.{true, IfSome}
+use Rattle.decl_types.specs.ViewMarks.{mark_at, Stuck}
 use Rattle.decl_types.specs.ViewReading.{IsReading}
 use Rattle.decl_types.proofs.Outcomes.{if_map}
 use Rattle.decl_types.proofs.knowing.next.Goals as goal
@@ -6,5 +8,14 @@ use Rattle.decl_types.proofs.knowing.next.Goals as goal
 pub returns-clause-next : goal.returns-clause-next
 returns-clause-next c =
     if_map c.next_known.result c.next_known.ensures.next (λ next h. λ n m ts keys k r.
-    h n m ts keys k (subst (λ marks. IsReading n m ts keys k marks c.args.read.now) (sym (c.as_slice.ensures.value ∙ c.in_ok-marks.ensures)) r)
-    (λ i lt. absurd (omega (arith, lt))))
+    h n m ts keys k (subst (λ marks. IsReading n m ts keys k marks c.args.read.now) (sym (c.as_slice.ensures.value ∙ c.in_ok-marks.ensures)) r))
+
+pub returns-clause-marked : goal.returns-clause-marked
+returns-clause-marked c =
+    let e = c.as_slice.ensures.value ∙ c.in_ok-marks.ensures in
+    if_map c.next_known.result c.next_known.ensures.marked (λ next h. subst (λ marks. IfSome next (λ n. mark_at marks n ≡ true)) e h)
+
+pub returns-clause-stuck : goal.returns-clause-stuck
+returns-clause-stuck c =
+    let e = c.as_slice.ensures.value ∙ c.in_ok-marks.ensures in
+    if_map c.next_known.result c.next_known.ensures.stuck (λ next h none. subst (λ marks. Stuck marks c.args.read.now) e (h none))

@@ -5,11 +5,12 @@ use Rattle.nim_types.specs.Table.{type_at, AllBelow}
 use Rattle.expr_parts.specs.View.{Under, Grown}
 use Rattle.decl_rules.specs.Meanings.{renamed}
 use Rattle.decl_types.specs.ViewNodes.{node_types}
-use Rattle.decl_types.specs.ViewKnown.{KnownAs, Untouched, NodesIn}
+use Rattle.decl_types.specs.ViewKnown.{KnownAs, Untouched, NodesIn, KnownBelow}
 use Rattle.decl_types.proofs.known.types_of.Given as goal
 
 abbrev pub invariant-loop-node : goal.invariant-loop-node
 invariant-loop-node l = record {
+  known : KnownBelow (length l.types) l.known;
   grown : Grown l.fn.types l.types;
   within : AllBelow (length l.types) l.ids.items;
   count : length l.ids.items + length (drop l.node-index l.nodes) ≡ length l.nodes;

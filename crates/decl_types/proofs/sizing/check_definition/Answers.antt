@@ -5,9 +5,11 @@ use Rattle.nim_types.specs.Table.{type_at, AllBelow}
 use Rattle.expr_parts.proofs.ForCallers.{answers_as, stops}
 use Rattle.decl_rules.specs.Meanings.{renamed}
 use Rattle.decl_rules.specs.Sections.{formed_within, meant_within}
-use Rattle.decl_types.specs.ViewKnown.{NodesIn, key_by, meant_by, meaning_by}
+use Rattle.decl_types.specs.ViewKnown.{NodesIn, Ordered, key_by, meant_by, meaning_by}
 use Rattle.decl_types.specs.ViewNodes.{formed_nodes, node_types}
 use Rattle.decl_types.specs.ViewSized.{nodes_sized}
+use Rattle.decl_types.proofs.Declaring.{kept_grown}
+use Rattle.decl_types.proofs.Ordering.{below_more, stands_more}
 use Rattle.decl_types.proofs.Sizes.{sized_is}
 use Rattle.decl_types.proofs.sizing.check_definition.Goals as goal
 
@@ -42,8 +44,25 @@ returns-clause-answers c = λ n m ts facts keys k u sound known same.
     (and_then (nodes_sized facts nodes us) (λ _. rest)) (Err c.in-Err.stop) (ap (λ z. and_then z (λ _. rest)) sized)
     (stops (λ (_ : Unit {0}). tt) (λ (_ : Unit {0}). tt) (nodes_sized facts nodes us) (λ _. rest) c.in-Err.stop stopped)
 
+pub types_of-requires-clause-ordered : goal.types_of-requires-clause-ordered
+types_of-requires-clause-ordered c = subst (Ordered 0) (sym c.as_slice.ensures.value) c.requires.ordered.nodes
+
+pub types_of-requires-clause-nodes : goal.types_of-requires-clause-nodes
+types_of-requires-clause-nodes c =
+    let m = c.requires.sound.0 in
+    (m, subst (NodesIn (length c.args.types.now) m) (sym c.as_slice.ensures.value) c.requires.sound.1.nodes)
+
+pub check_meant-requires-clause-below : goal.check_meant-requires-clause-below
+check_meant-requires-clause-below c =
+    below_more (length c.args.types.now) (length c.types_of.new.types) c.args.known.now c.types_of.ensures.grown.length c.requires.known
+
+pub check_meant-requires-clause-stands : goal.check_meant-requires-clause-stands
+check_meant-requires-clause-stands c =
+    stands_more c.args.types.now c.types_of.new.types c.args.known.now c.args.number c.args.definition.now
+    (kept_grown c.args.types.now c.types_of.new.types c.types_of.ensures.grown) c.requires.stands
+
 pub check_nodes-requires-clause-formed : goal.check_nodes-requires-clause-formed
-check_nodes-requires-clause-formed c = c.types_of.ensures.grown.formed c.requires
+check_nodes-requires-clause-formed c = c.types_of.ensures.grown.formed c.requires.formed
 
 pub check_nodes-requires-clause-within : goal.check_nodes-requires-clause-within
 check_nodes-requires-clause-within c =

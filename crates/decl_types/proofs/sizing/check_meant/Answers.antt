@@ -1,23 +1,22 @@
-use Rattle.std.proofs.Common.{sym, ap, ◌∙◌}
+use Rattle.std.proofs.Common.{sym, ap, subst, ◌∙◌}
 use Rattle.nim_types.specs.Table.{type_at}
 use Rattle.expr_parts.proofs.ForCallers.{answers_as}
 use Rattle.decl_rules.specs.Written.{within_size}
 use Rattle.decl_rules.specs.Sections.{meant_within}
-use Rattle.decl_types.specs.ViewKnown.{meant_of}
-use Rattle.decl_types.specs.ViewKnown.{key_by, meant_by}
+use Rattle.decl_types.specs.ViewKnown.{HasType, meant_of, key_by, meant_by}
 use Rattle.decl_types.specs.ViewNodes.{node_types}
-use Rattle.decl_types.specs.ViewScoped.{type_by}
 use Rattle.decl_types.proofs.sizing.check_meant.Goals as goal
 
 pub returns-in_ok-id-in-Object : goal.returns-in_ok-id-in-Object
 returns-in_ok-id-in-Object c = λ ts facts keys u.
     let d = c.args.definition.now in
+    let id = c.in_ok-id-in-Object.id in
     let done = node_types ts keys d.nodes.items in
-    let ty = c.in_ok-id-in-Object.ensures.means ts facts u ∙ ap (type_by d) c.in-Object.is in
-    answers_as (λ (_ : Unit {0}). tt) (meant_within facts (key_by d) (meant_by ts keys d)) (within_size facts d.at (type_at ts c.in_ok-id-in-Object.id))
+    let ty = subst (λ m. HasType d m (type_at ts id)) c.in-Object.is (c.requires.stands id c.in_ok-id-in-Object.ensures.known ts facts u) in
+    answers_as (λ (_ : Unit {0}). tt) (meant_within facts (key_by d) (meant_by ts keys d)) (within_size facts d.at (type_at ts id))
     c.check_size.result
     (ap (λ m. meant_within facts (key_by d) (meant_of done m)) c.in-Object.is ∙ ap (within_size facts d.at) (sym ty))
     (c.check_size.ensures ts facts u)
 
 pub check_size-requires-clause-within : goal.check_size-requires-clause-within
-check_size-requires-clause-within c = c.in_ok-id-in-Object.ensures.within
+check_size-requires-clause-within c = c.requires.below c.args.number c.in_ok-id-in-Object.id c.in_ok-id-in-Object.ensures.known

@@ -18,7 +18,7 @@ use Rattle.expr_parts.proofs.ForCallers.{grown_on, grown_same, answers_as, stops
 use Rattle.decl_rules.specs.Values.{length_value}
 use Rattle.decl_rules.specs.Written.{Spelled, at_once, spelled, all_spelled, spelled_as, named_by, array_rule, parts_spelled, tuple_of, formed_rule}
 use Rattle.decl_rules.specs.Written.{field_names_rule}
-use Rattle.expr_steps.proofs.ForCallers.{ids_and, ready_on}
+use Rattle.expr_parts.proofs.ForCallers.{ids_and, ready_on}
 use Rattle.decl_written.specs.ViewWritten.{at_once_of, tuple_in, normal_names, HasNamesBehind, PartsLeft}
 use Rattle.decl_written.proofs.NameSets.{no_names}
 use Rattle.decl_written.proofs.AtOnce.{then_ok, array_once, tuple_once, front, none_before, one_before, all_before}

@@ -1,10 +1,10 @@
-use Rattle.std.proofs.Common.{◌≡◌, [], ◌∷◌, subst, ap, ◌∙◌, length}
+use Rattle.std.proofs.Common.{◌≡◌, [], ◌∷◌, subst, sym, ap, ap₂, ◌∙◌, length}
 use Rattle.std.specs.Prelude.{map, Some, true}
 use Rattle.arc_base.specs.declared.place.Code.TheVariants.{NotTyped}
 use Rattle.nim_program.specs.View.{expr_of}
 use Rattle.expr_rules.specs.Calls.{arguments_for, borrowed_call, called, comparison_named, comparisons}
-use Rattle.expr_parts.specs.View.{operand_of, parameter_of, procedure_of, fit, OperandsWithin}
-use Rattle.expr_operations.specs.ViewOperands.{IsGiven}
+use Rattle.expr_parts.specs.View.{operand_of, parameter_of, procedure_of, do_fit, fit, OperandsWithin}
+use Rattle.expr_parts.specs.ViewOperands.{IsGiven}
 use Rattle.expr_parts.proofs.ForCallers.{answers_as, refuses}
 use Rattle.expr_calls.proofs.Operating.{nothing_borrowed, more_borrowed}
 use Rattle.expr_calls.proofs.calls_borrowed.call_borrowed.Goals as goal
@@ -20,6 +20,14 @@ borrowed_two-requires-clause-left c =
 pub borrowed_two-requires-clause-right : goal.borrowed_two-requires-clause-right
 borrowed_two-requires-clause-right c =
     (subst (OperandsWithin (length c.args.types.now)) (subst (IsGiven c.args.operands.items) c.in-Two.is c.taken_apart.ensures) c.requires.operands).1.0
+
+pub borrowed_one-requires-clause-fits : goal.borrowed_one-requires-clause-fits
+borrowed_one-requires-clause-fits c =
+    ap₂ (do_fit c.args.types.now) c.as_slice-params.ensures (sym (subst (IsGiven c.args.operands.items) c.in-One.is c.taken_apart.ensures)) ∙ c.requires.fits
+
+pub borrowed_two-requires-clause-fits : goal.borrowed_two-requires-clause-fits
+borrowed_two-requires-clause-fits c =
+    ap₂ (do_fit c.args.types.now) c.as_slice-params.ensures (sym (subst (IsGiven c.args.operands.items) c.in-Two.is c.taken_apart.ensures)) ∙ c.requires.fits
 
 pub returns-in-One-clause-answers : goal.returns-in-One-clause-answers
 returns-in-One-clause-answers c = λ ts facts u given h.

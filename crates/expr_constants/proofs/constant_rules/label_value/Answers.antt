@@ -13,8 +13,8 @@ use Rattle.expr_parts.proofs.ForCallers.{answers_as, refuses}
 use Rattle.expr_constants.proofs.ConstantSteps.{label_if, refused_at}
 use Rattle.expr_constants.proofs.constant_rules.label_value.Goals as goal
 
-pub returns-then-not-is_same : goal.returns-then-not-is_same
-returns-then-not-is_same c = λ ts facts u.
+pub returns-then-not-is_same-clause-answers : goal.returns-then-not-is_same-clause-answers
+returns-then-not-is_same-clause-answers c = λ ts facts u.
     let e = expr_of ts c.args.value.expr in
     let ty = type_at ts c.args.ty in
     let v = valued_of ts c.args.value in
@@ -22,8 +22,8 @@ returns-then-not-is_same c = λ ts facts u.
     (refused_at c.refusal.result c.node.result (node_of e) c.refusal.ensures (c.node.ensures ts))
     (label_if facts ty v _ (c.is_same.ensures ts facts u ∙ c.if-not-is_same.true))
 
-pub returns : goal.returns
-returns c = λ ts facts u.
+pub returns-clause-answers : goal.returns-clause-answers
+returns-clause-answers c = λ ts facts u.
     let e = expr_of ts c.args.value.expr in
     let ty = type_at ts c.args.ty in
     let v = valued_of ts c.args.value in
@@ -31,4 +31,4 @@ returns c = λ ts facts u.
     answers_as label_of (label_value facts ty v) (and_then (if_comes c.node.result.at all) (label_by c.node.result.at)) c.constant_label-label.result
     (label_if facts ty v _ (c.is_same.ensures ts facts u ∙ c.if-not-is_same.false)
     ∙ ap (λ (n : Node). and_then (if_comes n.at all) (label_by n.at)) (sym (c.node.ensures ts)))
-    (c.constant_label-label.ensures ts facts u)
+    (c.constant_label-label.ensures.answers ts facts u)

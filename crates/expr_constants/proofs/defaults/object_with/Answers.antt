@@ -13,14 +13,14 @@ use Rattle.expr_constants.proofs.defaults.object_with.Goals as goal
 pub field_literals-requires : goal.field_literals-requires
 field_literals-requires c =
     subst (AllBelow (length c.args.types.now)) (sym c.known_parts.ensures)
-    (known_below (length c.args.types.now) c.in_ok-def.def.now c.in_ok-def.ensures.parts)
+    (known_below (length c.args.types.now) c.known-def.result.now c.known-def.ensures.parts)
 
 pub returns : goal.returns
 returns c = λ ts facts u.
     let given = with_values c.args.fields.now (literals_of c.args.values.now) in
-    let d = c.in_ok-def.def.now in
+    let d = c.known-def.result.now in
     c.limited.ensures
     ∙ ap limited (c.parts_with.ensures
     ∙ ap PartsOf (c.in_ok-all.ensures ts facts u ∙ ap (λ ps. field_values facts ts 0 ps given) c.known_parts.ensures ∙ known_fields ts facts d given
-    ∙ ap (λ f. field_literals facts 0 (fields_in f) given) (sym (c.in_ok-def.ensures.says ts facts u))
-    ∙ ap (λ (t : Ty). field_literals facts 0 (fields_in (fact_of facts t)) given) (sym (c.in_ok-def.ensures.means ts facts u))))
+    ∙ ap (λ f. field_literals facts 0 (fields_in f) given) (sym (c.known-def.ensures.says ts facts u))
+    ∙ ap (λ (t : Ty). field_literals facts 0 (fields_in (fact_of facts t)) given) (sym (c.known-def.ensures.means ts facts u))))

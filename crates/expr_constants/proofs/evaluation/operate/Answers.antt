@@ -21,9 +21,9 @@ returns-in-Compare c = λ ts facts u tys h.
     ∙ sym (ap (λ o. if_computed (computing facts (if_type ts c.args.ty) tys o) (evaluated_of values_of c.args.values)) c.in-Compare.is)
 
 pub returns-in-Convert : goal.returns-in-Convert
-returns-in-Convert c = if_ok c.convert.result c.convert.ensures (λ e is ts facts u tys h.
-    is ts facts u ∙ sym (c.only-in-Convert.ensures (converted facts (if_type ts c.args.ty)))
-    ∙ sym (ap (λ o. if_computed (computing facts (if_type ts c.args.ty) tys o) (evaluated_of values_of c.args.values)) c.in-Convert.is))
+returns-in-Convert c = λ ts facts u tys h.
+    c.convert.ensures ts facts u ∙ sym (c.only-in-Convert.ensures (converted facts (if_type ts c.args.ty)))
+    ∙ sym (ap (λ o. if_computed (computing facts (if_type ts c.args.ty) tys o) (evaluated_of values_of c.args.values)) c.in-Convert.is)
 
 pub returns-in-Join : goal.returns-in-Join
 returns-in-Join c = if_ok c.join.result c.join.ensures (λ e is ts facts u tys h.

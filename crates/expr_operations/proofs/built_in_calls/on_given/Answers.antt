@@ -5,7 +5,7 @@ use Rattle.nim_program.specs.View.{expr_of}
 use Rattle.expr_rules.specs.Answers.{node}
 use Rattle.expr_rules.specs.Builtins.{first_row, operation_by}
 use Rattle.expr_parts.specs.View.{operand_of, no_fit_at, OperandsWithin}
-use Rattle.expr_operations.specs.ViewOperands.{IsGiven}
+use Rattle.expr_parts.specs.ViewOperands.{IsGiven}
 use Rattle.expr_operations.specs.ViewOperations.{rows_of}
 use Rattle.expr_operations.proofs.Written.{many_rows, misses}
 use Rattle.expr_operations.proofs.built_in_calls.on_given.Goals as goal

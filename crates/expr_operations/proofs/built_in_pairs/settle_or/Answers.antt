@@ -11,7 +11,7 @@ returns-then-settles c = record {
       let o = operand_of ts c.args.operand in
       c.settle.ensures.given ts facts u
       ∙ sym (either_first (settled (type_at ts c.args.first) o) (settled (type_at ts c.args.second) o)
-      (c.settles.ensures ts facts u ∙ c.if-settles.true));
+      (c.settles.ensures.means ts facts u ∙ c.if-settles.true));
 }
 
 pub returns : goal.returns
@@ -20,5 +20,5 @@ returns c = record {
       let o = operand_of ts c.args.operand in
       c.settle-2.ensures.given ts facts u
       ∙ sym (either_second (settled (type_at ts c.args.first) o) (settled (type_at ts c.args.second) o)
-      (c.settles.ensures ts facts u ∙ c.if-settles.false));
+      (c.settles.ensures.means ts facts u ∙ c.if-settles.false));
 }

@@ -6,7 +6,7 @@ use Rattle.nim_types.specs.Table.{type_at}
 use Rattle.nim_program.specs.View.{expr_of}
 use Rattle.expr_rules.specs.Names.{new_sequence_rule}
 use Rattle.expr_parts.specs.View.{operand_of, no_fit_at, OperandsWithin}
-use Rattle.expr_operations.specs.ViewOperands.{IsOnly}
+use Rattle.expr_parts.specs.ViewOperands.{IsOnly}
 use Rattle.expr_parts.proofs.ForCallers.{refuses}
 use Rattle.expr_parts.proofs.ForCallers.{grown_same}
 use Rattle.expr_operations.proofs.OneOperand.{not_one}

@@ -6,9 +6,10 @@ use Rattle.arc_base.specs.Refusal.{Answers}
 use Rattle.nim_program.specs.declared.expr.Operand.{Operand}
 use Rattle.nim_program.specs.View.{operands_of, path_of as path_in}
 use Rattle.expr_rules.specs.Calls.{argument_by, arguments_by, arguments_for}
-use Rattle.expr_parts.specs.View.{ParametersWithin, OperandsWithin, operand_of, parameter_of, argument_of, paths_in}
+use Rattle.expr_parts.specs.View.{ParametersWithin, OperandsWithin, operand_of, parameter_of, argument_of, paths_in, do_fit}
 use Rattle.expr_parts.proofs.Arguing.{ArgumentsLeft}
 use Rattle.expr_parts.proofs.Arguing.{one_argument, no_argument, no_more, none_yet, nothing_left}
+use Rattle.expr_parts.proofs.Choosing.{fit_first}
 use Rattle.expr_parts.proofs.arguments.arguments.Goals as goal
 
 pub loop-operand-init : goal.loop-operand-init
@@ -21,6 +22,7 @@ loop-operand-init c =
       count = c.into_iter-operand-iterator.ensures.into_iter_gives.1 ∙ counted ∙ sym (ap length items);
       params = c.requires.params;
       operands = subst (OperandsWithin (length c.args.types.now)) (sym items) c.requires.operands;
+      fits = ap (do_fit c.args.types.now ps) items ∙ c.requires.fits;
       left = λ ts facts u given h.
           subst (λ d. ArgumentsLeft ts ps os d (arguments_by [] given)) (sym c.new-args.ensures.items)
           (none_yet ts ps os given
@@ -42,6 +44,7 @@ loop-operand-preserved c =
       count = let was = at.invariant.count in let gone = c.in-Some.ensures.steps.1 in let short = ap length steps in omega arith;
       params = (subst (ParametersWithin n) params at.invariant.params).1;
       operands = (subst (OperandsWithin n) steps at.invariant.operands).1;
+      fits = (fit_first c.args.types.now at.rest.now (into_iter_items at.operand-iterator) p ps x os params steps at.invariant.fits).1;
       left = λ ts facts u given h.
           let said = arguments_by [] given in
           let l = subst (λ all. ArgumentsLeft ts at.rest.now all at.args.items said) steps (at.invariant.left ts facts u given h) in
@@ -76,3 +79,9 @@ returns c = λ ts facts u given h.
     nothing_left (into_iter_items at.operand-iterator) (sym at.invariant.count ∙ c.in-None.ensures.steps.0) in
     no_more ts at.rest.now at.args.items said
     (subst (λ all. ArgumentsLeft ts at.rest.now all at.args.items said) empty (at.invariant.left ts facts u given h))
+
+pub settled_argument-requires-clause-fits : goal.settled_argument-requires-clause-fits
+settled_argument-requires-clause-fits c =
+    let at = c.loop-operand in
+    (fit_first c.args.types.now at.rest.now (into_iter_items at.operand-iterator) c.in-Some-split_first.param.now c.in-Some-split_first.others.now
+    c.in-Some.operand (into_iter_items c.next.new.self) c.in-Some-split_first.ensures.cases.0 c.in-Some.ensures.steps.0 at.invariant.fits).0

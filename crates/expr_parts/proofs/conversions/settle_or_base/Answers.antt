@@ -11,4 +11,4 @@ returns-then-settles-clause-given c = λ ts facts u.
     let o = operand_of ts c.args.operand in
     c.settle.ensures.given ts facts u
     ∙ sym (first_of_some (settled (type_at ts c.args.source) o) (from_distinct facts (type_at ts c.args.ty) o)
-    (c.settles.ensures ts facts u ∙ c.if-settles.true))
+    (c.settles.ensures.means ts facts u ∙ c.if-settles.true))

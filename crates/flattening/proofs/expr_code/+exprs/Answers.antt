@@ -2,7 +2,7 @@ use Rattle.std.proofs.Common.{◌≡◌, ◌+◌, Bool, List, [], ◌∷◌, len
 use Rattle.std.specs.Prelude.{◌&&◌, map, option_map}
 use Rattle.nim_types.specs.Table.{type_at}
 use Rattle.nim_program.specs.Program as T
-use Rattle.nim_program.specs.Program.{Args, NoArg, ByValue, Doing, Building, Calling, ByConditions, ByLabels}
+use Rattle.nim_program.specs.Program.{NoArg, ByValue, Doing, Building, Calling, ByConditions, ByLabels}
 use Rattle.nim_program.specs.View.{expr_of, path_of, operand_before, operands_of, choices_of, picks_of, pick_labels, label_of, if_value, if_type}
 use Rattle.nim_program.proofs.ForCallers.{applied, called, constructed, chosen, selected}
 use Rattle.nim_meaning.specs.Shapes.{is_covered, selector_type, is_last_value}

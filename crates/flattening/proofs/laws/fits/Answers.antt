@@ -3,7 +3,7 @@ use Rattle.flat_code.proofs.ForCallers.{AreSorted, sorted_table}
 use Rattle.flattening.proofs.FitPrograms.{program_fits}
 use Rattle.flattening.proofs.CodeHandedOn.{code_given}
 use Rattle.flattening.proofs.NoHooks.{none_hooks}
-use Rattle.flattening.proofs.LedStmts.{code_whole}
+use Rattle.flattening.proofs.LedParts.{code_whole}
 use Rattle.flattening.proofs.laws.fits.Goals as goal
 
 pub returns-clause-given : goal.returns-clause-given

@@ -1,7 +1,7 @@
 use Rattle.std.specs.Prelude.{◌&&◌, map}
 use Rattle.std.proofs.Common.{◌≡◌, ◌+◌, Bool, List, ◌∷◌, drop, refl, sym, ap, ◌∙◌, arith}
 use Rattle.nim_program.specs.Program as T
-use Rattle.nim_program.specs.Program.{NoArg, ByValue, ByConditions, ByLabels, Empty, Then, Otherwise}
+use Rattle.nim_program.specs.Program.{NoArg, Empty, Then}
 use Rattle.nim_program.specs.View.{expr_of, label_of, declared_of, kind_of, operand_before, operands_of, stmt_before, stmts_of}
 use Rattle.nim_program.specs.View.{branch_conditions, branch_blocks, branch_labels, case_blocks}
 use Rattle.nim_program.proofs.ForCallers.{decided, selected_statement, repeated}

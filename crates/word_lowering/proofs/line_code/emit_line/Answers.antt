@@ -23,3 +23,16 @@ returns-in-Part c = rw c.in-Part.is c.emit_part_at.ensures
 
 pub returns-in-Item : goal.returns-in-Item
 returns-in-Item c = rw c.in-Item.is c.emit_item_at.ensures
+
+-- types have forms
+pub emit_part_at-requires : goal.emit_part_at-requires
+emit_part_at-requires c = c.requires.forms
+
+pub emit_item_at-requires : goal.emit_item_at-requires
+emit_item_at-requires c = c.requires.forms
+
+pub emit_element_of-requires : goal.emit_element_of-requires
+emit_element_of-requires c = c.requires.forms
+
+pub emit_construct-requires : goal.emit_construct-requires
+emit_construct-requires c = c.requires.forms

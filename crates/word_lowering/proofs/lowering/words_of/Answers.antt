@@ -1,17 +1,30 @@
 use Rattle.std.proofs.Common.{◌≡◌, ◌-◌, ◌∙◌, length, slice_get, sym, ap, subst, arith}
 use Rattle.std.specs.Option.{option_copied}
 use Rattle.word_lowering.specs.declared.texts.TheConstants.{FIXED_BYTES}
-use Rattle.word_lowering.specs.LineCode.{Around}
 use Rattle.word_lowering.specs.Lowered.{around_start}
-use Rattle.word_lowering.specs.Scope.{around_of}
-use Rattle.word_lowering.specs.Stored.{HaveForms}
+use Rattle.word_lowering.specs.Scope.{around_of, HasRoom}
 use Rattle.word_lowering.specs.Texts.{padded, data_in}
 use Rattle.word_lowering.proofs.BlocksFollowed.{lowers_given}
+use Rattle.word_lowering.proofs.TextRoom.{texts_small, names_small, start_room}
 use Rattle.word_lowering.proofs.WholeCode.{last_there, layouts_length, both, whole_by}
 use Rattle.word_lowering.proofs.lowering.words_of.Goals as goal
 
 pub all_procs-requires : goal.all_procs-requires
-all_procs-requires c = subst HaveForms (sym (ap (λ (a : Around). a.table) c.in_ok-x.ensures)) c.requires.forms
+all_procs-requires c =
+    subst HasRoom
+    (sym (c.start_scope-x.ensures ∙ ap (λ ps. around_start c.args.types.now ps c.args.layouts.now c.in-Some.own.now) c.in_ok-texts.ensures))
+    (start_room c.args.types.now c.args.blocks.now c.requires.may c.as_slice-procs.result.now c.args.layouts.now c.in-Some.own.now
+    c.as_slice-procs.ensures c.requires.layouts (sym c.in-Some.ensures.value) c.requires.forms)
+
+pub start_scope-x-requires : goal.start_scope-x-requires
+start_scope-x-requires c =
+    texts_small c.args.types.now c.args.blocks.now c.requires.may c.as_slice-procs.result.now c.args.layouts.now c.in-Some.own.now
+    c.as_slice-procs.ensures c.requires.layouts (sym c.in-Some.ensures.value)
+
+pub data-requires : goal.data-requires
+data-requires c =
+    names_small c.args.types.now c.args.blocks.now c.requires.may c.as_slice-procs.result.now c.args.layouts.now c.in-Some.own.now
+    c.as_slice-procs.ensures c.requires.layouts (sym c.in-Some.ensures.value)
 
 -- there is a last procedure, and so a last layout
 pub unreachable-requires : goal.unreachable-requires
@@ -34,9 +47,9 @@ returns c =
       elsewhere = c.memories.ensures.elsewhere;
     })
     (whole_by c.args.types.now c.args.blocks.now c.as_slice-procs.result.now c.args.layouts.now
-    c.in-Some.own.now c.in-Some-last.start.now (around_of c.in_ok-x.x) c.in_ok-procs.procs c.in_ok-statics.statics
+    c.in-Some.own.now c.in-Some-last.start.now (around_of c.start_scope-x.result) c.in_ok-procs.procs c.in_ok-statics.statics
     c.as_slice-procs.ensures c.requires.layouts (sym c.in-Some.ensures.value) (sym c.in-Some-last.ensures.value)
-    (c.in_ok-x.ensures ∙ ap (λ ps. around_start c.args.types.now ps c.args.layouts.now c.in-Some.own.now) c.in_ok-texts.ensures)
+    (c.start_scope-x.ensures ∙ ap (λ ps. around_start c.args.types.now ps c.args.layouts.now c.in-Some.own.now) c.in_ok-texts.ensures)
     c.in_ok-procs.ensures
     (c.in_ok-statics.ensures ∙ ap (λ ps. padded (data_in c.args.types.now c.in-Some.own.now.free.datum ps)) c.in_ok-texts.ensures)
     c.requires.may)

@@ -1,7 +1,14 @@
-use Rattle.std.proofs.Common.{suc, ◌+◌, ◌++◌, length, drop, sym, ap, ◌∙◌, arith, add-one, length-append}
+use Rattle.std.proofs.Common.{ℕ, List, suc, ◌+◌, ◌++◌, length, drop, sym, ap, ◌∙◌, arith, add-one, length-append}
 use Rattle.word_lowering.specs.Texts.{all_names, members_of, joined_all, starts_from}
 use Rattle.word_lowering.proofs.EntryNames.{names_from, joined_append, starts_append}
+use Rattle.word_lowering.proofs.NamesRoom.{members_bytes}
 use Rattle.word_lowering.proofs.texts.push_ends.Goals as goal
+
+pub push_starts-requires : goal.push_starts-requires
+push_starts-requires c =
+    let own = ap (λ (names : List (List ℕ)). length (joined_all names)) c.members_of.ensures in
+    let most = members_bytes c.args.types.now c.loop-id.id _ c.get.ensures.entry in
+    omega (arith, own, most, c.loop-id.invariant.1, c.requires)
 
 pub loop-id-preserved : goal.loop-id-preserved
 loop-id-preserved c =

@@ -6,4 +6,4 @@ use Rattle.word_lowering.proofs.texts.texts_at.Goals as goal
 pub returns : goal.returns
 returns c =
     let e = padded_length (joined_all (all_names c.args.types.now)) in
-    omega (arith, e, c.in_ok-n.ensures, c.in_ok-names.ensures, c.in_ok-at.ensures, c.in_ok-end.ensures)
+    omega (arith, e, c.names_length-n.ensures, c.names_at-at.ensures)

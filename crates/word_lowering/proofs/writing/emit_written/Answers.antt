@@ -8,8 +8,8 @@ use Rattle.word_lowering.specs.Texts.{names_before}
 use Rattle.word_lowering.proofs.Emits.{ok_as, put_as}
 use Rattle.word_lowering.proofs.writing.emit_written.Goals as goal
 
-pub returns-in_ok-ends-in-Some-Enum : goal.returns-in_ok-ends-in-Some-Enum
-returns-in_ok-ends-in-Some-Enum c =
+pub returns-in-Some-Enum : goal.returns-in-Some-Enum
+returns-in-Some-Enum c =
     let x = around_of c.args.x.now in
     let base = base_at x.table c.args.ty in
     let names = x.setting.names in
@@ -19,6 +19,6 @@ returns-in_ok-ends-in-Some-Enum c =
     subst (λ (o : Option TypeDef). OnOk c.emit_name.result (Puts c.args.code.now c.emit_name.new.code (written_code x o base c.args.from))) e
     (ok_as c.emit_name.result
     (λ p. put_as _ _ _ (name_code ends names from) p
-    (λ k. ap (λ n. name_code n names c.variable_of-in-Some-Enum.result k) {y = ends} c.in_ok-ends-in-Some-Enum.ensures
+    (λ k. ap (λ n. name_code n names c.variable_of-in-Some-Enum.result k) {y = ends} c.ends_of.ensures
     ∙ ap (λ v. name_code ends names v k) c.variable_of-in-Some-Enum.ensures))
     c.emit_name.ensures)

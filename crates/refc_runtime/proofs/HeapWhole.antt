@@ -1,0 +1,255 @@
+-- The code of the heap's routines is a runtime of the heap.
+use Rattle.std.proofs.Common.{◌≡◌, ℕ, zero, suc, ◌+◌, ◌-◌, ◌*◌, ◌%◌, ◌<◌, ◌≤◌, List, [], ◌∷◌, ◌++◌, length, take, drop, replicate, Some, Ok, Err, false}
+use Rattle.std.proofs.Common.{refl, sym, ap, subst, ◌∙◌, arith, length-append, eq-eqb}
+use Rattle.std.specs.Prelude.{◌==◌}
+use Rattle.std.proofs.lemmas.Bool.{cond-true}
+use Rattle.std.proofs.lemmas.List.{length-replicate}
+use Rattle.std.proofs.lemmas.Option.{none-some}
+use Rattle.std.proofs.Math.Seq.{take-append_seam, drop-append_seam, drop-append-add}
+use Rattle.nim_program.specs.Traps.{OutOfMemory}
+use Rattle.nim_types.specs.declared.blocks.TheConstants.{LEAST_BLOCK}
+use Rattle.nim_meaning.specs.Heap.{demand, sizes_from, size_count, heap_of}
+use Rattle.rv32_isa.specs.declared.micro_op.Size.TheVariants.{Word}
+use Rattle.rv32_isa.specs.declared.machine.FaultKind.TheVariants.{Misaligned}
+use Rattle.rv32_isa.specs.Image.{statics_at, heap_at}
+use Rattle.rv32_isa.specs.Words.{little, word_bytes}
+use Rattle.rv32_isa.specs.Steps.{number_of}
+use Rattle.rv32_isa.specs.Machine.{Lives}
+use Rattle.rv32_isa.proofs.ForCallers.{length-word_bytes, little-word_bytes}
+use Rattle.word_code.specs.declared.routine.TheConstants.{PROCS_FROM, ROUTINE_VARIABLES, ROUTINE_CHAIN}
+use Rattle.word_code.specs.declared.word.WordInstr.{WordInstr}
+use Rattle.word_code.specs.declared.word.WordProc.{WordProc}
+use Rattle.word_code.specs.declared.word.WordCode.{WordCode}
+use Rattle.word_code.specs.Memory.{Memory, number_at, bytes_at}
+use Rattle.word_code.specs.Words.{is_counted, most_called, from_proc, start}
+use Rattle.word_code.specs.RoutineTable.{trap_line}
+use Rattle.word_code.specs.Joined.{all_moved, joined, AreApart}
+use Rattle.word_code.specs.Runtime.{IsRoutine, routines_at}
+use Rattle.word_code.proofs.ForCallers.{MemoryLaw, Sized, found_last, free_of}
+use Rattle.refc_runtime.specs.declared.heap.TheConstants.{TAKE, GIVE, CLASS, HEAP_WORD_BYTES}
+use Rattle.refc_runtime.specs.Code.{routine}
+use Rattle.refc_runtime.specs.HeapBlocks.{size_at}
+use Rattle.refc_runtime.specs.HeapState.{none_stands, AreCounted, AreKept, IsHeap}
+use Rattle.refc_runtime.specs.HeapRoutines.{HeapRoutineName, Takes, GivesBack, FindsClass, heap_routine, IsKeptThere}
+use Rattle.refc_runtime.specs.HeapCode.{take_lines, give_lines, class_lines, heap_routines, heap_statics, IsHeapRuntime}
+use Rattle.refc_runtime.proofs.Ranges.{data_part}
+use Rattle.refc_runtime.proofs.HeapKept.{take_kept, give_kept, class_kept}
+
+-- ---- no block was taken
+
+none_counted : (n class : ℕ) → AreCounted [] (λ c. []) class (sizes_from n (size_at class))
+none_counted zero class = tt
+none_counted (suc n) class = (record { size = refl; live = refl; peak = omega arith }, none_counted n (suc class))
+
+none_demanded : (n size : ℕ) → demand (sizes_from n size) ≡ 0
+none_demanded zero size = refl
+none_demanded (suc n) size = omega (arith, none_demanded n (2 * size))
+
+none_kept : AreKept (sizes_from size_count LEAST_BLOCK) none_stands [] (λ c. [])
+none_kept = record {
+  all = tt;
+  held = record { there = λ k s h. absurd (none-some s h); only = λ k s h. absurd (none-some _ h) };
+  linked = λ c. tt;
+  counted = none_counted size_count 0;
+  sizes = refl;
+  demanded = sym (none_demanded size_count LEAST_BLOCK);
+}
+
+-- ---- the data at the start
+
+-- a word among zeros
+zeros_in : (k n : ℕ) (rest : List ℕ) → 4 * k + 4 ≤ n → take 4 (drop (4 * k) (replicate n 0 ++ rest)) ≡ replicate 4 0
+zeros_in k zero rest few = absurd (omega (arith, few))
+zeros_in k (suc zero) rest few = absurd (omega (arith, few))
+zeros_in k (suc (suc zero)) rest few = absurd (omega (arith, few))
+zeros_in k (suc (suc (suc zero))) rest few = absurd (omega (arith, few))
+zeros_in zero (suc (suc (suc (suc n)))) rest few = refl
+zeros_in (suc k) (suc (suc (suc (suc n)))) rest few =
+    let e : 4 * suc k ≡ suc (suc (suc (suc (4 * k)))) = omega arith in
+    ap (λ i. take 4 (drop i (replicate (suc (suc (suc (suc n)))) 0 ++ rest))) e ∙ zeros_in k n rest (omega (arith, few))
+
+abbrev line : List ℕ
+line = trap_line OutOfMemory
+
+abbrev padded : List ℕ
+padded = line ++ 0 ∷ 0 ∷ 0 ∷ []
+
+abbrev zeros : List ℕ
+zeros = replicate 88 0
+
+abbrev heads : List ℕ
+heads = zeros ++ padded
+
+statics_long : length heap_statics ≡ 116
+unfolding word_bytes
+statics_long = refl
+
+-- as they are written
+pub statics_are : (empty all : List ℕ) → empty ≡ [] → all ≡ empty ++ (0 ∷ 0 ∷ 32 ∷ 0 ∷ heads) → all ≡ heap_statics
+unfolding word_bytes
+statics_are empty all none e = e ∙ ap (λ l. l ++ (0 ∷ 0 ∷ 32 ∷ 0 ∷ heads)) none
+
+head_word : (class : ℕ) → class ≤ size_count → little (take 4 (drop (4 * suc class) heap_statics)) ≡ 0
+head_word class known =
+    let l = length-word_bytes heap_at in
+    let e : 4 * suc class ≡ length (word_bytes heap_at) + 4 * class = omega (arith, l) in
+    ap (λ i. little (take 4 (drop i heap_statics))) e
+    ∙ ap (λ z. little (take 4 z)) (drop-append-add (word_bytes heap_at) heads (4 * class))
+    ∙ ap little (zeros_in class 88 padded (omega (arith, known)))
+
+next_word : little (take 4 (drop 0 heap_statics)) ≡ heap_at
+next_word =
+    ap (λ i. little (take i heap_statics)) (sym (length-word_bytes heap_at))
+    ∙ ap little (take-append_seam (word_bytes heap_at) heads)
+    ∙ little-word_bytes heap_at (omega arith)
+
+line_there : take (length line) (drop HEAP_WORD_BYTES heap_statics) ≡ line
+line_there =
+    let l = length-word_bytes heap_at in
+    let e : HEAP_WORD_BYTES ≡ length (word_bytes heap_at) + length zeros = omega (arith, l, length-replicate {A = ℕ} 88 0) in
+    ap (λ i. take (length line) (drop i heap_statics)) e
+    ∙ ap (take (length line)) (drop-append-add (word_bytes heap_at) heads (length zeros) ∙ drop-append_seam zeros padded)
+    ∙ take-append_seam line (0 ∷ 0 ∷ 0 ∷ [])
+
+abbrev code : WordCode
+code = record { procs = heap_routines; statics = heap_statics }
+
+module _ (program : WordCode) (heap stack : ℕ) (input : List ℕ) (whole : length program.statics % 4 ≡ 0) where
+  -- memory at the start
+  abbrev first : Memory
+  first = record {
+    statics = word_bytes heap ++ (word_bytes stack ++ (program.statics ++ heap_statics));
+    heap = replicate heap 0;
+    places = (start (joined program code) heap stack input).memory.places;
+  }
+
+  first_is : first ≡ (start (joined program code) heap stack input).memory
+  unfolding start
+  first_is = refl
+
+  module _ (sized : Sized first) where
+    abbrev at : ℕ
+    at = routines_at program
+
+    all_long : length first.statics ≡ 8 + (length program.statics + 116)
+    all_long =
+        let a = length-word_bytes heap in
+        let b = length-word_bytes stack in
+        let c = statics_long in
+        length-append (word_bytes heap) (word_bytes stack ++ (program.statics ++ heap_statics))
+        ∙ ap (λ k. length (word_bytes heap) + k) (length-append (word_bytes stack) (program.statics ++ heap_statics)
+        ∙ ap (λ k. length (word_bytes stack) + k) (length-append program.statics heap_statics))
+        ∙ omega (arith, a, b, c)
+
+    -- bytes of the routines' data
+    own_bytes : (i k : ℕ) → i + k ≤ 116 → bytes_at first (at + i) k ≡ Some (take k (drop i heap_statics))
+    own_bytes i k few =
+        let a = length-word_bytes heap in
+        let b = length-word_bytes stack in
+        let l = all_long in
+        let e : at + i - statics_at ≡ length (word_bytes heap) + (length (word_bytes stack) + (length program.statics + i)) = omega (arith, a, b) in
+        data_part first sized (at + i) k (omega arith) (omega (arith, l, few))
+        ∙ ap (λ j. Some (take k (drop j first.statics))) e
+        ∙ ap (λ z. Some (take k z)) (drop-append-add (word_bytes heap) (word_bytes stack ++ (program.statics ++ heap_statics))
+        (length (word_bytes stack) + (length program.statics + i))
+        ∙ drop-append-add (word_bytes stack) (program.statics ++ heap_statics) (length program.statics + i)
+        ∙ drop-append-add program.statics heap_statics i)
+
+    own_word : (i : ℕ) → i % 4 ≡ 0 → i + 4 ≤ 116 → number_at first (at + i) Word ≡ Ok (little (take 4 (drop i heap_statics)))
+    own_word i aligned few =
+        cond-true ((at + i) % 4 == 0) (number_of (bytes_at first (at + i) 4)) (Err Misaligned) (eq-eqb ((at + i) % 4) 0 (omega (arith, whole, aligned)))
+        ∙ ap number_of (own_bytes i 4 few)
+
+    room_word : number_at first statics_at Word ≡ Ok heap
+    room_word =
+        let l = all_long in
+        let r : heap ≤ 16777216 = (let h = sized.heap_most in let e = length-replicate {A = ℕ} heap 0 in omega (arith, h, e)) in
+        ap number_of (data_part first sized statics_at 4 (omega arith) (omega (arith, l)))
+        ∙ ap (λ i. Ok (little (take i first.statics))) (sym (length-word_bytes heap))
+        ∙ ap (λ z. Ok (little z)) (take-append_seam (word_bytes heap) (word_bytes stack ++ (program.statics ++ heap_statics)))
+        ∙ ap Ok (little-word_bytes heap (omega (arith, r)))
+
+    starts_so : IsHeap at (heap_of heap).classes none_stands first
+    starts_so =
+        let l = all_long in
+        let front : at ≡ at + 0 = omega arith in
+        record {
+          blocks = [];
+          frees = λ c. [];
+          spare = heap;
+          kept = none_kept;
+          none = refl;
+          bytes = refl;
+          words = record {
+            whole = omega (arith, whole);
+            low = omega arith;
+            high = omega (arith, l);
+            line = own_bytes HEAP_WORD_BYTES (length line) (omega arith) ∙ ap Some line_there;
+          };
+          room = room_word ∙ ap Ok (sym (length-replicate {A = ℕ} heap 0));
+          next = ap (λ a. number_at first a Word) front ∙ own_word 0 refl (omega arith) ∙ ap Ok (next_word ∙ omega arith);
+          heads = λ c known. own_word (4 * suc c) (omega arith) (omega (arith, known)) ∙ ap Ok (head_word c known);
+        }
+
+-- ---- each of them
+
+is_routine : (number params vars : ℕ) (lines : List WordInstr) → 0 < number → number < PROCS_FROM → vars ≤ ROUTINE_VARIABLES
+    → IsRoutine (routine number params vars lines)
+is_routine number params vars lines some last few =
+    record { first = some; last = last; kind = refl; whole_data = refl; small = record { room = omega arith; variables = few } }
+
+-- they call nothing, so one rank serves all
+abbrev rank : ℕ → ℕ
+rank number = ROUTINE_CHAIN
+
+calls_nothing : (p : WordProc) → most_called rank p.lines ≡ 0 → is_counted p.kind ≡ false → suc (most_called rank p.lines) ≤ ROUTINE_CHAIN
+calls_nothing p e f = omega (arith, e)
+
+-- ---- behind the procedures of a program
+
+module _ (law : MemoryLaw) (live : Lives) (program : WordCode) (apart : AreApart program.procs heap_routines) where
+  abbrev later_by : ℕ
+  later_by = length program.statics
+
+  abbrev procs : List WordProc
+  procs = (joined program code).procs
+
+  behind : (p : WordProc) (tail : List WordProc) → from_proc p.number heap_routines ≡ p ∷ tail
+      → from_proc p.number procs ≡ from_proc p.number (all_moved later_by heap_routines)
+  behind p tail e = found_last p.number program.procs (all_moved later_by heap_routines) (free_of p.number program.procs heap_routines p tail e apart)
+
+  all_kept : (name : HeapRoutineName) → IsKeptThere live procs (heap_routine (routines_at program) name)
+  all_kept Takes = take_kept law live procs later_by _ (behind (routine TAKE 1 6 take_lines) _ refl)
+  all_kept GivesBack = give_kept law live procs later_by _ (behind (routine GIVE 1 6 give_lines) _ refl)
+  all_kept FindsClass = class_kept law live procs later_by _ (behind (routine CLASS 1 4 class_lines) _ refl)
+
+is_heap_runtime : MemoryLaw → IsHeapRuntime code
+is_heap_runtime law = record {
+  formed = refl;
+  routines = (
+    is_routine TAKE 1 6 take_lines (omega arith) (omega arith) (omega arith),
+    (
+      is_routine GIVE 1 6 give_lines (omega arith) (omega arith) (omega arith),
+      (is_routine CLASS 1 4 class_lines (omega arith) (omega arith) (omega arith), tt),
+    ),
+  );
+  rank = rank;
+  ranked = (
+    calls_nothing (routine TAKE 1 6 take_lines) refl,
+    (calls_nothing (routine GIVE 1 6 give_lines) refl, (calls_nothing (routine CLASS 1 4 class_lines) refl, tt)),
+  );
+  chain = λ number. omega arith;
+  weight = omega arith;
+  whole = ap (λ n. n % 4) statics_long;
+  data_most = omega (arith, statics_long);
+  starts = λ program heap stack input whole sized.
+      subst (IsHeap (routines_at program) (heap_of heap).classes none_stands) (first_is program heap stack input whole)
+      (starts_so program heap stack input whole (subst (λ m. Sized m) (sym (first_is program heap stack input whole)) sized));
+  kept = λ live program apart whole name. all_kept law live program apart name;
+}
+
+pub heap_runtime_is : MemoryLaw → (all : List WordProc) (bytes : List ℕ) → all ≡ heap_routines → bytes ≡ heap_statics
+    → IsHeapRuntime (record { procs = all; statics = bytes })
+heap_runtime_is law all bytes e f =
+    subst (λ ps. IsHeapRuntime (record { procs = ps; statics = bytes })) (sym e)
+    (subst (λ bs. IsHeapRuntime (record { procs = heap_routines; statics = bs })) (sym f) (is_heap_runtime law))

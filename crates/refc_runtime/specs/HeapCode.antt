@@ -1,0 +1,139 @@
+-- The code of the heap's routines and its data, and what they promise.
+use Rattle.std.specs.Prelude.{◌≡◌, ◌≤◌, ℕ, ◌+◌, ◌%◌, true, List, [], ◌∷◌, ◌++◌, length, replicate}
+use Rattle.rv32_isa.specs.declared.micro_op.Size.TheVariants.{Word as whole}
+use Rattle.rv32_isa.specs.Image.{statics_at, heap_at}
+use Rattle.rv32_isa.specs.Words.{word_bytes}
+use Rattle.rv32_isa.specs.Machine.{Lives}
+use Rattle.rv32_isa.specs.Regions.{HasRegions}
+use Rattle.nim_program.specs.Traps.{OutOfMemory}
+use Rattle.nim_meaning.specs.Heap.{heap_of, size_count}
+use Rattle.word_code.specs.declared.routine.TheConstants.{ROUTINE_CHAIN}
+use Rattle.word_code.specs.declared.word.WordOperation.TheVariants as operation
+use Rattle.word_code.specs.declared.word.Test.TheVariants as test
+use Rattle.word_code.specs.declared.word.WordInstr.{WordInstr}
+use Rattle.word_code.specs.declared.word.WordInstr.TheVariants.{Label, Constant, Copy, Sum, Compute, Datum, Load, Store, Branch, Return}
+use Rattle.word_code.specs.declared.word.WordProc.{WordProc}
+use Rattle.word_code.specs.declared.word.WordCode.{WordCode}
+use Rattle.word_code.specs.Memory.{as_state}
+use Rattle.word_code.specs.RoutineTable.{trap_line}
+use Rattle.word_code.specs.Words.{are_procs, start}
+use Rattle.word_code.specs.Sizes.{AreRanked, word_weight}
+use Rattle.word_code.specs.Joined.{joined, AreApart}
+use Rattle.word_code.specs.Runtime.{AreRoutines, routines_at}
+use Rattle.refc_runtime.specs.declared.heap.TheConstants.{TAKE, GIVE, CLASS, HEAP_WORD_BYTES, HEADER_LESS, KIND_LESS, HEAP_WEIGHT, HEAP_DATA}
+use Rattle.refc_runtime.specs.Code.{routine, ending_lines}
+use Rattle.refc_runtime.specs.HeapState.{none_stands, IsHeap}
+use Rattle.refc_runtime.specs.HeapRoutines.{class_word, HeapRoutineName, heap_routine, IsKeptThere}
+
+abbrev pub full_lines : List WordInstr
+full_lines = Label 1 ∷ ending_lines HEAP_WORD_BYTES (length (trap_line OutOfMemory))
+
+-- The next bytes are taken. The place of the size is 4, and it has so often 8 bytes as the 4th power of two says; what is left of the heap is 3.
+abbrev pub next_lines : List WordInstr
+next_lines =
+    Label 0
+    ∷ Datum 1 0
+    ∷ Load 2 1 whole
+    ∷ Constant 3 statics_at
+    ∷ Load 3 3 whole
+    ∷ Sum 3 3 heap_at
+    ∷ Compute 3 operation.Subtract 3 2
+    ∷ Constant 4 2
+    ∷ Compute 4 operation.ShiftRight 0 4
+    ∷ Constant 5 8
+    ∷ Compute 5 operation.ShiftLeft 5 4
+    ∷ Branch test.Below 3 5 1
+    ∷ Sum 4 4 128
+    ∷ Store 2 4 whole
+    ∷ Compute 5 operation.Add 5 2
+    ∷ Store 1 5 whole
+    ∷ Sum 2 2 8
+    ∷ Return 2
+    ∷ full_lines
+
+-- the first free block is taken, which is at the place in 2
+abbrev pub free_lines : List WordInstr
+free_lines =
+    Load 3 2 whole
+    ∷ Store 1 3 whole
+    ∷ Sum 3 2 HEADER_LESS
+    ∷ Load 4 3 whole
+    ∷ Sum 4 4 128
+    ∷ Store 3 4 whole
+    ∷ Return 2
+    ∷ next_lines
+
+-- Variable 0 says the size. In 1 is where the place of its first free block stands, and in 2 that place. No block stands below the data.
+abbrev pub take_lines : List WordInstr
+take_lines =
+    Datum 1 0
+    ∷ Compute 1 operation.Add 1 0
+    ∷ Load 2 1 whole
+    ∷ Branch test.Below 2 1 0
+    ∷ free_lines
+
+-- The block at the place in variable 0 becomes the first free one of its size, which is in 3.
+abbrev pub give_lines : List WordInstr
+give_lines =
+    Copy 1 0
+    ∷ Sum 2 1 HEADER_LESS
+    ∷ Load 3 2 whole
+    ∷ Sum 3 3 KIND_LESS
+    ∷ Store 2 3 whole
+    ∷ Compute 3 operation.Add 3 3
+    ∷ Compute 3 operation.Add 3 3
+    ∷ Datum 4 0
+    ∷ Compute 4 operation.Add 4 3
+    ∷ Load 5 4 whole
+    ∷ Store 1 5 whole
+    ∷ Store 4 1 whole
+    ∷ Return 1
+    ∷ []
+
+-- Of a payload in variable 0: in 1 is what says the size, in 2 are the bytes with a header, and in 3 is the size.
+abbrev pub class_lines : List WordInstr
+class_lines =
+    Constant 1 4
+    ∷ Constant 2 16777208
+    ∷ Branch test.Below 2 0 2
+    ∷ Sum 2 0 8
+    ∷ Constant 3 16
+    ∷ Branch test.NotBelow 3 2 1
+    ∷ Label 0
+    ∷ Compute 3 operation.Add 3 3
+    ∷ Sum 1 1 4
+    ∷ Branch test.Below 3 2 0
+    ∷ Label 1
+    ∷ Return 1
+    ∷ Label 2
+    ∷ Constant 1 (class_word size_count)
+    ∷ Return 1
+    ∷ []
+
+abbrev pub heap_routines : List WordProc
+heap_routines = routine TAKE 1 6 take_lines ∷ routine GIVE 1 6 give_lines ∷ routine CLASS 1 4 class_lines ∷ []
+
+-- the heap's words, where no block was taken, and the line of the trap, up to a whole number of words
+abbrev pub heap_statics : List ℕ
+heap_statics = word_bytes heap_at ++ (replicate 88 0 ++ (trap_line OutOfMemory ++ 0 ∷ 0 ∷ 0 ∷ []))
+
+-- ---- what is promised of it
+
+pub record IsHeapRuntime (code : WordCode) : Type 0 where
+  pub formed : are_procs code.procs ≡ true
+  pub routines : AreRoutines code.procs
+  -- each calls only what has a lower rank
+  pub rank : ℕ → ℕ
+  pub ranked : AreRanked rank code.procs
+  pub chain : (number : ℕ) → rank number ≤ ROUTINE_CHAIN
+  -- lines and procedures
+  pub weight : word_weight code.procs ≤ HEAP_WEIGHT
+  pub whole : length code.statics % 4 ≡ 0
+  pub data_most : length code.statics ≤ HEAP_DATA
+  -- before the first line no block was taken
+  pub starts : (program : WordCode) (heap stack : ℕ) (input : List ℕ) → length program.statics % 4 ≡ 0
+      → HasRegions (as_state (start (joined program code) heap stack input).memory)
+      → IsHeap (routines_at program) (heap_of heap).classes none_stands (start (joined program code) heap stack input).memory
+  -- whichever program it is joined with
+  pub kept : (live : Lives) (program : WordCode) → AreApart program.procs code.procs → length program.statics % 4 ≡ 0 → (name : HeapRoutineName)
+      → IsKeptThere live (joined program code).procs (heap_routine (routines_at program) name)

@@ -1,0 +1,98 @@
+-- Where the names of enums and the texts stand: within the data.
+use Rattle.std.proofs.Common.{◌≡◌, ℕ, ◌+◌, ◌-◌, ◌≤◌, List, [], ◌∷◌, ◌++◌, length, replicate, slice_get, Bool, true, false, Some}
+use Rattle.std.proofs.Common.{refl, sym, ap, subst, ◌∙◌, arith, length-append}
+use Rattle.std.specs.Prelude.{if◌then◌else◌}
+use Rattle.nim_types.specs.Types.{same_text}
+use Rattle.nim_types.specs.declared.types.TypeDef.{TypeDef}
+use Rattle.flat_code.specs.declared.block.BlockLine.{BlockLine}
+use Rattle.flat_code.specs.declared.line.Piece.{Piece}
+use Rattle.flat_code.specs.declared.code.Code.{Code}
+use Rattle.flat_code.specs.declared.code.CodeProc.{CodeProc}
+use Rattle.flat_code.specs.Codes.{block_plain}
+use Rattle.flat_code.specs.Sizes.{distinct_texts}
+use Rattle.word_lowering.specs.declared.homes.Layout.{Layout}
+use Rattle.word_lowering.specs.declared.texts.TheConstants.{FIXED_BYTES}
+use Rattle.word_lowering.specs.declared.may_lower.TheConstants.{MOST_DATA}
+use Rattle.word_lowering.specs.Layouts.{IsCounted, AreCounted}
+use Rattle.flat_code.specs.Running.{last_of}
+use Rattle.word_lowering.specs.Lowered.{globals_end, all_layouts, around_start, with_own}
+use Rattle.word_lowering.specs.LineCode.{Around, no_layout}
+use Rattle.word_lowering.specs.MayLower.{may_lower}
+use Rattle.word_lowering.specs.Scope.{HasRoom}
+use Rattle.word_lowering.specs.Stored.{HaveForms}
+use Rattle.word_lowering.specs.Texts.{padded, fixed_texts, all_names, joined_all, ends_from, laid, laid_texts, data_in, texts_at}
+use Rattle.word_lowering.specs.Texts.{place_among, or_zero, place_of, standing_place}
+use Rattle.word_lowering.proofs.CountedLayouts.{layouts_counted, counted_at}
+use Rattle.word_lowering.proofs.DataSizes.{six_parts, ends_length, data_within}
+use Rattle.word_lowering.proofs.Padding.{zeros_length, padded_length}
+use Rattle.word_lowering.proofs.WholeCode.{last_is}
+
+-- a text begins within what is laid out
+place_within : (texts : List (List ℕ)) (text : List ℕ) → or_zero (place_among texts text) ≤ length (laid texts)
+place_within [] text = omega arith
+place_within (other ∷ texts) text = by (same_text text other) (place_within texts text)
+  where
+    by : (b : Bool) → or_zero (place_among texts text) ≤ length (laid texts)
+        → or_zero (if b then Some (length (laid texts)) else place_among texts text) ≤ length (laid texts ++ padded other)
+    by true h = let both = length-append (laid texts) (padded other) in omega (arith, both)
+    by false h = let both = length-append (laid texts) (padded other) in omega (arith, h, both)
+
+pub literal_within : (procs : List (CodeProc BlockLine)) (offset bytes : ℕ) → place_of procs offset bytes ≤ length (laid_texts procs)
+literal_within procs offset bytes = place_within (distinct_texts block_plain procs) _
+
+pub standing_within : (procs : List (CodeProc BlockLine)) (pieces : List Piece) → standing_place procs pieces ≤ length (laid_texts procs)
+standing_within procs pieces = place_within (distinct_texts block_plain procs) _
+
+-- texts end where the data does
+texts_end : (table : List TypeDef) (globals_end : ℕ) (procs : List (CodeProc BlockLine))
+    → texts_at table globals_end + length (laid_texts procs) ≤ length (padded (data_in table globals_end procs))
+texts_end table globals_end procs =
+    let names : List (List ℕ) = all_names table in
+    let e = six_parts (replicate 4 0) fixed_texts (replicate (globals_end - FIXED_BYTES) 0) (ends_from 0 names) (padded (joined_all names))
+    (laid_texts procs) in
+    let f = zeros_length (globals_end - FIXED_BYTES) in
+    let g = ends_length 0 names in
+    let h : length fixed_texts ≡ 16 = refl in
+    let i = zeros_length 4 in
+    let j = padded_length (data_in table globals_end procs) in
+    omega (arith, e, f, g, h, i, j)
+
+module _ (table : List TypeDef) (blocks : Code BlockLine) (may : may_lower table blocks ≡ true) (slice : List (CodeProc BlockLine))
+    (slices : List Layout) (own : Layout) (same : slice ≡ blocks.procs) (are : slices ≡ all_layouts table blocks.procs)
+    (last : slice_get slices (length slices - 1) ≡ Some own) where
+  data_room : texts_at table own.free.datum + length (laid_texts slice) ≤ MOST_DATA
+  data_room =
+      let within = data_within table blocks may in
+      let end : globals_end table blocks.procs ≡ own.free.datum =
+      ap (λ (ls : List Layout). (last_of no_layout ls).free.datum) (sym are) ∙ ap (λ (o : Layout). o.free.datum) (last_is no_layout slices own last) in
+      let ends = texts_end table (globals_end table blocks.procs) blocks.procs in
+      let here = ap (λ n. texts_at table n) end in
+      let texts = ap (λ (ps : List (CodeProc BlockLine)). length (laid_texts ps)) same in
+      omega (arith, within, ends, here, texts)
+
+  pub texts_small : texts_at table own.free.datum ≤ 4294967295
+  texts_small = let h = data_room in omega (arith, h)
+
+  pub names_small : length (joined_all (all_names table)) ≤ 4294967295
+  names_small =
+      let h = data_room in
+      let long = padded_length (joined_all (all_names table)) in
+      omega (arith, h, long)
+
+  -- around the start code
+  pub start_room : HaveForms table → HasRoom (around_start table slice slices own)
+  start_room has =
+      let counted : AreCounted slices = subst AreCounted (sym are) (layouts_counted table blocks may) in
+      let h = data_room in
+      let long = padded_length (joined_all (all_names table)) in
+      record {
+        forms = has;
+        own = counted_at slices (length slices - 1) own counted last;
+        layouts = counted;
+        names = omega (arith, h, long);
+        texts = omega (arith, h);
+      }
+
+-- around another procedure
+pub own_room : (x : Around) (own : Layout) (behind : ℕ) → HasRoom x → IsCounted own → HasRoom (with_own x own behind)
+own_room x own behind room counted = record { forms = room.forms; own = counted; layouts = room.layouts; names = room.names; texts = room.texts }
