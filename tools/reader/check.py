@@ -11,11 +11,12 @@ import sys
 from typing import AbstractSet, List, NamedTuple, Optional, Set, Tuple
 
 import tree
-from expressions import COMPARISONS, ExpressionChecker, Scope, Section, refuse
+from expressions import COMPARISONS, ExpressionChecker
 from meanings import Constant, Procedure, TypeName, Variable
 from parse import parse
 from scan import Position, Refusal, normal_form
 from type_table import BOOL, CHAR, INT, ORDINALS_AND_STRING, STRING, TypeTable
+from written_types import Scope, Section, refuse
 
 LEFT_OUT_OPERATIONS = frozenset([normal_form('isNil'), normal_form('newException')])
 

@@ -19,7 +19,7 @@ LARGEST_INT = 2 ** (INT_BITS - 1) - 1
 LARGEST_CHAR = 255
 CONSTANT_OPERATIONS = frozenset(['ord', 'chr', 'len', 'high'])
 
-_COMPARISONS = {'==': operator.eq, '!=': operator.ne, '<': operator.lt, '<=': operator.le, '>': operator.gt,
+COMPARISONS = {'==': operator.eq, '!=': operator.ne, '<': operator.lt, '<=': operator.le, '>': operator.gt,
                 '>=': operator.ge}
 
 
@@ -159,8 +159,8 @@ class Evaluator:
         if binary.type == BOOL and (sign == 'and' and not left or sign == 'or' and left):
             return left
         right = self.evaluate(binary.right)
-        if sign in _COMPARISONS:
-            return _COMPARISONS[sign](left, right)
+        if sign in COMPARISONS:
+            return COMPARISONS[sign](left, right)
         if sign == '&':
             return bytes_of(left) + bytes_of(right)
         if sign == 'div':

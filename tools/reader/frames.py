@@ -10,7 +10,8 @@ from typing import Iterator, List, Optional
 
 import tree
 from check import RECURSION_LIMIT, Program, check
-from meanings import BuiltInCall, Constant, Conversion, DollarCall, Meaning, Procedure, ProcedureCall, Variable
+from meanings import (READ_LINE, SET_LEN, BuiltInCall, Constant, Conversion, DollarCall, Meaning, Procedure, ProcedureCall,
+                      Variable)
 from scan import Position, Refusal
 from tree import is_step, place_of, walk, without_parentheses
 from type_table import TypeTable
@@ -22,6 +23,9 @@ PATH_BYTES = 8
 """Of each node of a path that is written, or read in place, and of a constant that such a path begins with."""
 LOOP_BYTES = 8
 """Of each `for`."""
+
+PATHS_OF_OPERATIONS = {'swap': 2, 'len': 1, 'high': 1, 'inc': 1, 'dec': 1, 'move': 1, 'add': 1, 'pop': 1, SET_LEN: 1, READ_LINE: 1}
+"""How many of its operands, the first ones, each writes or reads in place; `stdin` is none."""
 
 MODULE_CODE = (1, 1)
 
@@ -196,7 +200,9 @@ class Sums:
         if not isinstance(meaning, BuiltInCall) or meaning.name in ('low int', 'high int', 'default'):
             return 0
         arguments = list(meaning.arguments)
-        paths = {'swap': 2, 'len': 1, 'high': 1, 'inc': 1, 'dec': 1, 'move': 1}.get(meaning.name, 0)
+        if meaning.name == READ_LINE:
+            arguments = arguments[1:]
+        paths = PATHS_OF_OPERATIONS.get(meaning.name, 0)
         return sum(map(self.begun, arguments[:paths])) + sum(map(self.value, arguments[paths:]))
 
 

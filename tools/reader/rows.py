@@ -7,6 +7,8 @@ from typing import Dict, Iterator, List, NamedTuple
 
 REPOSITORY = Path(__file__).resolve().parents[2]
 DATA = REPOSITORY / 'crates' / 'rows' / 'data'
+WAITING = REPOSITORY / 'tools' / 'reader' / 'waiting'
+"""Rows of what isn't built yet."""
 
 _TITLE = '=== '
 _PART = '--- '

@@ -1,9 +1,10 @@
 """Compares this reader's answers with all rows of crates/rows/data/typing, crates/rows/data/plain, crates/rows/data/texts and
 crates/rows/data/frames.rows, those of crates/rows/data/limits.rows that are about data, and with the examples of docs/TYPING.md.
 
-    python3 tools/reader/run_rows.py [--only typing|plain|texts|frames|limits|examples]
+    python3 tools/reader/run_rows.py [--only typing|plain|texts|frames|limits|examples|waiting]
 
-Says what differs, and the number of rows; ends with status 1 where something does.
+Says what differs, and the number of rows; ends with status 1 where something does. The rows of tools/reader/waiting, of what isn't
+built yet, are read with `--only waiting` alone.
 """
 from __future__ import annotations
 
@@ -14,9 +15,10 @@ from typing import List, NamedTuple, Optional
 
 import data
 import frames
+import heap_rows
 from check import check
 from interp import run, with_deep_stack
-from rows import REPOSITORY, Row, files_of, read
+from rows import REPOSITORY, WAITING, Row, files_of, read
 from scan import Refusal
 
 UNITS = 5_000_000
@@ -123,13 +125,19 @@ def examples() -> List[Row]:
     return rows
 
 
+def waiting_difference(row: Row) -> Optional[str]:
+    """What differs in a row of what isn't built yet."""
+    return typing_difference(row) if 'check' in row.parts else heap_rows.difference(row)
+
+
 DIFFERENCES = {'typing': typing_difference, 'plain': plain_difference, 'texts': plain_difference, 'frames': frames_difference,
-               'limits': limits_difference, 'examples': typing_difference}
+               'limits': limits_difference, 'examples': typing_difference, 'waiting': waiting_difference}
 
 
 def differing_rows(name: str) -> int:
     """Prints what differs in a folder or a file; gives the number of rows that do."""
-    rows = examples() if name == 'examples' else [row for path in files_of(name) for row in read(path)]
+    files = sorted(WAITING.glob('*.rows')) if name == 'waiting' else files_of(name)
+    rows = examples() if name == 'examples' else [row for path in files for row in read(path)]
     if name == 'limits':
         rows = list(filter(is_about_data, rows))
     differing = 0
@@ -144,9 +152,9 @@ def differing_rows(name: str) -> int:
 
 def main() -> None:
     parser = argparse.ArgumentParser(description='Compares rows of the repository with the answers of this reader.')
-    parser.add_argument('--only', choices=list(DIFFERENCES), help='all of them, if it is not there')
+    parser.add_argument('--only', choices=list(DIFFERENCES), help='all of them but those that wait, if it is not there')
     only = parser.parse_args().only
-    names = list(DIFFERENCES) if only is None else [only]
+    names = [name for name in DIFFERENCES if name != 'waiting'] if only is None else [only]
     sys.exit(1 if with_deep_stack(lambda: sum(differing_rows(name) for name in names)) else 0)
 
 

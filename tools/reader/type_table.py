@@ -51,6 +51,8 @@ class TypeTable:
         self.declared: Dict[int, DeclaredType] = {}
         self._sizes: Dict[int, int] = {}
         self._known: Set[int] = set()
+        self._owns_blocks: Dict[int, bool] = {}
+        """Asked of a whole program alone."""
 
     def make(self, form: Form) -> int:
         number = self.numbers.get(form)
@@ -138,6 +140,20 @@ class TypeTable:
         if form.kind == 'array':
             return self.has_text(form.element)
         return form.kind == 'string' or any(self.has_text(part) for part in form.parts)
+
+    def owns_blocks(self, type_number: int) -> bool:
+        """Whether it is, or has as parts, strings or sequences."""
+        if type_number not in self._owns_blocks:
+            form = self.forms[self.resolved(type_number)]
+            parts = list(form.parts)
+            if form.kind == 'array':
+                parts = [form.element]
+            elif form.kind == 'object':
+                parts = [field_type for _, field_type in self.fields(self.resolved(type_number))]
+            elif form.kind == 'distinct':
+                parts = [self.base(self.resolved(type_number))]
+            self._owns_blocks[type_number] = form.kind in ('string', 'seq') or any(map(self.owns_blocks, parts))
+        return self._owns_blocks[type_number]
 
     def resolved(self, type_number: int, within: Tuple[int, ...] = ()) -> int:
         """The type with each alias in it replaced by what it names, as far as that is known; `within` are the aliases

@@ -54,6 +54,14 @@ module _ (live : Lives) (procs : List WordProc) (s : WordState) (to : ℕ) (rest
       one (step live procs) (λ bytes. ap (λ o. settled live procs bytes t k (using o (λ a. Returns a))) e
       ∙ ap (λ n. Goes [] 1 (goes_on s to word rest (without_places m n) s.input)) none)
 
+  -- also behind calls that it made
+  pub returns_awaiting : (awaits : ℕ) (k : List WordInstr) (p : WordProc) → p.room ≡ 0 → (m : Memory) (v : Vars) (from word : ℕ) → v from ≡ Some word
+      → Runs live procs 1 (at (record (inside s p to rest) { awaits = awaits }) m (Return from ∷ k) v no_words) (goes_on s to word rest m s.input)
+  returns_awaiting awaits k p none m v from word e =
+      let t : WordState = at (record (inside s p to rest) { awaits = awaits }) m (Return from ∷ k) v no_words in
+      one (step live procs) (λ bytes. ap (λ o. settled live procs bytes t k (using o (λ a. Returns a))) e
+      ∙ ap (λ n. Goes [] 1 (goes_on s to word rest (without_places m n) s.input)) none)
+
   pub returns : (p : WordProc) → p.room ≡ 0 → (m : Memory) (v : Vars) (from word : ℕ) → v from ≡ Some word
       → Runs live procs 1 (at (inside s p to rest) m (Return from ∷ []) v no_words) (goes_on s to word rest m s.input)
   returns p none m v from word e = returns_before [] p none m v from word e

@@ -1,5 +1,5 @@
 -- What the routine that finds a size does.
-use Rattle.std.proofs.Common.{◌≡◌, ℕ, zero, suc, ◌+◌, ◌-◌, ◌*◌, ◌<◌, ◌≤◌, ◌⊎◌, inl, inr, List, [], ◌∷◌, Some, refl, sym, ap, subst}
+use Rattle.std.proofs.Common.{◌≡◌, ℕ, zero, suc, ◌+◌, ◌*◌, ◌<◌, ◌≤◌, ◌⊎◌, inl, inr, List, [], ◌∷◌, Some, refl, sym, ap, subst}
 use Rattle.std.proofs.Common.{◌∙◌, ⊎_elim, arith}
 use Rattle.std.specs.Prelude.{nat_le, not}
 use Rattle.std.proofs.lemmas.Bool.{lt-ltb, le-ltb, le-leb, lt-leb, cond-true, cond-false, cases_lt}
@@ -12,7 +12,7 @@ use Rattle.word_code.specs.declared.word.WordInstr.{WordInstr}
 use Rattle.word_code.specs.declared.word.WordInstr.TheVariants.{Label, Constant, Sum, Compute, Branch, Return}
 use Rattle.word_code.specs.declared.word.WordProc.{WordProc}
 use Rattle.word_code.specs.Memory.{Memory}
-use Rattle.word_code.specs.Words.{computed, holds, Vars, no_words, put, WordState}
+use Rattle.word_code.specs.Words.{computed, Vars, no_words, put, WordState}
 use Rattle.word_code.specs.Routines.{goes_on}
 use Rattle.word_code.proofs.ForCallers.{Runs, then_runs, Within, at as state_at, run_label, run_constant, run_sum, run_compute, run_past, run_off, got, got_sum}
 use Rattle.refc_runtime.specs.declared.heap.TheConstants.{CLASS}
@@ -28,12 +28,12 @@ abbrev sizes_behind : (count class : ℕ) → List Class
 sizes_behind count class = sizes_from count (size_at class)
 
 -- the next size is the one, or it is further on
-this_size : (payload n class : ℕ) → payload + HEADER_BYTES ≤ size_at class → class_for payload (sizes_behind (suc n) class) ≡ 0
+pub this_size : (payload n class : ℕ) → payload + HEADER_BYTES ≤ size_at class → class_for payload (sizes_behind (suc n) class) ≡ 0
 this_size payload n class holds_it =
     cond-true (nat_le (payload + HEADER_BYTES) (size_at class)) 0 (suc (class_for payload (sizes_behind n (suc class))))
     (le-leb (payload + HEADER_BYTES) (size_at class) holds_it)
 
-later_size : (payload n class : ℕ) → size_at class < payload + HEADER_BYTES
+pub later_size : (payload n class : ℕ) → size_at class < payload + HEADER_BYTES
     → class_for payload (sizes_behind (suc n) class) ≡ suc (class_for payload (sizes_behind n (suc class)))
 later_size payload n class less =
     cond-false (nat_le (payload + HEADER_BYTES) (size_at class)) 0 (suc (class_for payload (sizes_behind n (suc class))))

@@ -1,7 +1,7 @@
 -- The code of the heap's routines is a runtime of the heap.
 use Rattle.std.proofs.Common.{◌≡◌, ℕ, zero, suc, ◌+◌, ◌-◌, ◌*◌, ◌%◌, ◌<◌, ◌≤◌, List, [], ◌∷◌, ◌++◌, length, take, drop, replicate, Some, Ok, Err, false}
-use Rattle.std.proofs.Common.{refl, sym, ap, subst, ◌∙◌, arith, length-append, eq-eqb}
-use Rattle.std.specs.Prelude.{◌==◌}
+use Rattle.std.proofs.Common.{Bool, true, refl, sym, ap, subst, ◌∙◌, arith, length-append, eq-eqb}
+use Rattle.std.specs.Prelude.{◌==◌, if◌then◌else◌}
 use Rattle.std.proofs.lemmas.Bool.{cond-true}
 use Rattle.std.proofs.lemmas.List.{length-replicate}
 use Rattle.std.proofs.lemmas.Option.{none-some}
@@ -16,7 +16,7 @@ use Rattle.rv32_isa.specs.Words.{little, word_bytes}
 use Rattle.rv32_isa.specs.Steps.{number_of}
 use Rattle.rv32_isa.specs.Machine.{Lives}
 use Rattle.rv32_isa.proofs.ForCallers.{length-word_bytes, little-word_bytes}
-use Rattle.word_code.specs.declared.routine.TheConstants.{PROCS_FROM, ROUTINE_VARIABLES, ROUTINE_CHAIN}
+use Rattle.word_code.specs.declared.routine.TheConstants.{PROCS_FROM, ROUTINE_VARIABLES}
 use Rattle.word_code.specs.declared.word.WordInstr.{WordInstr}
 use Rattle.word_code.specs.declared.word.WordProc.{WordProc}
 use Rattle.word_code.specs.declared.word.WordCode.{WordCode}
@@ -30,10 +30,16 @@ use Rattle.refc_runtime.specs.declared.heap.TheConstants.{TAKE, GIVE, CLASS, HEA
 use Rattle.refc_runtime.specs.Code.{routine}
 use Rattle.refc_runtime.specs.HeapBlocks.{size_at}
 use Rattle.refc_runtime.specs.HeapState.{none_stands, AreCounted, AreKept, IsHeap}
-use Rattle.refc_runtime.specs.HeapRoutines.{HeapRoutineName, Takes, GivesBack, FindsClass, heap_routine, IsKeptThere}
-use Rattle.refc_runtime.specs.HeapCode.{take_lines, give_lines, class_lines, heap_routines, heap_statics, IsHeapRuntime}
+use Rattle.refc_runtime.specs.declared.texts.TheConstants.{MOVE, GROW, ORDER}
+use Rattle.refc_runtime.specs.HeapRoutines.{IsKeptThere}
+use Rattle.refc_runtime.specs.TextCode.{move_lines, grow_lines, order_lines}
+use Rattle.refc_runtime.specs.HeapRuntime.{HeapRoutineName, Takes, GivesBack, FindsClass, MovesBytes, Grows, Orders, heap_routine, IsHeapRuntime}
+use Rattle.refc_runtime.specs.HeapCode.{take_lines, give_lines, class_lines, heap_routines, heap_statics}
 use Rattle.refc_runtime.proofs.Ranges.{data_part}
 use Rattle.refc_runtime.proofs.HeapKept.{take_kept, give_kept, class_kept}
+use Rattle.refc_runtime.proofs.MoveRuns.{move_kept}
+use Rattle.refc_runtime.proofs.GrowRuns.{grow_comes}
+use Rattle.refc_runtime.proofs.OrderRuns.{order_kept}
 
 -- ---- no block was taken
 
@@ -198,12 +204,20 @@ is_routine : (number params vars : ℕ) (lines : List WordInstr) → 0 < number 
 is_routine number params vars lines some last few =
     record { first = some; last = last; kind = refl; whole_data = refl; small = record { room = omega arith; variables = few } }
 
--- they call nothing, so one rank serves all
+-- but for one they call nothing
 abbrev rank : ℕ → ℕ
-rank number = ROUTINE_CHAIN
+rank number = if number == GROW then 2 else 1
 
-calls_nothing : (p : WordProc) → most_called rank p.lines ≡ 0 → is_counted p.kind ≡ false → suc (most_called rank p.lines) ≤ ROUTINE_CHAIN
-calls_nothing p e f = omega (arith, e)
+calls_nothing : (p : WordProc) → most_called rank p.lines ≡ 0 → rank p.number ≡ 1 → is_counted p.kind ≡ false
+    → suc (most_called rank p.lines) ≤ rank p.number
+calls_nothing p e r f = omega (arith, e, r)
+
+rank_most : (number : ℕ) → rank number ≤ 2
+rank_most number = by (number == GROW)
+  where
+    by : (b : Bool) → (if b then 2 else 1) ≤ 2
+    by true = omega arith
+    by false = omega arith
 
 -- ---- behind the procedures of a program
 
@@ -218,10 +232,33 @@ module _ (law : MemoryLaw) (live : Lives) (program : WordCode) (apart : AreApart
       → from_proc p.number procs ≡ from_proc p.number (all_moved later_by heap_routines)
   behind p tail e = found_last p.number program.procs (all_moved later_by heap_routines) (free_of p.number program.procs heap_routines p tail e apart)
 
-  all_kept : (name : HeapRoutineName) → IsKeptThere live procs (heap_routine (routines_at program) name)
-  all_kept Takes = take_kept law live procs later_by _ (behind (routine TAKE 1 6 take_lines) _ refl)
-  all_kept GivesBack = give_kept law live procs later_by _ (behind (routine GIVE 1 6 give_lines) _ refl)
-  all_kept FindsClass = class_kept law live procs later_by _ (behind (routine CLASS 1 4 class_lines) _ refl)
+  abbrev at_end : ℕ
+  at_end = routines_at program
+
+  takes_there : IsKeptThere live procs (heap_routine at_end Takes)
+  takes_there = take_kept law live procs later_by _ (behind (routine TAKE 1 6 take_lines) _ refl)
+
+  gives_there : IsKeptThere live procs (heap_routine at_end GivesBack)
+  gives_there = give_kept law live procs later_by _ (behind (routine GIVE 1 6 give_lines) _ refl)
+
+  finds_there : IsKeptThere live procs (heap_routine at_end FindsClass)
+  finds_there = class_kept law live procs later_by _ (behind (routine CLASS 1 4 class_lines) _ refl)
+
+  moves_there : IsKeptThere live procs (heap_routine at_end MovesBytes)
+  moves_there = move_kept law live procs later_by _ (behind (routine MOVE 3 7 move_lines) _ refl)
+
+  grows_there : IsKeptThere live procs (heap_routine at_end Grows)
+  grows_there u s to rest calling sized may =
+      grow_comes law live procs later_by takes_there gives_there finds_there moves_there s to rest u _ (behind (routine GROW 3 6 grow_lines) _ refl) calling
+      sized may
+
+  all_kept : (name : HeapRoutineName) → IsKeptThere live procs (heap_routine at_end name)
+  all_kept Takes = takes_there
+  all_kept GivesBack = gives_there
+  all_kept FindsClass = finds_there
+  all_kept MovesBytes = moves_there
+  all_kept Grows = grows_there
+  all_kept Orders = order_kept live procs later_by _ (behind (routine ORDER 4 8 order_lines) _ refl)
 
 is_heap_runtime : MemoryLaw → IsHeapRuntime code
 is_heap_runtime law = record {
@@ -230,15 +267,30 @@ is_heap_runtime law = record {
     is_routine TAKE 1 6 take_lines (omega arith) (omega arith) (omega arith),
     (
       is_routine GIVE 1 6 give_lines (omega arith) (omega arith) (omega arith),
-      (is_routine CLASS 1 4 class_lines (omega arith) (omega arith) (omega arith), tt),
+      (
+        is_routine CLASS 1 4 class_lines (omega arith) (omega arith) (omega arith),
+        (
+          is_routine MOVE 3 7 move_lines (omega arith) (omega arith) (omega arith),
+          (
+            is_routine GROW 3 6 grow_lines (omega arith) (omega arith) (omega arith),
+            (is_routine ORDER 4 8 order_lines (omega arith) (omega arith) (omega arith), tt),
+          ),
+        ),
+      ),
     ),
   );
   rank = rank;
   ranked = (
-    calls_nothing (routine TAKE 1 6 take_lines) refl,
-    (calls_nothing (routine GIVE 1 6 give_lines) refl, (calls_nothing (routine CLASS 1 4 class_lines) refl, tt)),
+    calls_nothing (routine TAKE 1 6 take_lines) refl refl,
+    (
+      calls_nothing (routine GIVE 1 6 give_lines) refl refl,
+      (
+        calls_nothing (routine CLASS 1 4 class_lines) refl refl,
+        (calls_nothing (routine MOVE 3 7 move_lines) refl refl, (λ uncounted. omega arith, (calls_nothing (routine ORDER 4 8 order_lines) refl refl, tt))),
+      ),
+    ),
   );
-  chain = λ number. omega arith;
+  chain = rank_most;
   weight = omega arith;
   whole = ap (λ n. n % 4) statics_long;
   data_most = omega (arith, statics_long);

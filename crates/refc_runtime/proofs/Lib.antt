@@ -25,3 +25,9 @@ mod HeapKept
 mod HeapWhole
 mod Walks
 mod HeapUses
+mod Pieces
+mod MoveRuns
+mod GrowFacts
+mod GrowHead
+mod GrowRuns
+mod OrderRuns

@@ -241,3 +241,22 @@ module _ (m : Memory) (sized : Sized m) (b k : ℕ) where
   pub data_open : statics_at ≤ b → b + k ≤ statics_at + length m.statics → writable (as_state m) b k ≡ true
   unfolding statics
   data_open low high = (statics m sized).writes b k low high
+
+-- ---- nothing stands below where code begins
+
+part_low : (base : ℕ) (region : List ℕ) (b k : ℕ) → b < base → part_of base region b k ≡ None
+part_low base region b k less =
+    cond-false (lies_in base region b k) (Some (take k (drop (b - base) region))) None (false_from_ne_true (lies_in base region b k) (λ e.
+    let l = lies base region b k e in
+    let l0 = l.0 in
+    absurd (omega (arith, l0, less))))
+
+pub nothing_below : (m : Memory) (b k : ℕ) → b < code_at → bytes_at m b (suc k) ≡ None
+nothing_below m b k less =
+    cond-false (suc k == 0) (Some []) _ (ne_eqb (suc k) 0 (λ e. absurd (omega (arith, e))))
+    ∙ ap (λ o. or_else o (or_else (part_of statics_at m.statics b (suc k)) (or_else (part_of heap_at m.heap b (suc k)) (part_of stack_at m.places b (suc k)))))
+    (part_low code_at [] b (suc k) less)
+    ∙ ap (λ o. or_else o (or_else (part_of heap_at m.heap b (suc k)) (part_of stack_at m.places b (suc k))))
+    (part_low statics_at m.statics b (suc k) (omega (arith, less)))
+    ∙ ap (λ o. or_else o (part_of stack_at m.places b (suc k))) (part_low heap_at m.heap b (suc k) (omega (arith, less)))
+    ∙ part_low stack_at m.places b (suc k) (omega (arith, less))

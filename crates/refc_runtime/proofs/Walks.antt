@@ -1,5 +1,5 @@
 -- The walk finds the blocks of a heap.
-use Rattle.std.proofs.Common.{◌≡◌, ℕ, zero, suc, ◌+◌, ◌-◌, ◌/◌, ◌%◌, ◌^◌, ◌<◌, ◌≤◌, ◌⊎◌, inl, inr, List, [], ◌∷◌, ◌++◌, length, take, replicate, Some, Ok}
+use Rattle.std.proofs.Common.{◌≡◌, ℕ, zero, suc, ◌+◌, ◌-◌, ◌/◌, ◌%◌, ◌^◌, ◌<◌, ◌≤◌, inl, inr, List, [], ◌∷◌, ◌++◌, length, take, replicate, Some, Ok}
 use Rattle.std.proofs.Common.{Result}
 use Rattle.std.proofs.Common.{true, refl, sym, ap, ap₂, subst, ◌∙◌, ⊎_elim, arith, append_assoc, length-append, ne_eqb}
 use Rattle.std.specs.Prelude.{nat_lt, nat_le, ◌==◌, ◌&&◌, not, if◌then◌else◌}
@@ -10,7 +10,7 @@ use Rattle.nim_meaning.specs.Heap.{Class, size_count}
 use Rattle.rv32_isa.specs.Words.{little, word_bytes}
 use Rattle.rv32_isa.proofs.ForCallers.{length-word_bytes, little-word_bytes}
 use Rattle.word_code.specs.Memory.{Memory}
-use Rattle.refc_runtime.specs.HeapBlocks.{size_at, Holder, Nobody, Held, Block, kind_of, word_of, first_word, header, block_bytes, block_size, HasWords}
+use Rattle.refc_runtime.specs.HeapBlocks.{size_at, Holder, Nobody, Held, Block, kind_of, word_of, first_word, block_bytes, block_size, HasWords}
 use Rattle.refc_runtime.specs.HeapBlocks.{IsBlock, AreBlocks}
 use Rattle.refc_runtime.specs.HeapBlocks.{all_bytes, first_place, block_from, block_in}
 use Rattle.refc_runtime.specs.HeapState.{Standing, Stands, held_block, AreHeld, IsHeap}

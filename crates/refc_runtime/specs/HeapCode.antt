@@ -1,29 +1,21 @@
--- The code of the heap's routines and its data, and what they promise.
-use Rattle.std.specs.Prelude.{◌≡◌, ◌≤◌, ℕ, ◌+◌, ◌%◌, true, List, [], ◌∷◌, ◌++◌, length, replicate}
+-- The code of the heap's routines and its data. No public contract speaks of it.
+use Rattle.std.specs.Prelude.{ℕ, List, [], ◌∷◌, ◌++◌, length, replicate}
 use Rattle.rv32_isa.specs.declared.micro_op.Size.TheVariants.{Word as whole}
 use Rattle.rv32_isa.specs.Image.{statics_at, heap_at}
 use Rattle.rv32_isa.specs.Words.{word_bytes}
-use Rattle.rv32_isa.specs.Machine.{Lives}
-use Rattle.rv32_isa.specs.Regions.{HasRegions}
 use Rattle.nim_program.specs.Traps.{OutOfMemory}
-use Rattle.nim_meaning.specs.Heap.{heap_of, size_count}
-use Rattle.word_code.specs.declared.routine.TheConstants.{ROUTINE_CHAIN}
+use Rattle.nim_meaning.specs.Heap.{size_count}
 use Rattle.word_code.specs.declared.word.WordOperation.TheVariants as operation
 use Rattle.word_code.specs.declared.word.Test.TheVariants as test
 use Rattle.word_code.specs.declared.word.WordInstr.{WordInstr}
 use Rattle.word_code.specs.declared.word.WordInstr.TheVariants.{Label, Constant, Copy, Sum, Compute, Datum, Load, Store, Branch, Return}
 use Rattle.word_code.specs.declared.word.WordProc.{WordProc}
-use Rattle.word_code.specs.declared.word.WordCode.{WordCode}
-use Rattle.word_code.specs.Memory.{as_state}
 use Rattle.word_code.specs.RoutineTable.{trap_line}
-use Rattle.word_code.specs.Words.{are_procs, start}
-use Rattle.word_code.specs.Sizes.{AreRanked, word_weight}
-use Rattle.word_code.specs.Joined.{joined, AreApart}
-use Rattle.word_code.specs.Runtime.{AreRoutines, routines_at}
-use Rattle.refc_runtime.specs.declared.heap.TheConstants.{TAKE, GIVE, CLASS, HEAP_WORD_BYTES, HEADER_LESS, KIND_LESS, HEAP_WEIGHT, HEAP_DATA}
+use Rattle.refc_runtime.specs.declared.heap.TheConstants.{TAKE, GIVE, CLASS, HEAP_WORD_BYTES, HEADER_LESS, KIND_LESS}
+use Rattle.refc_runtime.specs.declared.texts.TheConstants.{MOVE, GROW, ORDER}
 use Rattle.refc_runtime.specs.Code.{routine, ending_lines}
-use Rattle.refc_runtime.specs.HeapState.{none_stands, IsHeap}
-use Rattle.refc_runtime.specs.HeapRoutines.{class_word, HeapRoutineName, heap_routine, IsKeptThere}
+use Rattle.refc_runtime.specs.TextCode.{move_lines, grow_lines, order_lines}
+use Rattle.refc_runtime.specs.HeapRoutines.{class_word}
 
 abbrev pub full_lines : List WordInstr
 full_lines = Label 1 ∷ ending_lines HEAP_WORD_BYTES (length (trap_line OutOfMemory))
@@ -111,29 +103,15 @@ class_lines =
     ∷ []
 
 abbrev pub heap_routines : List WordProc
-heap_routines = routine TAKE 1 6 take_lines ∷ routine GIVE 1 6 give_lines ∷ routine CLASS 1 4 class_lines ∷ []
+heap_routines =
+    routine TAKE 1 6 take_lines
+    ∷ routine GIVE 1 6 give_lines
+    ∷ routine CLASS 1 4 class_lines
+    ∷ routine MOVE 3 7 move_lines
+    ∷ routine GROW 3 6 grow_lines
+    ∷ routine ORDER 4 8 order_lines
+    ∷ []
 
 -- the heap's words, where no block was taken, and the line of the trap, up to a whole number of words
 abbrev pub heap_statics : List ℕ
 heap_statics = word_bytes heap_at ++ (replicate 88 0 ++ (trap_line OutOfMemory ++ 0 ∷ 0 ∷ 0 ∷ []))
-
--- ---- what is promised of it
-
-pub record IsHeapRuntime (code : WordCode) : Type 0 where
-  pub formed : are_procs code.procs ≡ true
-  pub routines : AreRoutines code.procs
-  -- each calls only what has a lower rank
-  pub rank : ℕ → ℕ
-  pub ranked : AreRanked rank code.procs
-  pub chain : (number : ℕ) → rank number ≤ ROUTINE_CHAIN
-  -- lines and procedures
-  pub weight : word_weight code.procs ≤ HEAP_WEIGHT
-  pub whole : length code.statics % 4 ≡ 0
-  pub data_most : length code.statics ≤ HEAP_DATA
-  -- before the first line no block was taken
-  pub starts : (program : WordCode) (heap stack : ℕ) (input : List ℕ) → length program.statics % 4 ≡ 0
-      → HasRegions (as_state (start (joined program code) heap stack input).memory)
-      → IsHeap (routines_at program) (heap_of heap).classes none_stands (start (joined program code) heap stack input).memory
-  -- whichever program it is joined with
-  pub kept : (live : Lives) (program : WordCode) → AreApart program.procs code.procs → length program.statics % 4 ≡ 0 → (name : HeapRoutineName)
-      → IsKeptThere live (joined program code).procs (heap_routine (routines_at program) name)

@@ -126,16 +126,7 @@ finds_class = record {
   lines = λ payload. CLASS_LINES + FURTHER_LINES * class_of payload;
 }
 
--- ---- all of them
-
-pub data HeapRoutineName : Type 0 where
-  Takes GivesBack FindsClass : HeapRoutineName
-
--- what each promises, where the heap's words begin at an address
-abbrev pub heap_routine : (at : ℕ) → HeapRoutineName → Routine
-heap_routine at Takes = takes at
-heap_routine at GivesBack = gives_back at
-heap_routine at FindsClass = finds_class
+-- ---- promises that are kept
 
 -- the promise is kept among these procedures, whoever calls it
 abbrev pub IsKeptThere : (live : Lives) (procs : List WordProc) → Routine → Type 0

@@ -9,9 +9,11 @@ ghost use Rattle.refc_runtime.specs.HeapState.{Standing, Stands, IsHeap};
 ghost use Rattle.refc_runtime.specs.HeapUse.{IsThere, AreDistant, IsRefilled, IsElsewhere};
 ghost use Rattle.refc_runtime.specs.Walk.{WalksRight};
 ghost use Rattle.refc_runtime.specs.HeapCode.{take_lines, give_lines, class_lines};
-ghost use Rattle.refc_runtime.specs.HeapCode.{heap_routines, heap_statics, IsHeapRuntime};
+ghost use Rattle.refc_runtime.specs.HeapCode.{heap_routines, heap_statics};
+ghost use Rattle.refc_runtime.specs.HeapRuntime.{IsHeapRuntime};
 
 use crate::routines::{branch, compute, constant, datum, load, routine, store, sum_with};
+use crate::texts::{grow_routine, move_routine, order_routine};
 use arc_base::{Bytes, Items, Memory, Stream};
 use rv32_isa::{HEAP_AT, STATICS_AT, Size, memories};
 use std::alloc::Global;
@@ -54,7 +56,10 @@ pub const HEADER_LESS: u32 = 4_294_967_288;
 pub const KIND_LESS: u32 = 4_294_967_168;
 
 /// How many lines and procedures the heap's routines have.
-pub const HEAP_WEIGHT: u32 = 66;
+pub const HEAP_WEIGHT: u32 = 139;
+
+/// How many of their calls may stand in a chain.
+pub const HEAP_CHAIN: u32 = 2;
 
 /// How many bytes of data they have.
 pub const HEAP_DATA: u32 = 116;
@@ -179,6 +184,9 @@ fn heap_routines(alloc: Global) -> Result<Items<WordProc>, Memory>
     procs.push(take_routine(alloc)?)?;
     procs.push(give_routine(alloc)?)?;
     procs.push(class_routine(alloc)?)?;
+    procs.push(move_routine(alloc)?)?;
+    procs.push(grow_routine(alloc)?)?;
+    procs.push(order_routine(alloc)?)?;
     Ok(procs)
 }
 
@@ -190,7 +198,7 @@ fn heap_data(alloc: Global) -> Result<Bytes, Memory>
     Ok(bytes)
 }
 
-/// The routines that take and give blocks of the heap.
+/// The routines that take, give and grow blocks of the heap, and copy and compare bytes.
 pub fn heap_runtime(alloc: Global) -> Result<WordCode, Memory>
     ensures { IfOk result (λ code. IsHeapRuntime code) }
 {

@@ -1,0 +1,209 @@
+-- What is true of blocks where one grows.
+use Rattle.std.proofs.Common.{◌≡◌, ◌≢◌, ℕ, zero, suc, ◌+◌, ◌*◌, ◌<◌, ◌≤◌, inl, inr, List, length, take, Some, refl, sym, ap}
+use Rattle.std.proofs.Common.{subst, ◌∙◌, ⊎_elim, arith, Bool, true, false}
+use Rattle.std.specs.Prelude.{nat_le, if◌then◌else◌}
+use Rattle.std.proofs.lemmas.Bool.{cases_lt}
+use Rattle.std.proofs.lemmas.List.{length-take}
+use Rattle.std.proofs.lemmas.Option.{same_Some}
+use Rattle.nim_types.specs.declared.blocks.TheConstants.{HEADER_BYTES}
+use Rattle.nim_meaning.specs.Heap.{Class, size_count, sizes_from, class_for}
+use Rattle.rv32_isa.specs.Image.{heap_at}
+use Rattle.word_code.specs.Memory.{Memory, bytes_at, may_fill}
+use Rattle.word_code.specs.RoutineTable.{Beside, IsRewritten}
+use Rattle.word_code.proofs.ForCallers.{Sized, sizes_more}
+use Rattle.refc_runtime.specs.HeapBlocks.{size_at}
+use Rattle.refc_runtime.specs.HeapState.{Standing, Stands, with_block, IsHeap}
+use Rattle.refc_runtime.specs.HeapUse.{IsThere, AreDistant, IsRefilled}
+use Rattle.refc_runtime.specs.HeapRoutines.{class_of, IsBesideHeap}
+use Rattle.refc_runtime.specs.TextRoutines.{AreBytes, Copying, MayCopy, AreThere}
+use Rattle.refc_runtime.proofs.BlockLists.{if_same, size_some}
+use Rattle.refc_runtime.proofs.HeapUses.{is_there, distant, refilled}
+use Rattle.refc_runtime.proofs.ClassRuns.{later_size, this_size}
+use Rattle.refc_runtime.proofs.Ranges.{written_in, part_read, part_written}
+
+-- ---- the size for a payload
+
+sizes_few : (payload n size : ℕ) → class_for payload (sizes_from n size) ≤ n
+sizes_few payload zero size = omega arith
+sizes_few payload (suc n) size = by (nat_le (payload + HEADER_BYTES) size) (sizes_few payload n (2 * size))
+  where
+    by : (b : Bool) → class_for payload (sizes_from n (2 * size)) ≤ n → (if b then 0 else suc (class_for payload (sizes_from n (2 * size)))) ≤ suc n
+    by true h = omega arith
+    by false h = omega (arith, h)
+
+pub class_few : (payload : ℕ) → class_of payload ≤ size_count
+class_few payload = sizes_few payload size_count 16
+
+size_holds : (payload n class : ℕ) → class_for payload (sizes_from n (size_at class)) < n
+    → payload + HEADER_BYTES ≤ size_at (class_for payload (sizes_from n (size_at class)) + class)
+size_holds payload zero class less = absurd (omega (arith, less))
+size_holds payload (suc n) class less = ⊎_elim
+    (λ h. let e = later_size payload n class h in further e (size_holds payload n (suc class) (omega (arith, e, less)))) here
+    (cases_lt (size_at class) (payload + HEADER_BYTES))
+  where
+    here : payload + HEADER_BYTES ≤ size_at class → payload + HEADER_BYTES ≤ size_at (class_for payload (sizes_from (suc n) (size_at class)) + class)
+    here h =
+        let e = this_size payload n class h in
+        let i : class_for payload (sizes_from (suc n) (size_at class)) + class ≡ class = omega (arith, e) in
+        let s : size_at (class_for payload (sizes_from (suc n) (size_at class)) + class) ≡ size_at class = ap size_at i in
+        omega (arith, h, s)
+
+    further : class_for payload (sizes_from (suc n) (size_at class)) ≡ suc (class_for payload (sizes_from n (size_at (suc class))))
+        → payload + HEADER_BYTES ≤ size_at (class_for payload (sizes_from n (size_at (suc class))) + suc class)
+        → payload + HEADER_BYTES ≤ size_at (class_for payload (sizes_from (suc n) (size_at class)) + class)
+    further e h =
+        let i : class_for payload (sizes_from (suc n) (size_at class)) + class ≡ class_for payload (sizes_from n (size_at (suc class))) + suc class
+        = omega (arith, e) in
+        let s : size_at (class_for payload (sizes_from (suc n) (size_at class)) + class)
+        ≡ size_at (class_for payload (sizes_from n (size_at (suc class))) + suc class) = ap size_at i in
+        omega (arith, h, s)
+
+pub class_holds : (payload : ℕ) → class_of payload < size_count → payload + HEADER_BYTES ≤ size_at (class_of payload)
+class_holds payload less =
+    let h = size_holds payload size_count 0 less in
+    let s : size_at (class_of payload + 0) ≡ size_at (class_of payload) = (let i : class_of payload + 0 ≡ class_of payload = omega arith in ap size_at i) in
+    omega (arith, h, s)
+
+-- ---- the same blocks
+
+pub same_stands : (at : ℕ) (classes : List Class) (stands others : Stands) (m : Memory) → ((k : ℕ) → others k ≡ stands k)
+    → IsHeap at classes stands m → IsHeap at classes others m
+same_stands at classes stands others m same h = record {
+  blocks = h.blocks;
+  frees = h.frees;
+  spare = h.spare;
+  kept = record {
+    all = h.kept.all;
+    held = record {
+      there = λ k s e. h.kept.held.there k s (sym (same k) ∙ e);
+      only = λ k s e. same k ∙ h.kept.held.only k s e;
+    };
+    linked = h.kept.linked;
+    counted = h.kept.counted;
+    sizes = h.kept.sizes;
+    demanded = h.kept.demanded;
+  };
+  none = h.none;
+  bytes = h.bytes;
+  words = h.words;
+  room = h.room;
+  next = h.next;
+  heads = h.heads;
+}
+
+-- ---- changes of memory
+
+pub beside_more : (at : ℕ) (m middle other : Memory) → IsBesideHeap at m middle → IsBesideHeap at middle other → IsBesideHeap at m other
+beside_more at m middle other x y = record {
+  sizes = sizes_more m middle other x.sizes y.sizes;
+  beside = λ b n words heap.
+      let same = x.sizes.heap in
+      y.beside b n words (subst (λ l. Beside b n heap_at l) (sym same) heap) ∙ x.beside b n words heap;
+}
+
+pub beside_heap : (at : ℕ) (m other : Memory) (a n : ℕ) → heap_at ≤ a → a + n ≤ heap_at + length m.heap → IsRewritten m other a n → IsBesideHeap at m other
+beside_heap at m other a n low high x = record { sizes = x.sizes; beside = λ b k words heap. x.beside b k (sides b k heap) }
+  where
+    sides : (b k : ℕ) → Beside b k heap_at (length m.heap) → Beside b k a n
+    sides b k (inl h) = inl (omega (arith, h, low))
+    sides b k (inr h) = inr (omega (arith, h, high))
+
+-- ---- the kept bytes are copied from one block to another
+
+module _ (at : ℕ) (classes : List Class) (stands : Stands) (m : Memory) (h : IsHeap at classes stands m) (sized : Sized m) (j k : ℕ) (s t : Standing)
+    (a : stands j ≡ Some s) (b : stands k ≡ Some t) (other : j ≢ k) (kept : ℕ) (few : kept ≤ length s.payload) (fewer : kept ≤ length t.payload)
+    (are : AreBytes (take kept s.payload)) where
+  there_s : IsThere m s
+  there_s = is_there at classes stands m h j s a sized
+
+  there_t : IsThere m t
+  there_t = is_there at classes stands m h k t b sized
+
+  abbrev pub copying : Copying
+  copying = record { to = t.place; from = s.place; bytes = take kept s.payload }
+
+  pub kept_long : length (take kept s.payload) ≡ kept
+  kept_long = length-take kept s.payload ∙ omega (arith, few)
+
+  -- bytes at the front of a payload
+  fronts : (x : Standing) (there : IsThere m x) (n : ℕ) → n ≤ length x.payload → bytes_at m x.place n ≡ Some (take n x.payload)
+  fronts x there n within = by (length x.payload) refl within
+    where
+      zero_at : x.place ≡ x.place + 0
+      zero_at = omega arith
+
+      by : (l : ℕ) → length x.payload ≡ l → n ≤ l → bytes_at m x.place n ≡ Some (take n x.payload)
+      by l e few =
+          let w = there.whole in
+          let low = there.low in
+          let some = size_some x.class in
+          let r = written_in m sized x.place (length x.payload) (omega (arith, w, some)) there.may in
+          ap (λ p. bytes_at m p n) zero_at ∙ part_read m sized x.place (length x.payload) x.payload r there.bytes 0 n (omega (arith, e, few))
+
+  pub may_copy : MayCopy copying m
+  may_copy =
+      let wt = there_t.whole in
+      let some = size_some t.class in
+      let room = written_in m sized t.place (length t.payload) (omega (arith, wt, some)) there_t.may in
+      let l = kept_long in
+      let hs = there_s.high in
+      let ht = there_t.high in
+      let most = sized.heap_most in
+      let zero_at : t.place ≡ t.place + 0 = omega arith in
+      record {
+        are = are;
+        here = ap (bytes_at m s.place) l ∙ fronts s there_s kept few;
+        may = ap (may_fill m t.place) l ∙ ap (λ p. may_fill m p kept) zero_at
+            ∙ part_written m sized t.place (length t.payload) room 0 kept (omega (arith, fewer));
+        apart = sides (distant at classes stands m h j k s t a b other);
+        to_word = omega (arith, ht, most);
+        from_word = omega (arith, hs, most);
+      }
+    where
+      sides : AreDistant s t → Beside t.place (length (take kept s.payload)) s.place (length (take kept s.payload))
+      sides (inl d) = let l = kept_long in inr (omega (arith, d, l, few))
+      sides (inr d) = let l = kept_long in inl (omega (arith, d, l, fewer))
+
+  -- what comes of it
+  module _ (after : Memory) (done : AreThere copying m after) (sized_after : Sized after) where
+    pub refill : IsRefilled at classes stands k t after
+    refill =
+        let l = kept_long in
+        let zero_at : t.place ≡ t.place + 0 = omega arith in
+        refilled at classes stands m h sized after sized_after k t 0 (length (take kept s.payload)) b (omega (arith, l, fewer))
+        (subst (λ p. IsRewritten m after p (length (take kept s.payload))) zero_at done.rewritten)
+
+    abbrev pub new_payload : List ℕ
+    new_payload = refill.payload
+
+    abbrev pub now : Standing
+    now = record { place = t.place; class = t.class; kind = t.kind; word = t.word; payload = new_payload }
+
+    pub new_long : length new_payload ≡ length t.payload
+    new_long = refill.long
+
+    pub heap_then : IsHeap at classes (with_block stands k now) after
+    heap_then = refill.heap
+
+    there_now : IsThere after now
+    there_now = is_there at classes (with_block stands k now) after heap_then k now (if_same k k (Some now) (stands k) refl) sized_after
+
+    pub new_front : take kept new_payload ≡ take kept s.payload
+    new_front =
+        let l = kept_long in
+        let w = there_now.whole in
+        let some = size_some t.class in
+        let n = new_long in
+        let r = written_in after sized_after t.place (length new_payload) (omega (arith, w, some)) there_now.may in
+        let zero_at : t.place ≡ t.place + 0 = omega arith in
+        let front : bytes_at after t.place kept ≡ Some (take kept new_payload)
+        = ap (λ p. bytes_at after p kept) zero_at
+        ∙ part_read after sized_after t.place (length new_payload) new_payload r there_now.bytes 0 kept (omega (arith, fewer, n)) in
+        same_Some (take kept new_payload) (take kept s.payload) (sym front ∙ ap (bytes_at after t.place) (sym l) ∙ done.there)
+
+    pub rest_then : IsBesideHeap at m after
+    rest_then =
+        let l = kept_long in
+        let low = there_t.low in
+        let high = there_t.high in
+        beside_heap at m after t.place (length (take kept s.payload)) (omega (arith, low)) (omega (arith, high, l, fewer)) done.rewritten

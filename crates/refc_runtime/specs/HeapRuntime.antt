@@ -1,0 +1,52 @@
+-- What the routines of the heap promise, as word code with which a program's is joined.
+use Rattle.std.specs.Prelude.{◌≡◌, ◌≤◌, ℕ, ◌%◌, true, List, length}
+use Rattle.rv32_isa.specs.Machine.{Lives}
+use Rattle.rv32_isa.specs.Regions.{HasRegions}
+use Rattle.nim_meaning.specs.Heap.{heap_of}
+use Rattle.word_code.specs.declared.word.WordCode.{WordCode}
+use Rattle.word_code.specs.Memory.{as_state}
+use Rattle.word_code.specs.Words.{are_procs, start}
+use Rattle.word_code.specs.Sizes.{AreRanked, word_weight}
+use Rattle.word_code.specs.Joined.{joined, AreApart}
+use Rattle.word_code.specs.Runtime.{AreRoutines, routines_at}
+use Rattle.refc_runtime.specs.declared.heap.TheConstants.{HEAP_WEIGHT, HEAP_DATA, HEAP_CHAIN}
+use Rattle.refc_runtime.specs.HeapState.{none_stands, IsHeap}
+use Rattle.refc_runtime.specs.HeapRoutines.{takes, gives_back, finds_class, IsKeptThere}
+use Rattle.refc_runtime.specs.TextRoutines.{moves_bytes, orders}
+use Rattle.refc_runtime.specs.GrowRoutine.{grows}
+use Rattle.word_code.specs.Routines.{Routine}
+
+-- ---- the routines that there are
+
+pub data HeapRoutineName : Type 0 where
+  Takes GivesBack FindsClass MovesBytes Grows Orders : HeapRoutineName
+
+-- what each promises, where the heap's words begin at an address
+abbrev pub heap_routine : (at : ℕ) → HeapRoutineName → Routine
+heap_routine at Takes = takes at
+heap_routine at GivesBack = gives_back at
+heap_routine at FindsClass = finds_class
+heap_routine at MovesBytes = moves_bytes
+heap_routine at Grows = grows at
+heap_routine at Orders = orders
+
+-- ---- what is promised of it
+
+pub record IsHeapRuntime (code : WordCode) : Type 0 where
+  pub formed : are_procs code.procs ≡ true
+  pub routines : AreRoutines code.procs
+  -- each calls only what has a lower rank
+  pub rank : ℕ → ℕ
+  pub ranked : AreRanked rank code.procs
+  pub chain : (number : ℕ) → rank number ≤ HEAP_CHAIN
+  -- lines and procedures
+  pub weight : word_weight code.procs ≤ HEAP_WEIGHT
+  pub whole : length code.statics % 4 ≡ 0
+  pub data_most : length code.statics ≤ HEAP_DATA
+  -- before the first line no block was taken
+  pub starts : (program : WordCode) (heap stack : ℕ) (input : List ℕ) → length program.statics % 4 ≡ 0
+      → HasRegions (as_state (start (joined program code) heap stack input).memory)
+      → IsHeap (routines_at program) (heap_of heap).classes none_stands (start (joined program code) heap stack input).memory
+  -- whichever program it is joined with
+  pub kept : (live : Lives) (program : WordCode) → AreApart program.procs code.procs → length program.statics % 4 ≡ 0 → (name : HeapRoutineName)
+      → IsKeptThere live (joined program code).procs (heap_routine (routines_at program) name)
