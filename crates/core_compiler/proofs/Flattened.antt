@@ -23,8 +23,8 @@ use Rattle.program_limits.specs.Limits.{program_in}
 use Rattle.flattening.specs.Counted.{program_parts, times, program_times}
 use Rattle.flattening.specs.Flattened.{known_of, code_of, flat_meaning, IsExact}
 use Rattle.flattening.specs.Given.{flat_procs, flat_of}
-use Rattle.flattening.specs.Alike.{AllAlike}
-use Rattle.flattening.specs.PlainCode.{ArePlainProcs}
+use Rattle.flat_code.specs.Alike.{AllAlike}
+use Rattle.flat_code.specs.PlainCode.{ArePlainProcs}
 use Rattle.core_compiler.specs.Stages.{ShowsSame, IsFlatOf}
 use Rattle.core_compiler.proofs.ProgramTexts.{distinct_most}
 use Rattle.core_compiler.proofs.TableNames.{names_count}

@@ -9,7 +9,7 @@ use Rattle.nim_program.specs.declared.expr.Node.{Node}
 use Rattle.nim_program.specs.Program.{Declared, Param, Body, Proc, Program}
 use Rattle.nim_program.specs.Sizes.{body_sum}
 use Rattle.nim_meaning.specs.LeftOut.{◌or_then◌, out_if, earlier, first_left_out}
-use Rattle.flattening.specs.PlainCode.{sum_if, SumsWithin}
+use Rattle.flattening.specs.BodySums.{sum_if, SumsWithin}
 use Rattle.program_limits.specs.Data.{data_counted}
 use Rattle.program_limits.specs.Frames.{body_fault, proc_fault, procs_fault, start_fault, frame_fault, unless_fault, frame_limits}
 use Rattle.program_limits.specs.Limits.{unless_left_out, unless_large, data_limits, tree_limits}

@@ -15,8 +15,8 @@ use Rattle.flat_code.specs.declared.place.PlaceKind.TheVariants as K
 use Rattle.flat_code.specs.Fits.{Signature, is_value, is_location, is_global, place_named}
 use Rattle.flat_code.specs.Scene.{known_in}
 use Rattle.flat_code.specs.Sizes.{kind_bytes, places_bytes}
-use Rattle.flattening.specs.PlainCode.{is_counter, is_temporary, has_hooks, gets_text, IsPlainPlace, ArePlainPlaces, no_globals, params_among, handed_among}
-use Rattle.flattening.specs.PlainCode as plain
+use Rattle.flat_code.specs.PlainCode.{is_counter, is_temporary, has_hooks, gets_text, IsPlainPlace, ArePlainPlaces, no_globals, params_among, handed_among}
+use Rattle.flat_code.specs.PlainCode as plain
 use Rattle.flattening.proofs.ForCallers.{bytes_least}
 use Rattle.word_lowering.specs.declared.homes.Alias.{Alias}
 use Rattle.word_lowering.specs.declared.homes.Alias.TheVariants.{Own, Place, Value, Text}

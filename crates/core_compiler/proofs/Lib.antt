@@ -12,6 +12,7 @@ mod TableNames
 mod FrameSums
 mod LineNames
 mod LinesAgree
+mod LinesPlain
 mod LayoutRooms
 mod EnumMembers
 mod MayLower

@@ -10,7 +10,7 @@ use Rattle.flat_code.specs.declared.line.Piece.{Piece}
 use Rattle.flat_code.specs.declared.line.Piece.TheVariants as P
 use Rattle.flat_code.specs.Codes.{under, owned_plain}
 use Rattle.flat_code.specs.Whole.{label_in}
-use Rattle.flattening.specs.Alike.{value_name, location_name, label_name, name_of, is_one_text, gives_text, is_named}
+use Rattle.flat_code.specs.Alike.{value_name, location_name, label_name, name_of, is_one_text, gives_text, is_named}
 use Rattle.word_lowering.specs.declared.homes.Alias.TheVariants.{Own}
 use Rattle.word_lowering.specs.Aliases.{value_to, location_to, text_in, text_alias, alias_by, is_it}
 

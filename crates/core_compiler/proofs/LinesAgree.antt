@@ -12,6 +12,7 @@ use Rattle.nim_program.specs.declared.operation.Use.{Use}
 use Rattle.nim_program.specs.Kinds.{is_of}
 use Rattle.nim_program.specs.Program.{Doing}
 use Rattle.nim_meaning.specs.LeftOut.{writes_literals}
+use Rattle.nim_meaning.specs.Shapes.{is_lent}
 use Rattle.nim_meaning.specs.Values.{Fixed}
 use Rattle.flat_code.specs.declared.line.Line.{Line}
 use Rattle.flat_code.specs.declared.line.Line.TheVariants as L
@@ -24,14 +25,14 @@ use Rattle.flat_code.specs.Fits.{Signature, is_value, is_location, place_named, 
 use Rattle.flat_code.specs.Pieces.{are_one}
 use Rattle.flat_code.specs.Scene.{known_in}
 use Rattle.flat_code.specs.Shapes.{shape_of, has_shape}
-use Rattle.flattening.specs.Alike.{value_name, location_name, name_of, is_one_text, gives_text, IsProperty, is_named, is_as as has_as, gives_as, AreAlike}
-use Rattle.flattening.specs.PlainCode.{is_counter, has_hooks, any_has_hooks, gets_text, ReadsPlain, ReadPlain}
+use Rattle.flat_code.specs.Alike.{value_name, location_name, name_of, is_one_text, gives_text, IsProperty, is_named, is_as as has_as, gives_as, AreAlike}
+use Rattle.flat_code.specs.PlainCode.{is_counter, has_hooks, any_has_hooks, gets_text, ReadsPlain, ReadPlain}
 use Rattle.word_lowering.specs.declared.homes.Alias.{Alias}
 use Rattle.word_lowering.specs.declared.homes.Alias.TheVariants.{Own, Place, Value, Text}
 use Rattle.word_lowering.specs.declared.homes.Housed.{Housed}
-use Rattle.word_lowering.specs.Aliases.{value_to, location_to, alias_by, alias_in, is_it, texts_of}
+use Rattle.word_lowering.specs.Aliases.{value_to, location_to, alias_by, alias_in, is_it, text_in, texts_of}
 use Rattle.word_lowering.specs.Lookups.{found}
-use Rattle.word_lowering.specs.MayLower.{is_text, same_alias, is_as, is_echo, any_hooked, reads_plain, lines_may}
+use Rattle.word_lowering.specs.MayLower.{is_text, same_alias, is_as, is_echo, any_hooked, lends, reads_plain, lines_may}
 use Rattle.core_compiler.proofs.LineNames.{named, own_value, same_place}
 
 pub never : {A : Type 0} → false ≡ true → A
@@ -108,6 +109,12 @@ module _ (table : List TypeDef) where
   reads : (line : Line) → ReadsPlain (known_in table) line → reads_plain table line ≡ true
   reads (L.Apply to operation how ty of from) (inl e) = or_left (is_echo operation) (not (any_hooked table of)) (echoes operation e)
   reads (L.Apply to operation how ty of from) (inr e) = or_right (is_echo operation) (not (any_hooked table of)) (ap not (none_hooked of e))
+  reads (L.Constant to how ty pieces) h = reads_constant pieces how h
+    where
+      reads_constant : (pieces : List Piece) (how : Use) → (is_one_text pieces ≡ false) ⊎ (is_lent how ≡ true) → lends (text_in pieces) how ≡ true
+      reads_constant (P.Text text ∷ []) how (inl e) = never (sym e)
+      reads_constant (P.Text text ∷ []) how (inr e) = e
+      reads_constant pieces how h = refl
   reads line h = refl
 
   -- ---- the first line that gives a temporary, and all others

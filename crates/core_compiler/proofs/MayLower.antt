@@ -20,9 +20,9 @@ use Rattle.flat_code.specs.Running.{before_last}
 use Rattle.flat_code.specs.Scene.{Known, known_in}
 use Rattle.flat_code.specs.Sizes.{data_bytes}
 use Rattle.flat_code.specs.Whole.{label_in}
-use Rattle.flattening.specs.Alike.{value_name, location_name, label_name, name_of, gives_text, IsProperty, is_named, is_as, gives_as, AreAlike, AllAlike}
-use Rattle.flattening.specs.PlainCode.{has_hooks, is_temporary, gets_text, IsPlainPlace, ArePlainPlaces, ReadsPlain, ReadPlain}
-use Rattle.flattening.specs.PlainCode.{is_none, IsPlainProc, ArePlainProcs}
+use Rattle.flat_code.specs.Alike.{value_name, location_name, label_name, name_of, gives_text, IsProperty, is_named, is_as, gives_as, AreAlike, AllAlike}
+use Rattle.flat_code.specs.PlainCode.{has_hooks, is_temporary, gets_text, IsPlainPlace, ArePlainPlaces, ReadsPlain, ReadPlain}
+use Rattle.flat_code.specs.PlainCode.{is_none, IsPlainProc, ArePlainProcs}
 use Rattle.word_lowering.specs.declared.may_lower.TheConstants.{MOST_ROOM, MOST_VARS, MOST_DATA}
 use Rattle.word_lowering.specs.declared.texts.TheConstants.{FIXED_BYTES}
 use Rattle.word_code.specs.declared.word.TheConstants.{SPARE_ROOM, MOST_ARGUMENTS}

@@ -28,9 +28,9 @@ use Rattle.word_code.specs.Words.{word_meaning, is_word_code, have_no_hooks, Fre
 use Rattle.flat_runner.specs.Mean.{by_units}
 use Rattle.program_limits.specs.Frames.{beginning}
 use Rattle.flattening.specs.declared.laws.TheConstants.{FLAT_PACE, NODE_WEIGHT}
-use Rattle.flattening.specs.Alike.{AllAlike}
+use Rattle.flat_code.specs.Alike.{AllAlike}
 use Rattle.flattening.specs.Counted.{program_parts}
-use Rattle.flattening.specs.PlainCode.{ArePlainProcs}
+use Rattle.flat_code.specs.PlainCode.{ArePlainProcs}
 use Rattle.program_limits.specs.Data.{data_counted}
 use Rattle.rv32_codegen.specs.declared.label_code.TheConstants.{BYTES_OF_LINE, CODE_PACE}
 use Rattle.rv32_codegen.specs.declared.layout.TheConstants.{LAYOUT_PACE, MOST_CODE_BYTES}

@@ -1,5 +1,5 @@
 -- The whole section, by the answers to its parts.
-use Rattle.std.proofs.Common.{◌≡◌, List, [], length, sym, ap, ap₂, append-nil, ◌∙◌}
+use Rattle.std.proofs.Common.{ℕ, ◌≡◌, List, [], length, sym, ap, ap₂, append-nil, ◌∙◌}
 use Rattle.std.specs.Prelude.{Ok, Err, Result}
 use Rattle.arc_base.specs.declared.place.Stop.{Stop}
 use Rattle.arc_base.specs.declared.place.Stop.TheVariants as stop
@@ -40,10 +40,10 @@ sized_behind st all s _ = and_then (all_sized st all s) (λ _. Ok (known_env st 
 abbrev pub contained_behind : State → List Declaration → Section → Answer Env
 contained_behind st all s = and_then (containment_rule s.defined s.defined) (sized_behind st all s)
 
-pub whole_is : (ts : List Ty) (st : State) (all : List Declaration) (old : List Decl) (frame : Frame) (ds : List TypeDef) (scope : Scope)
-    (reading : Reading) (s : Section) → Framed ts st all old frame → StageOf ts st all old frame ds scope reading s
-    → length reading.read.items ≡ length all → Whole ts frame.types (length all) (keys_of all) reading.read.items
-whole_is ts st all old frame ds scope reading s f g count = record {
+pub whole_is : (ts : List Ty) (st : State) (all : List Declaration) (old : List Decl) (n : ℕ) (frame : Frame) (ds : List TypeDef) (scope : Scope)
+    (reading : Reading) (s : Section) → Framed ts st all old n frame → StageOf ts st all old n ds scope reading s
+    → length reading.read.items ≡ length all → Whole ts n (length all) (keys_of all) reading.read.items
+whole_is ts st all old n frame ds scope reading s f g count = record {
   reads = g.reads;
   count = count ∙ sym (keys_count all);
   away = f.fixed.away;
@@ -52,20 +52,21 @@ whole_is ts st all old frame ds scope reading s f g count = record {
 }
 
 -- names that are known don't occur in the types of before
-pub section_untouched : (ts : List Ty) (st : State) (all : List Declaration) (old : List Decl) (frame : Frame) (ds : List TypeDef) (scope : Scope)
-    (reading : Reading) (s : Section) → Framed ts st all old frame → StageOf ts st all old frame ds scope reading s
-    → Untouched ts frame.types (meaning_by (known_of (keys_of all) s.defined))
-section_untouched ts st all old frame ds scope reading s f g =
+pub section_untouched : (ts : List Ty) (st : State) (all : List Declaration) (old : List Decl) (n : ℕ) (frame : Frame) (ds : List TypeDef) (scope : Scope)
+    (reading : Reading) (s : Section) → Framed ts st all old n frame → StageOf ts st all old n ds scope reading s
+    → Untouched ts n (meaning_by (known_of (keys_of all) s.defined))
+section_untouched ts st all old n frame ds scope reading s f g =
     f.fixed.away.untouched (meaning_by (known_of (keys_of all) s.defined)) (λ key out. ap (or_name key) (g.scoped.knows.only key out))
 
 -- a type that contains itself
-pub section_contained : {T : Type 0} (ts : List Ty) (st : State) (all : List Declaration) (old : List Decl) (frame : Frame) (ds : List TypeDef) (scope : Scope)
+pub section_contained : {T : Type 0} (ts : List Ty) (st : State) (all : List Declaration) (old : List Decl) (n : ℕ) (frame : Frame) (ds : List TypeDef)
+    (scope : Scope)
     (reading : Reading) (s : Section) (of : T → Env) (stop : Stop) → declarations_rule st all none_read all ≡ Ok s
-    → StageOf ts st all old frame ds scope reading s
+    → StageOf ts st all old n ds scope reading s
     → Answers {T = Unit {0}} (λ _. tt) (containment_rule (all_defined ts (keys_of all) reading.read.items) (all_defined ts (keys_of all) reading.read.items))
     (Err stop)
     → Answers of (section_rule st all) (Err stop)
-section_contained ts st all old frame ds scope reading s of stop e g h =
+section_contained ts st all old n frame ds scope reading s of stop e g h =
     answers_as of (section_rule st all) (contained_behind st all s) (Err stop) (ap (λ z. and_then z (contained_behind st all)) e)
     (stops of (λ (_ : Unit {0}). tt) (containment_rule s.defined s.defined) (sized_behind st all s) stop
     (answers_as (λ (_ : Unit {0}). tt) (containment_rule s.defined s.defined)
@@ -78,16 +79,16 @@ answers_env said env (Ok u) h = ap (λ z. and_then z (λ _. Ok env)) h
 answers_env said env (Err s) h = stops (λ (_ : Unit {0}). env) (λ (_ : Unit {0}). tt) said (λ _. Ok env) s h
 
 -- a type that is too large, or what is declared behind the section
-pub section_sized : (ts : List Ty) (st : State) (all : List Declaration) (old : List Decl) (frame : Frame) (ds es : List TypeDef) (scope : Scope)
-    (reading : Reading) (s : Section) (r : Result (Unit {0}) Stop) → declarations_rule st all none_read all ≡ Ok s → Framed ts st all old frame
-    → StageOf ts st all old frame ds scope reading s → facts_in es ≡ facts_in ds
+pub section_sized : (ts : List Ty) (st : State) (all : List Declaration) (old : List Decl) (n : ℕ) (frame : Frame) (ds es : List TypeDef) (scope : Scope)
+    (reading : Reading) (s : Section) (r : Result (Unit {0}) Stop) → declarations_rule st all none_read all ≡ Ok s → Framed ts st all old n frame
+    → StageOf ts st all old n ds scope reading s → facts_in es ≡ facts_in ds
     → containment_rule (all_defined ts (keys_of all) reading.read.items) (all_defined ts (keys_of all) reading.read.items) ≡ Ok tt
     → Answers (λ _. tt) (sizes_rule (facts_in es) (known_of (keys_of all) s.defined) (all_defined ts (keys_of all) reading.read.items)) r
     → Answers (λ (_ : Unit {0}). env_of ts (facts_in es) scope) (section_rule st all) r
-section_sized ts st all old frame ds es scope reading s r e f g grown contained h =
+section_sized ts st all old n frame ds es scope reading s r e f g grown contained h =
     let k = known_of (keys_of all) s.defined in
     let here = scoped_grown ts st all old reading.known.items k s.members ds es scope grown g.scoped in
-    let is = env_is ts st all old frame.names frame.types reading.known.items k s es scope f.fixed here in
+    let is = env_is ts st all old frame.names n reading.known.items k s es scope f.fixed here in
     let sized : all_sized st all s ≡ sizes_rule (facts_in es) k (all_defined ts (keys_of all) reading.read.items) =
     ap₂ (λ fs ds. sizes_rule fs k ds) (sym here.facts) g.defined in
     let rule : section_rule st all

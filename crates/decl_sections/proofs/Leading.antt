@@ -1,5 +1,5 @@
 -- The next definition: what stops it, and what is behind it.
-use Rattle.std.proofs.Common.{◌≡◌, List, [], ◌∷◌, ◌++◌, sym, ap, ap₂, ◌∙◌}
+use Rattle.std.proofs.Common.{ℕ, ◌≡◌, List, [], ◌∷◌, ◌++◌, sym, ap, ap₂, ◌∙◌}
 use Rattle.std.specs.Prelude.{Ok, Err}
 use Rattle.arc_base.specs.declared.place.Stop.{Stop}
 use Rattle.arc_base.specs.declared.place.Stop.TheVariants as stop
@@ -82,23 +82,23 @@ rest_stops T st all from s d rest stop.Memory e h = tt
 
 -- ---- by what has been read
 
-pub stage_declared : (ts : List Ty) (st : State) (all : List Declaration) (old : List Decl) (frame : Frame) (ds : List TypeDef) (scope : Scope)
-    (reading : Reading) (s : Section) (declared : Seen) → Framed ts st all old frame → StageOf ts st all old frame ds scope reading s
+pub stage_declared : (ts : List Ty) (st : State) (all : List Declaration) (old : List Decl) (n : ℕ) (frame : Frame) (ds : List TypeDef) (scope : Scope)
+    (reading : Reading) (s : Section) (declared : Seen) → Framed ts st all old n frame → StageOf ts st all old n ds scope reading s
     → declared.outside ≡ reading.declared.outside → declared.start ≡ reading.declared.start → IsDeclared st declared scope
-stage_declared ts st all old frame ds scope reading s declared f g o e =
+stage_declared ts st all old n frame ds scope reading s declared f g o e =
     declared_is ts st all old g.scoped.seen reading.known.items s.members declared scope f.fixed.entries f.fixed.outside g.scoped.decls g.scoped.shown
     g.fresh (o ∙ g.begins) (e ∙ g.starts)
 
 -- the rule of what a definition says, by the scope
-pub said_by_scope : (ts : List Ty) (st : State) (all : List Declaration) (old : List Decl) (frame : Frame) (ds mid : List TypeDef) (scope : Scope)
-    (reading : Reading) (s : Section) (d : Declaration) → Framed ts st all old frame → StageOf ts st all old frame ds scope reading s → Grown ds mid
+pub said_by_scope : (ts : List Ty) (st : State) (all : List Declaration) (old : List Decl) (n : ℕ) (frame : Frame) (ds mid : List TypeDef) (scope : Scope)
+    (reading : Reading) (s : Section) (d : Declaration) → Framed ts st all old n frame → StageOf ts st all old n ds scope reading s → Grown ds mid
     → Under mid ts (facts_in mid)
     → said_rule st all s d
     ≡ said_by (later (env_of ts (facts_in mid) scope)) (names_env_of ts (st.env.facts ++ []) (keys_of all) frame.names scope) d.body
-said_by_scope ts st all old frame ds mid scope reading s d f g grown u =
+said_by_scope ts st all old n frame ds mid scope reading s d f g grown u =
     let k = known_of (keys_of all) s.defined in
     let here = scoped_grown ts st all old reading.known.items k s.members ds mid scope (grown.under ts (facts_in mid) u).said g.scoped in
     let count = known_count ts (keys_of all) k reading.known.items here.knows ∙ keys_count all in
     ap₂ (λ (known names : Env). said_by (later known) names d.body)
-    (sym (env_is ts st all old frame.names frame.types reading.known.items k s mid scope f.fixed here))
-    (sym (names_env_is ts st all old frame.names frame.types reading.known.items k s mid scope f.fixed here count))
+    (sym (env_is ts st all old frame.names n reading.known.items k s mid scope f.fixed here))
+    (sym (names_env_is ts st all old frame.names n reading.known.items k s mid scope f.fixed here count))

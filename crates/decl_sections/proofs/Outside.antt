@@ -21,19 +21,11 @@ use Rattle.decl_types.specs.ViewScoped.{own_in, numbers_by, decls_by, type_decl}
 use Rattle.decl_types.proofs.ForCallers.{keys_count, known_count, number_behind}
 use Rattle.decl_sections.specs.declared.starting.Frame.{Frame}
 use Rattle.decl_sections.specs.declared.starting.Reading.{Reading}
-use Rattle.decl_sections.specs.ViewSpelled.{Outer}
+use Rattle.decl_sections.specs.ViewSpelled.{Outer, NumbersBelow}
 use Rattle.decl_sections.specs.ViewSections.{IsConstant, AreConstants}
 use Rattle.decl_sections.specs.ViewWalk.{Framed, StageOf}
 
 -- ---- numbers of definitions
-
-some_most : (xs : List ℕ) → (m : ℕ) × ((j k : ℕ) → slice_get xs j ≡ Some k → k < m)
-some_most [] = (0, λ j k e. absurd (none-some k e))
-some_most (x ∷ xs) = let r = some_most xs in (suc x + r.0, by_place r.0 r.1)
-  where
-    by_place : (m : ℕ) → ((j k : ℕ) → slice_get xs j ≡ Some k → k < m) → (j k : ℕ) → slice_get (x ∷ xs) j ≡ Some k → k < suc x + m
-    by_place m h zero k e = let s = same_Some x k e in omega (arith, s)
-    by_place m h (suc j) k e = let r = h j k e in omega (arith, r)
 
 by_number : (names : Names) (m : ℕ) → ((j k : ℕ) → slice_get names.numbers.items j ≡ Some k → k < m) → (o : Option ℕ) (k : ℕ)
     → number_in names o ≡ Some k → k < m
@@ -43,9 +35,6 @@ by_number names m h (Some n) k e = by_start (nat_lt n names.start) e
     by_start : (b : Bool) → (if b then None else slice_get names.numbers.items (n - names.start)) ≡ Some k → k < m
     by_start true e = absurd (none-some k e)
     by_start false e = h (n - names.start) k e
-
-pub some_bound : (names : Names) → (m : ℕ) × ((o : Option ℕ) (k : ℕ) → number_in names o ≡ Some k → k < m)
-some_bound names = let r = some_most names.numbers.items in (r.0, by_number names r.0 r.1)
 
 numbers_most : (own : List ℕ → Bool) (names : List (List ℕ)) (i : ℕ) (all : List Declaration) (j k : ℕ)
     → slice_get (numbers_by own names i all) j ≡ Some k → k < i + length all
@@ -60,6 +49,12 @@ numbers_most own names i (d ∷ rest) j k e =
     by_name true j e go = let r = go names j e in omega (arith, r)
     by_name false zero e go = let r = same_Some i k e in omega (arith, r)
     by_name false (suc j) e go = let r = go (normal d.name.text ∷ names) j e in omega (arith, r)
+
+pub begun_numbers : (own : List ℕ → Bool) (all : List Declaration) (names : Names) (m : ℕ) → names.numbers.items ≡ numbers_by own [] 0 all
+    → m ≡ length all → NumbersBelow m names
+begun_numbers own all names m e n = by_number names m (λ j k at.
+    let r = numbers_most own [] 0 all j k (ap (λ (l : List ℕ). slice_get l j) (sym e) ∙ at) in
+    omega (arith, r, n))
 
 -- one for each declaration
 numbers_count : (own : List ℕ → Bool) (names : List (List ℕ)) (known : List (Option ℕ)) (all : List Declaration) (i : ℕ) → length known ≡ length all
@@ -83,7 +78,7 @@ within_at n [] i d h e = absurd (none-some d e)
 within_at n (x ∷ ds) zero d h e = subst (λ (z : Decl). WhatWithin n z.what) (same_Some x d e) h.0
 within_at n (x ∷ ds) (suc i) d h e = within_at n ds i d h.1 e
 
-pub outer_ready : (n m : ℕ) (names : Names) (ds : List Decl) → DeclsWithin n ds → ((o : Option ℕ) (k : ℕ) → number_in names o ≡ Some k → k < m)
+pub outer_ready : (n m : ℕ) (names : Names) (ds : List Decl) → DeclsWithin n ds → NumbersBelow m names
     → Outer n m names ds
 outer_ready n m names ds w h = record {
   types = λ i id d e none t. subst (WhatWithin n) t (within_at n ds i d w e);
@@ -126,10 +121,10 @@ no_type ts members seen e h j id d at t =
     subst (λ w. IsConstant (entry_by ts d.name w)) t c
 
 -- while a section is read
-pub outer_stage : (ts : List Ty) (st : State) (all : List Declaration) (old : List Decl) (frame : Frame) (ds : List TypeDef) (scope : Scope)
-    (reading : Reading) (s : Section) → Framed ts st all old frame → StageOf ts st all old frame ds scope reading s
-    → Outer frame.types (length all) frame.names scope.decls
-outer_stage ts st all old frame ds scope reading s f g =
+pub outer_stage : (ts : List Ty) (st : State) (all : List Declaration) (old : List Decl) (n : ℕ) (frame : Frame) (ds : List TypeDef) (scope : Scope)
+    (reading : Reading) (s : Section) → Framed ts st all old n frame → StageOf ts st all old n ds scope reading s
+    → Outer n (length all) frame.names scope.decls
+outer_stage ts st all old n frame ds scope reading s f g =
     let keys = keys_of all in
     let known = reading.known.items in
     let names = frame.names in
@@ -140,8 +135,8 @@ outer_stage ts st all old frame ds scope reading s f g =
     let same : length types ≡ length numbers = numbers_count (own_in st) [] known all 0 count ∙ sym (ap length f.fixed.numbers) in
     record {
       types = λ i id d at none t.
-          get_both {P = id < frame.types} old (types ++ h.seen) i d (ap (λ (l : List Decl). slice_get l i) (sym h.decls) ∙ at)
-          (λ e. subst (WhatWithin frame.types) t (within_at frame.types old i d f.outer e))
+          get_both {P = id < n} old (types ++ h.seen) i d (ap (λ (l : List Decl). slice_get l i) (sym h.decls) ∙ at)
+          (λ e. subst (WhatWithin n) t (within_at n old i d f.outer e))
           (λ j n e. absurd (get_both {P = ⊥} types h.seen j d e
           (λ e.
           let place : i ≡ names.start + j = omega (arith, n, f.fixed.start) in
@@ -149,7 +144,5 @@ outer_stage ts st all old frame ds scope reading s f g =
           let le = get_none numbers j (sym (number_behind names j i place) ∙ none) in
           omega (arith, lt, le, same))
           (λ k m e. no_type ts s.members h.seen h.shown g.constants k id d e t)));
-      numbers = by_number names (length all) (λ j k e.
-          let r = numbers_most (own_in st) [] 0 all j k (ap (λ (l : List ℕ). slice_get l j) (sym f.fixed.numbers) ∙ e) in
-          omega (arith, r));
+      numbers = begun_numbers (own_in st) all names (length all) f.fixed.numbers refl;
     }

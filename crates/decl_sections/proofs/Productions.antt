@@ -18,7 +18,8 @@ use Rattle.expr_parts.proofs.ForCallers.{stops}
 use Rattle.decl_rules.specs.Written.{Spelled, spelled_as, Formed, later, spelled, all_spelled, named_by, array_rule, Part, Parted, parts_spelled}
 use Rattle.decl_rules.specs.Written.{formed_rule, tuple_of, types_of, names_of, types_in, formed_in}
 use Rattle.decl_written.specs.declared.parts.Parts.{Parts}
-use Rattle.decl_sections.specs.ViewSpelled.{one_in, Given, given_as, given_in, all_given, named_with, PartsMeant, parts_meant, meant_parts, parts_in, all_parted}
+use Rattle.decl_sections.specs.ViewSpelled.{one_in, Given, given_as, given_in, all_given, named_with, PartsMeant, parts_meant, meant_parts, parts_in}
+use Rattle.decl_sections.specs.ViewSpelled.{all_parted}
 use Rattle.decl_sections.proofs.Noding.{Follows}
 use Rattle.decl_sections.proofs.Listing.{front_given, front_parts}
 

@@ -39,7 +39,7 @@ pending_within n own names (d ∷ rest) =
 
 -- before the first definition
 pub ready_begun : (ds : List TypeDef) (old new : Scope) (outside : ℕ) (all : List Declaration) (frame : Frame) (reading : Reading)
-    → Begins ds old new outside all frame reading → IsReady ds old → IsReady ds new
+    → Begins old new outside all frame reading → IsReady ds old → IsReady ds new
 ready_begun ds old new outside all frame reading b r =
     ready_further ds old new (decls_by (own_by outside old.decls) [] (none_known all) all) b.decls b.kinds
     (pending_within (length ds) (own_by outside old.decls) [] all) r

@@ -27,7 +27,7 @@ use Rattle.decl_sections.specs.declared.starting.Reading.{Reading}
 use Rattle.decl_types.specs.declared.known.Definition.{Definition}
 use Rattle.decl_types.specs.ViewKnown.{Holds}
 use Rattle.decl_types.specs.ViewPlaces.{Ascends, AllFar}
-use Rattle.decl_types.specs.ViewScoped.{own_in, numbers_by, decls_by, type_decl, AreKnown, Away, Reads}
+use Rattle.decl_types.specs.ViewScoped.{own_in, numbers_by, decls_by, type_decl, AreKnown, Reads}
 use Rattle.decl_sections.specs.ViewSections.{none_known}
 use Rattle.decl_sections.specs.ViewWalk.{own_by, Begins, Framed, StageOf}
 use Rattle.decl_types.proofs.ForCallers.{all_differ, holds_none, no_key_among}
@@ -168,26 +168,26 @@ own_is ts st ds scope outside e o x =
     ∙ ap₂ (λ (n : ℕ) (es : List Entry). is_declared x (drop n es)) (sym o) (sym (ap (λ (env : Env). env.entries) e))
 
 pub begun_frame : (ts : List Ty) (st : State) (ds : List TypeDef) (old new : Scope) (outside home last : ℕ) (all : List Declaration) (frame : Frame)
-    (reading : Reading) (facts : Facts) → Begins ds old new outside all frame reading → outside ≤ length old.decls → Ascends home last all
+    (reading : Reading) (facts : Facts) → Begins old new outside all frame reading → outside ≤ length old.decls → Ascends home last all
     → AllFar home last ds → DeclsWithin (length ds) old.decls → Under ds ts facts → st.env ≡ env_of ts (facts_in ds) old → st.outside ≡ outside →
-    Framed ts st all old.decls frame
+    Framed ts st all old.decls (length ds) frame
 begun_frame ts st ds old new outside home last all frame reading facts b le o far w u e out = record {
   fixed = record {
     entries = ap (λ (env : Env). env.entries) e;
     outside = omega (arith, out, le);
     start = b.start;
     numbers = b.numbers ∙ ap (λ (own : List ℕ → Bool). numbers_by own [] 0 all) (λ i x. own_is ts st ds old outside e out x i);
-    away = subst (λ n. Away ts n (keys_of all)) (sym b.types) (all_away home last all ds ts facts o far u);
+    away = all_away home last all ds ts facts o far u;
     differ = all_differ home last all o;
     none = no_key_among home last all o;
   };
   names = b.names;
-  outer = subst (λ n. DeclsWithin n old.decls) (sym b.types) w;
+  outer = w;
 }
 
 pub begun_stage : (ts : List Ty) (st : State) (ds : List TypeDef) (old new : Scope) (outside : ℕ) (all : List Declaration) (frame : Frame)
-    (reading : Reading) → Begins ds old new outside all frame reading → st.env ≡ env_of ts (facts_in ds) old → st.outside ≡ outside
-    → StageOf ts st all old.decls frame ds new reading none_read
+    (reading : Reading) → Begins old new outside all frame reading → st.env ≡ env_of ts (facts_in ds) old → st.outside ≡ outside
+    → StageOf ts st all old.decls (length ds) ds new reading none_read
 begun_stage ts st ds old new outside all frame reading b e out = record {
   scoped = record {
     seen = [];
@@ -201,7 +201,7 @@ begun_stage ts st ds old new outside all frame reading b e out = record {
     knows = record { each = subst (AreKnown ts [] (keys_of all)) (sym b.known) (unknown_all ts all); only = λ key h. refl };
   };
   defined = ap (λ read. all_defined ts (keys_of all) read) (sym b.read);
-  reads = subst (Reads frame.types (length all) (keys_of all)) (sym b.read) (nothing_read frame.types (length all) (keys_of all));
+  reads = subst (Reads (length ds) (length all) (keys_of all)) (sym b.read) (nothing_read (length ds) (length all) (keys_of all));
   names = b.seen;
   fresh = λ x h. cc;
   begins = b.begins ∙ sym out;

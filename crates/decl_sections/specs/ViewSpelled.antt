@@ -88,10 +88,14 @@ part_count (fields names of rest) = length names + part_count rest
 abbrev pub ArePartNodes : ℕ → ℕ → Parts → Type 0
 ArePartNodes count n parts = AllBelow n parts.types × (length parts.types ≡ count)
 
+-- definitions have numbers below this one
+abbrev pub NumbersBelow : ℕ → Names → Type 0
+NumbersBelow m names = (o : Option ℕ) (k : ℕ) → number_in names o ≡ Some k → k < m
+
 -- what isn't declared in a section names types below a number, and what is, definitions below another
 pub record Outer (n m : ℕ) (names : Names) (ds : List Decl) : Type 0 where
   pub types : (i id : ℕ) (d : Decl) → slice_get ds i ≡ Some d → number_in names (Some i) ≡ None → d.what ≡ what.Type id → id < n
-  pub numbers : (o : Option ℕ) (k : ℕ) → number_in names o ≡ Some k → k < m
+  pub numbers : NumbersBelow m names
 
 -- so do the nodes that are added
 abbrev pub AddsSound : {T : Type 0} → (old new : List Node) → Scope → Names → Result T Stop → Type 0

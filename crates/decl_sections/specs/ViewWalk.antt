@@ -21,14 +21,13 @@ abbrev pub own_by : ℕ → List Decl → List ℕ → Bool
 own_by outside decls x = declares x (drop outside decls)
 
 -- before the first definition
-pub record Begins (ds : List TypeDef) (old new : Scope) (outside : ℕ) (all : List Declaration) (frame : Frame) (reading : Reading) : Type 0 where
+pub record Begins (old new : Scope) (outside : ℕ) (all : List Declaration) (frame : Frame) (reading : Reading) : Type 0 where
   pub decls : new.decls ≡ old.decls ++ decls_by (own_by outside old.decls) [] (none_known all) all
   pub kinds : new.kinds ≡ old.kinds
   pub home : new.home ≡ old.home
   pub known : reading.known.items ≡ none_known all
   pub numbers : frame.names.numbers.items ≡ numbers_by (own_by outside old.decls) [] 0 all
   pub start : frame.names.start ≡ length old.decls
-  pub types : frame.types ≡ length ds
   pub names : HasNames frame.all (type_names all)
   pub begins : reading.declared.outside ≡ outside
   pub starts : reading.declared.start ≡ length old.decls
@@ -36,15 +35,15 @@ pub record Begins (ds : List TypeDef) (old new : Scope) (outside : ℕ) (all : L
   pub read : reading.read.items ≡ []
 
 -- what stays the same
-pub record Framed (ts : List Ty) (st : State) (all : List Declaration) (old : List Decl) (frame : Frame) : Type 0 where
-  pub fixed : Fixed ts st all old frame.names frame.types
+pub record Framed (ts : List Ty) (st : State) (all : List Declaration) (old : List Decl) (n : ℕ) (frame : Frame) : Type 0 where
+  pub fixed : Fixed ts st all old frame.names n
   pub names : HasNames frame.all (type_names all)
-  pub outer : DeclsWithin frame.types old
+  pub outer : DeclsWithin n old
 
 -- behind what has been read
-abbrev pub StageOf : List Ty → State → List Declaration → List Decl → Frame → List TypeDef → Scope → Reading → Section → Type 0
-StageOf ts st all old frame ds scope reading s =
-    Stage ts st all old frame.types ds scope reading.declared.outside reading.declared.start reading.declared.seen reading.known.items
+abbrev pub StageOf : List Ty → State → List Declaration → List Decl → ℕ → List TypeDef → Scope → Reading → Section → Type 0
+StageOf ts st all old n ds scope reading s =
+    Stage ts st all old n ds scope reading.declared.outside reading.declared.start reading.declared.seen reading.known.items
     reading.read.items s
 
 -- ---- members

@@ -24,9 +24,10 @@ ghost use Rattle.decl_sections.specs.ViewBodies.{IsDeclared, member_entries, sai
 ghost use Rattle.decl_types.specs.ViewKnown.{Kept, key_by, InOrder, IsSound, Holds};
 ghost use Rattle.decl_types.specs.ViewKnown.{KnownBelow, HasType};
 ghost use Rattle.decl_types.specs.ViewMarks.{Stuck, is_enum};
-ghost use Rattle.decl_sections.specs.ViewSpelled.{Outer};
+ghost use Rattle.decl_sections.specs.ViewSpelled.{Outer, NumbersBelow};
 ghost use Rattle.decl_sections.specs.ViewSections.{members_in, said_in, Leads};
-ghost use Rattle.decl_types.specs.ViewScoped.{is_unknown, KnowsAll};
+ghost use Rattle.decl_types.specs.ViewScoped.{KnowsAll};
+ghost use Rattle.decl_types.specs.ViewMarks.{is_unknown};
 ghost use Rattle.decl_sections.specs.ViewWalk.{Framed, StageOf, member_decl};
 
 use crate::bodies::{Declared, body, check_single, new_in_section, new_members};
@@ -239,7 +240,7 @@ fn take_up(
     requires room { length reading.old.read.items < length reading.old.known.items }
     requires holds { Holds types.old reading.old.known.items reading.old.read.items }
     requires ordered { InOrder definition }
-    requires sound { (m : ℕ) × IsSound (length types.old) m definition }
+    requires sound { IsSound (length types.old) (length reading.old.known.items) definition }
     ensures kept { Kept types.old types.new }
     ensures ready { IsReady types.old scope.old → OnOk result (IsReady types.new scope.new) }
     ensures read { OnOk result (reading.new.read.items
@@ -278,20 +279,23 @@ fn read(
     requires ready { IsReady types.old scope.old }
     requires room { length reading.old.read.items < length reading.old.known.items }
     requires holds { Holds types.old reading.old.known.items reading.old.read.items }
+    requires numbers { NumbersBelow (length reading.old.known.items) frame.now.names }
     ensures kept { Kept types.old types.new }
     ensures ready { OnOk result (IsReady types.new scope.new) }
     ensures holds { OnOk result (Holds types.new reading.new.known.items
+        reading.new.read.items) }
+    ensures stuck { OnOk result (Stuck (map is_unknown reading.new.known.items)
         reading.new.read.items) }
     ensures count { OnOk result (length reading.new.read.items
         ≡ suc (length reading.old.read.items)) }
     ensures known { OnOk result (length reading.new.known.items
         ≡ length reading.old.known.items) }
     ensures leads { (ts : List Ty) (st : State) (all : List Declaration) (old : List Decl)
-        (s : Section) (rest : List Declaration) → Under types.new ts (facts_in types.new)
-        → Framed ts st all old frame.now
+        (n : ℕ) (s : Section) (rest : List Declaration) → Under types.new ts (facts_in types.new)
+        → Framed ts st all old n frame.now
         → drop (length reading.old.read.items) all ≡ declaration_of def.now ∷ rest
-        → StageOf ts st all old frame.now types.old scope.old reading.old s
-        → Leads (StageOf ts st all old frame.now types.new scope.new reading.new)
+        → StageOf ts st all old n types.old scope.old reading.old s
+        → Leads (StageOf ts st all old n types.new scope.new reading.new)
         (declaration_rule st all s (declaration_of def.now)) result }
 {
     match check_head(alloc, scope, &mut reading.declared, def) {
@@ -323,19 +327,25 @@ pub fn read_all(
     requires room { length reading.old.read.items + length defs.now
         ≤ length reading.old.known.items }
     requires holds { Holds types.old reading.old.known.items reading.old.read.items }
+    requires numbers { NumbersBelow (length reading.old.known.items) frame.now.names }
+    requires stuck { Stuck (map is_unknown reading.old.known.items) reading.old.read.items }
     ensures kept { Kept types.old types.new }
     ensures ready { OnOk result (IsReady types.new scope.new) }
     ensures holds { OnOk result (Holds types.new reading.new.known.items
         reading.new.read.items) }
+    ensures stuck { OnOk result (Stuck (map is_unknown reading.new.known.items)
+        reading.new.read.items) }
+    ensures known { OnOk result (length reading.new.known.items
+        ≡ length reading.old.known.items) }
     ensures count { reading.old.read.items ≡ [] → OnOk result (length reading.new.read.items
         ≡ length defs.now) }
-    ensures leads { (ts : List Ty) (st : State) (old : List Decl)
+    ensures leads { (ts : List Ty) (st : State) (old : List Decl) (n : ℕ)
         → Under types.new ts (facts_in types.new)
-        → Framed ts st (map declaration_of defs.now) old frame.now
+        → Framed ts st (map declaration_of defs.now) old n frame.now
         → reading.old.read.items ≡ []
-        → StageOf ts st (map declaration_of defs.now) old frame.now types.old scope.old
+        → StageOf ts st (map declaration_of defs.now) old n types.old scope.old
         reading.old none_read
-        → Leads (StageOf ts st (map declaration_of defs.now) old frame.now types.new scope.new
+        → Leads (StageOf ts st (map declaration_of defs.now) old n types.new scope.new
         reading.new) (declarations_rule st (map declaration_of defs.now) none_read
         (map declaration_of defs.now)) result }
 {

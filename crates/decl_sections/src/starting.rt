@@ -19,7 +19,7 @@ use expr_parts::scope::{Decl, Scope, What};
 use expr_steps::given::behind;
 use indent_scanner::normal_form;
 use nim_tree::TypeDef as Tree;
-use nim_types::{TypeId, TypeTable};
+use nim_types::TypeId;
 use std::alloc::Global;
 use std::collections::HashSet;
 
@@ -27,8 +27,6 @@ use std::collections::HashSet;
 #[derive(Drop)]
 pub struct Frame {
     pub names: Names,
-    /// How many types there were before.
-    pub types: u32,
     /// The names of its types, in normal form.
     pub all: HashSet<Bytes>,
 }
@@ -128,13 +126,12 @@ fn no_types(alloc: Global, count: usize) -> Result<Vec<Option<TypeId>>, Stop>
 /// A section of which nothing has been read, whose types are declared.
 pub fn begin(
     alloc: Global,
-    types: &TypeTable,
     scope: &mut Scope,
     outside: u32,
     defs: &[Tree],
 ) -> Result<(Frame, Reading), Stop>
     requires { outside ≤ length scope.old.decls }
-    ensures begins { IfOk result (λ both. Begins types.now scope.old scope.new outside
+    ensures begins { IfOk result (λ both. Begins scope.old scope.new outside
         (map declaration_of defs.now) both.0 both.1) }
     ensures memory { IfErr result (λ stop. stop ≡ Stop.Memory) }
 {
@@ -144,7 +141,6 @@ pub fn begin(
     let known = no_types(alloc, defs.len())?;
     let frame = Frame {
         names: Names { start, numbers },
-        types: types.count(),
         all,
     };
     let reading = Reading {

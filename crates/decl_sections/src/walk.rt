@@ -1,5 +1,5 @@
 // The walk through a section.
-ghost use Rattle.std.specs.Prelude.{◌≡◌, ◌≤◌, ◌+◌, ◌++◌, [], List, map, length, OnOk};
+ghost use Rattle.std.specs.Prelude.{◌≡◌, ◌≤◌, ◌+◌, ◌++◌, [], ℕ, List, map, length, OnOk};
 ghost use Rattle.arc_base.specs.Refusal.{Answers};
 ghost use Rattle.nim_tree.specs.Types.{declaration_of};
 ghost use Rattle.nim_types.specs.Types.{Ty};
@@ -11,6 +11,7 @@ ghost use Rattle.decl_rules.specs.State.{State};
 ghost use Rattle.decl_rules.specs.Sections.{section_rule, none_read};
 ghost use Rattle.decl_types.specs.ViewKnown.{Kept, Holds};
 ghost use Rattle.decl_types.specs.ViewPlaces.{Ascends, AllFar};
+ghost use Rattle.decl_sections.specs.ViewSpelled.{NumbersBelow};
 ghost use Rattle.decl_sections.specs.ViewWalk.{Framed, StageOf};
 
 use crate::reading::read_all;
@@ -34,24 +35,25 @@ fn walk(
     defs: &[Tree],
 ) -> Result<(), Stop>
     requires ready { IsReady types.old scope.old }
-    requires room { length reading.old.read.items + length defs.now
-        ≤ length reading.old.known.items }
+    requires none_read { reading.old.read.items ≡ [] }
+    requires known { length reading.old.known.items ≡ length defs.now }
+    requires numbers { NumbersBelow (length reading.old.known.items) frame.now.names }
     requires holds { Holds types.old reading.old.known.items reading.old.read.items }
     ensures kept { Kept types.old types.new }
     ensures ready { OnOk result (IsReady types.new scope.new) }
-    ensures answers { (ts : List Ty) (st : State) (old : List Decl)
+    ensures answers { (ts : List Ty) (st : State) (old : List Decl) (n : ℕ)
         → Under types.new ts (facts_in types.new)
-        → Framed ts st (map declaration_of defs.now) old frame.now
+        → Framed ts st (map declaration_of defs.now) old n frame.now
         → reading.old.read.items ≡ []
-        → StageOf ts st (map declaration_of defs.now) old frame.now types.old scope.old
+        → StageOf ts st (map declaration_of defs.now) old n types.old scope.old
         reading.old none_read
         → Answers (λ _. env_of ts (facts_in types.new) scope.new)
         (section_rule st (map declaration_of defs.now)) result }
-    ensures begins { (ts : List Ty) (st : State) (old : List Decl)
+    ensures begins { (ts : List Ty) (st : State) (old : List Decl) (n : ℕ)
         → Under types.new ts (facts_in types.new)
-        → Framed ts st (map declaration_of defs.now) old frame.now
+        → Framed ts st (map declaration_of defs.now) old n frame.now
         → reading.old.read.items ≡ []
-        → StageOf ts st (map declaration_of defs.now) old frame.now types.old scope.old
+        → StageOf ts st (map declaration_of defs.now) old n types.old scope.old
         reading.old none_read
         → OnOk result ((more : List Decl) × (scope.new.decls ≡ old ++ more)) }
 {
@@ -94,7 +96,7 @@ fn ordered(
     ensures begins { OnOk result ((more : List Decl)
         × (scope.new.decls ≡ scope.old.decls ++ more)) }
 {
-    let (frame, mut reading) = begin(alloc, types, scope, outside, defs)?;
+    let (frame, mut reading) = begin(alloc, scope, outside, defs)?;
     match walk(alloc, types, scope, &frame, &mut reading, defs) {
         Ok(()) => {
             let _count = types.count();

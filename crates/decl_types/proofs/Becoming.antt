@@ -12,16 +12,20 @@ use Rattle.nim_types.specs.Table.{type_at, types_at, types_in, facts_in, meant, 
 use Rattle.nim_types.proofs.ForCallers.{count, front, at_entry, said_number, all_more, fields_types, one_more}
 use Rattle.expr_parts.specs.View.{Under, AllFormed, Grown}
 use Rattle.expr_parts.proofs.ForCallers.{grown_same}
-use Rattle.decl_rules.specs.Meanings.{renamed, resolved, resolved_fields, KnownType, meaning_of, facts_of}
+use Rattle.decl_rules.specs.Meanings.{resolved, resolved_fields, KnownType, meaning_of, facts_of}
 use Rattle.decl_types.specs.declared.nodes.Node.{Node}
 use Rattle.decl_types.specs.declared.known.Meaning.{Meaning}
 use Rattle.decl_types.specs.declared.known.Meaning.TheVariants as M
 use Rattle.decl_types.specs.declared.known.Definition.{Definition}
 use Rattle.decl_types.specs.ViewNodes.{node_types}
 use Rattle.decl_types.specs.ViewKnown.{meant_of, typed_fields}
-use Rattle.decl_types.specs.ViewKnown.{KnownAs, Untouched, NodesIn, Declares, Kept, object_def, enum_def, distinct_def, AddsMeant, Becomes, HasType}
+use Rattle.decl_types.specs.ViewKnown.{KnownAs, Untouched, NodesIn, Declares, Kept, object_def, enum_def, distinct_def, AddsMeant, Becomes, HasType, MeaningWithin}
+use Rattle.decl_types.specs.ViewMarks.{is_unknown, mark_at, node_marks, meaning_mark, definition_mark, RenamedWhere}
+use Rattle.decl_types.proofs.Renaming.{listed_renamed}
+use Rattle.std.proofs.lemmas.List.{length-map}
+use Rattle.std.specs.Prelude.{Bool}
 use Rattle.decl_types.specs.ViewKnown.{meaning_by, key_by}
-use Rattle.decl_types.proofs.Numbering.{mapped_at, number_type, below_at}
+use Rattle.decl_types.proofs.Numbering.{number_type, below_at}
 use Rattle.decl_types.proofs.Declaring.{FormsStay, kept_grown, kept_on, kept_declared, declared_type, declared_facts, type_front, under_declared}
 
 -- ---- fields
@@ -40,10 +44,6 @@ fields_resolved k [] (u ∷ us) = refl
 fields_resolved k (f ∷ names) [] = refl
 fields_resolved k (f ∷ names) (u ∷ us) = ap (λ rest. record { name = f.name; shown = f.shown; of = resolved k u } ∷ rest) (fields_resolved k names us)
 
-each_resolved : (k : List KnownType) (done : List Ty) (is : List ℕ) → map (type_at (map (resolved k) done)) is ≡ map (resolved k) (map (type_at done) is)
-each_resolved k done [] = refl
-each_resolved k done (i ∷ is) = ap₂ (λ t us. t ∷ us) (mapped_at (resolved k) refl done i) (each_resolved k done is)
-
 each_front : (ts : List Ty) (mid : List TypeDef) (facts : Facts) (is : List ℕ) → Under mid ts facts → AllBelow (length mid) is
     → map (type_at (types_in mid)) is ≡ map (type_at ts) is
 each_front ts mid facts [] u h = refl
@@ -55,28 +55,30 @@ each_front ts mid facts (i ∷ is) u h = ap₂ (λ t us. t ∷ us) (sym (type_fr
 abbrev pub NodesAre : List TypeDef → List (Option ℕ) → List ℕ → List Node → Type 0
 NodesAre mid known ids nodes =
     (n m : ℕ) → NodesIn n m nodes → (ts : List Ty) (facts : Facts) → Under mid ts facts → (keys : List Key) (by : Key → Ty)
-    → KnownAs ts keys known by → Untouched ts n by → map (type_at ts) ids ≡ map (renamed by) (node_types ts keys nodes)
+    → KnownAs ts keys known by → Untouched ts n by
+    → RenamedWhere (node_marks (map is_unknown known) nodes) (map (type_at ts) ids) by (node_types ts keys nodes)
 
 abbrev MeansAs : List TypeDef → List TypeDef → ℕ → Definition → Meaning → List KnownType → List Ty → List Ty → Facts → Type 0
 MeansAs old new id d m k done ts facts =
     (type_at ts id ≡ meaning_of k (key_by d) (meant_of done m)) × (facts ≡ facts_in old ++ facts_of k (key_by d) (meant_of done m))
 
-node_resolved : (k : List KnownType) (ts done : List Ty) (ids : List ℕ) (i id : ℕ) → map (type_at ts) ids ≡ map (resolved k) done → slice_get ids i
-    ≡ Some id
+node_resolved : (marks : List Bool) (k : List KnownType) (ts done : List Ty) (ids : List ℕ) (i id : ℕ)
+    → RenamedWhere marks (map (type_at ts) ids) (meaning_by k) done → i < length ids → mark_at marks i ≡ false → slice_get ids i ≡ Some id
     → type_at ts id ≡ resolved k (type_at done i)
-node_resolved k ts done ids i id e at =
-    sym (number_type ts ids i id at) ∙ ap (λ us. type_at us i) e ∙ mapped_at (resolved k) refl done i
+node_resolved marks k ts done ids i id h lt m at = sym (number_type ts ids i id at) ∙ h i (omega (arith, lt, length-map ids (type_at ts))) m
 
-means_as : (old mid new : List TypeDef) (ids : List ℕ) (id : ℕ) (d : Definition) (m : Meaning) (k : List KnownType) (done ts : List Ty) (facts : Facts)
-    → facts_in mid ≡ facts_in old → IsTable mid → AllBelow (length mid) ids → AddsMeant mid new ids d m id → map (type_at ts) ids ≡ map
-    (resolved k) done
+means_as : (marks : List Bool) (old mid new : List TypeDef) (ids : List ℕ) (id : ℕ) (d : Definition) (m : Meaning) (k : List KnownType) (done ts : List Ty) (facts : Facts)
+    → facts_in mid ≡ facts_in old → IsTable mid → AllBelow (length mid) ids → AddsMeant mid new ids d m id
+    → RenamedWhere marks (map (type_at ts) ids) (meaning_by k) done → MeaningWithin (length ids) m → meaning_mark marks m ≡ false
     → Under mid ts (facts_in mid) → Under new ts facts → MeansAs old new id d m k done ts facts
-means_as old mid new ids id d (M.Object names is) k done ts facts f t b a e v u =
+means_as marks old mid new ids id d (M.Object names is) k done ts facts f t b a e w unmarked v u =
     let given = a.0 in
     let def = object_def d names given in
     let below = all_more (length mid) (length (types_in mid)) given (let c = count mid in omega (arith, c)) a.3 in
     let us : map (type_at (types_in mid)) given ≡ map (resolved k) (map (type_at done) is) =
-    each_front ts mid (facts_in mid) given v a.3 ∙ a.1 ts ∙ ap (λ ws. map (type_at ws) is) e ∙ each_resolved k done is in (
+    each_front ts mid (facts_in mid) given v a.3 ∙ a.1 ts
+    ∙ listed_renamed (meaning_by k) marks (map (type_at ts) ids) done is e
+    (subst (λ l. AllBelow l is) (sym (length-map ids (type_at ts))) w.0) unmarked in (
       declared_type mid new def id ts facts a.4 u,
       declared_facts mid new def id ts facts t tt below a.4 u
           ∙ ap₂ (λ fs o. fs ++ and_said (type.object (key_by d) type.no_types) o []) f
@@ -84,22 +86,22 @@ means_as old mid new ids id d (M.Object names is) k done ts facts f t b a e v u 
           ∙ ap (λ ws. Some (type.fields (typed_fields names ws) false)) us
           ∙ ap (λ all. Some (type.fields all false)) (fields_resolved k names (map (type_at done) is))),
     )
-means_as old mid new ids id d (M.Enum members) k done ts facts f t b a e v u =
+means_as marks old mid new ids id d (M.Enum members) k done ts facts f t b a e w unmarked v u =
     let def = enum_def d members in (
       declared_type mid new def id ts facts a u,
       declared_facts mid new def id ts facts t tt tt a u ∙ ap (λ fs. fs ++ record { of = type.enum (key_by d); fact = type.members members } ∷ []) f,
     )
-means_as old mid new ids id d (M.Distinct i) k done ts facts f t b a e v u =
+means_as marks old mid new ids id d (M.Distinct i) k done ts facts f t b a e w unmarked v u =
     let base = a.0 in
     let def = distinct_def d base in
     let inside : base < length (types_in mid) = let c = count mid in omega (arith, c, below_at (length mid) ids i base b a.1) in (
       declared_type mid new def id ts facts a.2 u,
       declared_facts mid new def id ts facts t inside tt a.2 u
           ∙ ap₂ (λ fs w. fs ++ record { of = type.distinct (key_by d); fact = type.base w } ∷ []) f
-          (sym (type_front ts mid (facts_in mid) base v (below_at (length mid) ids i base b a.1)) ∙ node_resolved k ts done ids i base e a.1),
+          (sym (type_front ts mid (facts_in mid) base v (below_at (length mid) ids i base b a.1)) ∙ node_resolved marks k ts done ids i base e w unmarked a.1),
     )
-means_as old mid new ids id d (M.Alias i) k done ts facts f t b a e v u = (
-  node_resolved k ts done ids i id e a.0,
+means_as marks old mid new ids id d (M.Alias i) k done ts facts f t b a e w unmarked v u = (
+  node_resolved marks k ts done ids i id e w unmarked a.0,
   u.said ∙ ap facts_in a.1 ∙ f ∙ sym (append-nil (facts_in old)),
 )
 
@@ -192,13 +194,14 @@ pub kept_known : (old mid new : List TypeDef) (ids : List ℕ) (id : ℕ) (d : D
 kept_known old mid new ids id d g t t' b a stay = kept_on old mid new (kept_grown old mid g) (kept_as mid new ids id d d.meaning t t' b a stay)
 
 pub becomes : (old mid new : List TypeDef) (known : List (Option ℕ)) (ids : List ℕ) (id : ℕ) (d : Definition) → Grown old mid → IsTable mid
-    → AllBelow (length mid) ids → NodesAre mid known ids d.nodes.items → AddsMeant mid new ids d d.meaning id → Becomes old new known d id
-becomes old mid new known ids id d g t b are a = record {
+    → AllBelow (length mid) ids → NodesAre mid known ids d.nodes.items → MeaningWithin (length ids) d.meaning
+    → definition_mark (map is_unknown known) d ≡ false → AddsMeant mid new ids d d.meaning id → Becomes old new known d id
+becomes old mid new known ids id d g t b are within unmarked a = record {
   within = within_as mid new ids id d d.meaning b a;
   means = λ n m w ts facts u keys k knows same.
       let v = under_as mid new ids id d d.meaning ts facts t a u in
-      means_as old mid new ids id d d.meaning k (node_types ts keys d.nodes.items) ts facts (g.under ts (facts_in mid) v).said t b a
-      (are n m w.nodes ts (facts_in mid) v keys (meaning_by k) knows same) v u;
+      means_as (node_marks (map is_unknown known) d.nodes.items) old mid new ids id d d.meaning k (node_types ts keys d.nodes.items) ts facts (g.under ts (facts_in mid) v).said t b a
+      (are n m w.nodes ts (facts_in mid) v keys (meaning_by k) knows same) within unmarked v u;
 }
 
 -- the type of what is added

@@ -7,7 +7,7 @@ use Rattle.decl_types.specs.declared.known.Definition.{Definition}
 use Rattle.decl_types.specs.declared.known.Meaning.{Meaning}
 use Rattle.decl_types.specs.declared.known.Meaning.TheVariants as M
 use Rattle.decl_types.specs.ViewMarks.{mark_at, node_marks, meaning_mark, definition_mark, is_next, next_from, Stuck, is_enum}
-use Rattle.decl_types.specs.ViewScoped.{is_unknown}
+use Rattle.decl_types.specs.ViewMarks.{is_unknown}
 
 -- ---- the next one
 
@@ -15,14 +15,53 @@ is_marked : (mark named : Bool) → (if mark then not named else false) ≡ true
 is_marked true named e = refl
 is_marked false named e = absurd (both_ways false refl e)
 
-pub next_marked : (marks : List Bool) (j : ℕ) (read : List Definition) → IfSome (next_from marks j read) (λ n. mark_at marks n ≡ true)
-next_marked marks j [] = tt
-next_marked marks j (d ∷ rest) = by_test (is_next marks j d) refl (next_marked marks (suc j) rest)
+isnt_named : (mark named : Bool) → (if mark then not named else false) ≡ true → named ≡ false
+isnt_named true true e = absurd (both_ways false refl e)
+isnt_named true false e = refl
+isnt_named false named e = absurd (both_ways false refl e)
+
+-- from a number on
+abbrev Found : List Bool → ℕ → List Definition → ℕ → Type 0
+Found marks j read n = (i : ℕ) (d : Definition) → n ≡ j + i → slice_get read i ≡ Some d → is_next marks n d ≡ true
+
+found_later : (marks : List Bool) (j : ℕ) (x : Definition) (rest : List Definition) (n : ℕ) → suc j ≤ n → Found marks (suc j) rest n
+    → Found marks j (x ∷ rest) n
+found_later marks j x rest n le h zero d e f = absurd (omega (arith, e, le))
+found_later marks j x rest n le h (suc i) d e f = h i d (omega (arith, e)) f
+
+found_here : (marks : List Bool) (j : ℕ) (x : Definition) (rest : List Definition) → is_next marks j x ≡ true → Found marks j (x ∷ rest) j
+found_here marks j x rest t zero d e f = ap (is_next marks j) (sym (same_Some x d f)) ∙ t
+found_here marks j x rest t (suc i) d e f = absurd (omega (arith, e))
+
+found_either : (marks : List Bool) (j : ℕ) (x : Definition) (rest : List Definition) (o : Option ℕ)
+    → IfSome o (λ n. (suc j ≤ n) × Found marks (suc j) rest n) → IfSome o (λ n. (j ≤ n) × Found marks j (x ∷ rest) n)
+found_either marks j x rest None h = tt
+found_either marks j x rest (Some n) h = (let le = h.0 in omega (arith, le), λ i d e f. found_later marks j x rest n h.0 h.1 i d e f)
+
+found_from : (marks : List Bool) (j : ℕ) (read : List Definition) → IfSome (next_from marks j read) (λ n. (j ≤ n) × Found marks j read n)
+found_from marks j [] = tt
+found_from marks j (x ∷ rest) = by_test (is_next marks j x) refl (found_from marks (suc j) rest)
   where
-    by_test : (b : Bool) → is_next marks j d ≡ b → IfSome (next_from marks (suc j) rest) (λ n. mark_at marks n ≡ true)
-        → IfSome (if b then Some j else next_from marks (suc j) rest) (λ n. mark_at marks n ≡ true)
-    by_test true e go = is_marked (mark_at marks j) (definition_mark marks d) e
-    by_test false e go = go
+    by_test : (b : Bool) → is_next marks j x ≡ b → IfSome (next_from marks (suc j) rest) (λ n. (suc j ≤ n) × Found marks (suc j) rest n)
+        → IfSome (if b then Some j else next_from marks (suc j) rest) (λ n. (j ≤ n) × Found marks j (x ∷ rest) n)
+    by_test true e go = (omega arith, λ i d f g. found_here marks j x rest e i d f g)
+    by_test false e go = found_either marks j x rest (next_from marks (suc j) rest) go
+
+pub next_found : (marks : List Bool) (read : List Definition)
+    → IfSome (next_from marks 0 read) (λ n. (d : Definition) → slice_get read n ≡ Some d → is_next marks n d ≡ true)
+next_found marks read = by_next (next_from marks 0 read) (found_from marks 0 read)
+  where
+    by_next : (o : Option ℕ) → IfSome o (λ n. (0 ≤ n) × Found marks 0 read n)
+        → IfSome o (λ n. (d : Definition) → slice_get read n ≡ Some d → is_next marks n d ≡ true)
+    by_next None h = tt
+    by_next (Some n) h = λ d e. let at : n ≡ 0 + n = omega arith in h.1 n d at e
+
+-- what that says of the definition
+pub found_marked : (marks : List Bool) (n : ℕ) (d : Definition) → is_next marks n d ≡ true → mark_at marks n ≡ true
+found_marked marks n d e = is_marked (mark_at marks n) (definition_mark marks d) e
+
+pub found_named : (marks : List Bool) (n : ℕ) (d : Definition) → is_next marks n d ≡ true → definition_mark marks d ≡ false
+found_named marks n d e = isnt_named (mark_at marks n) (definition_mark marks d) e
 
 stuck_from : (marks : List Bool) (j : ℕ) (read : List Definition) → next_from marks j read ≡ None → (i : ℕ) (d : Definition)
     → slice_get read i ≡ Some d → is_next marks (j + i) d ≡ false
@@ -88,7 +127,7 @@ all_stuck known read e = λ i d f.
 
 -- ---- enums
 
-known_there : (known : List (Option ℕ)) (i : ℕ) → i < length known → mark_at (map is_unknown known) i ≡ false
+pub known_there : (known : List (Option ℕ)) (i : ℕ) → i < length known → mark_at (map is_unknown known) i ≡ false
     → (id : ℕ) × (slice_get known i ≡ Some (Some id))
 known_there [] i h e = absurd (omega (arith, h))
 known_there (None ∷ known) zero h e = absurd (both_ways true e refl)
@@ -112,3 +151,6 @@ enum_known known read i d h f e lt =
     let marks = map is_unknown known in
     known_there known i lt
     (unmarked (mark_at marks i) (definition_mark marks d) (names_none (node_marks marks d.nodes.items) d.meaning e) (h i d f))
+
+pub none_stuck : (marks : List Bool) (read : List Definition) → read ≡ [] → Stuck marks read
+none_stuck marks read e = λ i d f. absurd (none-some d (ap (λ (l : List Definition). slice_get l i) (sym e) ∙ f))

@@ -21,7 +21,7 @@ use Rattle.decl_types.proofs.Positions.{one_key, key_same, key_among}
 
 -- ---- marks
 
-marks_count : (steps : ℕ) (read : List Definition) (number : ℕ) → length (contained steps read number) ≡ length read
+pub marks_count : (steps : ℕ) (read : List Definition) (number : ℕ) → length (contained steps read number) ≡ length read
 marks_count zero read number = count_map (λ _. false) read
   where
     count_map : (f : Definition → Bool) (read : List Definition) → length (map f read) ≡ length read
@@ -33,7 +33,7 @@ marks_count (suc steps) read number = count_map (definition_mark (slice_set (con
     count_map f [] = refl
     count_map f (d ∷ read) = ap suc (count_map f read)
 
-mark_here : (marks : List Bool) (i : ℕ) → i < length marks → mark_at (slice_set marks i true) i ≡ true
+pub mark_here : (marks : List Bool) (i : ℕ) → i < length marks → mark_at (slice_set marks i true) i ≡ true
 mark_here [] i h = absurd (omega (arith, h))
 mark_here (m ∷ marks) zero h = refl
 mark_here (m ∷ marks) (suc i) h = mark_here marks i (omega (arith, h))
@@ -45,12 +45,12 @@ mark_other (m ∷ marks) zero (suc j) n = refl
 mark_other (m ∷ marks) (suc i) zero n = refl
 mark_other (m ∷ marks) (suc i) (suc j) n = mark_other marks i j (λ e. n (ap suc e))
 
-none_marked : (read : List Definition) (j : ℕ) → mark_at (map (λ _. false) read) j ≡ false
+pub none_marked : (read : List Definition) (j : ℕ) → mark_at (map (λ _. false) read) j ≡ false
 none_marked [] j = refl
 none_marked (d ∷ read) zero = refl
 none_marked (d ∷ read) (suc j) = none_marked read j
 
-mark_some : (f : Definition → Bool) (read : List Definition) (j : ℕ) (d : Definition) → slice_get read j ≡ Some d → mark_at (map f read) j ≡ f d
+pub mark_some : (f : Definition → Bool) (read : List Definition) (j : ℕ) (d : Definition) → slice_get read j ≡ Some d → mark_at (map f read) j ≡ f d
 mark_some f [] j d e = absurd (none-some d e)
 mark_some f (x ∷ read) zero d e = ap f (same_Some x d e)
 mark_some f (x ∷ read) (suc j) d e = mark_some f read j d e
@@ -86,7 +86,7 @@ get_below [] i d e = absurd (none-some d e)
 get_below (x ∷ read) zero d e = omega arith
 get_below (x ∷ read) (suc i) d e = let r = get_below read i d e in omega (arith, r)
 
-get_there : (read : List Definition) (i : ℕ) → i < length read → (d : Definition) × (slice_get read i ≡ Some d)
+pub get_there : (read : List Definition) (i : ℕ) → i < length read → (d : Definition) × (slice_get read i ≡ Some d)
 get_there [] i h = absurd (omega (arith, h))
 get_there (d ∷ read) zero h = (d, refl)
 get_there (d ∷ read) (suc i) h = get_there read i (omega (arith, h))
@@ -227,3 +227,9 @@ contained_next ts n m keys read i d rest w e =
     ap₂ (λ (c : ℕ) (z : Key). contains c all z z) (defined_count ts keys read) key ∙ sym (marks_contained ts n m keys read (length read) i w lt i) in
     ap (λ ds. containment_rule all (all_defined ts keys ds)) e
     ∙ ap (λ (b : Bool). and_then (if_typed (not b) d.at) (λ _. containment_rule all (all_defined ts keys rest))) mark
+
+pub by_last : {P : Type 0} (k i : ℕ) → (k < i → P) → (k ≡ i → P) → k < i + 1 → P
+by_last zero zero f g h = g refl
+by_last zero (suc i) f g h = f (omega arith)
+by_last (suc k) zero f g h = absurd (omega (arith, h))
+by_last (suc k) (suc i) f g h = by_last k i (λ lt. f (omega (arith, lt))) (λ e. g (ap suc e)) (omega (arith, h))

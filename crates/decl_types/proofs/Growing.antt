@@ -19,7 +19,8 @@ use Rattle.decl_types.specs.declared.known.Definition.{Definition}
 use Rattle.decl_types.specs.declared.nodes.Names.{Names}
 use Rattle.decl_types.specs.ViewKnown.{Kept, Becomes, Untouched, meaning_by, key_by}
 use Rattle.decl_types.specs.ViewReading.{defined_by, all_defined, defined_at, defined_or, is_open, IsReading}
-use Rattle.decl_types.specs.ViewScoped.{own_in, numbers_by, decls_by, declaration_from, mended_from, is_unknown, Knows, Fixed, Scoped, Reads, KnowsOne}
+use Rattle.decl_types.specs.ViewScoped.{own_in, numbers_by, decls_by, declaration_from, mended_from, Knows, Fixed, Scoped, Reads, KnowsOne}
+use Rattle.decl_types.specs.ViewMarks.{is_unknown}
 use Rattle.decl_types.specs.ViewScoped.{KnowsAll}
 use Rattle.decl_types.proofs.Positions.{key_among}
 use Rattle.decl_types.proofs.Meaning.{known_count, known_as, closed_key, marks_open, knows_more, facts_more, next_holds, next_new}

@@ -1,6 +1,7 @@
 mod Outcomes
 mod Numbering
 mod Ordering
+mod Renaming
 mod Counting
 mod Declaring
 mod Becoming
@@ -13,5 +14,6 @@ mod Scoping
 mod Growing
 mod Readying
 mod Enclosing
+mod Circling
 mod Sizes
 pub mod ForCallers

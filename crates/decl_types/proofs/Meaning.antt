@@ -14,7 +14,8 @@ use Rattle.decl_types.specs.ViewNodes.{no_key, key_at}
 use Rattle.decl_types.specs.ViewKnown.{KnownAs, meaning_by}
 use Rattle.decl_types.specs.ViewMarks.{mark_at, Marks}
 use Rattle.decl_types.specs.ViewReading.{is_open}
-use Rattle.decl_types.specs.ViewScoped.{is_unknown, AreKnown, Knows, Differ}
+use Rattle.decl_types.specs.ViewScoped.{AreKnown, Knows, Differ}
+use Rattle.decl_types.specs.ViewMarks.{is_unknown}
 use Rattle.decl_types.proofs.Positions.{one_key, key_same, key_among}
 
 -- ---- by key

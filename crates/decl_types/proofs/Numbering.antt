@@ -70,7 +70,7 @@ node_at n m [] (suc i) node rest h e = cc
 node_at n m (x ∷ nodes) zero node rest h e = subst (NodeIn n m) (ap (first_or x) e) h.0
 node_at n m (x ∷ nodes) (suc i) node rest h e = node_at n m nodes i node rest h.1 e
 
-take_more : {X : Type 0} (xs : List X) (i : ℕ) (x : X) (rest : List X) → drop i xs ≡ x ∷ rest → take (suc i) xs ≡ take i xs ++ x ∷ []
+pub take_more : {X : Type 0} (xs : List X) (i : ℕ) (x : X) (rest : List X) → drop i xs ≡ x ∷ rest → take (suc i) xs ≡ take i xs ++ x ∷ []
 take_more [] zero x rest e = cc
 take_more [] (suc i) x rest e = cc
 take_more (y ∷ xs) zero x rest e = ap (λ z. first_or y z ∷ []) e

@@ -1,6 +1,7 @@
 -- Definitions that are sound, over tables that grow.
 use Rattle.std.proofs.Common.{◌≡◌, ℕ, zero, suc, ◌+◌, ◌<◌, ◌≤◌, List, [], ◌∷◌, ◌++◌, drop, Some, subst, sym, ap, ◌∙◌}
 use Rattle.std.proofs.Common.{arith, length, length-append}
+use Rattle.std.proofs.lemmas.List.{length-set}
 use Rattle.std.specs.Prelude.{Option, slice_get, slice_set}
 use Rattle.std.proofs.lemmas.Option.{none-some, same_Some}
 use Rattle.nim_types.specs.declared.types.TypeDef.{TypeDef}
@@ -68,7 +69,7 @@ stands_more ds es known i d k h = λ id e ts facts u. h id e ts (facts_in ds) (k
 pub holds_more : (ds es : List TypeDef) (known : List (Option ℕ)) (read : List Definition) → Kept ds es → Holds ds known read → Holds es known read
 holds_more ds es known read k h = record {
   order = h.order;
-  sound = λ i d e. let s = h.sound i d e in (s.0, sound_more (length ds) (length es) s.0 d k.length s.1);
+  sound = λ i d e. sound_more (length ds) (length es) (length known) d k.length (h.sound i d e);
   below = below_more (length ds) (length es) known k.length h.below;
   first = h.first;
   stands = λ i d e. stands_more ds es known i d k (h.stands i d e);
@@ -93,7 +94,7 @@ holds_known ds es known more read i id d k lt inside e at own h =
     → HasType z z.meaning (type_at ts x) in
     let done : Holds es (slice_set known i (Some id)) read = record {
       order = g.order;
-      sound = g.sound;
+      sound = λ j z get. subst (λ l. IsSound (length es) l z) (sym (length-set known i (Some id))) (g.sound j z get);
       below = known_each (λ j x. x < length es) known i id g.below lt;
       first = known_each (λ j x. j < length read) known i id g.first inside;
       stands = λ j z f x get. known_each Typed known i id (λ l y s w t. g.stands l w t y s)
@@ -125,12 +126,12 @@ at_last P (z ∷ xs) x h p zero y e = h zero y e
 at_last P (z ∷ xs) x h p (suc i) y e = at_last (λ k. P (suc k)) xs x (λ j w f. h (suc j) w f) p i y e
 
 -- one more has been read
-pub holds_last : (n m : ℕ) (ds : List TypeDef) (known : List (Option ℕ)) (read more : List Definition) (d : Definition) → n ≤ length ds
-    → Holds ds known read → InOrder d → IsSound n m d → more ≡ read ++ d ∷ [] → Holds ds known more
-holds_last n m ds known read more d le h o s e =
+pub holds_last : (n : ℕ) (ds : List TypeDef) (known : List (Option ℕ)) (read more : List Definition) (d : Definition) → n ≤ length ds
+    → Holds ds known read → InOrder d → IsSound n (length known) d → more ≡ read ++ d ∷ [] → Holds ds known more
+holds_last n ds known read more d le h o s e =
     let last : Holds ds known (read ++ d ∷ []) = record {
       order = at_last (λ i x. InOrder x) read d h.order o;
-      sound = at_last (λ i x. (m : ℕ) × IsSound (length ds) m x) read d h.sound (m, sound_more n (length ds) m d le s);
+      sound = at_last (λ i x. IsSound (length ds) (length known) x) read d h.sound (sound_more n (length ds) (length known) d le s);
       below = h.below;
       first = λ i id f. let lt = h.first i id f in omega (arith, lt, length-append read (d ∷ []));
       stands = at_last (λ i x. Stands ds known i x) read d h.stands (λ id f. absurd (let lt = h.first (length read) id f in omega (arith, lt)));

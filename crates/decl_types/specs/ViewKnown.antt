@@ -133,7 +133,7 @@ Stands ds known i d =
 -- definitions that have been read, and what is known of them
 pub record Holds (ds : List TypeDef) (known : List (Option ℕ)) (read : List Definition) : Type 0 where
   pub order : (i : ℕ) (d : Definition) → slice_get read i ≡ Some d → InOrder d
-  pub sound : (i : ℕ) (d : Definition) → slice_get read i ≡ Some d → (m : ℕ) × IsSound (length ds) m d
+  pub sound : (i : ℕ) (d : Definition) → slice_get read i ≡ Some d → IsSound (length ds) (length known) d
   pub below : KnownBelow (length ds) known
   pub first : (i id : ℕ) → slice_get known i ≡ Some (Some id) → i < length read
   pub stands : (i : ℕ) (d : Definition) → slice_get read i ≡ Some d → Stands ds known i d

@@ -1,15 +1,19 @@
 -- Which marked definitions are named in others, by number. Contracts of the pass alone speak of it.
 use Rattle.std.specs.Prelude.{◌≡◌, ◌<◌, ℕ, suc, Bool, true, false, not, ◌||◌, if◌then◌else◌, List, [], ◌∷◌, ◌++◌, Option, Some, None}
-use Rattle.std.specs.Prelude.{slice_get, unwrap_or}
+use Rattle.std.specs.Prelude.{slice_get, unwrap_or, length}
 use Rattle.nim_types.specs.Types.{Ty, Key}
 use Rattle.nim_types.specs.Table.{type_at}
-use Rattle.decl_rules.specs.Meanings.{occurs}
+use Rattle.decl_rules.specs.Meanings.{occurs, renamed}
 use Rattle.decl_types.specs.declared.nodes.Node.{Node}
 use Rattle.decl_types.specs.declared.nodes.Node.TheVariants as N
 use Rattle.decl_types.specs.declared.known.Meaning.{Meaning}
 use Rattle.decl_types.specs.declared.known.Meaning.TheVariants as M
 use Rattle.decl_types.specs.declared.known.Definition.{Definition}
 use Rattle.decl_types.specs.ViewNodes.{key_at}
+
+abbrev pub is_unknown : Option ℕ → Bool
+is_unknown None = true
+is_unknown (Some id) = false
 
 -- those beyond the marks aren't marked
 abbrev pub mark_at : List Bool → ℕ → Bool
@@ -62,6 +66,14 @@ is_enum _ = false
 -- those are marked that are meant
 abbrev pub Marks : List Key → List Bool → (is_meant : Key → Bool) → Type 0
 Marks keys marks is_meant = (k : ℕ) → mark_at marks k ≡ is_meant (key_at keys k)
+
+-- none is marked
+abbrev pub Unmarked : List Bool → Type 0
+Unmarked marks = (i : ℕ) → mark_at marks i ≡ false
+
+-- those types are renamed ones whose numbers aren't marked
+abbrev pub RenamedWhere : List Bool → List Ty → (by : Key → Ty) → List Ty → Type 0
+RenamedWhere marks ts by done = (i : ℕ) → i < length ts → mark_at marks i ≡ false → type_at ts i ≡ renamed by (type_at done i)
 
 -- in the first so many types none occurs that is meant
 abbrev pub Apart : List Ty → ℕ → (is_meant : Key → Bool) → Type 0

@@ -88,10 +88,6 @@ pub record Fixed (ts : List Ty) (st : State) (all : List Declaration) (old : Lis
 
 -- ---- what is known
 
-abbrev pub is_unknown : Option ℕ → Bool
-is_unknown None = true
-is_unknown (Some id) = false
-
 -- each by its key
 abbrev pub AreKnown : List Ty → List KnownType → List Key → List (Option ℕ) → Type 0
 AreKnown ts k [] [] = Unit {0}

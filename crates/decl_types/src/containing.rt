@@ -1,12 +1,12 @@
 // Types that contain themselves.
-ghost use Rattle.std.specs.Prelude.{◌≡◌, ℕ, List, length, slice_set, true, IfOk};
+ghost use Rattle.std.specs.Prelude.{◌≡◌, ℕ, List, length, slice_set, true, IfOk, OnOk};
 ghost use Rattle.arc_base.specs.declared.place.Stop.TheVariants as Stop;
 ghost use Rattle.arc_base.specs.Refusal.{Answers};
 ghost use Rattle.nim_types.specs.Types.{Ty, Key};
 ghost use Rattle.decl_rules.specs.Sections.{containment_rule};
 ghost use Rattle.decl_types.specs.ViewMarks.{mark_at};
 ghost use Rattle.decl_types.specs.ViewReading.{all_defined};
-ghost use Rattle.decl_types.specs.ViewContained.{step_of, contained};
+ghost use Rattle.decl_types.specs.ViewContained.{step_of, contained, NoneContained};
 ghost use Rattle.decl_types.specs.ViewScoped.{Whole};
 
 use crate::known::Definition;
@@ -111,9 +111,10 @@ fn contains_itself(alloc: Global, read: &[Definition], number: usize) -> Result<
 
 /// Refuses the first type that contains itself.
 pub fn check_contained(alloc: Global, read: &[Definition]) -> Result<(), Stop>
-    ensures { (ts : List Ty) (n m : ℕ) (keys : List Key) → Whole ts n m keys read.now
+    ensures answers { (ts : List Ty) (n m : ℕ) (keys : List Key) → Whole ts n m keys read.now
         → Answers (λ _. tt) (containment_rule (all_defined ts keys read.now)
         (all_defined ts keys read.now)) result }
+    ensures none { OnOk result (NoneContained read.now) }
 {
     let mut number = 0_usize;
     for definition in read {

@@ -9,8 +9,10 @@ ghost use Rattle.decl_rules.specs.Meanings.{KnownType, next_in};
 ghost use Rattle.decl_rules.specs.Meanings.{is_next as is_next_key};
 ghost use Rattle.decl_types.specs.ViewKnown.{Kept, Holds};
 ghost use Rattle.decl_types.specs.ViewReading.{IsReading, all_defined, defined_at};
-ghost use Rattle.decl_types.specs.ViewMarks.{mark_at, Stuck};
-ghost use Rattle.decl_types.specs.ViewScoped.{is_unknown, KnowsOne, KnowsAll};
+ghost use Rattle.decl_types.specs.declared.known.Definition.{Definition};
+ghost use Rattle.decl_types.specs.ViewMarks.{is_next, Stuck};
+ghost use Rattle.decl_types.specs.ViewScoped.{KnowsOne, KnowsAll};
+ghost use Rattle.decl_types.specs.ViewMarks.{is_unknown};
 ghost use Rattle.decl_types.specs.ViewScoped.{declaration_from, mended_from};
 
 use crate::known::{Definition, add_known};
@@ -43,8 +45,8 @@ fn next(
         → next_in (is_next_key keys (all_defined ts keys read.now) k)
         (all_defined ts keys read.now) ≡ defined_at ts keys read.now next) }
     ensures within { IfOk result (λ next. IfSome next (λ n. n < length read.now)) }
-    ensures marked { IfOk result (λ next. IfSome next
-        (λ n. mark_at (map is_unknown known.now) n ≡ true)) }
+    ensures found { IfOk result (λ next. IfSome next (λ n. (d : Definition)
+        → slice_get read.now n ≡ Some d → is_next (map is_unknown known.now) n d ≡ true)) }
     ensures stuck { IfOk result (λ next. next ≡ None
         → Stuck (map is_unknown known.now) read.now) }
 {
@@ -121,6 +123,8 @@ fn know(
     number: usize,
 ) -> Result<(), Stop>
     requires found { number < length read.now }
+    requires next { (d : Definition) → slice_get read.now number ≡ Some d
+        → is_next (map is_unknown known.old.items) number d ≡ true }
     requires room { number < length known.old.items }
     requires holds { Holds types.old known.old.items read.now }
     ensures kept { Kept types.old types.new }

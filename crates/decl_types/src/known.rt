@@ -1,5 +1,5 @@
 // Types of a section that become known.
-ghost use Rattle.std.specs.Prelude.{◌≡◌, ◌<◌, ℕ, List, Some, map, length, slice_get, IfOk, IfErr};
+ghost use Rattle.std.specs.Prelude.{◌≡◌, ◌<◌, ℕ, List, Some, map, length, slice_get, IfOk, IfErr, Bool, false};
 ghost use Rattle.std.specs.Prelude.{OnOk, OnErr};
 ghost use Rattle.arc_base.specs.declared.place.Stop.TheVariants as Stop;
 ghost use Rattle.nim_types.specs.Types as type;
@@ -8,6 +8,8 @@ ghost use Rattle.nim_types.specs.Table.{type_at, types_at, meant, AllBelow, IsWi
 ghost use Rattle.expr_parts.specs.View.{Under, Grown, IsBuilt};
 ghost use Rattle.decl_rules.specs.Meanings.{renamed};
 ghost use Rattle.decl_types.specs.ViewNodes.{node_type, node_types};
+ghost use Rattle.decl_types.specs.ViewMarks.{mark_at, node_mark, node_marks, definition_mark};
+ghost use Rattle.decl_types.specs.ViewMarks.{is_unknown, RenamedWhere};
 ghost use Rattle.decl_types.specs.ViewKnown.{KnownAs, Untouched, NodeIn, NodesIn};
 ghost use Rattle.decl_types.specs.ViewKnown.{MadeBelow, Ordered, MeaningWithin, InOrder, KnownBelow};
 ghost use Rattle.decl_types.specs.ViewKnown.{OneEach, IsSound, AddsMeant, Becomes, Kept, HasType};
@@ -89,17 +91,6 @@ fn field_copies(alloc: Global, fields: &[FieldName]) -> Result<Items<FieldName>,
     Ok(copies)
 }
 
-/// The type of a definition that is known.
-pub fn known_at(known: &[Option<TypeId>], number: usize) -> Result<TypeId, Stop>
-    ensures known { IfOk result (λ id. slice_get known.now number ≡ Some (Some id)) }
-    ensures memory { IfErr result (λ stop. stop ≡ Stop.Memory) }
-{
-    match known.get(number) {
-        Some(Some(id)) => Ok(*id),
-        _ => Err(Stop::Memory),
-    }
-}
-
 // The entries of nodes that are made of others.
 
 fn sequence_of(ids: &[TypeId], of: u32) -> TypeDef
@@ -143,6 +134,34 @@ fn tuple_of(
     })
 }
 
+// The type of a definition. Where it isn't known, nothing is made of the node that names it: then it
+// may be any type.
+fn type_of_named(
+    alloc: Global,
+    types: &mut TypeTable,
+    known: &[Option<TypeId>],
+    number: usize,
+) -> Result<TypeId, Stop>
+    requires number { number < length known.now }
+    requires known { KnownBelow (length types.old) known.now }
+    ensures grown { Grown types.old types.new }
+    ensures within { IfOk result (λ id. id < length types.new) }
+    ensures known { mark_at (map is_unknown known.now) number ≡ false
+        → IfOk result (λ id. slice_get known.now number ≡ Some (Some id)) }
+    ensures memory { IfErr result (λ stop. stop ≡ Stop.Memory) }
+{
+    match known[number] {
+        Some(id) => Ok(id),
+        None => add(
+            types,
+            TypeDef::Tuple {
+                names: Items::new(alloc),
+                parts: Items::new(alloc),
+            },
+        ),
+    }
+}
+
 // The type of a node, by those of the nodes before it.
 fn type_of(
     alloc: Global,
@@ -153,20 +172,22 @@ fn type_of(
 ) -> Result<TypeId, Stop>
     requires below { AllBelow (length types.old) ids.now }
     requires ordered { MadeBelow (length ids.now) node.now }
-    requires node { (m : ℕ) × NodeIn (length types.old) m node.now }
+    requires node { NodeIn (length types.old) (length known.now) node.now }
     requires known { KnownBelow (length types.old) known.now }
     ensures grown { Grown types.old types.new }
     ensures within { IfOk result (λ id. id < length types.new) }
     ensures means { IfOk result (λ id. (n m : ℕ) → NodeIn n m node.now
         → (ts : List Ty) (facts : Facts) → Under types.new ts facts
-        → (keys : List Key) (by : Key → Ty) (done : List Ty) → KnownAs ts keys known.now by
-        → Untouched ts n by → map (type_at ts) ids.now ≡ map (renamed by) done
+        → (keys : List Key) (by : Key → Ty) (done : List Ty) (before : List Bool)
+        → KnownAs ts keys known.now by → Untouched ts n by
+        → RenamedWhere before (map (type_at ts) ids.now) by done
+        → node_mark (map is_unknown known.now) before node.now ≡ false
         → type_at ts id ≡ renamed by (node_type ts keys done node.now)) }
     ensures memory { IfErr result (λ stop. stop ≡ Stop.Memory) }
 {
     match node {
         Node::Known(id) => Ok(*id),
-        Node::Named(number) => known_at(known, *number as usize),
+        Node::Named(number) => type_of_named(alloc, types, known, *number as usize),
         Node::Sequence(of) => add(types, sequence_of(ids, *of)),
         Node::Array { len, of, .. } => add(types, array_of(ids, *len, *of)),
         Node::Tuple { names, parts, .. } => {
@@ -178,7 +199,7 @@ fn type_of(
     }
 }
 
-/// The types of nodes, where all types of the section among them are known.
+/// The types of nodes; of those that name a type of the section which isn't known, any types.
 pub fn types_of(
     alloc: Global,
     types: &mut TypeTable,
@@ -186,7 +207,7 @@ pub fn types_of(
     nodes: &[Node],
 ) -> Result<Vec<TypeId>, Stop>
     requires ordered { Ordered 0 nodes.now }
-    requires nodes { (m : ℕ) × NodesIn (length types.old) m nodes.now }
+    requires nodes { NodesIn (length types.old) (length known.now) nodes.now }
     requires known { KnownBelow (length types.old) known.now }
     ensures grown { Grown types.old types.new }
     ensures within { IfOk result (λ ids. AllBelow (length types.new) ids.items) }
@@ -194,7 +215,8 @@ pub fn types_of(
     ensures means { IfOk result (λ ids. (n m : ℕ) → NodesIn n m nodes.now
         → (ts : List Ty) (facts : Facts) → Under types.new ts facts
         → (keys : List Key) (by : Key → Ty) → KnownAs ts keys known.now by → Untouched ts n by
-        → map (type_at ts) ids.items ≡ map (renamed by) (node_types ts keys nodes.now)) }
+        → RenamedWhere (node_marks (map is_unknown known.now) nodes.now) (map (type_at ts) ids.items)
+        by (node_types ts keys nodes.now)) }
     ensures memory { IfErr result (λ stop. stop ≡ Stop.Memory) }
 {
     let mut ids = Vec::new(alloc);
@@ -388,7 +410,8 @@ pub fn add_known(
     definition: &Definition,
 ) -> Result<TypeId, Stop>
     requires ordered { InOrder definition.now }
-    requires sound { (m : ℕ) × IsSound (length types.old) m definition.now }
+    requires sound { IsSound (length types.old) (length known.now) definition.now }
+    requires named { definition_mark (map is_unknown known.now) definition.now ≡ false }
     requires known { KnownBelow (length types.old) known.now }
     ensures kept { Kept types.old types.new }
     ensures becomes { IfOk result (λ id. Becomes types.old types.new known.now definition.now id) }

@@ -1,6 +1,7 @@
 // Types of the section in what definitions are made of, by marks of definitions.
 ghost use Rattle.std.specs.Prelude.{◌≡◌, ◌<◌, ℕ, List, Bool, Some, None, IfOk, IfSome, length, map};
-ghost use Rattle.std.specs.Prelude.{drop, true};
+ghost use Rattle.std.specs.Prelude.{drop, true, slice_get};
+ghost use Rattle.decl_types.specs.declared.known.Definition.{Definition};
 ghost use Rattle.nim_types.specs.Types.{Ty, Key};
 ghost use Rattle.decl_rules.specs.Meanings.{occurs_in_any, made_of, KnownType, next_in};
 ghost use Rattle.decl_rules.specs.Meanings.{is_next as is_next_key};
@@ -133,7 +134,8 @@ pub fn next_known(
         (known : List KnownType) → IsReading n m ts keys known marks.now read.now → next_in (is_next_key keys (all_defined ts keys read.now)
         known) (all_defined ts keys read.now) ≡ defined_at ts keys read.now next) }
     ensures within { IfOk result (λ next. IfSome next (λ n. n < length read.now)) }
-    ensures marked { IfOk result (λ next. IfSome next (λ n. mark_at marks.now n ≡ true)) }
+    ensures found { IfOk result (λ next. IfSome next (λ n. (d : Definition)
+        → slice_get read.now n ≡ Some d → is_next marks.now n d ≡ true)) }
     ensures stuck { IfOk result (λ next. next ≡ None → Stuck marks.now read.now) }
 {
     next_from(alloc, marks, read, 0)

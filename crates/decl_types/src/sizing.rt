@@ -1,5 +1,5 @@
 // Sizes of the types of a section, and of what is written in it.
-ghost use Rattle.std.specs.Prelude.{◌≡◌, ◌<◌, ℕ, List, length, map};
+ghost use Rattle.std.specs.Prelude.{◌≡◌, ◌<◌, ◌≤◌, ℕ, List, length, map};
 ghost use Rattle.arc_base.specs.Refusal.{Answers, and_then};
 ghost use Rattle.nim_types.specs.Types.{Ty, Key, Facts};
 ghost use Rattle.nim_types.specs.Table.{type_at, AllBelow};
@@ -11,11 +11,13 @@ ghost use Rattle.decl_types.specs.ViewNodes.{formed_nodes};
 ghost use Rattle.decl_types.specs.ViewKnown.{IsSound, InOrder, KnownBelow, KnownAs, Untouched, Stands};
 ghost use Rattle.decl_types.specs.ViewKnown.{Holds, key_by, meant_by};
 ghost use Rattle.decl_types.specs.ViewKnown.{meaning_by};
+ghost use Rattle.decl_types.specs.ViewMarks.{is_unknown, Unmarked};
 ghost use Rattle.decl_types.specs.ViewReading.{all_defined};
 ghost use Rattle.decl_types.specs.ViewScoped.{Reads};
 ghost use Rattle.decl_types.specs.ViewSized.{node_sized, nodes_sized};
 
-use crate::known::{Definition, Meaning, id_at, known_at, types_of};
+use crate::knowing::known_type;
+use crate::known::{Definition, Meaning, id_at, types_of};
 use crate::nodes::Node;
 use arc_base::{Code, Place, Stop};
 use expr_parts::sizes::is_sized;
@@ -77,6 +79,8 @@ fn check_meant(
     definition: &Definition,
 ) -> Result<(), Stop>
     requires formed { AllFormed types.now }
+    requires room { number < length known.now }
+    requires all { Unmarked (map is_unknown known.now) }
     requires below { KnownBelow (length types.now) known.now }
     requires stands { Stands types.now known.now number definition.now }
     ensures { (ts : List Ty) (facts : Facts) (keys : List Key) → Under types.now ts facts
@@ -85,7 +89,7 @@ fn check_meant(
 {
     match &definition.meaning {
         Meaning::Object { .. } => {
-            let id = known_at(known, number)?;
+            let id = known_type(known, number);
             check_size(types, id, definition.at)
         }
         Meaning::Enum(_) | Meaning::Distinct(_) | Meaning::Alias(_) => Ok(()),
@@ -102,7 +106,9 @@ fn check_definition(
 ) -> Result<(), Stop>
     requires formed { AllFormed types.old }
     requires ordered { InOrder definition.now }
-    requires sound { (m : ℕ) × IsSound (length types.old) m definition.now }
+    requires room { number < length known.now }
+    requires all { Unmarked (map is_unknown known.now) }
+    requires sound { IsSound (length types.old) (length known.now) definition.now }
     requires known { KnownBelow (length types.old) known.now }
     requires stands { Stands types.old known.now number definition.now }
     ensures grown { Grown types.old types.new }
@@ -129,6 +135,8 @@ pub fn check_sizes(
 ) -> Result<(), Stop>
     requires formed { AllFormed types.old }
     requires holds { Holds types.old known.now read.now }
+    requires room { length read.now ≤ length known.now }
+    requires all { Unmarked (map is_unknown known.now) }
     ensures grown { Grown types.old types.new }
     ensures answers { (n m : ℕ) (ts : List Ty) (facts : Facts) (keys : List Key)
         (k : List KnownType) → Under types.new ts facts → Reads n m keys read.now

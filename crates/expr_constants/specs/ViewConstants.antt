@@ -1,5 +1,5 @@
 -- What the code's values of constants stand for. It serves proofs: no public contract speaks of it but that of `value_in`.
-use Rattle.std.specs.Prelude.{ℕ, suc, ◌^◌, ◌-◌, ℤ, pos, negsuc, unsigned_abs, Bool, true, false, List, [], ◌∷◌}
+use Rattle.std.specs.Prelude.{ℕ, suc, ◌^◌, ◌-◌, ℤ, pos, negsuc, Bool, true, false, List, [], ◌∷◌}
 use Rattle.std.specs.Prelude.{length, nat_eq, if◌then◌else◌, Option, Some, None, Vec}
 use Rattle.std.specs.declared.alloc.Global.{Global}
 use Rattle.nim_types.specs.Types.{Ty, Facts}
@@ -8,6 +8,7 @@ use Rattle.nim_types.specs.declared.types.TypeDef.TheVariants as D
 use Rattle.nim_types.specs.Table.{type_at}
 use Rattle.nim_program.specs.declared.expr.Literal.{Literal as RustLiteral}
 use Rattle.nim_program.specs.Program.{Literal, Literals, Number, Characters, NoLiteral, ALiteral}
+use Rattle.nim_program.specs.Ints.{low_byte}
 use Rattle.nim_program.specs.declared.expr.Operand.{Operand as RustArgument}
 use Rattle.nim_program.specs.declared.expr.Operand.TheVariants as argument
 use Rattle.nim_program.specs.View.{expr_of, path_of, literals_of}
@@ -35,7 +36,7 @@ has_letters (Characters bytes) = true
 has_letters _ = false
 
 abbrev pub letters : Literal → List ℕ
-letters (Number z) = unsigned_abs z ∷ []
+letters (Number z) = low_byte z ∷ []
 letters (Characters bytes) = bytes
 letters _ = []
 

@@ -1,6 +1,6 @@
 -- Constants: which expressions have a value that is known before any run, and which one.
 use Rattle.std.specs.Prelude.{ℕ, suc, ℤ, pos, negsuc, nat_eq, nat_lt, nat_le, if◌then◌else◌, List, [], ◌∷◌, ◌++◌, length}
-use Rattle.std.specs.Prelude.{unsigned_abs, Option, Some, None, Ok}
+use Rattle.std.specs.Prelude.{Option, Some, None, Ok}
 use Rattle.arc_base.specs.declared.place.Place.{Place}
 use Rattle.nim_types.specs.Types as type
 use Rattle.nim_types.specs.Types.{Ty, Field, Facts, fact_of, members_in, fields_in}
@@ -15,7 +15,7 @@ use Rattle.nim_program.specs.declared.operation.Short.{Short}
 use Rattle.nim_program.specs.declared.operation.Short.TheVariants.{And, Or}
 use Rattle.nim_program.specs.Program.{Literal, Number, Characters, PartsOf, ElementsOf, Literals, NoLiteral, ALiteral, Act, Doing, Building, Giving, Calling}
 use Rattle.nim_program.specs.Program.{Expr, Apply, Read, Early, Choose, Path, Fresh, Args, NoArg, ByValue, ByPath, types_in}
-use Rattle.nim_program.specs.Ints.{Checked, Fine, Trapped, applied, applied_to, compared, truth, is_true, within}
+use Rattle.nim_program.specs.Ints.{Checked, Fine, Trapped, applied, applied_to, compared, truth, is_true, within, low_byte}
 use Rattle.nim_program.specs.Texts.{plain_text}
 use Rattle.nim_program.specs.Kinds.{below_distinct}
 use Rattle.nim_program.specs.Defaults.{default_literal}
@@ -90,7 +90,7 @@ compare_of c _ _ = varies
 
 -- of a text, or a char
 abbrev pub letters_of : Literal → Evaluated (List ℕ)
-letters_of (Number z) = comes_to (unsigned_abs z ∷ [])
+letters_of (Number z) = comes_to (low_byte z ∷ [])
 letters_of (Characters bytes) = comes_to bytes
 letters_of _ = varies
 

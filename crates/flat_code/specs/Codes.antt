@@ -9,7 +9,7 @@ use Rattle.nim_plan.specs.declared.plan.Plan.{Plan}
 use Rattle.nim_program.specs.declared.program.HookOf.{HookOf}
 use Rattle.nim_program.specs.View.{if_type}
 use Rattle.nim_meaning.specs.Values.{default_of, Slot, Holds}
-use Rattle.nim_meaning.specs.Here.{gives_hooked, act_at}
+use Rattle.nim_meaning.specs.Here.{gives_hooked, form_for, act_at}
 use Rattle.nim_meaning.specs.Places.{taken_by}
 use Rattle.flat_code.specs.declared.code.Code.{Code}
 use Rattle.flat_code.specs.declared.code.CodeProc.{CodeProc}
@@ -23,7 +23,7 @@ use Rattle.flat_code.specs.declared.place.PlaceKind.{PlaceKind}
 use Rattle.flat_code.specs.declared.place.PlaceKind.TheVariants.{Result}
 use Rattle.flat_code.specs.declared.place.FlatPlace.{FlatPlace}
 use Rattle.flat_code.specs.Scene.{Known, known_in, Scene, Did}
-use Rattle.flat_code.specs.Lines.{does, gives, using_place}
+use Rattle.flat_code.specs.Lines.{destination, does, gives, using_place}
 use Rattle.flat_code.specs.Running.{Proc, runs}
 use Rattle.flat_code.specs.Whole.{label_in, are_whole}
 use Rattle.flat_code.specs.Fits.{code_fits}
@@ -112,7 +112,8 @@ owned_label line = label_in (owned_plain line)
 abbrev pub owned_does : Known → Scene → OwnedLine → Did
 owned_does known x (O.Plain line) = does known no_plan x line
 owned_does known x (O.Take to from how act ty) =
-    using_place x.temps from (λ place location. gives x to (taken_by (gives_hooked known.facts (if_type known.types ty)) how act location))
+    using_place x.temps from (λ place location. gives x to
+    (taken_by (gives_hooked known.facts (if_type known.types ty)) (form_for known.facts (if_type known.types ty)) (destination x how to) act location))
 
 abbrev pub owned_meaning : List TypeDef → Code OwnedLine → (heap : ℕ) → (input : List ℕ) → Behaviour Event
 owned_meaning table owned heap input = runs owned_label (owned_does (known_in table)) (procs_of (known_in table) owned) heap input

@@ -6,5 +6,7 @@ pub mod Whole
 pub mod Shapes
 pub mod Fits
 pub mod Sizes
+pub mod Alike
+pub mod PlainCode
 pub mod Codes
 pub mod Examples

@@ -16,7 +16,9 @@ use Rattle.nim_meaning.specs.Deeds.{Deed, Opens, perform, give, ◌>>=◌, ◌>>
 use Rattle.nim_meaning.specs.Deeds as deeds
 use Rattle.nim_meaning.specs.Here.{gives_hooked}
 use Rattle.flat_code.specs.Pieces.{value_of, pieces_bytes}
-use Rattle.nim_meaning.specs.Places.{made_by, place_at, rooted, made, to_part, to_item, to_object, item_of, fetched, put}
+use Rattle.nim_program.specs.declared.operation.Use.{Use}
+use Rattle.nim_meaning.specs.Table.{constant_row}
+use Rattle.nim_meaning.specs.Places.{Destination, made_by, place_at, rooted, made, to_part, to_item, to_object, item_of, fetched, put}
 use Rattle.nim_meaning.specs.Meaning.{row, got_by, handed_by, limit}
 use Rattle.nim_meaning.specs.Aims.{handed_bytes}
 use Rattle.flat_code.specs.declared.line.From.{From}
@@ -108,16 +110,22 @@ hands x (Some place) =
 
 -- ---- lines
 
+-- What the value of a line is for. No value waits yet, so the temporary that gets it stands for its node.
+abbrev pub destination : Scene → Use → (to : ℕ) → Destination
+destination x how to = record { how = how; level = x.level; node = to }
+
 abbrev pub does : Known → Plan → Scene → Line → Did
 does known plan x (L.Apply to operation how ty of from) =
-    using_all x.temps from (λ xs. gives x to (row known.facts (Doing operation) how (if_type known.types ty) (map (if_type known.types) of) xs))
+    using_all x.temps from (λ xs. gives x to
+    (row known.facts (Doing operation) (destination x how to) (if_type known.types ty) (map (if_type known.types) of) xs))
 does known plan x (L.Construct to how ty fields from) =
-    using_all x.temps from (λ xs. gives x to (row known.facts (Building fields) how (Some (type_at known.types ty)) [] xs))
+    using_all x.temps from (λ xs. gives x to (row known.facts (Building fields) (destination x how to) (Some (type_at known.types ty)) [] xs))
 does known plan x (L.Constant to how ty pieces) =
-    gives x to (costs 1 (costs (pieces_bytes pieces) (give (value_of pieces))) >>= made_by (gives_hooked known.facts (Some (type_at known.types ty))) how)
+    gives x to (constant_row known.facts (Some (type_at known.types ty)) (pieces_bytes pieces) (value_of pieces)
+    >>= made_by (gives_hooked known.facts (Some (type_at known.types ty))) (destination x how to))
 does known plan x (L.Call to how ty proc from) = using_all x.temps from (λ xs. Calls to proc (slots_for xs) (suc (handed_bytes xs)))
 does known plan x (L.Get to from how site ty) =
-    using_place x.temps from (λ place location. gives x to (got_by known.facts plan how site (if_type known.types ty) location))
+    using_place x.temps from (λ place location. gives x to (got_by known.facts plan (destination x how to) site (if_type known.types ty) location))
 does known plan x (L.Look to from) = using_place x.temps from (λ place location. gives x to (fetched location))
 does known plan x (L.Root to place global) =
     if_open x.world (level_at global x.level) place
@@ -128,7 +136,8 @@ does known plan x (L.Part to from field) = using_place x.temps from (λ place lo
 does known plan x (L.Item to from index) =
     using_place x.temps from (λ place location. using_number x.temps index (λ z. leads x to place (to_item location z)))
 does known plan x (L.Object to from) = using_place x.temps from (λ place location. leads x to (Located location) (to_object location))
-does known plan x (L.Pass to from how ty) = using (x.temps.values from) (λ v. gives x to (costs 1 (handed_by known.facts how (if_type known.types ty) v)))
+does known plan x (L.Pass to from how ty) =
+    using (x.temps.values from) (λ v. gives x to (costs 1 (handed_by known.facts (destination x how to) (if_type known.types ty) v)))
 does known plan x (L.Truth to value) = gives x to (costs 1 (give (Number (truth value))))
 does known plan x (L.Fill place from) = using (x.temps.values from) (λ v. acts x (costs 1 (fills x.level place v)))
 does known plan x (L.Blank place ty) = acts x (costs 1 (fills x.level place (default_of known.facts (type_at known.types ty))))

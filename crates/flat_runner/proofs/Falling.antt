@@ -17,11 +17,12 @@ use Rattle.flat_code.specs.Scene as scenes
 use Rattle.flat_code.specs.Lines.{does}
 use Rattle.flat_code.specs.Running.{Proc, Waiting, Machine, from_label, is_name, before_last, callable}
 use Rattle.flat_code.specs.Running.{jumped, called, entered, settled, step_lines, scene_of, returned}
-use Rattle.flat_code.specs.Running.{spends, spends_next, unit_left}
+use Rattle.flat_code.specs.Running.{spends, spends_next, step, unit_left}
 use Rattle.flat_code.specs.Whole.{label_in}
 use Rattle.flat_code.specs.Codes.{lines_in, procs_of, proc_of}
 use Rattle.flat_runner.specs.declared.step.Step.TheVariants as S
 use Rattle.flat_runner.specs.Steps.{Stepped}
+use Rattle.flat_runner.proofs.StepRows.{went_of, said_of}
 use Rattle.flat_runner.specs.View.{lines_of, lines_at}
 
 -- ---- the lines that are left, in all calls
@@ -155,11 +156,13 @@ module _ (types : List TypeDef) (plan : Plan) (flat : Code Line) where
 
   pub goes_falls : (old new : Machine Line) (units left : ℕ) → length old.now.whole ≤ most → Stepped types plan flat old units S.Goes new left
       → bound new left < bound old units
-  goes_falls old new units left whole h = falls_by old new old.now.rest units left whole h.0.events h.0.work h.0.is h.1
+  goes_falls old new units left whole h =
+      let k = went_of (step label_in do_line procs old) new h.0 in falls_by old new old.now.rest units left whole k.events k.work k.is h.1
 
   pub says_falls : (old new : Machine Line) (units left : ℕ) (line : _) → length old.now.whole ≤ most → Stepped types plan flat old units (S.Says line) new left
       → bound new left < bound old units
-  says_falls old new units left line whole h = falls_by old new old.now.rest units left whole _ h.0.work h.0.is h.1
+  says_falls old new units left line whole h =
+      let k = said_of (step label_in do_line procs old) line new h.0 in falls_by old new old.now.rest units left whole _ k.work k.is h.1
 
   pub lines_within : (proc : ℕ) → length (lines_at flat proc) ≤ most
   lines_within proc = found_at flat.procs proc

@@ -1,60 +1,14 @@
 -- The operands of a line.
-use Rattle.std.proofs.Common.{◌≡◌, ℕ, zero, suc, ◌<◌, ◌≤◌, Bool, true, false, ◌&&◌, length, get_or, arith, List}
-use Rattle.std.proofs.Common.{[], ◌∷◌, ◌++◌, ◌+◌, map, take, refl, sym, ap, ap₂, subst, ◌∙◌, Option, Some, None}
-use Rattle.std.specs.Prelude.{option_map, slice_get}
+use Rattle.std.proofs.Common.{◌≡◌, ℕ, zero, suc, ◌<◌, ◌≤◌, length, get_or, arith, List}
+use Rattle.std.proofs.Common.{[], ◌∷◌, ◌++◌, ◌+◌, map, take, refl, sym, ap, ap₂, ◌∙◌, Option, Some}
+use Rattle.std.specs.Prelude.{slice_get}
 use Rattle.std.proofs.lemmas.Option.{none-some, same_Some}
-use Rattle.std.proofs.lemmas.Bool.{true≢false}
-use Rattle.nim_meaning.specs.Values.{Value, Values, Nil, More, Operand, Given, At, Slot, nothing, operand, values_in, slots_for, slot_for}
+use Rattle.nim_meaning.specs.Values.{Value, Values, Nil, More, Given, Slot, nothing, operand, values_in, slots_for, slot_for}
 use Rattle.nim_meaning.specs.Values.{value_of as value_in_operand}
 use Rattle.flat_code.specs.declared.line.From.{From}
-use Rattle.flat_code.specs.declared.line.From.TheVariants as F
-use Rattle.flat_code.specs.Lines.{fetch, using, using_all, is_there}
-use Rattle.flat_code.specs.Scene.{Temps, Where, Did, Fails, if_value, location_at}
-use Rattle.flat_runner.specs.Fetched.{is_fetched, are_there}
-use Rattle.flat_runner.specs.View.{operand_of, operands_in, place_or, value_of, values_of}
+use Rattle.flat_code.specs.Scene.{Temps}
+use Rattle.flat_runner.specs.View.{operand_of, operands_in, value_of, values_of}
 use Rattle.flat_runner.specs.declared.value.Value.{Value as RustValue}
-
-value_fetched : (o : Option Value) → is_there (option_map Given o) ≡ true → option_map Given o ≡ Some (Given (if_value o))
-value_fetched None e = absurd (true≢false (sym e))
-value_fetched (Some v) e = refl
-
-place_fetched : (temps : Temps) (o : Option Where) → is_there (option_map (λ place. At (location_at temps place)) o) ≡ true
-    → option_map (λ place. At (location_at temps place)) o ≡ Some (At (location_at temps (place_or o)))
-place_fetched temps None e = absurd (true≢false (sym e))
-place_fetched temps (Some place) e = refl
-
-fetched_is : (temps : Temps) (from : From) → is_fetched temps from ≡ true → fetch temps from ≡ Some (operand_of temps from)
-fetched_is temps (F.Value t) e = value_fetched (temps.values t) e
-fetched_is temps (F.Place t) e = place_fetched temps (temps.places t) e
-
-pub all_there : (temps : Temps) (froms : List From) (go : List Operand → Did) → are_there temps froms ≡ true
-    → using_all temps froms go ≡ go (operands_in temps froms)
-all_there temps [] go e = refl
-all_there temps (from ∷ froms) go e =
-    each (λ f. all_there temps froms (λ xs. go (operand_of temps from ∷ xs)) f) (is_fetched temps from) refl
-  where
-    each : (are_there temps froms ≡ true → using_all temps froms (λ xs. go (operand_of temps from ∷ xs)) ≡ go (operands_in temps (from ∷ froms)))
-        → (b : Bool) → is_fetched temps from ≡ b → using_all temps (from ∷ froms) go ≡ go (operands_in temps (from ∷ froms))
-    each more true f =
-        ap (λ o. using o (λ x. using_all temps froms (λ xs. go (x ∷ xs)))) (fetched_is temps from f)
-        ∙ more (sym (ap (λ b. b && are_there temps froms) f) ∙ e)
-    each more false f = absurd (true≢false (sym e ∙ ap (λ b. b && are_there temps froms) f))
-
-none_there : {A : Type 0} (o : Option A) (go : A → Did) → is_there o ≡ false → using o go ≡ Fails
-none_there None go e = refl
-none_there (Some x) go e = absurd (true≢false e)
-
-pub not_there : (temps : Temps) (froms : List From) (go : List Operand → Did) → are_there temps froms ≡ false → using_all temps froms go ≡ Fails
-not_there temps [] go e = absurd (true≢false e)
-not_there temps (from ∷ froms) go e =
-    each (λ f. not_there temps froms (λ xs. go (operand_of temps from ∷ xs)) f) (is_fetched temps from) refl
-  where
-    each : (are_there temps froms ≡ false → using_all temps froms (λ xs. go (operand_of temps from ∷ xs)) ≡ Fails) → (b : Bool) → is_fetched temps from ≡ b
-        → using_all temps (from ∷ froms) go ≡ Fails
-    each more true f =
-        ap (λ o. using o (λ x. using_all temps froms (λ xs. go (x ∷ xs)))) (fetched_is temps from f)
-        ∙ more (sym (ap (λ b. b && are_there temps froms) f) ∙ e)
-    each more false f = none_there (fetch temps from) (λ x. using_all temps froms (λ xs. go (x ∷ xs))) f
 
 -- ---- one operand
 
@@ -109,19 +63,3 @@ pub one_slot : (temps : Temps) (froms : List From) (k : ℕ) (from : From) (all 
 one_slot temps froms k from all xs slot f e h g =
     let m : suc k ≡ k + 1 = omega arith in
     e ∙ ap₂ (λ l x. l ++ x ∷ []) h g ∙ sym (slots_last temps froms k from f) ∙ ap (λ j. map Some (slots_for (operands_in temps (take j froms)))) m
-
--- each of them is there
-pub one_there : (temps : Temps) (froms : List From) (k : ℕ) (from : From) → are_there temps froms ≡ true → slice_get froms k ≡ Some from
-    → is_fetched temps from ≡ true
-one_there temps [] k from h e = absurd (none-some from e)
-one_there temps (f ∷ froms) zero from h e =
-    subst (λ f. is_fetched temps f ≡ true) (same_Some f from e) (first (is_fetched temps f) (are_there temps froms) h)
-  where
-    first : (a b : Bool) → (a && b) ≡ true → a ≡ true
-    first true b e = refl
-    first false b e = e
-one_there temps (f ∷ froms) (suc k) from h e = one_there temps froms k from (second (is_fetched temps f) (are_there temps froms) h) e
-  where
-    second : (a b : Bool) → (a && b) ≡ true → b ≡ true
-    second true b e = e
-    second false b e = absurd (true≢false (sym e))

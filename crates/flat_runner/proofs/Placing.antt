@@ -1,37 +1,26 @@
 -- Places that are read and written.
 use Rattle.std.proofs.Common.{◌≡◌, ℕ, zero, suc, ◌-◌, ◌<◌, ◌≤◌, length, get_or, set, arith, List}
-use Rattle.std.proofs.Common.{[], ◌∷◌, map, refl, sym, ap, ap₂, subst, ◌∙◌, Option, Some}
+use Rattle.std.proofs.Common.{[], ◌∷◌, map, refl, sym, ap, ◌∙◌, Option, Bool, true, false}
 use Rattle.std.specs.Prelude.{slice_get}
-use Rattle.std.proofs.lemmas.List.{map-set, length-map}
-use Rattle.nim_meaning.specs.Values.{Value, Slot, Location}
-use Rattle.nim_meaning.specs.State.{Frame, World, frame_in, with_slot_of, with_slot, load, store, world_of}
-use Rattle.flat_runner.specs.declared.place.Spot.{Spot}
-use Rattle.flat_runner.specs.declared.place.Spot.TheVariants as P
+use Rattle.std.proofs.lemmas.List.{map-set, set-set}
+use Rattle.nim_meaning.specs.Values.{Values, Slot, Location, deeper}
+use Rattle.nim_meaning.specs.Places.{item_of}
+use Rattle.nim_meaning.specs.State.{Frame, World, frame_in, slot_of, slot_at, with_slot_of, with_slot}
+use Rattle.nim_meaning.specs.State as state
+use Rattle.flat_runner.specs.declared.value.Value.{Value as RustValue}
+use Rattle.flat_runner.specs.declared.value.Value.TheVariants as V
+use Rattle.flat_runner.specs.declared.value.Found.{Found}
+use Rattle.flat_runner.specs.declared.value.Found.TheVariants as X
 use Rattle.flat_runner.specs.declared.state.Slot.{Slot as RustSlot}
 use Rattle.flat_runner.specs.declared.state.Frame.{Frame as RustFrame}
-use Rattle.flat_runner.specs.View.{slot_is, frame_is, spot_is, world_in, world_with}
+use Rattle.flat_runner.specs.View.{value_of, value_row, rowed, found_value, slot_is, frame_is, world_in, world_with}
 
 -- ---- lists
-
-set_twice : {A : Type 0} (xs : List A) (i : ℕ) (x y : A) → set (set xs i x) i y ≡ set xs i y
-set_twice [] i x y = refl
-set_twice (z ∷ xs) zero x y = refl
-set_twice (z ∷ xs) (suc i) x y = ap (λ l. z ∷ l) (set_twice xs i x y)
-
-get_set : {A : Type 0} (xs : List A) (i : ℕ) (x : A) → i < length xs → slice_get (set xs i x) i ≡ Some x
-get_set [] i x lt = absurd (omega (arith, lt))
-get_set (z ∷ xs) zero x lt = refl
-get_set (z ∷ xs) (suc i) x lt = get_set xs i x (omega (arith, lt))
 
 pub set_beyond : {A : Type 0} (xs : List A) (i : ℕ) (x : A) → length xs ≤ i → set xs i x ≡ xs
 set_beyond [] i x le = refl
 set_beyond (z ∷ xs) zero x le = absurd (omega (arith, le))
 set_beyond (z ∷ xs) (suc i) x le = ap (λ l. z ∷ l) (set_beyond xs i x (omega (arith, le)))
-
--- a list whose element was changed in between
-pub slots_taken : (slots : List RustSlot) (i : ℕ) (blank : RustSlot) (new : Option Slot)
-    → set (map slot_is (set slots i blank)) i new ≡ set (map slot_is slots) i new
-slots_taken slots i blank new = ap (λ l. set l i new) (map-set slot_is slots i blank) ∙ set_twice (map slot_is slots) i (slot_is blank) new
 
 -- ---- frames
 
@@ -46,62 +35,72 @@ map_beyond [] level x le = refl
 map_beyond (f ∷ frames) zero x le = absurd (omega (arith, le))
 map_beyond (f ∷ frames) (suc level) x le = ap (λ l. frame_is f ∷ l) (map_beyond frames level x (omega (arith, le)))
 
-abbrev of_frames : List Frame → World
-of_frames frames = world_of frames 0 []
-
 -- a place of no call isn't written
-pub beyond : (frames : List RustFrame) (level number : ℕ) (slot : Option Slot) → length frames ≤ level
-    → world_in frames ≡ with_slot (world_in frames) level number slot
-beyond frames level number slot le = ap of_frames (sym (map_beyond frames level _ le))
+pub beyond : (w : World) (frames : List RustFrame) (level number : ℕ) (slot : Option Slot) → length frames ≤ level
+    → world_with w frames ≡ with_slot (world_with w frames) level number slot
+beyond w frames level number slot le = ap (λ fs. record w { frames = fs }) (sym (map_beyond frames level _ le))
 
-frame_with : (after frame : RustFrame) (number i : ℕ) (new : Option Slot) → i ≡ number - frame.first → after.first ≡ frame.first
-    → map slot_is after.slots.items ≡ set (map slot_is frame.slots.items) i new → frame_is after ≡ with_slot_of (frame_is frame) number new
-frame_with after frame number i new n f h =
-    ap₂ (λ (m : ℕ) (l : List (Option Slot)). record { first = m; slots = l; temporaries = []; handling = [] }) f
+frame_with : (slots : List RustSlot) (frame : RustFrame) (number i : ℕ) (new : Option Slot) → i ≡ number - frame.first
+    → map slot_is slots ≡ set (map slot_is frame.slots.items) i new
+    → record { first = frame.first; slots = map slot_is slots; temporaries = []; handling = [] } ≡ with_slot_of (frame_is frame) number new
+frame_with slots frame number i new n h =
+    ap (λ (l : List (Option Slot)). record { first = frame.first; slots = l; temporaries = []; handling = [] })
     (h ∙ ap (λ i. set (map slot_is frame.slots.items) i new) n)
 
-pub place_put : (frames : List RustFrame) (level number i : ℕ) (frame after : RustFrame) (new : Option Slot) → level < length frames
+pub place_put : (w : World) (frames : List RustFrame) (level number i : ℕ) (frame after : RustFrame) (new : Option Slot) → level < length frames
     → frame ≡ get_or frames level frame → i ≡ number - frame.first → after.first ≡ frame.first
-    → map slot_is after.slots.items ≡ set (map slot_is frame.slots.items) i new → world_in (set frames level after) ≡ with_slot
-    (world_in frames) level number new
-place_put frames level number i frame after new lt e n f h =
-    let there = frame_there frames level frame lt e in
-    ap of_frames (map-set frame_is frames level after
+    → map slot_is after.slots.items ≡ set (map slot_is frame.slots.items) i new
+    → world_with w (set frames level after) ≡ with_slot (world_with w frames) level number new
+place_put w frames level number i frame after new lt e n f h =
+    ap (λ fs. record w { frames = fs }) (map-set frame_is frames level after
     ∙ ap (λ x. set (map frame_is frames) level x)
-    (frame_with after frame number i new n f h ∙ ap (λ (g : Frame). with_slot_of g number new) (sym there)))
+    (ap (λ (m : ℕ). record { first = m; slots = map slot_is after.slots.items; temporaries = []; handling = [] }) f
+    ∙ frame_with after.slots.items frame number i new n h
+    ∙ ap (λ (g : Frame). with_slot_of g number new) (sym (frame_there frames level frame lt e))))
 
--- a place that was taken out of, and is put into
-pub place_taken : (frames : List RustFrame) (level number i : ℕ) (frame after : RustFrame) (new : Option Slot) → level < length frames
-    → frame ≡ get_or frames level frame → i ≡ number - frame.first → after.first ≡ frame.first
-    → set (map slot_is after.slots.items) i new ≡ set (map slot_is frame.slots.items) i new
-    → with_slot (world_in (set frames level after)) level number new ≡ with_slot (world_in frames) level number new
-place_taken frames level number i frame after new lt e n f h =
-    let there = frame_there frames level frame lt e in
-    let fs = map frame_is frames in
-    let lt' : level < length fs = subst (λ k. level < k) (sym (length-map frames frame_is)) lt in
-    let again : frame_in (slice_get (set fs level (frame_is after)) level) ≡ frame_is after = ap frame_in (get_set fs level (frame_is after) lt') in
-    let same : with_slot_of (frame_is after) number new ≡ with_slot_of (frame_is frame) number new =
-    ap₂ (λ (m : ℕ) (l : List (Option Slot)). record { first = m; slots = l; temporaries = []; handling = [] }) f
-    (ap (λ k. set (map slot_is after.slots.items) (number - k) new) f
-    ∙ ap (λ k. set (map slot_is after.slots.items) k new) (sym n) ∙ h ∙ ap (λ k. set (map slot_is frame.slots.items) k new) n) in
-    ap of_frames (ap (λ l. set l level (with_slot_of (frame_in (slice_get l level)) number new)) (map-set frame_is frames level after)
-    ∙ ap (λ (g : Frame). set (set fs level (frame_is after)) level (with_slot_of g number new)) again
-    ∙ set_twice fs level (frame_is after) (with_slot_of (frame_is after) number new)
-    ∙ ap (λ x. set fs level x) (same ∙ ap (λ (g : Frame). with_slot_of g number new) (sym there)))
+-- the slot of a place
+slot_got : (slots : List RustSlot) (i : ℕ) (slot : RustSlot) → i < length slots → slot ≡ get_or slots i slot
+    → slot_is slot ≡ state.joined (slice_get (map slot_is slots) i)
+slot_got [] i slot lt e = absurd (omega (arith, lt))
+slot_got (x ∷ slots) zero slot lt e = ap slot_is e
+slot_got (x ∷ slots) (suc i) slot lt e = slot_got slots i slot (omega (arith, lt)) e
 
--- ---- any world with these frames
+pub slot_there : (frames : List RustFrame) (level number i : ℕ) (frame : RustFrame) (slot : RustSlot) → level < length frames
+    → frame ≡ get_or frames level frame → i ≡ number - frame.first → i < length frame.slots.items → slot ≡ get_or frame.slots.items i slot
+    → slot_is slot ≡ slot_at (world_in frames) level number
+slot_there frames level number i frame slot lt e n more h =
+    slot_got frame.slots.items i slot more h ∙ ap (λ k. state.joined (slice_get (map slot_is frame.slots.items) k)) n
+    ∙ ap (λ (g : Frame). slot_of g number) (sym (frame_there frames level frame lt e))
 
-pub load_with : (w : World) (frames : List RustFrame) (spot : Spot) (l : Location) → spot_is spot ≡ l → load (world_with w frames) l ≡ load (world_in frames) l
-load_with w frames spot l e = subst (λ l. load (world_with w frames) l ≡ load (world_in frames) l) e (each spot)
-  where
-    each : (spot : Spot) → load (world_with w frames) (spot_is spot) ≡ load (world_in frames) (spot_is spot)
-    each (P.Standing level number path) = refl
-    each (P.Made v path) = refl
+-- what is put into a place twice
+twice : (fs : List Frame) (level number : ℕ) (x y : Option Slot)
+    → let gs = set fs level (with_slot_of (frame_in (slice_get fs level)) number x) in
+    set gs level (with_slot_of (frame_in (slice_get gs level)) number y) ≡ set fs level (with_slot_of (frame_in (slice_get fs level)) number y)
+twice [] level number x y = refl
+twice (f ∷ fs) zero number x y = ap (λ l. record f { slots = l } ∷ fs) (set-set f.slots (number - f.first) x y)
+twice (f ∷ fs) (suc level) number x y = ap (λ l. f ∷ l) (twice fs level number x y)
 
-pub store_with : (w : World) (frames gs : List RustFrame) (spot : Spot) (l : Location) (v : Value) → spot_is spot ≡ l
-    → world_in gs ≡ store (world_in frames) (spot_is spot) v → world_with w gs ≡ store (world_with w frames) l v
-store_with w frames gs spot l v e h = subst (λ l. world_with w gs ≡ store (world_with w frames) l v) e (each spot h)
-  where
-    each : (spot : Spot) → world_in gs ≡ store (world_in frames) (spot_is spot) v → world_with w gs ≡ store (world_with w frames) (spot_is spot) v
-    each (P.Standing level number path) h = ap (λ (u : World). record w { frames = u.frames }) h
-    each (P.Made x path) h = ap (λ (u : World). record w { frames = u.frames }) h
+pub put_twice : (w : World) (level number : ℕ) (x y : Option Slot)
+    → with_slot (with_slot w level number x) level number y ≡ with_slot w level number y
+put_twice w level number x y = ap (λ fs. record w { frames = fs }) (twice w.frames level number x y)
+
+-- no value has a block
+row_item : (hooks : Bool) (all : Values) (l : Location) (i : ℕ) → item_of (rowed hooks all) l i ≡ deeper l i
+row_item false all l i = refl
+row_item true all l i = refl
+
+value_item : (v : RustValue) (l : Location) (i : ℕ) → item_of (value_of v) l i ≡ deeper l i
+value_item (V.Number z) l i = refl
+value_item (V.Parts' hooks _ cells) l i = row_item hooks (value_row cells) l i
+value_item (V.Text text) l i = refl
+value_item V.Empty l i = refl
+value_item V.Nil l i = refl
+
+pub item_found : (f : Found) (l : Location) (i : ℕ) → item_of (found_value f) l i ≡ deeper l i
+item_found (X.At v) l i = value_item v.now l i
+item_found (X.Char c) l i = refl
+item_found X.Nothing l i = refl
+
+pub no_path : (path : List ℕ) → length path ≡ 0 → path ≡ []
+no_path [] e = refl
+no_path (i ∷ path) e = absurd (omega (arith, e))

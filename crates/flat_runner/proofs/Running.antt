@@ -20,7 +20,8 @@ use Rattle.flat_runner.specs.declared.mean.MeanEnd.{MeanEnd}
 use Rattle.flat_runner.specs.declared.mean.MeanEnd.TheVariants as M
 use Rattle.flat_runner.specs.declared.step.Step.TheVariants as S
 use Rattle.flat_runner.specs.Mean.{byte_on, bytes_on, Told, Got, GotFront, Means, Comes, first, by_units}
-use Rattle.flat_runner.specs.Steps.{Stepped, Stopped}
+use Rattle.flat_runner.specs.Steps.{Stepped}
+use Rattle.flat_runner.proofs.StepRows.{Stopped, went_of, said_of, faulted_of}
 
 -- where it gets nothing
 grown_none : (a : Option (List ℕ)) → Grown a a []
@@ -163,27 +164,31 @@ module _ (types : List TypeDef) (plan : Plan) (flat : Code Line) where
 
     pub holding_goes : (m new : Machine Line) (units left : ℕ) (out err : Told) → Holding m units out err → Stepped types plan flat m units S.Goes new left
         → Holding new left out err
-    holding_goes m new units left out err h g = record {
-      lines = h.lines + 1;
-      events = h.events ++ g.0.events;
-      work = h.work + g.0.work;
-      same = goes m new units left h.lines h.events g.0.events h.work g.0.work h.same g.0.is g.1;
-      output = got_same out Output h.events g.0.events g.0.quiet.0 h.output;
-      errors = got_same err Errors h.events g.0.events g.0.quiet.1 h.errors;
-    }
+    holding_goes m new units left out err h g =
+        let k = went_of (next m) new g.0 in
+        record {
+          lines = h.lines + 1;
+          events = h.events ++ k.events;
+          work = h.work + k.work;
+          same = goes m new units left h.lines h.events k.events h.work k.work h.same k.is g.1;
+          output = got_same out Output h.events k.events k.quiet.0 h.output;
+          errors = got_same err Errors h.events k.events k.quiet.1 h.errors;
+        }
 
     pub holding_says : (m new : Machine Line) (units left : ℕ) (a b c : Option (List ℕ)) (n k j : ℕ) (err : Told) (line : List ℕ)
         → Holding m units (told a b n k) err → Stepped types plan flat m units (S.Says line) new left → Grown b c line → j ≡ k
         → Holding new left (told a c n j) err
-    holding_says m new units left a b c n k j err line h g grown f = record {
-      lines = h.lines + 1;
-      events = h.events ++ writes Output line;
-      work = h.work + g.0.work;
-      same = goes m new units left h.lines h.events (writes Output line) h.work g.0.work h.same g.0.is g.1;
-      output = got_more a b c n k j (bytes_on Output h.events) line _
-          (bytes_append Output h.events (writes Output line) ∙ ap (λ l. bytes_on Output h.events ++ l) (output_own line)) h.output grown f;
-      errors = got_same err Errors h.events (writes Output line) (output_other line) h.errors;
-    }
+    holding_says m new units left a b c n k j err line h g grown f =
+        let said = said_of (next m) line new g.0 in
+        record {
+          lines = h.lines + 1;
+          events = h.events ++ writes Output line;
+          work = h.work + said.work;
+          same = goes m new units left h.lines h.events (writes Output line) h.work said.work h.same said.is g.1;
+          output = got_more a b c n k j (bytes_on Output h.events) line _
+              (bytes_append Output h.events (writes Output line) ∙ ap (λ l. bytes_on Output h.events ++ l) (output_own line)) h.output grown f;
+          errors = got_same err Errors h.events (writes Output line) (output_other line) h.errors;
+        }
 
     -- what is seen from some number of lines on
     comes : (lines : ℕ) (s : Seen Event) (end : MeanEnd) (out err : Told) → ((n : ℕ) → shown (lines + 1 + n) ≡ s) → Means s end out err
@@ -207,7 +212,7 @@ module _ (types : List TypeDef) (plan : Plan) (flat : Code Line) where
         → Comes shown M.Faulted out err
     faults m new units left out err h g =
         comes h.lines (seen h.events Faulted h.work) M.Faulted out err
-        (λ n. later h.lines n ∙ h.same (suc n) ∙ one_on m units left (Some left) Faults h.events h.work n g.1 g.0)
+        (λ n. later h.lines n ∙ h.same (suc n) ∙ one_on m units left (Some left) Faults h.events h.work n g.1 (faulted_of (next m) new g.0))
         (refl, h.output, h.errors)
 
     -- what was said is a front of all that will be
@@ -238,8 +243,9 @@ module _ (types : List TypeDef) (plan : Plan) (flat : Code Line) where
         each : (more : ℕ) → Means (shown (h.lines + 1 + more)) (M.WriteFault Output) (told a c n i) err
         each more =
             let said = h.events ++ writes Output line in
-            let fs = events_first new left (h.lines + 1) more said (h.work + g.0.work)
-            (goes m new units left h.lines h.events (writes Output line) h.work g.0.work h.same g.0.is g.1 more) in
+            let s = said_of (next m) line new g.0 in
+            let fs = events_first new left (h.lines + 1) more said (h.work + s.work)
+            (goes m new units left h.lines h.events (writes Output line) h.work s.work h.same s.is g.1 more) in
             let all = (shown (h.lines + 1 + more)).events in
             let zs = bytes_first Output said all fs in
             let e : bytes_on Output said ≡ bytes_on Output h.events ++ line =

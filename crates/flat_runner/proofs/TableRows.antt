@@ -3,11 +3,6 @@ use Rattle.std.proofs.Common.{◌≡◌, ℕ, zero, suc, ◌+◌, ◌<◌, ◌�
 use Rattle.std.proofs.Common.{◌++◌, length, drop, take, get_or, refl, sym, ap, subst, ◌∙◌, arith, Option, Some}
 use Rattle.std.proofs.lemmas.Option.{none-some, same_Some}
 use Rattle.std.specs.Prelude.{slice_get, option_map, if◌then◌else◌}
-use Rattle.nim_types.specs.Types.{Ty, int}
-use Rattle.nim_types.specs.declared.types.TypeDef.{TypeDef}
-use Rattle.nim_types.proofs.ForCallers.{count}
-use Rattle.nim_types.specs.Table.{type_at, types_in, facts_in}
-use Rattle.nim_meaning.specs.Here.{is_hooked}
 use Rattle.flat_code.specs.declared.line.Line.{Line}
 use Rattle.flat_code.specs.declared.code.CodeProc.{CodeProc}
 use Rattle.flat_code.specs.Running.{from_label, is_name}
@@ -98,16 +93,6 @@ book_of [] books i p book h e f = absurd (none-some p e)
 book_of (q ∷ ps) [] i p book h e f = absurd h
 book_of (q ∷ ps) (b ∷ books) zero p book h e f = subst (λ p. IsBook p book) (same_Some q p e) (subst (IsBook q) (same_Some b book f) h.0)
 book_of (q ∷ ps) (b ∷ books) (suc i) p book h e f = book_of ps books i p book h.1 e f
-
--- ---- hooked types
-
-type_none : (ts : List Ty) (i : ℕ) → length ts ≤ i → type_at ts i ≡ int
-type_none [] i le = refl
-type_none (t ∷ ts) zero le = absurd (omega (arith, le))
-type_none (t ∷ ts) (suc i) le = type_none ts i (omega (arith, le))
-
-pub not_hooked : (ds : List TypeDef) (i n : ℕ) → n ≡ length ds → n ≤ i → is_hooked (facts_in ds) (type_at (types_in ds) i) ≡ false
-not_hooked ds i n e le = ap (is_hooked (facts_in ds)) (type_none (types_in ds) i (omega (arith, e, le, count ds)))
 
 pub got_or : {A : Type 0} (xs : List A) (i : ℕ) (d : A) → i < length xs → slice_get xs i ≡ Some (get_or xs i d)
 got_or [] i d lt = absurd (omega (arith, lt))

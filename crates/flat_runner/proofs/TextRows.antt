@@ -1,6 +1,7 @@
 -- The texts of values, by those of numbers.
-use Rattle.std.proofs.Common.{◌≡◌, ℕ, zero, suc, pos, Bool, true, false, List, [], ◌++◌, length, refl, sym, ap, ◌∙◌, Option, Some, None}
+use Rattle.std.proofs.Common.{◌≡◌, ℕ, zero, suc, pos, Bool, true, false, List, [], ◌++◌, length, refl, ap, ◌∙◌, Option, Some, None}
 use Rattle.std.proofs.lemmas.Bool.{true≢false, false≢true}
+use Rattle.std.proofs.lemmas.List.{append_assoc}
 use Rattle.std.specs.Prelude.{slice_get, Result, Ok, Err, OnOk}
 use Rattle.arc_base.specs.declared.bytes.Memory.{Memory}
 use Rattle.nim_types.specs.Types.{Ty, int, bool, char, text, sequence, array, tuple, parameter}
@@ -10,72 +11,78 @@ use Rattle.nim_types.specs.declared.types.TypeDef.TheVariants as D
 use Rattle.nim_types.specs.Table.{type_at, types_in, facts_in, fields_with, fields_fact, IsTable}
 use Rattle.nim_types.specs.Entries.{meant_at, said_at}
 use Rattle.nim_types.proofs.ForCallers.{by_entry, said_by}
-use Rattle.nim_meaning.specs.Values.{Value, Values, Fixed, number_of, text_in}
-use Rattle.flat_runner.specs.View.{rowed}
+use Rattle.nim_meaning.specs.Values.{Value, Fixed, number_of}
+use Rattle.nim_meaning.specs.State.{World, text_of}
 use Rattle.nim_meaning.specs.Texts.{value_text, text_at}
 use Rattle.nim_program.specs.Texts.{plain_text}
 use Rattle.nim_program.specs.Kinds.{below_distinct, base_or}
-use Rattle.plain_values.specs.Values.{text_of}
+use Rattle.plain_values.specs.Values.{text_of as plain_of}
 use Rattle.flat_runner.specs.Texts.{is_text}
 
 -- of what is no text
-plain_same : (facts : Facts) (ty : Ty) (v : Value) → text_in v ≡ [] → value_text facts ty v ≡ plain_text facts ty (number_of v)
-plain_same facts int v e = refl
-plain_same facts bool v e = refl
-plain_same facts char v e = refl
-plain_same facts text v e = e
-plain_same facts (sequence t) v e = refl
-plain_same facts (array n t) v e = refl
-plain_same facts (tuple names ts) v e = refl
-plain_same facts (parameter n) v e = refl
-plain_same facts (enum key) v e = refl
-plain_same facts (object key arguments) v e = refl
-plain_same facts (distinct key) v e = refl
-plain_same facts (ref name t) v e = refl
-plain_same facts (exception key) v e = refl
+plain_same : (facts : Facts) (w : World) (ty : Ty) (v : Value) → text_of w v ≡ [] → value_text facts w ty v ≡ plain_text facts ty (number_of v)
+plain_same facts w int v e = refl
+plain_same facts w bool v e = refl
+plain_same facts w char v e = refl
+plain_same facts w text v e = e
+plain_same facts w (sequence t) v e = refl
+plain_same facts w (array n t) v e = refl
+plain_same facts w (tuple names ts) v e = refl
+plain_same facts w (parameter n) v e = refl
+plain_same facts w (enum key) v e = refl
+plain_same facts w (object key arguments) v e = refl
+plain_same facts w (distinct key) v e = refl
+plain_same facts w (ref name t) v e = refl
+plain_same facts w (exception key) v e = refl
 
-pub text_same : (facts : Facts) (o : Option Ty) (v : Value) → text_in v ≡ [] → text_at facts o v ≡ text_of facts o (number_of v)
-text_same facts None v e = refl
-text_same facts (Some ty) v e = plain_same facts (below_distinct (length facts) facts ty) v e
+pub text_same : (facts : Facts) (w : World) (o : Option Ty) (v : Value) → text_of w v ≡ [] → text_at facts w o v ≡ plain_of facts o (number_of v)
+text_same facts w None v e = refl
+text_same facts w (Some ty) v e = plain_same facts w (below_distinct (length facts) facts ty) v e
 
 -- of a text
-pub fixed_is : (facts : Facts) (ty : Ty) (t : List ℕ) → is_text ty ≡ true → value_text facts ty (Fixed t) ≡ t
-fixed_is facts int t e = absurd (false≢true e)
-fixed_is facts bool t e = absurd (false≢true e)
-fixed_is facts char t e = absurd (false≢true e)
-fixed_is facts text t e = refl
-fixed_is facts (sequence u) t e = absurd (false≢true e)
-fixed_is facts (array n u) t e = absurd (false≢true e)
-fixed_is facts (tuple names ts) t e = absurd (false≢true e)
-fixed_is facts (parameter n) t e = absurd (false≢true e)
-fixed_is facts (enum key) t e = absurd (false≢true e)
-fixed_is facts (object key arguments) t e = absurd (false≢true e)
-fixed_is facts (distinct key) t e = absurd (false≢true e)
-fixed_is facts (ref name u) t e = absurd (false≢true e)
-fixed_is facts (exception key) t e = absurd (false≢true e)
+pub fixed_is : (facts : Facts) (w : World) (ty : Ty) (t : List ℕ) → is_text ty ≡ true → value_text facts w ty (Fixed t) ≡ t
+fixed_is facts w int t e = absurd (false≢true e)
+fixed_is facts w bool t e = absurd (false≢true e)
+fixed_is facts w char t e = absurd (false≢true e)
+fixed_is facts w text t e = refl
+fixed_is facts w (sequence u) t e = absurd (false≢true e)
+fixed_is facts w (array n u) t e = absurd (false≢true e)
+fixed_is facts w (tuple names ts) t e = absurd (false≢true e)
+fixed_is facts w (parameter n) t e = absurd (false≢true e)
+fixed_is facts w (enum key) t e = absurd (false≢true e)
+fixed_is facts w (object key arguments) t e = absurd (false≢true e)
+fixed_is facts w (distinct key) t e = absurd (false≢true e)
+fixed_is facts w (ref name u) t e = absurd (false≢true e)
+fixed_is facts w (exception key) t e = absurd (false≢true e)
 
-pub fixed_number : (facts : Facts) (ty : Ty) (t : List ℕ) → is_text ty ≡ false → value_text facts ty (Fixed t) ≡ plain_text facts ty (pos 0)
-fixed_number facts int t e = refl
-fixed_number facts bool t e = refl
-fixed_number facts char t e = refl
-fixed_number facts text t e = absurd (true≢false e)
-fixed_number facts (sequence u) t e = refl
-fixed_number facts (array n u) t e = refl
-fixed_number facts (tuple names ts) t e = refl
-fixed_number facts (parameter n) t e = refl
-fixed_number facts (enum key) t e = refl
-fixed_number facts (object key arguments) t e = refl
-fixed_number facts (distinct key) t e = refl
-fixed_number facts (ref name u) t e = refl
-fixed_number facts (exception key) t e = refl
+fixed_number : (facts : Facts) (w : World) (ty : Ty) (t : List ℕ) → is_text ty ≡ false → value_text facts w ty (Fixed t) ≡ plain_text facts ty (pos 0)
+fixed_number facts w int t e = refl
+fixed_number facts w bool t e = refl
+fixed_number facts w char t e = refl
+fixed_number facts w text t e = absurd (true≢false e)
+fixed_number facts w (sequence u) t e = refl
+fixed_number facts w (array n u) t e = refl
+fixed_number facts w (tuple names ts) t e = refl
+fixed_number facts w (parameter n) t e = refl
+fixed_number facts w (enum key) t e = refl
+fixed_number facts w (object key arguments) t e = refl
+fixed_number facts w (distinct key) t e = refl
+fixed_number facts w (ref name u) t e = refl
+fixed_number facts w (exception key) t e = refl
 
-pub fixed_other : (facts : Facts) (ty : Ty) (t : List ℕ) → is_text (below_distinct (length facts) facts ty) ≡ false
-    → text_at facts (Some ty) (Fixed t) ≡ text_of facts (Some ty) (pos 0)
-fixed_other facts ty t e = fixed_number facts (below_distinct (length facts) facts ty) t e
+pub fixed_other : (facts : Facts) (w : World) (ty : Ty) (t : List ℕ) → is_text (below_distinct (length facts) facts ty) ≡ false
+    → text_at facts w (Some ty) (Fixed t) ≡ plain_of facts (Some ty) (pos 0)
+fixed_other facts w ty t e = fixed_number facts w (below_distinct (length facts) facts ty) t e
 
 pub on_ok : (r : Result (Unit {0}) Memory) (new old v w : List ℕ) → OnOk r (new ≡ old ++ v) → v ≡ w → OnOk r (new ≡ old ++ w)
 on_ok (Ok x) new old v w h e = h ∙ ap (λ l. old ++ l) e
 on_ok (Err m) new old v w h e = tt
+
+-- a text behind another one
+pub on_more : (r : Result (Unit {0}) Memory) (new mid old u v whole : List ℕ) → OnOk r (new ≡ mid ++ v) → mid ≡ old ++ u → u ++ v ≡ whole
+    → OnOk r (new ≡ old ++ whole)
+on_more (Ok x) new mid old u v whole h e g = h ∙ ap (λ l. l ++ v) e ∙ append_assoc old u v ∙ ap (λ l. old ++ l) g
+on_more (Err m) new mid old u v whole h e g = tt
 
 -- ---- which types are those of texts, by their entries
 
@@ -124,17 +131,3 @@ module _ (ds : List TypeDef) (table : IsTable ds) where
 
   pub no_further : (i j : ℕ) (name : _) (at : _) → slice_get ds i ≡ Some (D.Distinct name at j) → is_text (below_distinct 0 facts (type_at ts i)) ≡ false
   no_further i j name at h = ap is_text (by_entry ds table i (Some (D.Distinct name at j)) h)
-
--- ---- values of the code
-
-pub row_text : (hooks : Bool) (all : Values) → text_in (rowed hooks all) ≡ []
-row_text false all = refl
-row_text true all = refl
-
-pub row_number : (hooks : Bool) (all : Values) → number_of (rowed hooks all) ≡ pos 0
-row_number false all = refl
-row_number true all = refl
-
--- where a value has no text and no number
-pub text_none : (facts : Facts) (o : Option Ty) (v : Value) → text_in v ≡ [] → number_of v ≡ pos 0 → text_of facts o (pos 0) ≡ text_at facts o v
-text_none facts o v e f = sym (text_same facts o v e ∙ ap (text_of facts o) f)

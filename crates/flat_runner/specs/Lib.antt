@@ -1,10 +1,10 @@
 pub mod View
-pub mod Fetched
 pub mod Starts
 pub mod Pieces
 pub mod Texts
 pub mod Tables
 pub mod Stops
-pub mod Made
+pub mod PlainLines
+pub mod Doing
 pub mod Mean
 pub mod Steps

@@ -4,14 +4,14 @@ use Rattle.std.specs.Prelude.{◌≡◌, ℕ, zero, suc, ◌-◌, List, [], ◌�
 use Rattle.arc_base.specs.Event.{Event, writes}
 use Rattle.arc_base.specs.declared.outside.Stream.TheVariants.{Out as Output, Err as Errors}
 use Rattle.arc_base.specs.Behaviour.{no_objects}
-use Rattle.arc_base.specs.Stepping.{Next, Goes, Ends, Faults}
+use Rattle.arc_base.specs.Stepping.{Next, Goes, Ends, Faults, Errs}
 use Rattle.nim_types.specs.declared.types.TypeDef.{TypeDef}
 use Rattle.nim_plan.specs.declared.plan.Plan.{Plan}
 use Rattle.nim_meaning.specs.Values.{Slot}
-use Rattle.nim_meaning.specs.State.{Frame, World, with_frame}
+use Rattle.nim_meaning.specs.State.{Frame, with_frame}
 use Rattle.flat_code.specs.declared.line.Line.{Line}
 use Rattle.flat_code.specs.declared.code.Code.{Code}
-use Rattle.flat_code.specs.Scene.{known_in, Temps, no_temps, Did}
+use Rattle.flat_code.specs.Scene.{known_in, no_temps, Did}
 use Rattle.flat_code.specs.Lines.{does}
 use Rattle.flat_code.specs.Running.{Machine, settled, step, spends, spends_next, unit_left}
 use Rattle.flat_code.specs.Whole.{label_in}
@@ -25,28 +25,24 @@ use Rattle.flat_runner.specs.Stops.{last_line, status_of}
 abbrev pub IsQuiet : List Event → Type 0
 IsQuiet es = (bytes_on Output es ≡ []) × (bytes_on Errors es ≡ [])
 
-pub record Went (next : Next Event (Machine Line)) (m : Machine Line) : Type 0 where
-  pub events : List Event
-  pub work : ℕ
-  pub quiet : IsQuiet events
-  pub is : next ≡ Goes events work m
+-- a step without its work
+abbrev pub bare_next : Next Event (Machine Line) → Next Event (Machine Line)
+bare_next (Goes es work m) = Goes es 0 m
+bare_next (Ends es work status live) = Ends es 0 status live
+bare_next Faults = Faults
+bare_next Errs = Errs
 
-pub record Said (next : Next Event (Machine Line)) (line : List ℕ) (m : Machine Line) : Type 0 where
-  pub work : ℕ
-  pub is : next ≡ Goes (writes Output line) work m
+abbrev pub Shows : Next Event (Machine Line) → Step → Machine Line → Type 0
+Shows (Goes es work m) S.Goes new = IsQuiet es × (m ≡ new)
+Shows (Goes es work m) (S.Says line) new = (es ≡ writes Output line) × (m ≡ new)
+Shows (Ends es work status live) (S.Stops stop) new = (es ≡ writes Errors (last_line stop)) × (status ≡ status_of stop) × (live ≡ no_objects)
+Shows Faults S.Faults new = Unit {0}
+Shows next S.Memory new = Unit {0}
+Shows next step new = ⊥
 
-pub record Stopped (next : Next Event (Machine Line)) (es : List Event) (status : ℕ) : Type 0 where
-  pub work : ℕ
-  pub is : next ≡ Ends es work status no_objects
-
--- what a step of the machine is, by what the runner's came to
+-- what a step of the machine is, whatever it took, by what the runner's came to
 abbrev pub NextIs : Next Event (Machine Line) → Step → Machine Line → Type 0
-NextIs next S.Goes m = Went next m
-NextIs next (S.Says line) m = Said next line m
-NextIs next (S.Stops stop) m = Stopped next (writes Errors (last_line stop)) (status_of stop)
-NextIs next S.Waits m = ⊥
-NextIs next S.Faults m = next ≡ Faults
-NextIs next S.Memory m = Unit {0}
+NextIs next step new = Shows (bare_next next) step new
 
 -- the same with units
 abbrev pub Settled : Next Event (Machine Line) → (left : Option ℕ) → Step → Machine Line → (units : ℕ) → Type 0
@@ -54,10 +50,11 @@ Settled next left S.Waits m units = left ≡ None
 Settled next left S.Memory m units = Unit {0}
 Settled next left step m units = NextIs next step m × (left ≡ Some units)
 
-abbrev pub Settles : List TypeDef → Plan → Code Line → (old : Machine Line) → List Line → Did → (units : ℕ) → Step → (new : Machine Line) → (left : ℕ) → Type 0
-Settles types plan flat old rest did units step new left =
+-- what comes of what a line did, where the lines behind it are left
+abbrev pub Settles : List TypeDef → Plan → Code Line → (old : Machine Line) → Did → (units : ℕ) → Step → (new : Machine Line) → (left : ℕ) → Type 0
+Settles types plan flat old did units step new left =
     let known = known_in types in
-    Settled (settled label_in (does known plan) (procs_of known flat) old rest did)
+    Settled (settled label_in (does known plan) (procs_of known flat) old old.now.rest did)
     (unit_left label_in (does known plan) (procs_of known flat) (spends label_in (does known plan) (procs_of known flat) did) units) step new left
 
 abbrev pub Stepped : List TypeDef → Plan → Code Line → (old : Machine Line) → (units : ℕ) → Step → (new : Machine Line) → (left : ℕ) → Type 0
@@ -73,10 +70,6 @@ less_one zero = None
 less_one (suc n) = Some n
 
 -- ---- pieces of machines
-
--- with temporaries and a world from before
-abbrev pub before : Machine Line → Temps → World → Machine Line
-before m temps world = record { now = record m.now { temps = temps }; waiting = m.waiting; world = world }
 
 -- in a call whose frame is there
 abbrev pub inside : Machine Line → List Line → (to : ℕ) → List Line → Frame → Machine Line

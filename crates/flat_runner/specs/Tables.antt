@@ -3,7 +3,6 @@
 use Rattle.std.specs.Prelude.{◌≡◌, ℕ, List, [], ◌∷◌, Option, Some, None, option_map, drop, length}
 use Rattle.nim_types.specs.declared.types.TypeDef.{TypeDef}
 use Rattle.nim_types.specs.Table.{type_at, facts_in}
-use Rattle.nim_program.specs.Sizes.{HaveForms}
 use Rattle.nim_meaning.specs.Values.{Slot, Holds, default_of}
 use Rattle.flat_code.specs.declared.line.Line.{Line}
 use Rattle.flat_code.specs.declared.code.Code.{Code}
@@ -34,10 +33,6 @@ AreBooks [] [] = Unit {0}
 AreBooks (p ∷ ps) (book ∷ books) = IsBook p book × AreBooks ps books
 AreBooks _ _ = ⊥
 
-pub record HasTables (types : List TypeDef) (tables : Tables) : Type 0 where
-  pub forms : HaveForms types
-  pub declared : tables.declared ≡ length (facts_in types)
-
 pub record IsTables (types : List TypeDef) (flat : Code Line) (tables : Tables) : Type 0 where
   pub books : AreBooks flat.procs tables.books.items
-  pub known : HasTables types tables
+  pub declared : tables.declared ≡ length (facts_in types)

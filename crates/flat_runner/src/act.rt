@@ -1,46 +1,40 @@
-// The rows of the table of operations.
-ghost use Rattle.flat_runner.specs.Made.{Acts, ActsAs};
+// What operations do.
+ghost use Rattle.flat_code.specs.Scene.{Temps as SpecTemps};
+ghost use Rattle.flat_runner.specs.Doing.{bare_done, comes, operated};
 ghost use Rattle.flat_runner.specs.View.{found_value, operands_in, temps_is, value_of, world_with};
-ghost use Rattle.nim_meaning.specs.Deeds.{give, ◌>>=◌ as then_deed};
-ghost use Rattle.nim_meaning.specs.Places.{exchanged, put};
-ghost use Rattle.nim_meaning.specs.State.{World};
-ghost use Rattle.nim_meaning.specs.Table.{converted, default_for, limit_for, measured};
-ghost use Rattle.nim_meaning.specs.Table.{moved, operate, step_by, swapped, updated};
-ghost use Rattle.nim_meaning.specs.Values.{Number, Parts, length_of, location, value, values_in};
+ghost use Rattle.nim_meaning.specs.Deeds.{Answers, perform, ◌>>=◌ as then_deed};
+ghost use Rattle.nim_meaning.specs.State.{World, load, store};
+ghost use Rattle.nim_meaning.specs.Table.{converted, default_for, limit_for, measured, moved, outcome, step_by, swapped};
+ghost use Rattle.nim_meaning.specs.Values.{Number, location, number_of, value};
 ghost use Rattle.nim_program.specs.View.{if_type};
 ghost use Rattle.nim_types.specs.Table.{facts_in, types_in};
-ghost use Rattle.std.specs.Prelude.{IfOk, length, ◌≡◌};
+ghost use Rattle.plain_values.specs.Checked.{checked_of};
+ghost use Rattle.std.specs.Prelude.{IfOk, [], length, ◌≡◌};
 
-use crate::acted::{Acted, given, outcome, wrote};
-use crate::numbers::{low_byte, number_value};
-use crate::operand::{location_of, number_of, own, value_of, values_of};
-use crate::place::{load, store};
-use crate::start::start_of;
-use crate::state::{Frame, Temps};
+use crate::did::{Acted, Here};
+use crate::numbers::low_byte;
+use crate::operand::{at, location_of, number_of, own, value_of, values_of};
+use crate::place::load;
+use crate::start::{row, start_of};
+use crate::state::Temps;
 use crate::stop::Stop;
 use crate::text::line;
 use crate::value::{Found, Value, found_copied, length_in, number_in};
 use arc_base::Memory;
 use flat_code::From;
-use nim_program::{Measure, Operation, Operator};
+use nim_program::{Measure, Operation};
 use nim_types::{TypeId, TypeTable};
-use plain_values::{apply, calculate, compares, limit_of, one_of};
-use std::alloc::Global;
+use plain_values::{Trap, apply, calculate, compares, limit_of, one_of};
 
 // What a place of a type starts at.
-fn start_for(
-    alloc: Global,
-    types: &TypeTable,
-    declared: u32,
-    ty: Option<TypeId>,
-) -> Result<Value, Memory>
-    requires { declared ≡ length (facts_in types.now) }
-    ensures { IfOk result (λ v. value_of v ≡ default_for (facts_in types.now)
-        (if_type (types_in types.now) ty)) }
+fn start_for(x: &Here, ty: Option<TypeId>) -> Result<Value, Memory>
+    requires { x.now.declared ≡ length (facts_in x.now.types.now) }
+    ensures { IfOk result (λ v. value_of v ≡ default_for (facts_in x.now.types.now)
+        (if_type (types_in x.now.types.now) ty)) }
 {
     match ty {
         None => Ok(Value::Number(0)),
-        Some(ty) => start_of(alloc, types, declared, ty),
+        Some(ty) => start_of(x.alloc, x.types, x.declared, ty),
     }
 }
 
@@ -54,48 +48,69 @@ fn limit_for(types: &TypeTable, ty: Option<TypeId>) -> Option<usize>
     }
 }
 
-// A value as one of another type.
-fn convert(
-    alloc: Global,
-    types: &TypeTable,
-    temps: &Temps,
-    ty: Option<TypeId>,
-    from: &[From],
-) -> Acted
-    ensures { (old : World) → Acts (then_deed (converted (limit_for (facts_in types.now)
-        (if_type (types_in types.now) ty)) (value (operands_in (temps_is temps.now) from.now) 0))
-        moved) old result old }
+// A number, or a trap.
+fn outcome(z: Result<i32, Trap>) -> Acted
+    ensures { (temps : SpecTemps) (w : World) →
+        bare_done (perform (outcome (checked_of z)) w) ≡ comes temps w result }
 {
-    match limit_for(types, ty) {
-        None => given(own(alloc, value_of(temps, from, 0))),
-        Some(values) => outcome(one_of(values, number_of(temps, from, 0))),
+    match z {
+        Ok(z) => Acted::Gives(Value::Number(z)),
+        Err(trap) => Acted::Stops(Stop::Traps(trap)),
     }
 }
 
-// Operands as the parts of a value.
-fn make(alloc: Global, temps: &Temps, from: &[From]) -> Result<Value, Memory>
-    ensures { IfOk result (λ v. value_of v
-        ≡ Parts (values_in (operands_in (temps_is temps.now) from.now))) }
+// A value as one of another type.
+fn convert(x: &Here, ty: Option<TypeId>, from: &[From]) -> Result<Acted, Memory>
+    ensures { (w : World) → IfOk result (λ acted. bare_done (perform (then_deed
+        (converted (limit_for (facts_in x.now.types.now) (if_type (types_in x.now.types.now) ty))
+        (value (operands_in (temps_is x.now.temps.now) from.now) 0)) moved) w)
+        ≡ comes (temps_is x.now.temps.now) w acted) }
 {
-    let all = values_of(alloc, temps, from)?;
-    Ok(Value::Parts { hooks: false, all })
+    match limit_for(x.types, ty) {
+        None => Ok(Acted::Gives(own(x.alloc, value_of(x.temps, from, 0))?)),
+        Some(values) => Ok(outcome(one_of(values, number_of(x.temps, from, 0)))),
+    }
+}
+
+// What stands at the location of an operand.
+fn there<'a>(x: &Here<'a>, from: &[From], i: usize) -> Found<'a>
+    ensures { (w : World) → load (world_with w x.now.frames.now.items)
+        (location (operands_in (temps_is x.now.temps.now) from.now) i) ≡ found_value result }
+{
+    load(x.frames, location_of(x.temps, from, i))
+}
+
+// The number at the location of the first operand.
+fn number_there(x: &Here, from: &[From]) -> i32
+    ensures { (w : World) → result ≡ number_of (load (world_with w x.now.frames.now.items)
+        (location (operands_in (temps_is x.now.temps.now) from.now) 0)) }
+{
+    number_in(there(x, from, 0))
+}
+
+// The value at the location of an operand, as one of its own.
+fn taken(x: &Here, from: &[From], i: usize) -> Result<Value, Memory>
+    ensures { (w : World) → IfOk result (λ v. value_of v ≡ load (world_with w x.now.frames.now.items)
+        (location (operands_in (temps_is x.now.temps.now) from.now) i)) }
+{
+    found_copied(x.alloc, there(x, from, i))
 }
 
 // How many parts, or one less. No value has more than an int says.
-fn measured(measure: Measure, whole: Found) -> Acted
-    ensures { (old : World) → Acts (give (Number (measured measure
-        (length_of (found_value whole.entry))))) old result old }
+fn measured(measure: Measure, length: usize) -> Result<Value, Memory>
+    ensures { IfOk result (λ v. value_of v ≡ Number (measured measure length)) }
 {
-    match i32::try_from(length_in(whole)) {
-        Err(_) => Acted::Memory,
+    match i32::try_from(length) {
+        Err(_) => Err(Memory),
         Ok(length) => match measure {
-            Measure::Len => Acted::Gives(number_value(length)),
-            Measure::High => Acted::Gives(number_value(length - 1)),
+            Measure::Len => Ok(Value::Number(length)),
+            Measure::High => Ok(Value::Number(length - 1)),
         },
     }
 }
 
-// By how much a number goes up or down.
+/// By how much a number goes up or down.
+#[inline(always)]
 pub fn step_of(temps: &Temps, from: &[From]) -> i32
     ensures { result ≡ step_by (operands_in (temps_is temps.now) from.now) }
 {
@@ -106,119 +121,107 @@ pub fn step_of(temps: &Temps, from: &[From]) -> i32
     }
 }
 
-// The number at a location becomes another one.
-fn update(operator: Operator, temps: &Temps, frames: &mut Vec<Frame>, from: &[From]) -> Acted
-    ensures { (w : World) → let xs = operands_in (temps_is temps.now) from.now in
-        Acts (updated (location xs 0) (λ x. operate operator x (step_by xs)))
-        (world_with w frames.old.items) result (world_with w frames.new.items) }
+// What is stored at the location of the first operand.
+fn stores(from: &[From], v: Value, gives: Value) -> Acted
+    ensures { (temps : SpecTemps) (w : World) → comes temps w result ≡ Answers [] 0 (value_of gives)
+        (store w (location (operands_in temps from.now) 0) (value_of v)) }
 {
-    let by = step_of(temps, from);
-    let spot = location_of(temps, from, 0);
-    match calculate(operator, number_in(load(frames, spot)), by) {
-        Err(trap) => Acted::Stops(Stop::Traps(trap)),
-        Ok(z) => wrote(store(frames, spot, number_value(z))),
-    }
-}
-
-// The value of an operand becomes that at a location.
-fn assign(alloc: Global, temps: &Temps, frames: &mut Vec<Frame>, from: &[From]) -> Acted
-    ensures { (w : World) → let xs = operands_in (temps_is temps.now) from.now in
-        Acts (put (location xs 0) (value xs 1))
-        (world_with w frames.old.items) result (world_with w frames.new.items) }
-{
-    match own(alloc, value_of(temps, from, 1)) {
-        Err(_) => Acted::Memory,
-        Ok(v) => wrote(store(frames, location_of(temps, from, 0), v)),
-    }
-}
-
-// The value at a location is taken, and another one put in its place.
-fn move_out(alloc: Global, temps: &Temps, frames: &mut Vec<Frame>, v: Value, from: &[From]) -> Acted
-    ensures { (w : World) → let xs = operands_in (temps_is temps.now) from.now in
-        Acts (exchanged (location xs 0) (value_of v))
-        (world_with w frames.old.items) result (world_with w frames.new.items) }
-{
-    let spot = location_of(temps, from, 0);
-    match found_copied(alloc, load(frames, spot)) {
-        Err(_) => Acted::Memory,
-        Ok(old) => {
-            if store(frames, spot, v) {
-                Acted::Gives(old)
-            } else {
-                Acted::Memory
-            }
-        }
-    }
+    Acted::Stores(at(from, 0), v, gives)
 }
 
 // The values of two locations trade places.
-fn swap(alloc: Global, temps: &Temps, frames: &mut Vec<Frame>, from: &[From]) -> Acted
-    ensures { (w : World) → let xs = operands_in (temps_is temps.now) from.now in
-        Acts (swapped (location xs 0) (location xs 1))
-        (world_with w frames.old.items) result (world_with w frames.new.items) }
+fn swap(x: &Here, from: &[From]) -> Result<Acted, Memory>
+    ensures { (w : World) → IfOk result (λ acted. bare_done (perform (swapped
+        (location (operands_in (temps_is x.now.temps.now) from.now) 0)
+        (location (operands_in (temps_is x.now.temps.now) from.now) 1)) (world_with w x.now.frames.now.items))
+        ≡ comes (temps_is x.now.temps.now) (world_with w x.now.frames.now.items) acted) }
 {
-    let left = location_of(temps, from, 0);
-    let right = location_of(temps, from, 1);
-    match found_copied(alloc, load(frames, left)) {
-        Err(_) => Acted::Memory,
-        Ok(x) => match found_copied(alloc, load(frames, right)) {
-            Err(_) => Acted::Memory,
-            Ok(y) => {
-                if store(frames, right, x) {
-                    wrote(store(frames, left, y))
-                } else {
-                    Acted::Memory
-                }
+    let left = taken(x, from, 0)?;
+    match taken(x, from, 1) {
+        Err(_) => Err(Memory),
+        Ok(right) => Ok(Acted::Swaps(at(from, 0), at(from, 1), left, right)),
+    }
+}
+
+// What an operation does that writes.
+fn writes(
+    x: &Here,
+    operation: Operation,
+    ty: Option<TypeId>,
+    of: &[Option<TypeId>],
+    from: &[From],
+) -> Result<Acted, Memory>
+    requires { x.now.declared ≡ length (facts_in x.now.types.now) }
+    ensures { (w : World) → IfOk result (λ acted. operated w x.now operation ty of.now from.now
+        ≡ comes (temps_is x.now.temps.now) (world_with w x.now.frames.now.items) acted) }
+{
+    let temps = x.temps;
+    match operation {
+        Operation::Assign => {
+            let v = own(x.alloc, value_of(temps, from, 1))?;
+            Ok(stores(from, v, Value::Number(0)))
+        }
+        Operation::Update(operator) => {
+            match calculate(operator, number_there(x, from), step_of(temps, from)) {
+                Err(trap) => Ok(Acted::Stops(Stop::Traps(trap))),
+                Ok(z) => Ok(stores(from, Value::Number(z), Value::Number(0))),
             }
-        },
+        }
+        Operation::Move => {
+            let v = start_for(x, ty)?;
+            match taken(x, from, 0) {
+                Err(_) => Err(Memory),
+                Ok(old) => Ok(stores(from, v, old)),
+            }
+        }
+        Operation::Swap => swap(x, from),
+        _ => Err(Memory),
     }
 }
 
 /// What an operation does with operands.
 pub fn act(
-    alloc: Global,
-    types: &TypeTable,
-    declared: u32,
-    temps: &Temps,
-    frames: &mut Vec<Frame>,
+    x: &Here,
     operation: Operation,
     ty: Option<TypeId>,
     of: &[Option<TypeId>],
     from: &[From],
-) -> Acted
-    requires { declared ≡ length (facts_in types.now) }
-    ensures { (w : World) → ActsAs types.now operation ty of.now temps.now from.now
-        (world_with w frames.old.items) result (world_with w frames.new.items) }
+) -> Result<Acted, Memory>
+    requires { x.now.declared ≡ length (facts_in x.now.types.now) }
+    ensures { (w : World) → IfOk result (λ acted. operated w x.now operation ty of.now from.now
+        ≡ comes (temps_is x.now.temps.now) (world_with w x.now.frames.now.items) acted) }
 {
+    let temps = x.temps;
     match operation {
-        Operation::Default => given(start_for(alloc, types, declared, ty)),
-        Operation::Unary(operator) => outcome(apply(operator, number_of(temps, from, 0))),
+        Operation::Default => Ok(Acted::Gives(start_for(x, ty)?)),
+        Operation::Unary(operator) => Ok(outcome(apply(operator, number_of(temps, from, 0)))),
         Operation::Binary(operator) => {
-            let (x, y) = (number_of(temps, from, 0), number_of(temps, from, 1));
-            outcome(calculate(operator, x, y))
+            let z = calculate(
+                operator,
+                number_of(temps, from, 0),
+                number_of(temps, from, 1),
+            );
+            Ok(outcome(z))
         }
         Operation::Compare(comparison) => {
-            let (x, y) = (number_of(temps, from, 0), number_of(temps, from, 1));
-            Acted::Gives(number_value(i32::from(compares(comparison, x, y))))
+            let holds = compares(
+                comparison,
+                number_of(temps, from, 0),
+                number_of(temps, from, 1),
+            );
+            Ok(Acted::Gives(Value::Number(i32::from(holds))))
         }
-        Operation::Convert => convert(alloc, types, temps, ty, from),
-        Operation::Make => given(make(alloc, temps, from)),
+        Operation::Convert => convert(x, ty, from),
+        Operation::Make => Ok(Acted::Gives(row(false, values_of(x.alloc, temps, from)?))),
         Operation::Measure(measure) => {
-            let whole = load(frames, location_of(temps, from, 0));
-            measured(measure, whole)
+            let v = measured(measure, length_in(there(x, from, 0)))?;
+            Ok(Acted::Gives(v))
         }
-        Operation::Echo => match line(alloc, types, declared, temps, of, from) {
-            Err(_) => Acted::Memory,
-            Ok(line) => Acted::Says(line),
-        },
-        Operation::Quit => Acted::Stops(Stop::Quits(low_byte(number_of(temps, from, 0)))),
-        Operation::Assign => assign(alloc, temps, frames, from),
-        Operation::Update(operator) => update(operator, temps, frames, from),
-        Operation::Move => match start_for(alloc, types, declared, ty) {
-            Err(_) => Acted::Memory,
-            Ok(v) => move_out(alloc, temps, frames, v, from),
-        },
-        Operation::Swap => swap(alloc, temps, frames, from),
+        Operation::Echo => Ok(Acted::Says(line(x, of, from)?)),
+        Operation::Quit => Ok(Acted::Stops(Stop::Quits(low_byte(number_of(temps, from, 0))))),
+        Operation::Assign | Operation::Update(_) | Operation::Move | Operation::Swap => {
+            writes(x, operation, ty, of, from)
+        }
         Operation::Discard
         | Operation::Join
         | Operation::Show
@@ -232,6 +235,6 @@ pub fn act(
         | Operation::SetLength
         | Operation::Pop
         | Operation::Destroy
-        | Operation::Blank => Acted::Gives(number_value(0)),
+        | Operation::Blank => Ok(Acted::Gives(Value::Number(0))),
     }
 }

@@ -12,6 +12,7 @@ use flat_code::Piece;
 use std::alloc::Global;
 
 // The ordinal that is all there is.
+#[inline(always)]
 pub fn lone(pieces: &[Piece]) -> Option<i32>
     ensures { IfSome result (λ z. pieces.now ≡ Ordinal z ∷ []) }
 {

@@ -36,6 +36,7 @@ pub fn labels_of(alloc: Global, lines: &[Line]) -> Result<Vec<Option<usize>>, Me
 }
 
 /// The position of the first line with a label.
+#[inline(always)]
 pub fn back(labels: &Vec<Option<usize>>, name: u32) -> Option<usize>
     ensures { result ≡ held_in labels.now.items name }
 {
@@ -70,6 +71,7 @@ fn search(lines: &[Line], from: usize, name: u32) -> Option<usize>
 }
 
 /// The same for a label that stands behind. Where labels stand once it isn't searched for.
+#[inline(always)]
 pub fn ahead(lines: &[Line], labels: &Vec<Option<usize>>, from: usize, name: u32) -> Option<usize>
     ensures { AreLabels lines.now labels.now.items → option_map (λ i. drop i lines.now) result
         ≡ from_label label_in name (drop from lines.now) }

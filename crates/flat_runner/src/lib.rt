@@ -7,31 +7,27 @@
 //!
 //! The state (state.rt) is the machine of the meaning in vectors: places by their numbers in frames,
 //! temporaries by theirs in calls, and the next line by its position; specs/View.antt says which
-//! machine it stands for. Where labels stand is found once (tables.rt). A line does something by
-//! itself (lines.rt, with the lines of a kind in one file each, and the rows of operations in
-//! act.rt; at_once.rt has what is done with one number without a value in between); what comes of it
-//! is a step (step.rt); `mean` goes on from step to step.
+//! machine it stands for. Where labels stand is found once (tables.rt). A line looks at the state and
+//! answers what it does, as a value (did.rt; lines.rt, and act.rt for the rows of operations); one
+//! that comes to a number, a place or a jump answers a small one, and is tried first (brief.rt). One
+//! function carries that out (step.rt), so all else changes nothing; `mean` goes on from step to step.
 //!
 //! `Memory` is answered where memory was refused, and in two cases that no typed program comes to: a
 //! value with more parts than an int says, and a char above 255 in a text.
 #![tactic(auto)]
 
 mod act;
-mod acted;
-mod at_once;
+mod brief;
 mod constant;
 mod did;
 mod fields;
 mod labels;
 mod lines;
-mod loop_lines;
 pub mod mean;
 mod numbers;
 mod operand;
 mod path;
-mod path_lines;
 mod place;
-mod place_lines;
 mod start;
 mod state;
 mod step;
@@ -40,7 +36,6 @@ mod tables;
 mod temps;
 mod text;
 mod value;
-mod value_lines;
 
 pub use state::{Active, Base, Frame, Location, Run, Slot, Temps, Waiting, Where};
 pub use value::Value;

@@ -1,128 +1,236 @@
-// What each line does by itself.
-ghost use Rattle.flat_runner.specs.Made.{LineDid};
-ghost use Rattle.flat_runner.specs.Tables.{HasTables};
+// What each line does.
+ghost use Rattle.flat_runner.specs.Doing.{LineDid};
+ghost use Rattle.flat_runner.specs.View.{found_value};
 ghost use Rattle.nim_meaning.specs.State.{World};
+ghost use Rattle.nim_meaning.specs.Deeds.{Gives, stop};
+ghost use Rattle.nim_meaning.specs.Places.{object_of};
+ghost use Rattle.nim_meaning.specs.Values.{nowhere};
+ghost use Rattle.nim_program.specs.Traps.{NilDereference};
 ghost use Rattle.nim_plan.specs.declared.plan.Plan.{Plan};
 ghost use Rattle.nim_types.specs.Table.{facts_in};
-ghost use Rattle.nim_types.specs.declared.types.TypeDef.{TypeDef};
-ghost use Rattle.std.specs.Prelude.{List, length, ℕ, ◌≡◌};
+ghost use Rattle.std.specs.Prelude.{IfOk, if◌then◌else◌, length, ◌≡◌};
 
-use crate::at_once::at_once;
-use crate::did::{Did, gives};
-use crate::loop_lines::{beyond, count_turn, element, fits, length, next, still, turn_if, unless};
-use crate::numbers::number_value;
-use crate::path_lines::{fresh, item, object, part, root_of, standing};
-use crate::place_lines::{blank, filled, returned};
-use crate::state::{Frame, Temps};
-use crate::tables::Tables;
-use crate::value_lines::{apply, call, constant_of, construct, get, look, pass};
+use crate::act::act;
+use crate::brief::found;
+use crate::constant::constant;
+use crate::did::{Acted, Did, Here};
+use crate::fields::with_fields;
+use crate::numbers::{is_count, position};
+use crate::operand::{are_there, made_location, own, slots_for};
+use crate::path::{part_of, root};
+use crate::place::{is_open, standing};
+use crate::start::start_of;
+use crate::state::Where;
+use crate::stop::Stop;
+use crate::temps::{number_at, place_at, value_at};
+use crate::value::{Found, Value, copied, found_copied, length_in, within};
+use arc_base::Memory;
 use flat_code::Line;
-use nim_types::TypeTable;
-use std::alloc::Global;
+use plain_values::Trap;
 
-// The lines of loops and jumps. The others don't come here.
-fn goes_on(temps: &mut Temps, line: &Line) -> Did
-    ensures { (types : List TypeDef) (plan : Plan) (w : World) (level : ℕ) (frames : List Frame) →
-        LineDid types plan w level temps.old frames line.now result temps.new frames }
+// Whether it is a ref that is nil.
+fn is_nil(found: Found) -> bool
+    ensures { object_of (found_value found.entry)
+        ≡ (if result then stop NilDereference else Gives nowhere) }
 {
-    match line {
-        Line::Beyond {
-            counter,
-            last,
-            inclusive,
-            to,
-        } => beyond(temps, *counter, *last, *inclusive, *to),
-        Line::Next { counter, last } => next(temps, *counter, *last),
-        Line::Label { .. } => Did::Passes,
-        Line::Jump { to } => Did::Leaps(*to),
-        Line::Unless { from, to } => unless(temps, *from, *to),
-        Line::Fits {
-            from,
-            low,
-            high,
-            to,
-        } => fits(temps, *from, *low, *high, *to),
-        Line::Enter => Did::Enters,
-        Line::Turn { to } => Did::Turns(*to),
-        Line::TurnIf { from, to } => turn_if(temps, *from, *to),
-        Line::CountTurn {
-            counter,
-            last,
-            inclusive,
-            to,
-        } => count_turn(temps, *counter, *last, *inclusive, *to),
-        Line::Apply { .. }
-        | Line::Construct { .. }
-        | Line::Constant { .. }
-        | Line::Call { .. }
-        | Line::Get { .. }
-        | Line::Look { .. }
-        | Line::Root { .. }
-        | Line::Fresh { .. }
-        | Line::Standing { .. }
-        | Line::Part { .. }
-        | Line::Item { .. }
-        | Line::Object { .. }
-        | Line::Pass { .. }
-        | Line::Truth { .. }
-        | Line::Fill { .. }
-        | Line::Blank { .. }
-        | Line::Give { .. }
-        | Line::Zero { .. }
-        | Line::Length { .. }
-        | Line::Still { .. }
-        | Line::Element { .. }
-        | Line::Return { .. } => Did::Memory,
+    match found {
+        Found::At(v) => match v {
+            Value::Nil => true,
+            Value::Number(_) => false,
+            Value::Parts { .. } => false,
+            Value::Text(_) => false,
+            Value::Empty => false,
+        },
+        Found::Char(_) => false,
+        Found::Nothing => false,
     }
 }
 
-// The lines of paths and places, and those that go on.
-fn leads_on(
-    alloc: Global,
-    types: &TypeTable,
-    declared: u32,
-    level: u32,
-    temps: &mut Temps,
-    frames: &mut Vec<Frame>,
-    line: &Line,
-) -> Did
-    requires { declared ≡ length (facts_in types.now) }
-    ensures { (plan : Plan) (w : World) → LineDid types.now plan w level temps.old frames.old.items
-        line.now result temps.new frames.new.items }
+/// What a line does. Here those of calls and places, then those of paths, of values that are there, and
+/// of new ones: a line that comes late takes longer.
+pub fn does(x: &Here, line: &Line) -> Result<Did, Memory>
+    requires { x.now.declared ≡ length (facts_in x.now.types.now) }
+    ensures { (plan : Plan) (w : World) → IfOk result (LineDid plan w x.now line.now) }
+{
+    match line {
+        Line::Call { to, proc, from, .. } => {
+            let from = from.as_slice();
+            if !are_there(x.temps, from) {
+                return Ok(Did::Fails);
+            }
+            let slots = slots_for(x.alloc, x.temps, from)?;
+            Ok(Did::Calls(*to, *proc, slots))
+        }
+        Line::Fill { place, from } => {
+            let Some(v) = value_at(x.temps, *from) else {
+                return Ok(Did::Fails);
+            };
+            let v = copied(x.alloc, v)?;
+            Ok(Did::Fills(*place, v))
+        }
+        Line::Give { place, from } => {
+            let Some(v) = value_at(x.temps, *from) else {
+                return Ok(Did::Fails);
+            };
+            let v = copied(x.alloc, v)?;
+            Ok(Did::Fills(*place, v))
+        }
+        Line::Return { result } => {
+            let Some(place) = result else {
+                return Ok(Did::Returns(Value::Number(0)));
+            };
+            if !is_open(x.frames, x.level, *place) {
+                return Ok(Did::Fails);
+            }
+            let v = own(x.alloc, standing(x.frames, x.level, *place))?;
+            Ok(Did::Returns(v))
+        }
+        _ => paths(x, line),
+    }
+}
+
+// Lines of paths.
+fn paths(x: &Here, line: &Line) -> Result<Did, Memory>
+    requires { x.now.declared ≡ length (facts_in x.now.types.now) }
+    ensures { (plan : Plan) (w : World) → IfOk result (LineDid plan w x.now line.now) }
 {
     match line {
         Line::Root { to, place, global } => {
-            root_of(alloc, level, temps, frames, *to, *place, *global)
+            let level = if *global { 0 } else { x.level };
+            if !is_open(x.frames, level, *place) {
+                return Ok(Did::Fails);
+            }
+            let place = root(x.alloc, x.frames, level, *place)?;
+            Ok(Did::Leads(*to, place))
         }
-        Line::Fresh { to, from } => fresh(alloc, temps, *to, *from),
-        Line::Standing { to, pieces, .. } => standing(alloc, temps, *to, pieces),
-        Line::Part { to, from, field } => part(alloc, temps, *to, *from, *field),
-        Line::Item { to, from, index } => item(alloc, temps, frames, *to, *from, *index),
-        Line::Object { to, from } => object(alloc, temps, frames, *to, *from),
-        Line::Fill { place, from } => filled(alloc, level, temps, frames, *place, *from),
-        Line::Blank { place, ty } => blank(alloc, types, declared, level, frames, *place, *ty),
-        Line::Give { place, from } => filled(alloc, level, temps, frames, *place, *from),
-        Line::Length { to, from } => length(temps, frames, *to, *from),
-        Line::Still { from, length } => still(temps, frames, *from, *length),
-        Line::Element { to, from, index } => element(alloc, temps, frames, *to, *from, *index),
-        Line::Return { result } => returned(alloc, level, frames, *result),
-        _ => goes_on(temps, line),
+        Line::Fresh { to, from } => {
+            if value_at(x.temps, *from).is_none() {
+                return Ok(Did::Fails);
+            }
+            let place = Where::Within {
+                temporary: *from,
+                path: Vec::new(x.alloc),
+            };
+            Ok(Did::Leads(*to, place))
+        }
+        Line::Standing { to, pieces, .. } => {
+            let v = constant(x.alloc, pieces.as_slice())?;
+            Ok(Did::Leads(*to, Where::Located(made_location(x.alloc, v))))
+        }
+        Line::Part { to, from, field } => {
+            let Some(place) = place_at(x.temps, *from) else {
+                return Ok(Did::Fails);
+            };
+            let place = part_of(x.alloc, place, *field)?;
+            Ok(Did::Leads(*to, place))
+        }
+        Line::Item { to, from, index } => {
+            let Some(place) = place_at(x.temps, *from) else {
+                return Ok(Did::Fails);
+            };
+            let Some(z) = number_at(x.temps, *index) else {
+                return Ok(Did::Fails);
+            };
+            let Some(i) = position(z, length_in(found(x, place))) else {
+                return Ok(Did::Acts(*to, Acted::Stops(Stop::Traps(Trap::IndexOutOfBounds))));
+            };
+            let place = part_of(x.alloc, place, i)?;
+            Ok(Did::Leads(*to, place))
+        }
+        Line::Object { to, from } => {
+            let Some(place) = place_at(x.temps, *from) else {
+                return Ok(Did::Fails);
+            };
+            if is_nil(found(x, place)) {
+                return Ok(Did::Acts(*to, Acted::Stops(Stop::Nil)));
+            }
+            let location = made_location(x.alloc, Value::Number(0));
+            Ok(Did::Leads(*to, Where::Located(location)))
+        }
+        _ => values(x, line),
     }
 }
 
-// What a line does, whatever it writes.
-fn carried(
-    alloc: Global,
-    types: &TypeTable,
-    tables: &Tables,
-    level: u32,
-    temps: &mut Temps,
-    frames: &mut Vec<Frame>,
-    line: &Line,
-) -> Did
-    requires { HasTables types.now tables.now }
-    ensures { (plan : Plan) (w : World) → LineDid types.now plan w level temps.old frames.old.items
-        line.now result temps.new frames.new.items }
+// Lines that look at what is there.
+fn values(x: &Here, line: &Line) -> Result<Did, Memory>
+    requires { x.now.declared ≡ length (facts_in x.now.types.now) }
+    ensures { (plan : Plan) (w : World) → IfOk result (LineDid plan w x.now line.now) }
+{
+    match line {
+        Line::Get { to, from, .. } => {
+            let Some(place) = place_at(x.temps, *from) else {
+                return Ok(Did::Fails);
+            };
+            let v = found_copied(x.alloc, found(x, place))?;
+            Ok(Did::Acts(*to, Acted::Gives(v)))
+        }
+        Line::Look { to, from } => {
+            let Some(place) = place_at(x.temps, *from) else {
+                return Ok(Did::Fails);
+            };
+            let v = found_copied(x.alloc, found(x, place))?;
+            Ok(Did::Acts(*to, Acted::Gives(v)))
+        }
+        Line::Pass { to, from, .. } => {
+            let Some(v) = value_at(x.temps, *from) else {
+                return Ok(Did::Fails);
+            };
+            let v = copied(x.alloc, v)?;
+            Ok(Did::Acts(*to, Acted::Gives(v)))
+        }
+        _ => elements(x, line),
+    }
+}
+
+// Lines that look at elements.
+fn elements(x: &Here, line: &Line) -> Result<Did, Memory>
+    requires { x.now.declared ≡ length (facts_in x.now.types.now) }
+    ensures { (plan : Plan) (w : World) → IfOk result (LineDid plan w x.now line.now) }
+{
+    match line {
+        Line::Length { to, from } => {
+            let Some(place) = place_at(x.temps, *from) else {
+                return Ok(Did::Fails);
+            };
+            match i32::try_from(length_in(found(x, place))) {
+                Err(_) => Err(Memory),
+                Ok(length) => Ok(Did::Acts(*to, Acted::Gives(Value::Number(length)))),
+            }
+        }
+        Line::Still { from, length } => {
+            let Some(place) = place_at(x.temps, *from) else {
+                return Ok(Did::Fails);
+            };
+            let Some(n) = number_at(x.temps, *length) else {
+                return Ok(Did::Fails);
+            };
+            if is_count(n, length_in(found(x, place))) {
+                return Ok(Did::Passes);
+            }
+            Ok(Did::Acts(0, Acted::Stops(Stop::Traps(Trap::LengthChanged))))
+        }
+        Line::Element { to, from, index } => {
+            let Some(place) = place_at(x.temps, *from) else {
+                return Ok(Did::Fails);
+            };
+            let Some(z) = number_at(x.temps, *index) else {
+                return Ok(Did::Fails);
+            };
+            let whole = found(x, place);
+            let Some(i) = position(z, length_in(whole)) else {
+                return Ok(Did::Fails);
+            };
+            let v = found_copied(x.alloc, within(whole, i))?;
+            Ok(Did::Acts(*to, Acted::Gives(v)))
+        }
+        _ => makes(x, line),
+    }
+}
+
+// Lines that make values.
+fn makes(x: &Here, line: &Line) -> Result<Did, Memory>
+    requires { x.now.declared ≡ length (facts_in x.now.types.now) }
+    ensures { (plan : Plan) (w : World) → IfOk result (LineDid plan w x.now line.now) }
 {
     match line {
         Line::Apply {
@@ -132,45 +240,38 @@ fn carried(
             of,
             from,
             ..
-        } => apply(
-            alloc, types, tables, temps, frames, *to, *operation, *ty, of, from,
-        ),
+        } => {
+            let from = from.as_slice();
+            if !are_there(x.temps, from) {
+                return Ok(Did::Fails);
+            }
+            let acted = act(x, *operation, *ty, of.as_slice(), from)?;
+            Ok(Did::Acts(*to, acted))
+        }
         Line::Construct {
             to,
             ty,
             fields,
             from,
             ..
-        } => construct(alloc, types, tables, temps, *to, *ty, fields, from),
-        Line::Constant { to, ty, pieces, .. } => {
-            constant_of(alloc, types, temps, *to, *ty, pieces)
+        } => {
+            let from = from.as_slice();
+            if !are_there(x.temps, from) {
+                return Ok(Did::Fails);
+            }
+            let v = start_of(x.alloc, x.types, x.declared, *ty)?;
+            let v = with_fields(x.alloc, x.temps, v, fields.as_slice(), from)?;
+            Ok(Did::Acts(*to, Acted::Gives(v)))
         }
-        Line::Call { to, proc, from, .. } => call(alloc, temps, *to, *proc, from),
-        Line::Get { to, from, ty, .. } => get(alloc, types, temps, frames, *to, *from, *ty),
-        Line::Look { to, from } => look(alloc, temps, frames, *to, *from),
-        Line::Pass { to, from, ty, .. } => pass(alloc, types, temps, *to, *from, *ty),
-        Line::Truth { to, value } => gives(temps, *to, number_value(i32::from(*value))),
-        Line::Zero { to } => gives(temps, *to, number_value(0)),
-        _ => leads_on(alloc, types, tables.declared, level, temps, frames, line),
+        Line::Constant { to, pieces, .. } => {
+            let v = constant(x.alloc, pieces.as_slice())?;
+            Ok(Did::Acts(*to, Acted::Gives(v)))
+        }
+        Line::Blank { place, ty } => {
+            let v = start_of(x.alloc, x.types, x.declared, *ty)?;
+            Ok(Did::Fills(*place, v))
+        }
+        // The others are brief.
+        _ => Err(Memory),
     }
-}
-
-/// What a line does.
-pub fn does(
-    alloc: Global,
-    types: &TypeTable,
-    tables: &Tables,
-    level: u32,
-    temps: &mut Temps,
-    frames: &mut Vec<Frame>,
-    line: &Line,
-) -> Did
-    requires { HasTables types.now tables.now }
-    ensures { (plan : Plan) (w : World) → LineDid types.now plan w level temps.old frames.old.items
-        line.now result temps.new frames.new.items }
-{
-    if at_once(types, level, temps, frames, line) {
-        return Did::Passes;
-    }
-    carried(alloc, types, tables, level, temps, frames, line)
 }

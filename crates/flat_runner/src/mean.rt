@@ -3,11 +3,11 @@ ghost use Rattle.flat_code.specs.Codes.{procs_of};
 ghost use Rattle.flat_code.specs.Running.{frame_of, start_of};
 ghost use Rattle.flat_code.specs.Scene.{known_in};
 ghost use Rattle.flat_runner.specs.Mean.{Comes, by_units, first};
+ghost use Rattle.flat_runner.specs.PlainLines.{AllPlain};
 ghost use Rattle.flat_runner.specs.Tables.{IsTables};
 ghost use Rattle.flat_runner.specs.View.{frame_is, machine_is};
 ghost use Rattle.nim_meaning.specs.State.{world_of as first_world};
 ghost use Rattle.nim_plan.specs.declared.plan.Plan.{Plan};
-ghost use Rattle.nim_program.specs.Sizes.{HaveForms};
 ghost use Rattle.std.specs.Prelude.{IfOk, List, [], length, ℕ, ◌-◌, ◌≡◌};
 
 use crate::state::{Active, Frame, Run, Slot};
@@ -93,7 +93,8 @@ fn begun(
     })
 }
 
-/// Runs flat code under a plan with so many units: what it writes goes to the sinks as it happens.
+/// Runs flat code without the heap under a plan with so many units: what it writes goes to the sinks
+/// as it happens.
 pub fn mean<I: Source, O: Sink, E: Sink>(
     alloc: Global,
     types: &TypeTable,
@@ -105,7 +106,7 @@ pub fn mean<I: Source, O: Sink, E: Sink>(
     out: &mut O,
     err: &mut E,
 ) -> MeanEnd
-    requires { HaveForms types.now }
+    requires { AllPlain (known_in types.now) flat.now.procs }
     ensures means { (bytes : List ℕ) → Comes (by_units types.now plan.now flat.now heap bytes n)
         result (record {
           before = O.written out.old;

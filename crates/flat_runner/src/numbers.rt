@@ -1,20 +1,9 @@
 // Numbers.
-ghost use Rattle.flat_runner.specs.View.{value_of};
 ghost use Rattle.nim_meaning.specs.Meaning.{limit};
-ghost use Rattle.nim_meaning.specs.Values.{Number};
 ghost use Rattle.nim_program.specs.Ints.{inside, low_byte};
 ghost use Rattle.std.specs.Ordering.{int_eq};
 ghost use Rattle.std.specs.Prelude.{None, Some, if◌then◌else◌, int_lt, pos, unsigned_abs};
 ghost use Rattle.std.specs.Prelude.{◌+ℤ◌, ◌≡◌};
-
-use crate::value::Value;
-
-/// A number as a value.
-pub fn number_value(z: i32) -> Value
-    ensures { value_of result ≡ Number z }
-{
-    Value::Number(z)
-}
 
 /// The low eight bits of a number.
 pub fn low_byte(z: i32) -> u8
@@ -42,20 +31,15 @@ pub fn is_count(z: i32, len: usize) -> bool
 }
 
 /// Whether a number is one of a loop that goes to a last one.
+#[inline(always)]
 pub fn is_below(i: i32, last: i32, inclusive: bool) -> bool
     ensures { result ≡ int_lt i (limit inclusive last) }
 {
     if inclusive { i <= last } else { i < last }
 }
 
-/// The number that follows one below a last one.
-pub fn next_below(i: i32, last: i32) -> Option<i32>
-    ensures { result ≡ (if int_lt i last then Some (i +ℤ pos 1) else None) }
-{
-    if i < last { Some(i + 1) } else { None }
-}
-
 /// The number that follows, where it is one of the loop.
+#[inline(always)]
 pub fn following(i: i32, last: i32, inclusive: bool) -> Option<i32>
     ensures { result ≡ (if int_lt (i +ℤ pos 1) (limit inclusive last) then Some (i +ℤ pos 1)
         else None) }

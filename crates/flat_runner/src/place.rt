@@ -1,18 +1,16 @@
 // Places of calls, and the values at locations.
 ghost use Rattle.flat_code.specs.Lines.{is_there};
-ghost use Rattle.flat_code.specs.Scene.{Temps as SpecTemps, location_at};
-ghost use Rattle.flat_runner.specs.Made.{IsHeld, IsKept};
+ghost use Rattle.flat_code.specs.Scene.{location_at};
 ghost use Rattle.flat_runner.specs.View.{found_value, joined, location_of, slot_is, spot_is};
 ghost use Rattle.flat_runner.specs.View.{temps_is, value_of, value_or, where_of, world_in};
 ghost use Rattle.flat_runner.specs.View.{world_with};
 ghost use Rattle.nim_meaning.specs.State.{World, held, load, slot_at, store, whole_at, with_slot};
-ghost use Rattle.nim_meaning.specs.Values.{Holds, Number, Slot as SpecSlot, part, put_part};
-ghost use Rattle.std.specs.Prelude.{IfSome, Some, false, map, option_map, slice_get};
-ghost use Rattle.std.specs.Prelude.{slice_set, true, ◌≡◌};
+ghost use Rattle.nim_meaning.specs.Values.{Holds, part, put_part};
+ghost use Rattle.std.specs.Prelude.{None, Some, option_map, true, ◌≡◌};
 
 use crate::state::{Base, Frame, Location, Slot, Temps, Where};
 use crate::temps::value_at;
-use crate::value::{Found, Value, part, plain_number, put_part, renumber};
+use crate::value::{Found, Value, part, put_part};
 use std::mem::replace;
 
 /// A location that is looked at: at a place, or in a value that nobody owns.
@@ -30,6 +28,7 @@ pub enum Spot<'a> {
 }
 
 /// The location that is meant.
+#[inline(always)]
 pub fn spot_at(location: &Location) -> Spot<'_>
     ensures { spot_is result ≡ location_of location.now }
 {
@@ -47,6 +46,7 @@ pub fn spot_at(location: &Location) -> Spot<'_>
 }
 
 /// The location to which a temporary leads.
+#[inline(always)]
 pub fn spot_of<'a>(temps: &'a Temps, place: &'a Where) -> Spot<'a>
     ensures { spot_is result ≡ location_at (temps_is temps.now) (where_of place.now) }
 {
@@ -60,6 +60,7 @@ pub fn spot_of<'a>(temps: &'a Temps, place: &'a Where) -> Spot<'a>
 }
 
 /// The slot of a place, where it has such a number.
+#[inline(always)]
 pub fn slot_at(frames: &Vec<Frame>, level: u32, number: u32) -> Option<&Slot>
     ensures { joined (option_map (λ slot. slot_is slot.now) result)
         ≡ slot_at (world_in frames.now.items) level number }
@@ -85,6 +86,7 @@ pub fn is_open(frames: &Vec<Frame>, level: u32, number: u32) -> bool
 }
 
 /// The value that stands at a place.
+#[inline(always)]
 pub fn standing(frames: &Vec<Frame>, level: u32, number: u32) -> Option<&Value>
     ensures { value_or (option_map (λ v. v.now) result)
         ≡ held (slot_at (world_in frames.now.items) level number) }
@@ -99,59 +101,11 @@ pub fn standing(frames: &Vec<Frame>, level: u32, number: u32) -> Option<&Value>
     }
 }
 
-/// Whether a place holds a value.
-pub fn is_held(frames: &Vec<Frame>, level: u32, number: u32) -> bool
-    ensures { result ≡ true → IsHeld (slot_at (world_in frames.now.items) level number) }
-{
-    match slot_at(frames, level, number) {
-        None => false,
-        Some(slot) => match slot {
-            Slot::Closed => false,
-            Slot::Holds(_) => true,
-            Slot::Stands(_) => false,
-        },
-    }
-}
-
-// The number that a place holds.
-fn number_held(frames: &Vec<Frame>, level: u32, number: u32) -> Option<i32>
-    ensures { IfSome result (λ z. held (slot_at (world_in frames.now.items) level number)
-        ≡ Number z) }
-{
-    match slot_at(frames, level, number) {
-        None => None,
-        Some(slot) => match slot {
-            Slot::Closed => None,
-            Slot::Holds(v) => plain_number(Some(v)),
-            Slot::Stands(_) => None,
-        },
-    }
-}
-
-/// The number that stands where a path leads, if that is a place itself.
-pub fn number_there(frames: &Vec<Frame>, place: &Where) -> Option<i32>
-    ensures { (w : World) (temps : SpecTemps) → IfSome result (λ z. load
-        (world_with w frames.now.items) (location_at temps (where_of place.now)) ≡ Number z) }
-{
-    match place {
-        Where::Within { .. } => None,
-        Where::Located(location) => match &location.base {
-            Base::Made(_) => None,
-            Base::Standing { level, number } => {
-                if location.path.is_empty() {
-                    number_held(frames, *level, *number)
-                } else {
-                    None
-                }
-            }
-        },
-    }
-}
-
 // The whole value where a location begins.
+#[inline(always)]
 fn whole_at<'a>(frames: &'a Vec<Frame>, spot: Spot<'a>) -> Option<&'a Value>
-    ensures { value_or (option_map (λ v. v.now) result)
-        ≡ whole_at (world_in frames.now.items) (spot_is spot.entry).base }
+    ensures { (w : World) → value_or (option_map (λ v. v.now) result)
+        ≡ whole_at (world_with w frames.now.items) (spot_is spot.entry).base }
 {
     match spot {
         Spot::Standing { level, number, .. } => standing(frames, level, number),
@@ -159,6 +113,7 @@ fn whole_at<'a>(frames: &'a Vec<Frame>, spot: Spot<'a>) -> Option<&'a Value>
     }
 }
 
+#[inline(always)]
 fn path_of<'a>(spot: Spot<'a>) -> &'a [u32]
     ensures { result.now ≡ (spot_is spot.entry).path }
 {
@@ -180,92 +135,77 @@ fn part_of<'a>(whole: Option<&'a Value>, path: &[u32]) -> Found<'a>
 
 /// What stands at a location.
 pub fn load<'a>(frames: &'a Vec<Frame>, spot: Spot<'a>) -> Found<'a>
-    ensures { found_value result ≡ load (world_in frames.now.items) (spot_is spot.entry) }
+    ensures { (w : World) → load (world_with w frames.now.items) (spot_is spot.entry)
+        ≡ found_value result }
 {
     part_of(whole_at(frames, spot), path_of(spot))
 }
 
-// The value that was held.
-fn held(slot: Slot) -> Value
-    ensures { value_of result ≡ held (slot_is slot) }
+// A place gets another slot. What was there.
+fn exchange(frames: &mut Vec<Frame>, level: u32, number: u32, slot: Slot) -> Slot
+    ensures old { slot_is result ≡ slot_at (world_in frames.old.items) level number }
+    ensures new { (w : World) → world_with w frames.new.items
+        ≡ with_slot (world_with w frames.old.items) level number (slot_is slot) }
 {
-    match slot {
+    if level as usize >= frames.len() {
+        drop(slot);
+        return Slot::Closed;
+    }
+    let frame = &mut frames[level as usize];
+    let i = number.saturating_sub(frame.first) as usize;
+    if i >= frame.slots.len() {
+        drop(slot);
+        return Slot::Closed;
+    }
+    replace(&mut frame.slots[i], slot)
+}
+
+/// A declared place is filled.
+pub fn fill(frames: &mut Vec<Frame>, level: u32, number: u32, v: Value)
+    ensures { (w : World) → world_with w frames.new.items
+        ≡ with_slot (world_with w frames.old.items) level number (Some (Holds (value_of v))) }
+{
+    exchange(frames, level, number, Slot::Holds(v));
+}
+
+// The value of a place is taken out, to be put back.
+fn take(frames: &mut Vec<Frame>, level: u32, number: u32) -> Value
+    ensures value { value_of result ≡ held (slot_at (world_in frames.old.items) level number) }
+    ensures frames { (w : World) → world_with w frames.new.items
+        ≡ with_slot (world_with w frames.old.items) level number None }
+{
+    match exchange(frames, level, number, Slot::Closed) {
         Slot::Closed => Value::Number(0),
         Slot::Holds(v) => v,
         Slot::Stands(_) => Value::Number(0),
     }
 }
 
-// A list of slots with another one.
-fn set_slot(slots: &mut Vec<Slot>, i: usize, v: Value)
-    ensures { map slot_is slots.new.items
-        ≡ slice_set (map slot_is slots.old.items) i (Some (Holds (value_of v))) }
-{
-    if i < slots.len() {
-        slots[i] = Slot::Holds(v);
-    }
-}
-
-// What a slot holds is taken, and nothing held in its place.
-fn take_slot(slots: &mut Vec<Slot>, i: usize) -> Value
-    ensures value { value_of result
-        ≡ held (joined (slice_get (map slot_is slots.old.items) i)) }
-    ensures slots { (v : SpecSlot) → slice_set (map slot_is slots.new.items) i (Some v)
-        ≡ slice_set (map slot_is slots.old.items) i (Some v) }
-{
-    if i >= slots.len() {
-        return Value::Number(0);
-    }
-    held(replace(&mut slots[i], Slot::Closed))
-}
-
-/// A declared place is filled.
-pub fn fill(frames: &mut Vec<Frame>, level: u32, number: u32, v: Value)
-    ensures { world_in frames.new.items ≡ with_slot (world_in frames.old.items) level number
-        (Some (Holds (value_of v))) }
-{
-    if (level as usize) < frames.len() {
-        let frame = &mut frames[level as usize];
-        let i = number.saturating_sub(frame.first) as usize;
-        set_slot(&mut frame.slots, i, v);
-    }
-}
-
-// The value of a place is taken out, to be put back.
-fn take(frames: &mut Vec<Frame>, level: u32, number: u32) -> Value
-    ensures value { value_of result ≡ held (slot_at (world_in frames.old.items) level number) }
-    ensures frames { (slot : SpecSlot) →
-        with_slot (world_in frames.new.items) level number (Some slot)
-        ≡ with_slot (world_in frames.old.items) level number (Some slot) }
-{
-    if level as usize >= frames.len() {
-        return Value::Number(0);
-    }
-    let frame = &mut frames[level as usize];
-    let i = number.saturating_sub(frame.first) as usize;
-    take_slot(&mut frame.slots, i)
-}
-
 // A value becomes that at a path in a place. Whether there was memory for it.
 fn put(frames: &mut Vec<Frame>, level: u32, number: u32, path: &[u32], v: Value) -> bool
-    ensures { result ≡ true → world_in frames.new.items
-        ≡ with_slot (world_in frames.old.items) level number (Some (Holds (put_part
+    ensures { (w : World) → result ≡ true → world_with w frames.new.items
+        ≡ with_slot (world_with w frames.old.items) level number (Some (Holds (put_part
         (held (slot_at (world_in frames.old.items) level number)) path.now (value_of v)))) }
 {
-    let old = take(frames, level, number);
-    match put_part(old, path, v) {
-        Err(_) => false,
-        Ok(new) => {
-            fill(frames, level, number, new);
+    match path.split_first() {
+        None => {
+            fill(frames, level, number, v);
             true
         }
+        Some(_) => match put_part(take(frames, level, number), path, v) {
+            Err(_) => false,
+            Ok(new) => {
+                fill(frames, level, number, new);
+                true
+            }
+        },
     }
 }
 
 /// A value becomes that at a location. Whether there was memory for it.
 pub fn store(frames: &mut Vec<Frame>, spot: Spot, v: Value) -> bool
-    ensures { result ≡ true → world_in frames.new.items
-        ≡ store (world_in frames.old.items) (spot_is spot.entry) (value_of v) }
+    ensures { (w : World) → result ≡ true → world_with w frames.new.items
+        ≡ store (world_with w frames.old.items) (spot_is spot.entry) (value_of v) }
 {
     match spot {
         Spot::Standing {
@@ -274,67 +214,5 @@ pub fn store(frames: &mut Vec<Frame>, spot: Spot, v: Value) -> bool
             path,
         } => put(frames, level, number, path, v),
         Spot::Made { .. } => true,
-    }
-}
-
-// A number that a slot holds becomes another one. Whether it holds one.
-fn renumber_slot(slot: &mut Slot, z: i32) -> bool
-    ensures done { result ≡ true → slot_is slot.new ≡ Some (Holds (Number z)) }
-    ensures kept { result ≡ false → slot_is slot.new ≡ slot_is slot.old }
-{
-    match slot {
-        Slot::Closed => false,
-        Slot::Holds(v) => renumber(v, z),
-        Slot::Stands(_) => false,
-    }
-}
-
-fn renumber_slots(slots: &mut Vec<Slot>, i: usize, z: i32) -> bool
-    ensures done { result ≡ true → map slot_is slots.new.items
-        ≡ slice_set (map slot_is slots.old.items) i (Some (Holds (Number z))) }
-    ensures kept { result ≡ false → map slot_is slots.new.items ≡ map slot_is slots.old.items }
-{
-    if i < slots.len() {
-        renumber_slot(&mut slots[i], z)
-    } else {
-        false
-    }
-}
-
-// The number of a place becomes another one. Whether it holds one.
-fn renumber_place(frames: &mut Vec<Frame>, level: u32, number: u32, z: i32) -> bool
-    ensures done { result ≡ true → world_in frames.new.items ≡ with_slot (world_in frames.old.items)
-        level number (Some (Holds (Number z))) }
-    ensures kept { result ≡ false → IsKept frames.old.items frames.new.items }
-{
-    if (level as usize) < frames.len() {
-        let frame = &mut frames[level as usize];
-        let i = number.saturating_sub(frame.first) as usize;
-        renumber_slots(&mut frame.slots, i, z)
-    } else {
-        false
-    }
-}
-
-/// The number where a path leads becomes another one. Whether that is a place itself, that holds a
-/// number.
-pub fn renumber_there(frames: &mut Vec<Frame>, place: &Where, z: i32) -> bool
-    ensures done { (w : World) (temps : SpecTemps) → result ≡ true → world_with w frames.new.items
-        ≡ store (world_with w frames.old.items) (location_at temps (where_of place.now))
-        (Number z) }
-    ensures kept { result ≡ false → IsKept frames.old.items frames.new.items }
-{
-    match place {
-        Where::Within { .. } => false,
-        Where::Located(location) => match &location.base {
-            Base::Made(_) => false,
-            Base::Standing { level, number } => {
-                if location.path.is_empty() {
-                    renumber_place(frames, *level, *number, z)
-                } else {
-                    false
-                }
-            }
-        },
     }
 }

@@ -10,7 +10,8 @@ use arc_base::Memory;
 use nim_types::{TypeDef, TypeId, TypeTable, entry, says};
 use std::alloc::Global;
 
-fn row(hooks: bool, all: Vec<Value>) -> Value
+/// Parts as a value.
+pub fn row(hooks: bool, all: Vec<Value>) -> Value
     ensures { value_of result ≡ rowed hooks (values_of all.items) }
 {
     Value::Parts { hooks, all }

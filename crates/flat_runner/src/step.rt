@@ -1,39 +1,45 @@
 // One step of a run: a line, and what comes of it.
 ghost use Rattle.arc_base.specs.Event.{Event};
+ghost use Rattle.arc_base.specs.Stepping.{Goes};
 ghost use Rattle.flat_code.specs.Codes.{proc_of, procs_of, result_in};
-ghost use Rattle.flat_code.specs.Running.{callable, called, frame_of, gives_nothing, jumped};
-ghost use Rattle.flat_code.specs.Running.{returned};
-ghost use Rattle.flat_code.specs.Scene.{Did as SpecDid, Known, Temps as SpecTemps, known_in};
+ghost use Rattle.flat_code.specs.Running.{Machine, callable, called, frame_of, jumped, onward};
+ghost use Rattle.flat_code.specs.Running.{returned, scene_of, went};
+ghost use Rattle.flat_code.specs.Scene.{Did as SpecDid, Known, known_in, with_value};
 ghost use Rattle.flat_code.specs.declared.code.Code.{Code};
 ghost use Rattle.flat_code.specs.declared.line.Line.{Line};
-ghost use Rattle.flat_runner.specs.Made.{IsDid};
-ghost use Rattle.flat_runner.specs.Steps.{IsQuiet, NextIs, Settled, Settles, Stepped, before};
+ghost use Rattle.flat_runner.specs.Doing.{IsBrief, IsDid, bare, comes, location_from, map_done, plainly};
+ghost use Rattle.flat_runner.specs.PlainLines.{AllPlain};
+ghost use Rattle.flat_runner.specs.Steps.{IsQuiet, NextIs, Settled, Settles, Stepped};
 ghost use Rattle.flat_runner.specs.Steps.{inside as into_call, less_one, padded};
 ghost use Rattle.flat_runner.specs.Tables.{AreBooks, AreLabels, IsBook, IsTables};
 ghost use Rattle.flat_runner.specs.Tables.{result_slots};
 ghost use Rattle.flat_runner.specs.View.{frame_is, lines_at, machine_is, slot_is, temps_is};
 ghost use Rattle.flat_runner.specs.View.{value_of, world_with};
-ghost use Rattle.nim_meaning.specs.State.{World};
-ghost use Rattle.nim_meaning.specs.Values.{Slot as SpecSlot};
+ghost use Rattle.nim_meaning.specs.Deeds.{Answers};
+ghost use Rattle.nim_meaning.specs.State.{World, store};
+ghost use Rattle.nim_meaning.specs.Values.{Number, Slot as SpecSlot, nothing};
 ghost use Rattle.nim_plan.specs.declared.plan.Plan.{Plan};
 ghost use Rattle.nim_program.specs.declared.program.TheConstants.{ACTIVE_CALLS};
 ghost use Rattle.nim_types.specs.Table.{facts_in};
+ghost use Rattle.nim_types.specs.declared.types.TypeDef.{TypeDef};
 ghost use Rattle.std.specs.Prelude.{IfOk, IfSome, List, None, OnOk, Option, Some, [], drop};
-ghost use Rattle.std.specs.Prelude.{if◌then◌else◌, length, map, option_map, slice_get, true, ℕ};
+ghost use Rattle.std.specs.Prelude.{if◌then◌else◌, length, map, option_map, slice_get, true};
 ghost use Rattle.std.specs.Prelude.{◌++◌, ◌<◌, ◌∷◌, ◌≡◌};
 
-use crate::did::Did;
+use crate::brief::{Brief, at_once};
+use crate::did::{Acted, Did, Here};
 use crate::labels::{ahead, back};
 use crate::lines::does;
-use crate::numbers::number_value;
+use crate::operand::place_of;
+use crate::place::{fill, store};
 use crate::start::start_of;
-use crate::state::{Active, Frame, Run, Slot, Waiting};
+use crate::state::{Active, Frame, Run, Slot, Temps, Waiting};
 use crate::stop::Stop;
 use crate::tables::{Book, Tables, proc_at};
-use crate::temps::{no_temps, set_value};
+use crate::temps::{no_temps, set_number, set_place, set_root, set_value};
 use crate::value::Value;
 use arc_base::{Bytes, Memory};
-use flat_code::{CodeProc, Flat, Line};
+use flat_code::{CodeProc, Flat, From, Line};
 use nim_program::ACTIVE_CALLS;
 use nim_types::{TypeId, TypeTable};
 use plain_values::Trap;
@@ -58,6 +64,7 @@ pub enum Step {
 }
 
 // A unit is spent, where one is left.
+#[inline(always)]
 fn spend(units: &mut u64) -> bool
     ensures { less_one units.old ≡ (if result then Some units.new else None) }
 {
@@ -68,12 +75,78 @@ fn spend(units: &mut u64) -> bool
     true
 }
 
+// A temporary gets a value.
+fn give(temps: &mut Temps, to: u32, v: Value) -> Step
+    ensures plain { (m : Machine Line) (rest : List Line) (w : World) →
+        NextIs (Goes [] 0 (onward m rest (with_value to (temps_is temps.old) (value_of v)) w))
+        result (onward m rest (temps_is temps.new) w) }
+    ensures called { (m : Machine Line) (rest : List Line) (w : World) (es : List Event) →
+        IsQuiet es → NextIs (Goes es 0 (onward m rest (with_value to (temps_is temps.old) (value_of v)) w))
+        result (onward m rest (temps_is temps.new) w) }
+{
+    match set_value(temps, to, v) {
+        Err(_) => Step::Memory,
+        Ok(()) => Step::Goes,
+    }
+}
+
+// What an operation comes to is carried out: all that a run writes but places themselves.
+fn put(temps: &mut Temps, frames: &mut Vec<Frame>, to: u32, acted: Acted) -> Step
+    ensures { (m : Machine Line) (rest : List Line) (w : World) →
+        NextIs (went m rest (map_done (with_value to (temps_is temps.old))
+        (comes (temps_is temps.old) (world_with w frames.old.items) acted))) result
+        (onward m rest (temps_is temps.new) (world_with w frames.new.items)) }
+{
+    match acted {
+        Acted::Gives(v) => give(temps, to, v),
+        Acted::Stores(at, v, gives) => {
+            if store(frames, place_of(temps, at), v) {
+                give(temps, to, gives)
+            } else {
+                Step::Memory
+            }
+        }
+        Acted::Swaps(left, right, v, w) => {
+            if store(frames, place_of(temps, right), v) && store(frames, place_of(temps, left), w) {
+                give(temps, to, Value::Number(0))
+            } else {
+                Step::Memory
+            }
+        }
+        Acted::Says(line) => match set_value(temps, to, Value::Number(0)) {
+            Err(_) => Step::Memory,
+            Ok(()) => Step::Says(line),
+        },
+        Acted::Stops(stop) => Step::Stops(stop),
+    }
+}
+
+// The same of a number that is stored.
+#[inline(never)]
+fn put_number(temps: &mut Temps, frames: &mut Vec<Frame>, to: u32, at: Option<From>, z: i32) -> Step
+    ensures { (m : Machine Line) (rest : List Line) (w : World) → NextIs (went m rest (Answers [] 0
+        (with_value to (temps_is temps.old) nothing) (store (world_with w frames.old.items)
+        (location_from (temps_is temps.old) at) (Number z)))) result
+        (onward m rest (temps_is temps.new) (world_with w frames.new.items)) }
+{
+    if !store(frames, place_of(temps, at), Value::Number(z)) {
+        return Step::Memory;
+    }
+    match set_number(temps, to, 0) {
+        Err(_) => Step::Memory,
+        Ok(()) => Step::Goes,
+    }
+}
+
+// ---- turns
+
 // It goes on at a line, where there is one.
+#[inline(always)]
 fn go_to(run: &mut Run, at: Option<usize>) -> Step
-    ensures next { (flat : Code Line) (w : World) (t : SpecTemps) (rest : Option (List Line)) →
+    ensures next { (flat : Code Line) (w : World) (rest : Option (List Line)) →
         option_map (λ i. drop i (lines_at flat run.old.now.proc)) at ≡ rest →
-        NextIs (jumped (before (machine_is flat w run.old) t (world_with w run.old.frames.items))
-        (temps_is run.old.now.temps) rest) result (machine_is flat w run.new) }
+        NextIs (jumped (machine_is flat w run.old) (temps_is run.old.now.temps) rest) result
+        (machine_is flat w run.new) }
     ensures units { run.new.units ≡ run.old.units }
 {
     match at {
@@ -86,12 +159,12 @@ fn go_to(run: &mut Run, at: Option<usize>) -> Step
 }
 
 // A turn begins at a line, where there is one, and spends a unit.
+#[inline(always)]
 fn turn(run: &mut Run, at: Option<usize>) -> Step
-    ensures { (flat : Code Line) (w : World) (t : SpecTemps) (rest : Option (List Line)) →
+    ensures { (flat : Code Line) (w : World) (rest : Option (List Line)) →
         option_map (λ i. drop i (lines_at flat run.old.now.proc)) at ≡ rest → Settled
-        (jumped (before (machine_is flat w run.old) t (world_with w run.old.frames.items))
-        (temps_is run.old.now.temps) rest) (less_one run.old.units) result
-        (machine_is flat w run.new) run.new.units }
+        (jumped (machine_is flat w run.old) (temps_is run.old.now.temps) rest)
+        (less_one run.old.units) result (machine_is flat w run.new) run.new.units }
 {
     if spend(&mut run.units) {
         go_to(run, at)
@@ -177,47 +250,6 @@ fn wait(waiting: &mut Vec<Waiting>, one: Waiting) -> bool
     }
 }
 
-// Into a procedure, whose frame is there.
-fn enter(alloc: Global, run: &mut Run, next: usize, to: u32, proc: usize, frame: Frame) -> bool
-    requires { run.old.now.level < ACTIVE_CALLS }
-    ensures next { (flat : Code Line) (w : World) → result ≡ true → machine_is flat w run.new
-        ≡ into_call (machine_is flat w run.old) (drop next (lines_at flat run.old.now.proc)) to
-        (lines_at flat proc) (frame_is frame) }
-    ensures units { run.new.units ≡ run.old.units }
-{
-    if !add_frame(&mut run.frames, frame) {
-        return false;
-    }
-    let temps = no_temps(alloc);
-    let level = run.now.level + 1;
-    let mut active = replace(
-        &mut run.now,
-        Active {
-            proc,
-            at: 0,
-            level,
-            temps,
-        },
-    );
-    active.at = next;
-    wait(&mut run.waiting, Waiting { active, to })
-}
-
-// A call of what has no lines gives nothing at once.
-fn give_nothing(run: &mut Run, next: usize, to: u32) -> Step
-    ensures next { (flat : Code Line) (w : World) (t : SpecTemps) (es : List Event) (work : ℕ) →
-        IsQuiet es → temps_is run.old.now.temps ≡ t → NextIs (gives_nothing
-        (before (machine_is flat w run.old) t (world_with w run.old.frames.items))
-        (drop next (lines_at flat run.old.now.proc)) to work es) result (machine_is flat w run.new) }
-    ensures units { run.new.units ≡ run.old.units }
-{
-    run.now.at = next;
-    match set_value(&mut run.now.temps, to, number_value(0)) {
-        Err(_) => Step::Memory,
-        Ok(()) => Step::Goes,
-    }
-}
-
 // A procedure that may be called: any but the last one.
 fn callable<'a>(
     flat: &'a Flat,
@@ -237,114 +269,77 @@ fn callable<'a>(
     }
 }
 
-// Into a procedure that is called, or past one without lines.
-fn call_proc(
-    alloc: Global,
-    types: &TypeTable,
-    declared: u32,
-    run: &mut Run,
-    next: usize,
-    to: u32,
-    proc: usize,
-    found: &CodeProc<Line>,
-    ty: Option<TypeId>,
-    slots: Vec<Slot>,
-) -> Step
-    requires declared { declared ≡ length (facts_in types.now) }
-    requires level { run.old.now.level < ACTIVE_CALLS }
-    ensures next { (flat : Code Line) (w : World) (t : SpecTemps) (all : List SpecSlot) (work : ℕ) →
-        lines_at flat proc ≡ found.now.lines →
-        result_in (known_in types.now) found.now.places ≡ result_slots (known_in types.now) ty →
-        map slot_is slots.items ≡ map Some all → temps_is run.old.now.temps ≡ t → NextIs
-        (called (before (machine_is flat w run.old) t (world_with w run.old.frames.items))
-        (drop next (lines_at flat run.old.now.proc)) to all work
-        (machine_is flat w run.old).now.left (Some (proc_of (known_in types.now) found.now)))
-        result (machine_is flat w run.new) }
-    ensures units { run.new.units ≡ run.old.units }
-{
-    let lines = found.lines.as_slice();
-    if lines.is_empty() {
-        return give_nothing(run, next, to);
-    }
-    match frame_for(alloc, types, declared, found, ty, slots) {
-        Err(_) => Step::Memory,
-        Ok(frame) => {
-            if enter(alloc, run, next, to, proc, frame) {
-                Step::Goes
-            } else {
-                Step::Memory
-            }
-        }
-    }
-}
-
+// Into a procedure, or past one without lines. The call spends a unit.
 fn call(
     alloc: Global,
     types: &TypeTable,
     flat: &Flat,
     tables: &Tables,
     run: &mut Run,
-    next: usize,
     to: u32,
     proc: u32,
     slots: Vec<Slot>,
 ) -> Step
     requires { IsTables types.now flat.now tables.now }
-    ensures next { (w : World) (t : SpecTemps) (all : List SpecSlot) (work : ℕ) →
-        map slot_is slots.items ≡ map Some all → temps_is run.old.now.temps ≡ t → NextIs
-        (called (before (machine_is flat.now w run.old) t (world_with w run.old.frames.items))
-        (drop next (lines_at flat.now run.old.now.proc)) to all work
+    ensures { (w : World) (all : List SpecSlot) → map slot_is slots.items ≡ map Some all → Settled
+        (called (machine_is flat.now w run.old) (machine_is flat.now w run.old).now.rest to all 0
         (machine_is flat.now w run.old).now.left
-        (slice_get (callable (procs_of (known_in types.now) flat.now)) proc)) result
-        (machine_is flat.now w run.new) }
-    ensures units { run.new.units ≡ run.old.units }
+        (slice_get (callable (procs_of (known_in types.now) flat.now)) proc)) (less_one run.old.units)
+        result (machine_is flat.now w run.new) run.new.units }
 {
-    let level = run.now.level;
-    if level >= ACTIVE_CALLS {
+    if !spend(&mut run.units) {
+        return Step::Waits;
+    }
+    if run.now.level >= ACTIVE_CALLS {
         return Step::Stops(Stop::Traps(Trap::CallDepth));
     }
     match callable(flat, tables, proc) {
-        None => give_nothing(run, next, to),
+        None => give(&mut run.now.temps, to, Value::Number(0)),
         Some((found, book)) => {
-            let (at, declared, ty) = (proc as usize, tables.declared, book.result);
-            call_proc(alloc, types, declared, run, next, to, at, found, ty, slots)
+            if found.lines.as_slice().is_empty() {
+                return give(&mut run.now.temps, to, Value::Number(0));
+            }
+            match frame_for(alloc, types, tables.declared, found, book.result, slots) {
+                Err(_) => Step::Memory,
+                Ok(frame) => enter(alloc, run, to, proc as usize, frame),
+            }
         }
     }
 }
 
-// A call that spends a unit.
-fn spend_call(
-    alloc: Global,
-    types: &TypeTable,
-    flat: &Flat,
-    tables: &Tables,
-    run: &mut Run,
-    next: usize,
-    to: u32,
-    proc: u32,
-    slots: Vec<Slot>,
-) -> Step
-    requires { IsTables types.now flat.now tables.now }
-    ensures { (w : World) (t : SpecTemps) (all : List SpecSlot) (work : ℕ) →
-        map slot_is slots.items ≡ map Some all → temps_is run.old.now.temps ≡ t → Settled
-        (called (before (machine_is flat.now w run.old) t (world_with w run.old.frames.items))
-        (drop next (lines_at flat.now run.old.now.proc)) to all work
-        (machine_is flat.now w run.old).now.left
-        (slice_get (callable (procs_of (known_in types.now) flat.now)) proc))
-        (less_one run.old.units) result (machine_is flat.now w run.new) run.new.units }
+// Into a procedure, whose frame is there.
+fn enter(alloc: Global, run: &mut Run, to: u32, proc: usize, frame: Frame) -> Step
+    requires { run.old.now.level < ACTIVE_CALLS }
+    ensures next { (flat : Code Line) (w : World) (es : List Event) → IsQuiet es → NextIs
+        (Goes es 0 (into_call (machine_is flat w run.old) (machine_is flat w run.old).now.rest to
+        (lines_at flat proc) (frame_is frame))) result (machine_is flat w run.new) }
+    ensures units { run.new.units ≡ run.old.units }
 {
-    if spend(&mut run.units) {
-        call(alloc, types, flat, tables, run, next, to, proc, slots)
+    if !add_frame(&mut run.frames, frame) {
+        return Step::Memory;
+    }
+    let temps = no_temps(alloc);
+    let level = run.now.level + 1;
+    let active = replace(
+        &mut run.now,
+        Active {
+            proc,
+            at: 0,
+            level,
+            temps,
+        },
+    );
+    if wait(&mut run.waiting, Waiting { active, to }) {
+        Step::Goes
     } else {
-        Step::Waits
+        Step::Memory
     }
 }
 
 // Back to the caller, with a value, or the end of the start code.
 fn give_back(run: &mut Run, v: Value) -> Step
-    ensures next { (flat : Code Line) (w : World) (t : SpecTemps) (work : ℕ) → NextIs
-        (returned (before (machine_is flat w run.old) t (world_with w run.old.frames.items))
-        (value_of v) work (machine_is flat w run.old).waiting) result (machine_is flat w run.new) }
+    ensures next { (flat : Code Line) (w : World) → NextIs (returned (machine_is flat w run.old)
+        (value_of v) 0 (machine_is flat w run.old).waiting) result (machine_is flat w run.new) }
     ensures units { run.new.units ≡ run.old.units }
 {
     match run.waiting.pop() {
@@ -353,55 +348,107 @@ fn give_back(run: &mut Run, v: Value) -> Step
             let level = run.now.level as usize;
             run.frames.truncate(level);
             run.now = waiting.active;
-            match set_value(&mut run.now.temps, waiting.to, v) {
-                Err(_) => Step::Memory,
-                Ok(()) => Step::Goes,
-            }
+            give(&mut run.now.temps, waiting.to, v)
         }
     }
 }
 
 // ---- steps
 
-// What comes of what a line did, with the position of the line behind.
+// What comes of what a line did, where the line behind is next.
 fn settle(
     alloc: Global,
     types: &TypeTable,
     flat: &Flat,
     tables: &Tables,
-    lines: &[Line],
-    book: &Book,
     run: &mut Run,
-    next: usize,
     did: Did,
 ) -> Step
-    requires tables { IsTables types.now flat.now tables.now }
-    requires lines { lines.now ≡ lines_at flat.now run.old.now.proc }
-    requires labels { AreLabels lines.now book.now.labels.items }
-    ensures { (plan : Plan) (w u : World) (t : SpecTemps) (d : SpecDid) →
-        IsDid d t u did (temps_is run.old.now.temps) (world_with w run.old.frames.items) →
-        Settles types.now plan flat.now (before (machine_is flat.now w run.old) t u)
-        (drop next lines.now) d run.old.units result (machine_is flat.now w run.new) run.new.units }
+    requires { IsTables types.now flat.now tables.now }
+    ensures { (plan : Plan) (w : World) (d : SpecDid) →
+        IsDid (scene_of (machine_is flat.now w run.old)) d did →
+        Settles types.now plan flat.now (machine_is flat.now w run.old) d run.old.units result
+        (machine_is flat.now w run.new) run.new.units }
 {
     match did {
-        Did::Passes => {
-            run.now.at = next;
+        Did::Passes => Step::Goes,
+        Did::Acts(to, acted) => put(&mut run.now.temps, &mut run.frames, to, acted),
+        Did::Leads(to, place) => match set_place(&mut run.now.temps, to, place) {
+            Err(_) => Step::Memory,
+            Ok(()) => Step::Goes,
+        },
+        Did::Fills(number, v) => {
+            fill(&mut run.frames, run.now.level, number, v);
             Step::Goes
         }
-        Did::Says(line) => {
-            run.now.at = next;
-            Step::Says(line)
-        }
-        Did::Stops(stop) => Step::Stops(stop),
-        Did::Leaps(name) => go_to(run, ahead(lines, &book.labels, next, name)),
-        Did::Enters => turn(run, Some(next)),
-        Did::Turns(name) => turn(run, back(&book.labels, name)),
-        Did::Calls { to, proc, slots } => {
-            spend_call(alloc, types, flat, tables, run, next, to, proc, slots)
-        }
+        Did::Calls(to, proc, slots) => call(alloc, types, flat, tables, run, to, proc, slots),
         Did::Returns(v) => give_back(run, v),
         Did::Fails => Step::Faults,
-        Did::Memory => Step::Memory,
+    }
+}
+
+// The same of a line that is brief.
+#[inline(always)]
+fn settle_brief(alloc: Global, lines: &[Line], book: &Book, run: &mut Run, brief: Brief) -> Step
+    requires { AreLabels lines.now book.now.labels.items }
+    ensures { (types : List TypeDef) (flat : Code Line) (plan : Plan) (w : World) (d : SpecDid) →
+        lines.now ≡ lines_at flat run.old.now.proc →
+        IsBrief (scene_of (machine_is flat w run.old)) d brief →
+        Settles types plan flat (machine_is flat w run.old) d run.old.units result
+        (machine_is flat w run.new) run.new.units }
+{
+    match brief {
+        Brief::Passes => Step::Goes,
+        Brief::Number(to, z) => match set_number(&mut run.now.temps, to, z) {
+            Err(_) => Step::Memory,
+            Ok(()) => Step::Goes,
+        },
+        Brief::Root(to, level, number) => {
+            match set_root(alloc, &mut run.now.temps, to, level, number) {
+                Err(_) => Step::Memory,
+                Ok(()) => Step::Goes,
+            }
+        }
+        Brief::Stores(to, at, z) => put_number(&mut run.now.temps, &mut run.frames, to, at, z),
+        Brief::Leaps(name) => go_to(run, ahead(lines, &book.labels, run.now.at, name)),
+        Brief::Enters => turn(run, Some(run.now.at)),
+        Brief::Turns(name) => turn(run, back(&book.labels, name)),
+        Brief::Counts(to, z, name) => match set_number(&mut run.now.temps, to, z) {
+            Err(_) => Step::Memory,
+            Ok(()) => turn(run, back(&book.labels, name)),
+        },
+        Brief::Fails => Step::Faults,
+    }
+}
+
+// Carries out a line that isn't brief, where the line behind is next. Apart, since the compiler
+// clears all that a function may hold.
+#[inline(never)]
+fn carry(
+    alloc: Global,
+    types: &TypeTable,
+    flat: &Flat,
+    tables: &Tables,
+    run: &mut Run,
+    line: &Line,
+) -> Step
+    requires { IsTables types.now flat.now tables.now }
+    ensures { (plan : Plan) (w : World) → Settles types.now plan flat.now
+        (machine_is flat.now w run.old)
+        (bare (plainly (known_in types.now) plan (scene_of (machine_is flat.now w run.old)) line.now))
+        run.old.units result (machine_is flat.now w run.new) run.new.units }
+{
+    let here = Here {
+        alloc,
+        types,
+        declared: tables.declared,
+        level: run.now.level,
+        temps: &run.now.temps,
+        frames: &run.frames,
+    };
+    match does(&here, line) {
+        Err(_) => Step::Memory,
+        Ok(did) => settle(alloc, types, flat, tables, run, did),
     }
 }
 
@@ -413,7 +460,8 @@ pub fn advance(
     tables: &Tables,
     run: &mut Run,
 ) -> Step
-    requires { IsTables types.now flat.now tables.now }
+    requires tables { IsTables types.now flat.now tables.now }
+    requires plain { AllPlain (known_in types.now) flat.now.procs }
     ensures { (plan : Plan) (w : World) → Stepped types.now plan flat.now
         (machine_is flat.now w run.old) run.old.units result (machine_is flat.now w run.new)
         run.new.units }
@@ -426,9 +474,18 @@ pub fn advance(
     if at >= lines.len() {
         return Step::Faults;
     }
+    run.now.at = at + 1;
     let line = &lines[at];
-    let level = run.now.level;
-    let (temps, frames) = (&mut run.now.temps, &mut run.frames);
-    let did = does(alloc, types, tables, level, temps, frames, line);
-    settle(alloc, types, flat, tables, lines, book, run, at + 1, did)
+    let here = Here {
+        alloc,
+        types,
+        declared: tables.declared,
+        level: run.now.level,
+        temps: &run.now.temps,
+        frames: &run.frames,
+    };
+    match at_once(&here, line) {
+        None => carry(alloc, types, flat, tables, run, line),
+        Some(brief) => settle_brief(alloc, lines, book, run, brief),
+    }
 }

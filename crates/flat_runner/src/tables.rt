@@ -3,11 +3,7 @@ ghost use Rattle.flat_code.specs.Codes.{result_in};
 ghost use Rattle.flat_code.specs.Scene.{Known};
 ghost use Rattle.flat_code.specs.declared.place.FlatPlace.{FlatPlace as SpecPlace};
 ghost use Rattle.flat_runner.specs.Tables.{AreBooks, IsBook, IsTables, result_slots};
-ghost use Rattle.nim_meaning.specs.Here.{gives_hooked};
-ghost use Rattle.nim_program.specs.Sizes.{HaveForms};
-ghost use Rattle.nim_program.specs.View.{if_type};
-ghost use Rattle.nim_types.specs.Table.{facts_in, types_in};
-ghost use Rattle.std.specs.Prelude.{IfOk, IfSome, List, Some, if◌then◌else◌, length, option_map};
+ghost use Rattle.std.specs.Prelude.{IfOk, IfSome, List, Some, if◌then◌else◌, option_map};
 ghost use Rattle.std.specs.Prelude.{slice_get, ◌∷◌, ◌≡◌};
 
 use crate::labels::labels_of;
@@ -78,7 +74,6 @@ fn books_of(alloc: Global, procs: &[CodeProc<Line>]) -> Result<Vec<Book>, Memory
 
 /// What is found out of code and types.
 pub fn tables_of(alloc: Global, types: &TypeTable, flat: &Flat) -> Result<Tables, Memory>
-    requires { HaveForms types.now }
     ensures { IfOk result (λ tables. IsTables types.now flat.now tables) }
 {
     let books = books_of(alloc, flat.procs.as_slice())?;
@@ -102,22 +97,5 @@ pub fn proc_at<'a>(
             None => None,
             Some(book) => Some((found, book)),
         },
-    }
-}
-
-/// Whether the values of a type have anything to do when they are copied or destroyed.
-pub fn is_hooked(types: &TypeTable, ty: Option<TypeId>) -> bool
-    requires { HaveForms types.now }
-    ensures { gives_hooked (facts_in types.now) (if_type (types_in types.now) ty) ≡ result }
-{
-    match ty {
-        None => false,
-        Some(ty) => {
-            if ty < types.count() {
-                types.is_hooked(ty)
-            } else {
-                false
-            }
-        }
     }
 }

@@ -1,10 +1,11 @@
 // Temporaries.
-ghost use Rattle.flat_code.specs.Scene.{no_temps, put as put_at, with_place, with_value};
+ghost use Rattle.flat_code.specs.Scene.{Located, no_temps, put as put_at, with_place, with_value};
 ghost use Rattle.flat_runner.specs.View.{held_in, temps_is, value_of, where_of};
+ghost use Rattle.nim_meaning.specs.Places.{place_at};
 ghost use Rattle.nim_meaning.specs.Values.{Number, number_of};
-ghost use Rattle.std.specs.Prelude.{OnOk, Some, false, option_map, true, ℕ, ◌≡◌};
+ghost use Rattle.std.specs.Prelude.{OnOk, Some, option_map, true, ℕ, ◌≡◌};
 
-use crate::state::{Temps, Where};
+use crate::state::{Base, Location, Temps, Where};
 use crate::value::{Value, number, renumber};
 use arc_base::Memory;
 use std::alloc::Global;
@@ -20,6 +21,7 @@ pub fn no_temps(alloc: Global) -> Temps
 }
 
 /// The value in a temporary.
+#[inline(always)]
 pub fn value_at(temps: &Temps, t: u32) -> Option<&Value>
     ensures { option_map (λ v. value_of v.now) result ≡ (temps_is temps.now).values t }
 {
@@ -33,6 +35,7 @@ pub fn value_at(temps: &Temps, t: u32) -> Option<&Value>
 }
 
 /// The number of the value in a temporary.
+#[inline(always)]
 pub fn number_at(temps: &Temps, t: u32) -> Option<i32>
     ensures { result ≡ option_map number_of ((temps_is temps.now).values t) }
 {
@@ -43,6 +46,7 @@ pub fn number_at(temps: &Temps, t: u32) -> Option<i32>
 }
 
 /// Where a temporary leads.
+#[inline(always)]
 pub fn place_at(temps: &Temps, t: u32) -> Option<&Where>
     ensures { option_map (λ place. where_of place.now) result ≡ (temps_is temps.now).places t }
 {
@@ -83,26 +87,91 @@ pub fn set_place(temps: &mut Temps, t: u32, place: Where) -> Result<(), Memory>
     hold(&mut temps.places, t as usize, place)
 }
 
-// A number that is held becomes another one. Whether one is.
-fn renumber_held(held: &mut Option<Value>, z: i32) -> bool
-    ensures done { result ≡ true → option_map value_of held.new ≡ Some (Number z) }
-    ensures kept { result ≡ false → held.new ≡ held.old }
+// What is held becomes a number.
+#[inline(always)]
+fn renumber_held(held: &mut Option<Value>, z: i32)
+    ensures { option_map value_of held.new ≡ Some (Number z) }
 {
     match held {
-        None => false,
+        None => *held = Some(Value::Number(z)),
         Some(v) => renumber(v, z),
     }
 }
 
-/// A temporary that holds a number gets another one. Whether it holds one.
-pub fn set_number(temps: &mut Temps, t: u32, z: i32) -> bool
-    ensures done { result ≡ true → temps_is temps.new
-        ≡ with_value t (temps_is temps.old) (Number z) }
-    ensures kept { result ≡ false → temps_is temps.new ≡ temps_is temps.old }
+// A temporary that got nothing gets a number. Apart, as `replace_by`.
+#[inline(never)]
+fn set_first(temps: &mut Temps, t: u32, z: i32) -> Result<(), Memory>
+    ensures { OnOk result (temps_is temps.new ≡ with_value t (temps_is temps.old) (Number z)) }
+{
+    set_value(temps, t, Value::Number(z))
+}
+
+/// A temporary gets a number.
+#[inline(always)]
+pub fn set_number(temps: &mut Temps, t: u32, z: i32) -> Result<(), Memory>
+    ensures { OnOk result (temps_is temps.new ≡ with_value t (temps_is temps.old) (Number z)) }
 {
     if (t as usize) < temps.values.len() {
-        renumber_held(&mut temps.values[t as usize], z)
-    } else {
-        false
+        renumber_held(&mut temps.values[t as usize], z);
+        return Ok(());
     }
+    set_first(temps, t, z)
+}
+
+// Whether a temporary leads to a place itself already.
+#[inline(always)]
+fn leads_to(temps: &Temps, t: u32, level: u32, number: u32) -> bool
+    ensures { result ≡ true →
+        (temps_is temps.now).places t ≡ Some (Located (place_at level number)) }
+{
+    match place_at(temps, t) {
+        None => false,
+        Some(place) => match place {
+            Where::Within { .. } => false,
+            Where::Located(location) => match &location.base {
+                Base::Made(_) => false,
+                Base::Standing {
+                    level: l,
+                    number: n,
+                } => *l == level && *n == number && location.path.is_empty(),
+            },
+        },
+    }
+}
+
+// A temporary leads to a place itself from now on. Apart, as `set_first`.
+#[inline(never)]
+fn set_new_root(
+    alloc: Global,
+    temps: &mut Temps,
+    t: u32,
+    level: u32,
+    number: u32,
+) -> Result<(), Memory>
+    ensures { OnOk result (temps_is temps.new
+        ≡ with_place t (temps_is temps.old) (Located (place_at level number))) }
+{
+    let location = Location {
+        base: Base::Standing { level, number },
+        path: Vec::new(alloc),
+    };
+    set_place(temps, t, Where::Located(location))
+}
+
+/// A temporary leads to a place itself.
+#[inline(always)]
+pub fn set_root(
+    alloc: Global,
+    temps: &mut Temps,
+    t: u32,
+    level: u32,
+    number: u32,
+) -> Result<(), Memory>
+    ensures { OnOk result (temps_is temps.new
+        ≡ with_place t (temps_is temps.old) (Located (place_at level number))) }
+{
+    if leads_to(temps, t, level, number) {
+        return Ok(());
+    }
+    set_new_root(alloc, temps, t, level, number)
 }

@@ -1,9 +1,9 @@
 // Values.
-ghost use Rattle.flat_runner.specs.View.{found_value, int_of, value_of, value_or, values_of};
+ghost use Rattle.flat_runner.specs.View.{found_value, int_of, value_of, values_of};
 ghost use Rattle.nim_meaning.specs.Values.{Fixed, Number, characters, length_of, nothing, nth, number_of};
 ghost use Rattle.nim_meaning.specs.Values.{part, parts_of, put_part, with_nth, with_part};
-ghost use Rattle.std.specs.Prelude.{IfOk, IfSome, Some, false, map, option_map, slice_set};
-ghost use Rattle.std.specs.Prelude.{true, unsigned_abs, ◌≡◌};
+ghost use Rattle.std.specs.Prelude.{IfOk, Some, map, slice_set};
+ghost use Rattle.std.specs.Prelude.{unsigned_abs, ◌≡◌};
 
 use arc_base::Memory;
 use std::alloc::Global;
@@ -34,6 +34,7 @@ pub enum Found<'a> {
 }
 
 /// The number of a value.
+#[inline(always)]
 pub fn number(v: &Value) -> i32
     ensures { result ≡ int_of v.now }
 {
@@ -46,38 +47,22 @@ pub fn number(v: &Value) -> i32
     }
 }
 
-/// The number that is all there is.
-pub fn plain_number(v: Option<&Value>) -> Option<i32>
-    ensures there { IfSome result (λ z. option_map (λ v. value_of v.now) v.entry
-        ≡ Some (Number z)) }
-    ensures value { IfSome result (λ z. value_or (option_map (λ v. v.now) v.entry) ≡ Number z) }
+// It becomes a number, whatever it is. Apart, so that nothing is cleared for it where it is one.
+#[inline(never)]
+fn replace_by(v: &mut Value, z: i32)
+    ensures { value_of v.new ≡ Number z }
 {
-    match v {
-        None => None,
-        Some(v) => match v {
-            Value::Number(z) => Some(*z),
-            Value::Parts { .. } => None,
-            Value::Text(_) => None,
-            Value::Empty => None,
-            Value::Nil => None,
-        },
-    }
+    *v = Value::Number(z);
 }
 
-/// A number becomes another one. Whether it is one.
-pub fn renumber(v: &mut Value, z: i32) -> bool
-    ensures done { result ≡ true → value_of v.new ≡ Number z }
-    ensures kept { result ≡ false → v.new ≡ v.old }
+/// It becomes a number.
+#[inline(always)]
+pub fn renumber(v: &mut Value, z: i32)
+    ensures { value_of v.new ≡ Number z }
 {
     match v {
-        Value::Number(old) => {
-            *old = z;
-            true
-        }
-        Value::Parts { .. } => false,
-        Value::Text(_) => false,
-        Value::Empty => false,
-        Value::Nil => false,
+        Value::Number(old) => *old = z,
+        _ => replace_by(v, z),
     }
 }
 

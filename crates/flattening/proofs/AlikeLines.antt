@@ -17,7 +17,7 @@ use Rattle.nim_meaning.specs.LeftOut.{left_out_in_head, left_out_in_block, left_
 use Rattle.flat_code.specs.declared.code.CodeProc.{CodeProc}
 use Rattle.flat_code.specs.declared.line.Line.{Line}
 use Rattle.flat_code.proofs.ForCallers.{AreSorted}
-use Rattle.flattening.specs.Alike.{gives_as, AreAlike, AllAlike}
+use Rattle.flat_code.specs.Alike.{gives_as, AreAlike, AllAlike}
 use Rattle.flattening.specs.Flattened.{modes_of}
 use Rattle.flattening.specs.Given.{flat_body, flat_proc, flat_procs}
 use Rattle.flattening.specs.Numbering.{width_of}

@@ -14,7 +14,7 @@ use Rattle.nim_meaning.specs.Acts.{On, Does, onward, branch}
 use Rattle.nim_meaning.specs.Shapes.{is_last_value}
 use Rattle.nim_meaning.specs.Table.{default_for}
 use Rattle.nim_meaning.specs.Here.{Here}
-use Rattle.nim_meaning.specs.Meaning.{eval, picked, handed_on, picked_value}
+use Rattle.nim_meaning.specs.Meaning.{picked, handed_on, picked_value}
 use Rattle.flat_code.specs.declared.line.Line.{Line}
 use Rattle.flat_code.specs.declared.line.Line.TheVariants as L
 use Rattle.flat_code.specs.Scene.{Temps}
@@ -23,7 +23,7 @@ use Rattle.flattening.specs.Numbering.{width, widths, label}
 use Rattle.flattening.specs.ExprLines.{lines, arm_label, arm_lines, value_tests, label_tests}
 use Rattle.flattening.specs.ExprLines.{handed_on as handed_on_line, none_fits as default_line}
 use Rattle.flattening.specs.Flattened.{modes_of}
-use Rattle.flattening.specs.Formed.{Scope, IfListed}
+use Rattle.flattening.specs.Formed.{Scope, AreOrdinals}
 use Rattle.flattening.proofs.Runs.{Runs, spares}
 use Rattle.flattening.proofs.Worlds.{Since, since_none}
 use Rattle.flattening.proofs.Temps.{Kept, kept_none, kept_wide}
@@ -31,7 +31,8 @@ use Rattle.flattening.proofs.Puts.{found, found_here, puts_label, puts_wide, ◌
 use Rattle.flattening.proofs.PutsParts.{puts_expr, puts_tests, puts_arms}
 use Rattle.flattening.proofs.Spots.{Spot, here_of, there, Lands, brings, further, goes, leaps}
 use Rattle.flattening.proofs.Standing.{Stands}
-use Rattle.flattening.proofs.Choices.{Has, ExprFollows, TestsFollow, valued, ends_at, none_follows}
+use Rattle.flattening.proofs.Acting.{Has, IsPlainIf}
+use Rattle.flattening.proofs.Choices.{branch_of, BranchFollows, TestsFollow, valued, ends_at, none_follows}
 use Rattle.flattening.proofs.Picks.{picked_then, picks_follow, at_meter}
 use Rattle.flattening.proofs.Widths.{some_width}
 
@@ -57,39 +58,41 @@ module _ (c : Spot) (top : Bool) (room : ℕ → Type 0) (names : (proc place : 
   abbrev here : Here
   here = here_of c
 
-  module _ (covered : Bool) (ty : Option Ty) (listed : IfListed types ty) (how : Use) (t : ℕ) where
+  module _ (covered : Bool) (ty : Option Ty) (listed : IsPlainIf c ty) (how : Use) (site t : ℕ) where
     -- no label fits, and there is no branch for that
     no_arm : (labels : List (List Label)) (hi : ℕ) → t < hi → (k arms : List Line) (temps : Temps) (s : State) →
         found (label Next t) arms ≡ Some (L.Label (label Next t) ∷ default_line types modes t ty how ∷ L.Label (label End t) ∷ k) →
-        Runs c.fixed (Lands c k t hi temps s.world (Has c top room names Open t)) 12 2 (there c (L.Jump (label Next t) ∷ arms) temps s.world) s.meter
-        (handed_on here how ty (default_for here.facts ty) s)
+        Runs c.fixed (Lands c k t hi temps s.world (Has t)) 12 2 (there c (L.Jump (label Next t) ∷ arms) temps s.world) s.meter
+        (handed_on here how site ty (default_for here.facts ty) s)
     no_arm labels hi less k arms temps s next =
         leaps c 11 (label Next t) (omega arith) refl next
-        (goes c 10 1 (omega arith) refl (spares 8 2 (omega arith) (omega arith) (none_follows c top room names Open ty listed how t hi less k temps s)))
+        (goes c 10 1 (omega arith) refl (spares 8 2 (omega arith) (omega arith) (none_follows c top room names Open ty listed how site t hi less k temps s)))
 
-    pub none_fits : (labels : List (List Label)) → TestsFollow c top room names Open covered labels NoArg ty how t
+    pub none_fits : (labels : List (List Label)) → TestsFollow c top room names Open covered labels NoArg ty how site t
     none_fits labels x sel u less k arms temps s has h skips =
         no_arm labels (u + 0) (omega (arith, less)) k arms temps s (skips (label Next t) (inl refl) ∙ found_here (label Next t) _)
 
-    pub none_by_path : (labels : List (List Label)) (path : Path) (rest : Args) → TestsFollow c top room names Open covered labels (ByPath path rest) ty how t
+    pub none_by_path : (labels : List (List Label)) (path : Path) (rest : Args) →
+        TestsFollow c top room names Open covered labels (ByPath path rest) ty how site t
     none_by_path labels path rest x sel u less k arms temps s has h skips =
         no_arm labels (u + widths (ByPath path rest)) (omega (arith, less)) k arms temps s (skips (label Next t) (inl refl) ∙ found_here (label Next t) _)
 
-    pub otherwise : (value : Expr) (rest : Args) → ExprFollows c top room names Open value → TestsFollow c top room names Open covered []
-        (ByValue value rest) ty how t
+    pub otherwise : (value : Expr) (rest : Args) → BranchFollows c top room names Open value → TestsFollow c top room names Open covered []
+        (ByValue value rest) ty how site t
     otherwise value rest follows x sel u less k arms temps s has h skips =
         let w = some_width value in
         leaps c 11 (label Next t) (omega arith) refl (skips (label Next t) (inl refl) ∙ found_here (label Next t) _)
         (goes c 10 1 (omega arith) refl
-        (brings 11 (omega arith) (omega arith) (valued c top room names Open value follows ty listed how t u less (L.Label (label End t) ∷ k) temps s h)
+        (brings 11 (omega arith) (omega arith) (valued c top room names Open value follows ty listed how site t u less (L.Label (label End t) ∷ k) temps s h)
         (λ v b now at kept since.
         spares 3 2 (omega arith) (omega arith)
         (ends_at c top room names Open t (u + widths (ByValue value rest)) k temps now s.world v b (kept_wide (omega arith) (omega arith) kept) since at))))
 
     -- ---- a branch with labels
 
-    module _ (these : List Label) (labels : List (List Label)) (value : Expr) (rest : Args) (follows : ExprFollows c top room names Open value)
-        (more : TestsFollow c top room names Open covered labels rest ty how t) (x : Value) (sel u : ℕ) (less : t < u) (k arms : List Line) where
+    module _ (these : List Label) (ordinals : AreOrdinals these) (labels : List (List Label)) (value : Expr) (rest : Args)
+        (follows : BranchFollows c top room names Open value)
+        (more : TestsFollow c top room names Open covered labels rest ty how site t) (x : Value) (sel u : ℕ) (less : t < u) (k arms : List Line) where
       abbrev u2 : ℕ
       u2 = u + width value
 
@@ -125,15 +128,15 @@ module _ (c : Spot) (top : Bool) (room : ℕ → Type 0) (names : (proc place : 
 
       -- the arm's value is that of the whole
       arm_follows : (last : Bool) (temps : Temps) (s : State) → Stands c room Open s.world →
-          Runs c.fixed (Lands c k t hi temps s.world (Has c top room names Open t)) 9 2 (there c (arm last) temps s.world) s.meter
-          (then_do (eval value Owned here s) (onward (handed_on here how ty)))
+          Runs c.fixed (Lands c k t hi temps s.world (Has t)) 9 2 (there c (arm last) temps s.world) s.meter
+          (then_do (branch_of c top room names Open value s) (onward (handed_on here how site ty)))
       arm_follows last temps s h =
           goes c 8 1 (omega arith) refl
-          (brings 9 (omega arith) (omega arith) (valued c top room names Open value follows ty listed how t u less (behind last) temps s h)
+          (brings 9 (omega arith) (omega arith) (valued c top room names Open value follows ty listed how site t u less (behind last) temps s h)
           (λ v b now at kept since. on last v b now at (kept_wide (omega arith) (omega arith) kept) since))
         where
           on : (last : Bool) (v : Value) (b : State) (now : Temps) → now.values t ≡ Some v → Kept t hi temps now → Since c.level s.world b.world →
-              Runs c.fixed (Lands c k t hi temps s.world (Has c top room names Open t)) 9 2 (there c (behind last) now b.world) b.meter (Got (On v) b)
+              Runs c.fixed (Lands c k t hi temps s.world (Has t)) 9 2 (there c (behind last) now b.world) b.meter (Got (On v) b)
           on true v b now at kept since = spares 3 2 (omega arith) (omega arith) (ends_at c top room names Open t hi k temps now s.world v b kept since at)
           on false v b now at kept since =
               leaps c 8 (label End t) (omega arith) refl
@@ -144,11 +147,12 @@ module _ (c : Spot) (top : Bool) (room : ℕ → Type 0) (names : (proc place : 
       -- no label of it fits
       missed : (last : Bool) → (covered && is_last_value rest) ≡ last → Skips last → (temps : Temps) (s : State) → temps.values sel ≡ Some x →
           Stands c room Open s.world →
-          Runs c.fixed (Lands c k t hi temps s.world (Has c top room names Open t)) 12 2 (there c tests temps s.world) s.meter
-          (then_do (branch {A = Does Value} last (eval value Owned here) (picked_value covered labels rest x ty here) s) (onward (handed_on here how ty)))
+          Runs c.fixed (Lands c k t hi temps s.world (Has t)) 12 2 (there c tests temps s.world) s.meter
+          (then_do (branch {A = Does Value} last (branch_of c top room names Open value) (picked_value covered labels rest x ty here) s)
+          (onward (handed_on here how site ty)))
       missed true is skips temps s has h =
-          subst (λ k'. Runs c.fixed (Lands c k t hi temps s.world (Has c top room names Open t)) 12 2 (there c k' temps s.world) s.meter
-          (then_do (eval value Owned here s) (onward (handed_on here how ty))))
+          subst (λ k'. Runs c.fixed (Lands c k t hi temps s.world (Has t)) 12 2 (there c k' temps s.world) s.meter
+          (then_do (branch_of c top room names Open value s) (onward (handed_on here how site ty))))
           (sym (last_tests covered labels rest sel u2 (L.Jump (label Next t) ∷ arms) is))
           (leaps c 11 (label Next t) (omega arith) refl (skips (label Next t) (inl refl) ∙ found_here (label Next t) (arm true))
           (goes c 10 1 (omega arith) refl (spares 9 2 (omega arith) (omega arith) (arm_follows true temps s h))))
@@ -175,27 +179,29 @@ module _ (c : Spot) (top : Bool) (room : ℕ → Type 0) (names : (proc place : 
 
       tried : (last : Bool) → (covered && is_last_value rest) ≡ last → Skips last → (temps : Temps) (s : State) → temps.values sel ≡ Some x →
           Stands c room Open s.world →
-          Runs c.fixed (Lands c k t hi temps s.world (Has c top room names Open t)) 12 2
+          Runs c.fixed (Lands c k t hi temps s.world (Has t)) 12 2
           (there c (label_tests these sel (label Arm u) tests) temps s.world) s.meter
-          (then_do (picked these x (eval value Owned here) (branch {A = Does Value} last (eval value Owned here)
+          (then_do (picked these x (branch_of c top room names Open value) (branch {A = Does Value} last (branch_of c top room names Open value)
           (picked_value covered labels rest x ty here)) s)
-          (onward (handed_on here how ty)))
+          (onward (handed_on here how site ty)))
       tried last is skips temps s has h =
-          subst (λ r. Runs c.fixed (Lands c k t hi temps s.world (Has c top room names Open t)) 12 2
+          subst (λ r. Runs c.fixed (Lands c k t hi temps s.world (Has t)) 12 2
           (there c (label_tests these sel (label Arm u) tests) temps s.world) s.meter r)
-          (sym (picked_then these x (eval value Owned here) (branch {A = Does Value} last (eval value Owned here)
+          (sym (picked_then these x (branch_of c top room names Open value) (branch {A = Does Value} last (branch_of c top room names Open value)
           (picked_value covered labels rest x ty here))
-          (onward (handed_on here how ty)) s))
-          (picks_follow c sel (label Arm u) {target = arm last} these (λ s. then_do (eval value Owned here s) (onward (handed_on here how ty)))
-          (λ s. then_do (branch {A = Does Value} last (eval value Owned here) (picked_value covered labels rest x ty here) s)
-          (onward (handed_on here how ty))) s has
+          (onward (handed_on here how site ty)) s))
+          (picks_follow c sel (label Arm u) {target = arm last} these ordinals
+          (λ s. then_do (branch_of c top room names Open value s) (onward (handed_on here how site ty)))
+          (λ s. then_do (branch {A = Does Value} last (branch_of c top room names Open value) (picked_value covered labels rest x ty here) s)
+          (onward (handed_on here how site ty))) s has
           ((puts_tests {lo = 0} {hi = 0} labels rest sel u2).skips (label Arm u) (L.Jump (label Next t) ∷ arms) (λ le. le)
           ∙ (skips (label Arm u) (inr (omega arith)) ∙ arm_found last))
           (λ meter. spares 9 2 (omega arith) (omega arith) (arm_follows last temps (at_meter s meter) h))
           (λ meter. missed last is skips temps (at_meter s meter) has h))
 
-    pub an_arm : (these : List Label) (labels : List (List Label)) (value : Expr) (rest : Args) → ExprFollows c top room names Open value →
-        TestsFollow c top room names Open covered labels rest ty how t → TestsFollow c top room names Open covered (these ∷ labels)
-        (ByValue value rest) ty how t
-    an_arm these labels value rest follows more x sel u less k arms temps s has h skips =
-        tried these labels value rest follows more x sel u less k arms (covered && is_last_value rest) refl skips temps s has h
+    pub an_arm : (these : List Label) → AreOrdinals these → (labels : List (List Label)) (value : Expr) (rest : Args) →
+        BranchFollows c top room names Open value →
+        TestsFollow c top room names Open covered labels rest ty how site t → TestsFollow c top room names Open covered (these ∷ labels)
+        (ByValue value rest) ty how site t
+    an_arm these ordinals labels value rest follows more x sel u less k arms temps s has h skips =
+        tried these ordinals labels value rest follows more x sel u less k arms (covered && is_last_value rest) refl skips temps s has h

@@ -5,6 +5,8 @@ use Rattle.std.proofs.lemmas.Bool.{false≢true}
 use Rattle.nim_program.specs.Program.{Declared, Body}
 use Rattle.nim_meaning.specs.State.{World, State}
 use Rattle.nim_meaning.specs.Acts.{Broke, Continued, Returned, Raised, Outcome, On, Out}
+use Rattle.nim_meaning.specs.Here.{is_hooked}
+use Rattle.nim_meaning.specs.Runs.{is_plain_block}
 use Rattle.nim_meaning.specs.Meaning.{exec_all}
 use Rattle.flat_code.specs.declared.line.Line.{Line}
 use Rattle.flat_code.specs.declared.line.Line.TheVariants as L
@@ -89,13 +91,14 @@ module _ (x : Fixed) (body : Body) (level left : ℕ) (waiting : List (Waiting L
   returns_at lo hi temps world (Out (Raised exception by)) b m g = absurd g
 
   pub body_follows : (top : Bool) (names : (proc place : ℕ) → Type 0) (params : ℕ) (named : ℕ → Type 0) → CallsFollow c names → (top ≡ true → level ≡ 0) →
-      BodyFormed (grounded c top (room_of body) names) (AtFirst params named body) body → (s : State) →
+      BodyFormed (grounded c top (room_of body) names) (AtFirst params named body) body → is_plain_block (is_hooked x.program.facts) body.stmts ≡ true →
+      (s : State) →
       Stands c (room_of body) (AtFirst params named body) s.world →
       Runs x (Back c s.world) 0 0 (there c c.whole no_temps s.world) s.meter
       (exec_all body.stmts (here_of c) s)
-  body_follows top names params named calls outermost f s h =
+  body_follows top names params named calls outermost f p s h =
       weaker c
-      (block_follows c top (room_of body) names calls outermost body.stmts false (AtFirst params named body) f.1 (no_loop body.result) nothing_around 0
+      (block_follows c top (room_of body) names calls outermost body.stmts false (AtFirst params named body) f.1 p (no_loop body.result) nothing_around 0
       (L.Return (number_of body.result) ∷ [])
       (record {
         breaks = λ is. absurd (false≢true is);

@@ -1,13 +1,14 @@
 -- Flat code follows calls: by induction on how many more may be active.
-use Rattle.std.proofs.Common.{◌≡◌, ℕ, zero, suc, ◌+◌, true, false, List, [], ◌∷◌, ◌++◌, map, length, Option, Some, None, refl, sym, ap, ◌∙◌, subst, arith}
+use Rattle.std.proofs.Common.{◌≡◌, ℕ, zero, suc, ◌+◌, Bool, true, false, List, [], ◌∷◌, ◌++◌, map, length, Option, Some, None, refl, sym, ap, ◌∙◌, subst, arith}
 use Rattle.std.proofs.Common.{append-nil}
-use Rattle.std.specs.Prelude.{slice_get, option_map}
-use Rattle.std.proofs.lemmas.Bool.{false≢true}
+use Rattle.std.specs.Prelude.{not, slice_get, option_map}
+use Rattle.std.proofs.lemmas.Bool.{false≢true, and_parts}
 use Rattle.std.proofs.lemmas.Option.{slice_get-map}
 use Rattle.arc_base.specs.Event.{Event, writes}
 use Rattle.arc_base.specs.declared.outside.Stream.TheVariants.{Err}
 use Rattle.arc_base.specs.Stepping.{Goes}
 use Rattle.arc_base.specs.BigStep.{Got, then_do}
+use Rattle.nim_types.specs.Types.{Ty}
 use Rattle.nim_plan.specs.declared.plan.Plan.{Plan}
 use Rattle.nim_program.specs.Traps.{CallDepth, trap_text}
 use Rattle.nim_program.specs.Program.{Declared, Param, Body, Program, last_of}
@@ -16,11 +17,12 @@ use Rattle.nim_program.specs.Sizes.{body_sum, if_place_bytes}
 use Rattle.nim_meaning.specs.Values.{Value, nothing, bytes, Slot}
 use Rattle.nim_meaning.specs.State.{World, State, Frame, live, load, slot_at, with_frame, down_to}
 use Rattle.nim_meaning.specs.Ways.{Point}
-use Rattle.nim_meaning.specs.Here.{Here}
+use Rattle.nim_meaning.specs.Here.{Here, is_hooked}
+use Rattle.nim_meaning.specs.Runs.{is_plain_place, is_plain_block, is_plain_body, are_plain_params, is_plain_if_body, are_plain_procs}
 use Rattle.nim_meaning.specs.Places.{place_at}
 use Rattle.nim_meaning.specs.Acts.{Broke, Continued, Returned, Raised, Outcome, On, Out, Does}
 use Rattle.nim_meaning.specs.Acts.{onward, worked, said, left_with, with_trail, exit_of, line_of}
-use Rattle.nim_meaning.specs.Acts.{spending, elsewhere, branch, change, costs}
+use Rattle.nim_meaning.specs.Acts.{spending, elsewhere, branch, change, costs, give}
 use Rattle.nim_meaning.specs.Acts as acting
 use Rattle.nim_meaning.specs.Meaning.{calls, called, entered, from_level, result_slots, frame_of, params_end}
 use Rattle.nim_meaning.specs.Meaning.{ends, handed, handing, result_of, result_bytes, seen_call, exec_all}
@@ -34,12 +36,14 @@ use Rattle.flat_code.specs.Running as running
 use Rattle.flattening.specs.StmtLines.{number_of, body_lines}
 use Rattle.flattening.specs.Flattened.{modes_of, code_of_body, code_of_proc}
 use Rattle.flattening.specs.Formed.{Scope, AtFirst, ResultFormed, IsFormed, named_in, params_of, taken_by}
+use Rattle.nim_meaning.proofs.ForCallers.{not_true}
 use Rattle.flattening.proofs.Runs.{Fixed, M, procs, step, spends_at, Runs, Walks, line, line_spending, line_ends_spending, behind, follows_on, spends}
 use Rattle.flattening.proofs.Worlds.{Since, since_none, since_call, still_holds}
 use Rattle.flattening.proofs.Temps.{kept_none, kept_value, put_same}
 use Rattle.flattening.proofs.Puts.{is_empty}
 use Rattle.flattening.proofs.Spots.{Spot, here_of, there, does_at, Lands, answers, spent, stepped, do_assoc}
 use Rattle.flattening.proofs.Standing.{Stands}
+use Rattle.flattening.proofs.Groups.{nothing_ends}
 use Rattle.flattening.proofs.Acting.{CallsFollow}
 use Rattle.flattening.proofs.Results.{result_small}
 use Rattle.flattening.proofs.Frames.{stands_called}
@@ -60,15 +64,35 @@ callable_is x n =
     ap (λ l. slice_get l n) (before_behind (map (code_at x.program x.plan) x.program.procs) (code_of_body x.program x.plan None x.program.start))
     ∙ slice_get-map (code_at x.program x.plan) x.program.procs n
 
+-- ---- procedures without hooks
+
+-- a body, and its parameters
+plain_body : (hooked : Ty → Bool) (procs : List trees.Proc) (n : ℕ) (p : trees.Proc) (body : Body) → are_plain_procs hooked procs ≡ true →
+    slice_get procs n ≡ Some p → p.body ≡ Some body → (are_plain_params hooked p.params ≡ true) × (is_plain_block hooked body.stmts ≡ true)
+plain_body hooked [] n p body h known has = cc
+plain_body hooked (first ∷ procs) zero p body h known has =
+    let e : first ≡ p = cc in
+    let q = (and_parts (is_plain_if_body hooked first.params first.body) (are_plain_procs hooked procs) h).0 in
+    let r = subst (λ (b : Option Body). is_plain_if_body hooked p.params b ≡ true) has
+    (subst (λ (p : trees.Proc). is_plain_if_body hooked p.params p.body ≡ true) e q) in
+    let parts = and_parts (are_plain_params hooked p.params) (is_plain_body hooked body) r in
+    (parts.0, (and_parts (is_plain_place hooked body.result) (is_plain_block hooked body.stmts) parts.1).1)
+plain_body hooked (first ∷ procs) (suc n) p body h known has =
+    plain_body hooked procs n p body (and_parts (is_plain_if_body hooked first.params first.body) (are_plain_procs hooked procs) h).1 known has
+
 -- ---- the ends of parameters
 
-params_are : (here : Here) (params : List Param) (exit : ℕ) (s : State) → params_end here params exit s ≡ Got (On tt) (worked (length params) s)
-params_are here [] exit s = let e : s.meter.work ≡ s.meter.work + 0 = omega arith in
+params_are : (here : Here) (params : List Param) (exit : ℕ) → are_plain_params (is_hooked here.facts) params ≡ true → (s : State) →
+    params_end here params exit s ≡ Got (On tt) (worked (length params) s)
+params_are here [] exit plain s = let e : s.meter.work ≡ s.meter.work + 0 = omega arith in
     ap (λ w. Got (On (tt {0})) (record s { meter = record (s.meter) { work = w } })) e
-params_are here (param ∷ params) exit s =
+params_are here (param ∷ params) exit plain s =
     let n = length params in
+    let hooked = is_hooked here.facts param.place.of in
+    let q = and_parts (not hooked) (are_plain_params (is_hooked here.facts) params) plain in
     let e : s.meter.work + n + 1 ≡ s.meter.work + suc n = omega arith in
-    ap (λ r. then_do r (onward (λ done. ends here param.place exit))) (params_are here params exit s)
+    ap (λ (act : Does (Unit {0})). then_do (params_end here params exit s) (onward (λ done. act))) (nothing_ends here param.place exit (not_true hooked q.0))
+    ∙ ap (λ r. then_do r (onward (λ done. costs 1 (give tt)))) (params_are here params exit q.1 s)
     ∙ ap (λ w. Got (On (tt {0})) (record s { meter = record (s.meter) { work = w } })) e
 
 -- ---- what comes of a line that calls
@@ -135,12 +159,12 @@ module _ (c : Spot) (body : Body) (left : ℕ) (k : List Line) (temps : Temps) (
 
   -- what is handed to the caller
   hands_back : (flow : Outcome (Unit {0})) (b : State) (m : M) → Back callee (with_frame old frame) flow b m →
-      ((place : Declared) → body.result ≡ Some place → is_there (slot_at b.world (suc c.level) place.number) ≡ true) → (params : List Param) (last : ℕ)
-      (trail : List Point) →
+      ((place : Declared) → body.result ≡ Some place → is_there (slot_at b.world (suc c.level) place.number) ≡ true) → (params : List Param) →
+      are_plain_params (is_hooked c.fixed.program.facts) params ≡ true → (last : ℕ) (trail : List Point) →
       Runs c.fixed LandsBack 1 0 m b.meter (then_do (handed params last there_here flow b) (λ flow d. Got flow (with_trail trail d)))
-  hands_back flow b m g opened params last trail =
+  hands_back flow b m g opened params plain last trail =
       subst (λ r. Runs c.fixed LandsBack 1 0 m b.meter (then_do (then_do r (onward (behind_params flow b.world))) (λ flow d. Got flow (with_trail trail d))))
-      (sym (params_are there_here params (exit_of last flow) b)) (on flow g)
+      (sym (params_are there_here params (exit_of last flow) plain b)) (on flow g)
     where
       behind_params : Outcome (Unit {0}) → World → Unit {0} → Does Value
       behind_params flow world done =
@@ -277,17 +301,20 @@ module _ (x : Fixed) (formed : IsFormed x.program) where
             line_spending (seen_call p.hook) (work + slot_bytes (result_slots x.program.facts body.result)) spent_here enters refl e (omega (arith, small)) in
             let go = handed p.params (last_of body.stmts) (at_body body) in
             let f = formed.procs proc p body known has in
+            let plain = plain_body (is_hooked x.program.facts) x.program.procs proc p body
+            (and_parts (are_plain_procs (is_hooked x.program.facts) x.program.procs) (is_plain_body (is_hooked x.program.facts) x.program.start)
+            formed.no_hooks).0 known has in
             behind (omega arith) w
             (subst (λ r. Runs x LandsHere 1 0 (there inside inside.whole no_temps d.world) d.meter r)
             (sym (do_assoc (exec_all body.stmts (at_body body) d) go (λ flow d. Got flow (with_trail s.trail d))))
             (follows_on 1 (λ flow s'. then_do (go flow s') (λ flow d. Got flow (with_trail s.trail d))) (omega arith) (omega arith)
             (body_follows x body (suc level) left (caller c k temps to ∷ waiting) false (named_in formed.names) (length p.params) (named_in formed.names proc)
-            (deeper inside.whole (caller c k temps to ∷ waiting) body.result) (λ e. absurd (false≢true e)) f d stands)
+            (deeper inside.whole (caller c k temps to ∷ waiting) body.result) (λ e. absurd (false≢true e)) f plain.1 d stands)
             (λ flow b m1 falls g.
             hands_back c body left k temps to s.world slots framed flow b m1 g
             (result_open inside (room_of body) (AtFirst (length p.params) (named_in formed.names proc) body) body.result f.0 d.world b.world stands
             (back_since inside d.world flow b m1 g))
-            p.params (last_of body.stmts) s.trail)))
+            p.params plain.0 (last_of body.stmts) s.trail)))
 
         coded : Runs x LandsHere (suc work) 0 m s.meter
             (spending (elsewhere (acting.◌>>◌ (acting.say (seen_call p.hook)) (entered globals p.params (Some body) slots at_body))) s)

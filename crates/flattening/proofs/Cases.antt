@@ -1,9 +1,9 @@
 -- Flat code follows the statement `case`: the tests of all labels, and then one block.
 use Rattle.std.proofs.Common.{◌≡◌, ℕ, suc, ◌+◌, ◌*◌, ◌<◌, ◌≤◌, ◌⊎◌, inl, inr, Bool, true, false, ◌&&◌, List, [], ◌∷◌, Some, refl, sym, ap, ◌∙◌, subst, arith}
 use Rattle.std.specs.Prelude.{if◌then◌else◌}
-use Rattle.std.proofs.lemmas.Bool.{false≢true}
+use Rattle.std.proofs.lemmas.Bool.{false≢true, and_parts}
 use Rattle.arc_base.specs.BigStep.{Got}
-use Rattle.nim_types.specs.Types.{Ty}
+use Rattle.nim_types.specs.Types.{Ty, Facts}
 use Rattle.nim_program.specs.declared.expr.Node.{Node}
 use Rattle.nim_program.specs.declared.operation.Use.TheVariants.{Looked}
 use Rattle.nim_program.specs.declared.program.Mode.{Mode}
@@ -12,12 +12,14 @@ use Rattle.nim_meaning.specs.Values.{Value}
 use Rattle.nim_meaning.specs.State.{State}
 use Rattle.nim_meaning.specs.ActTree.{Chooses, Begins}
 use Rattle.nim_meaning.specs.Ways.{At as Point}
-use Rattle.nim_meaning.specs.Acts.{On, Does, branch, worked, with_trail}
+use Rattle.nim_meaning.specs.Acts.{On, Does, branch, costs, worked, with_trail, ◌>>=◌}
 use Rattle.nim_meaning.specs.Deeds.{carry}
-use Rattle.nim_meaning.specs.Here.{Here}
+use Rattle.nim_meaning.specs.Here.{Here, is_hooked}
+use Rattle.nim_meaning.specs.Runs.{is_plain_value, is_plain_path, are_plain, is_plain_block, are_plain_blocks}
 use Rattle.nim_meaning.specs.Places.{fetched}
 use Rattle.nim_meaning.specs.Shapes.{is_covered, selector_type, is_last_block}
-use Rattle.nim_meaning.specs.Meaning.{picked, selector_of, exec_all, picked_block}
+use Rattle.nim_meaning.specs.Meaning.{at_node, picked, selecting, selector_of, exec_all, picked_block}
+use Rattle.nim_meaning.proofs.ForCallers.{plain_selector}
 use Rattle.flat_code.specs.declared.line.Line.{Line}
 use Rattle.flat_code.specs.declared.line.Line.TheVariants as L
 use Rattle.flat_code.specs.Scene.{Temps, with_value, location_at}
@@ -26,9 +28,9 @@ use Rattle.flat_code.specs.Lines as does
 use Rattle.flattening.specs.declared.numbers.Purpose.TheVariants.{End, Next, Arm}
 use Rattle.flattening.specs.Numbering.{width, widths, arm_count, width_in, width_of, label, looked_from, behind_selector}
 use Rattle.flattening.specs.ExprLines.{arm_label, label_tests, find_lines}
-use Rattle.flattening.specs.StmtLines.{Exits, selector_lines, block_tests, lines_of, arm_blocks}
+use Rattle.flattening.specs.StmtLines.{Exits, selector_lines, block_tests, lines_in, lines_of, arm_blocks}
 use Rattle.flattening.specs.Flattened.{modes_of}
-use Rattle.flattening.specs.Formed.{Scope, AllFormed, HasSelector, BlockFormed, BlocksFormed}
+use Rattle.flattening.specs.Formed.{Scope, AreOrdinals, AllOrdinals, AllFormed, HasSelector, BlockFormed, BlocksFormed}
 use Rattle.flattening.proofs.Runs.{Runs, pays, spares}
 use Rattle.flattening.proofs.Worlds.{Since, since_none, since_then}
 use Rattle.flattening.proofs.Temps.{Kept, kept_none, kept_then, kept_wide, kept_value, put_same}
@@ -37,6 +39,7 @@ use Rattle.flattening.proofs.PutsParts.{puts_arm}
 use Rattle.flattening.proofs.PutsParts.{puts_stmts, puts_block_tests, puts_arm_blocks, puts_selector}
 use Rattle.flattening.proofs.Spots.{Spot, here_of, there, scene, Lands, after, further, goes, leaps, performs_alone, at_point}
 use Rattle.flattening.proofs.Standing.{grounded, Stands, stands_since}
+use Rattle.flattening.proofs.Groups.{selector_alone, as_it_is}
 use Rattle.flattening.proofs.Acting.{CallsFollow}
 use Rattle.flattening.proofs.Paths.{find_follows}
 use Rattle.flattening.proofs.Picks.{picks_follow, at_meter}
@@ -59,6 +62,9 @@ IsArm t arm behind name = (name ≡ label Next t) ⊎ ((4 * arm ≤ name) × (na
 
 module _ (c : Spot) (top : Bool) (room : ℕ → Type 0) (names : (proc place : ℕ) → Type 0) (calls : CallsFollow c names)
     (outermost : top ≡ true → c.level ≡ 0) where
+  abbrev facts : Facts
+  facts = c.fixed.program.facts
+
   abbrev types : List Ty
   types = c.fixed.program.types
 
@@ -68,13 +74,17 @@ module _ (c : Spot) (top : Bool) (room : ℕ → Type 0) (names : (proc place : 
   abbrev here : Here
   here = here_of c
 
+  abbrev hooked : Ty → Bool
+  hooked = is_hooked c.fixed.program.facts
+
   abbrev Follows : Stmts → Type 1
   Follows block = BlockFollows c top room names calls outermost block
 
   -- the first block with a label that fits, up to where the whole ends
   abbrev pub TestsFollow : (covered : Bool) (labels : List (List Label)) (blocks : Blocks) → Type 1
-  TestsFollow covered labels blocks = (inside : Bool) (Open : Scope) → BlocksFormed (grounded c top room names) inside Open blocks → (exits : Exits)
-      (around : Around c exits inside) (x : Value) (sel t arm n : ℕ) → t < arm → arm + arm_count (ByLabels labels) ≤ n → (k arms : List Line) →
+  TestsFollow covered labels blocks = AllOrdinals labels → (inside : Bool) (Open : Scope) → BlocksFormed (grounded c top room names) inside Open blocks →
+      are_plain_blocks hooked blocks ≡ true → (exits : Exits) (around : Around c exits inside) (x : Value) (sel t arm n : ℕ) → t < arm →
+      arm + arm_count (ByLabels labels) ≤ n → (k arms : List Line) →
       Reaches around t (L.Label (label End t) ∷ k) →
       Leads c n (arm_blocks types modes c.result covered labels blocks exits t arm n (L.Label (label End t) ∷ k)) →
       ((name : ℕ) → IsArm t arm (arm + arm_count (ByLabels labels)) name →
@@ -85,7 +95,7 @@ module _ (c : Spot) (top : Bool) (room : ℕ → Type 0) (names : (proc place : 
 
   -- where no label fits
   other_follows : (block : Stmts) → Follows block → (inside : Bool) (Open : Scope) → BlockFormed (grounded c top room names) inside Open block →
-      (exits : Exits)
+      is_plain_block hooked block ≡ true → (exits : Exits)
       (around : Around c exits inside) (t n hi : ℕ) → t < n → n + width_of block ≤ hi → (k arms : List Line) → Reaches around t (L.Label (label End t) ∷ k) →
       Leads c n (L.Label (label Next t) ∷ lines_of types modes c.result block exits n (L.Label (label End t) ∷ k)) →
       found (label Next t) arms ≡ Some (L.Label (label Next t) ∷ lines_of types modes c.result block exits n (L.Label (label End t) ∷ k)) → (temps : Temps)
@@ -93,30 +103,36 @@ module _ (c : Spot) (top : Bool) (room : ℕ → Type 0) (names : (proc place : 
       Stands c room Open s.world →
       Runs c.fixed (Left c around (L.Label (label End t) ∷ k) n hi temps s.world) 12 1 (there c (L.Jump (label Next t) ∷ arms) temps s.world) s.meter
       (exec_all block here s)
-  other_follows block follows inside Open f exits around t n hi less high k arms r l at temps s h =
+  other_follows block follows inside Open f p exits around t n hi less high k arms r l at temps s h =
       leaps c 11 (label Next t) (omega arith) refl at
       (goes c 10 1 (omega arith) refl
       (spares 0 0 (omega arith) (omega arith)
       (further_left c around {lo' = n} {hi' = n + width_of block} (omega arith) (omega (arith, high)) (kept_none n hi temps) (since_none c.level s.world)
-      (follows inside Open f exits around n (L.Label (label End t) ∷ k) (reaches_later (omega (arith, less)) r)
+      (follows inside Open f p exits around n (L.Label (label End t) ∷ k) (reaches_later (omega (arith, less)) r)
       (leads_on {lo = 0} {hi = 4 * n} (omega arith) (omega arith) (puts_label (label Next t) (omega arith) (omega (arith, less))) l) temps s h))))
 
   pub otherwise : (covered : Bool) (labels : List (List Label)) (block : Stmts) → Follows block → TestsFollow covered labels (Otherwise block)
-  otherwise covered labels block follows inside Open f exits around x sel t arm n less le k arms r l skips temps s has h =
-      other_follows block follows inside Open f exits around t n (n + width_of block) (omega (arith, less, le)) (omega arith) k arms r l
+  otherwise covered labels block follows ordinals inside Open f p exits around x sel t arm n less le k arms r l skips temps s has h =
+      other_follows block follows inside Open f p exits around t n (n + width_of block) (omega (arith, less, le)) (omega arith) k arms r l
       (skips (label Next t) (inl refl) ∙ found_here (label Next t) _) temps s h
 
   pub last_alone : (covered : Bool) (first : Stmts) (rest : Blocks) → Follows first → TestsFollow covered [] (Block first rest)
-  last_alone covered first rest follows inside Open f exits around x sel t arm n less le k arms r l skips temps s has h =
-      other_follows first follows inside Open f.0 exits around t n (n + width_of_blocks (Block first rest)) (omega (arith, less, le)) (omega arith) k arms r l
+  last_alone covered first rest follows ordinals inside Open f p exits around x sel t arm n less le k arms r l skips temps s has h =
+      other_follows first follows inside Open f.0 (and_parts (is_plain_block hooked first) (are_plain_blocks hooked rest) p).0 exits around t n
+      (n + width_of_blocks (Block first rest)) (omega (arith, less, le)) (omega arith) k arms r l
       (skips (label Next t) (inl refl) ∙ found_here (label Next t) _) temps s h
 
   -- ---- a block with labels
 
   module _ (covered : Bool) (these : List Label) (labels : List (List Label)) (first : Stmts) (rest : Blocks) (follows : Follows first)
-      (more : TestsFollow covered labels rest) (inside : Bool) (Open : Scope) (f : BlocksFormed (grounded c top room names) inside Open (Block first rest))
-      (exits : Exits) (around : Around c exits inside) (x : Value) (sel t arm n : ℕ) (less : t < arm) (le : arm + arm_count (ByLabels (these ∷ labels)) ≤ n)
+      (more : TestsFollow covered labels rest) (ordinals : AreOrdinals these × AllOrdinals labels) (inside : Bool) (Open : Scope)
+      (f : BlocksFormed (grounded c top room names) inside Open (Block first rest))
+      (p : are_plain_blocks hooked (Block first rest) ≡ true) (exits : Exits) (around : Around c exits inside) (x : Value) (sel t arm n : ℕ) (less : t < arm)
+      (le : arm + arm_count (ByLabels (these ∷ labels)) ≤ n)
       (k arms : List Line) (r : Reaches around t (L.Label (label End t) ∷ k)) where
+    plain : (is_plain_block hooked first ≡ true) × (are_plain_blocks hooked rest ≡ true)
+    plain = and_parts (is_plain_block hooked first) (are_plain_blocks hooked rest) p
+
     abbrev n2 : ℕ
     n2 = n + width_of first
 
@@ -174,7 +190,7 @@ module _ (c : Spot) (top : Bool) (room : ℕ → Type 0) (names : (proc place : 
         goes c 4 1 (omega arith) refl
         (rejoin c around {lo' = n} {hi' = n2} 4 (omega arith) (omega arith) (omega arith) (omega arith) (omega arith) (kept_none n hi temps)
         (since_none c.level s.world)
-        (follows inside Open f.0 exits around n (behind last) (reaches_behind last) (block_leads last l) temps s h)
+        (follows inside Open f.0 plain.0 exits around n (behind last) (reaches_behind last) (block_leads last l) temps s h)
         (λ b now kept since. on last b now kept since))
       where
         on : (last : Bool) (b : State) (now : Temps) → Kept n hi temps now → Since c.level s.world b.world →
@@ -217,7 +233,7 @@ module _ (c : Spot) (top : Bool) (room : ℕ → Type 0) (names : (proc place : 
         (goes c 10 1 (omega arith) refl (spares 5 1 (omega arith) (omega arith) (arm_follows true l temps s h))))
     missed false is l skips temps s has h =
         further_left c around {lo' = n2} {hi' = n2 + width_of_blocks rest} (omega arith) (omega arith) (kept_none n hi temps) (since_none c.level s.world)
-        (more inside Open f.1 exits around x sel t (suc arm) n2 (omega (arith, less)) (omega (arith, le)) k arms r (others_lead l)
+        (more ordinals.1 inside Open f.1 plain.1 exits around x sel t (suc arm) n2 (omega (arith, less)) (omega (arith, le)) k arms r (others_lead l)
         (skips_on skips) temps s has h)
 
     tried : (last : Bool) → (covered && is_last_block rest) ≡ last → Leads c n (whole_arm last) → Skips last → (temps : Temps) (s : State) →
@@ -225,7 +241,7 @@ module _ (c : Spot) (top : Bool) (room : ℕ → Type 0) (names : (proc place : 
         Runs c.fixed (Left c around ending n hi temps s.world) 12 1 (there c (label_tests these sel (label Arm arm) tests) temps s.world) s.meter
         (picked these x (exec_all first here) (branch {A = Does (Unit {0})} last (exec_all first here) (picked_block covered labels rest x here)) s)
     tried last is l skips temps s has h =
-        picks_follow c sel (label Arm arm) {target = one_arm last} these (exec_all first here)
+        picks_follow c sel (label Arm arm) {target = one_arm last} these ordinals.0 (exec_all first here)
         (branch {A = Does (Unit {0})} last (exec_all first here) (picked_block covered labels rest x here)) s has
         ((puts_block_tests {lo = 0} {hi = 0} labels rest sel (suc arm)).skips (label Arm arm) (L.Jump (label Next t) ∷ arms) (λ le. le)
         ∙ (skips (label Arm arm) (inr (omega arith, omega arith)) ∙ arm_found last))
@@ -234,8 +250,8 @@ module _ (c : Spot) (top : Bool) (room : ℕ → Type 0) (names : (proc place : 
 
   pub an_arm : (covered : Bool) (these : List Label) (labels : List (List Label)) (first : Stmts) (rest : Blocks) → Follows first →
       TestsFollow covered labels rest → TestsFollow covered (these ∷ labels) (Block first rest)
-  an_arm covered these labels first rest follows more inside Open f exits around x sel t arm n less le k arms r l skips temps s has h =
-      tried covered these labels first rest follows more inside Open f exits around x sel t arm n less le k arms r
+  an_arm covered these labels first rest follows more ordinals inside Open f p exits around x sel t arm n less le k arms r l skips temps s has h =
+      tried covered these labels first rest follows more ordinals inside Open f p exits around x sel t arm n less le k arms r
       (covered && is_last_block rest) refl l skips temps s
       has h
 
@@ -243,21 +259,24 @@ module _ (c : Spot) (top : Bool) (room : ℕ → Type 0) (names : (proc place : 
 
   abbrev Selects : Args → Type 1
   Selects tests =
-      (Open : Scope) → AllFormed (grounded c top room names) Open tests → (t : ℕ) (k : List Line) (temps : Temps) (s : State) → Stands c room Open s.world →
+      (Open : Scope) → AllFormed (grounded c top room names) Open tests → are_plain hooked false tests ≡ true → (t : ℕ) (k : List Line) (temps : Temps)
+      (s : State) → Stands c room Open s.world →
       Runs c.fixed (Lands c k t (behind_selector tests t) temps s.world (λ v now. now.values t ≡ Some v)) 0 0
       (there c (selector_lines types modes c.result tests t k) temps s.world) s.meter (selector_of tests here s)
 
   selects : (labels : List (List Label)) (tests : Args) → HasSelector (ByLabels labels) tests → Selects tests
-  selects labels NoArg is Open f t k temps s h = absurd is
-  selects labels (ByValue selector rest) is Open f t k temps s h =
+  selects labels NoArg is Open f p t k temps s h = absurd is
+  selects labels (ByValue selector rest) is Open f p t k temps s h =
+      let plain = (and_parts (is_plain_value hooked selector) (are_plain hooked false rest) p).0 in
       further {lo' = t} {hi' = t + width selector} (omega arith) (omega arith) (kept_none t (t + widths (ByValue selector rest)) temps)
-      (since_none c.level s.world) (λ v now comes kept. comes.value)
-      (spares 0 2 (omega arith) (omega arith) (expr_follows c top room names Open calls selector f.0 Looked t k temps s h))
-  selects labels (ByPath path rest) is Open f t k temps s h =
+      (since_none c.level s.world) (λ v now comes kept. comes)
+      (spares 0 2 (omega arith) (omega arith) (expr_follows c top room names Open calls selector f.0 plain Looked t k temps s h))
+  selects labels (ByPath path rest) is Open f p t k temps s h =
+      let plain = (and_parts (is_plain_path hooked path) (are_plain hooked false rest) p).0 in
       let w = same_width path in
       let some = some_width_at path in
       let u = looked_from path t in
-      after 0 (omega arith) (omega arith) (aim_follows c top room names Open calls path f.0 u (find_lines types path u (L.Look t u ∷ k)) temps s h)
+      after 0 (omega arith) (omega arith) (aim_follows c top room names Open calls path f.0 plain u (find_lines types path u (L.Look t u ∷ k)) temps s h)
       (λ aim b now aims kept since.
       after 0 (omega arith) (omega arith) (find_follows c top room names Open path f.0 u (L.Look t u ∷ k) now aim aims b (stands_since h since))
       (λ l d last leads kept2 since2.
@@ -272,7 +291,8 @@ module _ (c : Spot) (top : Bool) (room : ℕ → Type 0) (names : (proc place : 
 
   pub by_labels : (node : Node) (labels : List (List Label)) (tests : Args) (blocks : Blocks) → ((covered : Bool) → TestsFollow covered labels blocks) →
       StmtFollows c top room names calls outermost (Select node (ByLabels labels) tests blocks)
-  by_labels node labels tests blocks follows inside Open f exits around t k r l temps s h =
+  by_labels node labels tests blocks follows inside Open f p exits around t k r l temps s h =
+      let plain = and_parts (are_plain hooked false tests) (are_plain_blocks hooked blocks) p in
       let count = arm_count (ByLabels labels) in
       let sel = suc t + count in
       let n = behind_selector tests sel in
@@ -283,16 +303,23 @@ module _ (c : Spot) (top : Bool) (room : ℕ → Type 0) (names : (proc place : 
       let K = L.Label (label End t) ∷ k in
       let arms = arm_blocks types modes c.result covered labels blocks exits t (suc t) n K in
       let behind = block_tests labels blocks sel (suc t) (L.Jump (label Next t) ∷ arms) in
-      pays 12 1 (omega arith)
-      (after 12 (omega arith) (omega arith) (selects labels tests f.0 Open f.1 sel behind temps
+      let go : Value → Does (Unit {0}) = λ x. at_node node.number Chooses (picked_block covered labels blocks x here) in
+      let all : Does (Unit {0}) = selector_of tests here >>= (λ x. selecting here (selector_type tests) x go) in
+      subst (λ (part : Does (Unit {0})). Runs c.fixed (Left c around k t hi temps s.world) 0 0
+      (there c (lines_in types modes c.result (Select node (ByLabels labels) tests blocks) exits t k) temps s.world) s.meter
+      (costs 1 (at_node node.number Begins part) s)) (sym (selector_alone here tests all plain.0))
+      (pays 12 1 (omega arith)
+      (after 12 (omega arith) (omega arith) (selects labels tests f.0 Open f.2 plain.0 sel behind temps
       (with_trail (Point node.number Begins ∷ s.trail) (worked 1 s)) h)
       (λ x b now has kept since.
-      rejoin c around {lo' = n} {hi' = n + width_of_blocks blocks} 1 (omega arith) (omega arith) (omega arith) (omega (arith, w)) (omega (arith, w, turns))
+      subst (λ (part : Does (Unit {0})). Runs c.fixed (Left c around k t hi temps s.world) 12 0 (there c behind now b.world) b.meter (part b))
+      (sym (as_it_is here (selector_type tests) x go (plain_selector facts tests plain.0)))
+      (rejoin c around {lo' = n} {hi' = n + width_of_blocks blocks} 1 (omega arith) (omega arith) (omega arith) (omega (arith, w)) (omega (arith, w, turns))
       (kept_wide {lo = t} {hi = hi} (omega arith) (omega (arith, w, turns)) kept) since
-      (follows covered inside Open f.2 exits around x sel t (suc t) n (omega arith) (omega (arith, w)) k arms
+      (follows covered f.1 inside Open f.3 plain.1 exits around x sel t (suc t) n (omega arith) (omega (arith, w)) k arms
       (reaches {lo = 4 * t} {hi = 4 * t + 2} (omega arith) (omega arith) (puts_label (label End t) (omega arith) (omega arith)) r)
       (leads_on {lo = 0} {hi = 4 * n} (omega arith) (omega arith)
       (puts_wide {lo = 0} {hi = 4 * n} (omega arith) (omega arith) (puts_selector types modes c.result tests sel)
       >> (puts_block_tests labels blocks sel (suc t) >> puts_line (L.Jump (label Next t)) refl)) l)
       (λ name which. refl) now (with_trail (Point node.number Chooses ∷ b.trail) b) has (stands_since h since))
-      (λ b last kept since. goes c 0 1 (omega arith) refl (stays c around b last (omega arith) kept since))))
+      (λ b last kept since. goes c 0 1 (omega arith) refl (stays c around b last (omega arith) kept since))))))

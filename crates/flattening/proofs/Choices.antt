@@ -1,7 +1,6 @@
 -- Flat code follows expressions that choose, over what their parts do.
-use Rattle.std.proofs.Common.{◌≡◌, ℕ, suc, ◌+◌, ◌*◌, ◌<◌, ◌≤◌, ◌⊎◌, Bool, true, false, List, ◌∷◌, Option, Some, None, refl, ap, ◌∙◌, arith}
+use Rattle.std.proofs.Common.{◌≡◌, ℕ, suc, ◌+◌, ◌*◌, ◌<◌, ◌≤◌, ◌⊎◌, Bool, true, false, List, ◌∷◌, Option, Some, None, refl, sym, ap, ◌∙◌, subst, arith}
 use Rattle.std.specs.Prelude.{not}
-use Rattle.std.proofs.lemmas.Bool.{false≢true}
 use Rattle.arc_base.specs.BigStep.{Got, then_do}
 use Rattle.nim_types.specs.Types.{Ty}
 use Rattle.nim_program.specs.declared.expr.Node.{Node}
@@ -18,9 +17,10 @@ use Rattle.nim_meaning.specs.ActTree.{Asks, Decides}
 use Rattle.nim_meaning.specs.Ways.{At as Point}
 use Rattle.nim_meaning.specs.Acts.{On, Does, onward, branch, with_trail}
 use Rattle.nim_meaning.specs.Table.{default_for}
-use Rattle.nim_meaning.specs.Here.{Here}
+use Rattle.nim_meaning.specs.Here.{Here, is_hooked}
+use Rattle.nim_meaning.specs.Runs.{is_plain_value}
 use Rattle.nim_meaning.specs.Deeds.{costs}
-use Rattle.nim_meaning.specs.Meaning.{eval, early, handed_on, handed_by, first_value, picked_value, at_node}
+use Rattle.nim_meaning.specs.Meaning.{eval, ended_value, branch_value, early, handed_on, handed_by, first_value, picked_value, at_node}
 use Rattle.flat_code.specs.declared.line.Line.{Line}
 use Rattle.flat_code.specs.declared.line.Line.TheVariants as L
 use Rattle.flat_code.specs.Scene.{Temps, with_value}
@@ -31,7 +31,7 @@ use Rattle.flattening.specs.Numbering.{width, widths, label}
 use Rattle.flattening.specs.ExprLines.{lines, choice_lines, arm_lines, early_lines, value_tests}
 use Rattle.flattening.specs.ExprLines.{handed_on as handed_on_line, none_fits as default_line}
 use Rattle.flattening.specs.Flattened.{modes_of}
-use Rattle.flattening.specs.Formed.{Scope, IfListed}
+use Rattle.flattening.specs.Formed.{Scope}
 use Rattle.flattening.proofs.Runs.{Runs, spares}
 use Rattle.flattening.proofs.Worlds.{Since, since_none}
 use Rattle.flattening.proofs.Temps.{Kept, kept_none, kept_wide, kept_value, put_same, put_other}
@@ -39,7 +39,8 @@ use Rattle.flattening.proofs.Puts.{found, found_here, puts_label, puts_wide, ◌
 use Rattle.flattening.proofs.PutsParts.{puts_expr, puts_choice}
 use Rattle.flattening.proofs.Spots.{Spot, here_of, there, scene, does_at, Lands, after, after_both, answers, brings, further, goes, leaps}
 use Rattle.flattening.proofs.Standing.{Stands, stands_since}
-use Rattle.flattening.proofs.Acting.{Comes, hands_follow, default_follows}
+use Rattle.flattening.proofs.Acting.{Has, IsPlainIf, hands_follow, default_follows}
+use Rattle.flattening.proofs.Groups.{value_alone, branch_alone}
 use Rattle.flattening.proofs.Widths.{some_width}
 
 -- the test of a bool in a temporary
@@ -61,28 +62,51 @@ module _ (c : Spot) (top : Bool) (room : ℕ → Type 0) (names : (proc place : 
 
   -- ---- what is shown of a part
 
-  abbrev pub Has : (t : ℕ) → Value → Temps → Type 0
-  Has t v now = now.values t ≡ Some v
-
   abbrev pub ExprFollows : Expr → Type 0
   ExprFollows e = (how : Use) (t : ℕ) (k : List Line) (temps : Temps) (s : State) → Stands c room Open s.world →
-      Runs c.fixed (Lands c k t (t + width e) temps s.world (Comes e t)) 0 2 (there c (lines types modes e how t k) temps s.world) s.meter (eval e how here s)
+      Runs c.fixed (Lands c k t (t + width e) temps s.world (Has t)) 0 2 (there c (lines types modes e how t k) temps s.world) s.meter (eval e how here s)
 
-  -- the value of a choice, with the lines behind it
-  abbrev pub ChoiceFollows : (parts : Args) (ty : Option Ty) (how : Use) (t : ℕ) → Type 0
-  ChoiceFollows parts ty how t = (u : ℕ) → t < u → (k : List Line) (temps : Temps) (s : State) → Stands c room Open s.world →
+  -- by itself, with its temporaries
+  abbrev pub alone : Expr → Does Value
+  alone e = ended_value here e Owned (eval e Owned here)
+
+  abbrev pub AloneFollows : Expr → Type 0
+  AloneFollows e = (t : ℕ) (k : List Line) (temps : Temps) (s : State) → Stands c room Open s.world →
+      Runs c.fixed (Lands c k t (t + width e) temps s.world (Has t)) 0 2 (there c (lines types modes e Owned t k) temps s.world) s.meter (alone e s)
+
+  pub alone_follows : (e : Expr) → is_plain_value (is_hooked c.fixed.program.facts) e ≡ true → ExprFollows e → AloneFollows e
+  alone_follows e plain follows t k temps s h =
+      subst (λ act. Runs c.fixed (Lands c k t (t + width e) temps s.world (Has t)) 0 2 (there c (lines types modes e Owned t k) temps s.world) s.meter
+      (act s)) (sym (value_alone here e Owned (eval e Owned here) plain)) (follows Owned t k temps s h)
+
+  -- the value of a branch
+  abbrev pub branch_of : Expr → Does Value
+  branch_of e = branch_value here e (λ how. eval e how here)
+
+  abbrev pub BranchFollows : Expr → Type 0
+  BranchFollows e = (t : ℕ) (k : List Line) (temps : Temps) (s : State) → Stands c room Open s.world →
+      Runs c.fixed (Lands c k t (t + width e) temps s.world (Has t)) 0 2 (there c (lines types modes e Owned t k) temps s.world) s.meter (branch_of e s)
+
+  pub branch_follows : (e : Expr) → is_plain_value (is_hooked c.fixed.program.facts) e ≡ true → ExprFollows e → BranchFollows e
+  branch_follows e plain follows t k temps s h =
+      subst (λ act. Runs c.fixed (Lands c k t (t + width e) temps s.world (Has t)) 0 2 (there c (lines types modes e Owned t k) temps s.world) s.meter
+      (act s)) (sym (branch_alone here e (λ how. eval e how here) plain)) (follows Owned t k temps s h)
+
+  -- the value of a choice at a node, with the lines behind it
+  abbrev pub ChoiceFollows : (parts : Args) (ty : Option Ty) (how : Use) (site t : ℕ) → Type 0
+  ChoiceFollows parts ty how site t = (u : ℕ) → t < u → (k : List Line) (temps : Temps) (s : State) → Stands c room Open s.world →
       Runs c.fixed (Lands c k t (u + widths parts) temps s.world (Has t)) 12 2
       (there c (choice_lines types modes parts ty how t u (L.Label (label End t) ∷ k)) temps s.world) s.meter
-      (then_do (first_value parts ty here s) (onward (handed_on here how ty)))
+      (then_do (first_value parts ty here s) (onward (handed_on here how site ty)))
 
-  abbrev pub TestsFollow : (covered : Bool) (labels : List (List Label)) (values : Args) (ty : Option Ty) (how : Use) (t : ℕ) → Type 0
-  TestsFollow covered labels values ty how t =
+  abbrev pub TestsFollow : (covered : Bool) (labels : List (List Label)) (values : Args) (ty : Option Ty) (how : Use) (site t : ℕ) → Type 0
+  TestsFollow covered labels values ty how site t =
       (x : Value) (sel u : ℕ) → t < u → (k arms : List Line) (temps : Temps) (s : State) → temps.values sel ≡ Some x → Stands c room Open s.world →
       ((name : ℕ) → (name ≡ label Next t) ⊎ (4 * u ≤ name) →
       found name arms ≡ found name (arm_lines types modes covered labels values ty how t u (L.Label (label End t) ∷ k))) →
       Runs c.fixed (Lands c k t (u + widths values) temps s.world (Has t)) 12 2
       (there c (value_tests labels values sel u (L.Jump (label Next t) ∷ arms)) temps s.world) s.meter
-      (then_do (picked_value covered labels values x ty here s) (onward (handed_on here how ty)))
+      (then_do (picked_value covered labels values x ty here s) (onward (handed_on here how site ty)))
 
   -- ---- `and` and `or`
 
@@ -99,28 +123,26 @@ module _ (c : Spot) (top : Bool) (room : ℕ → Type 0) (names : (proc place : 
     abbrev tail : List Line
     tail = L.Pass t u how None ∷ L.Label (label End t) ∷ k
 
-    as_value : (v : Value) (now : Temps) → now.values t ≡ Some v → Comes e t v now
-    as_value v now is = record { value = is; text = λ h. absurd (false≢true h) }
-
     -- the right operand decides
     right_follows : (temps : Temps) (s : State) → Stands c room Open s.world →
-        Runs c.fixed (Lands c k t hi temps s.world (Comes e t)) 2 2 (there c (lines types modes right Owned u tail) temps s.world) s.meter
+        Runs c.fixed (Lands c k t hi temps s.world (Has t)) 2 2 (there c (lines types modes right Owned u tail) temps s.world) s.meter
         (eval right Owned here s)
     right_follows temps s h =
         brings 4 (omega arith) (omega arith) (follows Owned u tail temps s h)
         (λ v d last comes kept since.
-        goes c 3 1 (omega arith) (ap (λ o. using o (λ v. does.gives (scene c last d.world) t (costs 1 (handed_by here.facts how None v)))) comes.value)
+        goes c 3 1 (omega arith) (ap (λ o. using o
+        (λ v. does.gives (scene c last d.world) t (costs 1 (handed_by here.facts (does.destination (scene c last d.world) how t) None v)))) comes)
         (goes c 2 1 (omega arith) refl
-        (answers v d (with_value t last v) (omega arith) (as_value v _ (put_same last.values t v))
+        (answers v d (with_value t last v) (omega arith) (put_same last.values t v)
         (kept_value t v (omega arith) (omega arith) (kept_wide (omega arith) (omega arith) kept)) since)))
 
     -- the left one did
     decided : (z : Bool) (temps : Temps) (s : State) → temps.values t ≡ Some (Number (truth z)) →
-        Runs c.fixed (Lands c k t hi temps s.world (Comes e t)) 3 2 (there c (L.Label (label End t) ∷ k) temps s.world) s.meter
+        Runs c.fixed (Lands c k t hi temps s.world (Has t)) 3 2 (there c (L.Label (label End t) ∷ k) temps s.world) s.meter
         (Got (On (Number (truth z))) s)
     decided z temps s is =
         goes c 2 1 (omega arith) refl
-        (answers (Number (truth z)) s temps (omega arith) (as_value _ _ is) (kept_none t hi temps) (since_none c.level s.world))
+        (answers (Number (truth z)) s temps (omega arith) is (kept_none t hi temps) (since_none c.level s.world))
 
     end_found : found (label End t) (lines types modes right Owned u tail) ≡ Some (L.Label (label End t) ∷ k)
     end_found = (puts_expr types modes right Owned u).skips (label End t) tail (λ le. absurd (omega (arith, le))) ∙ found_here (label End t) k
@@ -130,7 +152,7 @@ module _ (c : Spot) (top : Bool) (room : ℕ → Type 0) (names : (proc place : 
 
     and_follows : (b : Bool) (x : Value) (temps : Temps) (s : State) → is_true (number_of x) ≡ b → temps.values (suc t) ≡ Some x →
         Stands c room Open s.world →
-        Runs c.fixed (Lands c k t hi temps s.world (Comes e t)) 14 2
+        Runs c.fixed (Lands c k t hi temps s.world (Has t)) 14 2
         (there c (early_lines types modes And t (suc t) (lines types modes right Owned u tail)) temps s.world)
         s.meter (early And b (eval right Owned here) s)
     and_follows b x temps s is has h =
@@ -142,7 +164,7 @@ module _ (c : Spot) (top : Bool) (room : ℕ → Type 0) (names : (proc place : 
         (λ v n p kept. p) (on b is))
       where
         on : (b : Bool) → is_true (number_of x) ≡ b →
-            Runs c.fixed (Lands c k t hi (with_value t temps (Number (truth false))) s.world (Comes e t)) 13 2
+            Runs c.fixed (Lands c k t hi (with_value t temps (Number (truth false))) s.world (Has t)) 13 2
             (there c (L.Unless (suc t) (label End t) ∷ lines types modes right Owned u tail) (with_value t temps (Number (truth false))) s.world) s.meter
             (early And b (eval right Owned here) s)
         on true is =
@@ -156,7 +178,7 @@ module _ (c : Spot) (top : Bool) (room : ℕ → Type 0) (names : (proc place : 
             (spares 3 2 (omega arith) (omega arith) (decided false last s (put_same temps.values t (Number (truth false)))))
 
     or_follows : (b : Bool) (x : Value) (temps : Temps) (s : State) → is_true (number_of x) ≡ b → temps.values (suc t) ≡ Some x → Stands c room Open s.world →
-        Runs c.fixed (Lands c k t hi temps s.world (Comes e t)) 14 2
+        Runs c.fixed (Lands c k t hi temps s.world (Has t)) 14 2
         (there c (early_lines types modes Or t (suc t) (lines types modes right Owned u tail)) temps s.world)
         s.meter (early Or b (eval right Owned here) s)
     or_follows b x temps s is has h =
@@ -170,7 +192,7 @@ module _ (c : Spot) (top : Bool) (room : ℕ → Type 0) (names : (proc place : 
         behind = L.Label (label Next t) ∷ lines types modes right Owned u tail
 
         on : (b : Bool) → is_true (number_of x) ≡ b →
-            Runs c.fixed (Lands c k t hi (with_value t temps (Number (truth true))) s.world (Comes e t)) 13 2
+            Runs c.fixed (Lands c k t hi (with_value t temps (Number (truth true))) s.world (Has t)) 13 2
             (there c (L.Unless (suc t) (label Next t) ∷ L.Jump (label End t) ∷ L.Label (label Next t) ∷ lines types modes right Owned u tail)
             (with_value t temps (Number (truth true))) s.world) s.meter (early Or b (eval right Owned here) s)
         on true is =
@@ -189,7 +211,7 @@ module _ (c : Spot) (top : Bool) (room : ℕ → Type 0) (names : (proc place : 
 
   pub early_follows : (node : Node) (ty : Ty) (short : Short) (left right : Expr) (how : Use) (t : ℕ) (k : List Line) → ExprFollows right → (x : Value)
       (temps : Temps) (s : State) → temps.values (suc t) ≡ Some x → Stands c room Open s.world →
-      Runs c.fixed (Lands c k t (t + width (Early node ty short left right)) temps s.world (Comes (Early node ty short left right) t)) 14 2
+      Runs c.fixed (Lands c k t (t + width (Early node ty short left right)) temps s.world (Has t)) 14 2
       (there c (early_lines types modes short t (suc t) (lines types modes right Owned (suc t + width left)
       (L.Pass t (suc t + width left) how None ∷ L.Label (label End t) ∷ k)))
       temps s.world) s.meter (early short (is_true (number_of x)) (eval right Owned here) s)
@@ -201,18 +223,18 @@ module _ (c : Spot) (top : Bool) (room : ℕ → Type 0) (names : (proc place : 
   -- ---- the value of a branch
 
   -- it is evaluated, and handed on
-  pub valued : (value : Expr) → ExprFollows value → (ty : Option Ty) → IfListed types ty → (how : Use) (t u : ℕ) → t < u → (k : List Line) (temps : Temps)
+  pub valued : (value : Expr) → BranchFollows value → (ty : Option Ty) → IsPlainIf c ty → (how : Use) (site t u : ℕ) → t < u → (k : List Line) (temps : Temps)
       (s : State) →
       Stands c room Open s.world →
       Runs c.fixed (Lands c k t (u + width value) temps s.world (Has t)) 0 1
       (there c (lines types modes value Owned u (handed_on_line types modes t u how ty ∷ k)) temps s.world) s.meter
-      (then_do (eval value Owned here s) (onward (handed_on here how ty)))
-  valued value follows ty listed how t u less k temps s h =
+      (then_do (branch_of value s) (onward (handed_on here how site ty)))
+  valued value follows ty listed how site t u less k temps s h =
       let w = some_width value in
-      after 2 (omega arith) (omega arith) (follows Owned u (handed_on_line types modes t u how ty ∷ k) temps s h)
+      after 2 (omega arith) (omega arith) (follows u (handed_on_line types modes t u how ty ∷ k) temps s h)
       (λ v b now comes kept since.
       further {lo' = t} {hi' = suc t} (omega arith) (omega (arith, less)) (kept_wide (omega (arith, less)) (omega arith) kept) since (λ v n p kept. p)
-      (spares 1 0 (omega arith) (omega arith) (hands_follow c top room names Open how ty listed v t u k now comes.value b)))
+      (spares 1 0 (omega arith) (omega arith) (hands_follow c top room names Open how site ty listed v t u k now comes b)))
 
   -- behind it, the choice ends
   pub ends_at : (t hi : ℕ) (k : List Line) (temps now : Temps) (world : World) (v : Value) (b : State) → Kept t hi temps now → Since c.level world b.world →
@@ -221,28 +243,29 @@ module _ (c : Spot) (top : Bool) (room : ℕ → Type 0) (names : (proc place : 
   ends_at t hi k temps now world v b kept since has = goes c 2 1 (omega arith) refl (answers v b now (omega arith) has kept since)
 
   -- no branch is chosen
-  pub none_follows : (ty : Option Ty) → IfListed types ty → (how : Use) (t hi : ℕ) → t < hi → (k : List Line) (temps : Temps) (s : State) →
+  pub none_follows : (ty : Option Ty) → IsPlainIf c ty → (how : Use) (site t hi : ℕ) → t < hi → (k : List Line) (temps : Temps) (s : State) →
       Runs c.fixed (Lands c k t hi temps s.world (Has t)) 8 2 (there c (default_line types modes t ty how ∷ L.Label (label End t) ∷ k) temps s.world) s.meter
-      (handed_on here how ty (default_for here.facts ty) s)
-  none_follows ty listed how t hi less k temps s =
-      brings 3 (omega arith) (omega arith) (default_follows c top room names Open how ty listed t (L.Label (label End t) ∷ k) temps s)
+      (handed_on here how site ty (default_for here.facts ty) s)
+  none_follows ty listed how site t hi less k temps s =
+      brings 3 (omega arith) (omega arith) (default_follows c top room names Open how site ty listed t (L.Label (label End t) ∷ k) temps s)
       (λ v b now has kept since. ends_at t hi k temps now s.world v b (kept_wide (omega arith) (omega (arith, less)) kept) since has)
 
   -- ---- by conditions
 
-  pub no_choice : (ty : Option Ty) → IfListed types ty → (how : Use) (t : ℕ) → ChoiceFollows NoArg ty how t
-  no_choice ty listed how t u less k temps s h = spares 8 2 (omega arith) (omega arith) (none_follows ty listed how t (u + 0) (omega (arith, less)) k temps s)
+  pub no_choice : (ty : Option Ty) → IsPlainIf c ty → (how : Use) (site t : ℕ) → ChoiceFollows NoArg ty how site t
+  no_choice ty listed how site t u less k temps s h =
+      spares 8 2 (omega arith) (omega arith) (none_follows ty listed how site t (u + 0) (omega (arith, less)) k temps s)
 
-  pub last_choice : (last : Expr) → ExprFollows last → (ty : Option Ty) → IfListed types ty → (how : Use) (t : ℕ) → ChoiceFollows
-      (ByValue last NoArg) ty how t
-  last_choice last follows ty listed how t u less k temps s h =
-      brings 13 (omega arith) (omega arith) (valued last follows ty listed how t u less (L.Label (label End t) ∷ k) temps s h)
+  pub last_choice : (last : Expr) → BranchFollows last → (ty : Option Ty) → IsPlainIf c ty → (how : Use) (site t : ℕ) → ChoiceFollows
+      (ByValue last NoArg) ty how site t
+  last_choice last follows ty listed how site t u less k temps s h =
+      brings 13 (omega arith) (omega arith) (valued last follows ty listed how site t u less (L.Label (label End t) ∷ k) temps s h)
       (λ v b now has kept since.
       spares 3 2 (omega arith) (omega arith) (ends_at t (u + widths (ByValue last NoArg)) k temps now s.world v b
       (kept_wide (omega arith) (omega arith) kept) since has))
 
-  module _ (condition value : Expr) (rest : Args) (gives : ExprFollows value) (ty : Option Ty) (listed : IfListed types ty) (how : Use) (t : ℕ)
-      (more : ChoiceFollows rest ty how t) (n : ℕ) (less : t < n) (k : List Line) where
+  module _ (condition value : Expr) (rest : Args) (gives : BranchFollows value) (ty : Option Ty) (listed : IsPlainIf c ty) (how : Use) (site t : ℕ)
+      (more : ChoiceFollows rest ty how site t) (n : ℕ) (less : t < n) (k : List Line) where
     abbrev n2 : ℕ
     n2 = n + width condition
 
@@ -278,11 +301,11 @@ module _ (c : Spot) (top : Bool) (room : ℕ → Type 0) (names : (proc place : 
 
     chosen : (b : Bool) (x : Value) (now : Temps) (d : State) → is_true (number_of x) ≡ b → now.values n ≡ Some x → Stands c room Open d.world →
         Runs c.fixed (Lands c k t top_of now d.world (Has t)) 14 2 (there c (L.Unless n (label Arm n) ∷ value_lines) now d.world) d.meter
-        (then_do (branch {A = Does Value} b (eval value Owned here) (first_value rest ty here) d) (onward (handed_on here how ty)))
+        (then_do (branch {A = Does Value} b (branch_of value) (first_value rest ty here) d) (onward (handed_on here how site ty)))
     chosen true x now d is has h =
         goes c 13 1 (omega arith) (unless_is c now d.world n (label Arm n) x true has is)
         (brings 14 (omega arith) (omega arith)
-        (valued value gives ty listed how t n2 (omega (arith, less)) (L.Jump (label End t) ∷ L.Label (label Arm n) ∷ others) now d h)
+        (valued value gives ty listed how site t n2 (omega (arith, less)) (L.Jump (label End t) ∷ L.Label (label Arm n) ∷ others) now d h)
         (λ v b last has kept since.
         leaps c 13 (label End t) (omega arith) refl end_is_found
         (spares 3 2 (omega arith) (omega arith) (ends_at t top_of k now last d.world v b (kept_wide (omega arith) (omega arith) kept) since has))))
@@ -292,18 +315,18 @@ module _ (c : Spot) (top : Bool) (room : ℕ → Type 0) (names : (proc place : 
         (further {lo' = t} {hi' = n3 + widths rest} (omega arith) (omega arith) (kept_none t top_of now) (since_none c.level d.world) (λ v n p kept. p)
         (more n3 (omega (arith, less)) k now d h)))
 
-  pub a_choice : (condition value : Expr) (rest : Args) → ExprFollows condition → ExprFollows value → (ty : Option Ty) → IfListed types ty → (how : Use)
-      (t : ℕ) →
-      ChoiceFollows rest ty how t → ChoiceFollows (ByValue condition (ByValue value rest)) ty how t
-  a_choice condition value rest tests gives ty listed how t more n less k temps s h =
+  pub a_choice : (condition value : Expr) (rest : Args) → AloneFollows condition → BranchFollows value → (ty : Option Ty) → IsPlainIf c ty → (how : Use)
+      (site t : ℕ) →
+      ChoiceFollows rest ty how site t → ChoiceFollows (ByValue condition (ByValue value rest)) ty how site t
+  a_choice condition value rest tests gives ty listed how site t more n less k temps s h =
       let number = (node_of condition).number in
-      let go : Value → Does Value = λ x. at_node number Decides (branch (is_true (number_of x)) (eval value Owned here) (first_value rest ty here)) in
-      let lines_behind = L.Unless n (label Arm n) ∷ value_lines condition value rest gives ty listed how t more n less k in
-      after_both go (onward (handed_on here how ty)) 14 (omega arith) (omega arith)
-      (tests Owned n lines_behind temps (with_trail (Point number Asks ∷ s.trail) s) h)
+      let go : Value → Does Value = λ x. at_node number Decides (branch (is_true (number_of x)) (branch_of value) (first_value rest ty here)) in
+      let lines_behind = L.Unless n (label Arm n) ∷ value_lines condition value rest gives ty listed how site t more n less k in
+      after_both go (onward (handed_on here how site ty)) 14 (omega arith) (omega arith)
+      (tests n lines_behind temps (with_trail (Point number Asks ∷ s.trail) s) h)
       (λ x b now comes kept since.
-      further {lo' = t} {hi' = top_of condition value rest gives ty listed how t more n less k} (omega arith) (omega arith)
+      further {lo' = t} {hi' = top_of condition value rest gives ty listed how site t more n less k} (omega arith) (omega arith)
       (kept_wide (omega (arith, less)) (omega arith) kept) since (λ v n p kept. p)
-      (chosen condition value rest gives ty listed how t more n less k (is_true (number_of x)) x now
-      (with_trail (Point number Decides ∷ b.trail) b) refl comes.value
+      (chosen condition value rest gives ty listed how site t more n less k (is_true (number_of x)) x now
+      (with_trail (Point number Decides ∷ b.trail) b) refl comes
       (stands_since h since)))

@@ -17,7 +17,7 @@ use Rattle.flat_code.specs.declared.line.Line.{Line}
 use Rattle.flat_code.specs.declared.line.Line.TheVariants as L
 use Rattle.flat_code.specs.Whole.{label_in, target, back_to}
 use Rattle.flattening.specs.declared.numbers.Purpose.TheVariants.{Arm, End, Next}
-use Rattle.flattening.specs.Alike.{value_name, location_name, name_of, gives_text}
+use Rattle.flat_code.specs.Alike.{value_name, location_name, name_of, gives_text}
 use Rattle.flattening.specs.ExprLines.{froms, find_lines, settle_lines, label_tests, value_tests, arm_label, act_line, none_fits, handed_on}
 use Rattle.flattening.specs.ExprLines.{lines, aim_lines, ready_lines, choice_lines, select_lines, arm_lines, begin_line}
 use Rattle.flattening.specs.Numbering.{if_number, width, width_at, label, looked_count, arm_count, looked_from}

@@ -20,7 +20,7 @@ use Rattle.flattening.specs.Formed.{HasSelector, HeadFits}
 use Rattle.flattening.specs.Numbering.{type_number, width, width_at, widths, arm_count, width_in, width_of, label, looked_from, behind_selector}
 use Rattle.flattening.specs.StmtLines.{Exits, leaving_by, in_loop, back_lines, result_line, block_tests, second, selector_lines, test_lines, look_up}
 use Rattle.flattening.specs.StmtLines.{lines_in, lines_of, branch_lines, arm_blocks}
-use Rattle.flattening.specs.Alike.{name_of}
+use Rattle.flat_code.specs.Alike.{name_of}
 use Rattle.flattening.proofs.Costs.{Front, all_tests, In, IsQuiet, Costs, Kept, ◌>>◌, Rules}
 use Rattle.flattening.proofs.CostExprs.{P, none, most, quiet, backward, jump, unless, freed, freed_toward, freed_back, given, marked, once, ended, over, past}
 use Rattle.flattening.proofs.CostExprs.{find_cost, again_cost, tests, chosen, arm_then, other_there, arm_here, later_arm, starts, Told, outer_aim, looked}

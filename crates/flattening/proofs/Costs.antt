@@ -17,7 +17,7 @@ use Rattle.flat_code.specs.declared.line.Line.{Line}
 use Rattle.flat_code.specs.declared.line.Line.TheVariants as L
 use Rattle.flat_code.specs.Whole.{label_in, target, back_to}
 use Rattle.flattening.specs.declared.numbers.Purpose.TheVariants.{Arm, End, Next, Turn}
-use Rattle.flattening.specs.Alike.{value_name, location_name, name_of, gives_text}
+use Rattle.flat_code.specs.Alike.{value_name, location_name, name_of, gives_text}
 use Rattle.flattening.specs.ExprLines.{froms, begin_line, act_line, none_fits, handed_on}
 use Rattle.flattening.specs.Formed.{HasSelector, HeadFits}
 use Rattle.flattening.specs.Numbering.{type_number, if_number, width, width_at, widths, arm_count, width_in, width_of, label, looked_from, behind_selector}

@@ -1,6 +1,7 @@
 -- Flat code follows `for` over ints.
-use Rattle.std.proofs.Common.{◌≡◌, ℕ, suc, ◌+◌, ◌*◌, ◌<◌, ◌⊎◌, inl, inr, Bool, true, false, List, ◌∷◌, Some, refl, sym, ap, ◌∙◌, subst, arith}
-use Rattle.std.specs.Prelude.{ℤ, pos, ◌+ℤ◌, int_lt}
+use Rattle.std.proofs.Common.{◌≡◌, ℕ, suc, ◌+◌, ◌*◌, ◌<◌, ◌⊎◌, inl, inr, Bool, true, false, ◌&&◌, List, ◌∷◌, Some, refl, sym, ap, ◌∙◌, subst, arith}
+use Rattle.std.specs.Prelude.{ℤ, pos, ◌+ℤ◌, int_lt, not}
+use Rattle.std.proofs.lemmas.Bool.{and_parts, false≢true}
 use Rattle.arc_base.specs.BigStep.{then_do, Turn as TurnOf, Again, Leave as LeaveLoop}
 use Rattle.nim_types.specs.Types.{Ty}
 use Rattle.nim_program.specs.declared.expr.Node.{Node}
@@ -15,8 +16,10 @@ use Rattle.nim_meaning.specs.Acts.{Outcome, On, Does, branch, worked, left_with,
 use Rattle.nim_meaning.specs.Acts as acting
 use Rattle.nim_meaning.specs.Deeds.{Opens, changed}
 use Rattle.nim_meaning.specs.Deeds as deeds
-use Rattle.nim_meaning.specs.Here.{Here}
-use Rattle.nim_meaning.specs.Meaning.{exec_all, fill, scoped, at_node, limit, count_turn, ready_operand, ready_rest}
+use Rattle.nim_meaning.specs.Here.{Here, is_hooked}
+use Rattle.nim_meaning.specs.Runs.{are_plain, is_plain_stmt, is_plain_block}
+use Rattle.nim_meaning.specs.Meaning.{exec_all, fill, scoped, at_node, limit, count_turn, head_values, ready_operand, ready_rest}
+use Rattle.nim_meaning.proofs.ForCallers.{not_true}
 use Rattle.nim_meaning.specs.Aims.{Ready, Evaluated}
 use Rattle.flat_code.specs.declared.line.Line.{Line}
 use Rattle.flat_code.specs.declared.line.Line.TheVariants as L
@@ -26,7 +29,7 @@ use Rattle.flat_code.specs.Lines as does
 use Rattle.flattening.specs.declared.numbers.Purpose.TheVariants.{End, Next, Turn}
 use Rattle.flattening.specs.Numbering.{width, widths, width_in, width_of, label}
 use Rattle.flattening.specs.ExprLines.{ready_lines}
-use Rattle.flattening.specs.StmtLines.{Exits, in_loop, lines_of}
+use Rattle.flattening.specs.StmtLines.{Exits, in_loop, lines_of, lines_in}
 use Rattle.flattening.specs.Flattened.{modes_of}
 use Rattle.flattening.specs.Formed.{Scope, With, StmtFormed}
 use Rattle.flattening.proofs.Runs.{M, Runs, walks_spared, pays, spares, lands, Turned}
@@ -37,6 +40,7 @@ use Rattle.flattening.proofs.PutsParts.{puts_ready}
 use Rattle.flattening.proofs.PutsParts.{puts_stmts}
 use Rattle.flattening.proofs.Spots.{Spot, here_of, there, scene, does_at, after, walks_line, walks_leap, goes, turns, enters}
 use Rattle.flattening.proofs.Standing.{grounded, Stands, stands_since}
+use Rattle.flattening.proofs.Groups.{head_alone}
 use Rattle.flattening.proofs.Acting.{CallsFollow}
 use Rattle.flattening.proofs.Evaluating.{args_follow}
 use Rattle.flattening.proofs.Leaving.{Around, Reaches, Leads, leads_on, Left, Looped, inner}
@@ -54,6 +58,9 @@ module _ (c : Spot) (top : Bool) (room : ℕ → Type 0) (names : (proc place : 
 
   abbrev here : Here
   here = here_of c
+
+  abbrev hooked : Ty → Bool
+  hooked = is_hooked c.fixed.program.facts
 
   -- ---- the lines that test a number
 
@@ -81,10 +88,17 @@ module _ (c : Spot) (top : Bool) (room : ℕ → Type 0) (names : (proc place : 
 
   module _ (node : Node) (place : Declared) (inclusive : Bool) (first last : Expr) (rest : Args) (body : Stmts)
       (follows : BlockFollows c top room names calls outermost body) (inside : Bool) (Open : Scope)
-      (f : StmtFormed (grounded c top room names) inside Open (Loop node (Count place inclusive) (ByValue first (ByValue last rest)) body)) (exits : Exits)
+      (f : StmtFormed (grounded c top room names) inside Open (Loop node (Count place inclusive) (ByValue first (ByValue last rest)) body))
+      (p : is_plain_stmt hooked (Loop node (Count place inclusive) (ByValue first (ByValue last rest)) body) ≡ true) (exits : Exits)
       (around : Around c exits inside) (t : ℕ) (k : List Line) where
     abbrev head : Args
     head = ByValue first (ByValue last rest)
+
+    place_plain : (not (hooked place.of) ≡ true) × ((are_plain hooked false head && is_plain_block hooked body) ≡ true)
+    place_plain = and_parts (not (hooked place.of)) (are_plain hooked false head && is_plain_block hooked body) p
+
+    plain : (are_plain hooked false head ≡ true) × (is_plain_block hooked body ≡ true)
+    plain = and_parts (are_plain hooked false head) (is_plain_block hooked body) place_plain.1
 
     abbrev counter : ℕ
     counter = suc t
@@ -190,20 +204,20 @@ module _ (c : Spot) (top : Bool) (room : ℕ → Type 0) (names : (proc place : 
           Kept t hi temps now → Since c.level world d.world →
           Runs c.fixed (Turned Inv Ends u) 12 6 (there c turn_lines now d.world) d.meter (then_do (then_do (acts i d) (next (i +ℤ pos 1))) turn_of)
       turn_follows i u now d at ends few kept since =
-          let p = place.number in
+          let n1 = place.number in
           let v : Value = Number i in
           let d1 : State = worked 4 (with_trail (Point node.number Fills ∷ d.trail) d) in
-          let d2 : State = record d1 { world = changed (Opens c.level p (Holds v)) d.world } in
+          let d2 : State = record d1 { world = changed (Opens c.level n1 (Holds v)) d.world } in
           let w1 = some_width last in
           goes c 11 1 (omega arith) refl
           (pays 59 4 (omega arith)
-          (goes c 54 5 (omega arith) (ap (λ o. using o (λ v. does.acts (scene c now d.world) (deeds.costs 1 (does.fills c.level p v)))) at)
+          (goes c 54 5 (omega arith) (ap (λ o. using o (λ v. does.acts (scene c now d.world) (deeds.costs 1 (does.fills c.level n1 v)))) at)
           (body_ends c around t ending next_lines t hi temps world Inv {q = 54} (i +ℤ pos 1) u (omega arith) few (omega arith) (omega arith) kept
-          (since_then since (since_slot c.level d.world c.level p (Holds v)))
+          (since_then since (since_slot c.level d.world c.level n1 (Holds v)))
           (spares 0 0 (omega arith) (omega arith)
-          (scope_closes c around_body here place (last_of body)
-          (follows true (With (grounded c top room names) Open p) f.4 (in_loop exits t) around_body n next_lines body_reaches body_leads now d2
-          (stands_with top names p (Holds v) outermost f.3 (stands_since h since)))))
+          (scope_closes c around_body here place (last_of body) (not_true (hooked place.of) place_plain.0)
+          (follows true (With (grounded c top room names) Open n1) f.3 plain.1 (in_loop exits t) around_body n next_lines body_reaches body_leads now d2
+          (stands_with top names n1 (Holds v) outermost f.2 (stands_since h since)))))
           (λ b last fewer kept2 since2.
           goes c 53 1 (omega arith) refl
           (lands (Again (i +ℤ pos 1)) b (omega arith) (
@@ -218,7 +232,7 @@ module _ (c : Spot) (top : Bool) (room : ℕ → Type 0) (names : (proc place : 
                 number = refl;
                 ends = value_before end (omega (arith, w1)) kept2 ∙ ends;
                 kept = kept_then kept (kept_wide (omega arith) (omega arith) kept2);
-                since = since_then since (since_then (since_slot c.level d.world c.level p (Holds v)) since2);
+                since = since_then since (since_then (since_slot c.level d.world c.level n1 (Holds v)) since2);
               },
             ),
             fewer,
@@ -300,33 +314,40 @@ module _ (c : Spot) (top : Bool) (room : ℕ → Type 0) (names : (proc place : 
 
   pub counts : (node : Node) (place : Declared) (inclusive : Bool) (head : Args) (body : Stmts) → BlockFollows c top room names calls outermost body →
       StmtFollows c top room names calls outermost (Loop node (Count place inclusive) head body)
-  counts node place inclusive NoArg body follows inside Open f exits around t k r l temps s h = absurd f.0
-  counts node place inclusive (ByPath path rest) body follows inside Open f exits around t k r l temps s h = absurd f.0
-  counts node place inclusive (ByValue first NoArg) body follows inside Open f exits around t k r l temps s h = absurd f.0
-  counts node place inclusive (ByValue first (ByPath path rest)) body follows inside Open f exits around t k r l temps s h = absurd f.0
-  counts node place inclusive (ByValue first (ByValue last rest)) body follows inside Open f exits around t k r l temps s h =
-      let K = ending node place inclusive first last rest body follows inside Open f exits around t k in
-      let lines_next = next_lines node place inclusive first last rest body follows inside Open f exits around t k in
-      let begin = beginning node place inclusive first last rest body follows inside Open f exits around t k in
-      let top_of = hi node place inclusive first last rest body follows inside Open f exits around t k in
+  counts node place inclusive NoArg body follows inside Open f p exits around t k r l temps s h = absurd f.0
+  counts node place inclusive (ByPath path rest) body follows inside Open f p exits around t k r l temps s h = absurd f.0
+  counts node place inclusive (ByValue first NoArg) body follows inside Open f p exits around t k r l temps s h = absurd f.0
+  counts node place inclusive (ByValue first (ByPath path rest)) body follows inside Open f p exits around t k r l temps s h = absurd f.0
+  counts node place inclusive (ByValue first (ByValue last rest)) body follows inside Open f p exits around t k r l temps s h =
+      let K = ending node place inclusive first last rest body follows inside Open f p exits around t k in
+      let lines_next = next_lines node place inclusive first last rest body follows inside Open f p exits around t k in
+      let begin = beginning node place inclusive first last rest body follows inside Open f p exits around t k in
+      let top_of = hi node place inclusive first last rest body follows inside Open f p exits around t k in
       let turn : List Ready → ℤ → Does (TurnOf ℤ (Unit {0})) =
       λ ready. count_turn node.number here place (last_of body) (exec_all body here) (limit inclusive (number_of (ready_operand (ready_rest ready)))) in
-      pays 12 1 (omega arith)
+      let some = plain node place inclusive first last rest body follows inside Open f p exits around t k in
+      let over : List Ready → Does (Unit {0}) = λ ready. loop (turn ready) (number_of (ready_operand ready)) in
+      subst (λ (part : Does (Unit {0})). Runs c.fixed (Left c around k t top_of temps s.world) 0 0
+      (there c (lines_in types modes c.result (Loop node (Count place inclusive) (ByValue first (ByValue last rest)) body) exits t k) temps s.world) s.meter
+      (costs 1 (at_node node.number Begins part) s))
+      (sym (head_alone here (ByValue first (ByValue last rest)) (acting.◌>>=◌ (head_values (ByValue first (ByValue last rest)) here) over) some.0))
+      (pays 12 1 (omega arith)
       (after 12 (omega arith) (omega arith)
-      (args_follow c top room names Open calls (ByValue first (ByValue last rest)) f.1 f.2 (λ i. Owned) 0 (suc t) begin temps
+      (args_follow c top room names Open calls false (ByValue first (ByValue last rest)) f.1 some.0 (λ i. Owned) (λ e. absurd (false≢true e)) 0 (suc t)
+      begin temps
       (with_trail (Point node.number Begins ∷ s.trail) (worked 1 s)) h)
       (λ ready b now ready_is kept since.
       let v = ready_is.0 in
       let more = ready_is.4 in
       let w = more.0 in
-      let invariant = Inv node place inclusive first last rest body follows inside Open f exits around t k l temps s.world h w in
+      let invariant = Inv node place inclusive first last rest body follows inside Open f p exits around t k l temps s.world h w in
       let is : ready ≡ Evaluated (Given v) ∷ Evaluated (Given w) ∷ more.1 = ready_is.2 ∙ ap (λ r. Evaluated (Given v) ∷ r) more.2 in
       subst (λ ready. Runs c.fixed (Left c around k t top_of temps s.world) 12 0 (there c begin now b.world) b.meter
       (loop (turn ready) (number_of (ready_operand ready)) b)) (sym is)
       (loop_ends c around t K lines_next t top_of temps s.world invariant {q = 6} {Q = 0} (omega arith)
       (spares 6 6 (omega arith) (omega arith)
       (runs_loop c around t K lines_next t top_of temps s.world invariant 6 (turn (Evaluated (Given v) ∷ Evaluated (Given w) ∷ more.1))
-      (a_turn node place inclusive first last rest body follows inside Open f exits around t k l temps s.world h w) (number_of v) b
+      (a_turn node place inclusive first last rest body follows inside Open f p exits around t k l temps s.world h w) (number_of v) b
       (there c begin now b.world)
       (inl (record {
         now = now;
@@ -338,4 +359,4 @@ module _ (c : Spot) (top : Bool) (room : ℕ → Type 0) (names : (proc place : 
         kept = kept_wide (omega arith) (omega arith) kept;
         since = since;
       }))))
-      (λ b last kept since. goes c 0 1 (omega arith) refl (stays c around b last (omega arith) kept since)))))
+      (λ b last kept since. goes c 0 1 (omega arith) refl (stays c around b last (omega arith) kept since))))))

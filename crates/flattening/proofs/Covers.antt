@@ -18,10 +18,10 @@ use Rattle.flat_code.specs.declared.place.FlatPlace.{FlatPlace}
 use Rattle.flat_code.specs.declared.place.PlaceKind.{PlaceKind}
 use Rattle.flat_code.specs.Scene.{Known}
 use Rattle.flat_code.specs.Sizes.{places_bytes}
-use Rattle.flattening.specs.Alike.{value_name, name_of, is_named, gives_text}
+use Rattle.flat_code.specs.Alike.{value_name, name_of, is_named, gives_text}
 use Rattle.flattening.specs.Numbering.{type_number}
 use Rattle.flattening.specs.Places.{place}
-use Rattle.flattening.specs.PlainCode.{is_temporary, gets_text, has_hooks, IsPlainPlace, ArePlainPlaces, ReadsPlain, ReadPlain}
+use Rattle.flat_code.specs.PlainCode.{is_temporary, gets_text, has_hooks, IsPlainPlace, ArePlainPlaces, ReadsPlain, ReadPlain}
 use Rattle.flattening.proofs.Listed.{listed}
 use Rattle.flattening.proofs.Simple.{never, IsFine}
 

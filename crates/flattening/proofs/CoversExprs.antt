@@ -1,6 +1,6 @@
 -- The places of an expression, and its lines: texts come to their temporaries, all other places have types without hooks; and for each byte that counts
 -- there are two at most.
-use Rattle.std.proofs.Common.{◌≡◌, ℕ, suc, ◌+◌, ◌*◌, ◌≤◌, inl, inr, Bool, true, false, ◌&&◌, List, [], ◌∷◌, ◌++◌, Option, Some, None, refl, sym, ap, ap₂}
+use Rattle.std.proofs.Common.{◌≡◌, ℕ, suc, ◌+◌, ◌*◌, ◌≤◌, ◌⊎◌, inl, inr, Bool, true, false, ◌&&◌, List, [], ◌∷◌, ◌++◌, Option, Some, None, refl, sym, ap, ap₂}
 use Rattle.std.proofs.Common.{◌∙◌, append_assoc, arith}
 use Rattle.std.specs.Prelude.{◌||◌, if◌then◌else◌}
 use Rattle.std.proofs.lemmas.Bool.{eq-eqb}
@@ -9,6 +9,7 @@ use Rattle.nim_types.specs.Table.{type_at as type_by_number}
 use Rattle.nim_program.specs.declared.expr.Node.{Node}
 use Rattle.nim_program.specs.declared.operation.Short.{Short}
 use Rattle.nim_program.specs.declared.operation.Short.TheVariants.{And, Or}
+use Rattle.nim_program.specs.declared.operation.Operation.TheVariants as O
 use Rattle.nim_program.specs.declared.operation.Use.{Use}
 use Rattle.nim_program.specs.declared.operation.Use.TheVariants.{Owned, Looked}
 use Rattle.nim_program.specs.declared.program.Mode.{Mode}
@@ -22,8 +23,8 @@ use Rattle.nim_program.specs.Sizes.{type_bytes, value_bytes, own_bytes}
 use Rattle.nim_program.specs.Typed.{is_fresh, behind_first, is_located}
 use Rattle.nim_program.specs.Uses.{use_of}
 use Rattle.nim_meaning.specs.Here.{is_hooked, gives_hooked}
-use Rattle.nim_meaning.specs.LeftOut.{any_hooked}
-use Rattle.nim_meaning.specs.Shapes.{is_covered, is_last_value}
+use Rattle.nim_meaning.specs.LeftOut.{any_hooked, writes_literals}
+use Rattle.nim_meaning.specs.Shapes.{is_covered, is_last_value, is_lent}
 use Rattle.flat_code.specs.declared.line.From.{From}
 use Rattle.flat_code.specs.declared.line.Line.{Line}
 use Rattle.flat_code.specs.declared.line.Line.TheVariants as L
@@ -31,17 +32,19 @@ use Rattle.flat_code.specs.declared.line.Piece.TheVariants as P
 use Rattle.flat_code.specs.declared.place.FlatPlace.{FlatPlace}
 use Rattle.flat_code.specs.declared.place.PlaceKind.{PlaceKind}
 use Rattle.flat_code.specs.declared.place.PlaceKind.TheVariants as K
+use Rattle.flat_code.specs.Pieces.{pieces_of}
 use Rattle.flat_code.specs.Sizes.{kind_bytes, places_bytes}
 use Rattle.flattening.specs.declared.numbers.Purpose.TheVariants.{End, Next, Arm}
-use Rattle.flattening.specs.Alike.{value_name}
+use Rattle.flat_code.specs.Alike.{value_name, is_one_text}
 use Rattle.flattening.specs.Numbering.{type_number, if_number, all_numbers, width, width_at, label, arm_count, looked_from, selector_from}
 use Rattle.flattening.specs.ExprLines.{froms, find_lines, settle_lines, label_tests, value_tests, arm_label, act_line, none_fits, handed_on, early_lines}
 use Rattle.flattening.specs.ExprLines.{lines, aim_lines, ready_lines, choice_lines, select_lines, arm_lines, begin_line}
 use Rattle.flattening.specs.Places.{place, temporary, read_place, selector_place, expr_places, path_places, operand_places}
-use Rattle.flattening.specs.PlainCode.{gets_text, any_has_hooks, ArePlainPlaces, ReadsPlain}
+use Rattle.flat_code.specs.PlainCode.{gets_text, any_has_hooks, ArePlainPlaces, ReadsPlain}
+use Rattle.flattening.proofs.LineNames.{literal_no_text}
 use Rattle.flattening.proofs.Listed.{listed}
 use Rattle.flattening.proofs.Simple.{never, act_text, is_literal, AllValues, LabelsFit, IsFine, IfFine, IfAmong, OfText, Reads, IsSmall}
-use Rattle.flattening.proofs.Simple.{SmallFirst, IsSimple, IsSimplePath, AreSimple}
+use Rattle.flattening.proofs.Simple.{SmallFirst, IsSimple, IsOperand, IsSimplePath, AreSimple}
 use Rattle.flattening.proofs.Covers.{number_within, bytes_least, known, Covers, covers_none, covers_line, ◌>>◌, ◌~>◌, ◌<~◌, covers_most, turned, covers_as}
 use Rattle.flattening.proofs.Covers.{place_plain, value_bytes as bytes_same}
 
@@ -93,7 +96,7 @@ module _ (types : List Ty) (modes : (proc position : ℕ) → Mode) (facts : Fac
 
   mutual
     value_among : (e : Expr) → IsSimple types facts e → IfAmong types facts (type_of e)
-    value_among (Apply node ty act operands) s = text_among (act_text act) ty s.0
+    value_among (Apply node ty act operands) s = fine_among ty s.0.1
     value_among (Read path) s = path_among path s.1
     value_among (Early node ty short left right) s = s.0.0
     value_among (Choose node ty chooser parts) s = fine_among ty s.0
@@ -105,13 +108,18 @@ module _ (types : List Ty) (modes : (proc position : ℕ) → Mode) (facts : Fac
     path_among (Element node ty base index constant) s = s.0.0
     path_among (Deref ty base) s = absurd s
 
-  of_false : (b : Bool) (ty : Option Ty) → b ≡ false → OfText types facts b ty → IfFine types facts ty
-  of_false true ty e h = never (sym e)
-  of_false false ty e h = h
+  operand_among : (written : Bool) (e : Expr) → IsOperand types facts written e → IfAmong types facts (type_of e)
+  operand_among false e s = value_among e s
+  operand_among true (Apply node ty (Giving (Characters text)) NoArg) s = s
+  operand_among true e s = value_among e s
+
+  no_text : (b : Bool) (ty : Option Ty) → b ≡ false → IfFine types facts ty → OfText types facts b ty
+  no_text true ty e h = never (sym e)
+  no_text false ty e h = h
 
   mutual
     value_fine : (e : Expr) → is_literal e ≡ false → IsSimple types facts e → IfFine types facts (type_of e)
-    value_fine (Apply node ty act operands) e s = of_false (act_text act) ty e s.0
+    value_fine (Apply node ty act operands) e s = s.0.1
     value_fine (Read path) e s = path_fine path s.1
     value_fine (Early node ty short left right) e s = s.0
     value_fine (Choose node ty chooser parts) e s = s.0
@@ -129,13 +137,13 @@ module _ (types : List Ty) (modes : (proc position : ℕ) → Mode) (facts : Fac
   one_same None rest b among e = e
   one_same (Some ty) rest b among e = ap₂ (λ x y. x || y) (ap (is_hooked facts) (listed types ty among)) e
 
-  hooks_same : (args : Args) → AreSimple types facts args →
+  hooks_same : (written : Bool) (args : Args) → AreSimple types facts written args →
       any_has_hooks (known types facts) (all_numbers types (types_in args)) ≡ any_hooked facts (types_in args)
-  hooks_same NoArg s = refl
-  hooks_same (ByValue e rest) s =
-      one_same (type_of e) (all_numbers types (types_in rest)) (any_hooked facts (types_in rest)) (value_among e s.0) (hooks_same rest s.1)
-  hooks_same (ByPath path rest) s =
-      one_same (type_at path) (all_numbers types (types_in rest)) (any_hooked facts (types_in rest)) (path_among path s.0) (hooks_same rest s.1)
+  hooks_same written NoArg s = refl
+  hooks_same written (ByValue e rest) s =
+      one_same (type_of e) (all_numbers types (types_in rest)) (any_hooked facts (types_in rest)) (operand_among written e s.0) (hooks_same written rest s.1)
+  hooks_same written (ByPath path rest) s =
+      one_same (type_at path) (all_numbers types (types_in rest)) (any_hooked facts (types_in rest)) (path_among path s.0) (hooks_same written rest s.1)
 
   -- ---- lines for no places, and for one
 
@@ -226,15 +234,21 @@ module _ (types : List Ty) (modes : (proc position : ℕ) → Mode) (facts : Fac
   act_right node t (Giving (Characters text)) how (Some ty) of from s k =
       (inr (number_within types ty s, inr (refl, text_given t how (type_number types ty) text k)), tt)
 
-  act_reads : (t : ℕ) (act : Act) (how : Use) (ty : Option Ty) (operands : Args) (from : List From) → AreSimple types facts operands →
-      Reads types facts act (types_in operands) → ReadsPlain (known types facts) (act_line types modes t act how ty (types_in operands) from)
-  act_reads t (Doing operation) how ty operands from s (inl e) = inl e
-  act_reads t (Doing operation) how ty operands from s (inr e) = inr (hooks_same operands s ∙ e)
-  act_reads t (Building fields) how None operands from s r = tt
-  act_reads t (Building fields) how (Some ty) operands from s r = tt
-  act_reads t (Giving literal) how None operands from s r = tt
-  act_reads t (Giving literal) how (Some ty) operands from s r = tt
-  act_reads t (Calling proc given) how ty operands from s r = tt
+  no_text_or_lent : (literal : Literal) (how : Use) → (act_text (Giving literal) ≡ false) ⊎ (is_lent how ≡ true) →
+      (is_one_text (pieces_of literal) ≡ false) ⊎ (is_lent how ≡ true)
+  no_text_or_lent literal how (inl e) = inl (literal_no_text literal e)
+  no_text_or_lent literal how (inr e) = inr e
+
+  act_reads : (t : ℕ) (act : Act) (how : Use) (ty : Option Ty) (operands : Args) (from : List From) → (act_text act ≡ false) ⊎ (is_lent how ≡ true) →
+      AreSimple types facts (writes_literals act) operands → Reads types facts act (types_in operands) →
+      ReadsPlain (known types facts) (act_line types modes t act how ty (types_in operands) from)
+  act_reads t (Doing operation) how ty operands from lent s (inl e) = inl e
+  act_reads t (Doing operation) how ty operands from lent s (inr e) = inr (hooks_same (writes_literals (Doing operation)) operands s ∙ e)
+  act_reads t (Building fields) how None operands from lent s r = tt
+  act_reads t (Building fields) how (Some ty) operands from lent s r = tt
+  act_reads t (Giving literal) how None operands from lent s r = no_text_or_lent literal how lent
+  act_reads t (Giving literal) how (Some ty) operands from lent s r = no_text_or_lent literal how lent
+  act_reads t (Calling proc given) how ty operands from lent s r = tt
 
   temporary_bytes : (node : Node) (ty : Option Ty) (t : ℕ) → IfAmong types facts ty →
       places_bytes (known types facts) (temporary types node ty K.Temp t) + word_if ty ≤ 2 * value_bytes facts ty
@@ -242,17 +256,18 @@ module _ (types : List Ty) (modes : (proc position : ℕ) → Mode) (facts : Fac
   temporary_bytes node (Some ty) t among =
       let e = bytes_same types facts ty among in let l = bytes_least facts ty in omega (arith, e, l)
 
-  acted : (node : Node) (ty : Option Ty) (act : Act) (operands : Args) (how : Use) (t : ℕ) → IsSimple types facts (Apply node ty act operands) →
+  acted : (node : Node) (ty : Option Ty) (act : Act) (operands : Args) (how : Use) (t : ℕ) → OfText types facts (act_text act) ty →
+      (act_text act ≡ false) ⊎ (is_lent how ≡ true) → Reads types facts act (types_in operands) × AreSimple types facts (writes_literals act) operands →
       C (temporary types node ty K.Temp t) (word_if ty) (2 * value_bytes facts ty)
       (λ k. act_line types modes t act how ty (types_in operands) (froms operands (suc t)) ∷ k)
-  acted node ty act operands how t s =
+  acted node ty act operands how t of lent s =
       let line = silent (act_line types modes t act how ty (types_in operands) (froms operands (suc t)))
-      (act_reads t act how ty operands (froms operands (suc t)) s.2 s.1) in
+      (act_reads t act how ty operands (froms operands (suc t)) lent s.1 s.0) in
       record {
-        right = act_right node t act how ty (types_in operands) (froms operands (suc t)) s.0;
+        right = act_right node t act how ty (types_in operands) (froms operands (suc t)) of;
         keeps = line.keeps;
         reads = line.reads;
-        bytes = temporary_bytes node ty t (text_among (act_text act) ty s.0);
+        bytes = temporary_bytes node ty t (text_among (act_text act) ty of);
       }
 
   -- ---- paths
@@ -335,6 +350,24 @@ module _ (types : List Ty) (modes : (proc position : ℕ) → Mode) (facts : Fac
   no_fit : (t : ℕ) (ty : Option Ty) (how : Use) → C [] 0 0 (λ k. none_fits types modes t ty how ∷ k)
   no_fit t ty how = silent (none_fits types modes t ty how) (inr refl)
 
+  lent_uses : (act : Act) → writes_literals act ≡ true → (i : ℕ) → is_lent (use_of modes act i) ≡ true
+  lent_uses (Doing O.Echo) e i = refl
+  lent_uses (Doing operation) e i = never e
+  lent_uses (Building fields) e i = never e
+  lent_uses (Giving literal) e i = never e
+  lent_uses (Calling proc given) e i = never e
+
+  -- an operand, which is a text only where it is lent
+  operand : (written : Bool) (e : Expr) (how : Use) (t : ℕ) → (written ≡ true → is_lent how ≡ true) → IsOperand types facts written e →
+      (IsSimple types facts e → C (expr_places types e t) (led_spare e) (2 * W e) (lines types modes e how t)) →
+      C (expr_places types e t) (led_spare e) (2 * W e) (lines types modes e how t)
+  operand false e how t lent s go = go s
+  operand true (Apply node ty (Giving (Characters text)) NoArg) how t lent s go =
+      turned types facts (temporary types node ty K.Temp t) []
+      (covers_most types facts _ _ (omega arith)
+      (covers_none types facts >> (settle NoArg (suc t) ~> acted node ty (Giving (Characters text)) NoArg how t s (inr (lent refl)) (tt, tt))))
+  operand true e how t lent s go = go s
+
   -- behind the last value nothing follows
   last_none : (covered : Bool) (rest : Args) (u : ℕ) → covered && is_last_value rest ≡ true → operand_places types rest u ≡ []
   last_none true NoArg u h = refl
@@ -359,7 +392,9 @@ module _ (types : List Ty) (modes : (proc position : ℕ) → Mode) (facts : Fac
     expr (Apply node ty act operands) how t s =
         turned types facts (temporary types node ty K.Temp t) (operand_places types operands (suc t))
         (covers_most types facts _ _ (omega arith)
-        (ready operands (use_of modes act) 0 (suc t) s.2 >> (settle operands (suc t) ~> acted node ty act operands how t s)))
+        (ready (writes_literals act) operands (use_of modes act) 0 (suc t) (lent_uses act) s.2
+        >> (settle operands (suc t)
+        ~> acted node ty act operands how t (no_text (act_text act) ty s.0.0 s.0.1) (inl s.0.0) (s.1, s.2))))
     expr (Read path) how t s =
         got path t (L.Get t t how (node_at path).number (if_number types (type_at path))) tt s.0 s.1 (aim path t s.1)
     expr (Early node ty short left right) how t s =
@@ -390,15 +425,17 @@ module _ (types : List Ty) (modes : (proc position : ℕ) → Mode) (facts : Fac
         >> (aim base (suc t) s.1 >> expr index Owned (suc t + width_at base) s.2))
     aim (Deref ty base) t s = absurd s
 
-    pub ready : (args : Args) (uses : (position : ℕ) → Use) (i t : ℕ) → AreSimple types facts args →
-        C (operand_places types args t) 0 (2 * WA args) (ready_lines types modes args uses i t)
-    ready NoArg uses i t s = covers_none types facts
-    ready (ByValue e rest) uses i t s =
-        covers_most types facts 0 _ (omega arith) (expr e (uses i) t s.0 >> ready rest uses (suc i) (t + width e) s.1)
-    ready (ByPath path rest) uses i t s =
-        covers_most types facts 0 _ (omega arith) (aim path t s.0 >> ready rest uses (suc i) (t + width_at path) s.1)
+    pub ready : (written : Bool) (args : Args) (uses : (position : ℕ) → Use) (i t : ℕ) → (written ≡ true → (i : ℕ) → is_lent (uses i) ≡ true) →
+        AreSimple types facts written args → C (operand_places types args t) 0 (2 * WA args) (ready_lines types modes args uses i t)
+    ready written NoArg uses i t lent s = covers_none types facts
+    ready written (ByValue e rest) uses i t lent s =
+        covers_most types facts 0 _ (omega arith)
+        (operand written e (uses i) t (λ h. lent h i) s.0 (λ simple. expr e (uses i) t simple)
+        >> ready written rest uses (suc i) (t + width e) lent s.1)
+    ready written (ByPath path rest) uses i t lent s =
+        covers_most types facts 0 _ (omega arith) (aim path t s.0 >> ready written rest uses (suc i) (t + width_at path) lent s.1)
 
-    choice : (parts : Args) (ty : Option Ty) (how : Use) (t u : ℕ) → AreSimple types facts parts → AllValues parts →
+    choice : (parts : Args) (ty : Option Ty) (how : Use) (t u : ℕ) → AreSimple types facts false parts → AllValues parts →
         C (operand_places types parts u) 0 (2 * WA parts) (choice_lines types modes parts ty how t u)
     choice NoArg ty how t u s a = no_fit t ty how
     choice (ByPath path rest) ty how t u s a = absurd a
@@ -414,7 +451,7 @@ module _ (types : List Ty) (modes : (proc position : ℕ) → Mode) (facts : Fac
         ~> (silent (L.Jump (label End t)) tt
         ~> (silent (L.Label (label Arm u)) tt ~> choice rest ty how t (u + width condition + width e) s.1.1 a))))))
 
-    select : (labels : List (List Label)) (parts : Args) (ty : Option Ty) (how : Use) (t u : ℕ) → AreSimple types facts parts →
+    select : (labels : List (List Label)) (parts : Args) (ty : Option Ty) (how : Use) (t u : ℕ) → AreSimple types facts false parts →
         AllValues (behind_first parts) → SmallFirst types facts parts → LabelsFit labels (behind_first parts) →
         Chosen parts u (select_lines types modes labels parts ty how t u)
     select labels NoArg ty how t u s a small fit = no_fit t ty how
@@ -433,7 +470,7 @@ module _ (types : List Ty) (modes : (proc position : ℕ) → Mode) (facts : Fac
         ~> (silent (L.Jump (label Next t)) tt
         ~> arms (is_covered (type_at path)) labels rest ty how t (n + width_at path) s.1 a fit))))
 
-    arms : (covered : Bool) (labels : List (List Label)) (values : Args) (ty : Option Ty) (how : Use) (t u : ℕ) → AreSimple types facts values →
+    arms : (covered : Bool) (labels : List (List Label)) (values : Args) (ty : Option Ty) (how : Use) (t u : ℕ) → AreSimple types facts false values →
         AllValues values → LabelsFit labels values →
         C (operand_places types values u) 0 (2 * WA values) (arm_lines types modes covered labels values ty how t u)
     arms covered labels NoArg ty how t u s a fit = silent (L.Label (label Next t)) tt ~> no_fit t ty how

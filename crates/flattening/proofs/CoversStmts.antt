@@ -27,7 +27,7 @@ use Rattle.flattening.specs.Places.{place, selector_place, expr_places, path_pla
 use Rattle.flattening.specs.Places.{branch_places, arm_places}
 use Rattle.flattening.specs.StmtLines.{Exits, leaving_by, in_loop, back_lines, result_line, block_tests, second, selector_lines}
 use Rattle.flattening.specs.StmtLines.{lines_in, lines_of, branch_lines, arm_blocks, number_of, outermost}
-use Rattle.flattening.specs.PlainCode.{ReadsPlain}
+use Rattle.flat_code.specs.PlainCode.{ReadsPlain}
 use Rattle.flattening.proofs.Simple.{never, Alone, LabelledBlocks, IsFine, IsSimple, AreSimple, SmallFirst, IsSimpleStmt, AreSimpleStmts, AreSimpleBlocks}
 use Rattle.flattening.proofs.Covers.{known, covers_none, ◌>>◌, ◌~>◌, ◌<~◌, covers_most, covers_as, turned, place_plain}
 use Rattle.flattening.proofs.Covers.{value_bytes as bytes_same}
@@ -93,7 +93,7 @@ module _ (types : List Ty) (modes : (proc position : ℕ) → Mode) (facts : Fac
   -- ---- heads
 
   -- what a `case` chooses by
-  selector : (args : Args) (t : ℕ) → Alone args → AreSimple types facts args → SmallFirst types facts args →
+  selector : (args : Args) (t : ℕ) → Alone args → AreSimple types facts false args → SmallFirst types facts args →
       S (selector_place types args t ++ operand_places types args (selector_from args t)) 0 (2 * A args) (selector_lines types modes result args t)
   selector NoArg t alone s small = absurd alone
   selector (ByValue e NoArg) t alone s small = covers_most types facts 0 _ (omega arith) (told e Looked t s.0 >> covers_none types facts)
@@ -108,7 +108,7 @@ module _ (types : List Ty) (modes : (proc position : ℕ) → Mode) (facts : Fac
   selector (ByPath path (ByPath other rest)) t alone s small = absurd alone
 
   -- the condition of a `while`
-  condition : (e : Expr) (rest : Args) (t : ℕ) → Alone (ByValue e rest) → AreSimple types facts (ByValue e rest) →
+  condition : (e : Expr) (rest : Args) (t : ℕ) → Alone (ByValue e rest) → AreSimple types facts false (ByValue e rest) →
       S (operand_places types (ByValue e rest) t) 0 (2 * A (ByValue e rest)) (lines types modes e Owned t)
   condition e NoArg t alone s = covers_most types facts 0 _ (omega arith) (told e Owned t s.0 >> covers_none types facts)
   condition e (ByValue other rest) t alone s = absurd alone
@@ -169,7 +169,7 @@ module _ (types : List Ty) (modes : (proc position : ℕ) → Mode) (facts : Fac
     stmt (Loop node (Count place inclusive) head body) exits t s x =
         let last = second head (suc t) in
         covers_most types facts 0 _ (omega arith)
-        (ready types modes facts globals head (λ i. Owned) 0 (suc t) s.3
+        (ready types modes facts globals false head (λ i. Owned) 0 (suc t) (λ e. never e) s.3
         >> (nothing (L.Beyond (suc t) last inclusive (label End t)) tt
         ~> (nothing L.Enter tt
         ~> (nothing (L.Label (label Turn t)) tt
@@ -185,7 +185,7 @@ module _ (types : List Ty) (modes : (proc position : ℕ) → Mode) (facts : Fac
         let last = suc (suc t) in
         covers_most types facts 0 _ (omega arith)
         (element_places node place t s.2
-        >> (ready types modes facts globals head (λ i. Owned) 0 at s.3
+        >> (ready types modes facts globals false head (λ i. Owned) 0 at (λ e. never e) s.3
         >> (find types modes facts globals path at
         ~> (nothing (L.Length last at) tt
         ~> (nothing (L.Zero (suc t)) tt
@@ -217,7 +217,7 @@ module _ (types : List Ty) (modes : (proc position : ℕ) → Mode) (facts : Fac
     block (Declare node place cursor (ByPath path more) rest) exits t s x = absurd s.3
     block (Defer node last rest) exits t s x = absurd s
 
-    branches : (tests : Args) (blocks : Blocks) (exits : Exits) (t u : ℕ) → AreSimple types facts tests → AreSimpleBlocks types facts blocks →
+    branches : (tests : Args) (blocks : Blocks) (exits : Exits) (t u : ℕ) → AreSimple types facts false tests → AreSimpleBlocks types facts blocks →
         CoverNone exits →
         S (branch_places types tests blocks u) 0 (2 * (A tests + WBs blocks)) (branch_lines types modes result tests blocks exits t u)
     branches NoArg (Otherwise b) exits t u s c x = covers_most types facts 0 _ (omega arith) (block b exits u c x)

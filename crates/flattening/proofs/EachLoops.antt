@@ -1,8 +1,8 @@
 -- Flat code follows `for` over elements.
-use Rattle.std.proofs.Common.{◌≡◌, ℕ, suc, ◌+◌, ◌*◌, ◌≤◌, Bool, true, false, List, [], ◌∷◌, Some, refl, sym, ap, ◌∙◌, subst, arith}
-use Rattle.std.specs.Prelude.{ℤ, pos, ◌+ℤ◌, int_lt, nat_eq, nat_lt}
+use Rattle.std.proofs.Common.{◌≡◌, ℕ, suc, ◌+◌, ◌*◌, ◌≤◌, Bool, true, false, ◌&&◌, List, [], ◌∷◌, Some, refl, sym, ap, ◌∙◌, subst, arith}
+use Rattle.std.specs.Prelude.{ℤ, pos, ◌+ℤ◌, int_lt, nat_eq, nat_lt, not}
 use Rattle.std.specs.Ordering.{int_eq}
-use Rattle.std.proofs.lemmas.Bool.{eqb-true}
+use Rattle.std.proofs.lemmas.Bool.{eqb-true, and_parts, false≢true}
 use Rattle.std.proofs.lemmas.Int.{ints}
 use Rattle.arc_base.specs.BigStep.{then_do, Turn as TurnOf, Again, Leave as LeaveLoop}
 use Rattle.nim_types.specs.Types.{Ty}
@@ -21,10 +21,12 @@ use Rattle.nim_meaning.specs.Acts.{at_exit, costs, loop, again, no_more, next, t
 use Rattle.nim_meaning.specs.Acts as acting
 use Rattle.nim_meaning.specs.Deeds.{Deed, Looks, Opens, changed, carry, behind as later_done, perform, ◌>>=◌}
 use Rattle.nim_meaning.specs.Deeds as deeds
-use Rattle.nim_meaning.specs.Here.{Here}
+use Rattle.nim_meaning.specs.Here.{Here, is_hooked}
 use Rattle.nim_meaning.specs.Places.{item_of, fetched}
-use Rattle.nim_meaning.specs.Meaning.{exec_all, fill, scoped, at_node, still, element_at, each_turn, ready_aim}
-use Rattle.nim_meaning.specs.Aims.{Aim, find}
+use Rattle.nim_meaning.specs.Runs.{are_plain, is_plain_path, is_plain_stmt, is_plain_block}
+use Rattle.nim_meaning.specs.Meaning.{exec_all, fill, scoped, at_node, still, element_at, element_for, is_fresh, each_turn, head_values, ready_aim}
+use Rattle.nim_meaning.proofs.ForCallers.{not_true}
+use Rattle.nim_meaning.specs.Aims.{Aim, Ready, find}
 use Rattle.flat_code.specs.declared.line.Line.{Line}
 use Rattle.flat_code.specs.declared.line.Line.TheVariants as L
 use Rattle.flat_code.specs.Scene.{Temps, with_value, location_at, Did, Passes, Leaps, Fails}
@@ -33,7 +35,7 @@ use Rattle.flat_code.specs.Lines as does
 use Rattle.flattening.specs.declared.numbers.Purpose.TheVariants.{Arm, End, Next, Turn}
 use Rattle.flattening.specs.Numbering.{widths, width_in, width_of, label}
 use Rattle.flattening.specs.ExprLines.{find_lines, ready_lines}
-use Rattle.flattening.specs.StmtLines.{Exits, in_loop, lines_of}
+use Rattle.flattening.specs.StmtLines.{Exits, in_loop, lines_of, lines_in}
 use Rattle.flattening.specs.Flattened.{modes_of}
 use Rattle.flattening.specs.Formed.{Scope, With, StmtFormed}
 use Rattle.flattening.proofs.Runs.{M, Runs, Walks, walks_on, pays, spares, lands, Turned}
@@ -44,6 +46,7 @@ use Rattle.flattening.proofs.PutsParts.{puts_ready, puts_find}
 use Rattle.flattening.proofs.PutsParts.{puts_stmts}
 use Rattle.flattening.proofs.Spots.{Spot, here_of, there, scene, does_at, after, both_falling, walks_line, walks_leap, goes, leaps, turns, performs}
 use Rattle.flattening.proofs.Standing.{grounded, Stands, stands_since}
+use Rattle.flattening.proofs.Groups.{head_alone}
 use Rattle.flattening.proofs.Acting.{CallsFollow}
 use Rattle.flattening.proofs.Paths.{Leads as LeadsTo, Aims, aims_kept, find_follows}
 use Rattle.flattening.proofs.Evaluating.{args_follow}
@@ -102,12 +105,25 @@ module _ (c : Spot) (top : Bool) (room : ℕ → Type 0) (names : (proc place : 
   abbrev here : Here
   here = here_of c
 
+  abbrev hooked : Ty → Bool
+  hooked = is_hooked c.fixed.program.facts
+
   module _ (node : Node) (place : Declared) (path : Path) (rest : Args) (body : Stmts) (follows : BlockFollows c top room names calls outermost body)
       (inside : Bool)
-      (Open : Scope) (f : StmtFormed (grounded c top room names) inside Open (Loop node (Each place) (ByPath path rest) body)) (exits : Exits)
+      (Open : Scope) (f : StmtFormed (grounded c top room names) inside Open (Loop node (Each place) (ByPath path rest) body))
+      (p : is_plain_stmt hooked (Loop node (Each place) (ByPath path rest) body) ≡ true) (exits : Exits)
       (around : Around c exits inside) (t : ℕ) (k : List Line) where
     abbrev head : Args
     head = ByPath path rest
+
+    place_plain : (not (hooked place.of) ≡ true) × ((are_plain hooked false head && is_plain_block hooked body) ≡ true)
+    place_plain = and_parts (not (hooked place.of)) (are_plain hooked false head && is_plain_block hooked body) p
+
+    plain : (are_plain hooked false head ≡ true) × (is_plain_block hooked body ≡ true)
+    plain = and_parts (are_plain hooked false head) (is_plain_block hooked body) place_plain.1
+
+    plain_path : is_plain_path hooked path ≡ true
+    plain_path = (and_parts (is_plain_path hooked path) (are_plain hooked false rest) plain.0).0
 
     abbrev counter : ℕ
     counter = suc t
@@ -247,8 +263,8 @@ module _ (c : Spot) (top : Bool) (room : ℕ → Type 0) (names : (proc place : 
           (body_ends c around t ending next_lines t hi temps world EachAt {q = 11} (suc i) u (omega arith) (omega (arith, e, few)) (omega arith)
           (omega arith) x.kept since
           (spares 0 0 (omega arith) (omega arith)
-          (scope_closes c around_body here place (last_of body)
-          (follows true (With (grounded c top room names) Open place.number) f.4 (in_loop exits t) around_body n next_lines body_reaches body_leads now
+          (scope_closes c around_body here place (last_of body) (not_true (hooked place.of) place_plain.0)
+          (follows true (With (grounded c top room names) Open place.number) f.3 plain.1 (in_loop exits t) around_body n next_lines body_reaches body_leads now
           (worked 1 (left_with m d)) h)))
           (λ b last fewer kept2 since2.
           let z = pos i +ℤ pos 1 in
@@ -293,13 +309,13 @@ module _ (c : Spot) (top : Bool) (room : ℕ → Type 0) (names : (proc place : 
           Runs c.fixed (Turned EachAt Ends u) 2 6 (there c (L.Fill place.number t ∷ L.Turn (label Turn t) ∷ ending) now d.world) d.meter
           (then_do (acting.◌>>◌ (at_node node.number Fills (fill here place.number v)) (again acts (suc i)) d) turn_of)
       fills i u v now d is at x few since =
-          let p = place.number in
+          let n1 = place.number in
           let d1 : State = worked (bytes v) (with_trail (Point node.number Fills ∷ d.trail) d) in
-          let d2 : State = record d1 { world = changed (Opens c.level p (Holds v)) d.world } in
+          let d2 : State = record d1 { world = changed (Opens c.level n1 (Holds v)) d.world } in
           pays (2 + 12 * bytes v) (bytes v) (omega arith)
-          (goes c 1 (1 + (bytes v + 0)) (omega arith) (ap (λ o. using o (λ v. does.acts (scene c now d.world) (deeds.costs 1 (does.fills c.level p v)))) at)
-          (turn_follows i u now d2 is x few (since_then since (since_slot c.level d.world c.level p (Holds v)))
-          (stands_with top names p (Holds v) outermost f.3 (stands_since h since))))
+          (goes c 1 (1 + (bytes v + 0)) (omega arith) (ap (λ o. using o (λ v. does.acts (scene c now d.world) (deeds.costs 1 (does.fills c.level n1 v)))) at)
+          (turn_follows i u now d2 is x few (since_then since (since_slot c.level d.world c.level n1 (Holds v)))
+          (stands_with top names n1 (Holds v) outermost f.2 (stands_since h since))))
 
       abbrev gives_inside : Temps → World → Location → ℤ → Did
       gives_inside now world2 l z =
@@ -395,7 +411,7 @@ module _ (c : Spot) (top : Bool) (room : ℕ → Type 0) (names : (proc place : 
           (goes c 5 1 (omega arith) refl
           (goes c 4 1 (omega arith) (beyond true i y.now d.world is y.holds)
           (both_falling (found_to_fill i) turn_of 4 (omega arith) (omega arith)
-          (find_follows c top room names Open path f.2.0 place_at fetching now aim x.aims d (stands_since h y.since))
+          (find_follows c top room names Open path f.1.0 place_at fetching now aim x.aims d (stands_since h y.since))
           (λ location b last falls leads kept since.
           found_follows i d.meter.units location now last b is leads
           (holds_same i now last leads.values (kept_wide (omega arith) (omega (arith, w)) kept) x) falls (since_then y.since since)))))
@@ -406,56 +422,76 @@ module _ (c : Spot) (top : Bool) (room : ℕ → Type 0) (names : (proc place : 
           subst (λ m. Runs c.fixed (Turned EachAt Ends d.meter.units) 6 6 m d.meter (then_do (turned false i d) turn_of)) (sym y.is)
           (lands (LeaveLoop (On tt)) d (omega arith) (record { now = y.now; walks = w; kept = y.holds.kept; since = y.since }))
 
+      -- one that fills its place with a copy of its element, or with what has no hooks
+      abbrev turn_by : Bool → ℕ → Does (TurnOf ℕ (Unit {0}))
+      turn_by hook i =
+          at_node node.number Turns (at_node node.number Chooses (branch (nat_lt i len)
+          (acting.◌>>=◌ (find aim) (λ location. acting.◌>>◌ (still location len) (branch hook
+          (acting.◌>>=◌ (at_node node.number Done_by (acting.looks (λ world. give (item_of (load world location) location i))))
+          (λ item. acting.◌>>◌ (at_node node.number Fills (element_for here place (is_fresh head) item)) (again acts (suc i))))
+          (acting.◌>>=◌ (at_node node.number Done_by (element_at location i))
+          (λ v. acting.◌>>◌ (at_node node.number Fills (fill here place.number v)) (again acts (suc i))))))) no_more))
+
       a_turn : (i : ℕ) (b : State) (m : M) → EachAt i b m →
           Runs c.fixed (Turned EachAt Ends b.meter.units) 6 6 m b.meter
-          (then_do (each_turn node.number here place (last_of body) (exec_all body here) aim len i b) turn_of)
+          (then_do (each_turn node.number here place (is_fresh head) (last_of body) (exec_all body here) aim len i b) turn_of)
       a_turn i b m y =
-          a_test (nat_lt i len) i (with_trail (Point node.number Chooses ∷ Point node.number Turns ∷ b.trail) b) m refl
-          (record { now = y.now; is = y.is; holds = y.holds; since = y.since })
+          subst (λ hook. Runs c.fixed (Turned EachAt Ends b.meter.units) 6 6 m b.meter (then_do (turn_by hook i b) turn_of))
+          (sym (not_true (hooked place.of) place_plain.0))
+          (a_test (nat_lt i len) i (with_trail (Point node.number Chooses ∷ Point node.number Turns ∷ b.trail) b) m refl
+          (record { now = y.now; is = y.is; holds = y.holds; since = y.since }))
 
   pub eaches : (node : Node) (place : Declared) (head : Args) (body : Stmts) → BlockFollows c top room names calls outermost body →
       StmtFollows c top room names calls outermost (Loop node (Each place) head body)
-  eaches node place NoArg body follows inside Open f exits around t k r l temps s h = absurd f.0
-  eaches node place (ByValue value rest) body follows inside Open f exits around t k r l temps s h = absurd f.0
-  eaches node place (ByPath path rest) body follows inside Open f exits around t k r l temps s h =
+  eaches node place NoArg body follows inside Open f p exits around t k r l temps s h = absurd f.0
+  eaches node place (ByValue value rest) body follows inside Open f p exits around t k r l temps s h = absurd f.0
+  eaches node place (ByPath path rest) body follows inside Open f p exits around t k r l temps s h =
       let w = same_width path in
       let u = suc t + 2 in
       let counter = suc t in
       let many = suc (suc t) in
-      let K = ending node place path rest body follows inside Open f exits around t k in
-      let lines_next = next_lines node place path rest body follows inside Open f exits around t k in
-      let counts = counting node place path rest body follows inside Open f exits around t k in
-      let arm_lines = arm node place path rest body follows inside Open f exits around t k in
-      let top_of = hi node place path rest body follows inside Open f exits around t k in
-      let turn : Aim → ℕ → ℕ → Does (TurnOf ℕ (Unit {0})) = λ aim len. each_turn node.number here place (last_of body) (exec_all body here) aim len in
+      let K = ending node place path rest body follows inside Open f p exits around t k in
+      let lines_next = next_lines node place path rest body follows inside Open f p exits around t k in
+      let counts = counting node place path rest body follows inside Open f p exits around t k in
+      let arm_lines = arm node place path rest body follows inside Open f p exits around t k in
+      let top_of = hi node place path rest body follows inside Open f p exits around t k in
+      let turn : Aim → ℕ → ℕ → Does (TurnOf ℕ (Unit {0})) =
+      λ aim len. each_turn node.number here place (is_fresh (ByPath path rest)) (last_of body) (exec_all body here) aim len in
       let loops : Aim → Location → Does (Unit {0}) = λ aim location. acting.looks (λ world. loop (turn aim (length_of (load world location))) 0) in
       let finds : Aim → Does (Unit {0}) = λ aim. acting.◌>>=◌ (at_node node.number Looks_up (find aim)) (loops aim) in
-      pays 12 1 (omega arith)
+      let some = plain node place path rest body follows inside Open f p exits around t k in
+      let over : List Ready → Does (Unit {0}) = λ ready. finds (ready_aim ready) in
+      subst (λ (part : Does (Unit {0})). Runs c.fixed (Left c around k t top_of temps s.world) 0 0
+      (there c (lines_in types modes c.result (Loop node (Each place) (ByPath path rest) body) exits t k) temps s.world) s.meter
+      (costs 1 (at_node node.number Begins part) s))
+      (sym (head_alone here (ByPath path rest) (acting.◌>>=◌ (head_values (ByPath path rest) here) over) some.0))
+      (pays 12 1 (omega arith)
       (after 12 (omega arith) (omega arith)
-      (args_follow c top room names Open calls (ByPath path rest) f.1 f.2 (λ i. Owned) 0 u (find_lines types path u counts) temps
+      (args_follow c top room names Open calls false (ByPath path rest) f.1 some.0 (λ i. Owned) (λ e. absurd (false≢true e)) 0 u
+      (find_lines types path u counts) temps
       (with_trail (Point node.number Begins ∷ s.trail) (worked 1 s)) h)
       (λ ready b now ready_is kept since.
       let aim = ready_is.0 in
       subst (λ ready. Runs c.fixed (Left c around k t top_of temps s.world) 12 0 (there c (find_lines types path u counts) now b.world) b.meter
       (finds (ready_aim ready) b)) (sym ready_is.2)
       (after 12 (omega arith) (omega arith)
-      (find_follows c top room names Open path f.2.0 u counts now aim ready_is.3 (with_trail (Point node.number Looks_up ∷ b.trail) b) (stands_since h since))
+      (find_follows c top room names Open path f.1.0 u counts now aim ready_is.3 (with_trail (Point node.number Looks_up ∷ b.trail) b) (stands_since h since))
       (λ location d last leads kept2 since2.
       let len = length_of (load d.world location) in
       let xs = scene c last d.world in
       let with_len = with_value many last (Number (pos len)) in
       let with_both = with_value counter with_len (Number (pos 0)) in
-      let invariant = EachAt node place path rest body follows inside Open f exits around t k l temps s.world h aim len in
+      let invariant = EachAt node place path rest body follows inside Open f p exits around t k l temps s.world h aim len in
       goes c 11 1 (omega arith)
       (ap (λ o. using o (λ place. does.gives xs many (deeds.costs 1
       (deeds.looks (λ world. deeds.give (Number (pos (length_of (load world (location_at last place)))))))))) leads.is
       ∙ ap (λ l. does.gives xs many (deeds.costs 1 (deeds.looks (λ world. deeds.give (Number (pos (length_of (load world l)))))))) leads.at)
       (goes c 10 1 (omega arith) refl
-      (leaps c 9 (label Arm t) (omega arith) refl (arm_is_found node place path rest body follows inside Open f exits around t k)
+      (leaps c 9 (label Arm t) (omega arith) refl (arm_is_found node place path rest body follows inside Open f p exits around t k)
       (loop_ends c around t K lines_next t top_of temps s.world invariant {q = 6} {Q = 0} (omega arith)
       (spares 6 6 (omega arith) (omega arith)
       (runs_loop c around t K lines_next t top_of temps s.world invariant 6 (turn aim len)
-      (a_turn node place path rest body follows inside Open f exits around t k l temps s.world h aim len) 0 d (there c arm_lines with_both d.world)
+      (a_turn node place path rest body follows inside Open f p exits around t k l temps s.world h aim len) 0 d (there c arm_lines with_both d.world)
       (record {
         now = with_both;
         is = refl;
@@ -470,4 +506,4 @@ module _ (c : Spot) (top : Bool) (room : ℕ → Type 0) (names : (proc place : 
         };
         since = since_then since since2;
       })))
-      (λ b last kept since. goes c 0 1 (omega arith) refl (stays c around b last (omega arith) kept since)))))))))
+      (λ b last kept since. goes c 0 1 (omega arith) refl (stays c around b last (omega arith) kept since))))))))))

@@ -5,11 +5,13 @@ use Rattle.arc_base.specs.BigStep.{Meter, Res, Got, Over, Going, Errs as IsWrong
 use Rattle.nim_program.specs.Program.{Declared}
 use Rattle.nim_meaning.specs.Values.{Slot}
 use Rattle.nim_meaning.specs.State.{World, State, slot_at}
-use Rattle.nim_meaning.specs.Deeds.{Opens, changed}
-use Rattle.nim_meaning.specs.Here.{Here}
+use Rattle.nim_types.specs.Forms.{form_of}
+use Rattle.nim_meaning.specs.ActTree.{Named}
+use Rattle.nim_meaning.specs.Deeds.{Opens, changed, carry}
+use Rattle.nim_meaning.specs.Here.{Here, is_hooked}
 use Rattle.nim_meaning.specs.Acts.{Broke, Continued, Returned, Raised, Exit, Outcome, On, Out}
-use Rattle.nim_meaning.specs.Acts.{Does, onward, worked, exit_of, as_before, ◌>>◌, loop, turn_of, next}
-use Rattle.nim_meaning.specs.Meaning.{ends}
+use Rattle.nim_meaning.specs.Acts.{Does, onward, worked, exit_of, left_as, leaving_scope, as_before, ◌>>◌, branch, costs, give, loop, turn_of, next}
+use Rattle.nim_meaning.specs.Meaning.{ends, place_ends}
 use Rattle.flat_code.specs.declared.line.Line.{Line}
 use Rattle.flat_code.specs.declared.line.Line.TheVariants as L
 use Rattle.flat_code.specs.Scene.{Temps}
@@ -176,15 +178,22 @@ module _ (c : Spot) {exits : Exits} {inside : Bool} (around : Around c exits ins
       Since c.level world b.world → Runs c.fixed (Left c around k lo hi temps world) p q (there c k now b.world) b.meter (Got (On tt) b)
   stays b now le kept since = lands (On tt) b le (record { now = now; is = refl; has = tt; kept = kept; since = since })
 
-  -- the end of a scope has no line
+  -- the end of the scope of a place without hooks has no line
   pub scope_closes : {k : List Line} {lo hi : ℕ} {temps : Temps} {world : World} {p q : ℕ} {m : M} {a : Meter Event} {r : Res State (Outcome (Unit {0}))}
-      (here : Here) (place : Declared) (last : ℕ) → Runs c.fixed (Left c around k lo hi temps world) p q m a r →
-      Runs c.fixed (Left c around k lo hi temps world) p q m a (then_do r (λ flow. ends here place (exit_of last flow) >> as_before flow))
-  scope_closes {k} {lo} {hi} {temps} {world} {p} {q} {m} {a} {r} here place last f =
-      follows_on q (λ flow. ends here place (exit_of last flow) >> as_before flow) (omega arith) (omega arith) f (λ flow b m1 falls g. on flow b m1 g)
+      (here : Here) (place : Declared) (last : ℕ) → is_hooked here.facts place.of ≡ false → Runs c.fixed (Left c around k lo hi temps world) p q m a r →
+      Runs c.fixed (Left c around k lo hi temps world) p q m a
+      (then_do r (λ flow. leaving_scope (is_hooked here.facts place.of) (Named place.number) (left_as flow) (ends here place (exit_of last flow))
+      >> as_before flow))
+  scope_closes {k} {lo} {hi} {temps} {world} {p} {q} {m} {a} {r} here place last plain f =
+      subst (λ hook. Runs c.fixed (Left c around k lo hi temps world) p q m a
+      (then_do r (λ flow. leaving_scope hook (Named place.number) (left_as flow) (ends_by hook) >> as_before flow))) (sym plain)
+      (follows_on q (λ flow. costs 1 (give (tt {0})) >> as_before flow) (omega arith) (omega arith) f (λ flow b m1 falls g. on flow b m1 g))
     where
+      ends_by : (hook : Bool) → Does (Unit {0})
+      ends_by hook = costs 1 (branch hook (carry (place_ends (form_of here.facts place.of) here.level place.number)) (give tt))
+
       on : (flow : Outcome (Unit {0})) (b : State) (m1 : M) → Left c around k lo hi temps world flow b m1 →
-          Runs c.fixed (Left c around k lo hi temps world) q q m1 b.meter ((ends here place (exit_of last flow) >> as_before flow) b)
+          Runs c.fixed (Left c around k lo hi temps world) q q m1 b.meter ((costs 1 (give (tt {0})) >> as_before flow) b)
       on (On done) b m1 g = pays q 1 (omega arith) (lands (On done) (worked 1 b) (omega arith) g)
       on (Out way) b m1 g = pays q 1 (omega arith) (lands (Out way) (worked 1 b) (omega arith) (gone_worked c around lo hi temps world way b m1 1 g))
 

@@ -15,6 +15,7 @@ mod Tallies
 mod NameCosts
 mod PutsParts
 mod Standing
+mod Groups
 mod Paths
 mod Literals
 mod Acting

@@ -8,7 +8,7 @@ use Rattle.flat_code.specs.declared.line.From.{From}
 use Rattle.flat_code.specs.declared.line.Piece.{Piece}
 use Rattle.flat_code.specs.declared.line.Piece.TheVariants as P
 use Rattle.flat_code.specs.Pieces.{pieces_of, pieces_of_all, count_of}
-use Rattle.flattening.specs.Alike.{value_name, location_name, name_of, is_one_text, gives_text}
+use Rattle.flat_code.specs.Alike.{value_name, location_name, name_of, is_one_text, gives_text}
 use Rattle.flattening.specs.ExprLines.{act_line, begin_line}
 use Rattle.flattening.proofs.Costs.{IsQuiet}
 use Rattle.flattening.proofs.Simple.{never, act_text}
@@ -22,7 +22,7 @@ no_text (P.Nil ∷ pieces) piece e = refl
 no_text (P.Parts n ∷ pieces) piece e = refl
 no_text (P.Elements n ∷ pieces) piece e = refl
 
-literal_no_text : (literal : Literal) → act_text (Giving literal) ≡ false → is_one_text (pieces_of literal) ≡ false
+pub literal_no_text : (literal : Literal) → act_text (Giving literal) ≡ false → is_one_text (pieces_of literal) ≡ false
 literal_no_text (Number z) e = refl
 literal_no_text (Characters text) e = never (sym e)
 literal_no_text NoObject e = refl

@@ -7,7 +7,7 @@ use Rattle.nim_program.specs.Program.{Label, ByLabels, Apply, Early, Choose, ByC
 use Rattle.nim_program.specs.Program.{Leave}
 use Rattle.nim_program.specs.Program.{While, Count, Each, Give, Select, Loop, Then, Declare, Block}
 use Rattle.nim_program.specs.declared.operation.Short.TheVariants.{And, Or}
-use Rattle.flattening.specs.Alike.{label_name}
+use Rattle.flat_code.specs.Alike.{label_name}
 use Rattle.flattening.specs.Numbering.{width, width_at, widths, arm_count, width_in, width_of, looked_from, behind_selector}
 use Rattle.flattening.proofs.Costs.{all_tests, Costs}
 use Rattle.flattening.proofs.Tallies.{is_it, upto, value, led, arm, end, next, turn, upto_more, all_names}

@@ -7,7 +7,7 @@ use Rattle.nim_program.specs.declared.program.Mode.{Mode}
 use Rattle.nim_program.specs.Program.{Path, Variable, Fresh, Field, Element, Deref, Declared, Stmts, type_of, constant_in}
 use Rattle.flat_code.specs.declared.line.Line.{Line}
 use Rattle.flat_code.specs.declared.line.Line.TheVariants as L
-use Rattle.flattening.specs.Alike.{value_name, location_name, label_name, name_of, gives_text, IsProperty}
+use Rattle.flat_code.specs.Alike.{value_name, location_name, label_name, name_of, gives_text, IsProperty}
 use Rattle.flattening.specs.ExprLines.{find_lines, begin_line}
 use Rattle.flattening.specs.Numbering.{width_at, width_of}
 use Rattle.flattening.specs.StmtLines.{lines_of, number_of, outermost}

@@ -1,23 +1,27 @@
 -- Deeds that close no place: those of the table, and those that find, read and write places. One line for each row that doesn't compute to it.
-use Rattle.std.proofs.Common.{ℕ, ℤ, Bool, true, false, List, [], length, Option, Some, None}
+use Rattle.std.proofs.Common.{◌≡◌, ℕ, ℤ, ◌⊎◌, inl, inr, Bool, true, false, ◌||◌, List, [], length, Option, Some, None, sym, ap₂, subst}
+use Rattle.std.proofs.lemmas.Bool.{false≢true}
 use Rattle.std.specs.Prelude.{unsigned_abs}
 use Rattle.arc_base.specs.Event.{Event}
+use Rattle.nim_types.specs.Forms.{Form}
 use Rattle.nim_types.specs.Types.{Ty, Facts}
 use Rattle.nim_plan.specs.declared.plan.Act.{Act as PlanAct}
 use Rattle.nim_program.specs.declared.operation.Operation.{Operation}
 use Rattle.nim_program.specs.declared.operation.Operation.TheVariants as O
-use Rattle.nim_program.specs.Program.{Act, Doing, Building, Giving, Calling}
+use Rattle.nim_program.specs.Program.{Act, Doing, Building, Giving, Calling, Characters}
 use Rattle.nim_program.specs.Traps.{IndexOutOfBounds}
-use Rattle.nim_program.specs.declared.operation.Use.{Use}
+use Rattle.nim_program.specs.declared.operation.Use.TheVariants.{Lent}
 use Rattle.nim_program.specs.Ints.{Checked, Fine, Trapped, applied, inside}
 use Rattle.nim_meaning.specs.Heap.{has_room}
 use Rattle.nim_meaning.specs.Values.{Value, Fixed, Ref, number_of, length_of, Operand, location, Location}
 use Rattle.nim_meaning.specs.State.{World, load}
 use Rattle.nim_meaning.specs.Deeds.{changed, with_block, Deed, Gives, Ends, Errs, Works, Says, Looks, Changes, Takes}
-use Rattle.nim_meaning.specs.Deeds.{Done, Answers, Finishes, Fails, behind, took, perform, ◌>>=◌, give, branch, stop}
-use Rattle.nim_meaning.specs.Places.{object_of, item_of, to_item, to_object, taken_by, made_by, put}
-use Rattle.nim_meaning.specs.Table.{outcome, limit_for, converted, moved, step_by, does, acts}
-use Rattle.nim_meaning.specs.Here.{gives_hooked}
+use Rattle.nim_meaning.specs.Deeds.{Done, Answers, Finishes, Fails, behind, took, perform, ◌>>=◌, give, branch, costs, stop}
+use Rattle.nim_meaning.specs.Places.{Destination, object_of, item_of, to_item, to_object, taken_by, made_by, put}
+use Rattle.nim_meaning.specs.OwnedRows.{owned}
+use Rattle.nim_meaning.specs.Table.{outcome, limit_for, converted, moved, step_by, does, operates, constant_for, acts}
+use Rattle.nim_meaning.specs.Here.{gives_hooked, any_hooked, form_for}
+use Rattle.nim_meaning.specs.LeftOut.{writes_literals}
 use Rattle.nim_meaning.specs.Meaning.{row, handed_by}
 use Rattle.flattening.proofs.Worlds.{Opening, Since, since_none, since_then, since_changed}
 
@@ -102,21 +106,14 @@ module _ (Q : Location → Type 0) where
   pub keeps_to_object : ((x : Location) → Q x) → (location : Location) → KeepsOpen Q (to_object location)
   keeps_to_object q location = λ world. keeps_object q (load world location)
 
-module _ (Q : Value → Type 0) where
-  pub keeps_taken : ((x : Value) → Q x) → (hooked : Bool) (how : Use) (act : Option PlanAct) (location : Location) → KeepsOpen Q
-      (taken_by hooked how act location)
-  keeps_taken q false how act location = λ world. q _
-  keeps_taken q true how act location = q _
+-- values without hooks
+module _ (Q : Value → Type 0) (q : (x : Value) → Q x) where
+  pub keeps_taken : (hooked : Bool) (f : Form) (to : Destination) (act : Option PlanAct) (location : Location) → hooked ≡ false → KeepsOpen Q
+      (taken_by hooked f to act location)
+  keeps_taken hooked f to act location e = subst (λ b. KeepsOpen Q (taken_by b f to act location)) (sym e) (λ world. q _)
 
-  pub keeps_made : ((x : Value) → Q x) → (hooked : Bool) (how : Use) (v : Value) → KeepsOpen Q (made_by hooked how v)
-  keeps_made q false how v = q v
-  keeps_made q true how (Fixed t) = q _
-  keeps_made q true how _ = q _
-
-  -- a text that nobody owns stays as it is
-  pub keeps_text : (hooked : Bool) (how : Use) (text : List ℕ) → Q (Fixed text) → KeepsOpen Q (made_by hooked how (Fixed text))
-  keeps_text false how text q = q
-  keeps_text true how text q = q
+  pub keeps_made : (hooked : Bool) (to : Destination) (v : Value) → hooked ≡ false → KeepsOpen Q (made_by hooked to v)
+  keeps_made hooked to v e = subst (λ b. KeepsOpen Q (made_by b to v)) (sym e) (q v)
 
 -- ---- the table
 
@@ -138,6 +135,7 @@ keeps_does (O.Binary operator) facts ty of xs = keeps_outcome _
 keeps_does O.Convert facts ty of xs =
     keeps_then Any Any (converted (limit_for facts ty) _) moved (keeps_converted (limit_for facts ty) _) (λ v h. tt)
 keeps_does (O.Measure measure) facts ty of xs = λ world. tt
+keeps_does O.Echo facts ty of xs = λ world. tt
 keeps_does O.Assign facts ty of xs = (tt, tt)
 keeps_does (O.Update operator) facts ty of xs =
     λ world. let given = applied operator (number_of (load world (location xs 0))) (step_by xs) in
@@ -146,21 +144,52 @@ keeps_does O.Move facts ty of xs = λ world. (tt, tt)
 keeps_does O.Swap facts ty of xs = λ world. λ next. (tt, λ last. (tt, tt))
 keeps_does _ facts ty of xs = tt
 
-keeps_acts : (act : Act) (facts : Facts) (ty : Option Ty) (of : List (Option Ty)) (xs : List Operand) → KeepsOpen Any (acts act facts ty of xs)
-keeps_acts (Doing operation) facts ty of xs = keeps_does operation facts ty of xs
-keeps_acts (Building fields) facts ty of xs = tt
-keeps_acts (Giving literal) facts ty of xs = tt
-keeps_acts (Calling proc types) facts ty of xs = tt
+-- without hooks a row is that of all types, and that of `echo` is so always
+keeps_operates : (operation : Operation) (facts : Facts) (ty : Option Ty) (of : List (Option Ty)) (xs : List Operand) → gives_hooked facts ty ≡ false →
+    (any_hooked facts of ≡ false) ⊎ (writes_literals (Doing operation) ≡ true) → KeepsOpen Any (operates operation facts ty of xs)
+keeps_operates O.Echo facts ty of xs e plain = either (gives_hooked facts ty || any_hooked facts of)
+  where
+    either : (b : Bool) → KeepsOpen Any (branch b (owned O.Echo facts ty of xs (does O.Echo facts ty of xs)) (does O.Echo facts ty of xs))
+    either true = λ world. tt
+    either false = λ world. tt
+keeps_operates operation facts ty of xs e (inl plain) =
+    subst (λ b. KeepsOpen Any (branch b (owned operation facts ty of xs (does operation facts ty of xs)) (does operation facts ty of xs)))
+    (sym (ap₂ (λ a b. a || b) e plain)) (keeps_does operation facts ty of xs)
+keeps_operates operation facts ty of xs e (inr writes) = absurd (false≢true writes)
+
+keeps_constant : (hooked : Bool) (f : Form) (v : Value) → hooked ≡ false → KeepsOpen Any (constant_for hooked f v)
+keeps_constant hooked f v e = subst (λ b. KeepsOpen Any (constant_for b f v)) (sym e) tt
+
+-- what an act takes: values without hooks, or literals that it writes
+abbrev pub IsPlainOf : Facts → Act → List (Option Ty) → Type 0
+IsPlainOf facts act of = (any_hooked facts of ≡ false) ⊎ (writes_literals act ≡ true)
+
+keeps_acts : (act : Act) (facts : Facts) (ty : Option Ty) (of : List (Option Ty)) (xs : List Operand) → gives_hooked facts ty ≡ false →
+    IsPlainOf facts act of → KeepsOpen Any (acts act facts ty of xs)
+keeps_acts (Doing operation) facts ty of xs e plain = keeps_operates operation facts ty of xs e plain
+keeps_acts (Building fields) facts ty of xs e plain = tt
+keeps_acts (Giving literal) facts ty of xs e plain = keeps_constant (gives_hooked facts ty) (form_for facts ty) _ e
+keeps_acts (Calling proc types) facts ty of xs e plain = tt
 
 module _ (Q : Value → Type 0) (q : (x : Value) → Q x) where
-  pub keeps_row : (act : Act) (facts : Facts) (how : Use) (ty : Option Ty) (of : List (Option Ty)) (xs : List Operand) → KeepsOpen Q
-      (row facts act how ty of xs)
-  keeps_row act facts how ty of xs =
+  pub keeps_row : (act : Act) (facts : Facts) (to : Destination) (ty : Option Ty) (of : List (Option Ty)) (xs : List Operand) →
+      gives_hooked facts ty ≡ false → IsPlainOf facts act of → KeepsOpen Q (row facts act to ty of xs)
+  keeps_row act facts to ty of xs e plain =
       let hooked = gives_hooked facts ty in
-      keeps_then Q Any (acts act facts ty of xs) (made_by hooked how) (keeps_acts act facts ty of xs) (λ v h. keeps_made Q q hooked how v)
+      keeps_then Q Any (acts act facts ty of xs) (made_by hooked to) (keeps_acts act facts ty of xs e plain) (λ v h. keeps_made Q q hooked to v e)
 
-  pub keeps_handed : (facts : Facts) (how : Use) (ty : Option Ty) (v : Value) → KeepsOpen Q (handed_by facts how ty v)
-  keeps_handed facts how None v = q v
-  keeps_handed facts how (Some ty) v =
+  pub keeps_handed : (facts : Facts) (to : Destination) (ty : Option Ty) (v : Value) → gives_hooked facts ty ≡ false → KeepsOpen Q (handed_by facts to ty v)
+  keeps_handed facts to None v e = q v
+  keeps_handed facts to (Some ty) v e =
       let hooked = gives_hooked facts (Some ty) in
-      keeps_then Q Any (moved v) (made_by hooked how) tt (λ v h. keeps_made Q q hooked how v)
+      keeps_then Q Any (moved v) (made_by hooked to) tt (λ v h. keeps_made Q q hooked to v e)
+
+-- a literal that is lent stays as it is
+pub keeps_lent : (Q : Value → Type 0) (facts : Facts) (ty : Option Ty) (level node : ℕ) (text : List ℕ) → Q (Fixed text) →
+    KeepsOpen Q (row facts (Giving (Characters text)) (record { how = Lent; level = level; node = node }) ty [] [])
+keeps_lent Q facts ty level node text q = either (gives_hooked facts ty)
+  where
+    either : (hooked : Bool) → KeepsOpen Q (costs 1 (costs 0 (constant_for hooked (form_for facts ty) (Fixed text)))
+        >>= made_by hooked (record { how = Lent; level = level; node = node }))
+    either true = q
+    either false = q

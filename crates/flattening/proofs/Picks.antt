@@ -7,12 +7,13 @@ use Rattle.nim_program.specs.Program.{Label, Ordinals, Exactly}
 use Rattle.nim_meaning.specs.Values.{Value, number_of}
 use Rattle.nim_meaning.specs.State.{State}
 use Rattle.nim_meaning.specs.Acts.{Outcome, Does, branch, worked}
-use Rattle.nim_meaning.specs.Meaning.{fits_label, picked}
+use Rattle.nim_meaning.specs.Meaning.{fits_label, label_work, picked}
 use Rattle.flat_code.specs.declared.line.Line.{Line}
 use Rattle.flat_code.specs.declared.line.Line.TheVariants as L
 use Rattle.flat_code.specs.Scene.{Temps}
 use Rattle.flat_code.specs.Lines.{using_number, leaps_where}
 use Rattle.flattening.specs.ExprLines.{label_tests}
+use Rattle.flattening.specs.Formed.{AreOrdinals}
 use Rattle.flattening.proofs.Runs.{M, Runs, pays}
 use Rattle.flattening.proofs.Puts.{found}
 use Rattle.flattening.proofs.PutsParts.{puts_labels}
@@ -33,9 +34,10 @@ pub picked_then : {A B : Type 0} (labels : List Label) (x : Value) (holds fails 
     then_do (picked labels x holds fails s) go ≡ picked labels x (λ s. then_do (holds s) go) (λ s. then_do (fails s) go) s
 picked_then [] x holds fails go s = refl
 picked_then (label ∷ labels) x holds fails go s =
-    branch_then (fits_label label x) holds (picked labels x holds fails) go (worked 1 s)
+    let s = worked (label_work label) s in
+    branch_then (fits_label label x) holds (picked labels x holds fails) go s
     ∙ branch_same (fits_label label x) (λ s. then_do (holds s) go) (λ s. then_do (picked labels x holds fails s) go)
-    (picked labels x (λ s. then_do (holds s) go) (λ s. then_do (fails s) go)) (worked 1 s) (picked_then labels x holds fails go (worked 1 s))
+    (picked labels x (λ s. then_do (holds s) go) (λ s. then_do (fails s) go)) s (picked_then labels x holds fails go s)
 
 both_hold : (a b : Bool) → (a && b) ≡ branch a b false
 both_hold true b = refl
@@ -60,14 +62,15 @@ module _ (c : Spot) {A : Type 0} {Good : Outcome A → State → M → Type 0} {
       (ap (λ o. using_number (record temps { values = λ i. o }) t (λ z. leaps_where (scene c temps s.world) (int_le low z && int_le z high) arm)) has
       ∙ ap (λ b. leaps_where (scene c temps s.world) b arm) (both_hold (int_le low (number_of x)) (int_le (number_of x) high) ∙ is)) miss
 
-  pub picks_follow : {k : List Line} (labels : List Label) (holds fails : Does A) (s : State) → temps.values t ≡ Some x → found arm k ≡ Some target →
+  pub picks_follow : {k : List Line} (labels : List Label) → AreOrdinals labels → (holds fails : Does A) (s : State) → temps.values t ≡ Some x →
+      found arm k ≡ Some target →
       ((meter : Meter Event) → Runs c.fixed Good 12 q (there c target temps s.world) meter (holds (at_meter s meter))) →
       ((meter : Meter Event) → Runs c.fixed Good 12 q (there c k temps s.world) meter (fails (at_meter s meter))) →
       Runs c.fixed Good 12 q (there c (label_tests labels t arm k) temps s.world) s.meter (picked labels x holds fails s)
-  picks_follow [] holds fails s has at hit miss = miss s.meter
-  picks_follow (Ordinals low high ∷ labels) holds fails s has at hit miss =
+  picks_follow [] ordinals holds fails s has at hit miss = miss s.meter
+  picks_follow (Ordinals low high ∷ labels) ordinals holds fails s has at hit miss =
       pays 13 1 (omega arith)
       (tried low high (fits_label (Ordinals low high) x) holds (picked labels x holds fails) (worked 1 s) has refl
       ((puts_labels {lo = 0} {hi = 0} labels t arm).skips arm _ (λ le. le) ∙ at) (hit (worked 1 s).meter)
-      (picks_follow labels holds fails (worked 1 s) has at hit miss))
-  picks_follow (Exactly text ∷ labels) holds fails s has at hit miss = pays 12 1 (omega arith) (picks_follow labels holds fails (worked 1 s) has at hit miss)
+      (picks_follow labels ordinals holds fails (worked 1 s) has at hit miss))
+  picks_follow (Exactly text ∷ labels) ordinals holds fails s has at hit miss = absurd ordinals

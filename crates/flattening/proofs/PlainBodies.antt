@@ -21,7 +21,7 @@ use Rattle.flat_code.specs.Sizes.{kind_bytes, places_bytes}
 use Rattle.flattening.specs.PlaceViews.{kind_declared, declared_by, declared_in, declared_in_blocks}
 use Rattle.flattening.specs.Places.{of_declared, param_places, result_places}
 use Rattle.flattening.specs.Numbering.{type_number}
-use Rattle.flattening.specs.PlainCode.{ArePlainPlaces, is_param, params_among, no_params, params_lead, is_handed, handed_among, none_handed, handed_lead}
+use Rattle.flat_code.specs.PlainCode.{ArePlainPlaces, is_param, params_among, no_params, params_lead, is_handed, handed_among, none_handed, handed_lead}
 use Rattle.flattening.proofs.FitBodies as bodies
 use Rattle.flattening.proofs.Parts.{Each as EachOf}
 use Rattle.flattening.proofs.Simple.{IsFine, IsSimpleStmt, AreSimpleStmts, AreSimpleBlocks}

@@ -30,7 +30,8 @@ use Rattle.flat_code.proofs.ForCallers.{AreSorted}
 use Rattle.flattening.specs.Flattened.{known_of, modes_of}
 use Rattle.flattening.specs.Given.{flat_body, flat_proc, flat_procs}
 use Rattle.flattening.specs.Places.{param_places, result_places, own_declared, block_places, body_places}
-use Rattle.flattening.specs.PlainCode.{ArePlainPlaces, no_globals, is_none, IsPlainProc, ArePlainProcs, sum_if, SumsWithin}
+use Rattle.flat_code.specs.PlainCode.{ArePlainPlaces, no_globals, is_none, IsPlainProc, ArePlainProcs}
+use Rattle.flattening.specs.BodySums.{sum_if, SumsWithin}
 use Rattle.flattening.specs.StmtLines.{outermost, returned, body_lines}
 use Rattle.flattening.proofs.AlikeLines.{none_mapped, among_all, proc_simple, start_simple}
 use Rattle.flattening.proofs.Covers.{bytes_both, plain_both}

@@ -1,6 +1,7 @@
 -- Flat code of a program follows the program: from this it agrees with it, keeps pace, and shows exactly as much by units.
 use Rattle.std.proofs.Common.{◌≡◌, ◌≢◌, ℕ, zero, suc, ◌+◌, ◌*◌, ◌≤◌, ◌⊎◌, inl, inr, true}
 use Rattle.std.proofs.Common.{List, [], ◌∷◌, ◌++◌, map, None, refl, sym, ap, ◌∙◌, subst, arith, append-nil}
+use Rattle.std.proofs.lemmas.Bool.{and_parts}
 use Rattle.arc_base.specs.Event.{Event}
 use Rattle.arc_base.specs.Behaviour.{Behaviour, Seen, Ended, Wrong, Agrees, Sound}
 use Rattle.arc_base.specs.Pace.{Paced}
@@ -14,6 +15,8 @@ use Rattle.nim_program.specs.Sizes.{body_sum}
 use Rattle.nim_meaning.specs.Values.{nothing}
 use Rattle.nim_meaning.specs.State.{World, State, Frame, live, world_of}
 use Rattle.nim_meaning.specs.Acts.{Broke, Continued, Returned, Raised, Outcome, On, Out, worked}
+use Rattle.nim_meaning.specs.Here.{is_hooked}
+use Rattle.nim_meaning.specs.Runs.{is_plain_place, is_plain_block, is_plain_body, are_plain_procs}
 use Rattle.nim_meaning.specs.Meaning.{frame_of, at_first, reported, goes_through, meaning}
 use Rattle.flat_code.specs.declared.line.Line.{Line}
 use Rattle.flat_code.specs.declared.line.Line.TheVariants as L
@@ -88,6 +91,12 @@ module _ (program : Program) (plan : Plan) (formed : IsFormed program) (heap : �
   stands : Stands c (room_of start) (AtFirst 0 (λ place. ⊥) start) first_world
   stands = stands_called c program.facts start [] 0 (λ place. ⊥) (world_of [] heap input) refl refl (λ place is. absurd is)
 
+  -- the start code has no hooks
+  plain : is_plain_block (is_hooked program.facts) start.stmts ≡ true
+  plain =
+      let h = and_parts (are_plain_procs (is_hooked program.facts) program.procs) (is_plain_body (is_hooked program.facts) start) formed.no_hooks in
+      (and_parts (is_plain_place (is_hooked program.facts) start.result) (is_plain_block (is_hooked program.facts) start.stmts) h.1).1
+
   follows : (n : ℕ) → Runs x Ends 12 12 (flat_start program plan heap input) (begun n) (goes_through program plan (at_first program heap input n))
   follows n =
       let s = at_first program heap input n in
@@ -96,7 +105,7 @@ module _ (program : Program) (plan : Plan) (formed : IsFormed program) (heap : �
       (pays 12 cost (omega arith)
       (follows_on 12 reported (omega arith) (omega arith)
       (body_follows x start 0 ACTIVE_CALLS [] true (named_in formed.names) 0 (λ place. ⊥) (calls_follow x formed ACTIVE_CALLS 0 c.whole [] start.result)
-      (λ e. refl) formed.start
+      (λ e. refl) formed.start plain
       (worked cost s) stands)
       (λ flow b m falls g. lands flow b (omega arith) (ends first_world b m (back_at c first_world flow b m g)))))
 

@@ -12,7 +12,7 @@ use Rattle.nim_program.specs.Program.{Declared, Stmt, Stmts, Blocks, Otherwise, 
 use Rattle.flat_code.specs.declared.line.Line.{Line}
 use Rattle.flat_code.specs.declared.line.Line.TheVariants as L
 use Rattle.flattening.specs.declared.numbers.Purpose.TheVariants.{Arm, Next}
-use Rattle.flattening.specs.Alike.{label_name}
+use Rattle.flat_code.specs.Alike.{label_name}
 use Rattle.flattening.specs.ExprLines.{find_lines, label_tests, value_tests, arm_label, lines, ready_lines, choice_lines, arm_lines, begin_line}
 use Rattle.flattening.specs.Numbering.{width, widths, arm_count, width_in, width_of, label, behind_selector}
 use Rattle.flattening.specs.StmtLines.{Exits, in_loop, block_tests, selector_lines, lines_in, lines_of, branch_lines, arm_blocks}

@@ -109,12 +109,19 @@ module _ (types : List Ty) (facts : Facts) where
   Reads (Doing operation) of = (writes_literals (Doing operation) ≡ true) ⊎ (any_hooked facts of ≡ false)
   Reads act of = Unit {0}
 
+  -- an operand, which may be a text where literals are written
+  abbrev pub TextOr : (written : Bool) → Expr → (simple : Type 0) → Type 0
+  TextOr false value simple = simple
+  TextOr true (Apply node ty (Giving (Characters text)) NoArg) simple = IfAmong ty
+  TextOr true value simple = simple
+
   abbrev mutual
     pub IsSimple : Expr → Type 0
-    IsSimple (Apply node ty act operands) = OfText (act_text act) ty × Reads act (types_in operands) × AreSimple operands
+    IsSimple (Apply node ty act operands) =
+        ((act_text act ≡ false) × IfFine ty) × Reads act (types_in operands) × AreSimple (writes_literals act) operands
     IsSimple (Read path) = (is_located path ≡ true) × IsSimplePath path
     IsSimple (Early node ty short left right) = IsFine ty × IsSimple left × IsSimple right
-    IsSimple (Choose node ty chooser parts) = IfFine ty × AreSimple parts × ChoosesBy chooser parts
+    IsSimple (Choose node ty chooser parts) = IfFine ty × AreSimple false parts × ChoosesBy chooser parts
 
     pub IsSimplePath : Path → Type 0
     IsSimplePath (Variable node ty place global) = IsFine ty
@@ -123,10 +130,13 @@ module _ (types : List Ty) (facts : Facts) where
     IsSimplePath (Element node ty base index constant) = IsFine ty × IsSimplePath base × IsSimple index
     IsSimplePath (Deref ty base) = ⊥
 
-    pub AreSimple : Args → Type 0
-    AreSimple NoArg = Unit {0}
-    AreSimple (ByValue value rest) = IsSimple value × AreSimple rest
-    AreSimple (ByPath path rest) = IsSimplePath path × AreSimple rest
+    pub AreSimple : (written : Bool) → Args → Type 0
+    AreSimple written NoArg = Unit {0}
+    AreSimple written (ByValue value rest) = TextOr written value (IsSimple value) × AreSimple written rest
+    AreSimple written (ByPath path rest) = IsSimplePath path × AreSimple written rest
+
+  abbrev pub IsOperand : (written : Bool) → Expr → Type 0
+  IsOperand written value = TextOr written value (IsSimple value)
 
   abbrev pub LoopFine : Kind → Type 0
   LoopFine While = Unit {0}
@@ -139,15 +149,17 @@ module _ (types : List Ty) (facts : Facts) where
     IsSimpleStmt (Idle node parts) = Unit {0}
     IsSimpleStmt (Give node back value) = IsSimple value
     IsSimpleStmt (Leave node leaving parts) = Unit {0}
-    IsSimpleStmt (Select node chooser tests blocks) = HasSelector chooser tests × AreSimple tests × AreSimpleBlocks blocks × SelectsBy chooser tests blocks
-    IsSimpleStmt (Loop node kind head body) = HeadFits kind head × CountsFrom kind head × LoopFine kind × AreSimple head × AreSimpleStmts body × IsOne kind head
+    IsSimpleStmt (Select node chooser tests blocks) = HasSelector chooser tests × AreSimple false tests × AreSimpleBlocks blocks
+        × SelectsBy chooser tests blocks
+    IsSimpleStmt (Loop node kind head body) = HeadFits kind head × CountsFrom kind head × LoopFine kind × AreSimple false head × AreSimpleStmts body
+        × IsOne kind head
     IsSimpleStmt (Raise node exception message) = ⊥
     IsSimpleStmt (Try node body handlers last) = ⊥
 
     pub AreSimpleStmts : Stmts → Type 0
     AreSimpleStmts Empty = Unit {0}
     AreSimpleStmts (Then first rest) = IsSimpleStmt first × AreSimpleStmts rest
-    AreSimpleStmts (Declare node place cursor value rest) = IsFine place.of × AreSimple value × AreSimpleStmts rest × IsLast value
+    AreSimpleStmts (Declare node place cursor value rest) = IsFine place.of × AreSimple false value × AreSimpleStmts rest × IsLast value
     AreSimpleStmts (Defer node last rest) = ⊥
 
     pub AreSimpleBlocks : Blocks → Type 0

@@ -32,7 +32,7 @@ use Rattle.flattening.specs.Formed.{HasSelector, HeadFits}
 use Rattle.flattening.proofs.Listed.{the_bool}
 use Rattle.flattening.proofs.Parts.{Each, EachIn, apart, both, taking_turns}
 use Rattle.flattening.proofs.Plain.{found, kept, neither, none_earlier}
-use Rattle.flattening.proofs.Simple.{never, act_text, is_literal, CountsFrom, IfFine, IfAmong, OfText, Reads, IsSimple, IsSimplePath, AreSimple, LoopFine}
+use Rattle.flattening.proofs.Simple.{never, act_text, is_literal, CountsFrom, IfFine, IfAmong, Reads, IsSimple, IsOperand, IsSimplePath, AreSimple, LoopFine}
 use Rattle.flattening.proofs.Simple.{AllValues, IsLast, Alone, LabelsFit, LabelledBlocks, IsOne, IsSmall, SmallFirst, ChoosesBy, SelectsBy, IsSimpleStmt}
 use Rattle.flattening.proofs.Simple.{AreSimpleStmts, AreSimpleBlocks}
 
@@ -173,11 +173,6 @@ module _ (types : List Ty) (facts : Facts) (forms : (ty : Ty) → is_among_types
   fine None h l = tt
   fine (Some ty) h l = (l, h)
 
-  of_text : (b : Bool) (ty : Option Ty) → IfFine types facts ty → OfText types facts b ty
-  of_text true None h = tt
-  of_text true (Some ty) h = h.0
-  of_text false ty h = h
-
   no_text_type : {A : Type 0} (ty : Ty) (bytes : List ℕ) → is_among_types types ty ≡ true → is_hooked facts ty ≡ false →
       is_constant facts ty (P.Characters bytes) ≡ true → A
   no_text_type ty bytes among unhooked h =
@@ -281,15 +276,16 @@ module _ (types : List Ty) (facts : Facts) (forms : (ty : Ty) → is_among_types
 
     text_simple : (node : Node) (ty : Option Ty) (text : List ℕ) (operands : Args) → act_fits here ty (Giving (P.Characters text)) operands ≡ true →
         Among (total lists own_types (P.Apply node ty (Giving (P.Characters text)) operands)) →
-        IsSimple types facts (P.Apply node ty (Giving (P.Characters text)) operands)
+        IsOperand types facts true (P.Apply node ty (Giving (P.Characters text)) operands)
     text_simple node None text NoArg h l = never h
-    text_simple node (Some ty) text NoArg h l = (l.0, tt, tt)
+    text_simple node (Some ty) text NoArg h l = l.0
     text_simple node ty text (ByValue value rest) h l = never h
     text_simple node ty text (ByPath path rest) h l = never h
 
     -- an operand, which `echo` may write
     operand_simple : (written : Bool) (e : Expr) → (left_out_in facts e ≡ None → IsSimple types facts e) →
-        unless_literal written e (left_out_in facts e) ≡ None → is_typed here e ≡ true → Among (total lists own_types e) → IsSimple types facts e
+        unless_literal written e (left_out_in facts e) ≡ None → is_typed here e ≡ true → Among (total lists own_types e) →
+        IsOperand types facts written e
     operand_simple false e go p h l = go p
     operand_simple true (P.Apply node ty (Giving (P.Characters text)) operands) go p h l =
         text_simple node ty text operands (and_parts (act_fits here ty (Giving (P.Characters text)) operands) (are_typed here operands) h).0 l
@@ -346,7 +342,10 @@ module _ (types : List Ty) (facts : Facts) (forms : (ty : Ty) → is_among_types
           (left_out_in_args facts (writes_literals act) operands) p in
           let t = and_parts (act_fits here ty act operands) (are_typed here operands) h in
           let k = apart (λ (t : Ty). is_among_types types t ≡ true) (type_if ty ++ act_types act) (totals lists own_types operands) l in (
-            of_text (act_text act) ty (fine ty (unhooked (P.Apply node ty act operands) h p) (if_among ty (act_types act) k.0)),
+            (
+              no_text ty act operands t.0 (unhooked (P.Apply node ty act operands) h p) (if_among ty (act_types act) k.0),
+              fine ty (unhooked (P.Apply node ty act operands) h p) (if_among ty (act_types act) k.0),
+            ),
             reads act operands t.1 q.1,
             simples (writes_literals act) operands t.1 q.1 k.1,
           )
@@ -387,7 +386,7 @@ module _ (types : List Ty) (facts : Facts) (forms : (ty : Ty) → is_among_types
       simple_path read (P.Deref ty base) h p l = found _ p
 
       pub simples : (written : Bool) (args : Args) → are_typed here args ≡ true → left_out_in_args facts written args ≡ None →
-          Among (totals lists own_types args) → AreSimple types facts args
+          Among (totals lists own_types args) → AreSimple types facts written args
       simples written NoArg h p l = tt
       simples written (ByValue e rest) h p l =
           let t = and_parts (is_typed here e) (are_typed here rest) h in

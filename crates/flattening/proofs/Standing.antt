@@ -9,7 +9,6 @@ use Rattle.flattening.proofs.Spots.{Spot}
 -- what is asked of the tree of a body, whose call is at a spot
 abbrev pub grounded : Spot → (top : Bool) → (room : ℕ → Type 0) → (names : (proc place : ℕ) → Type 0) → Ground
 grounded c top room names = record {
-  facts = c.fixed.program.facts;
   types = c.fixed.program.types;
   top = top;
   room = room;

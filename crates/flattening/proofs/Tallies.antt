@@ -5,7 +5,7 @@ use Rattle.std.specs.Prelude.{◌&&◌, ◌||◌, nat_eq, nat_lt}
 use Rattle.std.proofs.lemmas.Bool.{eqb-true, eq-eqb, ltb-true, lt-ltb, both_ways}
 use Rattle.flat_code.specs.declared.line.Line.{Line}
 use Rattle.flattening.specs.declared.numbers.Purpose.TheVariants.{Arm, End, Next, Turn}
-use Rattle.flattening.specs.Alike.{value_name, location_name, label_name, name_of, gives_text, IsProperty, is_named, is_as, gives_as}
+use Rattle.flat_code.specs.Alike.{value_name, location_name, label_name, name_of, gives_text, IsProperty, is_named, is_as, gives_as}
 use Rattle.flattening.specs.Numbering.{label}
 
 -- ---- a measure of lines, over those that are put in front of others: at most so much, with so much to spare
@@ -168,7 +168,22 @@ module _ (name : ℕ) where
       let m4 = below_more (suc (location_name t)) (label_name (label Next t)) (omega arith) in
       let m5 = below_more (suc (label_name (label Next t))) (label_name (label Turn t)) (omega arith) in
       let m6 = below_more (suc (label_name (label Turn t))) (8 * suc t) (omega arith) in
-      omega (arith, below_next (label_name (label Arm t)), below_next (value_name t), below_next (label_name (label End t)), below_next (location_name t), below_next (label_name (label Next t)), below_next (label_name (label Turn t)), m0, m1, m2, m3, m4, m5, m6)
+      omega (
+        arith,
+        below_next (label_name (label Arm t)),
+        below_next (value_name t),
+        below_next (label_name (label End t)),
+        below_next (location_name t),
+        below_next (label_name (label Next t)),
+        below_next (label_name (label Turn t)),
+        m0,
+        m1,
+        m2,
+        m3,
+        m4,
+        m5,
+        m6,
+      )
 
   -- ---- lines
 

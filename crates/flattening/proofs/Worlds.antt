@@ -5,8 +5,8 @@ use Rattle.std.specs.Prelude.{◌-◌, take, slice_get, slice_set}
 use Rattle.std.proofs.lemmas.List.{length-set, length-take-le}
 use Rattle.nim_meaning.specs.Heap.{Block, block_at}
 use Rattle.nim_meaning.specs.Values.{Value, Base, Standing, Waiting, InBlock, InHand, InException, Made, Slot, Holds}
-use Rattle.nim_meaning.specs.State.{Frame, World, no_frame, frame_in, frame_at, joined, slot_at, stored, with_frame, down_to}
-use Rattle.nim_meaning.specs.Deeds.{Change, Stores, Opens, Closes, Refills, Frees, freed, changed}
+use Rattle.nim_meaning.specs.State.{Temporary, Frame, World, no_frame, frame_in, frame_at, joined, slot_at, with_temporaries, stored, with_frame, down_to}
+use Rattle.nim_meaning.specs.Deeds.{Change, Stores, Opens, Closes, Waits, Leaves, Pushes, Pops, Reads, Refills, Frees, freed, changed}
 use Rattle.flat_code.specs.Lines.{is_there}
 
 -- ---- the slots of a frame
@@ -94,6 +94,11 @@ abbrev pub Opening : Change → Type 0
 Opening (Stores location v) = Unit {0}
 Opening (Opens level place slot) = Unit {0}
 Opening (Closes level place) = ⊥
+Opening (Waits level node slot) = Unit {0}
+Opening (Leaves level node) = Unit {0}
+Opening (Pushes v) = Unit {0}
+Opening Pops = Unit {0}
+Opening (Reads n) = Unit {0}
 Opening (Refills k contents) = Unit {0}
 Opening (Frees k) = Unit {0}
 
@@ -108,11 +113,17 @@ since_slot level world at n slot =
     since_framed level world (slice_set world.frames at g) (length-set world.frames at g)
     (λ l. frame_put world.frames at l g (record { first = refl; slots = λ i. slot_put f.slots (n - f.first) i slot }))
 
+-- temporaries are no places
+since_waiting : (level : ℕ) (world : World) (at : ℕ) (temporaries : List Temporary) → Since level world (with_temporaries world at temporaries)
+since_waiting level world at temporaries =
+    let f = frame_at world at in
+    let g : Frame = record f { temporaries = temporaries } in
+    since_framed level world (slice_set world.frames at g) (length-set world.frames at g)
+    (λ l. frame_put world.frames at l g (record { first = refl; slots = λ i. rises_same (slice_get f.slots i) }))
+
 since_stored : (level : ℕ) (world : World) (base : Base) (v : Value) → Since level world (stored world base v)
 since_stored level world (Standing at n) v = since_slot level world at n (Holds v)
-since_stored level world (Waiting at node) v =
-    since_framed level world (stored world (Waiting at node) v).frames (length-set world.frames at _)
-    (λ l. frame_put world.frames at l _ (record { first = refl; slots = λ i. rises_same (slice_get (frame_at world at).slots i) }))
+since_stored level world (Waiting at node) v = since_waiting level world at _
 since_stored level world (InBlock k) v = record { frames = refl; grows = λ l le. grows_same (frame_at world l) }
 since_stored level world (InHand i) v = record { frames = refl; grows = λ l le. grows_same (frame_at world l) }
 since_stored level world (InException i) v = record { frames = refl; grows = λ l le. grows_same (frame_at world l) }
@@ -126,6 +137,11 @@ pub since_changed : (level : ℕ) (c : Change) (world : World) → Opening c →
 since_changed level (Stores location v) world h = since_stored level world location.base _
 since_changed level (Opens at n slot) world h = since_slot level world at n slot
 since_changed level (Closes at n) world h = absurd h
+since_changed level (Waits at node slot) world h = since_waiting level world at _
+since_changed level (Leaves at node) world h = since_waiting level world at _
+since_changed level (Pushes v) world h = record { frames = refl; grows = λ l le. grows_same (frame_at world l) }
+since_changed level Pops world h = record { frames = refl; grows = λ l le. grows_same (frame_at world l) }
+since_changed level (Reads n) world h = record { frames = refl; grows = λ l le. grows_same (frame_at world l) }
 since_changed level (Refills k contents) world h = record { frames = refl; grows = λ l le. grows_same (frame_at world l) }
 since_changed level (Frees k) world h = since_freed level world k (block_at world.heap k)
 

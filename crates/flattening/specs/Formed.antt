@@ -1,21 +1,21 @@
--- Programs whose flat code does what they mean: types are those of the table, what operations take has nothing to do when it is copied or
--- destroyed, places are open where they are named, loops have the heads of their kinds, and each way out leads somewhere.
+-- Programs whose flat code does what they mean: types are those of the table, places are open where they are named, loops have the heads of their
+-- kinds, each way out leads somewhere, and no value has anything to do when it is copied or destroyed.
 use Rattle.std.specs.Prelude.{◌≡◌, ℕ, suc, ◌+◌, ◌-◌, ◌<◌, ◌⊎◌, Bool, true, false, List, [], ◌∷◌, length, Option, Some, None, slice_get}
-use Rattle.nim_types.specs.Types.{Ty, Facts}
+use Rattle.nim_types.specs.Types.{Ty}
 use Rattle.nim_types.specs.Table.{type_at as type_by_number}
 use Rattle.nim_program.specs.declared.stmt.Leaving.{Leaving}
 use Rattle.nim_program.specs.declared.stmt.Leaving.TheVariants.{Break, Continue, Return}
-use Rattle.nim_program.specs.Program.{Act, Doing, Building, Giving, Calling, Characters, Chooser, ByLabels, Expr, Apply, Read, Early, Choose}
+use Rattle.nim_program.specs.Program.{Act, Doing, Building, Giving, Calling, Label, Ordinals, Exactly, Chooser, ByConditions, ByLabels, Expr, Apply, Read}
+use Rattle.nim_program.specs.Program.{Early, Choose}
 use Rattle.nim_program.specs.Program.{Path, Variable, Fresh, Field, Element, Deref, Args, NoArg, ByValue, ByPath, Declared, Kind, While, Count, Each}
 use Rattle.nim_program.specs.Program.{Stmt, Do, Idle, Give, Leave, Select, Loop, Raise, Try, Stmts, Empty, Then, Declare, Defer, Blocks, Otherwise, Block}
-use Rattle.nim_program.specs.Program.{type_of, type_at, types_in, Param, Body, Proc, Program}
-use Rattle.nim_meaning.specs.Here.{gives_hooked}
+use Rattle.nim_program.specs.Program.{type_at, types_in, Param, Body, Proc, Program}
+use Rattle.nim_meaning.specs.Runs.{has_no_hooks}
 use Rattle.flattening.specs.Numbering.{type_number}
 
--- What is known around a part of a body: of types; whether it is the start code, whose places are the globals; which numbers the places of the
+-- What is known around a part of a body: the types of the table; whether it is the start code, whose places are the globals; which numbers the places of the
 -- call's frame have; and of each procedure how many arguments it takes, and which globals it may name.
 pub record Ground : Type 1 where
-  pub facts : Facts
   pub types : List Ty
   pub top : Bool
   pub room : ℕ → Type 0
@@ -46,19 +46,6 @@ AreListed types (ty ∷ tys) = IfListed types ty × AreListed types tys
 
 -- ---- operands
 
-abbrev pub is_text : Expr → Bool
-is_text (Apply node ty (Giving (Characters text)) operands) = true
-is_text _ = false
-
--- what an operation takes as it is: a value without hooks, or a text that nobody owns
-abbrev pub IsTaken : Facts → Expr → Type 0
-IsTaken facts value = (gives_hooked facts (type_of value) ≡ false) ⊎ (is_text value ≡ true)
-
-abbrev pub AreTaken : Facts → Args → Type 0
-AreTaken facts NoArg = Unit {0}
-AreTaken facts (ByValue value rest) = IsTaken facts value × AreTaken facts rest
-AreTaken facts (ByPath path rest) = AreTaken facts rest
-
 abbrev pub count : Args → ℕ
 count NoArg = 0
 count (ByValue value rest) = suc (count rest)
@@ -70,21 +57,37 @@ ActFormed g Open ty (Doing operation) operands = IfListed g.types ty × AreListe
 ActFormed g Open ty (Building fields) operands = HasListed g.types ty
 ActFormed g Open ty (Giving literal) operands = HasListed g.types ty
 ActFormed g Open ty (Calling proc types) operands =
-    (gives_hooked g.facts ty ≡ false) × (count operands ≡ g.takes proc) × ((place : ℕ) → g.names proc place → Open true place)
+    (count operands ≡ g.takes proc) × ((place : ℕ) → g.names proc place → Open true place)
+
+-- ---- labels
+
+-- flat code has no tests for texts yet
+abbrev pub AreOrdinals : List Label → Type 0
+AreOrdinals [] = Unit {0}
+AreOrdinals (Ordinals low high ∷ labels) = AreOrdinals labels
+AreOrdinals (Exactly text ∷ labels) = ⊥
+
+abbrev pub AllOrdinals : List (List Label) → Type 0
+AllOrdinals [] = Unit {0}
+AllOrdinals (these ∷ labels) = AreOrdinals these × AllOrdinals labels
+
+abbrev pub HasOrdinals : Chooser → Type 0
+HasOrdinals ByConditions = Unit {0}
+HasOrdinals (ByLabels labels) = AllOrdinals labels
 
 -- ---- expressions
 
 module _ (g : Ground) (Open : Scope) where
   abbrev mutual
     pub Formed : Expr → Type 0
-    Formed (Apply node ty act operands) = ActFormed g Open ty act operands × AreTaken g.facts operands × AllFormed operands
+    Formed (Apply node ty act operands) = ActFormed g Open ty act operands × AllFormed operands
     Formed (Read path) = IfListed g.types (type_at path) × PathFormed path
     Formed (Early node ty short left right) = Formed left × Formed right
-    Formed (Choose node ty chooser parts) = IfListed g.types ty × AllFormed parts
+    Formed (Choose node ty chooser parts) = IfListed g.types ty × HasOrdinals chooser × AllFormed parts
 
     pub PathFormed : Path → Type 0
     PathFormed (Variable node ty place global) = Open global place
-    PathFormed (Fresh value) = IsTaken g.facts value × Formed value
+    PathFormed (Fresh value) = Formed value
     PathFormed (Field node ty base field) = PathFormed base
     PathFormed (Element node ty base index constant) = PathFormed base × Formed index
     PathFormed (Deref ty base) = PathFormed base
@@ -139,9 +142,10 @@ module _ (g : Ground) where
     StmtFormed inside Open (Idle node parts) = Unit {0}
     StmtFormed inside Open (Give node back value) = Formed g Open value
     StmtFormed inside Open (Leave node leaving parts) = MayLeave inside leaving
-    StmtFormed inside Open (Select node chooser tests blocks) = HasSelector chooser tests × AllFormed g Open tests × BlocksFormed inside Open blocks
+    StmtFormed inside Open (Select node chooser tests blocks) =
+        HasSelector chooser tests × HasOrdinals chooser × AllFormed g Open tests × BlocksFormed inside Open blocks
     StmtFormed inside Open (Loop node kind head body) =
-        HeadFits kind head × AreTaken g.facts head × AllFormed g Open head × HasRoom g kind × BlockFormed true (InLoop g Open kind) body
+        HeadFits kind head × AllFormed g Open head × HasRoom g kind × BlockFormed true (InLoop g Open kind) body
     StmtFormed inside Open (Raise node exception message) = Unit {0}
     StmtFormed inside Open (Try node body handlers last) = Unit {0}
 
@@ -174,7 +178,6 @@ results (Some place) = 1
 
 abbrev pub ground_of : Program → (names : (proc place : ℕ) → Type 0) → (top : Bool) → Body → Ground
 ground_of program names top body = record {
-  facts = program.facts;
   types = program.types;
   top = top;
   room = λ place. place - body.first < body.places;
@@ -209,3 +212,5 @@ pub record IsFormed (program : Program) : Type 0 where
   pub start : BodyFormed (ground_of program (named_in names) true program.start) (AtFirst 0 (λ place. ⊥) program.start) program.start
   -- the start code has no result
   pub gives : program.start.result ≡ None
+  -- flat code has no lines yet for values that are copied or destroyed
+  pub no_hooks : has_no_hooks program ≡ true

@@ -11,5 +11,4 @@ pub mod Written
 pub mod Views
 pub mod PlaceViews
 pub mod Forms
-pub mod Alike
-pub mod PlainCode
+pub mod BodySums

@@ -19,13 +19,14 @@ ghost use Rattle.flat_code.specs.Scene.{Known, known_in};
 ghost use Rattle.flat_code.specs.Sizes.{code_weight, globals_bytes, code_texts};
 ghost use Rattle.flat_code.specs.Whole.{label_in, are_whole};
 ghost use Rattle.flattening.specs.declared.laws.TheConstants.{FLAT_PACE, NODE_WEIGHT};
-ghost use Rattle.flattening.specs.Alike.{AllAlike};
+ghost use Rattle.flat_code.specs.Alike.{AllAlike};
 ghost use Rattle.flattening.specs.Counted.{program_parts, times, program_times};
 ghost use Rattle.flattening.specs.Examples.{counting};
 ghost use Rattle.flattening.specs.Flattened.{known_of, code_of, flat_meaning, flat_by_units, IsExact};
 ghost use Rattle.flattening.specs.Formed.{IsFormed};
 ghost use Rattle.flattening.specs.Given.{flat_procs, flat_of};
-ghost use Rattle.flattening.specs.PlainCode.{ArePlainProcs, SumsWithin};
+ghost use Rattle.flat_code.specs.PlainCode.{ArePlainProcs};
+ghost use Rattle.flattening.specs.BodySums.{SumsWithin};
 
 /// Flat code does at most so many times the work of its program's meaning and one more.
 pub const FLAT_PACE: u32 = 12;

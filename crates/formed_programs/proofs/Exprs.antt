@@ -1,27 +1,26 @@
 -- Typed expressions are formed.
-use Rattle.std.proofs.Common.{◌≡◌, ℕ, inl, inr, Bool, true, false, List, [], ◌++◌, Option, Some, None, refl, sym, subst}
+use Rattle.std.proofs.Common.{◌≡◌, ℕ, Bool, true, false, List, [], ◌++◌, Option, Some, None, refl}
 use Rattle.std.specs.Prelude.{not, ◌&&◌, ◌||◌, slice_get, take}
 use Rattle.std.proofs.lemmas.Bool.{both_ways, and_parts, or_parts}
 use Rattle.nim_types.specs.Types.{Ty, Facts}
-use Rattle.nim_types.specs.Types as type
 use Rattle.nim_program.specs.declared.expr.Node.{Node}
 use Rattle.nim_program.specs.Program as P
-use Rattle.nim_program.specs.Program.{Literal, Act, Doing, Building, Giving, Calling, Chooser, Expr, Path, Args, NoArg, ByValue, ByPath, Proc, type_of, type_at}
-use Rattle.nim_program.specs.Program.{types_in, node_at, constant_in}
+use Rattle.nim_program.specs.Program.{Literal, Act, Doing, Building, Giving, Calling, Expr, Path, Args, NoArg, ByValue, ByPath, Proc, type_of, type_at}
+use Rattle.nim_program.specs.Program.{types_in, constant_in}
 use Rattle.nim_program.specs.Folds.{if_constant, begun_by, lists, total, total_at, totals}
 use Rattle.nim_program.proofs.ForCallers.{in_fresh}
-use Rattle.nim_program.specs.Kinds.{kind_if, is_bool, is_of, is_there, field_at}
+use Rattle.nim_program.specs.Kinds.{kind_if, is_of, is_there, field_at}
 use Rattle.nim_program.specs.Fitting.{early_fits, building_fits, chooser_fits}
 use Rattle.nim_program.specs.Scopes.{Placed, Here, type_in}
 use Rattle.nim_program.specs.Typed.{own_types, type_if, act_types, act_fits, is_typed, is_typed_path, are_typed, is_whole, is_fresh}
 use Rattle.nim_program.specs.Typed.{choice_is_placed, is_read}
 use Rattle.nim_meaning.specs.Here.{is_hooked, gives_hooked}
 use Rattle.nim_meaning.specs.LeftOut.{out_if, writes_literals, unless_literal, left_out_in, left_out_in_path, left_out_in_args, is_act_built, first_hooked}
-use Rattle.flattening.specs.Formed.{Ground, Scope, IsListed, IfListed, HasListed, AreListed, IsTaken, AreTaken, ActFormed, Formed, PathFormed, AllFormed}
+use Rattle.flattening.specs.Formed.{Ground, Scope, IsListed, IfListed, HasListed, AreListed, ActFormed, Formed, PathFormed, AllFormed}
 use Rattle.flattening.specs.Formed.{taken_by, named_in}
 use Rattle.formed_programs.proofs.Parts.{Each, apart, both}
 use Rattle.formed_programs.proofs.Plain.{kept, neither}
-use Rattle.formed_programs.proofs.Listed.{the_bool}
+use Rattle.formed_programs.proofs.Labels.{value_ordinals}
 use Rattle.formed_programs.proofs.Seen.{Sees, named_by, looked, as_many, all_open}
 
 never : {A : Type 0} → false ≡ true → A
@@ -35,7 +34,6 @@ left e = cc
 module _ (types : List Ty) (facts : Facts) (procs : List Proc) (globals : List Placed) (top : Bool) (room : ℕ → Type 0) where
   abbrev pub ground : Ground
   ground = record {
-    facts = facts;
     types = types;
     top = top;
     room = room;
@@ -61,27 +59,6 @@ module _ (types : List Ty) (facts : Facts) (procs : List Proc) (globals : List P
   module _ (filled : ℕ) (places : List Placed) (dest : Option ℕ) where
     abbrev here : Here
     here = seen filled places dest
-
-    -- ---- what is built has nothing to do when it is copied or destroyed
-
-    mutual
-      unhooked : (e : Expr) → is_typed here e ≡ true → left_out_in facts e ≡ None → gives_hooked facts (type_of e) ≡ false
-      unhooked (P.Apply node ty act operands) h p =
-          (or_parts (gives_hooked facts ty) (not (is_act_built act facts (types_in operands))) (kept _ node (neither _ _ p).0)).0
-      unhooked (P.Read path) h p = unhooked_path path (and_parts (is_read facts path) (is_typed_path here path) h).1 p
-      unhooked (P.Early node ty short a b) h p =
-          let is : ty ≡ type.bool =
-          the_bool facts ty (and_parts (is_bool (kind_if facts (Some ty))) _ (and_parts (early_fits facts ty (type_of a) (type_of b)) _ h).0).0 in
-          subst (λ t. is_hooked facts t ≡ false) (sym is) refl
-      unhooked (P.Choose node ty chooser parts) h p =
-          (or_parts (gives_hooked facts ty) (first_hooked facts (types_in parts)) (kept _ node (neither _ _ p).0)).0
-
-      unhooked_path : (path : Path) → is_typed_path here path ≡ true → left_out_in_path facts path ≡ None → gives_hooked facts (type_at path) ≡ false
-      unhooked_path (P.Variable node ty place global) h p = kept _ node p
-      unhooked_path (P.Fresh value) h p = unhooked value (and_parts (is_fresh value && is_there (type_of value)) (is_typed here value) h).1 p
-      unhooked_path (P.Field node ty base field) h p = kept _ node (neither _ _ p).0
-      unhooked_path (P.Element node ty base index constant) h p = kept _ node (neither _ _ p).0
-      unhooked_path (P.Deref ty base) h p = left p
 
     -- ---- types of operands
 
@@ -141,23 +118,6 @@ module _ (types : List Ty) (facts : Facts) (procs : List Proc) (globals : List P
         let l = apart (IsListed types) (total_at lists own_types false path) (totals lists own_types rest) h in
         (path_listed false path q.0 l.0, all_listed written rest q.1 l.1)
 
-    -- ---- what operations take
-
-    one_taken : (written : Bool) (e : Expr) → Wrote written e → is_typed here e ≡ true → IsTaken facts e
-    one_taken written e (whole p) h = inl (unhooked e h p)
-    one_taken written e written_text h = inr refl
-
-    pub all_taken : (written : Bool) (operands : Args) → are_typed here operands ≡ true → left_out_in_args facts written operands ≡ None
-        → AreTaken facts operands
-    all_taken written NoArg h p = tt
-    all_taken written (ByValue value rest) h p =
-        let q = neither (unless_literal written value (left_out_in facts value)) (left_out_in_args facts written rest) p in
-        let t = and_parts (is_typed here value) (are_typed here rest) h in
-        (one_taken written value (wrote written value q.0) t.0, all_taken written rest t.1 q.1)
-    all_taken written (ByPath path rest) h p =
-        let q = neither (left_out_in_path facts path) (left_out_in_args facts written rest) p in
-        all_taken written rest (and_parts (is_whole facts path && is_typed_path here path) (are_typed here rest) h).1 q.1
-
     -- ---- acts
 
     built_there : (ty : Option Ty) (fields : List ℕ) (operands : List (Option Ty)) → building_fits facts ty fields operands ≡ true → is_there ty ≡ true
@@ -172,12 +132,12 @@ module _ (types : List Ty) (facts : Facts) (procs : List Proc) (globals : List P
 
     module _ (Open : Scope) (sees : Sees globals Open filled places) where
       act_formed : (ty : Option Ty) (act : Act) (operands : Args) → act_fits here ty act operands ≡ true → Listed (type_if ty ++ act_types act)
-          → gives_hooked facts ty ≡ false → AreListed types (types_in operands) → ActFormed ground Open ty act operands
-      act_formed ty (Doing operation) operands h l p all = (type_listed ty _ l, all)
-      act_formed ty (Building fields) operands h l p all = has_listed ty _ l (built_there ty fields (types_in operands) (and_parts _ _ h).0)
-      act_formed ty (Giving literal) operands h l p all = has_listed ty _ l (given_there ty literal operands h)
-      act_formed ty (Calling proc of) operands h l p all =
-          (p, as_many here (slice_get procs proc) of ty operands h, all_open here Open (slice_get procs proc) of ty operands h sees.global)
+          → AreListed types (types_in operands) → ActFormed ground Open ty act operands
+      act_formed ty (Doing operation) operands h l all = (type_listed ty _ l, all)
+      act_formed ty (Building fields) operands h l all = has_listed ty _ l (built_there ty fields (types_in operands) (and_parts _ _ h).0)
+      act_formed ty (Giving literal) operands h l all = has_listed ty _ l (given_there ty literal operands h)
+      act_formed ty (Calling proc of) operands h l all =
+          (as_many here (slice_get procs proc) of ty operands h, all_open here Open (slice_get procs proc) of ty operands h sees.global)
 
       opened : (global : Bool) (place : ℕ) (ty : Ty) (found : Option Ty) → type_in here global place ≡ found → is_of found (Some ty) ≡ true
           → Open global place
@@ -187,7 +147,7 @@ module _ (types : List Ty) (facts : Facts) (procs : List Proc) (globals : List P
 
       text_formed : (node : Node) (ty : Option Ty) (text : List ℕ) (operands : Args) → act_fits here ty (Giving (P.Characters text)) operands ≡ true
           → Listed (type_if ty ++ []) → Formed ground Open (P.Apply node ty (Giving (P.Characters text)) operands)
-      text_formed node ty text NoArg h l = (has_listed ty _ l (given_there ty (P.Characters text) NoArg h), tt, tt)
+      text_formed node ty text NoArg h l = (has_listed ty _ l (given_there ty (P.Characters text) NoArg h), tt)
       text_formed node ty text (ByValue value rest) h l = never h
       text_formed node ty text (ByPath path rest) h l = never h
 
@@ -205,11 +165,7 @@ module _ (types : List Ty) (facts : Facts) (procs : List Proc) (globals : List P
             let q = neither (out_if (gives_hooked facts ty || not (is_act_built act facts (types_in operands))) node)
             (left_out_in_args facts (writes_literals act) operands) p in
             let k = apart (IsListed types) (type_if ty ++ act_types act) (totals lists own_types operands) l in
-            let u = or_parts (gives_hooked facts ty) (not (is_act_built act facts (types_in operands))) (kept _ node q.0) in (
-              act_formed ty act operands t.0 k.0 u.0 (all_listed (writes_literals act) operands q.1 k.1),
-              all_taken (writes_literals act) operands t.1 q.1,
-              all_formed (writes_literals act) operands t.1 q.1 k.1,
-            )
+            (act_formed ty act operands t.0 k.0 (all_listed (writes_literals act) operands q.1 k.1), all_formed (writes_literals act) operands t.1 q.1 k.1)
         formed (P.Read path) h p l = (path_listed true path p l, path_formed true path (and_parts (is_read facts path) (is_typed_path here path) h).1 p l)
         formed (P.Early node ty short a b) h p l =
             let t = and_parts (is_typed here a) (is_typed here b) (and_parts (early_fits facts ty (type_of a) (type_of b)) _ h).1 in
@@ -220,7 +176,9 @@ module _ (types : List Ty) (facts : Facts) (procs : List Proc) (globals : List P
             let t = and_parts (chooser_fits facts ty chooser (types_in parts) && choice_is_placed chooser parts) (are_typed here parts) h in
             let q = neither (out_if (gives_hooked facts ty || first_hooked facts (types_in parts)) node) (left_out_in_args facts false parts) p in
             let k = apart (IsListed types) (type_if ty ++ []) (totals lists own_types parts) l in
-            (type_listed ty [] k.0, all_formed false parts t.1 q.1 k.1)
+            let u = or_parts (gives_hooked facts ty) (first_hooked facts (types_in parts)) (kept _ node q.0) in
+            let f = (and_parts (chooser_fits facts ty chooser (types_in parts)) (choice_is_placed chooser parts) t.0).0 in
+            (type_listed ty [] k.0, value_ordinals facts ty chooser (types_in parts) f u.1, all_formed false parts t.1 q.1 k.1)
 
         path_formed : (read : Bool) (path : Path) → is_typed_path here path ≡ true → left_out_in_path facts path ≡ None
             → Listed (total_at lists own_types read path) → PathFormed ground Open path
@@ -229,7 +187,7 @@ module _ (types : List Ty) (facts : Facts) (procs : List Proc) (globals : List P
             let t = (and_parts (is_fresh value && is_there (type_of value)) (is_typed here value) h).1 in
             let k = in_fresh own_types (λ node ty read literal. refl) Listed (λ xs ys h. (apart (IsListed types) xs ys h).1)
             (λ xs h. both (IsListed types) xs [] h tt) read value l in
-            (inl (unhooked value t p), formed value t p k)
+            formed value t p k
         path_formed read (P.Field node ty base field) h p l =
             path_formed false base (and_parts (is_of (field_at (kind_if facts (type_at base)) field) (Some ty)) (is_typed_path here base) h).1
             (neither _ _ p).1 l.1

@@ -2,8 +2,9 @@ mod Parts
 mod Plain
 mod Listed
 mod Seen
+mod Labels
 mod Exprs
 mod Stmts
+mod Unhooked
 mod Programs
 mod Tables
-mod Unhooked

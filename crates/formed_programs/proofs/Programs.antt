@@ -22,6 +22,7 @@ use Rattle.formed_programs.proofs.Plain.{neither, none_earlier, none_mapped}
 use Rattle.formed_programs.proofs.Listed.{all_listed}
 use Rattle.formed_programs.proofs.Seen.{numbers, named_by, named_by_body, Sees}
 use Rattle.formed_programs.proofs.Stmts.{block_formed, code_formed}
+use Rattle.formed_programs.proofs.Unhooked.{unhooked_program}
 
 never : {A : Type 0} → false ≡ true → A
 never e = absurd (both_ways false refl e)
@@ -205,4 +206,5 @@ module _ (program : Program) where
         procs = λ n proc body is has. let a = at_proc program.procs n proc is t.0 k.0 p.0 in is_body n proc body is has a.0 a.1 a.2;
         start = start_formed t.1 k.1 p.1;
         gives = no_result program.start.result l.1;
+        no_hooks = unhooked_program program typed plain;
       }

@@ -7,8 +7,8 @@ use Rattle.nim_program.specs.declared.expr.Node.{Node}
 use Rattle.nim_program.specs.declared.stmt.Leaving.{Leaving}
 use Rattle.nim_program.specs.declared.stmt.Leaving.TheVariants.{Break, Continue, Return}
 use Rattle.nim_program.specs.Program as P
-use Rattle.nim_program.specs.Program.{Label, Chooser, ByConditions, ByLabels, Args, NoArg, ByValue, ByPath, Declared, Kind, While, Count, Each as EachKind}
-use Rattle.nim_program.specs.Program.{Stmt, Stmts, Blocks, Proc, type_of, types_in, type_at}
+use Rattle.nim_program.specs.Program.{Chooser, ByConditions, ByLabels, Args, NoArg, ByValue, ByPath, Declared, Kind, While, Count, Each as EachKind}
+use Rattle.nim_program.specs.Program.{Stmt, Stmts, Blocks, Proc, types_in}
 use Rattle.nim_program.specs.Folds.{lists, total, total_at, totals, each, total_in, total_of, each_block, own_places, loop_places}
 use Rattle.nim_program.specs.Scopes.{Placed, placed, Here}
 use Rattle.nim_program.specs.Typed.{own_types, place_types, are_typed, Around, module_code, looping, may_leave, is_empty}
@@ -17,9 +17,10 @@ use Rattle.nim_meaning.specs.Here.{is_hooked}
 use Rattle.nim_meaning.specs.LeftOut.{out_if, left_out_in_args, left_out_in_stmt, left_out_in_block, left_out_in_blocks, first_hooked}
 use Rattle.flattening.specs.Formed.{Ground, Scope, With, InLoop, HasRoom, HeadFits, HasSelector, MayLeave, StmtFormed, BlockFormed, BlocksFormed, IsListed}
 use Rattle.formed_programs.proofs.Parts.{Each, EachIn, apart, both, taking_turns}
-use Rattle.formed_programs.proofs.Plain.{neither, none_earlier}
+use Rattle.formed_programs.proofs.Plain.{kept, neither, none_earlier}
+use Rattle.formed_programs.proofs.Labels.{stmt_ordinals}
 use Rattle.formed_programs.proofs.Seen.{Sees, sees_place, sees_global}
-use Rattle.formed_programs.proofs.Exprs.{ground, seen, formed, all_formed, all_taken}
+use Rattle.formed_programs.proofs.Exprs.{ground, seen, formed, all_formed}
 
 never : {A : Type 0} → false ≡ true → A
 never e = absurd (both_ways false refl e)
@@ -97,11 +98,12 @@ module _ (types : List Ty) (facts : Facts) (procs : List Proc) (globals : List P
       stmt_formed Open places sees around (P.Select node chooser tests blocks) h p l r =
           let t = and_parts (chooses facts chooser tests blocks && are_typed (here places) tests) (are_typed_blocks (here places) around blocks) h in
           let u = and_parts (chooses facts chooser tests blocks) (are_typed (here places) tests) t.0 in
-          let q = none_earlier (left_out_in_args facts false tests) (left_out_in_blocks facts blocks)
-          (neither (out_if (first_hooked facts (types_in tests)) node) _ p).1 in
+          let o = neither (out_if (first_hooked facts (types_in tests)) node) _ p in
+          let q = none_earlier (left_out_in_args facts false tests) (left_out_in_blocks facts blocks) o.1 in
           let k = taking_turns (IsListed types) (each lists own_types tests) (each_block lists own_types blocks) l in
           let m = taking_turns (λ d. room d.number) (each lists own_places tests) (each_block lists own_places blocks) r in (
             has_selector facts chooser tests blocks u.0,
+            stmt_ordinals facts chooser tests blocks u.0 (kept _ node o.0),
             all_formed types facts procs globals top room filled places dest Open sees false tests u.1 q.0 (of_each types tests k.0),
             blocks_formed Open places sees around blocks t.1 q.1 k.1 m.1,
           )
@@ -115,7 +117,6 @@ module _ (types : List Ty) (facts : Facts) (procs : List Proc) (globals : List P
           let n = apart (λ d. room d.number) (totals lists own_places operands) (total_of lists own_places body) m.1 in
           let w = in_loop Open filled places dest kind sees in (
             head facts kind operands u.0,
-            all_taken types facts procs globals top room filled places dest false operands u.1 q.0,
             all_formed types facts procs globals top room filled places dest Open sees false operands u.1 q.0 j.0,
             m.0,
             block_formed (InLoop g Open kind) w.0 w.2 (looping around) body

@@ -13,6 +13,7 @@ use Rattle.nim_meaning.specs.ActTree as tree
 use Rattle.nim_meaning.specs.Values.{Value, Standing, Made, nothing}
 use Rattle.nim_meaning.specs.Here.{Here, level_of, gives_hooked}
 use Rattle.nim_meaning.specs.Aims.{Aim, Root as At_root, PartOf, ItemOf, ObjectOf, fresh_root, Ready, Evaluated, Aimed, operand_for}
+use Rattle.nim_meaning.specs.Shapes.{is_text}
 use Rattle.nim_meaning.specs.ActsOf.{is_literal, temporary, path_before, path_of, is_hooked, with_value, works_on, taking, reading}
 use Rattle.nim_meaning.specs.Meaning.{ready_aim}
 use Rattle.nim_meaning.specs.ActsOf as acts
@@ -92,8 +93,8 @@ module _ (here : Here) where
   some_operands (T.ByValue value rest) =
       let more = some_operands rest in
       record {
-        ready = Evaluated (operand_for false here.level 0 nothing) ∷ more.ready;
-        lead = value_leads false 0 nothing more.lead;
+        ready = Evaluated (operand_for false Owned here.level 0 nothing) ∷ more.ready;
+        lead = value_leads false Owned 0 nothing more.lead;
       }
   some_operands (T.ByPath path rest) =
       let it = some_aim path in
@@ -104,13 +105,13 @@ module _ (here : Here) where
 
   pub head_looks : (head : Args) {ready : List Ready} → AllLead here (paths_in head) ready → LooksFor here (acts.looked_up head []) (ready_aim ready)
   head_looks T.NoArg none_leads = at_value
-  head_looks (T.ByValue value rest) (value_leads hook n v h) = at_value
+  head_looks (T.ByValue value rest) (value_leads hook how n v h) = at_value
   head_looks (T.ByPath path rest) (path_leads l h) = along l
 
   pub element_looks : (head : Args) (index : ℤ) {ready : List Ready} → AllLead here (paths_in head) ready →
       LooksFor here (acts.looked_up head (Index None ∷ [])) (ItemOf (ready_aim ready) index)
   element_looks T.NoArg index none_leads = in_value
-  element_looks (T.ByValue value rest) index (value_leads hook n v h) = in_value
+  element_looks (T.ByValue value rest) index (value_leads hook how n v h) = in_value
   element_looks (T.ByPath path rest) index (path_leads {aim = aim} l h) = along (lead_element path None index aim l)
 
 -- ---- what an operation works on
@@ -128,7 +129,7 @@ module _ (hooked : Ty → Bool) (at_call : ℕ → ℕ → Mode) where
 
   value_alters : (how : Use) (e : Expr) (on : Operands) → (with_value hooked at_call how e on).alters ≡ on.alters
   value_alters Held e on = taking_alters (is_hooked hooked at_call (type_of e)) e on
-  value_alters Lent e on = reading_alters (is_literal e) (is_hooked hooked at_call (type_of e)) e on
+  value_alters Lent e on = reading_alters (is_text e) (is_hooked hooked at_call (type_of e)) e on
   value_alters Owned e on = refl
   value_alters Given e on = refl
   value_alters Looked e on = refl

@@ -5,7 +5,7 @@ use Rattle.std.specs.Prelude.{nat_le, nat_lt, if◌then◌else◌, slice_get, sl
 use Rattle.std.proofs.lemmas.Bool.{both_ways, eq-eqb, ltb-true}
 use Rattle.std.proofs.Math.Dec.{eqb-suc-zero, eqb-zero-suc, eqb-suc-suc}
 use Rattle.nim_types.specs.declared.blocks.TheConstants.{LEAST_BLOCK}
-use Rattle.nim_meaning.specs.Heap.{Contents, Block, Class, Heap, demand, at_class, one_more, one_less, taken, without, flat, refilled, block_at}
+use Rattle.nim_meaning.specs.Heap.{Contents, Block, Class, Heap, demand, at_class, one_more, one_less, taken, has_room, without, flat, refilled, block_at}
 use Rattle.nim_meaning.specs.Heap.{sizes_from, size_count, heap_of}
 use Rattle.nim_meaning.specs.State.{OfBlock, Took, Gave, Born, Ended, Happening}
 use Rattle.nim_meaning.specs.Deeds.{size_in, size_of}
@@ -14,7 +14,7 @@ use Rattle.nim_meaning.proofs.HeapKept.{HeapInvariant}
 
 -- ---- by the places of sizes
 
-abbrev live_at : ℕ → List Class → ℕ
+abbrev pub live_at : ℕ → List Class → ℕ
 live_at i [] = 0
 live_at zero (c ∷ classes) = c.live
 live_at (suc i) (c ∷ classes) = live_at i classes
@@ -28,7 +28,7 @@ abbrev blocks_of : ℕ → List (Option Block) → ℕ
 blocks_of i [] = 0
 blocks_of i (block ∷ blocks) = if_of i block + blocks_of i blocks
 
-abbrev size_at : ℕ → List Class → ℕ
+abbrev pub size_at : ℕ → List Class → ℕ
 size_at i classes = size_in (slice_get classes i)
 
 -- ---- blocks
@@ -124,11 +124,21 @@ taken_balanced class contents heap history k lt h = record {
   sums = λ size. omega (arith, h.sums size, of_more size class heap.classes lt);
 }
 
+-- a size of which a block is there, has one that is live
+pub class_live : (k : ℕ) (block : Block) (heap : Heap) (history : List Happening) → block_at heap k ≡ Some block → Balanced heap history →
+    0 < live_at block.class heap.classes
+class_live k block heap history e h =
+    let itself : one_if_same block.class block.class ≡ 1 = ap (λ b. if b then 1 else 0) (eq-eqb block.class block.class refl) in
+    omega (arith, itself, h.counts block.class, blocks_less block.class heap.blocks k block e)
+
+-- one of which a block may be taken is there
+pub class_below : (class : ℕ) (heap : Heap) → has_room heap class ≡ true → class < length heap.classes
+class_below class heap room = below class heap.classes (is_class class heap (nat_lt class (length heap.classes)) refl room)
+
 given_balanced : (k : ℕ) (block : Block) (heap : Heap) (history : List Happening) → block_at heap k ≡ Some block → Balanced heap history →
     Balanced (without heap k (Some block)) (Ended (OfBlock k) ∷ Gave (size_at block.class heap.classes) ∷ history)
 given_balanced k block heap history e h =
-    let itself : one_if_same block.class block.class ≡ 1 = ap (λ b. if b then 1 else 0) (eq-eqb block.class block.class refl) in
-    let is_live : 0 < live_at block.class heap.classes = omega (arith, itself, h.counts block.class, blocks_less block.class heap.blocks k block e) in
+    let is_live = class_live k block heap history e h in
     record {
       counts = λ i. omega (arith, h.counts i, live_less i block.class heap.classes, blocks_less i heap.blocks k block e);
       sums = λ size. omega (arith, h.sums size, of_less size block.class heap.classes is_live);
@@ -138,7 +148,7 @@ pub balanced : HeapInvariant Balanced
 balanced = record {
   takes = λ class contents world room h.
       taken_balanced class contents world.heap world.history (length world.heap.blocks)
-      (below class world.heap.classes (is_class class world.heap (nat_lt class (length world.heap.classes)) refl room)) h;
+      (class_below class world.heap room) h;
   gives = λ k block world e h.
       subst (λ b. Balanced (without world.heap k b) (Ended (OfBlock k) ∷ Gave (size_of world block.class) ∷ world.history)) (sym e)
       (given_balanced k block world.heap world.history e h);

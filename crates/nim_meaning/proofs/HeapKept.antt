@@ -4,8 +4,8 @@ use Rattle.std.specs.Prelude.{nat_le, nat_lt, if◌then◌else◌}
 use Rattle.std.proofs.lemmas.Bool.{leb-true, both_ways}
 use Rattle.nim_meaning.specs.Values.{Value, Base, InBlock}
 use Rattle.nim_meaning.specs.Heap.{Contents, Block, Class, Heap, demand, at_class, one_more, one_less, taken, has_room, given, without, block_at, with_contents}
-use Rattle.nim_meaning.specs.State.{OfBlock, Took, Gave, Born, Ended, Happening, World, refilled, new_contents, stored}
-use Rattle.nim_meaning.specs.Deeds.{Change, Stores, Opens, Closes, Refills, Frees, size_of, freed, changed}
+use Rattle.nim_meaning.specs.State.{OfBlock, Took, Gave, Born, Ended, Happening, World, with_value_in, new_contents, stored}
+use Rattle.nim_meaning.specs.Deeds.{Change, Stores, Opens, Closes, Waits, Leaves, Pushes, Pops, Reads, Refills, Frees, size_of, freed, changed}
 use Rattle.nim_meaning.proofs.KeepParts.{Invariant}
 
 -- what is said of a heap and its history, and kept
@@ -20,7 +20,7 @@ module _ (H : Heap → List Happening → Type 0) (inv : HeapInvariant H) where
   abbrev pub InHeap : World → Type 0
   InHeap world = H world.heap world.history
 
-  refilled_kept : (world : World) (k : ℕ) (block : Option Block) (v : Value) → InHeap world → H (refilled world.heap k block v) world.history
+  refilled_kept : (world : World) (k : ℕ) (block : Option Block) (v : Value) → InHeap world → H (with_value_in world.heap k block v) world.history
   refilled_kept world k None v h = h
   refilled_kept world k (Some block) v h = inv.fills k (new_contents block.contents v) world h
 
@@ -36,6 +36,11 @@ module _ (H : Heap → List Happening → Type 0) (inv : HeapInvariant H) where
   changed_kept (Stores location v) world h = stored_kept world location.base _ h
   changed_kept (Opens level place slot) world h = h
   changed_kept (Closes level place) world h = h
+  changed_kept (Waits level node slot) world h = h
+  changed_kept (Leaves level node) world h = h
+  changed_kept (Pushes v) world h = h
+  changed_kept Pops world h = h
+  changed_kept (Reads n) world h = h
   changed_kept (Refills k contents) world h = inv.fills k contents world h
   changed_kept (Frees k) world h = freed_kept world k (block_at world.heap k) refl h
 

@@ -1,19 +1,53 @@
 -- What changes of the world keep, and a call's frame, every program keeps.
-use Rattle.std.proofs.Common.{◌≡◌, ℕ, suc, true, List, [], ◌∷◌}
+use Rattle.std.proofs.Common.{◌≡◌, ℕ, suc, Bool, true, false, List, [], ◌∷◌, length}
+use Rattle.arc_base.specs.BigStep.{Res, Got, Over, Going, Errs}
+use Rattle.nim_types.specs.Forms.{form_of}
+use Rattle.nim_program.specs.Traps.{OutOfMemory}
 use Rattle.nim_plan.specs.declared.plan.Plan.{Plan}
-use Rattle.nim_program.specs.Program.{Param, Body, Program, last_of}
+use Rattle.nim_program.specs.Program.{Param, Body, Program, Declared, last_of}
 use Rattle.nim_meaning.specs.Heap.{Contents, has_room}
 use Rattle.nim_meaning.specs.Values.{Value, Slot}
-use Rattle.nim_meaning.specs.State.{Frame, World, with_frame, down_to}
-use Rattle.nim_meaning.specs.Acts.{Broke, Continued, Returned, Raised, Outcome, On, Out, exit_of, change}
-use Rattle.nim_meaning.specs.Deeds.{Change, changed, with_block}
-use Rattle.nim_meaning.specs.Here.{Calls, Here}
-use Rattle.nim_meaning.specs.Meaning.{exec_all, frame_of, params_end, handing, handed, entered_body, from_level, goes_through}
+use Rattle.nim_meaning.specs.State.{Frame, World, State, with_frame, down_to}
+use Rattle.nim_meaning.specs.Kept.{Meets}
+use Rattle.nim_meaning.specs.Acts.{Broke, Continued, Returned, Raised, Outcome, On, Out, exit_of, change, branch, give, stop, worked, said, ◌>>◌}
+use Rattle.nim_meaning.specs.Deeds.{Change, changed, with_block, Deed, Gives, Ends, Errs as Wrong, Works, Says, Looks, Changes, Takes, carry}
+use Rattle.nim_meaning.specs.Here.{Calls, Here, is_hooked}
+use Rattle.nim_meaning.specs.Meaning.{exec_all, frame_of, place_ends, ends, params_end, handing, handed, entered_body, from_level, goes_through}
 use Rattle.nim_meaning.proofs.Keeps.{Keeps, Only, Stays, keeps_then, keeps_costs, keeps_looks, keeps_on, keeps_past, stays_got, stays_end, stays_then}
 use Rattle.nim_meaning.proofs.Keeps.{stays_seq, stays_costs, stays_says, stays_looks, stays_change, stays_takes, stays_passing, stays_elsewhere}
 use Rattle.nim_meaning.proofs.Keeps.{stays_spending, stays_loop, stays_again}
-use Rattle.nim_meaning.proofs.Parts.{Said, Closed}
+use Rattle.nim_meaning.proofs.Parts.{Said, Closed, ends_is}
 use Rattle.nim_meaning.proofs.Calls.{ClosedCalls, whole_program}
+
+-- it isn't left by an exit
+abbrev NotLeft : {A : Type 0} → Res State (Outcome A) → Type 0
+NotLeft (Got (On x) s) = Unit {0}
+NotLeft (Got (Out way) s) = ⊥
+NotLeft _ = Unit {0}
+
+not_left : {A : Type 0} (deed : Deed A) (s : State) → NotLeft (carry deed s)
+not_left (Gives x) s = tt
+not_left (Ends status) s = tt
+not_left Wrong s = tt
+not_left (Works n rest) s = not_left rest (worked n s)
+not_left (Says es rest) s = not_left rest (said es s)
+not_left (Looks rest) s = not_left (rest s.world) s
+not_left (Changes c rest) s = not_left rest (record s { world = changed c s.world })
+not_left {A} (Takes class contents rest) s =
+    let new : State = record s { world = with_block class contents s.world } in
+    room (has_room s.world.heap class) (not_left (rest (length s.world.heap.blocks)) new)
+  where
+    room : (b : Bool) → NotLeft (carry (rest (length s.world.heap.blocks)) (record s { world = with_block class contents s.world })) →
+        NotLeft (branch b (change (with_block class contents) >> carry (rest (length s.world.heap.blocks))) (stop {A = A} OutOfMemory) s)
+    room true h = h
+    room false h = tt
+
+ends_not_left : (here : Here) (place : Declared) (exit : ℕ) (s : State) → NotLeft (ends here place exit s)
+ends_not_left here place exit s = hooks (is_hooked here.facts place.of)
+  where
+    hooks : (b : Bool) → NotLeft (branch b (carry (place_ends (form_of here.facts place.of) here.level place.number)) (give tt) (worked 1 s))
+    hooks true = not_left (place_ends (form_of here.facts place.of) here.level place.number) (worked 1 s)
+    hooks false = tt
 
 -- At each level of calls the world is as I says, so always as K says.
 pub record Invariant (K : World → Type 0) (I : ℕ → World → Type 0) : Type 0 where
@@ -52,10 +86,22 @@ module _ (K : World → Type 0) (I : ℕ → World → Type 0) (inv : Invariant 
 
   -- ---- calls
 
+  -- a place that ends isn't left
+  ends_stay : (at : ℕ) (here : Here) (place : Declared) (exit : ℕ) → Keeps K (I at) (ends here place exit) (Only K (I at))
+  ends_stay at here place exit =
+      record { at = λ s i. only (ends here place exit s) ((ends_is (kept at) (closed at) here place exit).at s i) (ends_not_left here place exit s) }
+    where
+      only : (r : Res State (Outcome (Unit {0}))) → Meets K (λ x. I at) r → NotLeft r → Meets K (Only K (I at)) r
+      only (Got (On x) s) h n = h
+      only (Got (Out way) s) h n = absurd n
+      only (Over status live s) h n = h
+      only (Going s) h n = h
+      only (Errs s) h n = h
+
   params_stay : (at : ℕ) (here : Here) (params : List Param) (exit : ℕ) → Keeps K (I at) (params_end here params exit) (Only K (I at))
   params_stay at here [] exit = record { at = λ s i. i }
   params_stay at here (param ∷ params) exit =
-      keeps_past K (I at) (I at) (Only K (I at)) (params_end here params exit) _ (params_stay at here params exit) (record { at = λ s i. i })
+      keeps_past K (I at) (I at) (Only K (I at)) (params_end here params exit) _ (params_stay at here params exit) (ends_stay at here param.place exit)
 
   handing_stays : (level : ℕ) (flow : Outcome (Unit {0})) (v : Value) → Stays K (I level) (handing flow v)
   handing_stays level (On x) v = record { at = λ s i. i }

@@ -9,15 +9,15 @@ use Rattle.nim_meaning.specs.Acts.{Broke, Continued, Returned, Raised, Outcome, 
 use Rattle.nim_meaning.specs.Acts.{spending, end}
 use Rattle.nim_meaning.specs.Acts.{looks, change, left_with, with_trail, passing, elsewhere, turn_of, loop, next, again}
 use Rattle.nim_meaning.specs.Deeds.{with_block}
-use Rattle.nim_meaning.specs.Kept.{Holds}
+use Rattle.nim_meaning.specs.Kept.{Meets}
 use Rattle.nim_meaning.proofs.Parts.{taking}
 
 pub record Keeps {A : Type 0} (K I : World → Type 0) (act : State → Res State A) (J : A → World → Type 0) : Type 0 where
-  pub at : (s : State) → I s.world → Holds K J (act s)
+  pub at : (s : State) → I s.world → Meets K J (act s)
 
 module _ (K : World → Type 0) where
-  then_kept : {A B : Type 0} (J : A → World → Type 0) (M : B → World → Type 0) (r : Res State A) (go : A → State → Res State B) → Holds K J r →
-      ((x : A) → Keeps K (J x) (go x) M) → Holds K M (then_do r go)
+  then_kept : {A B : Type 0} (J : A → World → Type 0) (M : B → World → Type 0) (r : Res State A) (go : A → State → Res State B) → Meets K J r →
+      ((x : A) → Keeps K (J x) (go x) M) → Meets K M (then_do r go)
   then_kept J M (Got x s) go h g = (g x).at s h
   then_kept J M (Over status live s) go h g = h
   then_kept J M (Going s) go h g = h
@@ -93,15 +93,15 @@ module _ (K : World → Type 0) where
     }
       where
         either : (b : Bool) (act : Does A) (s : State) → (b ≡ true → I s.world → I (with_block class contents s.world)) → Stays I act → I s.world →
-            Holds K (λ x. I) (branch b (change (with_block class contents) >> act) fails s)
+            Meets K (λ x. I) (branch b (change (with_block class contents) >> act) fails s)
         either true act s took h i = h.at (record s { world = with_block class contents s.world }) (took refl i)
         either false act s took h i = f.at s i
 
     pub stays_passing : {A : Type 0} (point : Point) (act : Does A) → Stays I act → Stays I (passing point act)
     stays_passing point act h = record { at = λ s i. h.at (with_trail (point ∷ s.trail) s) i }
 
-    back_kept : {A : Type 0} (trail : List Point) (r : Res State A) → Holds K (λ x. I) r →
-        Holds K (λ x. I) (then_do r (λ flow d. Got flow (with_trail trail d)))
+    back_kept : {A : Type 0} (trail : List Point) (r : Res State A) → Meets K (λ x. I) r →
+        Meets K (λ x. I) (then_do r (λ flow d. Got flow (with_trail trail d)))
     back_kept trail (Got x s) h = h
     back_kept trail (Over status live s) h = h
     back_kept trail (Going s) h = h
@@ -110,7 +110,7 @@ module _ (K : World → Type 0) where
     pub stays_elsewhere : {A : Type 0} (act : Does A) → Stays I act → Stays I (elsewhere act)
     stays_elsewhere act h = record { at = λ s i. back_kept s.trail (act (with_trail [] s)) (h.at (with_trail [] s) i) }
 
-    spend_stays : {A : Type 0} (act : Does A) → Stays I act → (u : ℕ) (s : State) → I s.world → Holds K (λ x. I) (spend u s (λ n. act (left_with n s)))
+    spend_stays : {A : Type 0} (act : Does A) → Stays I act → (u : ℕ) (s : State) → I s.world → Meets K (λ x. I) (spend u s (λ n. act (left_with n s)))
     spend_stays act h zero s i = within s.world i
     spend_stays act h (suc u) s i = h.at (left_with u s) i
 

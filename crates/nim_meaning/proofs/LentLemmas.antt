@@ -16,8 +16,8 @@ use Rattle.nim_program.specs.Folds.{by_constant}
 use Rattle.nim_program.specs.Uses.{use_by, use_of}
 use Rattle.nim_meaning.specs.ActTree.{Root, Temporary, same_root, Path, Operands, Does, Chooses, Operate, is_among, is_read_by}
 use Rattle.nim_meaning.specs.ActTree.{Control, Do, Choose, Group, Arms, No_arm, Acts, Done, Then}
-use Rattle.nim_meaning.specs.Shapes.{is_covered, is_last_value}
-use Rattle.nim_meaning.specs.ActsOf.{temporary, is_literal, one_act, used, is_held, waits, waits_from, read_act, bound, ended, early_arms, act_by, done_by}
+use Rattle.nim_meaning.specs.Shapes.{is_covered, is_last_value, is_held, waits, waits_from, is_text}
+use Rattle.nim_meaning.specs.ActsOf.{temporary, one_act, used, read_act, bound, ended, early_arms, act_by, done_by}
 use Rattle.nim_meaning.specs.ActsOf.{receiver, looked_at, is_hooked, with_value, works_on, read_acts, acts_of, aimed, ready_acts, first_acts, selected_acts}
 use Rattle.nim_meaning.specs.ActsOf.{value_arms}
 use Rattle.nim_meaning.specs.ActsOf.{all_made, reading, taking}
@@ -111,7 +111,7 @@ self_root n xs = or_left (nat_eq n n) (is_among (Temporary n) xs) (eq-eqb n n re
 module _ (hooked : Ty → Bool) (at_call : ℕ → ℕ → Mode) where
   -- where a value is lent, what follows reads its temporary
   abbrev pub Needs : Use → Expr → Acts → Type 0
-  Needs how e b = is_lent how ≡ true → is_hooked hooked at_call (type_of e) ≡ true → is_literal e ≡ false → Reads (temporary e) b
+  Needs how e b = is_lent how ≡ true → is_hooked hooked at_call (type_of e) ≡ true → is_text e ≡ false → Reads (temporary e) b
 
   pub record Value (how : Use) (e : Expr) (F : Acts → Acts) : Type 0 where
     pub later : (x : Root) (b : Acts) → Reads x b → Reads x (F b)
@@ -174,7 +174,7 @@ module _ (hooked : Ty → Bool) (at_call : ℕ → ℕ → Mode) where
   none_lent uses i (T.ByPath path rest) b h = none_lent uses (suc i) rest b h
 
   -- its temporary, and those of the operands behind it, are among those that are read
-  its_own : (how : Use) (e : Expr) (on : Operands) → is_lent how ≡ true → is_hooked hooked at_call (type_of e) ≡ true → is_literal e ≡ false →
+  its_own : (how : Use) (e : Expr) (on : Operands) → is_lent how ≡ true → is_hooked hooked at_call (type_of e) ≡ true → is_text e ≡ false →
       is_among (temporary e) (with_value hooked at_call how e on).reads ≡ true
   its_own Owned e on l h n = absurd (false≢true l)
   its_own Given e on l h n = absurd (false≢true l)
@@ -199,7 +199,7 @@ module _ (hooked : Ty → Bool) (at_call : ℕ → ℕ → Mode) where
   others_too Owned e on x h = h
   others_too Given e on x h = h
   others_too Held e on x h = more_held x e on (is_hooked hooked at_call (type_of e)) h
-  others_too Lent e on x h = more_read x e on (is_literal e) (is_hooked hooked at_call (type_of e)) h
+  others_too Lent e on x h = more_read x e on (is_text e) (is_hooked hooked at_call (type_of e)) h
   others_too Looked e on x h = h
 
   all_read : (act : T.Act) (i : ℕ) (args : Args) (b : Acts) → ((x : Root) → is_among x (works_on hooked at_call act i args).reads ≡ true → Reads x b) →

@@ -1,3 +1,4 @@
+pub mod ForCallers
 mod ArrowLemmas
 mod ScopeLemmas
 mod DeedLemmas
@@ -7,7 +8,9 @@ mod RunLemmas
 mod RunLoops
 mod RunDeeds
 mod StillLemmas
+mod WaitLemmas
 mod RunParts
+mod WaitingActs
 mod RunValues
 mod RunBlocks
 mod RunPrograms
@@ -24,8 +27,12 @@ mod Calls
 mod Framed
 mod HeapKept
 mod KeepParts
+mod Once
+mod Asked
 mod Keeps
 mod Parts
+mod DeedErrs
+mod LiftedRows
 mod Rows
 mod Tame
 mod TameParts

@@ -1,23 +1,35 @@
 -- What rows of the table do with places: they read and write what their operands lead to, and nothing else.
-use Rattle.std.proofs.Common.{◌≡◌, refl, inl, inr, ℕ, zero, suc, Bool, true, false, List, [], ◌∷◌, Option, Some, None}
-use Rattle.nim_types.specs.Types.{Ty, Facts}
+use Rattle.std.proofs.Common.{◌≡◌, refl, sym, ap, ap₂, subst, ◌∙◌, inl, inr, ◌⊎◌, ℕ, zero, suc, Bool, true, false, ◌||◌, List, [], ◌∷◌, ◌++◌, length}
+use Rattle.std.proofs.Common.{Option, Some, None}
+use Rattle.std.proofs.lemmas.Bool.{false≢true}
+use Rattle.arc_base.specs.declared.outside.Stream.TheVariants.{Out as Output}
+use Rattle.nim_types.specs.Types.{Ty, Facts, text}
+use Rattle.nim_types.specs.Forms.{Form}
+use Rattle.nim_program.specs.Kinds.{below_distinct}
 use Rattle.nim_plan.specs.declared.plan.Act.{Act}
 use Rattle.nim_plan.specs.declared.plan.Plan.{Plan}
 use Rattle.nim_program.specs.declared.operation.Operation.{Operation}
 use Rattle.nim_program.specs.declared.operation.Operation.TheVariants as O
-use Rattle.nim_program.specs.declared.operation.Use.{Use}
+use Rattle.nim_program.specs.declared.operation.Use.TheVariants.{Lent}
 use Rattle.nim_program.specs.Ints.{Checked, Fine, Trapped, applied, applied_to, within}
 use Rattle.nim_program.specs.Program as T
 use Rattle.nim_program.specs.Program.{Doing, Building, Giving, Literal}
-use Rattle.nim_meaning.specs.Values.{Value, Number, Fixed, nothing, number_of, length_of, bytes, Location, Operand, location}
+use Rattle.nim_meaning.specs.Values.{Value, Number, Parts, Handle, Fixed, Ref, Resource, Gone, Vacant, nothing, number_of, length_of, text_in, bytes, Location}
+use Rattle.nim_meaning.specs.Values.{Operand, location, location_of, literal_value}
+use Rattle.nim_meaning.specs.Heap.{block_at}
+use Rattle.nim_meaning.specs.State.{World, load, text_of, contents_value}
+use Rattle.nim_meaning.specs.Acts.{line_of}
+use Rattle.nim_meaning.specs.Texts.{value_text, text_at, texts_of}
 use Rattle.nim_meaning.specs.ActTree.{Path, Operands, Operate}
-use Rattle.nim_meaning.specs.Here.{gives_hooked}
-use Rattle.nim_meaning.specs.Deeds.{Deed, Gives, Works, Changes, Stores, ◌>>=◌, ◌>>◌, give}
-use Rattle.nim_meaning.specs.Places.{taken_by, made_by, fetched, put, exchanged}
-use Rattle.nim_meaning.specs.Table.{outcome, default_for, limit_for, converted, measured, step_by, operate, does, acts}
+use Rattle.nim_meaning.specs.Here.{gives_hooked, any_hooked, form_for}
+use Rattle.nim_meaning.specs.Deeds.{Deed, Gives, Works, Changes, Stores, ◌>>=◌, ◌>>◌, give, branch, write}
+use Rattle.nim_meaning.specs.Places.{Destination, taken_by, text_for, made_by, fetched, put, exchanged}
+use Rattle.nim_meaning.specs.OwnedRows.{owned}
+use Rattle.nim_meaning.specs.Table.{outcome, default_for, limit_for, converted, measured, step_by, operate, does, constant_for, acts}
 use Rattle.nim_meaning.specs.ActsOf.{path_of, act_by}
 use Rattle.nim_meaning.specs.Meaning.{row, got_by, handed_by}
-use Rattle.nim_meaning.specs.AtPoints.{Within, answers, ends_run, works, says, loads, stores, At_none, At_first, At_any, DoneAs, operates, looks_at, gives_to, writes_first, writes_there}
+use Rattle.nim_meaning.specs.AtPoints.{Alike, Within, Writes, answers, ends_run, works, says, loads, looks_at_all, stores, At_none, At_first, At_any, DoneAs}
+use Rattle.nim_meaning.specs.AtPoints.{operates, looks_at, gives_to, writes_first, writes_there}
 use Rattle.nim_meaning.specs.AtPoints.{paths_among}
 
 -- the paths of operands by path, each at its position
@@ -32,11 +44,14 @@ at_any [] i = refl
 at_any (x ∷ xs) zero = inl refl
 at_any (x ∷ xs) (suc i) = inr (at_any xs i)
 
--- a value that was made waits nowhere yet
-within_made : (reads writes : Location → Type 0) (hook : Bool) (how : Use) (v : Value) → Within Value reads writes (made_by hook how v)
-within_made reads writes false how v = answers
-within_made reads writes true how (Fixed t) = answers
-within_made reads writes true how v = answers
+abbrev is_assign : Operation → Bool
+is_assign O.Assign = true
+is_assign o = false
+
+-- a value without hooks waits nowhere
+within_made : (reads writes : Location → Type 0) (hook : Bool) (to : Destination) (v : Value) → hook ≡ false → Within Value reads writes (made_by hook to v)
+within_made reads writes true to v e = absurd (false≢true (sym e))
+within_made reads writes false to v e = answers
 
 module _ (reads writes : Location → Type 0) where
   abbrev W : {A : Type 0} → Deed A → Type 0
@@ -48,6 +63,8 @@ module _ (reads writes : Location → Type 0) where
   within_then (works w) g = works (within_then w g)
   within_then (says w) g = says (within_then w g)
   within_then (loads {location = location} {rest = rest} h w) g = loads {location = location} h (λ v. within_then (w v) g)
+  within_then {go = go} (looks_at_all {rest = rest} same w) g =
+      looks_at_all {rest = λ world. rest world >>= go} (λ a b h. ap (λ deed. deed >>= go) (same a b h)) (λ world. within_then (w world) g)
   within_then (stores h w) g = stores h (within_then w g)
 
   -- an outcome, or a trap
@@ -63,26 +80,58 @@ module _ (reads writes : Location → Type 0) where
   within_exchanged location v r w = works (loads {location = location} {rest = λ u. Changes (Stores location v) (Gives u)} r (λ u. stores w answers))
 
   -- a row, and what becomes of its value
-  pub within_row : (facts : Facts) (act : T.Act) (how : Use) (ty : Option Ty) (of : List (Option Ty)) (xs : List Operand) → W (acts act facts ty of xs) →
-      W (row facts act how ty of xs)
-  within_row facts act how ty of xs w = within_then w (λ v. within_made reads writes _ how v)
+  pub within_row : (facts : Facts) (act : T.Act) (to : Destination) (ty : Option Ty) (of : List (Option Ty)) (xs : List Operand) →
+      gives_hooked facts ty ≡ false → W (acts act facts ty of xs) → W (row facts act to ty of xs)
+  within_row facts act to ty of xs e w = within_then w (λ v. within_made reads writes _ to v e)
 
 -- the bits at a location are read there
 pub within_fetched : (location : Location) → Within Value (λ l. l ≡ location) At_none (fetched location)
 within_fetched location = loads {location = location} {rest = λ v. Works (bytes v) (Gives v)} refl (λ v. works answers)
 
-taken_within : (hook : Bool) (how : Use) (act : Option Act) (location : Location) → Within Value (λ l. l ≡ location) At_none (taken_by hook how act location)
-taken_within false how act location = within_fetched location
-taken_within true how act location = answers
+taken_within : (hook : Bool) (f : Form) (to : Destination) (act : Option Act) (location : Location) → hook ≡ false →
+    Within Value (λ l. l ≡ location) At_none (taken_by hook f to act location)
+taken_within true f to act location e = absurd (false≢true (sym e))
+taken_within false f to act location e = within_fetched location
 
-pub within_got : (facts : Facts) (plan : Plan) (how : Use) (site : ℕ) (ty : Option Ty) (location : Location) →
-    Within Value (λ l. l ≡ location) At_none (got_by facts plan how site ty location)
-within_got facts plan how site ty location = taken_within _ how _ location
+pub within_got : (facts : Facts) (plan : Plan) (to : Destination) (site : ℕ) (ty : Option Ty) (location : Location) → gives_hooked facts ty ≡ false →
+    Within Value (λ l. l ≡ location) At_none (got_by facts plan to site ty location)
+within_got facts plan to site ty location e = taken_within _ (form_for facts ty) to _ location e
 
 -- a value that is handed on
-pub within_handed : (facts : Facts) (how : Use) (ty : Option Ty) (v : Value) → Within Value At_none At_none (handed_by facts how ty v)
-within_handed facts how None v = answers
-within_handed facts how (Some ty) v = works (within_made At_none At_none _ how v)
+pub within_handed : (facts : Facts) (to : Destination) (ty : Option Ty) (v : Value) → gives_hooked facts ty ≡ false →
+    Within Value At_none At_none (handed_by facts to ty v)
+within_handed facts to None v e = answers
+within_handed facts to (Some ty) v e = works (within_made At_none At_none _ to v e)
+
+-- ---- texts that are written
+
+-- what a text holds is the same where blocks are
+text_alike : (v : Value) (a b : World) → a.heap ≡ b.heap → text_of a v ≡ text_of b v
+text_alike (Handle n (Some k)) a b e = ap (λ heap. text_in (contents_value (block_at heap k))) e
+text_alike (Handle n None) a b e = refl
+text_alike (Number z) a b e = refl
+text_alike (Parts all) a b e = refl
+text_alike (Fixed t) a b e = refl
+text_alike (Ref object) a b e = refl
+text_alike (Resource all identity) a b e = refl
+text_alike (Gone v final) a b e = refl
+text_alike Vacant a b e = refl
+
+value_alike : (facts : Facts) (ty : Ty) (v : Value) (a b : World) → a.heap ≡ b.heap → value_text facts a ty v ≡ value_text facts b ty v
+value_alike facts text v a b e = text_alike v a b e
+value_alike facts _ v a b e = refl
+
+at_alike : (facts : Facts) (ty : Option Ty) (v : Value) (a b : World) → a.heap ≡ b.heap → text_at facts a ty v ≡ text_at facts b ty v
+at_alike facts None v a b e = refl
+at_alike facts (Some ty) v a b e = value_alike facts (below_distinct (length facts) facts ty) v a b e
+
+texts_alike : (facts : Facts) (of : List (Option Ty)) (xs : List Operand) (a b : World) → Alike (At_any xs) a b →
+    texts_of facts a of xs ≡ texts_of facts b of xs
+texts_alike facts [] xs a b h = refl
+texts_alike facts (ty ∷ of) [] a b h = refl
+texts_alike facts (ty ∷ of) (x ∷ xs) a b h =
+    ap₂ (λ t u. t ++ u) (at_alike facts ty (load a (location_of x)) a b h.0 ∙ ap (text_at facts b ty) (h.1 (location_of x) (inl refl)))
+    (texts_alike facts of xs a b (h.0, (λ l r. h.1 l (inr r))))
 
 -- ---- operations
 
@@ -98,7 +147,9 @@ module _ (xs : List Operand) (facts : Facts) (ty : Option Ty) (of : List (Option
   does_any O.Convert = within_then (At_any xs) (At_any xs) (within_converted (At_any xs) (At_any xs) (limit_for facts ty) _) (λ v. works answers)
   does_any O.Make = works answers
   does_any (O.Measure measure) = loads {location = location xs 0} {rest = λ v. Gives (Number (measured measure (length_of v)))} (at_any xs 0) (λ v. answers)
-  does_any O.Echo = works (says answers)
+  does_any O.Echo =
+      looks_at_all {rest = λ world. write Output (line_of (texts_of facts world of xs)) >> give nothing}
+      (λ a b h. ap (λ t. write Output (line_of t) >> give nothing) (texts_alike facts of xs a b h)) (λ world. works (says answers))
   does_any O.Quit = ends_run
   does_any O.Assign = works (stores (at_any xs 0) answers)
   does_any (O.Update operator) =
@@ -113,28 +164,70 @@ module _ (xs : List Operand) (facts : Facts) (ty : Option Ty) (of : List (Option
       (λ w. answers {x = nothing})))
   does_any operation = answers
 
-  acts_any : (operation : Operation) → Any (acts (Doing operation) facts ty of xs)
-  acts_any operation = works (does_any operation)
+  -- one without hooks; and `echo`, whose row is the same with them
+  operates_any : (operation : Operation) (b : Bool) → b ≡ false ⊎ (operation ≡ O.Echo) →
+      Any (branch b (owned operation facts ty of xs (does operation facts ty of xs)) (does operation facts ty of xs))
+  operates_any operation true (inl e) = absurd (false≢true (sym e))
+  operates_any operation true (inr e) =
+      subst (λ operation. Any (owned operation facts ty of xs (does operation facts ty of xs))) (sym e) (does_any O.Echo)
+  operates_any operation false h = does_any operation
 
--- an object that is built, and the value of a constant
-pub building_as : (facts : Facts) (fields : List ℕ) (how : Use) (ty : Option Ty) (of : List (Option Ty)) (on : Operands) (zs : List (Option Path)) →
-    on.alters ≡ paths_among zs → DoneAs (Operate on) zs (λ xs. row facts (Building fields) how ty of xs)
-building_as facts fields how ty of on zs e =
-    operates e (λ xs. within_row (At_any xs) (At_any xs) facts (Building fields) how ty of xs (works (works answers)))
+  acts_any : (operation : Operation) → ((gives_hooked facts ty || any_hooked facts of) ≡ false) ⊎ (operation ≡ O.Echo) →
+      Any (acts (Doing operation) facts ty of xs)
+  acts_any operation h = works (operates_any operation (gives_hooked facts ty || any_hooked facts of) h)
 
-pub giving_as : (facts : Facts) (literal : Literal) (how : Use) (ty : Option Ty) (of : List (Option Ty)) (on : Operands) (zs : List (Option Path)) →
-    on.alters ≡ paths_among zs → DoneAs (Operate on) zs (λ xs. row facts (Giving literal) how ty of xs)
-giving_as facts literal how ty of on zs e =
-    operates e (λ xs. within_row (At_any xs) (At_any xs) facts (Giving literal) how ty of xs (works (works answers)))
+-- an object that is built
+pub building_as : (facts : Facts) (fields : List ℕ) (to : Destination) (ty : Option Ty) (of : List (Option Ty)) (on : Operands) (zs : List (Option Path)) →
+    gives_hooked facts ty ≡ false → on.alters ≡ paths_among zs → DoneAs (Operate on) zs (λ xs. row facts (Building fields) to ty of xs)
+building_as facts fields to ty of on zs plain e =
+    operates e (λ xs. within_row (At_any xs) (At_any xs) facts (Building fields) to ty of xs plain (works (works answers)))
+
+-- the value of a constant without hooks, and a literal that is written
+constant_within : (reads writes : Location → Type 0) (hook : Bool) (f : Form) (v : Value) → hook ≡ false → Within Value reads writes (constant_for hook f v)
+constant_within reads writes true f v e = absurd (false≢true (sym e))
+constant_within reads writes false f v e = answers
+
+pub giving_as : (facts : Facts) (literal : Literal) (to : Destination) (ty : Option Ty) (of : List (Option Ty)) (on : Operands) (zs : List (Option Path)) →
+    gives_hooked facts ty ≡ false → on.alters ≡ paths_among zs → DoneAs (Operate on) zs (λ xs. row facts (Giving literal) to ty of xs)
+giving_as facts literal to ty of on zs plain e =
+    operates e (λ xs. within_row (At_any xs) (At_any xs) facts (Giving literal) to ty of xs plain
+    (works (works (constant_within (At_any xs) (At_any xs) (gives_hooked facts ty) (form_for facts ty) (literal_value literal) plain))))
+
+-- a literal text that is lent has no block, whether its type has hooks or not
+pub literal_as : (facts : Facts) (t : List ℕ) (to : Destination) (ty : Option Ty) (on : Operands) (zs : List (Option Path)) → to.how ≡ Lent →
+    on.alters ≡ paths_among zs → DoneAs (Operate on) zs (λ xs. row facts (Giving (T.Characters t)) to ty [] xs)
+literal_as facts t to ty on zs lent e =
+    operates e (λ xs. works (works (given xs (gives_hooked facts ty))))
+  where
+    given : (xs : List Operand) (b : Bool) → Within Value (At_any xs) (At_any xs) (constant_for b (form_for facts ty) (Fixed t) >>= made_by b to)
+    given xs false = answers
+    given xs true = subst (λ how. Within Value (At_any xs) (At_any xs) (text_for how to t)) (sym lent) answers
 
 -- what an operation does, as its act
-pub done_as : (facts : Facts) (how : Use) (ty : Option Ty) (of : List (Option Ty)) (operation : Operation) (operands : T.Args) (on : Operands) →
-    on.alters ≡ paths_among (paths_in operands) →
-    DoneAs (act_by operation operands on) (paths_in operands) (λ xs. row facts (Doing operation) how ty of xs)
-done_as facts how ty of O.Assign (T.ByPath path rest) on e =
-    gives_to (λ xs. writes_first (writes_first (writes_there refl (within_made At_none (At_first xs) (gives_hooked facts ty) how nothing))))
-done_as facts how ty of (O.Measure measure) (T.ByPath path rest) on e =
-    looks_at (λ xs. within_row (At_first xs) At_none facts (Doing (O.Measure measure)) how ty of xs
-    (works (loads {location = location xs 0} {rest = λ v. Gives (Number (measured measure (length_of v)))} refl (λ v. answers))))
-done_as facts how ty of operation operands on e =
-    operates e (λ xs. within_row (At_any xs) (At_any xs) facts (Doing operation) how ty of xs (acts_any xs facts ty of operation))
+pub done_as : (facts : Facts) (to : Destination) (ty : Option Ty) (of : List (Option Ty)) (operation : Operation) (operands : T.Args) (on : Operands) →
+    gives_hooked facts ty ≡ false → (any_hooked facts of ≡ false) ⊎ (operation ≡ O.Echo) → on.alters ≡ paths_among (paths_in operands) →
+    DoneAs (act_by operation operands on) (paths_in operands) (λ xs. row facts (Doing operation) to ty of xs)
+done_as facts to ty of O.Assign (T.ByPath path rest) on plain h e =
+    gives_to (λ xs. subst (λ b. Writes Value (At_first xs) (by_types xs b O.Assign)) (sym (all_plain h))
+    (writes_first (writes_first (writes_there refl (within_made At_none (At_first xs) (gives_hooked facts ty) to nothing plain)))))
+  where
+    by_types : List Operand → Bool → Operation → Deed Value
+    by_types xs b o = Works 1 (branch b (owned o facts ty of xs (does o facts ty of xs)) (does o facts ty of xs)) >>= made_by (gives_hooked facts ty) to
+
+    all_plain : (any_hooked facts of ≡ false) ⊎ (O.Assign ≡ O.Echo) → (gives_hooked facts ty || any_hooked facts of) ≡ false
+    all_plain (inl f) = ap₂ (λ a b. a || b) plain f
+    all_plain (inr f) = absurd (false≢true (sym (ap is_assign f)))
+done_as facts to ty of (O.Measure measure) (T.ByPath path rest) on plain h e =
+    looks_at (λ xs. within_row (At_first xs) At_none facts (Doing (O.Measure measure)) to ty of xs plain
+    (works (measures xs (gives_hooked facts ty || any_hooked facts of))))
+  where
+    measures : (xs : List Operand) (b : Bool) → Within Value (At_first xs) At_none
+        (branch b (owned (O.Measure measure) facts ty of xs (does (O.Measure measure) facts ty of xs)) (does (O.Measure measure) facts ty of xs))
+    measures xs true = loads {location = location xs 0} {rest = λ v. Gives (Number (measured measure (length_of v)))} refl (λ v. answers)
+    measures xs false = loads {location = location xs 0} {rest = λ v. Gives (Number (measured measure (length_of v)))} refl (λ v. answers)
+done_as facts to ty of operation operands on plain h e =
+    operates e (λ xs. within_row (At_any xs) (At_any xs) facts (Doing operation) to ty of xs plain (acts_any xs facts ty of operation (either h)))
+  where
+    either : (any_hooked facts of ≡ false) ⊎ (operation ≡ O.Echo) → ((gives_hooked facts ty || any_hooked facts of) ≡ false) ⊎ (operation ≡ O.Echo)
+    either (inl f) = inl (ap₂ (λ a b. a || b) plain f)
+    either (inr f) = inr f

@@ -1,5 +1,5 @@
 -- Where deeds err: those of the table, and those that find, read and write places. One line for each column and row that doesn't compute to it.
-use Rattle.std.proofs.Common.{ℕ, ℤ, Bool, true, false, List, Option, Some, None}
+use Rattle.std.proofs.Common.{ℕ, ℤ, Bool, true, false, ◌||◌, List, Option, Some, None}
 use Rattle.std.specs.Prelude.{unsigned_abs}
 use Rattle.nim_types.specs.Types.{Ty, Facts}
 use Rattle.nim_plan.specs.declared.plan.Act.{Act as PlanAct}
@@ -8,37 +8,22 @@ use Rattle.nim_program.specs.declared.operation.Operation.TheVariants as O
 use Rattle.nim_program.specs.Program.{Act, Doing, Building, Giving, Calling}
 use Rattle.nim_program.specs.Traps.{IndexOutOfBounds}
 use Rattle.nim_program.specs.declared.operation.Use.{Use}
+use Rattle.nim_program.specs.declared.operation.Use.TheVariants.{Owned, Given, Held, Lent, Looked}
+use Rattle.nim_types.specs.Forms.{Form}
 use Rattle.nim_program.specs.Ints.{Checked, Fine, Trapped, applied, inside}
-use Rattle.nim_meaning.specs.Values.{Value, Fixed, Ref, number_of, length_of, Operand, location, Location}
-use Rattle.nim_meaning.specs.State.{World, load}
-use Rattle.nim_meaning.specs.Deeds.{Deed, Gives, Ends, Errs, Works, Says, Looks, Changes, Takes, ◌>>=◌, give, branch, stop}
-use Rattle.nim_meaning.specs.Places.{object_of, item_of, to_item, to_object, taken_by, made_by, put}
-use Rattle.nim_meaning.specs.Table.{outcome, limit_for, converted, moved, step_by, does, acts}
-use Rattle.nim_meaning.specs.Here.{gives_hooked}
-use Rattle.nim_meaning.specs.Meaning.{row, handed_by}
-
--- what is known where a deed errs
-abbrev pub ErrsIf : {A : Type 0} → (E : Type 0) → Deed A → Type 0
-ErrsIf E (Gives x) = Unit {0}
-ErrsIf E (Ends status) = Unit {0}
-ErrsIf E Errs = E
-ErrsIf E (Works n rest) = ErrsIf E rest
-ErrsIf E (Says es rest) = ErrsIf E rest
-ErrsIf E (Looks rest) = (world : World) → ErrsIf E (rest world)
-ErrsIf E (Changes change rest) = ErrsIf E rest
-ErrsIf E (Takes class contents rest) = (k : ℕ) → ErrsIf E (rest k)
+use Rattle.nim_meaning.specs.Values.{Value, Fixed, Ref, number_of, length_of, Operand, location, Location, literal_value}
+use Rattle.nim_meaning.specs.State.{load}
+use Rattle.nim_meaning.specs.Deeds.{give, branch, stop}
+use Rattle.nim_meaning.specs.Lifted.{copied, fresh_text}
+use Rattle.nim_meaning.specs.Places.{Destination, object_of, item_of, to_item, to_object, kept_for, copied_for, taken_by, text_for, made_by, put}
+use Rattle.nim_meaning.specs.OwnedRows.{owned}
+use Rattle.nim_meaning.specs.Table.{outcome, limit_for, converted, moved, step_by, does, constant_for, acts}
+use Rattle.nim_meaning.specs.Here.{gives_hooked, any_hooked, form_for}
+use Rattle.nim_meaning.specs.Meaning.{row, handed_by, place_ends}
+use Rattle.nim_meaning.proofs.DeedErrs.{ErrsIf, errs_then}
+use Rattle.nim_meaning.proofs.LiftedRows.{errs_fresh, errs_copied, errs_slot, errs_built, errs_owned}
 
 module _ (E : Type 0) where
-  errs_then : {A B : Type 0} (deed : Deed A) (rest : A → Deed B) → ErrsIf E deed → ((x : A) → ErrsIf E (rest x)) → ErrsIf E (deed >>= rest)
-  errs_then (Gives x) rest h g = g x
-  errs_then (Ends status) rest h g = tt
-  errs_then Errs rest h g = h
-  errs_then (Works n deed) rest h g = errs_then deed rest h g
-  errs_then (Says es deed) rest h g = errs_then deed rest h g
-  errs_then (Looks deed) rest h g = λ world. errs_then (deed world) rest (h world) g
-  errs_then (Changes change deed) rest h g = errs_then deed rest h g
-  errs_then (Takes class contents deed) rest h g = λ k. errs_then (deed k) rest (h k) g
-
   -- ---- places
 
   errs_object : (v : Value) → ErrsIf E (object_of v)
@@ -56,14 +41,35 @@ module _ (E : Type 0) where
   pub errs_to_object : (location : Location) → ErrsIf E (to_object location)
   errs_to_object location = λ world. errs_object (load world location)
 
-  pub errs_taken : (hooked : Bool) (how : Use) (act : Option PlanAct) (location : Location) → ErrsIf E (taken_by hooked how act location)
-  errs_taken false how act location = λ world. tt
-  errs_taken true how act location = tt
+  errs_kept : (how : Use) (level node : ℕ) (v : Value) → ErrsIf E (kept_for how level node v)
+  errs_kept Owned level node v = tt
+  errs_kept Given level node v = tt
+  errs_kept Held level node v = tt
+  errs_kept Lent level node v = tt
+  errs_kept Looked level node v = tt
 
-  pub errs_made : (hooked : Bool) (how : Use) (v : Value) → ErrsIf E (made_by hooked how v)
-  errs_made false how v = tt
-  errs_made true how (Fixed t) = tt
-  errs_made true how _ = tt
+  errs_copied_for : (how : Use) (f : Form) (to : Destination) (location : Location) → ErrsIf E (copied_for how f to location)
+  errs_copied_for Looked f to location = λ world. tt
+  errs_copied_for Owned f to location = errs_then E (copied f location) _ (errs_copied E f location) (errs_kept to.how to.level to.node)
+  errs_copied_for Given f to location = errs_then E (copied f location) _ (errs_copied E f location) (errs_kept to.how to.level to.node)
+  errs_copied_for Held f to location = errs_then E (copied f location) _ (errs_copied E f location) (errs_kept to.how to.level to.node)
+  errs_copied_for Lent f to location = errs_then E (copied f location) _ (errs_copied E f location) (errs_kept to.how to.level to.node)
+
+  pub errs_taken : (hooked : Bool) (f : Form) (to : Destination) (act : Option PlanAct) (location : Location) → ErrsIf E (taken_by hooked f to act location)
+  errs_taken false f to act location = λ world. tt
+  errs_taken true f to act location = errs_copied_for to.how f to location
+
+  errs_text_for : (how : Use) (to : Destination) (t : List ℕ) → ErrsIf E (text_for how to t)
+  errs_text_for Lent to t = tt
+  errs_text_for Looked to t = tt
+  errs_text_for Owned to t = errs_then E (fresh_text t) _ (errs_fresh E _ _ _) (errs_kept to.how to.level to.node)
+  errs_text_for Given to t = errs_then E (fresh_text t) _ (errs_fresh E _ _ _) (errs_kept to.how to.level to.node)
+  errs_text_for Held to t = errs_then E (fresh_text t) _ (errs_fresh E _ _ _) (errs_kept to.how to.level to.node)
+
+  pub errs_made : (hooked : Bool) (to : Destination) (v : Value) → ErrsIf E (made_by hooked to v)
+  errs_made false to v = tt
+  errs_made true to (Fixed t) = errs_text_for to.how to t
+  errs_made true to v = errs_kept to.how to.level to.node v
 
   -- ---- the table
 
@@ -78,28 +84,44 @@ module _ (E : Type 0) where
   errs_does : (operation : Operation) (facts : Facts) (ty : Option Ty) (of : List (Option Ty)) (xs : List Operand) → ErrsIf E (does operation facts ty of xs)
   errs_does (O.Unary operator) facts ty of xs = errs_outcome _
   errs_does (O.Binary operator) facts ty of xs = errs_outcome _
-  errs_does O.Convert facts ty of xs = errs_then (converted (limit_for facts ty) _) moved (errs_converted (limit_for facts ty) _) (λ v. tt)
+  errs_does O.Convert facts ty of xs = errs_then E (converted (limit_for facts ty) _) moved (errs_converted (limit_for facts ty) _) (λ v. tt)
   errs_does (O.Measure measure) facts ty of xs = λ world. tt
   errs_does (O.Update operator) facts ty of xs =
       λ world. let given = applied operator (number_of (load world (location xs 0))) (step_by xs) in
-      errs_then (outcome given) (put (location xs 0)) (errs_outcome given) (λ v. tt)
+      errs_then E (outcome given) (put (location xs 0)) (errs_outcome given) (λ v. tt)
+  errs_does O.Echo facts ty of xs = λ world. tt
   errs_does O.Move facts ty of xs = λ world. tt
   errs_does O.Swap facts ty of xs = λ world next last. tt
   errs_does _ facts ty of xs = tt
 
+  errs_constant : (hooked : Bool) (f : Form) (v : Value) → ErrsIf E (constant_for hooked f v)
+  errs_constant false f v = tt
+  errs_constant true f (Fixed t) = tt
+  errs_constant true f v = errs_built E f v
+
   errs_acts : (act : Act) (facts : Facts) (ty : Option Ty) (of : List (Option Ty)) (xs : List Operand) → ErrsIf E (acts act facts ty of xs)
-  errs_acts (Doing operation) facts ty of xs = errs_does operation facts ty of xs
+  errs_acts (Doing operation) facts ty of xs = by_types (gives_hooked facts ty || any_hooked facts of)
+    where
+      by_types : (b : Bool) → ErrsIf E (branch b (owned operation facts ty of xs (does operation facts ty of xs)) (does operation facts ty of xs))
+      by_types true = errs_owned E operation facts ty of xs (does operation facts ty of xs) (errs_does operation facts ty of xs)
+      by_types false = errs_does operation facts ty of xs
   errs_acts (Building fields) facts ty of xs = tt
-  errs_acts (Giving literal) facts ty of xs = tt
+  errs_acts (Giving literal) facts ty of xs = errs_constant (gives_hooked facts ty) (form_for facts ty) (literal_value literal)
   errs_acts (Calling proc types) facts ty of xs = tt
 
-  pub errs_row : (act : Act) (facts : Facts) (how : Use) (ty : Option Ty) (of : List (Option Ty)) (xs : List Operand) → ErrsIf E (row facts act how ty of xs)
-  errs_row act facts how ty of xs =
+  pub errs_row : (act : Act) (facts : Facts) (to : Destination) (ty : Option Ty) (of : List (Option Ty)) (xs : List Operand) →
+      ErrsIf E (row facts act to ty of xs)
+  errs_row act facts to ty of xs =
       let hooked = gives_hooked facts ty in
-      errs_then (acts act facts ty of xs) (made_by hooked how) (errs_acts act facts ty of xs) (errs_made hooked how)
+      errs_then E (acts act facts ty of xs) (made_by hooked to) (errs_acts act facts ty of xs) (errs_made hooked to)
 
-  pub errs_handed : (facts : Facts) (how : Use) (ty : Option Ty) (v : Value) → ErrsIf E (handed_by facts how ty v)
-  errs_handed facts how None v = tt
-  errs_handed facts how (Some ty) v =
+  pub errs_handed : (facts : Facts) (to : Destination) (ty : Option Ty) (v : Value) → ErrsIf E (handed_by facts to ty v)
+  errs_handed facts to None v = tt
+  errs_handed facts to (Some ty) v =
       let hooked = gives_hooked facts (Some ty) in
-      errs_then (moved v) (made_by hooked how) tt (errs_made hooked how)
+      errs_then E (moved v) (made_by hooked to) tt (errs_made hooked to)
+
+  -- ---- places and groups
+
+  pub errs_place_ends : (f : Form) (level place : ℕ) → ErrsIf E (place_ends f level place)
+  errs_place_ends f level place = λ world. errs_slot E f _ _

@@ -1,7 +1,7 @@
 -- Blocks go by ways through their acts, and do these acts.
 use Rattle.std.proofs.Common.{◌≡◌, refl, sym, ap, subst, ℕ, suc, ℤ, pos, ◌+ℤ◌, Bool, true, false, not, ◌&&◌, if◌then◌else◌, List, [], ◌∷◌, ◌++◌, Option, Some}
-use Rattle.std.proofs.Common.{None}
-use Rattle.std.proofs.lemmas.Bool.{and_parts}
+use Rattle.std.proofs.Common.{None, length}
+use Rattle.std.proofs.lemmas.Bool.{and_parts, false≢true}
 use Rattle.std.specs.Prelude.{nat_lt, int_lt}
 use Rattle.arc_base.specs.BigStep.{Turn}
 use Rattle.nim_types.specs.Types.{Ty}
@@ -9,24 +9,26 @@ use Rattle.nim_program.specs.declared.operation.Use.TheVariants.{Owned, Given as
 use Rattle.nim_program.specs.declared.program.Mode.{Mode}
 use Rattle.nim_program.specs.declared.stmt.Leaving.TheVariants as K
 use Rattle.nim_program.specs.Program as T
-use Rattle.nim_program.specs.Program.{Label, Expr, Args, Declared, Stmt, Stmts, Blocks, node_of, last_after, last_of}
+use Rattle.nim_program.specs.Program.{Label, Expr, Args, Declared, Stmt, Stmts, Blocks, type_of, node_of, last_after, last_of}
 use Rattle.nim_program.specs.Ints.{is_true}
 use Rattle.nim_meaning.specs.ActTree as tree
 use Rattle.nim_meaning.specs.ActTree.{Named, Begins, Does as Done_by, Fills, Looks as Looks_up, Chooses, Turns, Asks, Decides}
 use Rattle.nim_meaning.specs.ActTree.{Act, Pass, Lend, Fill, Acts, Done, Then, Do, Loop, Index, whole}
 use Rattle.nim_meaning.specs.Ways.{At, Exits, Graph, Raises, turn_begins, in_condition, loop_goes_on, loop_ends, in_turn, doing, here as at_here, later}
 use Rattle.nim_meaning.specs.Ways.{onto, looped}
-use Rattle.nim_meaning.specs.Values.{Value, Number, nothing, number_of, length_of, default_of}
-use Rattle.nim_meaning.specs.State.{load}
-use Rattle.nim_meaning.specs.Acts.{Does, give, ◌>>=◌, ◌>>◌, branch, again, no_more, looks, loop}
-use Rattle.nim_meaning.specs.Here.{Here, is_hooked}
-use Rattle.nim_meaning.specs.Shapes.{selector_type, is_covered, is_last_block}
+use Rattle.nim_meaning.specs.Values.{Value, Number, Fixed, nothing, number_of, length_of, default_of, item_of}
+use Rattle.nim_meaning.specs.State.{load, text_of}
+use Rattle.nim_meaning.specs.Acts.{Does, give, ◌>>=◌, ◌>>◌, branch, costs, again, no_more, looks, loop}
+use Rattle.nim_meaning.specs.Here.{Here, is_hooked, gives_hooked}
+use Rattle.nim_meaning.specs.Shapes.{is_read, is_given, selector_type, is_covered, is_last_block}
+use Rattle.nim_meaning.specs.Waiting.{waiting_first}
 use Rattle.nim_meaning.specs.ActsOf.{makes, all_made, ended, result_act, result_root, back_or_on, looked_up, acts_of, scope, filled, element_act}
 use Rattle.nim_meaning.specs.ActsOf.{condition_acts}
 use Rattle.nim_meaning.specs.ActsOf.{head_acts, site_at, path_before, path_of}
 use Rattle.nim_meaning.specs.ActsOf.{loop_acts, selector_acts, stmt_acts, stmts_acts, first_block_acts, block_arms}
 use Rattle.nim_meaning.specs.Meaning as M
-use Rattle.nim_meaning.specs.Meaning.{at_node, eval, fill, scoped, while_turn, limit, count_turn, still, element_at, each_turn, result_gets}
+use Rattle.nim_meaning.specs.Meaning.{at_node, waits_of, waits_in, ended_value, selecting, element_for, is_fresh, eval, fill, scoped, while_turn, limit}
+use Rattle.nim_meaning.specs.Meaning.{count_turn, still, element_at, each_turn, result_gets}
 use Rattle.nim_meaning.specs.Aims.{Aim, ItemOf, find}
 use Rattle.nim_meaning.specs.Meaning.{head_values, ready_operand, ready_rest, ready_aim, test_of, selector_of, loop_over, exec, exec_all, first_block}
 use Rattle.nim_meaning.specs.Meaning.{picked_block}
@@ -39,7 +41,8 @@ use Rattle.nim_meaning.proofs.AimLemmas.{some_aim, some_operands, head_looks, el
 use Rattle.nim_meaning.proofs.RunParts.{Part, Block, Chosen, InsideControl, looked_makes_none, part_gives, part_then, part_costs, part_block, block_gives}
 use Rattle.nim_meaning.proofs.RunParts.{block_then}
 use Rattle.nim_meaning.proofs.RunParts.{block_ended, part_do, part_left, part_group, part_choose, chosen_last, chosen_picked, block_either, part_loop}
-use Rattle.nim_meaning.proofs.RunValues.{not_true, eval_part, aimed_part, ready_part, looked_part, alone}
+use Rattle.nim_meaning.proofs.RunValues.{eval_part, aimed_part, ready_part, looked_part, alone_value, none_ended}
+use Rattle.nim_meaning.proofs.WaitLemmas.{not_true, plain_value, plain_selector, none_waits, none_wait, none_first}
 
 module _ (raises : Raises) (E : Graph) (at_call : ℕ → ℕ → Mode) (here : Here) where
   abbrev hooked : Ty → Bool
@@ -56,17 +59,29 @@ module _ (raises : Raises) (E : Graph) (at_call : ℕ → ℕ → Mode) (here : 
   fill_part : (n : ℕ) (r : tree.Role) (place : ℕ) (v : Value) → P Nothing (λ b. Then (Do n r (Fill (Named place))) b) (at_node n r (fill here place v))
   fill_part n r place v = part_do raises E here n r (Fill (Named place)) refl (λ k e. fills v e)
 
-  result_part : (n : ℕ) (result : Option Declared) (v : Value) →
-      P A_value (λ b. Then (Do n Done_by (result_act result)) b) (at_node n Done_by (result_gets result here v))
-  result_part n None v = part_do raises E here n Done_by Pass refl (λ k e. passes e (gives tt))
-  result_part n (Some place) v = part_do raises E here n Done_by (tree.Give (whole (Named place.number))) refl (λ k e. gives_result v e)
+  result_part : (n : ℕ) (hook : Bool) (result : Option Declared) (v : Value) → hook ≡ false →
+      P A_value (λ b. Then (Do n Done_by (result_act result)) b) (at_node n Done_by (result_gets hook result here v))
+  result_part n true result v plain = absurd (false≢true (sym plain))
+  result_part n false None v plain = part_do raises E here n Done_by Pass refl (λ k e. passes e (gives tt))
+  result_part n false (Some place) v plain = part_do raises E here n Done_by (tree.Give (whole (Named place.number))) refl (λ k e. gives_result v e)
+
+  -- no place gets a copy of a value without hooks
+  given_plainly : {a : Answer} {b : Acts} (hook given : Bool) (copies : Does (answer a)) {gives : Does (answer a)} → hook ≡ false → B a b gives →
+      B a b (branch (hook && given) copies gives)
+  given_plainly true given copies e f = absurd (false≢true (sym e))
+  given_plainly false given copies e f = f
+
+  plainly_chosen : {a : Answer} {b : Acts} (ty : Option Ty) (x : Value) (go : Value → Does (answer a)) → gives_hooked here.facts ty ≡ false →
+      B a b (go x) → B a b (selecting here ty x go)
+  plainly_chosen {a} {b} ty x go e f =
+      subst (λ c. B a b (branch c (looks (λ world. costs (length (text_of world x)) (go (Fixed (text_of world x))))) (go x))) (sym e) f
 
   -- the scope of a place without hooks does nothing
   in_scope : {b : Acts} {act : Does (Unit {0})} (place : Declared) (last : ℕ) → hooked place.of ≡ false → B Nothing b act →
       B Nothing (scope hooked at_call place last b) (scoped here place last act)
   in_scope {b} {act} place last e f =
       subst (λ c. B Nothing (if c then tree.Bind (Named place.number) last b else b) (scoped here place last act)) (sym e)
-      (record { makes = f.makes; does = λ k i. ends_scope place last (f.does k i) })
+      (record { makes = f.makes; does = λ k i. ends_scope place last e (f.does k i) })
 
   -- ---- loops
 
@@ -101,27 +116,35 @@ module _ (raises : Raises) (E : Graph) (at_call : ℕ → ℕ → Mode) (here : 
     abbrev around : Acts
     around = Then (Do n Done_by d) (Then (Do n Fills (Fill (Named place.number))) (scope hooked at_call place last b))
 
-    abbrev turn_does : ℕ → ℕ → Does (Turn ℕ (Unit {0}))
-    turn_does len x =
-        find aim >>= (λ found. still found len >> (at_node n Done_by (element_at found x)
-        >>= (λ v. at_node n Fills (fill here place.number v) >> again (scoped here place last body) (suc x))))
+    module _ (borrows : Bool) where
+      abbrev turn_by : Bool → ℕ → ℕ → Does (Turn ℕ (Unit {0}))
+      turn_by hook len x =
+          find aim >>= (λ found. still found len >> branch hook
+          (at_node n Done_by (looks (λ world. give (item_of (load world found) found x)))
+          >>= (λ item. at_node n Fills (element_for here place borrows item) >> again (scoped here place last body) (suc x)))
+          (at_node n Done_by (element_at found x)
+          >>= (λ v. at_node n Fills (fill here place.number v) >> again (scoped here place last body) (suc x))))
 
-    each_does : (k : Exits) (len x : ℕ) → InsideControl raises E here (Loop n Done around) k →
-        TurnsBy E here By_position (At n Done_by) (At n Turns) (k tree.On) k (turn_does len x)
-    each_does k len x i =
-        turn_reads len x (i _ _ _ (in_turn (at_here doing))) (looks_for x)
-        (λ v. turn_follows {a = Nothing} (fills v (i _ _ _ (in_turn (later (at_here doing)))))
-        (λ u l. turn_again (suc x) (Block.does (in_scope place last e f) (looped (At n Turns) k) (λ p d q z. i p d q (in_turn (later (later z)))))))
+      abbrev turn_does : ℕ → ℕ → Does (Turn ℕ (Unit {0}))
+      turn_does len x = turn_by (hooked place.of) len x
 
-    each_tested : (k : Exits) (len x : ℕ) (more : Bool) → InsideControl raises E here (Loop n Done around) k →
-        TurnsBy E here By_position (At n Chooses) (At n Turns) (k tree.On) k (at_node n Chooses (branch more (turn_does len x) no_more))
-    each_tested k len x true i = turn_passes (i _ _ _ loop_goes_on) (each_does k len x i)
-    each_tested k len x false i = turn_passes (i _ _ _ loop_ends) turn_ends
+      each_does : (k : Exits) (len x : ℕ) → InsideControl raises E here (Loop n Done around) k →
+          TurnsBy E here By_position (At n Done_by) (At n Turns) (k tree.On) k (turn_does len x)
+      each_does k len x i =
+          subst (λ hook. TurnsBy E here By_position (At n Done_by) (At n Turns) (k tree.On) k (turn_by hook len x)) (sym e)
+          (turn_reads len x (i _ _ _ (in_turn (at_here doing))) (looks_for x)
+          (λ v. turn_follows {a = Nothing} (fills v (i _ _ _ (in_turn (later (at_here doing)))))
+          (λ u l. turn_again (suc x) (Block.does (in_scope place last e f) (looped (At n Turns) k) (λ p d q z. i p d q (in_turn (later (later z))))))))
 
-    each_part : (len : ℕ) → P Nothing (λ rest. Then (Loop n Done around) rest) (loop (each_turn n here place last body aim len) 0)
-    each_part len =
-        part_loop raises E here n Done around
-        (λ k i. loops {c = By_position} 0 (λ x. turn_passes (i _ _ _ turn_begins) (each_tested k len x (nat_lt x len) i)))
+      each_tested : (k : Exits) (len x : ℕ) (more : Bool) → InsideControl raises E here (Loop n Done around) k →
+          TurnsBy E here By_position (At n Chooses) (At n Turns) (k tree.On) k (at_node n Chooses (branch more (turn_does len x) no_more))
+      each_tested k len x true i = turn_passes (i _ _ _ loop_goes_on) (each_does k len x i)
+      each_tested k len x false i = turn_passes (i _ _ _ loop_ends) turn_ends
+
+      each_part : (len : ℕ) → P Nothing (λ rest. Then (Loop n Done around) rest) (loop (each_turn n here place borrows last body aim len) 0)
+      each_part len =
+          part_loop raises E here n Done around
+          (λ k i. loops {c = By_position} 0 (λ x. turn_passes (i _ _ _ turn_begins) (each_tested k len x (nat_lt x len) i)))
 
   -- the elements are counted where they are looked up
   counted_part : {F : Acts → Acts} {go : ℕ → Does (Unit {0})} (n : ℕ) (d : Act) (aim : Aim) → makes d ≡ [] → LooksFor here d aim →
@@ -149,11 +172,21 @@ module _ (raises : Raises) (E : Graph) (at_call : ℕ → ℕ → Mode) (here : 
   abbrev PlainArgs : Args → Type 0
   PlainArgs args = are_plain hooked false args ≡ true
 
-  whole_value : (e : Expr) → is_plain_value hooked e ≡ true → B A_value (ended (acts_of hooked at_call Owned None e Done)) (eval e Owned here)
-  whole_value e h = alone raises E at_call here (eval_part raises E at_call here Owned None e Owned h)
+  whole_value : (e : Expr) → is_plain_value hooked e ≡ true →
+      B A_value (ended (acts_of hooked at_call Owned None e Done)) (ended_value here e Owned (eval e Owned here))
+  whole_value e h = alone_value raises E at_call here e Owned h (eval_part raises E at_call here Owned None e Owned h)
 
   head_part : (head : Args) → PlainArgs head → P (The_operands (paths_in head)) (head_acts hooked at_call head) (head_values head here)
-  head_part head h = ready_part raises E at_call here false (λ i. Owned) (λ e i. refl) 0 None head (λ i. Owned) h
+  head_part head h = ready_part raises E at_call here false (λ i. Owned) (λ i. Owned) (λ e. absurd (false≢true e)) 0 None head h
+
+  -- none of the values of a head waits
+  head_ended : {a : Answer} {b : Acts} {act : Does (answer a)} (head : Args) → PlainArgs head → B a b act → B a b (M.ended here (waits_in here head) act)
+  head_ended head h f =
+      none_ended raises E at_call here (waits_in here head) (none_wait here.facts here.modes false head (λ i. Owned) 0 (λ e. absurd (false≢true e)) h) f
+
+  value_ended : {a : Answer} {b : Acts} {act : Does (answer a)} (e : Expr) → is_plain_value hooked e ≡ true → B a b act →
+      B a b (M.ended here (waits_of here e ToPlace) act)
+  value_ended e h f = none_ended raises E at_call here (waits_of here e ToPlace) (none_waits here.facts here.modes e ToPlace h) f
 
   no_value : (v : Value) → B A_value Done (give v)
   no_value v = block_gives raises E here tt
@@ -187,24 +220,24 @@ module _ (raises : Raises) (E : Graph) (at_call : ℕ → ℕ → Mode) (here : 
   loop_part n T.While head last e h f = while_part n (test_block head h) f
   loop_part n (T.Count variable inclusive) head last e h f =
       let some = some_operands here head in
-      part_group raises E here n Begins (block_ended raises E here (part_block raises E here
+      part_group raises E here n Begins (head_ended head h (block_ended raises E here (part_block raises E here
       (part_then raises E here {a = The_operands (paths_in head)} some.ready some.lead (head_part head h)
       (λ ready l. count_part n variable last (limit inclusive (number_of (ready_operand (ready_rest ready)))) (number_of (ready_operand ready))
-      (not_true (hooked variable.of) e) f))))
+      (not_true (hooked variable.of) e) f)))))
   loop_part {b} {body} n (T.Each variable) head last e h f =
       let some = some_operands here head in
       let plain = not_true (hooked variable.of) e in
-      part_group raises E here n Begins (block_ended raises E here (part_block raises E here
+      part_group raises E here n Begins (head_ended head h (block_ended raises E here (part_block raises E here
       (part_then raises E here {a = The_operands (paths_in head)} some.ready some.lead (head_part head h)
       (λ ready l. subst (λ a. P Nothing
       (λ rest. Then (Do n Looks_up (looked_up head []))
       (Then (Loop n Done (Then (Do n Done_by (looked_up head (Index None ∷ []))) (Then (Do n Fills a) (scope hooked at_call variable last b)))) rest))
       (at_node n Looks_up (find (ready_aim ready))
-      >>= (λ found. looks (λ world. loop (each_turn n here variable last body (ready_aim ready) (length_of (load world found))) 0))))
+      >>= (λ found. looks (λ world. loop (each_turn n here variable (is_fresh head) last body (ready_aim ready) (length_of (load world found))) 0))))
       (sym (element_fills variable head plain))
       (counted_part n (looked_up head []) (ready_aim ready) (looked_makes_none head []) (head_looks here head l)
       (λ len. each_part n variable last (looked_up head (Index None ∷ [])) plain f (ready_aim ready)
-      (λ i. element_looks here head (pos i) l) len))))))
+      (λ i. element_looks here head (pos i) l) (is_fresh head) len)))))))
 
   mutual
     pub exec_part : (stmt : Stmt) → is_plain_stmt hooked stmt ≡ true → P Nothing (stmt_acts hooked at_call here.result stmt) (exec stmt here)
@@ -214,20 +247,27 @@ module _ (raises : Raises) (E : Graph) (at_call : ℕ → ℕ → Mode) (here : 
     exec_part (T.Idle node parts) h =
         part_costs raises E here 1 (part_do raises E here node.number Done_by Pass refl (λ k e. passes e (gives tt)))
     exec_part (T.Give node back value) h =
-        part_costs raises E here 1 (part_group raises E here node.number Begins (block_ended raises E here
+        let plain = plain_value here.facts value h in
+        part_costs raises E here 1 (part_group raises E here node.number Begins (value_ended value h (block_ended raises E here
+        (given_plainly (gives_hooked here.facts (type_of value)) (is_given ToPlace && is_read value) _ plain
         (block_then raises E here {a = A_value} nothing tt
         (eval_part raises E at_call here ToPlace (result_root here.result) value ToPlace h)
-        (λ v u. block_then raises E here {a = A_value} nothing tt (result_part node.number here.result v)
-        (λ given l. back_block back node.number)))))
+        (λ v u. block_then raises E here {a = A_value} nothing tt
+        (result_part node.number (gives_hooked here.facts (type_of value)) here.result v plain)
+        (λ given l. back_block back node.number)))))))
     exec_part (T.Leave node leaving parts) h = part_costs raises E here 1 (part_left raises E here node.number leaving)
     exec_part (T.Select node T.ByConditions tests blocks) h =
         let q = and_parts (are_plain hooked false tests) (are_plain_blocks hooked blocks) h in
         part_costs raises E here 1 (part_group raises E here node.number Begins (first_block_part tests blocks q.0 q.1))
     exec_part (T.Select node (T.ByLabels labels) tests blocks) h =
         let q = and_parts (are_plain hooked false tests) (are_plain_blocks hooked blocks) h in
-        part_costs raises E here 1 (part_group raises E here node.number Begins (block_ended raises E here
-        (part_block raises E here (part_then raises E here {a = A_value} nothing tt (selector_part tests q.0)
-        (λ x u. part_choose raises E here node.number Chooses (block_chosen (is_covered (selector_type tests)) labels blocks x q.1))))))
+        part_costs raises E here 1 (part_group raises E here node.number Begins
+        (none_ended raises E at_call here (waiting_first here.facts here.modes tests) (none_first here.facts here.modes tests q.0)
+        (block_ended raises E here (block_then raises E here {a = A_value} nothing tt (selector_part tests q.0)
+        (λ x u. plainly_chosen (selector_type tests) x
+        (λ x. at_node node.number Chooses (picked_block (is_covered (selector_type tests)) labels blocks x here)) (plain_selector here.facts tests q.0)
+        (part_block raises E here
+        (part_choose raises E here node.number Chooses (block_chosen (is_covered (selector_type tests)) labels blocks x q.1))))))))
     exec_part (T.Loop node kind head body) h =
         let p = and_parts (is_plain_loop hooked kind) (are_plain hooked false head && is_plain_block hooked body) h in
         let q = and_parts (are_plain hooked false head) (is_plain_block hooked body) p.1 in
@@ -252,10 +292,11 @@ module _ (raises : Raises) (E : Graph) (at_call : ℕ → ℕ → Mode) (here : 
         let q = and_parts values (is_plain_block hooked rest) p.1 in
         let r = and_parts (is_plain_value hooked value) (are_plain hooked false more) q.0 in
         block_then raises E here {a = Nothing} tt tt
-        (part_costs raises E here 1 (part_group raises E here node.number Begins (block_ended raises E here (part_block raises E here
-        (part_then raises E here {a = A_value} nothing tt
+        (part_costs raises E here 1 (part_group raises E here node.number Begins (value_ended value r.0 (block_ended raises E here
+        (given_plainly (gives_hooked here.facts (type_of value)) (is_given ToPlace && is_read value) _ (plain_value here.facts value r.0)
+        (part_block raises E here (part_then raises E here {a = A_value} nothing tt
         (eval_part raises E at_call here ToPlace (Some (Named place.number)) value ToPlace r.0)
-        (λ v u. fill_part node.number Done_by place.number v))))))
+        (λ v u. fill_part node.number Done_by place.number v))))))))
         (λ u l. in_scope place (last_after node.number rest) (not_true (hooked place.of) p.0) (exec_block rest q.1))
     exec_block (T.Declare node place cursor (T.ByPath path more) rest) h = done
     exec_block (T.Defer node last rest) h = done

@@ -1,5 +1,6 @@
 -- What goes by a way and does its acts passes the points of the way.
-use Rattle.std.proofs.Common.{refl, subst, ℕ, List}
+use Rattle.std.proofs.Common.{◌≡◌, refl, sym, subst, ℕ, Bool, false, List}
+use Rattle.nim_types.specs.Forms.{form_of}
 use Rattle.arc_base.specs.BigStep.{Res, Got, Over, Going, Errs, then_do, Turn}
 use Rattle.nim_program.specs.Program.{Declared, Calling}
 use Rattle.nim_program.specs.declared.stmt.Leaving.{Leaving}
@@ -10,12 +11,14 @@ use Rattle.nim_meaning.specs.ActTree.{On as On_flow, Pass, Fill, Give, Named, wh
 use Rattle.nim_meaning.specs.Ways.{Point, Exits, Graph, onto}
 use Rattle.nim_meaning.specs.State.{State, load}
 use Rattle.nim_meaning.specs.Values.{Value, Location, length_of}
-use Rattle.nim_meaning.specs.Acts.{Outcome, On, Out as LeftBy, Does, give, exit_of, as_before, onward, ◌>>=◌, ◌>>◌, worked, passing, looks, leave, loop, stop}
+use Rattle.nim_meaning.specs.Acts.{Outcome, On, Out as LeftBy, Does, give, exit_of, left_as, leaving_scope, as_before, onward, ◌>>=◌, ◌>>◌, branch, costs}
+use Rattle.nim_meaning.specs.Acts.{worked, passing, looks}
+use Rattle.nim_meaning.specs.Acts.{leave, loop, stop}
 use Rattle.nim_meaning.specs.Deeds.{carry}
-use Rattle.nim_meaning.specs.Here.{Here}
+use Rattle.nim_meaning.specs.Here.{Here, is_hooked}
 use Rattle.nim_meaning.specs.Places.{place_at, put, fetched, item_of}
 use Rattle.nim_meaning.specs.Aims.{find, settle}
-use Rattle.nim_meaning.specs.Meaning.{carried, fill, ends, scoped, still, element_at, exit_by}
+use Rattle.nim_meaning.specs.Meaning.{carried, fill, place_ends, ends, scoped, still, element_at, exit_by}
 use Rattle.nim_meaning.specs.AtPoints.{Answer, answer, Known, Counter, counter, flow_by, DoesBy, TurnsBy, gives, hands_on, works_first, follows_on, same_way}
 use Rattle.nim_meaning.specs.AtPoints.{same_deed}
 use Rattle.nim_meaning.specs.AtPoints.{passes, leaves, loops, in_scope, reads, reads_alone, works_on, calls, fills, gives_result, counts}
@@ -53,7 +56,7 @@ module _ (E : Graph) (here : Here) where
   known (passes {p = p} e f) s = known f (past p s)
   known (leaves node leaving e) s = tt
   known (loops {turn = turn} x turns) s = any (loop turn x s)
-  known (in_scope {act = act} place last f) s = any (scoped here place last act s)
+  known (in_scope {act = act} place last e f) s = any (scoped here place last act s)
   known (reads {p = p} {aim = aim} e l) s = any ((find aim >>= (λ found. passing p (carry (fetched found)))) s)
   known (reads_alone {aim = aim} {deed = deed} path e l w) s = any ((find aim >>= (λ found. carry (deed found))) s)
   known (works_on {p = p} {ready = ready} {deed = deed} e d l) s = any ((settle ready >>= (λ xs. passing p (carry (deed xs)))) s)
@@ -70,13 +73,24 @@ module _ (E : Graph) (here : Here) where
     abbrev G : {A : Type 0} → Point → Exits → List Point → Res State (Outcome A) → Type 0
     G p k t r = Goes E elsewhere p k t r
 
-    scope_goes : (p : Point) (k : Exits) (t : List Point) (place : Declared) (last : ℕ) (r : Res State (Outcome (Unit {0}))) → G p k t r →
-        G p k t (then_do r (λ flow. ends here place (exit_of last flow) >> as_before flow))
-    scope_goes p k t place last (Got (On x) s) h = h
-    scope_goes p k t place last (Got (LeftBy way) s) h = h
-    scope_goes p k t place last (Over status live s) h = h
-    scope_goes p k t place last (Going s) h = h
-    scope_goes p k t place last (Errs s) h = h
+    -- a place without hooks, whose end is nothing
+    abbrev ends_by : Bool → Declared → Does (Unit {0})
+    ends_by hook place = costs 1 (branch hook (carry (place_ends (form_of here.facts place.of) here.level place.number)) (give tt))
+
+    nothing_ends : (p : Point) (k : Exits) (t : List Point) (place : Declared) (r : Res State (Outcome (Unit {0}))) → G p k t r →
+        G p k t (then_do r (λ flow. ends_by false place >> as_before flow))
+    nothing_ends p k t place (Got (On x) s) h = h
+    nothing_ends p k t place (Got (LeftBy way) s) h = h
+    nothing_ends p k t place (Over status live s) h = h
+    nothing_ends p k t place (Going s) h = h
+    nothing_ends p k t place (Errs s) h = h
+
+    scope_goes : (p : Point) (k : Exits) (t : List Point) (place : Declared) (last : ℕ) → is_hooked here.facts place.of ≡ false →
+        (r : Res State (Outcome (Unit {0}))) → G p k t r → G p k t (then_do r
+        (λ flow. leaving_scope (is_hooked here.facts place.of) (Named place.number) (left_as flow) (ends here place (exit_of last flow)) >> as_before flow))
+    scope_goes p k t place last e r h =
+        subst (λ hook. G p k t (then_do r (λ flow. leaving_scope hook (Named place.number) (left_as flow) (ends_by hook place) >> as_before flow)))
+        (sym e) (nothing_ends p k t place r h)
 
     leaves_goes : (A : Type 0) (p : Point) (k : Exits) (node : ℕ) (leaving : Leaving) (s : State) → E p Pass (k (flow_by leaving node)) →
         G {A = A} p k s.trail (passing p (leave (exit_by leaving node)) s)
@@ -118,7 +132,7 @@ module _ (E : Graph) (here : Here) where
       goes (passes {p = p} {q = q} {k = k} {act = act} e f) s = goes_past E elsewhere p q Pass k act e s (goes f (past p s))
       goes (leaves {a = a} {p = p} {k = k} node leaving e) s = leaves_goes (answer a) p k node leaving s e
       goes (loops {p = p} {k = k} {turn = turn} x turns) s = goes_round E elsewhere p k turn (λ y t. turn_goes (turns y) t) x s
-      goes (in_scope {p = p} {k = k} {act = act} place last f) s = scope_goes p k s.trail place last (act s) (goes f s)
+      goes (in_scope {p = p} {k = k} {act = act} place last e f) s = scope_goes p k s.trail place last e (act s) (goes f s)
       goes (reads {p = p} {k = k} {z = z} {aim = aim} e l) s =
           still_then p k (find aim) (λ found. passing p (carry (fetched found))) (still_find elsewhere aim)
           (λ found t. past_still E elsewhere p (Look z) k (carry (fetched found)) e (still_carry elsewhere (fetched found)) t) s

@@ -18,7 +18,7 @@ use Rattle.nim_meaning.specs.Acts.{Does, leave, give, ◌>>=◌, branch, costs}
 use Rattle.nim_meaning.specs.Deeds.{Deed, carry}
 use Rattle.nim_meaning.specs.Here.{Here}
 use Rattle.nim_meaning.specs.ActsOf.{used, makes, made, made_in, all_made, bound, ended, either, act_by, looked_up, result_act, left}
-use Rattle.nim_meaning.specs.Meaning.{at_node, picked, exit_by}
+use Rattle.nim_meaning.specs.Meaning.{at_node, label_work, picked, exit_by}
 use Rattle.nim_meaning.specs.AtPoints.{Answer, answer, A_value, Known, Within, At_none, DoesBy, gives, hands_on, works_first, follows_on, same_way, same_deed}
 use Rattle.nim_meaning.specs.AtPoints.{passes, leaves}
 
@@ -238,7 +238,7 @@ module _ (raises : Raises) (E : Graph) (here : Here) where
   pub chosen_labels : {a : Answer} {arms : Arms} {x y : Does (answer a)} (labels : List Label) (v : Value) → Chosen a arms x → Chosen a arms y →
       Chosen a arms (picked labels v x y)
   chosen_labels [] v f g = g
-  chosen_labels (label ∷ labels) v f g = chosen_costs 1 (chosen_branch _ f (chosen_labels labels v f g))
+  chosen_labels (label ∷ labels) v f g = chosen_costs (label_work label) (chosen_branch _ f (chosen_labels labels v f g))
 
   -- a branch by its labels, which is the last one where nothing else is to come
   pub chosen_picked : {a : Answer} {b : Acts} {rest : Arms} {x y : Does (answer a)} (labels : List Label) (v : Value) (last : Bool) → Block a b x →

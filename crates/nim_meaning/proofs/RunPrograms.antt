@@ -5,6 +5,7 @@ use Rattle.std.proofs.lemmas.Bool.{and_parts}
 use Rattle.std.proofs.lemmas.Option.{none-some, same_Some}
 use Rattle.arc_base.specs.BigStep.{Res, Got, Over, Going, Errs, then_do}
 use Rattle.nim_types.specs.Types.{Ty}
+use Rattle.nim_types.specs.Forms.{form_of}
 use Rattle.nim_plan.specs.declared.plan.Plan.{Plan}
 use Rattle.nim_program.specs.declared.program.TheConstants.{ACTIVE_CALLS}
 use Rattle.nim_program.specs.declared.operation.Use.{Use}
@@ -22,15 +23,18 @@ use Rattle.nim_meaning.specs.Acts.{change, elsewhere, stop}
 use Rattle.nim_meaning.specs.Here.{Here, is_hooked}
 use Rattle.nim_meaning.specs.Shapes.{modes_in}
 use Rattle.nim_meaning.specs.ActsOf.{scope, acts_of, stmts_acts, owned, with_result, body_acts, all_owned, if_body, acts_at, start_acts, procedure_acts}
-use Rattle.nim_meaning.specs.Meaning.{ends, eval, exec_all, params_end, result_of, handing, handed, from_level, entered, frame_of, seen_call, called, calls}
+use Rattle.nim_meaning.specs.Meaning.{place_ends, ends, eval, exec_all, params_end, result_of, handing, handed, from_level, entered, frame_of, seen_call}
+use Rattle.nim_meaning.specs.Meaning.{called, calls}
 use Rattle.nim_meaning.specs.Meaning.{at_top, at_first, reported, goes_through}
 use Rattle.nim_meaning.specs.Runs.{GoesBy, is_plain_value, is_plain_place, is_plain_block, is_plain_body, are_plain_params}
 use Rattle.nim_meaning.specs.Runs.{is_plain_if_body, are_plain_procs, has_no_hooks, start_graph, first_point, procedure_graph, first_point_of, StandsInCall}
 use Rattle.nim_meaning.specs.AtPoints.{A_value, Nothing, DoesBy}
 use Rattle.nim_meaning.proofs.RunLemmas.{PassesNone, AreElsewhere, Still}
 use Rattle.nim_meaning.proofs.RunDeeds.{goes}
-use Rattle.nim_meaning.proofs.StillLemmas.{still_both, still_give, still_costs, still_looks, still_change, still_stop, still_spending}
-use Rattle.nim_meaning.proofs.RunValues.{not_true, eval_part}
+use Rattle.nim_meaning.proofs.StillLemmas.{still_both, still_give, still_branch, still_carry, still_costs, still_looks, still_change, still_stop}
+use Rattle.nim_meaning.proofs.StillLemmas.{still_spending}
+use Rattle.nim_meaning.proofs.RunValues.{eval_part}
+use Rattle.nim_meaning.proofs.WaitLemmas.{not_true}
 use Rattle.nim_meaning.proofs.RunBlocks.{exec_block}
 
 -- ---- the acts of a body without hooks are those of its statements
@@ -149,7 +153,8 @@ module _ (raises : Raises) (program : Program) (plan : Plan) where
   still_params here [] exit = still_give other tt
   still_params here (param ∷ params) exit =
       still_both other (params_end here params exit) (ends here param.place exit) (still_params here params exit)
-      (still_costs other 1 (give tt) (still_give other tt))
+      (still_costs other 1 _ (still_branch other (is_hooked here.facts param.place.of) _ (give tt)
+      (still_carry other (place_ends (form_of here.facts param.place.of) here.level param.place.number)) (still_give other tt)))
 
   -- the end of a call that no exception leaves
   still_end : (here : Here) (params : List Param) (last : ℕ) (flow : Outcome (Unit {0})) → ((v : Value) → Still other (handing flow v)) →

@@ -13,10 +13,10 @@ use Rattle.nim_meaning.specs.State.{World, State}
 use Rattle.nim_meaning.specs.Acts.{Outcome, On, Out as LeftBy, Does, give, onward, ◌>>=◌, ◌>>◌, at_exit, branch, costs, spending, left_with, worked, say, end}
 use Rattle.nim_meaning.specs.Acts.{stop, looks, change}
 use Rattle.nim_meaning.specs.Deeds.{Deed, Gives, Ends, Errs as Wrong, Works, Says, Looks, Changes, Takes, carry, changed, with_block}
-use Rattle.nim_meaning.specs.Here.{Here, gives_hooked}
+use Rattle.nim_meaning.specs.Here.{Here, gives_hooked, any_hooked}
 use Rattle.nim_meaning.specs.Places.{rooted, made, to_part, to_item, to_object, made_by}
-use Rattle.nim_meaning.specs.Meaning.{row, left_at, carried}
-use Rattle.nim_meaning.specs.Aims.{Aim, Root, Value_of, PartOf, ItemOf, ObjectOf, find, Ready, Evaluated, Aimed, settle}
+use Rattle.nim_meaning.specs.Meaning.{destination, row, left_at, carried}
+use Rattle.nim_meaning.specs.Aims.{Aim, Root, Value_of, Waits_at, PartOf, ItemOf, ObjectOf, find, Ready, Evaluated, Aimed, settle, handed_over}
 use Rattle.nim_meaning.proofs.RunLemmas.{PassesNone, AreElsewhere, Still}
 
 module _ (elsewhere : List Point → Type 0) where
@@ -90,6 +90,7 @@ module _ (elsewhere : List Point → Type 0) where
   pub still_find : (aim : Aim) → S (find aim)
   still_find (Root base) = still_carry (rooted base)
   still_find (Value_of v) = still_carry (made v)
+  still_find (Waits_at level node) = still_give _
   still_find (PartOf aim i) = still_then (find aim) _ (still_find aim) (λ location. still_carry (to_part location i))
   still_find (ItemOf aim z) = still_then (find aim) _ (still_find aim) (λ location. still_carry (to_item location z))
   still_find (ObjectOf aim) = still_then (find aim) _ (still_find aim) (λ location. still_carry (to_object location))
@@ -114,12 +115,13 @@ module _ (elsewhere : List Point → Type 0) where
 
   pub still_carried : (here : Here) (node : ℕ) (act : Act) (how : Use) (ty : Option Ty) (of : List (Option Ty)) (xs : List Operand) →
       AreElsewhere elsewhere here.calls → S (carried here node act how ty of xs)
-  still_carried here node (Doing operation) how ty of xs calls = still_carry (row here.facts (Doing operation) how ty of xs)
-  still_carried here node (Building fields) how ty of xs calls = still_carry (row here.facts (Building fields) how ty of xs)
-  still_carried here node (Giving literal) how ty of xs calls = still_carry (row here.facts (Giving literal) how ty of xs)
+  still_carried here node (Doing operation) how ty of xs calls = still_carry (row here.facts (Doing operation) (destination here how node) ty of xs)
+  still_carried here node (Building fields) how ty of xs calls = still_carry (row here.facts (Building fields) (destination here how node) ty of xs)
+  still_carried here node (Giving literal) how ty of xs calls = still_carry (row here.facts (Giving literal) (destination here how node) ty of xs)
   still_carried here node (Calling proc types) how ty of xs calls =
-      still_then _ _ (still_costs _ _ (still_exit (here.calls proc (slots_for xs)) (left_at node) (record { at = calls proc (slots_for xs) })
-      (λ v. still_give v))) (λ v. still_carry (made_by (gives_hooked here.facts ty) how v))
+      let handed = handed_over (any_hooked here.facts of) xs in
+      still_then _ _ (still_costs _ _ (still_exit (here.calls proc (slots_for handed)) (left_at node) (record { at = calls proc (slots_for handed) })
+      (λ v. still_give v))) (λ v. still_carry (made_by (gives_hooked here.facts ty) (destination here how node) v))
 
   spend_passes : {A : Type 0} (act : Does A) → S act → (n : ℕ) (s : State) → PassesNone elsewhere s.trail (spend n s (λ n. act (left_with n s)))
   spend_passes act h zero s = inl refl

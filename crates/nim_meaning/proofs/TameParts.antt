@@ -11,7 +11,7 @@ use Rattle.nim_meaning.specs.Here.{Calls, Here}
 use Rattle.nim_meaning.specs.Meaning.{exec_all, frame_of, params_end, handing, handed, entered_body, from_level, goes_through}
 use Rattle.nim_meaning.proofs.Tame.{Tame, TameTurn, tame_got, tame_end, tame_wrong, tame_then, tame_past, tame_costs, tame_says, tame_spending, tame_looks}
 use Rattle.nim_meaning.proofs.Tame.{tame_change, tame_passing, tame_elsewhere, tame_loop, turn_again, turn_last, turn_then, turn_passing}
-use Rattle.nim_meaning.proofs.Parts.{Said, Closed, taking}
+use Rattle.nim_meaning.proofs.Parts.{Said, Closed, taking, ends_is}
 use Rattle.nim_meaning.proofs.Calls.{ClosedCalls, whole_program}
 
 abbrev pub tame : Said
@@ -49,7 +49,7 @@ closed = record {
 tame_params : (here : Here) (params : List Param) (exit : ℕ) → Tame (params_end here params exit)
 tame_params here [] exit = tame_got _
 tame_params here (param ∷ params) exit =
-    tame_past (params_end here params exit) _ (tame_params here params exit) (tame_costs 1 _ (tame_got _))
+    tame_past (params_end here params exit) _ (tame_params here params exit) (ends_is tame closed here param.place exit)
 
 tame_handing : (flow : Outcome (Unit {0})) (v : Value) → Tame (handing flow v)
 tame_handing (On x) v = tame_got _

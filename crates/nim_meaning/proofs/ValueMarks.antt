@@ -12,8 +12,8 @@ use Rattle.nim_program.specs.Folds.{by_constant, if_constant, begun_by, numbers,
 use Rattle.nim_program.specs.Uses.{use_of}
 use Rattle.nim_meaning.specs.ActTree.{Root, Temporary, Path, Operands, Role, Does, Fills, Chooses, Turns, Asks, Decides}
 use Rattle.nim_meaning.specs.ActTree.{Act, Look, Operate, Control, Do, Choose, Loop, Group, Arms, No_arm, An_arm, Acts, Done, Then}
-use Rattle.nim_meaning.specs.Shapes.{is_covered, is_last_value}
-use Rattle.nim_meaning.specs.ActsOf.{path_of, one_act, used, is_held, waits, waits_from, read_act, makes, ended, either, early_arms, act_by, done_by}
+use Rattle.nim_meaning.specs.Shapes.{is_covered, is_last_value, is_held, waits, waits_from}
+use Rattle.nim_meaning.specs.ActsOf.{path_of, one_act, used, read_act, makes, ended, either, early_arms, act_by, done_by}
 use Rattle.nim_meaning.specs.ActsOf.{receiver, looked_at, is_hooked, works_on, read_acts, acts_of, aimed, ready_acts, first_acts, selected_acts, value_arms}
 use Rattle.nim_meaning.specs.Marks.{Mark, Spot, Scope}
 use Rattle.nim_meaning.proofs.RunParts.{act_makes_none}

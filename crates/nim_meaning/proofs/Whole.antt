@@ -9,12 +9,14 @@ use Rattle.nim_program.specs.Program.{Program}
 use Rattle.nim_meaning.specs.Heap.{demand}
 use Rattle.nim_meaning.specs.State.{World, State, live}
 use Rattle.nim_meaning.specs.Meaning.{at_first, goes_through, meaning}
-use Rattle.nim_meaning.specs.Kept.{IsKept, IsAlways, Framed, IsBalanced}
+use Rattle.nim_meaning.specs.Kept.{IsKept, IsAlways, Framed, IsBalanced, IsOnce, IsAskedFor}
 use Rattle.nim_meaning.proofs.Tame.{metered}
 use Rattle.nim_meaning.proofs.TameParts.{tame_program}
 use Rattle.nim_meaning.proofs.KeepParts.{keeps_program}
 use Rattle.nim_meaning.proofs.Framed.{framed}
 use Rattle.nim_meaning.proofs.Balanced.{Balanced, balanced, balanced_first}
+use Rattle.nim_meaning.proofs.Once.{Once, once, once_first}
+use Rattle.nim_meaning.proofs.Asked.{Asked, asked, asked_first, demand_is}
 use Rattle.nim_meaning.proofs.HeapKept.{InHeap, heap_kept, Within, within}
 
 pub meaning_steady : (program : Program) (plan : Plan) (heap : ℕ) (input : List ℕ) → Steady (meaning program plan heap input)
@@ -57,3 +59,17 @@ blocks_balanced program plan heap input n =
     let Counted = InHeap Balanced balanced in
     weaker Counted IsBalanced (λ world b. b.sums) (goes_through program plan (at_first program heap input n))
     ((keeps_program Counted (λ level. Counted) (heap_kept Balanced balanced) program plan).at (at_first program heap input n) (balanced_first heap))
+
+pub blocks_once : (program : Program) (plan : Plan) (heap : ℕ) (input : List ℕ) (n : ℕ) →
+    IsAlways IsOnce (goes_through program plan (at_first program heap input n))
+blocks_once program plan heap input n =
+    let Counted = InHeap Once once in
+    weaker Counted IsOnce (λ world o. (o.ordered, o.live)) (goes_through program plan (at_first program heap input n))
+    ((keeps_program Counted (λ level. Counted) (heap_kept Once once) program plan).at (at_first program heap input n) (once_first heap))
+
+pub demand_asked : (program : Program) (plan : Plan) (heap : ℕ) (input : List ℕ) (n : ℕ) →
+    IsAlways IsAskedFor (goes_through program plan (at_first program heap input n))
+demand_asked program plan heap input n =
+    let Counted = InHeap Asked asked in
+    weaker Counted IsAskedFor (λ world a. demand_is world.heap.classes world.history a.say) (goes_through program plan (at_first program heap input n))
+    ((keeps_program Counted (λ level. Counted) (heap_kept Asked asked) program plan).at (at_first program heap input n) (asked_first heap))

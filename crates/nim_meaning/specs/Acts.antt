@@ -5,7 +5,8 @@ use Rattle.arc_base.specs.declared.outside.Stream.{Stream}
 use Rattle.arc_base.specs.declared.outside.Stream.TheVariants.{Err}
 use Rattle.arc_base.specs.BigStep.{Meter, Res, Got, Over, Errs, then_do, charged, told, with_units, spend, Turn, Again, Leave, turns}
 use Rattle.nim_program.specs.Traps.{Trap, trap_text}
-use Rattle.nim_meaning.specs.Ways.{Point}
+use Rattle.nim_meaning.specs.ActTree as points
+use Rattle.nim_meaning.specs.Ways.{Point, Leave as Scope_left}
 use Rattle.nim_meaning.specs.State.{World, State, live}
 
 -- How control leaves a part of a program before its end, with the number of the statement or call by which it does: it goes on behind a
@@ -31,6 +32,14 @@ by_of (Raised exception by) = by
 abbrev pub exit_of : {A : Type 0} → (last : ℕ) → Outcome A → ℕ
 exit_of last (On x) = last
 exit_of last (Out exit) = by_of exit
+
+-- how a part was left, as its acts say it; no construct raises an exception yet
+abbrev pub left_as : {A : Type 0} → Outcome A → points.Flow
+left_as (On x) = points.On
+left_as (Out (Broke by)) = points.Out by
+left_as (Out (Continued by)) = points.Turn_over by
+left_as (Out (Returned by)) = points.Back by
+left_as (Out (Raised exception by)) = points.Back by
 
 -- what a part of a program does in a state
 abbrev pub Does : Type 0 → Type 0
@@ -128,6 +137,11 @@ with_trail trail s = record s { trail = trail }
 -- a point of the body is passed first
 abbrev pub passing : {A : Type 0} → Point → Does A → Does A
 passing point act = λ s. act (with_trail (point ∷ s.trail) s)
+
+-- the scope of what has hooks is left at a point of its own
+abbrev pub leaving_scope : {A : Type 0} → (hooked : Bool) → points.Root → points.Flow → Does A → Does A
+leaving_scope false root flow act = act
+leaving_scope true root flow act = passing (Scope_left root flow) act
 
 -- the points that something passes are those of another body
 abbrev pub elsewhere : {A : Type 0} → Does A → Does A

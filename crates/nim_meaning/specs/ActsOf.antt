@@ -1,5 +1,6 @@
--- The acts of a typed program, in continuation style: what a part does, before the rest. They stand at the points that the meaning passes, in the
--- order in which it passes them.
+-- The acts of a typed program, in continuation style: what a part does, before the rest. In a program without hooks they stand at the points that the
+-- meaning passes, in its order. With hooks it passes the ends of declared places and of temporaries too, but not yet where a value that waits fills its
+-- temporary, where a parameter ends that its procedure owns, and where a result is filled and handed over.
 use Rattle.std.specs.Prelude.{ℕ, zero, suc, Bool, true, false, ◌&&◌, if◌then◌else◌, List, [], ◌∷◌, ◌++◌, Option, Some, None}
 use Rattle.nim_types.specs.Types.{Ty}
 use Rattle.nim_program.specs.declared.operation.Operation.{Operation}
@@ -17,7 +18,7 @@ use Rattle.nim_program.specs.Program.{Label, Expr, Args, Declared, Stmt, Stmts, 
 use Rattle.nim_program.specs.Folds.{by_constant}
 use Rattle.nim_program.specs.Program.{last_after, last_of}
 use Rattle.nim_program.specs.Uses.{use_of}
-use Rattle.nim_meaning.specs.Shapes.{has_node, selector_type, is_covered, is_last_value, is_last_block, modes_in}
+use Rattle.nim_meaning.specs.Shapes.{has_node, is_held, waits, waits_from, is_text, selector_type, is_covered, is_last_value, is_last_block, modes_in}
 use Rattle.nim_meaning.specs.ActTree.{Root, Named, Temporary, Literal, Step, Field, Index, Path, Operands, whole}
 use Rattle.nim_meaning.specs.ActTree.{Act, Pass, Look, Take, Lend, Fill, Give, Operate}
 use Rattle.nim_meaning.specs.ActTree.{Role, Begins, Does, Fills, Looks, Chooses, Asks, Decides}
@@ -58,28 +59,6 @@ one_act n r a rest = Then (Do n r a) rest
 abbrev pub used : (waits : Bool) → ℕ → Acts → Acts
 used true n rest = one_act n Fills (Fill (Temporary n)) rest
 used false n rest = rest
-
-abbrev pub is_held : Use → Bool
-is_held Owned = false
-is_held Given = false
-is_held Held = true
-is_held Lent = false
-is_held Looked = false
-
--- whether the value of a node waits, for its operation or for the end of its group
-abbrev pub waits : Use → Bool
-waits Owned = false
-waits Given = false
-waits Held = true
-waits Lent = true
-waits Looked = true
-
--- A literal is owned by nobody where it is only read.
-abbrev pub waits_from : T.Act → Use → Bool
-waits_from (T.Giving literal) how = is_held how
-waits_from (T.Doing operation) how = waits how
-waits_from (T.Building fields) how = waits how
-waits_from (T.Calling proc types) how = waits how
 
 -- a path that was looked up: what becomes of a value with hooks there, at a site that is its node, which may be given to a whole place
 abbrev pub read_act : (hook : Bool) → Use → (to : Option Root) → ℕ → Path → Act
@@ -225,7 +204,7 @@ module _ (hooked : Ty → Bool) (at_call : ℕ → ℕ → Mode) where
   -- the temporary of an operand, where it has one
   abbrev pub with_value : Use → Expr → Operands → Operands
   with_value Held e on = if is_hooked (type_of e) then taking (temporary e) on else on
-  with_value Lent e on = if is_literal e then on else if is_hooked (type_of e) then reading (temporary e) on else on
+  with_value Lent e on = if is_text e then on else if is_hooked (type_of e) then reading (temporary e) on else on
   with_value _ e on = on
 
   -- operands from a position on

@@ -1,16 +1,20 @@
 -- Paths whose indexes are evaluated, and operands that wait to be worked on.
-use Rattle.std.specs.Prelude.{ℕ, ◌+◌, ℤ, Bool, true, false, List, [], ◌∷◌}
-use Rattle.nim_meaning.specs.Values.{Value, Fixed, bytes, Base, Waiting, at_base, Location, Operand, Given, At}
+use Rattle.std.specs.Prelude.{ℕ, ◌+◌, ℤ, Bool, true, false, List, [], ◌∷◌, map}
+use Rattle.nim_program.specs.declared.operation.Use.{Use}
+use Rattle.nim_program.specs.declared.operation.Use.TheVariants.{Lent}
+use Rattle.nim_meaning.specs.Values.{Value, Fixed, bytes, Base, Waiting, Made, at_base, Location, Operand, Given, At}
 use Rattle.nim_meaning.specs.Acts.{Does, give, ◌>>=◌}
 use Rattle.nim_meaning.specs.Deeds.{carry}
 use Rattle.nim_meaning.specs.Places.{rooted, made, to_part, to_item, to_object}
 
 -- ---- paths
 
--- a path whose indexes are evaluated, before it is looked up
+-- A path whose indexes are evaluated, before it is looked up. It begins at a place, or with a fresh value: one without hooks is nobody's, any other
+-- waits at its node.
 pub data Aim : Type 0 where
   Root : (base : Base) → Aim
   Value_of : (value : Value) → Aim
+  Waits_at : (level node : ℕ) → Aim
   PartOf : (aim : Aim) (part : ℕ) → Aim
   ItemOf : (aim : Aim) (index : ℤ) → Aim
   ObjectOf : (aim : Aim) → Aim
@@ -19,15 +23,15 @@ pub data Aim : Type 0 where
 abbrev pub find : Aim → Does Location
 find (Root base) = carry (rooted base)
 find (Value_of v) = carry (made v)
+find (Waits_at level node) = give (at_base (Waiting level node))
 find (PartOf aim i) = find aim >>= (λ location. carry (to_part location i))
 find (ItemOf aim z) = find aim >>= (λ location. carry (to_item location z))
 find (ObjectOf aim) = find aim >>= (λ location. carry (to_object location))
 
--- where a path leads that begins with a fresh value: one with hooks waits for the end of its statement, unless nobody owns it
+-- where a path leads that begins with a fresh value
 abbrev pub fresh_root : (hooked : Bool) → (level node : ℕ) → Value → Aim
 fresh_root false level node v = Value_of v
-fresh_root true level node (Fixed t) = Value_of (Fixed t)
-fresh_root true level node v = Root (Waiting level node)
+fresh_root true level node v = Waits_at level node
 
 -- ---- operands
 
@@ -36,11 +40,15 @@ pub data Ready : Type 0 where
   Evaluated : (operand : Operand) → Ready
   Aimed : (aim : Aim) → Ready
 
--- a value without hooks, and a text that nobody owns, is handed over; one with hooks waits where it is
-abbrev pub operand_for : (hooked : Bool) → (level node : ℕ) → Value → Operand
-operand_for false level node v = Given v
-operand_for true level node (Fixed t) = Given (Fixed t)
-operand_for true level node v = At (at_base (Waiting level node))
+-- what is lent, and is somebody's own, stands where it waits
+abbrev pub lent_for : Use → (level node : ℕ) → Value → Operand
+lent_for Lent level node v = At (at_base (Waiting level node))
+lent_for how level node v = Given v
+
+abbrev pub operand_for : (hooked : Bool) → Use → (level node : ℕ) → Value → Operand
+operand_for false how level node v = Given v
+operand_for true how level node (Fixed t) = Given (Fixed t)
+operand_for true how level node v = lent_for how level node v
 
 -- the places are looked up now, in their order
 abbrev pub settle : List Ready → Does (List Operand)
@@ -52,6 +60,15 @@ settle (Aimed aim ∷ rest) = do
   location ← find aim
   xs ← settle rest
   give (At location ∷ xs)
+
+-- What is lent to a call stands somewhere: the text of a literal, which nobody owns, by itself. So a parameter that isn't the callee's own holds nothing.
+abbrev pub standing : Operand → Operand
+standing (Given (Fixed t)) = At (at_base (Made (Fixed t)))
+standing x = x
+
+abbrev pub handed_over : (hooked : Bool) → List Operand → List Operand
+handed_over false xs = xs
+handed_over true xs = map standing xs
 
 -- what is handed over to a call: values, and a word for each location
 abbrev pub handed_bytes : List Operand → ℕ

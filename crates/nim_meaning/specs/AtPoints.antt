@@ -14,10 +14,10 @@ use Rattle.nim_meaning.specs.ActTree.{Root, Named, Temporary, Literal, Step, Fie
 use Rattle.nim_meaning.specs.ActTree.{Flow, On, Out, Turn_over, Back, Act, Pass, Look, Fill, Give, Operate, Invoke}
 use Rattle.nim_meaning.specs.Ways.{Point, Exits, Graph, onto, looped}
 use Rattle.nim_meaning.specs.Values.{Value, length_of, Standing, Made, Location, nowhere, Operand, location_of, location}
-use Rattle.nim_meaning.specs.State.{State, load}
+use Rattle.nim_meaning.specs.State.{World, State, load}
 use Rattle.nim_meaning.specs.Acts.{Does, give, leave, ◌>>=◌, ◌>>◌, costs, looks, passing, loop, again, no_more}
 use Rattle.nim_meaning.specs.Deeds.{Stores, Deed, Gives, Ends, Works, Says, Looks, Changes, carry}
-use Rattle.nim_meaning.specs.Here.{Here, level_of}
+use Rattle.nim_meaning.specs.Here.{Here, level_of, is_hooked}
 use Rattle.nim_meaning.specs.Aims.{Aim, Root as At_root, Value_of, PartOf, ItemOf, ObjectOf, find, fresh_root, Ready, Evaluated, Aimed, operand_for, settle}
 use Rattle.nim_meaning.specs.Places.{place_at, put, fetched}
 use Rattle.nim_meaning.specs.Shapes.{has_node}
@@ -48,8 +48,8 @@ pub data Leads (here : Here) : Path → Aim → Type 0 where
 -- each operand by path leads along its path; one that is evaluated is a value that no place holds
 pub data AllLead (here : Here) : List (Option Path) → List Ready → Type 0 where
   none_leads : AllLead here [] []
-  value_leads : {zs : List (Option Path)} {ready : List Ready} (hooked : Bool) (node : ℕ) (v : Value) → AllLead here zs ready →
-      AllLead here (None ∷ zs) (Evaluated (operand_for hooked here.level node v) ∷ ready)
+  value_leads : {zs : List (Option Path)} {ready : List Ready} (hooked : Bool) (how : Use) (node : ℕ) (v : Value) → AllLead here zs ready →
+      AllLead here (None ∷ zs) (Evaluated (operand_for hooked how here.level node v) ∷ ready)
   path_leads : {z : Path} {aim : Aim} {zs : List (Option Path)} {ready : List Ready} → Leads here z aim → AllLead here zs ready →
       AllLead here (Some z ∷ zs) (Aimed aim ∷ ready)
 
@@ -60,6 +60,10 @@ paths_among (Some z ∷ zs) = z ∷ paths_among zs
 
 -- ---- what a deed does with places
 
+-- the same stands at such locations and in blocks, which are no places
+abbrev pub Alike : (reads : Location → Type 0) → World → World → Type 0
+Alike reads a b = (a.heap ≡ b.heap) × ((l : Location) → reads l → load a l ≡ load b l)
+
 -- a deed reads and writes at such locations alone
 pub data Within (A : Type 0) (reads writes : Location → Type 0) : Deed A → Type 0 where
   answers : {x : A} → Within A reads writes (Gives x)
@@ -68,6 +72,8 @@ pub data Within (A : Type 0) (reads writes : Location → Type 0) : Deed A → T
   says : {events : List Event} {rest : Deed A} → Within A reads writes rest → Within A reads writes (Says events rest)
   loads : {location : Location} {rest : Value → Deed A} → reads location → ((v : Value) → Within A reads writes (rest v)) →
       Within A reads writes (Looks (λ world. rest (load world location)))
+  looks_at_all : {rest : World → Deed A} → ((a b : World) → Alike reads a b → rest a ≡ rest b) → ((world : World) → Within A reads writes (rest world)) →
+      Within A reads writes (Looks rest)
   stores : {location : Location} {v : Value} {rest : Deed A} → writes location → Within A reads writes rest →
       Within A reads writes (Changes (Stores location v) rest)
 
@@ -163,7 +169,8 @@ module _ (E : Graph) (here : Here) where
       loops : {c : Counter} {p : Point} {k : Exits} {turn : counter c → Does (Turn (counter c) (Unit {0}))} (x : counter c) →
           ((x : counter c) → TurnsBy c p p (k On) k (turn x)) → DoesBy Nothing p k (loop turn x)
       -- nothing becomes of a place without hooks whose scope is over
-      in_scope : {p : Point} {k : Exits} {act : Does (Unit {0})} (place : Declared) (last : ℕ) → DoesBy Nothing p k act →
+      in_scope : {p : Point} {k : Exits} {act : Does (Unit {0})} (place : Declared) (last : ℕ) → is_hooked here.facts place.of ≡ false →
+          DoesBy Nothing p k act →
           DoesBy Nothing p k (scoped here place last act)
       -- a path is looked up, and the value there read
       reads : {p : Point} {k : Exits} {z : Path} {aim : Aim} → E p (Look z) (k On) → Leads here z aim →

@@ -7,7 +7,7 @@ use Rattle.arc_base.specs.declared.outside.Stream.TheVariants.{Err}
 use Rattle.nim_program.specs.Traps.{Trap, OutOfMemory, trap_text}
 use Rattle.nim_meaning.specs.Values.{Value, Location, Slot}
 use Rattle.nim_meaning.specs.Heap.{Contents, Block, Class, has_room, taken, given, block_at, with_contents}
-use Rattle.nim_meaning.specs.State.{OfBlock, Took, Gave, Born, Ended, World, with_slot, store}
+use Rattle.nim_meaning.specs.State.{OfBlock, Took, Gave, Born, Ended, World, with_slot, with_one_waiting, with_none_waiting, pushed, popped, reading_on, store}
 use Rattle.nim_meaning.specs.Acts as Acts
 use Rattle.nim_meaning.specs.Acts.{Does, line_of}
 
@@ -19,6 +19,14 @@ pub data Change : Type 0 where
   -- a place of a call gets a slot, or has none any more
   Opens : (level place : ℕ) (slot : Slot) → Change
   Closes : (level place : ℕ) → Change
+  -- a value waits in a call at a node, or does no more
+  Waits : (level node : ℕ) (slot : Slot) → Change
+  Leaves : (level node : ℕ) → Change
+  -- one more value is under way, or the last one is no more
+  Pushes : (value : Value) → Change
+  Pops : Change
+  -- so many bytes of the input are read
+  Reads : (bytes : ℕ) → Change
   -- a block has other contents
   Refills : (block : ℕ) (contents : Contents) → Change
   -- a block is given back
@@ -39,6 +47,11 @@ abbrev pub changed : Change → World → World
 changed (Stores location v) world = store world location v
 changed (Opens level place slot) world = with_slot world level place (Some slot)
 changed (Closes level place) world = with_slot world level place None
+changed (Waits level node slot) world = with_one_waiting world level node slot
+changed (Leaves level node) world = with_none_waiting world level node
+changed (Pushes v) world = pushed world v
+changed Pops world = popped world
+changed (Reads n) world = reading_on world n
 changed (Refills k contents) world = record world { heap = with_contents world.heap k contents }
 changed (Frees k) world = freed world k (block_at world.heap k)
 

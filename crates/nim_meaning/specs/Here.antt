@@ -1,7 +1,7 @@
 -- From where a part of a program is carried out.
-use Rattle.std.specs.Prelude.{ℕ, Bool, true, false, nat_eq, if◌then◌else◌, List, [], ◌∷◌, Option, Some, None}
+use Rattle.std.specs.Prelude.{ℕ, Bool, true, false, ◌||◌, nat_eq, if◌then◌else◌, List, [], ◌∷◌, Option, Some, None}
 use Rattle.nim_types.specs.Types.{Ty, Facts}
-use Rattle.nim_types.specs.Forms.{hooked, form_of}
+use Rattle.nim_types.specs.Forms.{Form, plain, hooked, form_of}
 use Rattle.nim_plan.specs.declared.plan.Plan.{Plan}
 use Rattle.nim_plan.specs.declared.plan.Act.{Act}
 use Rattle.nim_plan.specs.declared.plan.SiteAct.{SiteAct}
@@ -36,6 +36,14 @@ is_hooked facts ty = hooked (form_of facts ty)
 abbrev pub gives_hooked : Facts → Option Ty → Bool
 gives_hooked facts None = false
 gives_hooked facts (Some ty) = is_hooked facts ty
+
+abbrev pub any_hooked : Facts → List (Option Ty) → Bool
+any_hooked facts [] = false
+any_hooked facts (ty ∷ of) = gives_hooked facts ty || any_hooked facts of
+
+abbrev pub form_for : Facts → Option Ty → Form
+form_for facts None = plain
+form_for facts (Some ty) = form_of facts ty
 
 -- what a plan says of a site
 abbrev pub act_in : List SiteAct → (site : ℕ) → Option Act

@@ -1,7 +1,7 @@
--- Programs whose whole meaning is built. What comes with the heap is left out of them: texts but for literals that `echo` writes; sequences,
--- refs and input; all values that have anything to do when they are copied or destroyed. So are exceptions, what hooks do, and calls with types
--- for type parameters. The meaning is total and says nothing of these forms (`from_heap`, `from_exceptions`), so what is claimed of what a program
--- means is claimed of plain ones.
+-- Programs that are built whole. What comes with the heap is left out of them: texts but for literals that `echo` writes; sequences, refs and input;
+-- all values that have anything to do when they are copied or destroyed. So are exceptions, what hooks do, and calls with types for type parameters.
+-- Texts and sequences have a meaning already, and no code. Of refs, hooks and exceptions the meaning, which is total, says nothing (`from_heap`,
+-- `from_exceptions`).
 use Rattle.std.specs.Prelude.{◌≡◌, ℕ, Bool, true, false, not, ◌||◌, nat_lt, List, [], ◌∷◌, ◌++◌, map, Option, Some, None, option_map}
 use Rattle.arc_base.specs.declared.place.Place.{Place}
 use Rattle.nim_types.specs.Types.{Ty, Facts}
@@ -14,12 +14,9 @@ use Rattle.nim_program.specs.Program.{Stmts, Empty, Then, Declare, Defer, Blocks
 use Rattle.nim_program.specs.Program.{types_in, node_at, node_in}
 use Rattle.nim_program.specs.Folds.{first_some, if_declared, loop_places}
 use Rattle.nim_meaning.specs.Here.{is_hooked, gives_hooked}
+pub use Rattle.nim_meaning.specs.Here.{any_hooked}
 
 -- ---- the table, by what is built
-
-abbrev pub any_hooked : Facts → List (Option Ty) → Bool
-any_hooked facts [] = false
-any_hooked facts (ty ∷ of) = gives_hooked facts ty || any_hooked facts of
 
 -- of operands of such types
 abbrev pub is_built : Operation → Facts → List (Option Ty) → Bool

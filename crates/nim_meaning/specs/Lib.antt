@@ -7,11 +7,15 @@ pub mod State
 pub mod Acts
 pub mod Deeds
 pub mod Here
+pub mod Lifted
 pub mod Places
 pub mod Texts
+pub mod OwnedRows
 pub mod Table
 pub mod Shapes
+pub mod Waiting
 pub mod Aims
+pub mod Steps
 pub mod Meaning
 pub mod Kept
 pub mod LeftOut
@@ -22,9 +26,11 @@ pub mod Marks
 pub mod Lent
 pub mod PlaceKinds
 pub mod Trees
+pub mod Numbered
 pub mod NumberExamples
 pub mod PlaceExamples
 pub mod LoopExamples
+pub mod TextExamples
 pub mod LeftOutExamples
 pub mod ExitExamples
 pub mod ActExamples

@@ -1,5 +1,5 @@
 -- What a program does: a meaning over its tree, which knows nothing of machines.
-use Rattle.std.specs.Prelude.{ℕ, zero, suc, ◌+◌, ◌-◌, ℤ, pos, ◌+ℤ◌, Bool, true, false, ◌&&◌, int_le, int_lt, nat_eq, nat_lt}
+use Rattle.std.specs.Prelude.{ℕ, zero, suc, ◌+◌, ◌-◌, ℤ, pos, ◌+ℤ◌, Bool, true, false, ◌&&◌, int_lt, nat_eq, nat_lt}
 use Rattle.std.specs.Prelude.{List, [], ◌∷◌, ◌++◌, length, replicate, map, Option, Some, None, slice_get}
 use Rattle.arc_base.specs.Event.{Event, Hook}
 use Rattle.arc_base.specs.Behaviour.{Behaviour}
@@ -8,11 +8,10 @@ use Rattle.nim_types.specs.Types.{Ty, Facts}
 use Rattle.nim_plan.specs.declared.plan.Plan.{Plan}
 use Rattle.nim_program.specs.declared.program.TheConstants.{ACTIVE_CALLS}
 use Rattle.nim_program.specs.declared.program.HookOf.{HookOf}
-use Rattle.nim_program.specs.declared.operation.Short.{Short}
-use Rattle.nim_program.specs.declared.operation.Short.TheVariants.{And, Or}
 use Rattle.nim_program.specs.declared.stmt.Leaving.{Leaving}
 use Rattle.nim_program.specs.declared.stmt.Leaving.TheVariants as K
-use Rattle.nim_program.specs.Program.{Label, Ordinals, Exactly, Act, Doing, Building, Giving, Calling, ByConditions, ByLabels}
+use Rattle.nim_program.specs.Program.{Label, ByConditions, ByLabels}
+use Rattle.nim_types.specs.Forms.{Form, form_of}
 use Rattle.nim_program.specs.Program.{Expr, Apply, Read, Early, Choose, Path, Variable, Fresh, Field, Element, Deref, Args, NoArg, ByValue, ByPath}
 use Rattle.nim_program.specs.Program.{Declared, Kind, While, Count, Each, Stmt, Do, Idle, Give, Leave, Select, Loop, Raise, Try}
 use Rattle.nim_program.specs.Program.{Stmts, Empty, Then, Declare, Defer, Blocks, Otherwise, Block, Param, Body, Proc, Program}
@@ -23,90 +22,25 @@ use Rattle.nim_program.specs.declared.operation.Use.{Use}
 use Rattle.nim_program.specs.declared.operation.Use.TheVariants.{Owned, Given as ToPlace, Looked}
 use Rattle.nim_program.specs.Uses.{use_of}
 use Rattle.nim_program.specs.Traps.{LengthChanged, CallDepth}
-use Rattle.nim_program.specs.Ints.{truth, is_true}
-use Rattle.nim_meaning.specs.Values.{Value, Number, nothing, number_of, length_of, bytes, default_of, literal_value}
-use Rattle.nim_meaning.specs.Values.{Standing, Made, Location, Slot, Holds, Operand, value_of, slots_for}
-use Rattle.nim_meaning.specs.State.{Frame, World, State, live, load, with_frame, down_to, world_of}
+use Rattle.nim_program.specs.Ints.{is_true}
+use Rattle.nim_meaning.specs.Values.{Value, Number, nothing, number_of, length_of, bytes, default_of, literal_value, vacant, item_of, nowhere}
+use Rattle.nim_meaning.specs.Values.{Standing, Made, Location, Slot, Holds, Stands, Given, At, value_of}
+use Rattle.nim_meaning.specs.State.{Frame, World, State, live, load, slot_at, with_frame, down_to, world_of}
 use Rattle.nim_meaning.specs.ActTree as points
-use Rattle.nim_meaning.specs.ActTree.{Begins, Does as Done_by, Fills, Looks as Looks_up, Chooses, Turns, Asks, Decides, Leaves}
-use Rattle.nim_meaning.specs.Ways.{At as Spot}
+use Rattle.nim_meaning.specs.ActTree.{Does as Done_by, Fills, Looks as Looks_up, Chooses, Turns, Asks, Decides, Leaves}
 use Rattle.nim_meaning.specs.Acts.{Broke, Continued, Returned, Raised, Exit, Outcome, On, Out, Does, exit_of, give, leave, as_before, ◌>>=◌, ◌>>◌, at_exit}
-use Rattle.nim_meaning.specs.Acts.{branch, costs, say, spending, stop, looks, change, passing, elsewhere, loop, again, no_more}
+use Rattle.nim_meaning.specs.Acts.{left_as, branch, costs, say, spending, stop, looks, change, leaving_scope, elsewhere, loop, again, no_more}
 use Rattle.nim_meaning.specs.Deeds as deeds
-use Rattle.nim_meaning.specs.Deeds.{Deed, Opens, changed, carry, ◌>>=◌ as then_deed}
-use Rattle.nim_meaning.specs.Here.{Calls, Here, level_of, gives_hooked, act_at}
-use Rattle.nim_meaning.specs.Aims.{Aim, Root, Value_of, PartOf, ItemOf, ObjectOf, find, fresh_root, Ready, Evaluated, Aimed, operand_for, settle, handed_bytes}
-use Rattle.nim_meaning.specs.Places.{place_at, item_of, taken_by, made_by, fetched, put}
-use Rattle.nim_meaning.specs.Table.{acts, moved, default_for}
-use Rattle.nim_meaning.specs.Shapes.{has_node, selector_type, is_covered, is_last_value, is_last_block, modes_in}
-
--- a part passes a node in a role
-abbrev pub at_node : {A : Type 0} → (node : ℕ) → points.Role → Does A → Does A
-at_node node role act = passing (Spot node role) act
-
--- a path that is read passes its node, where it has one
-abbrev pub at_path : {A : Type 0} → Path → Does A → Does A
-at_path path act = branch (has_node path) (at_node (node_at path).number Done_by act) act
-
--- a statement, with the temporaries that end with it
-abbrev pub grouped : {A : Type 0} → (node : ℕ) → Does A → Does A
-grouped node part = at_node node Begins part
-
--- a row of the table, and what becomes of the value that it gives
-abbrev pub row : Facts → Act → Use → Option Ty → List (Option Ty) → List Operand → Deed Value
-row facts act how ty of xs = then_deed (acts act facts ty of xs) (made_by (gives_hooked facts ty) how)
-
--- an exception that passes a call leaves by the call's node
-abbrev pub left_at : {A : Type 0} → (node : ℕ) → Outcome A → Does A
-left_at node (On x) = give x
-left_at node (Out (Broke by)) = leave (Broke by)
-left_at node (Out (Continued by)) = leave (Continued by)
-left_at node (Out (Returned by)) = leave (Returned by)
-left_at node (Out (Raised exception by)) = leave (Raised exception node)
-
--- it is carried out, or a procedure called
-abbrev pub carried : Here → (node : ℕ) → Act → Use → Option Ty → List (Option Ty) → List Operand → Does Value
-carried here node (Doing operation) how ty of xs = carry (row here.facts (Doing operation) how ty of xs)
-carried here node (Building fields) how ty of xs = carry (row here.facts (Building fields) how ty of xs)
-carried here node (Giving literal) how ty of xs = carry (row here.facts (Giving literal) how ty of xs)
-carried here node (Calling proc types) how ty of xs =
-    costs (suc (handed_bytes xs)) (at_exit (here.calls proc (slots_for xs)) (left_at node)) >>= (λ v. carry (made_by (gives_hooked here.facts ty) how v))
-
--- the value at a path that is read, a site by the number of its last node
-abbrev pub got_by : Facts → Plan → Use → (site : ℕ) → Option Ty → Location → Deed Value
-got_by facts plan how site ty location = taken_by (gives_hooked facts ty) how (act_at plan site) location
-
-abbrev pub got : Here → Use → (site : ℕ) → Option Ty → Location → Does Value
-got here how site ty location = carry (got_by here.facts here.plan how site ty location)
-
--- ---- choices
-
--- the left operand decides, or the right one
-abbrev pub early : Short → Bool → Does Value → Does Value
-early And holds right = branch holds right (give (Number (truth false)))
-early Or holds right = branch holds (give (Number (truth true))) right
-
--- texts come with the heap
-abbrev pub fits_label : Label → Value → Bool
-fits_label (Ordinals low high) x = branch (int_le low (number_of x)) (int_le (number_of x) high) false
-fits_label (Exactly t) x = false
-
--- the labels of one branch are tried in order; each that is tried is a work
-abbrev pub picked : {A : Type 0} → List Label → Value → Does A → Does A → Does A
-picked [] x holds fails = fails
-picked (label ∷ labels) x holds fails = costs 1 (branch (fits_label label x) holds (picked labels x holds fails))
-
--- the value of a branch is handed on, and that of the whole used
-abbrev pub handed_by : Facts → Use → Option Ty → Value → Deed Value
-handed_by facts how None v = deeds.give v
-handed_by facts how (Some ty) v = then_deed (moved v) (made_by (gives_hooked facts (Some ty)) how)
-
-abbrev pub handed_on : Here → Use → Option Ty → Value → Does Value
-handed_on here how ty v = carry (handed_by here.facts how ty v)
-
--- No branch is chosen. That doesn't happen where a value is given: the labels cover the selector's type then.
-abbrev pub none_fits : Option Ty → Here → Does Value
-none_fits ty here = give (default_for here.facts ty)
+use Rattle.nim_meaning.specs.Deeds.{Deed, Opens, Leaves, changed, carry, ◌>>=◌ as then_deed}
+use Rattle.nim_meaning.specs.Lifted.{walk, copying, assigned, assigns, slot_ends}
+use Rattle.nim_meaning.specs.Here.{Calls, Here, level_of, is_hooked, gives_hooked}
+use Rattle.nim_meaning.specs.Waiting.{waiting_first, held_from}
+use Rattle.nim_meaning.specs.Aims.{Aim, Root, Value_of, PartOf, ItemOf, ObjectOf, find, fresh_root, Ready, Evaluated, Aimed, operand_for, settle}
+use Rattle.nim_meaning.specs.Places.{place_at, fetched, put}
+use Rattle.nim_meaning.specs.Shapes.{selector_type, is_covered, is_last_value, is_last_block, modes_in}
+pub use Rattle.nim_meaning.specs.Steps.{at_node, at_path, all_end, ended, grouped, waits_of, waits_in, ended_value, destination, row, taking_up, left_at}
+pub use Rattle.nim_meaning.specs.Steps.{carried, got_by, got, gets_copy, early, is_same, fits_text, fits_label, label_work, picked, selecting, handed_by}
+pub use Rattle.nim_meaning.specs.Steps.{branch_by, branch_value, handed_on, none_fits, invoked}
 
 -- ---- expressions
 
@@ -117,7 +51,8 @@ abbrev mutual
   eval (Apply node ty act operands) how here = do
     ready ← ready_all operands (use_of here.modes act) 0 here
     xs ← settle ready
-    at_node node.number Done_by (carried here node.number act how ty (types_in operands) xs)
+    at_node node.number Done_by (taking_up here (held_from here.facts here.modes operands (use_of here.modes act) 0)
+        (carried here node.number act how ty (types_in operands) xs))
   eval (Read path) how here = do
     aim ← aimed path here
     location ← find aim
@@ -127,10 +62,10 @@ abbrev mutual
     at_node node.number Chooses (early short (is_true (number_of x)) (eval right Owned here))
   eval (Choose node ty ByConditions parts) how here = costs 1 do
     v ← at_node node.number Chooses (first_value parts ty here)
-    handed_on here how ty v
+    handed_on here how node.number ty v
   eval (Choose node ty (ByLabels labels) parts) how here = costs 1 do
     v ← selected node.number labels parts ty here
-    handed_on here how ty v
+    handed_on here how node.number ty v
 
   -- the index expressions of a path, in their turn
   pub aimed : Path → Here → Does Aim
@@ -150,13 +85,26 @@ abbrev mutual
     aim ← aimed base here
     give (ObjectOf aim)
 
+  -- where the value of a path stands that a place gets a copy of
+  pub source : Expr → Here → Does Location
+  source (Read path) here = do
+    aim ← aimed path here
+    location ← find aim
+    at_path path (give location)
+  source value here = give nowhere
+
   -- operands from a position on
   pub ready_all : Args → (uses : (position : ℕ) → Use) → (position : ℕ) → Here → Does (List Ready)
   ready_all NoArg uses i here = give []
-  ready_all (ByValue value rest) uses i here = do
-    v ← eval value (uses i) here
-    ready ← ready_all rest uses (suc i) here
-    give (Evaluated (operand_for (gives_hooked here.facts (type_of value)) here.level (node_of value).number v) ∷ ready)
+  ready_all (ByValue value rest) uses i here = branch (gets_copy here (uses i) value)
+      (do
+        location ← source value here
+        ready ← ready_all rest uses (suc i) here
+        give (Evaluated (At location) ∷ ready))
+      (do
+        v ← eval value (uses i) here
+        ready ← ready_all rest uses (suc i) here
+        give (Evaluated (operand_for (gives_hooked here.facts (type_of value)) (uses i) here.level (node_of value).number v) ∷ ready))
   ready_all (ByPath path rest) uses i here = do
     aim ← aimed path here
     ready ← ready_all rest uses (suc i) here
@@ -166,32 +114,33 @@ abbrev mutual
   pub first_value : (parts : Args) → Option Ty → Here → Does Value
   first_value NoArg ty here = none_fits ty here
   first_value (ByPath path rest) ty here = none_fits ty here
-  first_value (ByValue last NoArg) ty here = eval last Owned here
+  first_value (ByValue last NoArg) ty here = branch_value here last (λ how. eval last how here)
   first_value (ByValue condition (ByPath path rest)) ty here = none_fits ty here
   first_value (ByValue condition (ByValue value rest)) ty here = do
-    x ← at_node (node_of condition).number Asks (eval condition Owned here)
-    at_node (node_of condition).number Decides (branch (is_true (number_of x)) (eval value Owned here) (first_value rest ty here))
+    x ← at_node (node_of condition).number Asks (ended_value here condition Owned (eval condition Owned here))
+    at_node (node_of condition).number Decides (branch (is_true (number_of x)) (branch_value here value (λ how. eval value how here))
+        (first_value rest ty here))
 
   -- the value of the first branch that has the selector's value among its labels; a selector at a path is read in place
   pub selected : (node : ℕ) → List (List Label) → (parts : Args) → Option Ty → Here → Does Value
   selected node labels NoArg ty here = none_fits ty here
   selected node labels (ByValue selector rest) ty here = do
     x ← eval selector Looked here
-    at_node node Chooses (picked_value (is_covered (type_of selector)) labels rest x ty here)
+    selecting here (type_of selector) x (λ x. at_node node Chooses (picked_value (is_covered (type_of selector)) labels rest x ty here))
   selected node labels (ByPath path rest) ty here = do
     aim ← aimed path here
     location ← find aim
     x ← at_path path (carry (fetched location))
-    at_node node Chooses (picked_value (is_covered (type_at path)) labels rest x ty here)
+    selecting here (type_at path) x (λ x. at_node node Chooses (picked_value (is_covered (type_at path)) labels rest x ty here))
 
   -- The first value with a label that fits, or that of `else`. Without one, where the labels cover the type, it is the last value.
   pub picked_value : (covered : Bool) → List (List Label) → (values : Args) → Value → Option Ty → Here → Does Value
   picked_value covered labels NoArg x ty here = none_fits ty here
   picked_value covered labels (ByPath path rest) x ty here = none_fits ty here
-  picked_value covered [] (ByValue value rest) x ty here = eval value Owned here
+  picked_value covered [] (ByValue value rest) x ty here = branch_value here value (λ how. eval value how here)
   picked_value covered (these ∷ labels) (ByValue value rest) x ty here =
-      picked these x (eval value Owned here)
-      (branch (covered && is_last_value rest) (eval value Owned here) (picked_value covered labels rest x ty here))
+      picked these x (branch_value here value (λ how. eval value how here))
+      (branch (covered && is_last_value rest) (branch_value here value (λ how. eval value how here)) (picked_value covered labels rest x ty here))
 
 -- ---- scopes
 
@@ -199,14 +148,27 @@ abbrev mutual
 abbrev pub fill : Here → (place : ℕ) → Value → Does (Unit {0})
 fill here place v = costs (bytes v) (change (changed (Opens here.level place (Holds v))))
 
+-- a declared place gets a copy
+abbrev pub place_copies : Form → (level place : ℕ) → Location → Deed (Unit {0})
+place_copies f level n location = then_deed (deeds.does (Opens level n (Holds (vacant f)))) (λ _. walk copying f (place_at level n) location)
+
+abbrev pub fill_from : Here → Declared → Location → Does (Unit {0})
+fill_from here place location = carry (place_copies (form_of here.facts place.of) here.level place.number location)
+
+-- what a place holds ends
+abbrev pub place_ends : Form → (level place : ℕ) → Deed (Unit {0})
+place_ends f level n = deeds.looks (λ world. slot_ends f (place_at level n) (slot_at world level n))
+
 -- A place is met at an exit of its scope, which has the number of a statement. One without hooks has nothing to do there, and nobody looks at it
 -- any more.
 abbrev pub ends : Here → Declared → (exit : ℕ) → Does (Unit {0})
-ends here place exit = costs 1 (give tt)
+ends here place exit =
+    costs 1 (branch (is_hooked here.facts place.of) (carry (place_ends (form_of here.facts place.of) here.level place.number)) (give tt))
 
 -- the scope of a place: what follows in the block that declares it, up to its last statement
 abbrev pub scoped : Here → Declared → (last : ℕ) → Does (Unit {0}) → Does (Unit {0})
-scoped here place last rest = at_exit rest (λ flow. ends here place (exit_of last flow) >> as_before flow)
+scoped here place last rest = at_exit rest
+    (λ flow. leaving_scope (is_hooked here.facts place.of) (points.Named place.number) (left_as flow) (ends here place (exit_of last flow)) >> as_before flow)
 
 -- ---- statements
 
@@ -233,20 +195,37 @@ still location n = looks (λ world. branch (nat_eq (length_of (load world locati
 abbrev pub element_at : Location → ℕ → Does Value
 element_at location i = looks (λ world. carry (fetched (item_of (load world location) location i)))
 
+-- The place of a loop gets an element: a copy of it, or, where the head is a value of its own, the place stands for it.
+abbrev pub element_for : Here → Declared → (borrows : Bool) → Location → Does (Unit {0})
+element_for here place true item = change (changed (Opens here.level place.number (Stands item)))
+element_for here place false item = fill_from here place item
+
 -- A turn over elements: the path is looked up anew, and has to be as long as at first. Then the place is filled, then the body.
-abbrev pub each_turn : (node : ℕ) → Here → Declared → (last : ℕ) → Does (Unit {0}) → Aim → (len : ℕ) → ℕ → Does (Turn ℕ (Unit {0}))
-each_turn node here place last body aim len i =
+abbrev pub each_turn : (node : ℕ) → Here → Declared → (borrows : Bool) → (last : ℕ) → Does (Unit {0}) → Aim → (len : ℕ) → ℕ → Does (Turn ℕ (Unit {0}))
+each_turn node here place borrows last body aim len i =
     at_node node Turns (at_node node Chooses (branch (nat_lt i len) (do
       location ← find aim
       still location len
-      v ← at_node node Done_by (element_at location i)
-      at_node node Fills (fill here place.number v)
-      again (scoped here place last body) (suc i)) no_more))
+      branch (is_hooked here.facts place.of)
+          (do
+            item ← at_node node Done_by (looks (λ world. give (item_of (load world location) location i)))
+            at_node node Fills (element_for here place borrows item)
+            again (scoped here place last body) (suc i))
+          (do
+            v ← at_node node Done_by (element_at location i)
+            at_node node Fills (fill here place.number v)
+            again (scoped here place last body) (suc i))) no_more))
 
 -- a value becomes the result
-abbrev pub result_gets : Option Declared → Here → Value → Does Value
-result_gets None here v = give nothing
-result_gets (Some place) here v = carry (put (place_at here.level place.number) v)
+abbrev pub result_gets : (hooked : Bool) → Option Declared → Here → Value → Does Value
+result_gets hooked None here v = give nothing
+result_gets false (Some place) here v = carry (put (place_at here.level place.number) v)
+result_gets true (Some place) here v = carry (assigns (form_of here.facts place.of) (place_at here.level place.number) (Given v))
+
+-- or a copy of the one at a location
+abbrev pub result_copies : Option Declared → Here → Location → Does (Unit {0})
+result_copies None here location = give tt
+result_copies (Some place) here location = carry (assigned (form_of here.facts place.of) (place_at here.level place.number) (At location))
 
 abbrev pub exit_by : Leaving → (by : ℕ) → Exit
 exit_by K.Break by = Broke by
@@ -275,13 +254,18 @@ abbrev pub ready_rest : List Ready → List Ready
 ready_rest [] = []
 ready_rest (r ∷ rest) = rest
 
+-- a value that no place holds
+abbrev pub is_fresh : Args → Bool
+is_fresh (ByPath (Fresh value) rest) = true
+is_fresh head = false
+
 abbrev pub ready_aim : List Ready → Aim
 ready_aim (Aimed aim ∷ rest) = aim
 ready_aim _ = Value_of nothing
 
 -- the condition of a `while`, anew at each turn
 abbrev pub test_of : Args → Here → Does Value
-test_of (ByValue condition rest) here = eval condition Owned here
+test_of (ByValue condition rest) here = ended_value here condition Owned (eval condition Owned here)
 test_of _ here = give nothing
 
 -- the value of the selector of a `case`
@@ -296,28 +280,34 @@ selector_of (ByPath path rest) here = do
 -- Loops, over what their heads give.
 abbrev pub loop_over : Kind → (node : ℕ) → Args → (last : ℕ) → Does (Unit {0}) → Here → Does (Unit {0})
 loop_over While node head last body here = loop (while_turn node (test_of head here) body) tt
-loop_over (Count place inclusive) node head last body here = grouped node do
+loop_over (Count place inclusive) node head last body here = grouped here node (waits_in here head) do
   ready ← head_values head here
   loop (count_turn node here place last body (limit inclusive (number_of (ready_operand (ready_rest ready))))) (number_of (ready_operand ready))
-loop_over (Each place) node head last body here = grouped node do
+loop_over (Each place) node head last body here = grouped here node (waits_in here head) do
   ready ← head_values head here
   location ← at_node node Looks_up (find (ready_aim ready))
-  looks (λ world. loop (each_turn node here place last body (ready_aim ready) (length_of (load world location))) 0)
+  looks (λ world. loop (each_turn node here place (is_fresh head) last body (ready_aim ready) (length_of (load world location))) 0)
 
 -- A statement's work is one, and comes first; that of one that is an expression is its node's.
 abbrev mutual
   pub exec : Stmt → Here → Does (Unit {0})
-  exec (Do value) here = grouped (node_of value).number (eval value Owned here) >> give tt
+  exec (Do value) here = grouped here (node_of value).number (waits_of here value Owned) (eval value Owned here) >> give tt
   exec (Idle node parts) here = costs 1 (at_node node.number Done_by (give tt))
-  exec (Give node back value) here = costs 1 (grouped node.number do
-    v ← eval value ToPlace here
-    given ← at_node node.number Done_by (result_gets here.result here v)
-    back_or_on back node.number)
+  exec (Give node back value) here = costs 1 (grouped here node.number (waits_of here value ToPlace) (branch (gets_copy here ToPlace value)
+      (do
+        location ← source value here
+        at_node node.number Done_by (result_copies here.result here location)
+        back_or_on back node.number)
+      (do
+        v ← eval value ToPlace here
+        given ← at_node node.number Done_by (result_gets (gives_hooked here.facts (type_of value)) here.result here v)
+        back_or_on back node.number)))
   exec (Leave node leaving parts) here = costs 1 (at_node node.number Leaves (leave (exit_by leaving node.number)))
-  exec (Select node ByConditions tests blocks) here = costs 1 (grouped node.number (first_block tests blocks here))
-  exec (Select node (ByLabels labels) tests blocks) here = costs 1 (grouped node.number do
+  exec (Select node ByConditions tests blocks) here = costs 1 (grouped here node.number [] (first_block tests blocks here))
+  exec (Select node (ByLabels labels) tests blocks) here = costs 1 (grouped here node.number (waiting_first here.facts here.modes tests) do
     x ← selector_of tests here
-    at_node node.number Chooses (picked_block (is_covered (selector_type tests)) labels blocks x here))
+    selecting here (selector_type tests) x
+        (λ x. at_node node.number Chooses (picked_block (is_covered (selector_type tests)) labels blocks x here)))
   exec (Loop node kind head body) here = costs 1 (loop_over kind node.number head (last_of body) (exec_all body here) here)
   exec (Raise node exception message) here = from_exceptions
   exec (Try node body handlers last) here = from_exceptions
@@ -329,9 +319,13 @@ abbrev mutual
       costs 1 (at_node node.number Done_by (fill here place.number (default_of here.facts place.of)))
       >> scoped here place (last_after node.number rest) (exec_all rest here)
   exec_all (Declare node place cursor (ByValue value more) rest) here =
-      costs 1 (grouped node.number do
+      costs 1 (grouped here node.number (waits_of here value ToPlace) (branch (gets_copy here ToPlace value)
+      (do
+        location ← source value here
+        at_node node.number Done_by (fill_from here place location))
+      (do
         v ← eval value ToPlace here
-        at_node node.number Done_by (fill here place.number v))
+        at_node node.number Done_by (fill here place.number v))))
       >> scoped here place (last_after node.number rest) (exec_all rest here)
   exec_all (Declare node place cursor (ByPath path more) rest) here = give tt
   exec_all (Defer node last rest) here = from_exceptions
@@ -343,7 +337,7 @@ abbrev mutual
   first_block (ByPath path rest) blocks here = give tt
   first_block (ByValue condition rest) (Otherwise block) here = give tt
   first_block (ByValue condition rest) (Block first more) here = do
-    x ← at_node (node_of condition).number Asks (eval condition Owned here)
+    x ← at_node (node_of condition).number Asks (ended_value here condition Owned (eval condition Owned here))
     at_node (node_of condition).number Decides (branch (is_true (number_of x)) (exec_all first here) (first_block rest more here))
 
   -- The first block with a label that fits, or the one for all else. Without an `else`, where the labels cover the type, it is the last one.

@@ -1,14 +1,18 @@
 -- How places are found, read and written.
-use Rattle.std.specs.Prelude.{ℕ, ℤ, unsigned_abs, Bool, true, false, [], ◌∷◌, Option, Some, None}
+use Rattle.std.specs.Prelude.{ℕ, ℤ, unsigned_abs, Bool, true, false, List, [], Option, Some, None}
 use Rattle.nim_plan.specs.declared.plan.Act.{Act}
 use Rattle.nim_program.specs.Traps.{IndexOutOfBounds, NilDereference}
 use Rattle.nim_program.specs.Ints.{inside}
 use Rattle.nim_program.specs.declared.operation.Use.{Use}
-use Rattle.nim_meaning.specs.Values.{Value, Handle, Fixed, Ref, nothing, length_of, bytes, Base, Standing, Waiting, InBlock, Made, Location, at_base}
+use Rattle.nim_program.specs.declared.operation.Use.TheVariants.{Owned, Given, Lent, Looked}
+use Rattle.nim_types.specs.Forms.{Form}
+use Rattle.nim_meaning.specs.Values.{Value, Fixed, Ref, nothing, length_of, bytes, Base, Standing, Waiting, InBlock, Made, Location, at_base}
+pub use Rattle.nim_meaning.specs.Values.{item_of}
 use Rattle.nim_meaning.specs.Values.{deeper, nowhere, through}
 use Rattle.nim_meaning.specs.State.{World, slot_at, temporary_at, load}
-use Rattle.nim_meaning.specs.Values.{Slot}
-use Rattle.nim_meaning.specs.Deeds.{Deed, Gives, Stores, does, give, ◌>>◌, branch, costs, looks, stop}
+use Rattle.nim_meaning.specs.Values.{Slot, Holds}
+use Rattle.nim_meaning.specs.Deeds.{Deed, Gives, Stores, Waits, does, give, ◌>>=◌, ◌>>◌, branch, costs, looks, stop}
+use Rattle.nim_meaning.specs.Lifted.{fresh_text, copied}
 
 -- ---- paths
 
@@ -24,11 +28,6 @@ abbrev pub root_of : Base → World → Location
 root_of (Standing level number) world = through_slot (Standing level number) (slot_at world level number)
 root_of (Waiting level node) world = through_slot (Waiting level node) (temporary_at world level node)
 root_of base world = at_base base
-
--- an element of what stands at a location: in it, or in its block
-abbrev pub item_of : Value → Location → ℕ → Location
-item_of (Handle n (Some k)) location i = record location { base = InBlock k; path = i ∷ [] }
-item_of v location i = deeper location i
 
 -- the object of a ref; nil has none
 abbrev pub object_of : Value → Deed Location
@@ -57,8 +56,7 @@ made v = give (at_base (Made v))
 
 -- ---- values at places
 
--- What comes with the heap: all values that have anything to do when they are copied, moved or destroyed. A program that has any of it is
--- refused before it runs, so nobody sees this value.
+-- What comes with refs, hooks and exceptions. A program that has any of it is refused before it runs, so nobody sees this value.
 abbrev pub from_heap : Deed Value
 from_heap = give nothing
 
@@ -66,17 +64,42 @@ from_heap = give nothing
 abbrev pub fetched : Location → Deed Value
 fetched location = looks (λ world. costs (bytes (load world location)) (give (load world location)))
 
--- The value of a path that is read, as its use asks. One with hooks is copied, handed on or lent, as the plan says of the site.
-abbrev pub taken_by : (hooked : Bool) → Use → Option Act → Location → Deed Value
-taken_by false how act location = fetched location
-taken_by true how act location = from_heap
+-- What the value of a node is for, and where it waits if it does: in the call at a level, at the node.
+pub record Destination : Type 0 where
+  pub how : Use
+  pub level : ℕ
+  pub node : ℕ
 
--- The value that a node made, as its use asks: one with hooks is handed on, or waits for its operation or for the end of its statement. A text that
--- nobody owns is read as it is.
-abbrev pub made_by : (hooked : Bool) → Use → Value → Deed Value
-made_by false how v = give v
-made_by true how (Fixed t) = give (Fixed t)
-made_by true how v = from_heap
+-- A value that is somebody's own is handed on, or waits for its operation or for the end of its statement.
+abbrev pub kept_for : Use → (level node : ℕ) → Value → Deed Value
+kept_for Owned level node v = give v
+kept_for Given level node v = give v
+kept_for how level node v = does (Waits level node (Holds v)) >> give v
+
+abbrev pub kept : Destination → Value → Deed Value
+kept to v = kept_for to.how to.level to.node v
+
+-- what an operation looks at is read as it is; all else is a copy
+abbrev pub copied_for : Use → Form → Destination → Location → Deed Value
+copied_for Looked f to location = fetched location
+copied_for how f to location = copied f location >>= kept to
+
+-- The value of a path that is read, as its use asks. One with hooks is copied; moves and borrows, which the plan may say of the site, come later.
+abbrev pub taken_by : (hooked : Bool) → Form → Destination → Option Act → Location → Deed Value
+taken_by false f to act location = fetched location
+taken_by true f to act location = copied_for to.how f to location
+
+-- a literal text is nobody's where it is read, and somebody's own elsewhere
+abbrev pub text_for : Use → Destination → List ℕ → Deed Value
+text_for Lent to t = give (Fixed t)
+text_for Looked to t = give (Fixed t)
+text_for how to t = fresh_text t >>= kept to
+
+-- the value that a node made, as its use asks
+abbrev pub made_by : (hooked : Bool) → Destination → Value → Deed Value
+made_by false to v = give v
+made_by true to (Fixed t) = text_for to.how to t
+made_by true to v = kept to v
 
 -- a value becomes that at a location, where one without hooks stood
 abbrev pub put : Location → Value → Deed Value

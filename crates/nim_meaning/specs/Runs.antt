@@ -85,7 +85,7 @@ module _ (hooked : Ty → Bool) where
     is_plain_path (Fresh value) = is_plain_value value
     is_plain_path (Field node ty base field) = not (hooked ty) && is_plain_path base
     is_plain_path (Element node ty base index constant) = not (hooked ty) && (is_plain_path base && is_plain_value index)
-    is_plain_path (Deref ty base) = is_plain_path base
+    is_plain_path (Deref ty base) = not (hooked ty) && is_plain_path base
 
     pub are_plain : (written : Bool) → Args → Bool
     are_plain written NoArg = true

@@ -3,6 +3,9 @@ use Rattle.std.specs.Prelude.{ℕ, zero, suc, Bool, true, false, ◌||◌, nat_e
 use Rattle.nim_types.specs.Types.{Ty, text}
 use Rattle.nim_program.specs.declared.program.Mode.{Mode}
 use Rattle.nim_program.specs.declared.program.Mode.TheVariants.{Plain, Sink}
+use Rattle.nim_program.specs.declared.operation.Use.{Use}
+use Rattle.nim_program.specs.declared.operation.Use.TheVariants.{Owned, Given, Held, Lent}
+use Rattle.nim_program.specs.Program.{Expr, Apply, Read, Act, Giving, Characters}
 use Rattle.nim_program.specs.Program.{Path, Variable, Fresh, Field, Element, Deref, Args, NoArg, ByValue, ByPath, Param, Proc, type_of, type_at}
 use Rattle.nim_program.specs.Program.{Stmts, Empty, Then, Declare, Defer, Blocks, Otherwise, Block}
 
@@ -13,6 +16,41 @@ has_node (Fresh value) = false
 has_node (Field node ty base field) = true
 has_node (Element node ty base index constant) = true
 has_node (Deref ty base) = false
+
+-- a path that is read, which is no fresh value alone
+abbrev pub is_read : Expr → Bool
+is_read (Read path) = has_node path
+is_read value = false
+
+-- ---- what waits
+
+abbrev pub is_held : Use → Bool
+is_held Held = true
+is_held how = false
+
+abbrev pub is_lent : Use → Bool
+is_lent Lent = true
+is_lent how = false
+
+abbrev pub is_given : Use → Bool
+is_given Given = true
+is_given how = false
+
+-- whether the value of a node waits, for its operation or for the end of its group
+abbrev pub waits : Use → Bool
+waits Owned = false
+waits Given = false
+waits how = true
+
+-- A literal text is owned by nobody where it is only read.
+abbrev pub waits_from : Act → Use → Bool
+waits_from (Giving (Characters t)) how = is_held how
+waits_from act how = waits how
+
+-- a literal text
+abbrev pub is_text : Expr → Bool
+is_text (Apply node ty (Giving (Characters t)) operands) = true
+is_text value = false
 
 -- ---- a `case`
 

@@ -1,10 +1,11 @@
 -- The state of a run.
-use Rattle.std.specs.Prelude.{ℕ, ◌-◌, nat_eq, if◌then◌else◌, List, [], ◌∷◌, ◌++◌, take, Option, Some, None, option_map, slice_get, slice_set}
+use Rattle.std.specs.Prelude.{ℕ, ◌-◌, nat_eq, if◌then◌else◌, List, [], ◌∷◌, ◌++◌, length, take, drop, Option, Some, None, option_map, slice_get, slice_set}
 use Rattle.arc_base.specs.Event.{Event}
 use Rattle.arc_base.specs.Behaviour.{Live, no_objects}
 use Rattle.arc_base.specs.BigStep.{Meter}
 use Rattle.nim_types.specs.Types.{Ty}
-use Rattle.nim_meaning.specs.Values.{Value, Parts, Fixed, More, Nil, nothing, nth, parts_of, text_in, part, put_part, Base, Standing, Waiting, InBlock, InHand}
+use Rattle.nim_meaning.specs.Values.{Value, Parts, Handle, Fixed, Values, More, Nil, nothing, nth, parts_of, text_in, part, put_part, Base, Standing, Waiting}
+use Rattle.nim_meaning.specs.Values.{InBlock, InHand}
 use Rattle.nim_meaning.specs.Values.{InException, Made, Location, Slot, Holds, value_in}
 use Rattle.nim_meaning.specs.Heap.{Contents, Characters, Elements, Object, Heap, block_at, Block, with_contents, heap_of}
 use Rattle.nim_meaning.specs.Ways.{Point}
@@ -116,6 +117,32 @@ abbrev pub with_temporary : World → (level node : ℕ) → Slot → World
 with_temporary world level node slot =
     with_frame_at world level (record (frame_at world level) { temporaries = with_temporary_in (frame_at world level).temporaries node slot })
 
+abbrev pub without_temporary_in : List Temporary → (node : ℕ) → List Temporary
+without_temporary_in [] node = []
+without_temporary_in (t ∷ ts) node = if nat_eq t.node node then ts else t ∷ without_temporary_in ts node
+
+abbrev pub with_temporaries : World → (level : ℕ) → List Temporary → World
+with_temporaries world level ts = with_frame_at world level (record (frame_at world level) { temporaries = ts })
+
+-- a value waits at a node, and doesn't any more
+abbrev pub with_one_waiting : World → (level node : ℕ) → Slot → World
+with_one_waiting world level node slot =
+    with_temporaries world level (record { node = node; slot = slot } ∷ without_temporary_in (frame_at world level).temporaries node)
+
+abbrev pub with_none_waiting : World → (level node : ℕ) → World
+with_none_waiting world level node = with_temporaries world level (without_temporary_in (frame_at world level).temporaries node)
+
+-- ---- values under way, and the input
+
+abbrev pub pushed : World → Value → World
+pushed world v = record world { hand = world.hand ++ v ∷ [] }
+
+abbrev pub popped : World → World
+popped world = record world { hand = take (length world.hand - 1) world.hand }
+
+abbrev pub reading_on : World → (bytes : ℕ) → World
+reading_on world n = record world { input = drop n world.input }
+
 -- ---- values at locations
 
 abbrev pub held : Option Slot → Value
@@ -153,29 +180,38 @@ whole_at world (Made v) = v
 abbrev pub load : World → Location → Value
 load world location = part (whole_at world location.base) location.path
 
+-- the characters of a text, and the elements of a sequence
+abbrev pub text_of : World → Value → List ℕ
+text_of world (Handle n (Some k)) = text_in (contents_value (block_at world.heap k))
+text_of world v = text_in v
+
+abbrev pub elements_of : World → Value → Values
+elements_of world (Handle n (Some k)) = parts_of (contents_value (block_at world.heap k))
+elements_of world v = parts_of v
+
 abbrev pub new_contents : Contents → Value → Contents
 new_contents (Characters text) v = Characters (text_in v)
 new_contents (Elements all) v = Elements (parts_of v)
 new_contents (Object of old) v = Object of v
 
-abbrev pub refilled : Heap → ℕ → Option Block → Value → Heap
-refilled heap k None v = heap
-refilled heap k (Some block) v = with_contents heap k (new_contents block.contents v)
+abbrev pub with_value_in : Heap → ℕ → Option Block → Value → Heap
+with_value_in heap k None v = heap
+with_value_in heap k (Some block) v = with_contents heap k (new_contents block.contents v)
 
 abbrev pub with_message : Value → Option Exception → Option Exception
 with_message v exception = option_map (λ (x : Exception). record x { message = v }) exception
 
-abbrev pub replaced : List (Option Exception) → ℕ → Option (Option Exception) → Value → List (Option Exception)
-replaced exceptions i None v = exceptions
-replaced exceptions i (Some exception) v = slice_set exceptions i (with_message v exception)
+abbrev pub with_message_at : List (Option Exception) → ℕ → Option (Option Exception) → Value → List (Option Exception)
+with_message_at exceptions i None v = exceptions
+with_message_at exceptions i (Some exception) v = slice_set exceptions i (with_message v exception)
 
 -- what a place holds is its own from then on
 abbrev pub stored : World → Base → Value → World
 stored world (Standing level number) v = with_slot world level number (Some (Holds v))
 stored world (Waiting level node) v = with_temporary world level node (Holds v)
-stored world (InBlock k) v = record world { heap = refilled world.heap k (block_at world.heap k) v }
+stored world (InBlock k) v = record world { heap = with_value_in world.heap k (block_at world.heap k) v }
 stored world (InHand i) v = record world { hand = slice_set world.hand i v }
-stored world (InException i) v = record world { exceptions = replaced world.exceptions i (slice_get world.exceptions i) (nth (parts_of v) 0) }
+stored world (InException i) v = record world { exceptions = with_message_at world.exceptions i (slice_get world.exceptions i) (nth (parts_of v) 0) }
 stored world (Made old) v = world
 
 -- the world with another value at a location

@@ -1,7 +1,8 @@
 -- The table of operations, by what each does with its operands.
-use Rattle.std.specs.Prelude.{ℕ, ℤ, pos, ◌-ℤ◌, List, [], ◌∷◌, length, Option, Some, None}
+use Rattle.std.specs.Prelude.{ℕ, ℤ, pos, ◌-ℤ◌, Bool, true, false, ◌||◌, List, [], ◌∷◌, length, Option, Some, None}
 use Rattle.arc_base.specs.declared.outside.Stream.TheVariants.{Out as Output}
 use Rattle.nim_types.specs.Types.{Ty, int, char, enum, Facts, fact_of, members_in}
+use Rattle.nim_types.specs.Forms.{Form}
 use Rattle.nim_program.specs.declared.operation.Operation.{Operation}
 use Rattle.nim_program.specs.declared.operation.Operation.TheVariants as O
 use Rattle.nim_program.specs.declared.operation.Operator.{Operator}
@@ -10,13 +11,16 @@ use Rattle.nim_program.specs.declared.operation.Measure.TheVariants.{Len, High}
 use Rattle.nim_program.specs.Ints.{Checked, Fine, Trapped, applied, applied_to, compared, truth, within, low_byte}
 use Rattle.nim_program.specs.Program.{Act, Doing, Building, Giving, Calling, Literal}
 use Rattle.nim_program.specs.Program as P
-use Rattle.nim_meaning.specs.Values.{Value, Number, Parts, Values, Nil, More, nothing, number_of, length_of, with_part, bytes, default_of, literal_value}
+use Rattle.nim_meaning.specs.Values.{Value, Number, Parts, Fixed, Values, Nil, More, nothing, number_of, length_of, with_part, bytes, default_of, literal_value}
 use Rattle.nim_meaning.specs.Values.{Operand, Location, value, number, location, value_of, values_in}
 use Rattle.nim_meaning.specs.State.{load}
 use Rattle.nim_meaning.specs.Acts.{line_of}
 use Rattle.nim_meaning.specs.Texts.{texts_of}
+use Rattle.nim_meaning.specs.Here.{gives_hooked, any_hooked, form_for}
+use Rattle.nim_meaning.specs.Lifted.{built}
 use Rattle.nim_meaning.specs.Places.{from_heap, put, exchanged}
-use Rattle.nim_meaning.specs.Deeds.{Deed, give, ◌>>=◌, ◌>>◌, costs, looks, write, end, stop}
+use Rattle.nim_meaning.specs.OwnedRows.{owned}
+use Rattle.nim_meaning.specs.Deeds.{Deed, give, ◌>>=◌, ◌>>◌, branch, costs, looks, write, end, stop}
 
 -- ---- what rows are made of
 
@@ -81,7 +85,8 @@ swapped left right =
 
 -- ---- operations
 
--- over what is known of types, with the type of the value, those of the operands, and the operands
+-- Over what is known of types, with the type of the value, those of the operands, and the operands. What values have in blocks is no part of it: where
+-- a type has hooks, a row may be another one (OwnedRows).
 abbrev pub does : Operation → Facts → Option Ty → List (Option Ty) → List Operand → Deed Value
 does O.Default facts ty of xs = costs (bytes (default_for facts ty)) (give (default_for facts ty))
 does (O.Unary operator) facts ty of xs = outcome (applied_to operator (number xs 0))
@@ -96,7 +101,7 @@ does O.Sequence facts ty of xs = from_heap
 does O.NewSequence facts ty of xs = from_heap
 does (O.Measure measure) facts ty of xs = looks (λ world. give (Number (measured measure (length_of (load world (location xs 0))))))
 does O.IsNil facts ty of xs = from_heap
-does O.Echo facts ty of xs = write Output (line_of (texts_of facts of xs)) >> give nothing
+does O.Echo facts ty of xs = looks (λ world. write Output (line_of (texts_of facts world of xs))) >> give nothing
 does O.Quit facts ty of xs = end (status_of xs)
 does O.ReadLine facts ty of xs = from_heap
 does O.ReadLineInto facts ty of xs = from_heap
@@ -125,10 +130,24 @@ with_fields v [] vs = v
 with_fields v (field ∷ fields) Nil = v
 with_fields v (field ∷ fields) (More new vs) = with_fields (with_part v field new) fields vs
 
+-- What is done with an operation's operands, by their types.
+abbrev pub operates : Operation → Facts → Option Ty → List (Option Ty) → List Operand → Deed Value
+operates operation facts ty of xs =
+    branch (gives_hooked facts ty || any_hooked facts of) (owned operation facts ty of xs (does operation facts ty of xs)) (does operation facts ty of xs)
+
+-- A constant that has texts or sequences in it gets blocks for them. A text alone does as its use asks, and so waits for that.
+abbrev pub constant_for : (hooked : Bool) → Form → Value → Deed Value
+constant_for false f v = give v
+constant_for true f (Fixed t) = give (Fixed t)
+constant_for true f v = built f v
+
+abbrev pub constant_row : Facts → Option Ty → (bytes : ℕ) → Value → Deed Value
+constant_row facts ty n v = costs 1 (costs n (constant_for (gives_hooked facts ty) (form_for facts ty) v))
+
 -- All that is done with operands but calls, of which the meaning takes care. A node is a work of one.
 abbrev pub acts : Act → Facts → Option Ty → List (Option Ty) → List Operand → Deed Value
-acts (Doing operation) facts ty of xs = costs 1 (does operation facts ty of xs)
+acts (Doing operation) facts ty of xs = costs 1 (operates operation facts ty of xs)
 acts (Building fields) facts ty of xs =
     costs 1 (costs (bytes (default_for facts ty)) (give (with_fields (default_for facts ty) fields (values_in xs))))
-acts (Giving literal) facts ty of xs = costs 1 (costs (literal_bytes literal) (give (literal_value literal)))
+acts (Giving literal) facts ty of xs = constant_row facts ty (literal_bytes literal) (literal_value literal)
 acts (Calling proc types) facts ty of xs = give nothing

@@ -1,7 +1,8 @@
 -- Values, and where they stand.
-use Rattle.std.specs.Prelude.{ℕ, zero, suc, ◌+◌, ℤ, pos, Bool, List, [], ◌∷◌, ◌++◌, length, unsigned_abs, slice_set, Option, None}
+use Rattle.std.specs.Prelude.{ℕ, zero, suc, ◌+◌, ℤ, pos, Bool, if◌then◌else◌, List, [], ◌∷◌, ◌++◌, length, unsigned_abs, slice_set, Option, Some, None}
 use Rattle.nim_types.specs.Types.{Ty, Facts}
 use Rattle.nim_types.specs.Forms.{Form, plain, reference, block, elements, row, parts, resource, wrapped, Forms, no_forms, forms, or_word, form_of}
+use Rattle.nim_types.specs.Forms.{of_some, hooked, hooked_any}
 use Rattle.nim_program.specs.Program.{Literal, Number as Ordinal, Characters, NoObject, PartsOf, ElementsOf, Literals, NoLiteral, ALiteral}
 
 mutual
@@ -22,6 +23,11 @@ mutual
   pub data Values : Type 0 where
     Nil : Values
     More : (first : Value) (rest : Values) → Values
+
+-- the block of a text or a sequence, None of an empty one
+abbrev pub block_of : Value → Option ℕ
+block_of (Handle n k) = k
+block_of _ = None
 
 -- what stands for a value that nobody looks at
 abbrev pub nothing : Value
@@ -63,6 +69,16 @@ abbrev pub nth : Values → ℕ → Value
 nth Nil i = nothing
 nth (More first rest) zero = first
 nth (More first rest) (suc i) = nth rest i
+
+-- the first values, and one list of values behind another
+abbrev pub first_of : ℕ → Values → Values
+first_of zero vs = Nil
+first_of (suc n) Nil = Nil
+first_of (suc n) (More first rest) = More first (first_of n rest)
+
+abbrev pub joined : Values → Values → Values
+joined Nil ws = ws
+joined (More first rest) ws = More first (joined rest ws)
 
 abbrev pub with_nth : Values → ℕ → Value → Values
 with_nth Nil i new = Nil
@@ -121,6 +137,18 @@ abbrev mutual
   blanks no_forms = Nil
   blanks (forms f fs) = More (blank f) (blanks fs)
 
+-- what a place of a form is before it is filled: nothing stands at any of its parts
+abbrev mutual
+  pub vacant : Form → Value
+  vacant (row n f) = if of_some n (hooked f) then Parts (repeated n (vacant f)) else Vacant
+  vacant (parts fs) = if hooked_any fs then Parts (all_vacant fs) else Vacant
+  vacant (wrapped f) = vacant f
+  vacant f = Vacant
+
+  pub all_vacant : Forms → Values
+  all_vacant no_forms = Nil
+  all_vacant (forms f fs) = More (vacant f) (all_vacant fs)
+
 -- what a place of a type starts at
 abbrev pub default_of : Facts → Ty → Value
 default_of facts ty = blank (form_of facts ty)
@@ -160,8 +188,9 @@ pub record Location : Type 0 where
 abbrev pub deeper : Location → ℕ → Location
 deeper location i = record location { path = location.path ++ i ∷ [] }
 
--- What a place of a call is: it holds a value, which it owns; or is another name for a location, as a `var` parameter; or has a value that is
--- lent to it, with where its owner keeps it, None of what nobody owns, and what was there when it was lent, contents of blocks included.
+-- What a place of a call is: it holds a value, which it owns; or is another name for a location, as a `var` parameter, or one that is lent what waits in
+-- its caller; or has a value that is lent to it, with where its owner keeps it, None of what nobody owns, and what was there when it was lent, contents
+-- of blocks included.
 pub data Slot : Type 0 where
   Holds : (value : Value) → Slot
   Stands : (location : Location) → Slot
@@ -171,6 +200,11 @@ abbrev pub value_in : Slot → Value
 value_in (Holds v) = v
 value_in (Stands location) = nothing
 value_in (Lends v from seen) = v
+
+-- an element of what stands at a location: in it, or in its block
+abbrev pub item_of : Value → Location → ℕ → Location
+item_of (Handle n (Some k)) location i = record location { base = InBlock k; path = i ∷ [] }
+item_of v location i = deeper location i
 
 abbrev pub at_base : Base → Location
 at_base base = record { base = base; path = []; through = None }

@@ -1,6 +1,23 @@
 // What small programs do: examples of the meaning.
 ghost use Rattle.std.specs.Prelude.{[], codes};
 ghost use Rattle.nim_meaning.specs.Trees.{Prints, Works, Quits, Fails, Runs};
+ghost use Rattle.arc_base.specs.Behaviour.{Ended, no_objects};
+ghost use Rattle.nim_meaning.specs.TextExamples as texts;
+ghost use Rattle.nim_meaning.specs.TextExamples.{Comes, Stops, Happens, no_memory, lines_read};
+ghost use Rattle.nim_meaning.specs.TextExamples.{two_lists, no_label_fits, filling_up, lending};
+ghost use Rattle.nim_meaning.specs.TextExamples.{giving_back, assigning, joining, part_by_part};
+ghost use Rattle.nim_meaning.specs.TextExamples.{longer_in_turn, fresh_head, leaving_scopes};
+ghost use Rattle.nim_meaning.specs.TextExamples.{into_block, lengths, characters, reading_lines};
+ghost use Rattle.nim_meaning.specs.TextExamples.{branches, nested, two_lists_turns};
+ghost use Rattle.nim_meaning.specs.TextExamples.{no_label_fits_turns, filling_up_turns};
+ghost use Rattle.nim_meaning.specs.TextExamples.{lending_turns, giving_back_turns};
+ghost use Rattle.nim_meaning.specs.TextExamples.{assigning_turns, joining_turns};
+ghost use Rattle.nim_meaning.specs.TextExamples.{part_by_part_turns, part_by_part_short_turns};
+ghost use Rattle.nim_meaning.specs.TextExamples.{longer_in_turn_turns, fresh_head_turns};
+ghost use Rattle.nim_meaning.specs.TextExamples.{leaving_scopes_turns, into_block_turns};
+ghost use Rattle.nim_meaning.specs.TextExamples.{lengths_turns, characters_turns};
+ghost use Rattle.nim_meaning.specs.TextExamples.{reading_lines_turns, constants_turns};
+ghost use Rattle.nim_meaning.specs.TextExamples.{branches_turns, nested_turns};
 ghost use Rattle.nim_meaning.specs.LeftOut.{IsPlain};
 ghost use Rattle.nim_meaning.specs.ExitExamples as exits;
 ghost use Rattle.nim_meaning.specs.ExitExamples.{IsLeftBy};
@@ -159,4 +176,28 @@ pub fn exit_examples()
     ensures continuing { IsLeftBy 6 exits.continuing }
     ensures returning { IsLeftBy 4 exits.returning }
     ensures returning_far { IsLeftBy 7 exits.returning_far }
+{}
+
+/// Texts and sequences: what is shown, what happens to blocks, in its order, and how much of the
+/// heap is asked for.
+pub fn block_examples()
+    ensures two_lists { Comes two_lists 144 0 (codes "23\n") two_lists_turns 144 }
+    ensures no_label_fits { Comes no_label_fits 16 0 (codes "2\n") no_label_fits_turns 16 }
+    ensures filling_up { Stops filling_up 48 100 (codes "full\n") no_memory filling_up_turns 48 }
+    ensures lending { Comes lending 100 1 (codes "one\n") lending_turns 48 }
+    ensures giving_back { Comes giving_back 100 2 (codes "xy\n") giving_back_turns 48 }
+    ensures assigning { Comes assigning 100 0 [] assigning_turns 96 }
+    ensures joining { Comes joining 100 0 (codes "abcd\n") joining_turns 48 }
+    ensures part_by_part { Comes part_by_part 1000 0 [] part_by_part_turns 176 }
+    ensures part_by_part_short { Stops part_by_part 159 0 [] no_memory part_by_part_short_turns 144 }
+    ensures longer_in_turn { Stops longer_in_turn 1000 5 (codes "a\n") (codes "Error: length changed\n") longer_in_turn_turns 96 }
+    ensures fresh_head { Comes fresh_head 1000 5 (codes "b!\n") fresh_head_turns 96 }
+    ensures leaving_scopes { Comes leaving_scopes 1000 9 (codes "b!b!\n") leaving_scopes_turns 160 }
+    ensures into_block { Comes into_block 1000 1 (codes "a0123456789\n") into_block_turns 128 }
+    ensures lengths { Comes lengths 1000 0 (codes "aa1\n") lengths_turns 96 }
+    ensures characters { Comes characters 1000 0 (codes "xcb3\n") characters_turns 32 }
+    ensures reading_lines { Happens reading_lines 1000 lines_read 9 (codes "a\n\n0123456789\n") [] (Ended 0 no_objects) reading_lines_turns 96 }
+    ensures constants { Comes texts.constants 1000 2 (codes "b2\na\nb\n2\n") constants_turns 96 }
+    ensures branches { Comes branches 1000 0 (codes "ab.\n") branches_turns 80 }
+    ensures nested { Comes nested 1000 0 (codes "0a\n") nested_turns 176 }
 {}

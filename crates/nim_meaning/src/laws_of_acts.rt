@@ -1,8 +1,8 @@
 // The laws of what a program does to places, in order, and of the ways through it.
 ghost use Rattle.std.specs.Prelude.{◌≡◌, ◌↔◌, ℕ, Bool, List, Option, Some, None, [], false};
 ghost use Rattle.std.specs.Prelude.{slice_get};
-ghost use Rattle.std.specs.Prelude.{suc, true};
-ghost use Rattle.nim_types.specs.Types.{Ty};
+ghost use Rattle.std.specs.Prelude.{suc, true, ◌++◌};
+ghost use Rattle.nim_types.specs.Types.{Ty, Facts};
 ghost use Rattle.nim_plan.specs.declared.plan.Plan.{Plan};
 ghost use Rattle.nim_program.specs.declared.operation.Use.{Use};
 ghost use Rattle.nim_program.specs.declared.operation.Use.TheVariants.{Looked};
@@ -17,11 +17,13 @@ ghost use Rattle.nim_meaning.specs.Ways.{At, Stop, entry, onto};
 ghost use Rattle.nim_meaning.specs.Arrows.{flows, all_arrows, Among, Is_flow};
 ghost use Rattle.nim_meaning.specs.State.{State};
 ghost use Rattle.nim_meaning.specs.Here.{Here, is_hooked};
+ghost use Rattle.nim_meaning.specs.Here.{is_hooked as type_hooked};
+ghost use Rattle.nim_meaning.specs.Waiting.{nodes_of, waiting};
 ghost use Rattle.nim_meaning.specs.Shapes.{modes_in};
 ghost use Rattle.nim_meaning.specs.Meaning.{eval, exec_all, from_level, calls, goes_through};
 ghost use Rattle.nim_meaning.specs.Meaning.{at_first, at_top};
 ghost use Rattle.nim_meaning.specs.AtPoints.{A_value, Nothing, DoesBy};
-ghost use Rattle.nim_meaning.specs.ActsOf.{acts_of, stmts_acts, proc_acts, start_acts};
+ghost use Rattle.nim_meaning.specs.ActsOf.{all_made, acts_of, stmts_acts, proc_acts, start_acts};
 ghost use Rattle.nim_meaning.specs.ActsOf.{procedure_acts};
 ghost use Rattle.nim_meaning.specs.Marks.{Member, Distinct, place_numbers, all_marks};
 ghost use Rattle.nim_meaning.specs.Lent.{All_read, reads_later, ends_reading};
@@ -179,6 +181,15 @@ pub fn lent()
         All_read (proc_acts hooked at_call in_body proc params body) }
     ensures region { (x : Root) (b : Acts) →
         reads_later x b ≡ true → ends_reading x (until_read x b) ≡ true }
+{}
+
+/// The values that wait in a part, and end with it, are the temporaries that its acts make, in the
+/// same order.
+pub fn temporaries()
+    ensures value { (facts : Facts) (modes : ℕ → ℕ → Mode) (how : Use) (to : Option Root)
+        (e : Expr) (rest : Acts) →
+        all_made (acts_of (type_hooked facts) modes how to e rest)
+        ≡ nodes_of (waiting facts modes e how) ++ all_made rest }
 {}
 
 /// The acts of small programs, and the ways through them.

@@ -6,7 +6,7 @@ use Rattle.nim_types.specs.Forms.{form_in, forms_in, form_within}
 use Rattle.nim_types.specs.declared.types.TypeDef.{TypeDef}
 use Rattle.nim_types.specs.declared.types.TypeDef.TheVariants as D
 use Rattle.nim_types.specs.Table.{type_at, types_at, types_in, facts_in}
-use Rattle.nim_program.specs.Ints.{is_true}
+use Rattle.nim_program.specs.Ints.{is_true, low_byte}
 use Rattle.nim_program.specs.Program.{Literal, Literals, NoLiteral, ALiteral}
 use Rattle.nim_program.specs.Texts.{bool_text, name_in}
 use Rattle.nim_program.specs.Defaults.{blank_literal, blank_literals}
@@ -22,7 +22,7 @@ abbrev pub text_for : Option TypeDef → ℤ → List ℕ
 text_for None z = signed_decimal z
 text_for (Some D.Int) z = signed_decimal z
 text_for (Some D.Bool) z = bool_text (is_true z)
-text_for (Some D.Char) z = unsigned_abs z ∷ []
+text_for (Some D.Char) z = low_byte z ∷ []
 text_for (Some (D.Enum name at all)) z = name_in (slice_get all (unsigned_abs z))
 text_for _ z = []
 

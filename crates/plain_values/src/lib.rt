@@ -5,6 +5,6 @@ mod numbers;
 mod starts;
 mod texts;
 
-pub use numbers::{Trap, apply, calculate, compares, one_of};
+pub use numbers::{Trap, apply, calculate, compares, low_byte, one_of};
 pub use starts::start_of;
 pub use texts::{add_char, add_text, limit_of};

@@ -2,7 +2,7 @@
 ghost use Rattle.std.specs.Prelude.{◌≡◌, ◌*◌, ◌^◌, ◌%◌, pos};
 ghost use Rattle.std.specs.Int.{int_div_euclid};
 ghost use Rattle.nim_program.specs.declared.operation.Operator.TheVariants.{Divide, Modulo};
-ghost use Rattle.nim_program.specs.Ints.{applied, applied_to, compared, within, bits_of, signed};
+ghost use Rattle.nim_program.specs.Ints.{applied, applied_to, compared, within, bits_of, low_byte, signed};
 ghost use Rattle.nim_program.specs.Ints.{shift_by};
 ghost use Rattle.plain_values.specs.Checked.{checked_of, or_overflow};
 
@@ -31,6 +31,13 @@ fn bits_of(z: i32) -> u32
     ensures { result ≡ bits_of z }
 {
     i64::from(z).rem_euclid(4_294_967_296).unsigned_abs() as u32
+}
+
+/// The low eight bits of an int.
+pub fn low_byte(z: i32) -> u8
+    ensures { result ≡ low_byte z }
+{
+    z.rem_euclid(256).unsigned_abs() as u8
 }
 
 // The int of 32 bits.

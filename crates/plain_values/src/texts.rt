@@ -3,13 +3,14 @@ ghost use Rattle.std.specs.Prelude.{◌≡◌, ◌++◌, ◌∷◌, [], length, 
 ghost use Rattle.std.specs.Prelude.{unsigned_abs};
 ghost use Rattle.std.specs.Fmt.{signed_decimal};
 ghost use Rattle.nim_types.specs.Table.{type_at, types_in, facts_in};
-ghost use Rattle.nim_program.specs.Ints.{is_true};
+ghost use Rattle.nim_program.specs.Ints.{is_true, low_byte};
 ghost use Rattle.nim_program.specs.Texts.{bool_text, name_in};
 ghost use Rattle.nim_program.specs.Kinds.{below_distinct};
 ghost use Rattle.nim_program.specs.View.{if_type};
 ghost use Rattle.plain_values.specs.Values.{limit_of, text_of};
 ghost use Rattle.plain_values.specs.Entries.{limit_at, text_for, base_at};
 
+use crate::numbers::low_byte;
 use arc_base::{Bytes, Memory};
 use itoa::Buffer;
 use nim_types::{TypeDef, TypeId, TypeTable, declared_types, entry};
@@ -65,14 +66,11 @@ fn add_number(z: i32, text: &mut Bytes) -> Result<(), Memory>
     text.append(buffer.format(z).as_bytes())
 }
 
-/// Adds a char. No char is above 255.
+/// Adds a char, as a byte.
 pub fn add_char(z: i32, text: &mut Bytes) -> Result<(), Memory>
-    ensures { OnOk result (text.new ≡ text.old ++ unsigned_abs z ∷ []) }
+    ensures { OnOk result (text.new ≡ text.old ++ low_byte z ∷ []) }
 {
-    match u8::try_from(z.unsigned_abs()) {
-        Ok(byte) => text.push(byte),
-        Err(_) => Err(Memory),
-    }
+    text.push(low_byte(z))
 }
 
 fn add_member(members: &[Bytes], z: i32, text: &mut Bytes) -> Result<(), Memory>

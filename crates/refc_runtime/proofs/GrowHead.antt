@@ -1,7 +1,7 @@
 -- The routine by which texts and sequences grow, up to where it takes a larger block.
 use Rattle.std.proofs.Common.{◌≡◌, ℕ, suc, ◌+◌, ◌-◌, ◌%◌, ◌^◌, ◌<◌, ◌≤◌, List, ◌∷◌, length, Some, None}
-use Rattle.std.proofs.Common.{false, refl, ap, ◌∙◌, arith}
-use Rattle.std.proofs.lemmas.Bool.{ne_eqb, lt-ltb, le-ltb}
+use Rattle.std.proofs.Common.{false, not, refl, ap, ◌∙◌, arith}
+use Rattle.std.proofs.lemmas.Bool.{eq-eqb, ne_eqb, lt-ltb, le-ltb}
 use Rattle.rv32_isa.specs.declared.micro_op.Size.TheVariants.{Word}
 use Rattle.rv32_isa.specs.Machine.{Lives}
 use Rattle.word_code.specs.declared.word.WordOperation.TheVariants as operation
@@ -13,13 +13,13 @@ use Rattle.word_code.specs.Memory.{Memory, own_data_at}
 use Rattle.word_code.specs.Words.{computed, holds, Vars, no_words, put, WordState}
 use Rattle.word_code.specs.Routines.{goes_on}
 use Rattle.word_code.proofs.ForCallers.{MemoryLaw, Sized, Runs, then_runs, Within, at as state_at}
-use Rattle.word_code.proofs.ForCallers.{run_constant, run_sum, run_compute, run_load, run_past, run_off, got}
+use Rattle.word_code.proofs.ForCallers.{run_label, run_constant, run_sum, run_compute, run_load, run_past, run_off, got}
 use Rattle.refc_runtime.specs.declared.heap.TheConstants.{CONTENTS_KIND, HEADER_LESS, KIND_LESS}
 use Rattle.refc_runtime.specs.declared.texts.TheConstants.{GROW}
 use Rattle.refc_runtime.specs.HeapBlocks.{size_at, first_word}
 use Rattle.refc_runtime.specs.HeapUse.{IsThere}
 use Rattle.refc_runtime.specs.GrowRoutine.{Owned, Growing, place_of, MayGrow}
-use Rattle.refc_runtime.specs.TextCode.{larger_lines, present_lines, grow_lines}
+use Rattle.refc_runtime.specs.TextCode.{larger_lines, none_lines, present_lines, grow_lines}
 use Rattle.refc_runtime.proofs.Calls.{later, inside, returns_awaiting}
 use Rattle.refc_runtime.proofs.HeapUses.{is_there}
 use Rattle.refc_runtime.proofs.HeapMemory as memory
@@ -51,7 +51,7 @@ module _ (law : MemoryLaw) (live : Lives) (procs : List WordProc) (n : ℕ) (s :
   module _ (u : Growing) (m : Memory) (sized : Sized m) (may : MayGrow own u m) (v : Vars) (e0 : v 0 ≡ Some (place_of u.present)) (e1 : v 1 ≡ Some u.kept)
       (e2 : v 2 ≡ Some u.wanted) where
     abbrev test_lines : List WordInstr
-    test_lines = Branch test.Equal 0 3 0 ∷ present_lines
+    test_lines = Branch test.Equal 0 3 2 ∷ present_lines
 
     abbrev v1 : Vars
     v1 = put v 3 0
@@ -59,18 +59,37 @@ module _ (law : MemoryLaw) (live : Lives) (procs : List WordProc) (n : ℕ) (s :
     first_line : Runs live procs 1 (state_at (cw 0) m grow_lines v no_words) (state_at (cw 0) m test_lines v1 no_words)
     first_line = run_constant live procs (cw 0) m test_lines v no_words 3 0
 
-    pub small_none : u.present ≡ None → Small u m v
-    small_none none = record {
-      vars = v1;
-      zero_is = e0;
-      one_is = e1;
-      two_is = e2;
-      three_is = refl;
-      count = 2;
-      few = omega arith;
-      runs = then_runs live procs first_line
-          (run_off live procs (cw 0) m present_lines v1 no_words test.Equal 0 3 0 larger_lines (e0 ∙ ap (λ p. Some (place_of p)) none) refl refl refl);
-    }
+    module _ (none : u.present ≡ None) where
+      abbrev n2 : List WordInstr
+      n2 = Branch test.Unequal 2 3 0 ∷ Return 0 ∷ larger_lines
+
+      abbrev n3 : List WordInstr
+      n3 = Return 0 ∷ larger_lines
+
+      to_none : Runs live procs 3 (state_at (cw 0) m grow_lines v no_words) (state_at (cw 0) m n2 v1 no_words)
+      to_none =
+          then_runs live procs first_line (then_runs live procs
+          (run_off live procs (cw 0) m present_lines v1 no_words test.Equal 0 3 2 none_lines (e0 ∙ ap (λ p. Some (place_of p)) none) refl refl refl)
+          (run_label live procs (cw 0) m n2 v1 no_words 2))
+
+      pub small_none : (u.wanted ≡ 0 → ⊥) → Small u m v
+      small_none some = record {
+        vars = v1;
+        zero_is = e0;
+        one_is = e1;
+        two_is = e2;
+        three_is = refl;
+        count = 4;
+        few = omega arith;
+        runs = then_runs live procs to_none
+            (run_off live procs (cw 0) m n3 v1 no_words test.Unequal 2 3 0 larger_lines e2 refl (ap not (ne_eqb u.wanted 0 some)) refl);
+      }
+
+      pub stays_none : u.wanted ≡ 0 → Runs live procs 5 (state_at (cw 0) m grow_lines v no_words) (goes_on s to 0 rest m s.input)
+      stays_none zero_wanted =
+          then_runs live procs to_none (then_runs live procs
+          (run_past live procs (cw 0) m n3 v1 no_words test.Unequal 2 3 0 e2 refl (ap not (eq-eqb u.wanted 0 zero_wanted)))
+          (returns_awaiting live procs s to rest 0 larger_lines grow_proc refl m v1 0 0 (e0 ∙ ap (λ p. Some (place_of p)) none)))
 
     module _ (o : Owned) (some : u.present ≡ Some o) (stood : u.stands o.identity ≡ Some o.block) (kind : o.block.kind ≡ CONTENTS_KIND)
         (word : o.block.word ≡ 0) where
@@ -84,7 +103,7 @@ module _ (law : MemoryLaw) (live : Lives) (procs : List WordProc) (n : ℕ) (s :
       zero_is = e0 ∙ ap (λ p. Some (place_of p)) some
 
       abbrev k9 : List WordInstr
-      k9 = Return 0 ∷ larger_lines
+      k9 = Return 0 ∷ none_lines
 
       abbrev k8 : List WordInstr
       k8 = Branch test.Below 5 2 0 ∷ k9
@@ -143,7 +162,7 @@ module _ (law : MemoryLaw) (live : Lives) (procs : List WordProc) (n : ℕ) (s :
           let size : w6 5 ≡ Some (size_at o.block.class)
           = ap (λ x. Some (x % 2 ^ 32)) (size_shifted o.block.class (omega (arith, z))) ∙ got (size_at o.block.class) (omega (arith, most)) in
           let r2 : Runs live procs 1 (state_at (cw 0) m test_lines v1 no_words) (state_at (cw 0) m present_lines v1 no_words)
-          = run_past live procs (cw 0) m present_lines v1 no_words test.Equal 0 3 0 zero_is refl past in
+          = run_past live procs (cw 0) m present_lines v1 no_words test.Equal 0 3 2 zero_is refl past in
           let r3 : Runs live procs 1 (state_at (cw 0) m present_lines v1 no_words) (state_at (cw 0) m k3 w2 no_words)
           = run_sum live procs (cw 0) m k3 v1 no_words 4 0 HEADER_LESS zero_is in
           let r4 : Runs live procs 1 (state_at (cw 0) m k3 w2 no_words) (state_at (cw 0) m k4 w3 no_words)
@@ -177,4 +196,4 @@ module _ (law : MemoryLaw) (live : Lives) (procs : List WordProc) (n : ℕ) (s :
       stays enough =
           then_runs live procs to_test (then_runs live procs
           (run_past live procs (cw 0) m k9 w7 no_words test.Below 5 2 0 room_is e2 (le-ltb (length o.block.payload) u.wanted enough))
-          (returns_awaiting live procs s to rest 0 larger_lines grow_proc refl m w7 0 o.block.place zero_is))
+          (returns_awaiting live procs s to rest 0 none_lines grow_proc refl m w7 0 o.block.place zero_is))

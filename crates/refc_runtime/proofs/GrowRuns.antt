@@ -1,8 +1,8 @@
 -- What the routine does by which texts and sequences grow.
 use Rattle.std.proofs.Common.{◌≡◌, ◌≢◌, ℕ, ◌+◌, ◌*◌, ◌^◌, ◌<◌, ◌≤◌, inl, inr, List, [], ◌∷◌, length, take, Option, Some, None}
-use Rattle.std.proofs.Common.{Bool, true, false, refl, sym, ap, subst, ◌∙◌, arith}
+use Rattle.std.proofs.Common.{Bool, true, false, refl, sym, ap, subst, ◌∙◌, ⊎_elim, arith}
 use Rattle.std.specs.Prelude.{◌||◌, ◌==◌, if◌then◌else◌}
-use Rattle.std.proofs.lemmas.Bool.{leb-true, leb-false, ne_eqb, cases_Bool}
+use Rattle.std.proofs.lemmas.Bool.{leb-true, leb-false, le-leb, lt-leb, ne_eqb, cases_Bool, cases_eq}
 use Rattle.std.proofs.lemmas.Option.{none-some}
 use Rattle.arc_base.specs.Event.{Event, writes}
 use Rattle.arc_base.specs.declared.outside.Stream.TheVariants.{Err}
@@ -21,18 +21,18 @@ use Rattle.word_code.proofs.ForCallers.{MemoryLaw, Sized, sizes_same, AlwaysStep
 use Rattle.word_code.proofs.ForCallers.{run_argument, run_past, run_off, got}
 use Rattle.refc_runtime.specs.declared.heap.TheConstants.{TAKE, GIVE, CLASS, CONTENTS_KIND, TAKE_LINES, NEXT_LINES, GIVE_LINES}
 use Rattle.refc_runtime.specs.declared.heap.TheConstants.{CLASS_LINES, FURTHER_LINES}
-use Rattle.refc_runtime.specs.declared.texts.TheConstants.{MOVE, GROW, GROW_LINES, MOVE_START, MOVE_BYTE}
+use Rattle.refc_runtime.specs.declared.texts.TheConstants.{MOVE, GROW, GROW_LINES, KEPT_LINES, MOVE_START, MOVE_BYTE}
 use Rattle.refc_runtime.specs.HeapState.{Standing, Stands, with_block, IsHeap}
 use Rattle.refc_runtime.specs.HeapUse.{IsThere}
 use Rattle.refc_runtime.specs.HeapRoutines.{class_word, class_of, fits, has_free, IsTaken, Leaves, IsBesideHeap, takes, gives_back, finds_class, IsKeptThere}
 use Rattle.refc_runtime.specs.TextRoutines.{AreBytes, moves_bytes}
 use Rattle.refc_runtime.specs.GrowRoutine.{classes_then, stands_then, kept_of, Owned, Growing, taking, place_of, holds_it, may_grow, IsPresent, MayGrow}
-use Rattle.refc_runtime.specs.GrowRoutine.{IsGrown, GrowLeaves, GrowGives, grows}
+use Rattle.refc_runtime.specs.GrowRoutine.{IsGrown, GrowLeaves, GrowGives, grow_work, grows}
 use Rattle.refc_runtime.specs.TextCode.{grown_lines, larger_lines, grow_lines}
 use Rattle.refc_runtime.proofs.BlockLists.{if_same, if_other}
 use Rattle.refc_runtime.proofs.Calls.{later, within, inside, enters, from_call, stops_call, returns_awaiting}
 use Rattle.refc_runtime.proofs.HeapUses.{is_there}
-use Rattle.refc_runtime.proofs.GrowHead.{grow_proc, Small, small_none, small_some, stays}
+use Rattle.refc_runtime.proofs.GrowHead.{grow_proc, Small, small_none, small_some, stays, stays_none}
 use Rattle.refc_runtime.proofs.GrowFacts.{class_few, class_holds, same_stands, beside_more, copying, kept_long, may_copy, new_payload, new_long, heap_then}
 use Rattle.refc_runtime.proofs.GrowFacts.{new_front, rest_then}
 
@@ -446,7 +446,7 @@ module _ (law : MemoryLaw) (live : Lives) (procs : List WordProc) (n : ℕ) (tak
     abbrev Outcome : Type 0
     Outcome = Comes live procs (grows own) u s to rest (if may_grow u then None else Some 1)
 
-    comes : (count place : ℕ) (other : Memory) → may_grow u ≡ true → count ≤ GROW_LINES + (FURTHER_LINES * class_of u.wanted + MOVE_BYTE * u.kept)
+    comes : (count place : ℕ) (other : Memory) → may_grow u ≡ true → count ≤ grow_work u
         → GrowLeaves (holds_it u.present u.wanted) (fits (taking u)) own s.memory other → GrowGives (holds_it u.present u.wanted) own u other place
         → Runs live procs count start (goes_on s to place rest other s.input) → Outcome
     comes count place other does few left given runs =
@@ -463,16 +463,25 @@ module _ (law : MemoryLaw) (live : Lives) (procs : List WordProc) (n : ℕ) (tak
         } in
         subst (λ b. Comes live procs (grows own) u s to rest (if b then None else Some 1)) (sym does) back
 
+    abbrev work_of : Bool → ℕ
+    work_of b = if b then KEPT_LINES else GROW_LINES + (FURTHER_LINES * class_of u.wanted + MOVE_BYTE * u.kept)
+
+    -- what there is is enough
+    kept_so : (count : ℕ) → holds_it u.present u.wanted ≡ true → count ≤ 10
+        → Runs live procs count (state_at (cw 0) s.memory grow_lines v0 no_words) (goes_on s to (place_of u.present) rest s.memory s.input) → Outcome
+    kept_so count it few runs =
+        let work : work_of (holds_it u.present u.wanted) ≡ KEPT_LINES = ap work_of it in
+        comes (1 + count) (place_of u.present) s.memory (ap (λ b. b || fits (taking u)) it) (omega (arith, work, few))
+        (subst (λ b. GrowLeaves b (fits (taking u)) own s.memory s.memory) (sym it) refl)
+        (subst (λ b. GrowGives b own u s.memory (place_of u.present)) (sym it) refl) (then_runs live procs called runs)
+
     -- the present block is enough
     enough : (o : Owned) → u.present ≡ Some o → IsPresent u.stands u.kept (Some o) → holds_it (Some o) u.wanted ≡ true → Outcome
     enough o some present big =
-        let it : holds_it u.present u.wanted ≡ true = ap (λ p. holds_it p u.wanted) some ∙ big in
-        let runs = stays law live procs n s to rest u s.memory sized may v0 calling.given.0 calling.given.1.0 calling.given.1.1.0 o some present.0 present.1
-        present.2
-        (leb-true u.wanted (length o.block.payload) big) in
-        comes 11 o.block.place s.memory (ap (λ b. b || fits (taking u)) it) (omega arith)
-        (subst (λ b. GrowLeaves b (fits (taking u)) own s.memory s.memory) (sym it) refl)
-        (subst (λ b. GrowGives b own u s.memory o.block.place) (sym it) (ap place_of (sym some))) (then_runs live procs called runs)
+        kept_so 10 (ap (λ p. holds_it p u.wanted) some ∙ big) (omega arith)
+        (subst (λ p. Runs live procs 10 (state_at (cw 0) s.memory grow_lines v0 no_words) (goes_on s to p rest s.memory s.input)) (ap place_of (sym some))
+        (stays law live procs n s to rest u s.memory sized may v0 calling.given.0 calling.given.1.0 calling.given.1.1.0 o some present.0 present.1 present.2
+        (leb-true u.wanted (length o.block.payload) big)))
 
     -- it isn't
     too_small : holds_it u.present u.wanted ≡ false → Small law live procs n s to rest u s.memory v0 → Outcome
@@ -481,7 +490,8 @@ module _ (law : MemoryLaw) (live : Lives) (procs : List WordProc) (n : ℕ) (tak
           let y = is_larger u s.memory sized may x.vars x.zero_is x.one_is x.two_is x.three_is does it in
           let few = x.few in
           let few1 = y.few in
-          comes (1 + (x.count + y.count)) y.place y.other (ap (λ b. b || fits (taking u)) it ∙ does) (omega (arith, few, few1))
+          let work : work_of (holds_it u.present u.wanted) ≡ GROW_LINES + (FURTHER_LINES * class_of u.wanted + MOVE_BYTE * u.kept) = ap work_of it in
+          comes (1 + (x.count + y.count)) y.place y.other (ap (λ b. b || fits (taking u)) it ∙ does) (omega (arith, few, few1, work))
           (subst (λ b. GrowLeaves b (fits (taking u)) own s.memory y.other) (sym it)
           (subst (λ b. GrowLeaves false b own s.memory y.other) (sym does) y.rest_same))
           (subst (λ b. GrowGives b own u y.other y.place) (sym it) y.is) (then_runs live procs called (then_runs live procs x.runs y.runs))
@@ -490,14 +500,15 @@ module _ (law : MemoryLaw) (live : Lives) (procs : List WordProc) (n : ℕ) (tak
           let few = x.few in
           let few1 = y.few in
           let none : may_grow u ≡ false = ap (λ b. b || fits (taking u)) it ∙ out in
-          let most : ℕ = GROW_LINES + (FURTHER_LINES * class_of u.wanted + MOVE_BYTE * u.kept) in
+          let work : work_of (holds_it u.present u.wanted) ≡ GROW_LINES + (FURTHER_LINES * class_of u.wanted + MOVE_BYTE * u.kept) = ap work_of it in
+          let most : ℕ = grow_work u in
           let front : Runs live procs (1 + x.count) start (state_at (cw 0) s.memory larger_lines x.vars no_words) = then_runs live procs called x.runs in
           let stops : AlwaysStops (step live procs) start (writes Err (trap_line OutOfMemory)) (1 + x.count + y.count) 1 (live (as_state s.memory))
           = stops_on (step live procs) (1 + x.count) (1 + x.count) y.count 1 start (state_at (cw 0) s.memory larger_lines x.vars no_words) []
           (writes Err (trap_line OutOfMemory)) (live (as_state s.memory)) front y.stops in
           let shown : AlwaysStops (step live procs) start (if may_grow u then [] else writes Err (trap_line OutOfMemory)) most 1 (live (as_state s.memory))
           = subst (λ b. AlwaysStops (step live procs) start (if b then [] else writes Err (trap_line OutOfMemory)) most 1 (live (as_state s.memory))) (sym none)
-          (stops_within (1 + x.count + y.count) most (omega (arith, few, few1)) stops) in
+          (stops_within (1 + x.count + y.count) most (omega (arith, few, few1, work)) stops) in
           let ended : EndsProgram live procs (grows own) u s 1 = record {
             memory = s.memory;
             leaves = subst (λ b. GrowLeaves b (fits (taking u)) own s.memory s.memory) (sym it)
@@ -516,9 +527,15 @@ module _ (law : MemoryLaw) (live : Lives) (procs : List WordProc) (n : ℕ) (tak
             record { work = y.work; within = omega (arith, w, less); by = y.by }
 
     by_present : (p : Option Owned) → u.present ≡ p → IsPresent u.stands u.kept p → Outcome
-    by_present None is present =
-        too_small (ap (λ p. holds_it p u.wanted) is)
-        (small_none law live procs n s to rest u s.memory sized may v0 calling.given.0 calling.given.1.0 calling.given.1.1.0 is)
+    by_present None is present = ⊎_elim
+        (λ zero_wanted.
+        kept_so 5 (ap (λ p. holds_it p u.wanted) is ∙ le-leb u.wanted 0 (omega (arith, zero_wanted))) (omega arith)
+        (subst (λ p. Runs live procs 5 (state_at (cw 0) s.memory grow_lines v0 no_words) (goes_on s to p rest s.memory s.input)) (ap place_of (sym is))
+        (stays_none law live procs n s to rest u s.memory sized may v0 calling.given.0 calling.given.1.0 calling.given.1.1.0 is zero_wanted)))
+        (λ some.
+        too_small (ap (λ p. holds_it p u.wanted) is ∙ lt-leb u.wanted 0 (omega (arith, some)))
+        (small_none law live procs n s to rest u s.memory sized may v0 calling.given.0 calling.given.1.0 calling.given.1.1.0 is some))
+        (cases_eq u.wanted 0)
     by_present (Some o) is present = elim (cases_Bool (holds_it (Some o) u.wanted)) [
       | inl big ↦ enough o is present big
       | inr small ↦

@@ -1,7 +1,7 @@
 -- The code of the heap's routines is a runtime of the heap.
 use Rattle.std.proofs.Common.{◌≡◌, ℕ, zero, suc, ◌+◌, ◌-◌, ◌*◌, ◌%◌, ◌<◌, ◌≤◌, List, [], ◌∷◌, ◌++◌, length, take, drop, replicate, Some, Ok, Err, false}
 use Rattle.std.proofs.Common.{Bool, true, refl, sym, ap, subst, ◌∙◌, arith, length-append, eq-eqb}
-use Rattle.std.specs.Prelude.{◌==◌, if◌then◌else◌}
+use Rattle.std.specs.Prelude.{◌==◌, nat_lt, if◌then◌else◌}
 use Rattle.std.proofs.lemmas.Bool.{cond-true}
 use Rattle.std.proofs.lemmas.List.{length-replicate}
 use Rattle.std.proofs.lemmas.Option.{none-some}
@@ -20,26 +20,37 @@ use Rattle.word_code.specs.declared.routine.TheConstants.{PROCS_FROM, ROUTINE_VA
 use Rattle.word_code.specs.declared.word.WordInstr.{WordInstr}
 use Rattle.word_code.specs.declared.word.WordProc.{WordProc}
 use Rattle.word_code.specs.declared.word.WordCode.{WordCode}
-use Rattle.word_code.specs.Memory.{Memory, number_at, bytes_at}
-use Rattle.word_code.specs.Words.{is_counted, most_called, from_proc, start}
+use Rattle.word_code.specs.Memory.{Memory, number_at, bytes_at, own_data_at}
+use Rattle.word_code.specs.Words.{is_counted, most_called, start}
 use Rattle.word_code.specs.RoutineTable.{trap_line}
-use Rattle.word_code.specs.Joined.{all_moved, joined, AreApart}
-use Rattle.word_code.specs.Runtime.{IsRoutine, routines_at}
-use Rattle.word_code.proofs.ForCallers.{MemoryLaw, Sized, found_last, free_of}
+use Rattle.word_code.specs.Joined.{joined}
+use Rattle.word_code.specs.Runtime.{IsRoutine}
+use Rattle.word_code.proofs.ForCallers.{MemoryLaw, Sized}
 use Rattle.refc_runtime.specs.declared.heap.TheConstants.{TAKE, GIVE, CLASS, HEAP_WORD_BYTES}
-use Rattle.refc_runtime.specs.Code.{routine}
+use Rattle.refc_runtime.specs.Code.{routine, digits_lines}
 use Rattle.refc_runtime.specs.HeapBlocks.{size_at}
 use Rattle.refc_runtime.specs.HeapState.{none_stands, AreCounted, AreKept, IsHeap}
 use Rattle.refc_runtime.specs.declared.texts.TheConstants.{MOVE, GROW, ORDER}
+use Rattle.refc_runtime.specs.declared.lines.TheConstants.{RELEASE, APPEND, RESIZE, DIGITS}
 use Rattle.refc_runtime.specs.HeapRoutines.{IsKeptThere}
 use Rattle.refc_runtime.specs.TextCode.{move_lines, grow_lines, order_lines}
-use Rattle.refc_runtime.specs.HeapRuntime.{HeapRoutineName, Takes, GivesBack, FindsClass, MovesBytes, Grows, Orders, heap_routine, IsHeapRuntime}
+use Rattle.refc_runtime.specs.LineCode.{release_lines, append_lines, resize_lines}
+use Rattle.refc_runtime.specs.LineRoutine.{reads_line, IsKeptOn}
+use Rattle.refc_runtime.specs.InputCode.{read_lines}
+use Rattle.refc_runtime.specs.declared.input.TheConstants.{READ_LINE}
+use Rattle.refc_runtime.specs.HeapRuntime.{HeapRoutineName, Takes, GivesBack, FindsClass, MovesBytes, Grows, Orders, Releases, Appends, Resizes, Spells}
+use Rattle.refc_runtime.specs.HeapRuntime.{heap_routine, IsHeapRuntime}
 use Rattle.refc_runtime.specs.HeapCode.{take_lines, give_lines, class_lines, heap_routines, heap_statics}
 use Rattle.refc_runtime.proofs.Ranges.{data_part}
 use Rattle.refc_runtime.proofs.HeapKept.{take_kept, give_kept, class_kept}
 use Rattle.refc_runtime.proofs.MoveRuns.{move_kept}
 use Rattle.refc_runtime.proofs.GrowRuns.{grow_comes}
+use Rattle.refc_runtime.proofs.NumberKept.{digits_kept}
 use Rattle.refc_runtime.proofs.OrderRuns.{order_kept}
+use Rattle.refc_runtime.proofs.ReleaseRuns.{release_comes}
+use Rattle.refc_runtime.proofs.ReadKept.{read_kept}
+use Rattle.refc_runtime.proofs.AppendRuns.{append_comes}
+use Rattle.refc_runtime.proofs.ResizeRuns.{resize_comes}
 
 -- ---- no block was taken
 
@@ -120,50 +131,55 @@ line_there =
 abbrev code : WordCode
 code = record { procs = heap_routines; statics = heap_statics }
 
-module _ (program : WordCode) (heap stack : ℕ) (input : List ℕ) (whole : length program.statics % 4 ≡ 0) where
+module _ (others : WordCode) (heap stack : ℕ) (input : List ℕ) where
   -- memory at the start
   abbrev first : Memory
   first = record {
-    statics = word_bytes heap ++ (word_bytes stack ++ (program.statics ++ heap_statics));
+    statics = word_bytes heap ++ (word_bytes stack ++ (heap_statics ++ others.statics));
     heap = replicate heap 0;
-    places = (start (joined program code) heap stack input).memory.places;
+    places = (start (joined code others) heap stack input).memory.places;
   }
 
-  first_is : first ≡ (start (joined program code) heap stack input).memory
+  first_is : first ≡ (start (joined code others) heap stack input).memory
   unfolding start
   first_is = refl
 
   module _ (sized : Sized first) where
-    abbrev at : ℕ
-    at = routines_at program
-
-    all_long : length first.statics ≡ 8 + (length program.statics + 116)
+    all_long : length first.statics ≡ 8 + (116 + length others.statics)
     all_long =
         let a = length-word_bytes heap in
         let b = length-word_bytes stack in
         let c = statics_long in
-        length-append (word_bytes heap) (word_bytes stack ++ (program.statics ++ heap_statics))
-        ∙ ap (λ k. length (word_bytes heap) + k) (length-append (word_bytes stack) (program.statics ++ heap_statics)
-        ∙ ap (λ k. length (word_bytes stack) + k) (length-append program.statics heap_statics))
+        length-append (word_bytes heap) (word_bytes stack ++ (heap_statics ++ others.statics))
+        ∙ ap (λ k. length (word_bytes heap) + k) (length-append (word_bytes stack) (heap_statics ++ others.statics)
+        ∙ ap (λ k. length (word_bytes stack) + k) (length-append heap_statics others.statics))
         ∙ omega (arith, a, b, c)
 
     -- bytes of the routines' data
-    own_bytes : (i k : ℕ) → i + k ≤ 116 → bytes_at first (at + i) k ≡ Some (take k (drop i heap_statics))
+    own_bytes : (i k : ℕ) → i + k ≤ 116 → bytes_at first (own_data_at + i) k ≡ Some (take k (drop i heap_statics))
     own_bytes i k few =
         let a = length-word_bytes heap in
         let b = length-word_bytes stack in
         let l = all_long in
-        let e : at + i - statics_at ≡ length (word_bytes heap) + (length (word_bytes stack) + (length program.statics + i)) = omega (arith, a, b) in
-        data_part first sized (at + i) k (omega arith) (omega (arith, l, few))
+        let c = statics_long in
+        let e : own_data_at + i - statics_at ≡ length (word_bytes heap) + (length (word_bytes stack) + i) = omega (arith, a, b) in
+        data_part first sized (own_data_at + i) k (omega arith) (omega (arith, l, few))
         ∙ ap (λ j. Some (take k (drop j first.statics))) e
-        ∙ ap (λ z. Some (take k z)) (drop-append-add (word_bytes heap) (word_bytes stack ++ (program.statics ++ heap_statics))
-        (length (word_bytes stack) + (length program.statics + i))
-        ∙ drop-append-add (word_bytes stack) (program.statics ++ heap_statics) (length program.statics + i)
-        ∙ drop-append-add program.statics heap_statics i)
+        ∙ ap (λ z. Some (take k z)) (drop-append-add (word_bytes heap) (word_bytes stack ++ (heap_statics ++ others.statics)) (length (word_bytes stack) + i)
+        ∙ drop-append-add (word_bytes stack) (heap_statics ++ others.statics) i)
+        ∙ ap Some (front i k heap_statics others.statics (omega (arith, few, c)))
+      where
+        front : (i k : ℕ) (xs ys : List ℕ) → i + k ≤ length xs → take k (drop i (xs ++ ys)) ≡ take k (drop i xs)
+        front zero zero xs ys few = refl
+        front zero (suc k) [] ys few = absurd (omega (arith, few))
+        front zero (suc k) (x ∷ xs) ys few = ap (λ l. x ∷ l) (front zero k xs ys (omega (arith, few)))
+        front (suc i) k [] ys few = absurd (omega (arith, few))
+        front (suc i) k (x ∷ xs) ys few = front i k xs ys (omega (arith, few))
 
-    own_word : (i : ℕ) → i % 4 ≡ 0 → i + 4 ≤ 116 → number_at first (at + i) Word ≡ Ok (little (take 4 (drop i heap_statics)))
+    own_word : (i : ℕ) → i % 4 ≡ 0 → i + 4 ≤ 116 → number_at first (own_data_at + i) Word ≡ Ok (little (take 4 (drop i heap_statics)))
     own_word i aligned few =
-        cond-true ((at + i) % 4 == 0) (number_of (bytes_at first (at + i) 4)) (Err Misaligned) (eq-eqb ((at + i) % 4) 0 (omega (arith, whole, aligned)))
+        cond-true ((own_data_at + i) % 4 == 0) (number_of (bytes_at first (own_data_at + i) 4)) (Err Misaligned)
+        (eq-eqb ((own_data_at + i) % 4) 0 (omega (arith, aligned)))
         ∙ ap number_of (own_bytes i 4 few)
 
     room_word : number_at first statics_at Word ≡ Ok heap
@@ -172,13 +188,12 @@ module _ (program : WordCode) (heap stack : ℕ) (input : List ℕ) (whole : len
         let r : heap ≤ 16777216 = (let h = sized.heap_most in let e = length-replicate {A = ℕ} heap 0 in omega (arith, h, e)) in
         ap number_of (data_part first sized statics_at 4 (omega arith) (omega (arith, l)))
         ∙ ap (λ i. Ok (little (take i first.statics))) (sym (length-word_bytes heap))
-        ∙ ap (λ z. Ok (little z)) (take-append_seam (word_bytes heap) (word_bytes stack ++ (program.statics ++ heap_statics)))
+        ∙ ap (λ z. Ok (little z)) (take-append_seam (word_bytes heap) (word_bytes stack ++ (heap_statics ++ others.statics)))
         ∙ ap Ok (little-word_bytes heap (omega (arith, r)))
 
-    starts_so : IsHeap at (heap_of heap).classes none_stands first
+    starts_so : IsHeap own_data_at (heap_of heap).classes none_stands first
     starts_so =
         let l = all_long in
-        let front : at ≡ at + 0 = omega arith in
         record {
           blocks = [];
           frees = λ c. [];
@@ -187,13 +202,13 @@ module _ (program : WordCode) (heap stack : ℕ) (input : List ℕ) (whole : len
           none = refl;
           bytes = refl;
           words = record {
-            whole = omega (arith, whole);
+            whole = refl;
             low = omega arith;
             high = omega (arith, l);
             line = own_bytes HEAP_WORD_BYTES (length line) (omega arith) ∙ ap Some line_there;
           };
           room = room_word ∙ ap Ok (sym (length-replicate {A = ℕ} heap 0));
-          next = ap (λ a. number_at first a Word) front ∙ own_word 0 refl (omega arith) ∙ ap Ok (next_word ∙ omega arith);
+          next = own_word 0 refl (omega arith) ∙ ap Ok (next_word ∙ omega arith);
           heads = λ c known. own_word (4 * suc c) (omega arith) (omega (arith, known)) ∙ ap Ok (head_word c known);
         }
 
@@ -204,61 +219,58 @@ is_routine : (number params vars : ℕ) (lines : List WordInstr) → 0 < number 
 is_routine number params vars lines some last few =
     record { first = some; last = last; kind = refl; whole_data = refl; small = record { room = omega arith; variables = few } }
 
--- but for one they call nothing
+-- what calls nothing, what calls that, and what calls both
 abbrev rank : ℕ → ℕ
-rank number = if number == GROW then 2 else 1
+rank number = if nat_lt number GROW then 1 else if nat_lt number APPEND then 2 else 3
 
-calls_nothing : (p : WordProc) → most_called rank p.lines ≡ 0 → rank p.number ≡ 1 → is_counted p.kind ≡ false
+calls_nothing : (p : WordProc) → most_called rank p.lines ≡ 0 → 1 ≤ rank p.number → is_counted p.kind ≡ false
     → suc (most_called rank p.lines) ≤ rank p.number
 calls_nothing p e r f = omega (arith, e, r)
 
-rank_most : (number : ℕ) → rank number ≤ 2
-rank_most number = by (number == GROW)
+rank_most : (number : ℕ) → rank number ≤ 3
+rank_most number = by (nat_lt number GROW) (nat_lt number APPEND)
   where
-    by : (b : Bool) → (if b then 2 else 1) ≤ 2
-    by true = omega arith
-    by false = omega arith
+    by : (b d : Bool) → (if b then 1 else if d then 2 else 3) ≤ 3
+    by true d = omega arith
+    by false true = omega arith
+    by false false = omega arith
 
--- ---- behind the procedures of a program
+-- ---- in front of other procedures
 
-module _ (law : MemoryLaw) (live : Lives) (program : WordCode) (apart : AreApart program.procs heap_routines) where
-  abbrev later_by : ℕ
-  later_by = length program.statics
-
+module _ (law : MemoryLaw) (live : Lives) (others : WordCode) where
   abbrev procs : List WordProc
-  procs = (joined program code).procs
+  procs = (joined code others).procs
 
-  behind : (p : WordProc) (tail : List WordProc) → from_proc p.number heap_routines ≡ p ∷ tail
-      → from_proc p.number procs ≡ from_proc p.number (all_moved later_by heap_routines)
-  behind p tail e = found_last p.number program.procs (all_moved later_by heap_routines) (free_of p.number program.procs heap_routines p tail e apart)
+  takes_there : IsKeptThere live procs (heap_routine own_data_at Takes)
+  takes_there = take_kept law live procs 0 _ refl
 
-  abbrev at_end : ℕ
-  at_end = routines_at program
+  gives_there : IsKeptThere live procs (heap_routine own_data_at GivesBack)
+  gives_there = give_kept law live procs 0 _ refl
 
-  takes_there : IsKeptThere live procs (heap_routine at_end Takes)
-  takes_there = take_kept law live procs later_by _ (behind (routine TAKE 1 6 take_lines) _ refl)
+  finds_there : IsKeptThere live procs (heap_routine own_data_at FindsClass)
+  finds_there = class_kept law live procs 0 _ refl
 
-  gives_there : IsKeptThere live procs (heap_routine at_end GivesBack)
-  gives_there = give_kept law live procs later_by _ (behind (routine GIVE 1 6 give_lines) _ refl)
+  moves_there : IsKeptThere live procs (heap_routine own_data_at MovesBytes)
+  moves_there = move_kept law live procs 0 _ refl
 
-  finds_there : IsKeptThere live procs (heap_routine at_end FindsClass)
-  finds_there = class_kept law live procs later_by _ (behind (routine CLASS 1 4 class_lines) _ refl)
-
-  moves_there : IsKeptThere live procs (heap_routine at_end MovesBytes)
-  moves_there = move_kept law live procs later_by _ (behind (routine MOVE 3 7 move_lines) _ refl)
-
-  grows_there : IsKeptThere live procs (heap_routine at_end Grows)
+  grows_there : IsKeptThere live procs (heap_routine own_data_at Grows)
   grows_there u s to rest calling sized may =
-      grow_comes law live procs later_by takes_there gives_there finds_there moves_there s to rest u _ (behind (routine GROW 3 6 grow_lines) _ refl) calling
-      sized may
+      grow_comes law live procs 0 takes_there gives_there finds_there moves_there s to rest u _ refl calling sized may
 
-  all_kept : (name : HeapRoutineName) → IsKeptThere live procs (heap_routine at_end name)
+  all_kept : (name : HeapRoutineName) → IsKeptThere live procs (heap_routine own_data_at name)
   all_kept Takes = takes_there
   all_kept GivesBack = gives_there
   all_kept FindsClass = finds_there
   all_kept MovesBytes = moves_there
   all_kept Grows = grows_there
-  all_kept Orders = order_kept live procs later_by _ (behind (routine ORDER 4 8 order_lines) _ refl)
+  all_kept Orders = order_kept live procs 0 _ refl
+  all_kept Releases = λ u s to rest calling sized may. release_comes live procs 0 gives_there u s to rest _ refl calling sized may
+  all_kept Appends = λ u s to rest calling sized may. append_comes law live procs 0 grows_there moves_there u s to rest _ refl calling sized may
+  all_kept Resizes = λ u s to rest calling sized may. resize_comes law live procs 0 grows_there u s to rest _ refl calling sized may
+  all_kept Spells = digits_kept law live procs 0 _ refl
+
+  reads_there : (input : List ℕ) → IsKeptOn live procs input (reads_line own_data_at input)
+  reads_there input = read_kept law live procs 0 grows_there _ refl input
 
 is_heap_runtime : MemoryLaw → IsHeapRuntime code
 is_heap_runtime law = record {
@@ -273,7 +285,25 @@ is_heap_runtime law = record {
           is_routine MOVE 3 7 move_lines (omega arith) (omega arith) (omega arith),
           (
             is_routine GROW 3 6 grow_lines (omega arith) (omega arith) (omega arith),
-            (is_routine ORDER 4 8 order_lines (omega arith) (omega arith) (omega arith), tt),
+            (
+              is_routine ORDER 4 8 order_lines (omega arith) (omega arith) (omega arith),
+              (
+                is_routine RELEASE 1 2 release_lines (omega arith) (omega arith) (omega arith),
+                (
+                  is_routine APPEND 4 6 append_lines (omega arith) (omega arith) (omega arith),
+                  (
+                    is_routine RESIZE 3 7 resize_lines (omega arith) (omega arith) (omega arith),
+                    (
+                      is_routine DIGITS 2 7 digits_lines (omega arith) (omega arith) (omega arith),
+                      (
+                        is_routine READ_LINE 1 9 read_lines (omega arith) (omega arith) (omega arith),
+                        tt,
+                      ),
+                    ),
+                  ),
+                ),
+              ),
+            ),
           ),
         ),
       ),
@@ -281,12 +311,36 @@ is_heap_runtime law = record {
   );
   rank = rank;
   ranked = (
-    calls_nothing (routine TAKE 1 6 take_lines) refl refl,
+    calls_nothing (routine TAKE 1 6 take_lines) refl (omega arith),
     (
-      calls_nothing (routine GIVE 1 6 give_lines) refl refl,
+      calls_nothing (routine GIVE 1 6 give_lines) refl (omega arith),
       (
-        calls_nothing (routine CLASS 1 4 class_lines) refl refl,
-        (calls_nothing (routine MOVE 3 7 move_lines) refl refl, (λ uncounted. omega arith, (calls_nothing (routine ORDER 4 8 order_lines) refl refl, tt))),
+        calls_nothing (routine CLASS 1 4 class_lines) refl (omega arith),
+        (
+          calls_nothing (routine MOVE 3 7 move_lines) refl (omega arith),
+          (
+            λ uncounted. omega arith,
+            (
+              calls_nothing (routine ORDER 4 8 order_lines) refl (omega arith),
+              (
+                λ uncounted. omega arith,
+                (
+                  λ uncounted. omega arith,
+                  (
+                    λ uncounted. omega arith,
+                    (
+                      calls_nothing (routine DIGITS 2 7 digits_lines) refl (omega arith),
+                      (
+                        λ uncounted. omega arith,
+                        tt,
+                      ),
+                    ),
+                  ),
+                ),
+              ),
+            ),
+          ),
+        ),
       ),
     ),
   );
@@ -294,10 +348,11 @@ is_heap_runtime law = record {
   weight = omega arith;
   whole = ap (λ n. n % 4) statics_long;
   data_most = omega (arith, statics_long);
-  starts = λ program heap stack input whole sized.
-      subst (IsHeap (routines_at program) (heap_of heap).classes none_stands) (first_is program heap stack input whole)
-      (starts_so program heap stack input whole (subst (λ m. Sized m) (sym (first_is program heap stack input whole)) sized));
-  kept = λ live program apart whole name. all_kept law live program apart name;
+  starts = λ others heap stack input sized.
+      subst (IsHeap own_data_at (heap_of heap).classes none_stands) (first_is others heap stack input)
+      (starts_so others heap stack input (subst (λ m. Sized m) (sym (first_is others heap stack input)) sized));
+  kept = λ live others name. all_kept law live others name;
+  reads = λ live others input. reads_there law live others input;
 }
 
 pub heap_runtime_is : MemoryLaw → (all : List WordProc) (bytes : List ℕ) → all ≡ heap_routines → bytes ≡ heap_statics

@@ -10,7 +10,7 @@ mod TrapRuns
 mod SignedWords
 mod NumberLines
 mod NumberTexts
-mod NumberRuns
+mod Spelling
 mod NumberKept
 mod Whole
 mod BlockLists
@@ -31,3 +31,15 @@ mod GrowFacts
 mod GrowHead
 mod GrowRuns
 mod OrderRuns
+mod Coming
+mod Fills
+mod Grew
+mod ByteStores
+mod ReleaseRuns
+mod AppendRuns
+mod ResizeRuns
+mod Inputs
+mod LineTexts
+mod LineStages
+mod LineRuns
+mod ReadKept

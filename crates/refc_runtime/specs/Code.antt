@@ -66,12 +66,13 @@ swap_lines =
     ∷ Return 3
     ∷ []
 
--- Writes the number in variable 0 in decimal. What is left of it, without its sign, is in 1, and the character in 6. A character is put
--- at the address in 2 once it is known what stands before it: another digit, a sign, or nothing.
-abbrev pub number_lines : List WordInstr
-number_lines =
+-- Spells the number in variable 0 in decimal. What is left of it, without its sign, is in 1, and the character in 6. A character is put
+-- at the address in 2 once it is known what stands before it: another digit, a sign, or nothing. The second line says where the last one goes;
+-- behind the first one these lines follow.
+abbrev pub spelling_lines : WordInstr → List WordInstr → List WordInstr
+spelling_lines second lines =
     Constant 5 10
-    ∷ Datum 2 (SCRATCH_BYTES - 1)
+    ∷ second
     ∷ Copy 1 0
     ∷ Sum 6 1 48
     ∷ Branch test.Below 1 5 2
@@ -93,11 +94,16 @@ number_lines =
     ∷ Constant 6 45
     ∷ Label 2
     ∷ Store 2 6 Byte
-    ∷ Datum 3 SCRATCH_BYTES
-    ∷ Compute 3 operation.Subtract 3 2
-    ∷ Write Out 2 3
-    ∷ Return 3
-    ∷ []
+    ∷ lines
+
+-- into the data, from where it is written
+abbrev pub number_lines : List WordInstr
+number_lines =
+    spelling_lines (Datum 2 (SCRATCH_BYTES - 1)) (Datum 3 SCRATCH_BYTES ∷ Compute 3 operation.Subtract 3 2 ∷ Write Out 2 3 ∷ Return 3 ∷ [])
+
+-- to the end of the bytes at the address in 1
+abbrev pub digits_lines : List WordInstr
+digits_lines = spelling_lines (Sum 2 1 (SCRATCH_BYTES - 1)) (Return 2 ∷ [])
 
 -- writes so many bytes of the data to standard error, and exits with status 1
 abbrev pub ending_lines : (at len : ℕ) → List WordInstr

@@ -8,7 +8,7 @@ use Rattle.word_code.specs.Memory.{Memory}
 use Rattle.word_code.specs.RoutineTable.{trap_line}
 use Rattle.word_code.specs.Routines.{Routine}
 use Rattle.refc_runtime.specs.declared.heap.TheConstants.{CONTENTS_KIND, FURTHER_LINES}
-use Rattle.refc_runtime.specs.declared.texts.TheConstants.{GROW, GROW_LINES, MOVE_BYTE}
+use Rattle.refc_runtime.specs.declared.texts.TheConstants.{GROW, GROW_LINES, KEPT_LINES, MOVE_BYTE}
 use Rattle.refc_runtime.specs.HeapState.{Standing, Stands, with_block, without_block, IsHeap}
 use Rattle.refc_runtime.specs.HeapRoutines.{class_of, Taking, fits, IsBesideHeap}
 use Rattle.refc_runtime.specs.TextRoutines.{AreBytes}
@@ -37,10 +37,14 @@ abbrev pub place_of : Option Owned → ℕ
 place_of None = 0
 place_of (Some x) = x.block.place
 
--- the present block has room for so many bytes
+-- for how many bytes it has room
+abbrev pub room_of : Option Owned → ℕ
+room_of None = 0
+room_of (Some x) = length x.block.payload
+
+-- the present block has room for so many bytes; where none are wanted, none has it too
 abbrev pub holds_it : Option Owned → (wanted : ℕ) → Bool
-holds_it None wanted = false
-holds_it (Some x) wanted = nat_le wanted (length x.block.payload)
+holds_it present wanted = nat_le wanted (room_of present)
 
 abbrev pub may_grow : Growing → Bool
 may_grow u = holds_it u.present u.wanted || fits (taking u)
@@ -89,6 +93,11 @@ abbrev pub GrowGives : (enough : Bool) → (at : ℕ) → Growing → Memory →
 GrowGives true at u other place = place ≡ place_of u.present
 GrowGives false at u other place = IsGrown at u other place
 
+-- the lines of it
+abbrev pub grow_work : Growing → ℕ
+grow_work u =
+    if holds_it u.present u.wanted then KEPT_LINES else GROW_LINES + (FURTHER_LINES * class_of u.wanted + MOVE_BYTE * u.kept)
+
 abbrev pub grows : (at : ℕ) → Routine
 grows at = record {
   number = GROW;
@@ -100,5 +109,5 @@ grows at = record {
   leaves = λ u m other. GrowLeaves (holds_it u.present u.wanted) (fits (taking u)) at m other;
   reads = λ u input. input;
   gives = λ u other place. GrowGives (holds_it u.present u.wanted) at u other place;
-  lines = λ u. GROW_LINES + (FURTHER_LINES * class_of u.wanted + MOVE_BYTE * u.kept);
+  lines = λ u. grow_work u;
 }

@@ -13,8 +13,12 @@ use Rattle.word_code.specs.declared.word.WordProc.{WordProc}
 use Rattle.word_code.specs.RoutineTable.{trap_line}
 use Rattle.refc_runtime.specs.declared.heap.TheConstants.{TAKE, GIVE, CLASS, HEAP_WORD_BYTES, HEADER_LESS, KIND_LESS}
 use Rattle.refc_runtime.specs.declared.texts.TheConstants.{MOVE, GROW, ORDER}
-use Rattle.refc_runtime.specs.Code.{routine, ending_lines}
+use Rattle.refc_runtime.specs.declared.lines.TheConstants.{RELEASE, APPEND, RESIZE, DIGITS}
+use Rattle.refc_runtime.specs.declared.input.TheConstants.{READ_LINE}
+use Rattle.refc_runtime.specs.Code.{routine, digits_lines, ending_lines}
 use Rattle.refc_runtime.specs.TextCode.{move_lines, grow_lines, order_lines}
+use Rattle.refc_runtime.specs.LineCode.{release_lines, append_lines, resize_lines}
+use Rattle.refc_runtime.specs.InputCode.{read_lines}
 use Rattle.refc_runtime.specs.HeapRoutines.{class_word}
 
 abbrev pub full_lines : List WordInstr
@@ -110,6 +114,11 @@ heap_routines =
     ∷ routine MOVE 3 7 move_lines
     ∷ routine GROW 3 6 grow_lines
     ∷ routine ORDER 4 8 order_lines
+    ∷ routine RELEASE 1 2 release_lines
+    ∷ routine APPEND 4 6 append_lines
+    ∷ routine RESIZE 3 7 resize_lines
+    ∷ routine DIGITS 2 7 digits_lines
+    ∷ routine READ_LINE 1 9 read_lines
     ∷ []
 
 -- the heap's words, where no block was taken, and the line of the trap, up to a whole number of words

@@ -72,6 +72,10 @@ larger_lines =
     ∷ Call 4 TAKE
     ∷ grown_lines
 
+-- there is no block; where no bytes are wanted there is none then
+abbrev pub none_lines : List WordInstr
+none_lines = Label 2 ∷ Branch test.Unequal 2 3 0 ∷ Return 0 ∷ larger_lines
+
 -- how many bytes the present block, in 0, has room for comes to 5
 abbrev pub present_lines : List WordInstr
 present_lines =
@@ -83,11 +87,11 @@ present_lines =
     ∷ Sum 5 5 HEADER_LESS
     ∷ Branch test.Below 5 2 0
     ∷ Return 0
-    ∷ larger_lines
+    ∷ none_lines
 
 -- Of the payload in 0, which is 0 where there is none, as many bytes are kept as 1 says, and as many are wanted as 2 says.
 abbrev pub grow_lines : List WordInstr
-grow_lines = Constant 3 0 ∷ Branch test.Equal 0 3 0 ∷ present_lines
+grow_lines = Constant 3 0 ∷ Branch test.Equal 0 3 2 ∷ present_lines
 
 -- what the answers are: equal, or the right has more; above; below
 abbrev pub below_lines : List WordInstr

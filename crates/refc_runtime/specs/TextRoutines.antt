@@ -1,9 +1,12 @@
 -- Routines on the bytes of texts: a row for each, with all that it promises.
-use Rattle.std.specs.Prelude.{◌≡◌, ◌<◌, ℕ, ◌+◌, ◌*◌, ◌^◌, List, [], ◌∷◌, length, Some, None, true, ℤ, pos, ◌-ℤ◌, nat_lt, if◌then◌else◌}
+use Rattle.std.specs.Prelude.{◌≡◌, ◌<◌, ℕ, ◌+◌, ◌-◌, ◌*◌, ◌^◌, List, [], ◌∷◌, length, Some, None, true, ℤ, pos, ◌-ℤ◌, nat_lt, if◌then◌else◌}
+use Rattle.std.specs.Fmt.{signed_decimal}
+use Rattle.word_code.specs.declared.routine.TheConstants.{SCRATCH_BYTES, DIGIT_LINES}
 use Rattle.word_code.specs.Memory.{Memory, bytes_at, may_fill}
 use Rattle.word_code.specs.RoutineTable.{Beside, IsRewritten}
 use Rattle.word_code.specs.Routines.{Routine}
 use Rattle.refc_runtime.specs.declared.texts.TheConstants.{MOVE, MOVE_START, MOVE_BYTE, ORDER, ORDER_START, ORDER_BYTE}
+use Rattle.refc_runtime.specs.declared.lines.TheConstants.{DIGITS, DIGITS_LINES}
 use Rattle.rv32_isa.specs.Values.{signed}
 
 abbrev pub AreBytes : List ℕ → Type 0
@@ -42,6 +45,36 @@ moves_bytes = record {
   reads = λ u input. input;
   gives = λ u other word. Unit {0};
   lines = λ u. MOVE_START + MOVE_BYTE * length u.bytes;
+}
+
+-- ---- a number is spelled
+
+-- its word, and so many bytes to whose end its text is to go
+pub record Spelling : Type 0 where
+  pub word : ℕ
+  pub to : ℕ
+
+abbrev pub spelled : Spelling → List ℕ
+spelled u = signed_decimal (signed u.word)
+
+-- The text begins at a place, and ends with those bytes.
+pub record IsSpelled (u : Spelling) (other : Memory) (place : ℕ) : Type 0 where
+  pub are : AreBytes (spelled u)
+  pub ends : place + length (spelled u) ≡ u.to + SCRATCH_BYTES
+  pub there : bytes_at other place (length (spelled u)) ≡ Some (spelled u)
+
+abbrev pub spells : Routine
+spells = record {
+  number = DIGITS;
+  Use = Spelling;
+  takes = λ u. u.word ∷ u.to ∷ [];
+  may = λ u m. (u.word < 2 ^ 32) × (may_fill m u.to SCRATCH_BYTES ≡ true);
+  shows = λ u. [];
+  ends = λ u. None;
+  leaves = λ u m other. IsRewritten m other u.to SCRATCH_BYTES;
+  reads = λ u input. input;
+  gives = λ u other place. IsSpelled u other place;
+  lines = λ u. DIGITS_LINES + DIGIT_LINES * (length (spelled u) - 1);
 }
 
 -- ---- texts are compared

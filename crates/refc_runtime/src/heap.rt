@@ -12,6 +12,8 @@ ghost use Rattle.refc_runtime.specs.HeapCode.{take_lines, give_lines, class_line
 ghost use Rattle.refc_runtime.specs.HeapCode.{heap_routines, heap_statics};
 ghost use Rattle.refc_runtime.specs.HeapRuntime.{IsHeapRuntime};
 
+use crate::input::read_line_routine;
+use crate::lines::{append_routine, digits_routine, release_routine, resize_routine};
 use crate::routines::{branch, compute, constant, datum, load, routine, store, sum_with};
 use crate::texts::{grow_routine, move_routine, order_routine};
 use arc_base::{Bytes, Items, Memory, Stream};
@@ -56,10 +58,10 @@ pub const HEADER_LESS: u32 = 4_294_967_288;
 pub const KIND_LESS: u32 = 4_294_967_168;
 
 /// How many lines and procedures the heap's routines have.
-pub const HEAP_WEIGHT: u32 = 139;
+pub const HEAP_WEIGHT: u32 = 241;
 
 /// How many of their calls may stand in a chain.
-pub const HEAP_CHAIN: u32 = 2;
+pub const HEAP_CHAIN: u32 = 3;
 
 /// How many bytes of data they have.
 pub const HEAP_DATA: u32 = 116;
@@ -187,6 +189,11 @@ fn heap_routines(alloc: Global) -> Result<Items<WordProc>, Memory>
     procs.push(move_routine(alloc)?)?;
     procs.push(grow_routine(alloc)?)?;
     procs.push(order_routine(alloc)?)?;
+    procs.push(release_routine(alloc)?)?;
+    procs.push(append_routine(alloc)?)?;
+    procs.push(resize_routine(alloc)?)?;
+    procs.push(digits_routine(alloc)?)?;
+    procs.push(read_line_routine(alloc)?)?;
     Ok(procs)
 }
 

@@ -1,7 +1,7 @@
 // The routines, each as a procedure of word code.
-ghost use Rattle.std.specs.Prelude.{◌≡◌, ◌∷◌, IfOk, OnOk};
+ghost use Rattle.std.specs.Prelude.{◌≡◌, ◌∷◌, ◌++◌, IfOk, OnOk};
 ghost use Rattle.refc_runtime.specs.Code.{Puts, routine, copy_lines, clear_lines, swap_lines};
-ghost use Rattle.refc_runtime.specs.Code.{number_lines, ending_lines, and_traps, routines};
+ghost use Rattle.refc_runtime.specs.Code.{spelling_lines, number_lines, ending_lines, and_traps, routines};
 
 use arc_base::{Items, Memory, Stream};
 use rv32_isa::Size;
@@ -177,38 +177,76 @@ fn swap_routine(alloc: Global) -> Result<WordProc, Memory>
     )
 }
 
+// The lines of both.
+fn lines_of(
+    alloc: Global,
+    front: &[WordInstr],
+    lines: &[WordInstr],
+) -> Result<Items<WordInstr>, Memory>
+    ensures { IfOk result (λ all. all ≡ front.now ++ lines.now) }
+{
+    let mut all = copied(alloc, front)?;
+    for line in lines {
+        all.push(*line)?;
+    }
+    Ok(all)
+}
+
+/// One that spells a number, with its second line and those behind the text.
+pub fn spelling_routine(
+    alloc: Global,
+    number: u32,
+    params: u32,
+    second: WordInstr,
+    lines: &[WordInstr],
+) -> Result<WordProc, Memory>
+    ensures { IfOk result (λ p. p ≡ routine number params 7 (spelling_lines second lines.now)) }
+{
+    let front = [
+        constant(5, 10),
+        second,
+        WordInstr::Copy { to: 1, from: 0 },
+        sum_with(6, 1, 48),
+        branch(Test::Below, 1, 5, 2),
+        constant(4, 0),
+        branch(Test::AtLeast, 1, 4, 1),
+        compute(1, WordOperation::Subtract, 4, 1),
+        WordInstr::Jump { to: 1 },
+        WordInstr::Label { name: 0 },
+        store(2, 6, Size::Byte),
+        sum_with(2, 2, ONE_LESS),
+        WordInstr::Label { name: 1 },
+        compute(6, WordOperation::RemainderUnsigned, 1, 5),
+        sum_with(6, 6, 48),
+        compute(1, WordOperation::DivideUnsigned, 1, 5),
+        branch(Test::Unequal, 1, 4, 0),
+        branch(Test::AtLeast, 0, 4, 2),
+        store(2, 6, Size::Byte),
+        sum_with(2, 2, ONE_LESS),
+        constant(6, 45),
+        WordInstr::Label { name: 2 },
+        store(2, 6, Size::Byte),
+    ];
+    Ok(WordProc {
+        number,
+        kind: ProcKind::Uncounted,
+        params,
+        vars: 7,
+        room: 0,
+        data_from: 0,
+        lines: lines_of(alloc, &front, lines)?,
+    })
+}
+
 fn number_routine(alloc: Global) -> Result<WordProc, Memory>
     ensures { IfOk result (λ p. p ≡ routine NUMBER 1 7 number_lines) }
 {
-    routine(
+    spelling_routine(
         alloc,
         NUMBER,
         1,
-        7,
+        datum(2, SCRATCH_BYTES - 1),
         &[
-            constant(5, 10),
-            datum(2, SCRATCH_BYTES - 1),
-            WordInstr::Copy { to: 1, from: 0 },
-            sum_with(6, 1, 48),
-            branch(Test::Below, 1, 5, 2),
-            constant(4, 0),
-            branch(Test::AtLeast, 1, 4, 1),
-            compute(1, WordOperation::Subtract, 4, 1),
-            WordInstr::Jump { to: 1 },
-            WordInstr::Label { name: 0 },
-            store(2, 6, Size::Byte),
-            sum_with(2, 2, ONE_LESS),
-            WordInstr::Label { name: 1 },
-            compute(6, WordOperation::RemainderUnsigned, 1, 5),
-            sum_with(6, 6, 48),
-            compute(1, WordOperation::DivideUnsigned, 1, 5),
-            branch(Test::Unequal, 1, 4, 0),
-            branch(Test::AtLeast, 0, 4, 2),
-            store(2, 6, Size::Byte),
-            sum_with(2, 2, ONE_LESS),
-            constant(6, 45),
-            WordInstr::Label { name: 2 },
-            store(2, 6, Size::Byte),
             datum(3, SCRATCH_BYTES),
             compute(3, WordOperation::Subtract, 3, 2),
             WordInstr::Write {

@@ -22,7 +22,10 @@ pub const MOVE_BYTE: u32 = 7;
 /// Finds a block for a longer payload, and lets it begin with that of another block.
 pub const GROW: u32 = 17;
 
-/// The lines of it, with the call, beside those for the size and for each byte.
+/// The lines of it, with the call, where the block is large enough.
+pub const KEPT_LINES: u32 = 11;
+
+/// Those of any other call, beside those for the size and for each byte.
 pub const GROW_LINES: u32 = 81;
 
 /// Compares texts.
@@ -34,13 +37,13 @@ pub const ORDER_START: u32 = 10;
 /// The lines for each byte of the first text.
 pub const ORDER_BYTE: u32 = 10;
 
-fn argument(index: u32, from: u32) -> WordInstr
+pub fn argument(index: u32, from: u32) -> WordInstr
     ensures { result ≡ WordInstr.Argument index from }
 {
     WordInstr::Argument { index, from }
 }
 
-fn call(to: u32, callee: u32) -> WordInstr
+pub fn call(to: u32, callee: u32) -> WordInstr
     ensures { result ≡ WordInstr.Call to callee }
 {
     WordInstr::Call { to, callee }
@@ -95,7 +98,7 @@ pub fn grow_routine(alloc: Global) -> Result<WordProc, Memory>
         6,
         &[
             constant(3, 0),
-            branch(Test::Equal, 0, 3, 0),
+            branch(Test::Equal, 0, 3, 2),
             sum_with(4, 0, HEADER_LESS),
             load(4, 4, Size::Word),
             sum_with(4, 4, KIND_LESS),
@@ -103,6 +106,9 @@ pub fn grow_routine(alloc: Global) -> Result<WordProc, Memory>
             compute(5, WordOperation::ShiftLeft, 5, 4),
             sum_with(5, 5, HEADER_LESS),
             branch(Test::Below, 5, 2, 0),
+            WordInstr::Return { from: 0 },
+            WordInstr::Label { name: 2 },
+            branch(Test::Unequal, 2, 3, 0),
             WordInstr::Return { from: 0 },
             WordInstr::Label { name: 0 },
             argument(0, 2),

@@ -1,6 +1,6 @@
 -- What operations do with constants: they give the values that the rules compute, and change nothing.
 use Rattle.std.proofs.Common.{◌≡◌, ℕ, zero, suc, Bool, true, false, List, [], ◌∷◌, length, Option, Some, None, refl, sym, ap, subst, ◌∙◌, arith}
-use Rattle.std.specs.Prelude.{ℤ, pos, ◌-ℤ◌}
+use Rattle.std.specs.Prelude.{ℤ, pos, ◌-ℤ◌, ◌&&◌, ◌||◌}
 use Rattle.nim_types.specs.Types as type
 use Rattle.nim_types.specs.Types.{Ty, Facts}
 use Rattle.nim_program.specs.declared.operation.Measure.{Measure}
@@ -26,11 +26,13 @@ use Rattle.nim_meaning.specs.State.{load}
 use Rattle.nim_meaning.specs.Acts.{Does, give, ◌>>=◌}
 use Rattle.nim_meaning.specs.Deeds as deeds
 use Rattle.nim_meaning.specs.Deeds.{Deed, carry, ◌>>=◌ as then_deed}
-use Rattle.nim_meaning.specs.Here.{Here, gives_hooked}
+use Rattle.nim_meaning.specs.Here.{Here, any_hooked, form_for, gives_hooked}
+use Rattle.nim_meaning.specs.Shapes.{is_given, is_held, is_read}
+use Rattle.nim_meaning.specs.Waiting.{held_from, held_if}
 use Rattle.nim_meaning.specs.Table as T
 use Rattle.nim_meaning.specs.Table.{outcome, acts, does, limit_for}
 use Rattle.nim_meaning.specs.LeftOut as L
-use Rattle.nim_meaning.specs.Meaning.{eval, aimed, ready_all}
+use Rattle.nim_meaning.specs.Meaning.{eval, aimed, gets_copy, ready_all, source}
 use Rattle.nim_meaning.specs.Aims.{Aim, Root, Value_of, settle, find, Ready, Evaluated, Aimed, operand_for, fresh_root}
 use Rattle.expr_rules.specs.Constants as C
 use Rattle.expr_rules.specs.Constants.{comes_to, if_fine, limited, alone, in_pair, unary_of, binary_of, compare_of}
@@ -40,7 +42,7 @@ use Rattle.typing_laws.specs.Sound.{AreSound}
 use Rattle.typing_laws.specs.Given.{AlwaysGives}
 use Rattle.typing_laws.proofs.Tests.{never, ever}
 use Rattle.typing_laws.proofs.Measures.{come_one, limited_is}
-use Rattle.typing_laws.proofs.Giving.{given, after, costing}
+use Rattle.typing_laws.proofs.Giving.{given, after, branching, costing}
 use Rattle.typing_laws.proofs.Unhooked.{hooked_text}
 use Rattle.typing_laws.proofs.FieldValues.{object_is}
 
@@ -109,12 +111,16 @@ module _ (run : Here) where
   all_ready no_more uses i = given []
   all_ready (by_value e l {rest = rest} {ls = ls} m more) uses i =
       let last : Value → List Ready → Does (List Ready) =
-      (λ v ready. give (Evaluated (operand_for (gives_hooked run.facts (type_of e)) run.level (node_of e).number v) ∷ ready)) in
+      (λ v ready. give (Evaluated (operand_for (gives_hooked run.facts (type_of e)) (uses i) run.level (node_of e).number v) ∷ ready)) in
       let all : List Ready = Evaluated (Given (literal_value l)) ∷ readies ls rest in
-      after (eval e (uses i) run) (λ v. ready_all rest uses (suc i) run >>= last v) (literal_value l) all (m.value (uses i))
+      branching (gets_copy run (uses i) e)
+      (source e run >>= (λ location. ready_all rest uses (suc i) run >>= (λ ready. give (Evaluated (At location) ∷ ready))))
+      (eval e (uses i) run >>= (λ v. ready_all rest uses (suc i) run >>= last v)) all
+      (ap (λ b. b && (is_given (uses i) && is_read e)) m.plain)
+      (after (eval e (uses i) run) (λ v. ready_all rest uses (suc i) run >>= last v) (literal_value l) all (m.value (uses i))
       (after (ready_all rest uses (suc i) run) (last (literal_value l)) (readies ls rest) all (all_ready more uses (suc i))
-      (subst (λ b. AlwaysGives (give (Evaluated (operand_for b run.level (node_of e).number (literal_value l)) ∷ readies ls rest)) all) (sym m.plain)
-      (given all)))
+      (subst (λ b. AlwaysGives (give (Evaluated (operand_for b (uses i) run.level (node_of e).number (literal_value l)) ∷ readies ls rest)) all) (sym m.plain)
+      (given all))))
   all_ready (by_path e l {rest = rest} {ls = ls} m more) uses i =
       let aim : Aim = aim_by (constant_in e) l in
       let all : List Ready = Aimed aim ∷ readies ls rest in
@@ -136,6 +142,19 @@ module _ (run : Here) where
       after (find (aim_by (constant_in e) l)) (λ place. settle (readies ls rest) >>= (λ xs. give (At place ∷ xs))) (at_base (Made (literal_value l))) all
       (found_by (constant_in e) l)
       (after (settle (readies ls rest)) (λ xs. give (At (at_base (Made (literal_value l))) ∷ xs)) (taken ls rest) all (settled more) (given all))
+
+  -- none of them has hooks, nor is taken up
+  pub none_hooked : {operands : Args} {ls : Literals} → Come run operands ls → any_hooked run.facts (types_in operands) ≡ false
+  none_hooked no_more = refl
+  none_hooked (by_value e l {rest = rest} m more) = ap (λ b. b || any_hooked run.facts (types_in rest)) m.plain ∙ none_hooked more
+  none_hooked (by_path e l {rest = rest} m more) = ap (λ b. b || any_hooked run.facts (types_in rest)) m.meant.plain ∙ none_hooked more
+
+  pub none_held : {operands : Args} {ls : Literals} → Come run operands ls → (uses : ℕ → Use) (i : ℕ) → held_from run.facts run.modes operands uses i ≡ []
+  none_held no_more uses i = refl
+  none_held (by_value e l {rest = rest} m more) uses i =
+      ap (λ b. held_if (b && is_held (uses i)) (node_of e).number (held_from run.facts run.modes rest uses (suc i))) m.plain
+      ∙ none_held more uses (suc i)
+  none_held (by_path e l m more) uses i = none_held more uses (suc i)
 
   values_taken : {operands : Args} {ls : Literals} → Come run operands ls → are_placed 0 operands ≡ true → V.values_in (taken ls operands) ≡ literal_values ls
   values_taken no_more p = refl
@@ -359,8 +378,10 @@ module _ (run : Here) where
 
   -- a literal
   pub literal : (sound : AreSound facts) (ty : Option Ty) (x l : Literal) → for_some ty (λ t. is_constant facts t x) ≡ true → gives_hooked facts ty ≡ false
-      → of_literal x ≡ comes_to l → Done (deeds.costs 1 (deeds.costs (T.literal_bytes x) (deeds.give (literal_value x)))) l
-  literal sound ty x l c u e = by_sort ty x c u e
+      → of_literal x ≡ comes_to l → Done (T.constant_row facts ty (T.literal_bytes x) (literal_value x)) l
+  literal sound ty x l c u e =
+      subst (λ b. Done (deeds.costs 1 (deeds.costs (T.literal_bytes x) (T.constant_for b (form_for facts ty) (literal_value x)))) l) (sym u)
+      (by_sort ty x c u e)
     where
       no_hooks : (x : Literal) → is_characters x ≡ false → ◌≡◌ {A = C.Evaluated Literal} (comes_to x) (comes_to l)
           → Done (deeds.costs 1 (deeds.costs (T.literal_bytes x) (deeds.give (literal_value x)))) l

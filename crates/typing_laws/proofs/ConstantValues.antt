@@ -1,5 +1,5 @@
 -- An expression that is constant by the rules gives its value in the meaning, whatever the state.
-use Rattle.std.proofs.Common.{◌≡◌, ℕ, Bool, true, false, List, ◌∷◌, Option, Some, None, refl, sym, ap, subst, ◌∙◌}
+use Rattle.std.proofs.Common.{◌≡◌, ◌⊎◌, inl, inr, ℕ, Bool, true, false, List, ◌∷◌, Option, Some, None, refl, sym, ap, subst, ◌∙◌}
 use Rattle.std.specs.Prelude.{ℤ, pos, not, ◌&&◌, ◌||◌, if◌then◌else◌}
 use Rattle.std.proofs.lemmas.Bool.{and_parts}
 use Rattle.nim_types.specs.Types as type
@@ -10,7 +10,7 @@ use Rattle.nim_program.specs.declared.operation.Operation.TheVariants as O
 use Rattle.nim_program.specs.declared.operation.Short.{Short}
 use Rattle.nim_program.specs.declared.operation.Short.TheVariants.{And, Or}
 use Rattle.nim_program.specs.declared.operation.Use.{Use}
-use Rattle.nim_program.specs.declared.operation.Use.TheVariants.{Owned}
+use Rattle.nim_program.specs.declared.operation.Use.TheVariants.{Owned, Lent, Looked}
 use Rattle.nim_program.specs.Program as P
 use Rattle.nim_program.specs.Program.{Literal, Literals, Characters, NoObject, PartsOf, ElementsOf, NoLiteral, ALiteral, Act, Doing, Building, Giving, Calling}
 use Rattle.nim_program.specs.Program.{Expr, Apply, Read, Early, Choose, Path, Fresh, Args, NoArg, ByValue, ByPath, type_of, types_in, constant_in}
@@ -27,11 +27,13 @@ use Rattle.nim_meaning.specs.ActTree.{Chooses, Does as Done_by}
 use Rattle.nim_meaning.specs.Acts.{Does, give, ◌>>=◌}
 use Rattle.nim_meaning.specs.Acts as Acts
 use Rattle.nim_meaning.specs.Deeds as deeds
-use Rattle.nim_meaning.specs.Deeds.{carry, ◌>>=◌ as then_deed}
-use Rattle.nim_meaning.specs.Here.{Here, gives_hooked}
-use Rattle.nim_meaning.specs.Table.{acts, does}
+use Rattle.nim_meaning.specs.Deeds.{Deed, carry, ◌>>=◌ as then_deed}
+use Rattle.nim_meaning.specs.Here.{Here, any_hooked, form_for, gives_hooked}
+use Rattle.nim_meaning.specs.OwnedRows.{owned}
+use Rattle.nim_meaning.specs.Waiting.{held_from}
+use Rattle.nim_meaning.specs.Table.{acts, constant_for, does, operates}
 use Rattle.nim_meaning.specs.LeftOut.{out_if, ◌or_then◌, is_act_built, writes_literals, left_out_in, left_out_in_path, left_out_in_args}
-use Rattle.nim_meaning.specs.Meaning.{eval, ready_all, carried, early, at_node, row}
+use Rattle.nim_meaning.specs.Meaning.{eval, destination, ready_all, carried, early, at_node, row, taking_up}
 use Rattle.nim_meaning.specs.Aims.{settle, Evaluated}
 use Rattle.nim_meaning.specs.Places.{made_by}
 use Rattle.nim_program.specs.Uses.{use_of}
@@ -50,6 +52,7 @@ use Rattle.typing_laws.proofs.Preserved.{preserved}
 use Rattle.typing_laws.proofs.Giving.{given, after, costing, passes, handed_over}
 use Rattle.typing_laws.proofs.Unhooked.{neither}
 use Rattle.typing_laws.proofs.ConstantRows.{Meant, Come, no_more, by_value, by_path, Done, is_characters, is_number, readies, taken, all_ready, settled}
+use Rattle.typing_laws.proofs.ConstantRows.{none_held, none_hooked}
 use Rattle.typing_laws.proofs.ConstantRows.{working, doing, building, literal}
 
 -- ---- nothing is left out
@@ -109,21 +112,25 @@ module _ (run : Here) (around : Scope) (sound : AreSound run.facts) (closed : Cl
       → AlwaysGives (carried run node.number act how ty (types_in operands) (taken ls operands)) (literal_value l)
       → AlwaysGives (eval (Apply node ty act operands) how run) (literal_value l)
   row_gives node ty act operands ls l how come u g =
-      let last : List Operand → Does Value = (λ xs. at_node node.number Done_by (carried run node.number act how ty (types_in operands) xs)) in
+      let held : List ℕ = held_from of_run run.modes operands (use_of run.modes act) 0 in
+      let last : List Operand → Does Value =
+      (λ xs. at_node node.number Done_by (taking_up run held (carried run node.number act how ty (types_in operands) xs))) in
       after (ready_all operands (use_of run.modes act) 0 run) (λ ready. settle ready >>= last) (readies ls operands) (literal_value l)
       (all_ready run come (use_of run.modes act) 0)
       (after (settle (readies ls operands)) last (taken ls operands) (literal_value l) (settled run come)
-      (passes (Spot node.number Done_by) (carried run node.number act how ty (types_in operands) (taken ls operands)) (literal_value l) g))
+      (passes (Spot node.number Done_by) (taking_up run held (carried run node.number act how ty (types_in operands) (taken ls operands))) (literal_value l)
+      (subst (λ nodes. AlwaysGives (taking_up run nodes (carried run node.number act how ty (types_in operands) (taken ls operands))) (literal_value l))
+      (sym (none_held run come (use_of run.modes act) 0)) g)))
 
   meant : (node : Node) (ty : Option Ty) (act : Act) (operands : Args) (ls : Literals) (l : Literal) → Come run operands ls → gives_hooked of_run ty ≡ false
       → Done (acts act of_run ty (types_in operands) (taken ls operands)) l
       → ((how : Use) → carried run node.number act how ty (types_in operands) (taken ls operands)
-      ≡ carry (row of_run act how ty (types_in operands) (taken ls operands)))
+      ≡ carry (row of_run act (destination run how node.number) ty (types_in operands) (taken ls operands)))
       → Meant run (Apply node ty act operands) l
   meant node ty act operands ls l come u d is = record {
     value = λ how. row_gives node ty act operands ls l how come u
         (subst (λ (does : Does Value). AlwaysGives does (literal_value l)) (sym (is how))
-        (handed_over of_run ty how (acts act of_run ty (types_in operands) (taken ls operands)) (literal_value l) u d.gives));
+        (handed_over of_run ty (destination run how node.number) (acts act of_run ty (types_in operands) (taken ls operands)) (literal_value l) u d.gives));
     plain = u;
     no_text = d.no_text;
   }
@@ -139,8 +146,12 @@ module _ (run : Here) (around : Scope) (sound : AreSound run.facts) (closed : Cl
       by_go (comes_to ls) c e =
           let p = (and_parts (fits of_run o ty (types_in operands)) _ f).1 in
           meant node ty (Doing o) operands ls l (come ls c) u
-          (working 1 (does o of_run ty (types_in operands) (taken ls operands)) l
-          (doing run o ty (types_in operands) l (come ls c) (and_parts (are_placed (places_in o) operands) _ p).0 b e)) (λ how. refl)
+          (working 1 (operates o of_run ty (types_in operands) (taken ls operands)) l
+          (subst (λ b. Done (deeds.branch b
+          (owned o of_run ty (types_in operands) (taken ls operands) (does o of_run ty (types_in operands) (taken ls operands)))
+          (does o of_run ty (types_in operands) (taken ls operands))) l)
+          (sym (ap (λ b. b || any_hooked of_run (types_in operands)) u ∙ none_hooked run (come ls c)))
+          (doing run o ty (types_in operands) l (come ls c) (and_parts (are_placed (places_in o) operands) _ p).0 b e))) (λ how. refl)
       by_go traps c e = no_traps (computing of_run ty (types_in operands) o) e
         where
           no_traps : (go : Option (Literals → C.Evaluated Literal)) → if_computed go traps ≡ comes_to l → Meant run (Apply node ty (Doing o) operands) l
@@ -308,12 +319,40 @@ constant_given closed closed_one around run same sound e l h n c how =
     (subst (λ f. left_out_in f e ≡ None) (sym same) n)
     (subst (λ f. value_in f e ≡ comes_to l) (sym same) c)).value how
 
--- a text that nobody owns, whether its type has hooks or not
-text_row : (how : Use) (hooked : Bool) (text : List ℕ)
-    → AlwaysGives (carry (then_deed (deeds.costs 1 (deeds.costs 0 (deeds.give (V.Fixed text)))) (made_by hooked how))) (V.Fixed text)
-text_row how false text = costing 1 (Acts.costs 0 (give (V.Fixed text))) (V.Fixed text) (costing 0 (give (V.Fixed text)) (V.Fixed text) (given (V.Fixed text)))
-text_row how true text = costing 1 (Acts.costs 0 (give (V.Fixed text))) (V.Fixed text) (costing 0 (give (V.Fixed text)) (V.Fixed text) (given (V.Fixed text)))
+-- a text that is only read, whether its type has hooks or not
+text_row : (run : Here) (node : ℕ) (ty : Option Ty) (text : List ℕ) (how : Use)
+    → ((hooked : Bool) → made_by hooked (destination run how node) (V.Fixed text) ≡ deeds.give (V.Fixed text)) → (hooked : Bool)
+    → AlwaysGives (carry (then_deed (deeds.costs 1 (deeds.costs 0 (constant_for hooked (form_for run.facts ty) (V.Fixed text))))
+    (made_by hooked (destination run how node)))) (V.Fixed text)
+text_row run node ty text how read hooked =
+    subst (λ (d : Deed Value). AlwaysGives (carry d) (V.Fixed text)) (is hooked)
+    (costing 1 (Acts.costs 0 (give (V.Fixed text))) (V.Fixed text) (costing 0 (give (V.Fixed text)) (V.Fixed text) (given (V.Fixed text))))
+  where
+    is : (hooked : Bool) → deeds.costs 1 (deeds.costs 0 (deeds.give (V.Fixed text)))
+        ≡ then_deed (deeds.costs 1 (deeds.costs 0 (constant_for hooked (form_for run.facts ty) (V.Fixed text)))) (made_by hooked (destination run how node))
+    is true = ap (λ (d : Deed Value). deeds.costs 1 (deeds.costs 0 d)) (sym (read true))
+    is false = refl
 
-pub text_given : (run : Here) (node : Node) (ty : Option Ty) (text : List ℕ) (how : Use)
+text_read : (run : Here) (node : Node) (ty : Option Ty) (text : List ℕ) (how : Use)
+    → ((hooked : Bool) → made_by hooked (destination run how node.number) (V.Fixed text) ≡ deeds.give (V.Fixed text))
     → AlwaysGives (eval (Apply node ty (Giving (Characters text)) NoArg) how run) (V.Fixed text)
-text_given run node ty text how s = text_row how (gives_hooked run.facts ty) text (Acts.with_trail (Spot node.number Done_by ∷ s.trail) s)
+text_read run node ty text how read s =
+    text_row run node.number ty text how read (gives_hooked run.facts ty) (Acts.with_trail (Spot node.number Done_by ∷ s.trail) s)
+
+lent_read : (run : Here) (node : ℕ) (text : List ℕ) (hooked : Bool) → made_by hooked (destination run Lent node) (V.Fixed text) ≡ deeds.give (V.Fixed text)
+lent_read run node text true = refl
+lent_read run node text false = refl
+
+looked_read : (run : Here) (node : ℕ) (text : List ℕ) (hooked : Bool)
+    → made_by hooked (destination run Looked node) (V.Fixed text) ≡ deeds.give (V.Fixed text)
+looked_read run node text true = refl
+looked_read run node text false = refl
+
+pub text_given : (run : Here) (node : Node) (ty : Option Ty) (text : List ℕ) (how : Use) → (how ≡ Lent) ⊎ (how ≡ Looked)
+    → AlwaysGives (eval (Apply node ty (Giving (Characters text)) NoArg) how run) (V.Fixed text)
+text_given run node ty text how (inl e) =
+    subst (λ how. AlwaysGives (eval (Apply node ty (Giving (Characters text)) NoArg) how run) (V.Fixed text)) (sym e)
+    (text_read run node ty text Lent (lent_read run node.number text))
+text_given run node ty text how (inr e) =
+    subst (λ how. AlwaysGives (eval (Apply node ty (Giving (Characters text)) NoArg) how run) (V.Fixed text)) (sym e)
+    (text_read run node ty text Looked (looked_read run node.number text))

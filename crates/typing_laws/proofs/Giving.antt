@@ -2,15 +2,14 @@
 use Rattle.std.proofs.Common.{◌≡◌, ℕ, false, refl, ap, subst, sym, ◌∙◌}
 use Rattle.arc_base.specs.BigStep.{then_do}
 use Rattle.nim_types.specs.Types.{Ty, Facts}
-use Rattle.std.specs.Prelude.{◌∷◌, Option}
-use Rattle.nim_program.specs.declared.operation.Use.{Use}
+use Rattle.std.specs.Prelude.{Bool, ◌∷◌, Option}
 use Rattle.nim_meaning.specs.Ways.{Point}
 use Rattle.nim_meaning.specs.Values.{Value}
-use Rattle.nim_meaning.specs.Acts.{Does, give, onward, ◌>>=◌, costs, worked, passing, with_trail}
+use Rattle.nim_meaning.specs.Acts.{Does, give, onward, ◌>>=◌, branch, costs, worked, passing, with_trail}
 use Rattle.nim_meaning.specs.Deeds as deeds
 use Rattle.nim_meaning.specs.Deeds.{Deed, carry, ◌>>=◌ as then_deed}
 use Rattle.nim_meaning.specs.Here.{gives_hooked}
-use Rattle.nim_meaning.specs.Places.{made_by}
+use Rattle.nim_meaning.specs.Places.{Destination, made_by}
 use Rattle.typing_laws.specs.Given.{AlwaysGives}
 
 pub given : {A : Type 0} (x : A) → AlwaysGives (give x) x
@@ -31,10 +30,13 @@ after act rest x y g h s =
 pub costing : {A : Type 0} (n : ℕ) (act : Does A) (x : A) → AlwaysGives act x → AlwaysGives (costs n act) x
 costing n act x g s = g (worked n s)
 
+pub branching : {A : Type 0} (b : Bool) (act other : Does A) (x : A) → b ≡ false → AlwaysGives other x → AlwaysGives (branch b act other) x
+branching b act other x e g = subst (λ b. AlwaysGives (branch b act other) x) (sym e) g
+
 pub passes : {A : Type 0} (p : Point) (act : Does A) (x : A) → AlwaysGives act x → AlwaysGives (passing p act) x
 passes p act x g s = g (with_trail (p ∷ s.trail) s)
 
 -- what a node made is handed over as it is, where it has no hooks
-pub handed_over : (facts : Facts) (ty : Option Ty) (how : Use) (deed : Deed Value) (v : Value) → gives_hooked facts ty ≡ false
-    → AlwaysGives (carry (then_deed deed (λ x. deeds.give x))) v → AlwaysGives (carry (then_deed deed (made_by (gives_hooked facts ty) how))) v
-handed_over facts ty how deed v e g = subst (λ b. AlwaysGives (carry (then_deed deed (made_by b how))) v) (sym e) g
+pub handed_over : (facts : Facts) (ty : Option Ty) (to : Destination) (deed : Deed Value) (v : Value) → gives_hooked facts ty ≡ false
+    → AlwaysGives (carry (then_deed deed (λ x. deeds.give x))) v → AlwaysGives (carry (then_deed deed (made_by (gives_hooked facts ty) to))) v
+handed_over facts ty to deed v e g = subst (λ b. AlwaysGives (carry (then_deed deed (made_by b to))) v) (sym e) g

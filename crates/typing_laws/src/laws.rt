@@ -1,5 +1,5 @@
 // The laws of typed programs.
-ghost use Rattle.std.specs.Prelude.{◌≡◌, ◌≤◌, ◌<◌, ℕ, Bool, true, false, List, length, Ok, Option, None};
+ghost use Rattle.std.specs.Prelude.{◌≡◌, ◌≤◌, ◌<◌, ◌⊎◌, ℕ, Bool, true, false, List, length, Ok, Option, None};
 ghost use Rattle.arc_base.specs.declared.place.Place.{Place};
 ghost use Rattle.nim_tree.specs.Statements.{Head, Statements};
 ghost use Rattle.nim_program.specs.declared.nodes.TheConstants.{MOST_NODES};
@@ -28,6 +28,7 @@ ghost use Rattle.typing_laws.specs.Knows.{KnowsWell, IfSound};
 ghost use Rattle.nim_types.specs.Types.{Ty, Facts};
 ghost use Rattle.nim_program.specs.declared.expr.Node.{Node};
 ghost use Rattle.nim_program.specs.declared.operation.Use.{Use};
+ghost use Rattle.nim_program.specs.declared.operation.Use.TheVariants.{Lent, Looked};
 ghost use Rattle.nim_program.specs.Program.{Literal, Characters, Giving, Apply, NoArg};
 ghost use Rattle.nim_program.specs.Defaults.{default_literal};
 ghost use Rattle.nim_meaning.specs.Values.{Fixed, literal_value, default_of};
@@ -109,14 +110,15 @@ pub fn types_sound()
 }
 
 /// A typed expression that is constant by the rules has its value in the meaning, in every state:
-/// it writes nothing and changes nothing. So has the literal of a text, which nobody owns. And a
-/// place without hooks starts at the default of its type that the rules speak of.
+/// it writes nothing and changes nothing. So has the literal of a text where it is only read: nobody
+/// owns it. And a place without hooks starts at the default of its type that the rules speak of.
 pub fn constant_values()
     ensures value { (around : Here) (run : Run) → run.facts ≡ around.facts →
         AreSound around.facts → (e : Expr) (l : Literal) → is_typed around e ≡ true →
         left_out_in around.facts e ≡ None → value_in around.facts e ≡ comes_to l →
         (how : Use) → AlwaysGives (eval e how run) (literal_value l) }
     ensures text { (run : Run) (node : Node) (ty : Option Ty) (text : List ℕ) (how : Use) →
+        (how ≡ Lent) ⊎ (how ≡ Looked) →
         AlwaysGives (eval (Apply node ty (Giving (Characters text)) NoArg) how run) (Fixed text) }
     ensures defaults { (facts : Facts) (ty : Ty) → is_hooked facts ty ≡ false →
         literal_value (default_literal facts ty) ≡ default_of facts ty }

@@ -1,7 +1,8 @@
 -- The operands of a line: what temporaries have.
-use Rattle.std.proofs.Common.{◌≡◌, List, [], ◌∷◌, Option, Some, None, ap}
+use Rattle.std.proofs.Common.{◌≡◌, List, [], ◌∷◌, Option, Some, None, ap, refl, subst}
 use Rattle.std.specs.Prelude.{option_map}
-use Rattle.nim_meaning.specs.Values.{Value, Operand, Given, value_of}
+use Rattle.nim_meaning.specs.State.{World, load}
+use Rattle.nim_meaning.specs.Values.{Value, Operand, Given, location_of, value_of}
 use Rattle.flat_code.specs.declared.block.BlockLine.{BlockLine}
 use Rattle.flat_code.specs.declared.line.From.{From}
 use Rattle.flat_code.specs.Lines.{fetch, using_all}
@@ -20,6 +21,10 @@ Have temps from xs = ⊥
 pub given_value : (o : Option Value) (z : Operand) → option_map Given o ≡ Some z → o ≡ Some (value_of z)
 given_value None z e = absurd (none_some z e)
 given_value (Some v) z e = ap (λ w. Some (value_of w)) (some_same (Given v) z e)
+
+pub given_load : (world : World) (o : Option Value) (z : Operand) → option_map Given o ≡ Some z → load world (location_of z) ≡ value_of z
+given_load world None z e = absurd (none_some z e)
+given_load world (Some v) z e = subst (λ w. load world (location_of w) ≡ value_of w) (some_same (Given v) z e) refl
 
 module _ (x : Basis) (g : Both) (rest : List BlockLine) (temps : Temps) where
   pub using_all_settles : (from : List From) (go : List Operand → Did) → ((xs : List Operand) → Have temps from xs → Settles x g rest (go xs))

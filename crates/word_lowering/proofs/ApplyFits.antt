@@ -1,4 +1,4 @@
--- What lines of operations are by the table of operations.
+-- What lines of operations are by the table of operations, and what they do by the rows of types without hooks.
 use Rattle.std.proofs.Common.{◌≡◌, ℕ, List, Option, Bool, true, map}
 use Rattle.std.proofs.lemmas.Bool.{and_parts}
 use Rattle.std.specs.Prelude.{not, ◌&&◌, ◌||◌}
@@ -14,9 +14,16 @@ use Rattle.nim_program.specs.View.{if_type}
 use Rattle.nim_program.specs.declared.operation.Use.{Use}
 use Rattle.nim_types.specs.Table.{facts_in}
 use Rattle.nim_types.specs.Types.{Ty}
+use Rattle.nim_meaning.specs.Deeds.{costs, ◌>>=◌}
+use Rattle.nim_meaning.specs.Here.{gives_hooked}
+use Rattle.nim_meaning.specs.Places.{made_by}
+use Rattle.nim_meaning.specs.Table.{does}
+use Rattle.flat_code.specs.Lines.{gives, using_all}
+use Rattle.flat_code.specs.Running.{scene_of}
+use Rattle.flat_code.specs.Scene.{Did}
 use Rattle.word_lowering.proofs.ControlLines.{plain, value_type}
-use Rattle.word_lowering.proofs.Lines.{Basis, IsGood, fits_here, known, starts}
-use Rattle.word_lowering.proofs.Related.{Both, body_of}
+use Rattle.word_lowering.proofs.Lines.{Basis, IsGood, Settles, bound_for, fits_here, known, starts}
+use Rattle.word_lowering.proofs.Related.{Both, body_of, high}
 use Rattle.word_lowering.proofs.Sites.{globals_of, sigs}
 
 module _ (x : Basis) (g : Both) (rest : List BlockLine) (to : ℕ) (operation : Operation) (how : Use) (ty : Option ℕ) (of : List (Option ℕ))
@@ -27,7 +34,7 @@ module _ (x : Basis) (g : Both) (rest : List BlockLine) (to : ℕ) (operation : 
   abbrev pub gets_type : Option Ty
   gets_type = if_type (known x).types ty
 
-  abbrev of_types : List (Option Ty)
+  abbrev pub of_types : List (Option Ty)
   of_types = map (if_type (known x).types) of
 
   abbrev are_typed : Bool
@@ -35,6 +42,14 @@ module _ (x : Basis) (g : Both) (rest : List BlockLine) (to : ℕ) (operation : 
 
   abbrev are_written : Bool
   are_written = not (writes operation) || fit.may_write_all (known x) (sigs x.table x.blocks) (globals_of x.table x.blocks) (body_of g).proc.places from
+
+  -- what the line does where no type of it has hooks
+  abbrev pub row_does : Did
+  row_does = using_all g.call.temps from (λ xs. gives (scene_of (high x.table x.blocks (starts g apply_line rest))) to
+      (costs 1 (does operation (facts_in x.table) gets_type of_types xs) >>= made_by (gives_hooked (facts_in x.table) gets_type) (bound_for g how to)))
+
+  abbrev pub RowHere : Type 0
+  RowHere = (y : IsGood x (starts g apply_line rest)) → Settles x (starts g apply_line rest) rest row_does
 
   pub record Applies (y : IsGood x (starts g apply_line rest)) : Type 0 where
     pub row : operation_fits (facts_in x.table) operation gets_type of_types ≡ true

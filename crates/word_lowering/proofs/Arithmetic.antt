@@ -246,7 +246,7 @@ at_most_is u v fu fv = ap not (less_is v u fv fu) ∙ by (int_lt v u) (int_le u 
     by false true e g = refl
     by false false e g = absurd (omega (arith, ints))
 
--- ---- the status of an exit
+-- ---- the low byte: a char, and the status of an exit
 
 low_byte_is : (z : ℤ) (turns word : ℕ) → z +ℤ pos (turns * 256) ≡ pos word → low_byte z ≡ word % 256
 low_byte_is z turns word e = search rules
@@ -254,3 +254,6 @@ low_byte_is z turns word e = search rules
 pub exit_status : (z : ℤ) → fits z ≡ true → word z % 256 ≡ low_byte z
 exit_status (pos n) f = sym (low_byte_is (pos n) 0 n (ap pos (omega arith)))
 exit_status (negsuc n) f = let h = fits_signed (negsuc n) f in sym (low_byte_is (negsuc n) (2 ^ 24) (word (negsuc n)) (omega (arith, ints)))
+
+pub small_byte : (n : ℕ) → n < 256 → low_byte (pos n) ≡ n
+small_byte n h = low_byte_is (pos n) 0 n (ap pos (omega arith)) ∙ omega (arith, h)

@@ -37,7 +37,7 @@ use Rattle.std.specs.Set.{is_member}
 use Rattle.std.proofs.lemmas.Bool.{true≢false}
 use Rattle.word_lowering.proofs.FirstMemory.{first_memory, routines_given, letter_first}
 use Rattle.word_lowering.proofs.TypeDefaults.{type_default}
-use Rattle.word_lowering.proofs.TypeRules.{type_compared, type_plain, type_resource, type_fields, type_object, type_converted, type_limit}
+use Rattle.word_lowering.proofs.TypeRules.{type_compared, type_plain, type_unhooked, type_resource, type_fields, type_object, type_converted, type_limit}
 use Rattle.word_lowering.proofs.TypeShapes.{type_part}
 use Rattle.word_code.specs.Words.{Fresh}
 
@@ -83,6 +83,7 @@ module _ (table : List TypeDef) (blocks : Code BlockLine) (may : may_lower table
     defaults = type_default table is_table (enums_may table blocks may) have;
     compared = type_compared table is_table have;
     plains = type_plain table is_table have;
+    unhooked = type_unhooked table is_table have;
     resources = type_resource table is_table have;
     fields = type_fields table is_table have;
     objects = type_object table is_table have;

@@ -26,7 +26,7 @@ use Rattle.word_lowering.proofs.Scenes.{address_of, Name, of_value, of_place, ho
 use Rattle.word_lowering.proofs.SitesApart.{houses}
 use Rattle.word_lowering.proofs.Keeping.{spot_memory, spot_held, points_there}
 use Rattle.word_lowering.proofs.Related.{Both, body_of, within, routines, high}
-use Rattle.word_lowering.proofs.Lines.{Basis, all_procs, reaches, data_there, fits_here, starts, IsGood, known, all_sites, Settles}
+use Rattle.word_lowering.proofs.Lines.{Basis, all_procs, reaches, data_there, fits_here, starts, IsGood, known, all_sites, Settles, bound_for}
 use Rattle.word_lowering.proofs.ValueFacts.{value_plain, type_in}
 use Rattle.word_lowering.proofs.ControlLines.{FollowedHere, plain, value_type}
 use Rattle.word_lowering.proofs.Sources.{lying_all, lying_area, lying_near, size_is, word_is, more_steps}
@@ -38,7 +38,7 @@ use Rattle.nim_meaning.specs.Deeds.{costs, give, ◌>>=◌}
 use Rattle.nim_meaning.specs.Places.{made_by}
 use Rattle.nim_program.specs.declared.operation.Use.{Use}
 use Rattle.nim_types.specs.Types.{Ty}
-use Rattle.word_lowering.proofs.ApplyFits.{applies}
+use Rattle.word_lowering.proofs.ApplyFits.{applies, RowHere}
 use Rattle.word_lowering.proofs.LineFits.{are_of, no_type}
 use Rattle.word_lowering.proofs.MovedLines.{own_place, own_plain, place_settles}
 use Rattle.word_lowering.proofs.OperandLines.{value_type_by}
@@ -168,7 +168,7 @@ module _ (x : Basis) (labels : LabelsLead x) (g : Both) (rest : List BlockLine) 
       (subst (λ h. Gets x g line rest y (clears h next) next (of_place n) v (9 + bytes v)) (sym o.same) r) (omega arith)
 
   -- an operation that gives the default of its type
-  pub default_line : (to : ℕ) (how : Use) (ty : Option ℕ) (from : List From) → FollowedHere x labels g rest (L.Apply to O.Default how ty [] from)
+  pub default_line : (to : ℕ) (how : Use) (ty : Option ℕ) (from : List From) → RowHere x g rest to O.Default how ty [] from
   default_line to how (Some ty) [] y =
       let line = plain (L.Apply to O.Default how (Some ty) [] []) in
       let fit = applies x g rest to O.Default how (Some ty) [] [] y in
@@ -182,7 +182,7 @@ module _ (x : Basis) (labels : LabelsLead x) (g : Both) (rest : List BlockLine) 
       let code : code_here x g line rest y ≡ clears (house g.call.site (of_value to)) (code_next x g line rest y)
       = starts_there (house g.call.site (of_value to)).bytes (house g.call.site (of_value to)) (code_next x g line rest y) (omega (arith, some, size)) in
       subst (λ b. Settles x (starts g line rest) rest (gives (scene_of (high x.table x.blocks (starts g line rest))) to
-      (costs 1 (costs (bytes v) (give v)) >>= made_by b how))) (sym t.unhooked)
+      (costs 1 (costs (bytes v) (give v)) >>= made_by b (bound_for g how to)))) (sym t.unhooked)
       (value_settles x g line rest y to v (9 + bytes v) (1 + (bytes v + 0)) t.there look
       (subst (λ l. Gets x g line rest y l (code_next x g line rest y) (of_value to) v (9 + bytes v)) (sym code)
       (gets_cleared x g line rest y (of_value to) t.there (value_plain (house g.call.site (of_value to)).kind t.there.kind) v look

@@ -24,10 +24,10 @@ use Rattle.nim_meaning.specs.Here.{gives_hooked}
 use Rattle.nim_meaning.specs.Places.{made_by}
 use Rattle.nim_program.specs.View.{if_type}
 use Rattle.nim_program.specs.declared.operation.Use.{Use}
-use Rattle.word_lowering.proofs.ApplyFits.{applies}
-use Rattle.word_lowering.proofs.ControlLines.{FollowedHere, number_read, plain, value_type}
+use Rattle.word_lowering.proofs.ApplyFits.{applies, RowHere}
+use Rattle.word_lowering.proofs.ControlLines.{number_read, plain, value_type}
 use Rattle.word_lowering.proofs.LineFits.{are_of, bool_shape, same_type, some_kind}
-use Rattle.word_lowering.proofs.Lines.{Basis, Settles, all_procs, known, mapped_settles, starts, IsGood}
+use Rattle.word_lowering.proofs.Lines.{Basis, Settles, all_procs, known, mapped_settles, starts, IsGood, bound_for}
 use Rattle.word_lowering.proofs.NumberLines.{getting, high_target, variable}
 use Rattle.word_lowering.proofs.OperandLines.{truth_shaped, value_type_by, value_type_in, getting_any}
 use Rattle.word_lowering.proofs.OrdinalChecks.{compare_given, narrow_checks}
@@ -61,7 +61,7 @@ module _ (x : Basis) (labels : LabelsLead x) (g : Both) (rest : List BlockLine) 
     abbrev comparing : BlockLine
     comparing = plain (L.Apply to (O.Compare comparison) how ty (Some a ∷ b ∷ []) (F.Value left ∷ F.Value right ∷ []))
 
-    pub compare_values : FollowedHere x labels g rest (L.Apply to (O.Compare comparison) how ty (Some a ∷ b ∷ []) (F.Value left ∷ F.Value right ∷ []))
+    pub compare_values : RowHere x g rest to (O.Compare comparison) how ty (Some a ∷ b ∷ []) (F.Value left ∷ F.Value right ∷ [])
     compare_values y =
         let u : Ty = type_at (known x).types a in
         let f = applies x g rest to (O.Compare comparison) how ty (Some a ∷ b ∷ []) (F.Value left ∷ F.Value right ∷ []) y in
@@ -83,7 +83,7 @@ module _ (x : Basis) (labels : LabelsLead x) (g : Both) (rest : List BlockLine) 
         let bool = bool_shape (facts_in x.table) k.0 k.2 in
         let gives_it : Value → Value → Did = λ v w. gives (scene_of (high x.table x.blocks (starts g comparing rest))) to
         (costs 1 (costs (bytes v) (give (Number (truth (compared comparison (number_of v) (number_of w))))))
-        >>= made_by (gives_hooked (facts_in x.table) (if_type (known x).types ty)) how) in
+        >>= made_by (gives_hooked (facts_in x.table) (if_type (known x).types ty)) (bound_for g how to)) in
         mapped_settles x (starts g comparing rest) rest (g.call.temps.values left) Given
         (λ z. using (option_map Given (g.call.temps.values right)) (λ o. gives_it (value_of z) (value_of o)))
         (λ v e. mapped_settles x (starts g comparing rest) rest (g.call.temps.values right) Given (λ o. gives_it v (value_of o))
@@ -93,14 +93,14 @@ module _ (x : Basis) (labels : LabelsLead x) (g : Both) (rest : List BlockLine) 
         let answer : ℤ = truth (compared comparison (number_of v) (number_of w)) in
         let got_it = getting x g comparing rest y to k.0 (Some 2) answer t bool (truth_shaped (compared comparison (number_of v) (number_of w))) in
         subst (λ c. Settles x (starts g comparing rest) rest (gives (scene_of (high x.table x.blocks (starts g comparing rest))) to
-        (costs 1 (costs (bytes v) (give (Number answer))) >>= made_by c how))) (sym (ap (gives_hooked (facts_in x.table)) k.1 ∙ t.unhooked))
+        (costs 1 (costs (bytes v) (give (Number answer))) >>= made_by c (bound_for g how to)))) (sym (ap (gives_hooked (facts_in x.table)) k.1 ∙ t.unhooked))
         (gives_settles x g comparing rest y to answer (1 + (bytes v + 0)) (omega arith) got_it
         (compare_given x.live (all_procs x) (within x.table x.blocks g) g.memory g.words g.call.vars (variable x g comparing rest y to)
         (variable x g comparing rest y left) (high_target x g comparing rest y to answer got_it) o.high (number_of v) o.fits o.word_is
         (code_next x g comparing rest y) (variable x g comparing rest y right) i.high (number_of w) i.fits i.word_is comparison))))
 
   pub compare_line : (comparison : Comparison) (of : List (Option ℕ)) (from : List From)
-      → FollowedHere x labels g rest (L.Apply to (O.Compare comparison) how ty of from)
+      → RowHere x g rest to (O.Compare comparison) how ty of from
   compare_line c (Some a ∷ b ∷ []) (F.Value left ∷ F.Value right ∷ []) y = compare_values c a b left right y
   compare_line c [] from y = never (applies x g rest to (O.Compare c) how ty [] from y).row
   compare_line c (a ∷ []) from y = never (applies x g rest to (O.Compare c) how ty (a ∷ []) from y).row
@@ -139,7 +139,7 @@ module _ (x : Basis) (traps : TrapsStop x) (labels : LabelsLead x) (g : Both) (r
         (from_typed : value_type x g converting rest y from ≡ Some from_type) (v : Value) (e : g.call.temps.values from ≡ Some v) where
       abbrev Converts : Option ℕ → Type 0
       Converts o = Settles x (starts g converting rest) rest (gives (scene_of (high x.table x.blocks (starts g converting rest))) to
-          (costs 1 (converted o v >>= moved) >>= made_by (gives_hooked (facts_in x.table) (Some to_type)) how))
+          (costs 1 (converted o v >>= moved) >>= made_by (gives_hooked (facts_in x.table) (Some to_type)) (bound_for g how to)))
 
       t : Target x g converting rest y to to_type
       t = target x g converting rest y to to_type refl refl typed
@@ -158,7 +158,7 @@ module _ (x : Basis) (traps : TrapsStop x) (labels : LabelsLead x) (g : Both) (r
           let numbers = x.plains a (first_plain (is_hooked x.table a) (any_hooked x.table []) (plain_operands x g converting rest y)) in
           let r = value_read x g converting rest y from v from_type from_typed numbers e in
           subst (λ b. Settles x (starts g converting rest) rest (gives (scene_of (high x.table x.blocks (starts g converting rest))) to
-          (costs 1 (moved v) >>= made_by b how))) (sym t.unhooked)
+          (costs 1 (moved v) >>= made_by b (bound_for g how to)))) (sym t.unhooked)
           (moved_value x g converting rest y to to_type v t (as_other v r.1) (house g.call.site (of_value from)) true r.0.read (code_is None none)
           (1 + (bytes v + 0)) (omega arith))
 
@@ -189,7 +189,7 @@ module _ (x : Basis) (traps : TrapsStop x) (labels : LabelsLead x) (g : Both) (r
             → Checks x.live (all_procs x) (within x.table x.blocks g) g.memory g.words (code_here x g converting rest y) g.call.vars
             (variable x g converting rest y to) (code_next x g converting rest y) (if b then Fine (number_of v) else Trapped OutOfRange)
             → Settles x (starts g converting rest) rest (gives (scene_of (high x.table x.blocks (starts g converting rest))) to
-            (costs 1 (outcome (if b then Fine (number_of v) else Trapped OutOfRange) >>= moved) >>= made_by false how))
+            (costs 1 (outcome (if b then Fine (number_of v) else Trapped OutOfRange) >>= moved) >>= made_by false (bound_for g how to)))
         narrowed true h c =
             gives_settles x g converting rest y to (number_of v) (1 + (4 + 0)) (omega arith)
             (getting x g converting rest y to to_type (Some values) (number_of v) t shape (and_from (is_int_number (number_of v)) (inside (number_of v) values)
@@ -203,15 +203,15 @@ module _ (x : Basis) (traps : TrapsStop x) (labels : LabelsLead x) (g : Both) (r
 
             twice : Passes (Finishes es (1 + length (line_of (trap_text OutOfRange))) 1 g.world)
                 ≡ gives (scene_of (high x.table x.blocks (starts g converting rest))) to
-                (costs 1 (outcome (Trapped OutOfRange) >>= moved) >>= made_by false how)
+                (costs 1 (outcome (Trapped OutOfRange) >>= moved) >>= made_by false (bound_for g how to))
             twice = ap (λ l. Passes (Finishes l (1 + length (line_of (trap_text OutOfRange))) 1 g.world)) (sym (append-nil es))
 
         one_of : Converts (Some values)
         one_of =
             subst (λ b. Settles x (starts g converting rest) rest (gives (scene_of (high x.table x.blocks (starts g converting rest))) to
-            (costs 1 (outcome result >>= moved) >>= made_by b how))) (sym t.unhooked) (narrowed (inside (number_of v) values) refl checks)
+            (costs 1 (outcome result >>= moved) >>= made_by b (bound_for g how to)))) (sym t.unhooked) (narrowed (inside (number_of v) values) refl checks)
 
-    pub convert_value : FollowedHere x labels g rest (L.Apply to O.Convert how (Some ty) (Some a ∷ []) (F.Value from ∷ []))
+    pub convert_value : RowHere x g rest to O.Convert how (Some ty) (Some a ∷ []) (F.Value from ∷ [])
     convert_value y =
         let f = applies x g rest to O.Convert how (Some ty) (Some a ∷ []) (F.Value from ∷ []) y in
         let from_typed : value_type x g converting rest y from ≡ Some from_type = same_type (value_type x g converting rest y from) (Some from_type)
@@ -219,7 +219,8 @@ module _ (x : Basis) (traps : TrapsStop x) (labels : LabelsLead x) (g : Both) (r
         let typed = value_type_by (value_type x g converting rest y to) (Some to_type) to_type f.given refl in
         mapped_settles x (starts g converting rest) rest (g.call.temps.values from) Given
         (λ z. gives (scene_of (high x.table x.blocks (starts g converting rest))) to
-        (costs 1 (converted (limit_of (facts_in x.table) to_type) (value_of z) >>= moved) >>= made_by (gives_hooked (facts_in x.table) (Some to_type)) how))
+        (costs 1 (converted (limit_of (facts_in x.table) to_type) (value_of z) >>= moved) >>= made_by (gives_hooked (facts_in x.table) (Some to_type))
+        (bound_for g how to)))
         (λ z e. by y typed from_typed z e (x.conversions ty a f.row))
       where
         by : (y : IsGood x (starts g converting rest)) (typed : value_type x g converting rest y to ≡ Some to_type)
@@ -234,7 +235,7 @@ module _ (x : Basis) (traps : TrapsStop x) (labels : LabelsLead x) (g : Both) (r
         by y typed from_typed v e (inr h) =
             subst (λ l. Converts y typed from_typed v e l) (sym h.2) (one_of y typed from_typed v e h.0 h.1 h.2 h.3 h.4)
 
-  pub convert_line : (ty : Option ℕ) (of : List (Option ℕ)) (from : List From) → FollowedHere x labels g rest (L.Apply to O.Convert how ty of from)
+  pub convert_line : (ty : Option ℕ) (of : List (Option ℕ)) (from : List From) → RowHere x g rest to O.Convert how ty of from
   convert_line (Some ty) (Some a ∷ []) (F.Value from ∷ []) y = convert_value ty a from y
   convert_line ty [] from y = never (applies x g rest to O.Convert how ty [] from y).row
   convert_line ty (a ∷ b ∷ of) from y = never (applies x g rest to O.Convert how ty (a ∷ b ∷ of) from y).row

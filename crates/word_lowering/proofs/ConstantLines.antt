@@ -4,13 +4,13 @@ use Rattle.std.proofs.Common.{Some, None, Ok, ℤ, true, false, refl, sym, pos}
 use Rattle.std.proofs.Common.{ap, ap₂, subst, ◌∙◌, arith}
 use Rattle.std.proofs.lemmas.Bool.{and_parts}
 use Rattle.std.specs.Prelude.{◌&&◌}
-use Rattle.nim_types.specs.Forms.{or_word}
+use Rattle.nim_types.specs.Forms.{or_word, form_of}
 use Rattle.nim_types.specs.Table.{facts_in, type_at}
 use Rattle.nim_types.specs.Types.{Ty}
 use Rattle.nim_program.specs.Kinds.{is_of}
 use Rattle.nim_program.specs.declared.operation.Use.{Use}
 use Rattle.nim_meaning.specs.Values.{Value, Number, Parts, Handle, Fixed, Ref, Resource, Gone, Vacant, Values, Nil, More, bytes, bytes_all}
-use Rattle.nim_meaning.specs.Deeds.{Answers, costs, give, ◌>>=◌}
+use Rattle.nim_meaning.specs.Deeds.{Answers, costs, ◌>>=◌}
 use Rattle.nim_meaning.specs.Places.{made_by}
 use Rattle.rv32_isa.specs.declared.micro_op.Size.TheVariants.{Word as whole}
 use Rattle.flat_code.specs.declared.block.BlockLine.{BlockLine}
@@ -50,7 +50,7 @@ use Rattle.word_lowering.proofs.Sites.{InMemory}
 use Rattle.word_lowering.proofs.Scenes.{address_of, Points, of_value, house, IsThere, looked}
 use Rattle.word_lowering.proofs.Keeping.{spot_memory, points_there}
 use Rattle.word_lowering.proofs.Related.{Both, body_of, high, within}
-use Rattle.word_lowering.proofs.Lines.{Basis, Settles, all_procs, fits_here, known, starts, IsGood, all_sites}
+use Rattle.word_lowering.proofs.Lines.{Basis, Settles, all_procs, fits_here, known, starts, IsGood, all_sites, bound_for}
 use Rattle.word_lowering.proofs.ValueFacts.{value_plain, InWord, in_word}
 use Rattle.word_lowering.proofs.ControlLines.{FollowedHere, plain, value_type}
 use Rattle.word_lowering.proofs.Sources.{Lying, lying_all, lying_area, lying_near, size_is, word_is, address_whole}
@@ -61,6 +61,7 @@ use Rattle.word_lowering.proofs.PieceWords.{by_words, words_are}
 use Rattle.word_lowering.proofs.SmallWords.{AllSmall, small_words}
 use Rattle.word_lowering.proofs.Settling.{LabelsLead, code_here, code_next}
 use Rattle.word_lowering.proofs.Targets.{target, texts_behind}
+use Rattle.nim_meaning.specs.Table.{constant_for}
 
 -- as many zeros
 abbrev zeros_of : List ℕ → Values
@@ -334,7 +335,7 @@ module _ (x : Basis) (labels : LabelsLead x) (g : Both) (rest : List BlockLine) 
       let u = are_of (value_type x g line rest y to) (Some to_type) f.1 in
       let t = target x g line rest y to to_type refl (ap (text_alias (texts_behind x g line rest y)) no_text) (u.is ∙ sym u.is_other) in
       subst (λ b. Settles x (starts g line rest) rest (gives (scene_of (high x.table x.blocks (starts g line rest))) to
-      (costs 1 (costs (pieces_bytes pieces) (give v)) >>= made_by b how))) (sym t.unhooked)
+      (costs 1 (costs (pieces_bytes pieces) (constant_for b (form_of (facts_in x.table) to_type) v)) >>= made_by b (bound_for g how to)))) (sym t.unhooked)
       (subst (λ n. Settles x (starts g line rest) rest (Passes (Answers [] (1 + (n + 0)) (with_value to g.call.temps v) g.world))) (sym long)
       (built_settles x g line rest y to t.there pieces v (words_are pieces p.0) (values_of_numbers v (shape_of (facts_in x.table) to_type) t.numbers p.1)
       (ap of_numbers t.look ∙ t.numbers) (subst (λ s. has_shape v s ≡ true) (sym t.look) p.1)

@@ -31,7 +31,7 @@ use Rattle.nim_program.specs.declared.operation.Use.{Use}
 use Rattle.word_lowering.proofs.ControlLines.{FollowedHere, plain, value_type}
 use Rattle.word_lowering.proofs.LineFits.{are_of}
 use Rattle.word_lowering.proofs.DistinctTexts.{has_behind}
-use Rattle.word_lowering.proofs.Lines.{Basis, Settles, all_procs, fits_here, known, starts, IsGood, all_sites, changed, good_changed, stands_next}
+use Rattle.word_lowering.proofs.Lines.{Basis, Settles, all_procs, fits_here, known, starts, IsGood, all_sites, changed, good_changed, stands_next, bound_for}
 use Rattle.word_lowering.proofs.Lines.{stays_on, waits_below}
 use Rattle.word_lowering.proofs.NumberLines.{constant_given, getting, variable}
 use Rattle.word_lowering.proofs.OperationRuns.{Given}
@@ -39,11 +39,15 @@ use Rattle.word_lowering.proofs.Related.{Both, body_of, high, within}
 use Rattle.word_lowering.proofs.Scenes.{house, of_value, IsLiteral, number_in}
 use Rattle.word_lowering.proofs.Settling.{LabelsLead, code_here, code_next, gives_settles}
 use Rattle.word_lowering.proofs.ShapeFacts.{never}
-use Rattle.word_lowering.proofs.Targets.{target, value_alias}
+use Rattle.word_lowering.proofs.Targets.{target, value_alias, plain_operands}
 use Rattle.word_lowering.proofs.ValueFacts.{put_here, in_word, put_away, put_still}
 use Rattle.flat_code.specs.Codes.{block_plain}
 use Rattle.flat_code.specs.Scene.{Passes, Temps, with_value}
 use Rattle.nim_meaning.specs.Here.{gives_hooked}
+use Rattle.nim_meaning.specs.Table.{constant_for}
+use Rattle.nim_types.specs.Forms.{form_of}
+use Rattle.nim_meaning.specs.Shapes.{is_lent}
+use Rattle.nim_program.specs.declared.operation.Use.TheVariants as uses
 
 -- ---- texts of lines
 
@@ -115,7 +119,7 @@ module _ (x : Basis) (labels : LabelsLead x) (g : Both) (rest : List BlockLine) 
       = ap (λ p. constant_at (house g.call.site (of_value to)) p (P.Ordinal z ∷ []) (code_next x g line rest y)) w.spot
       ∙ ap (λ u. Constant u (word z) ∷ code_next x g line rest y) (sym w.is) in
       subst (λ b. Settles x (starts g line rest) rest (gives (scene_of (high x.table x.blocks (starts g line rest))) to
-      (costs 1 (costs 0 (give (Number z))) >>= made_by b how))) (sym t.unhooked)
+      (costs 1 (costs 0 (constant_for b (form_of (facts_in x.table) to_type) (Number z))) >>= made_by b (bound_for g how to)))) (sym t.unhooked)
       (gives_settles x g line rest y to z (1 + (0 + 0)) (omega arith) n
       (subst (λ l. Given x.live (all_procs x) (within x.table x.blocks g) g.memory g.words l g.call.vars (variable x g line rest y to) (word z)
       (code_next x g line rest y)) (sym code) (constant_given x g line rest y to z n)))
@@ -196,11 +200,17 @@ module _ (x : Basis) (labels : LabelsLead x) (g : Both) (rest : List BlockLine) 
 
     pub text_constant : FollowedHere x labels g rest (L.Constant to how ty (P.Text text ∷ []))
     text_constant y =
-        subst (λ d. Settles x (starts g naming rest) rest d) (made_text (gives_hooked (facts_in x.table) (Some to_type)))
+        subst (λ d. Settles x (starts g naming rest) rest d)
+        (made_text (gives_hooked (facts_in x.table) (Some to_type)) how (plain_operands x g naming rest y))
         (stays_on x (starts g naming rest) (changed g rest text_temps g.call.vars g.memory g.words g.awaits g.world) rest (good_text y)
         1 text_temps g.world refl refl (omega arith))
       where
-        made_text : (b : Bool) → Passes (Answers [] 1 text_temps g.world)
-            ≡ gives (scene_of (high x.table x.blocks (starts g naming rest))) to (costs 1 (costs 0 (give (Fixed text))) >>= made_by b how)
-        made_text true = refl
-        made_text false = refl
+        made_text : (b : Bool) (how : Use) → is_lent how ≡ true → Passes (Answers [] 1 text_temps g.world)
+            ≡ gives (scene_of (high x.table x.blocks (starts g naming rest))) to
+            (costs 1 (costs 0 (constant_for b (form_of (facts_in x.table) to_type) (Fixed text))) >>= made_by b (bound_for g how to))
+        made_text false how h = refl
+        made_text true uses.Lent h = refl
+        made_text true uses.Owned h = never h
+        made_text true uses.Given h = never h
+        made_text true uses.Held h = never h
+        made_text true uses.Looked h = never h

@@ -43,7 +43,7 @@ use Rattle.word_lowering.proofs.Gets.{memory_kept, gets_bytes, value_settles}
 use Rattle.word_lowering.proofs.InMemory.{IsAt, AllZero, blank_zero, bytes_some, of_numbers as are_numbers, or_word_least}
 use Rattle.word_lowering.proofs.Keeping.{spot_memory}
 use Rattle.word_lowering.proofs.LineFits.{are_of}
-use Rattle.word_lowering.proofs.Lines.{Basis, IsGood, Settles, all_procs, all_sites, fits_here, known, starts}
+use Rattle.word_lowering.proofs.Lines.{Basis, IsGood, Settles, all_procs, all_sites, fits_here, known, starts, bound_for}
 use Rattle.word_lowering.proofs.Moves.{is_single}
 use Rattle.word_lowering.proofs.Options.{none_some, some_same}
 use Rattle.word_lowering.proofs.PartRuns.{PartOf, Sofar, more_most, part_moved, shifted_address, shifted_inside}
@@ -383,9 +383,9 @@ module _ (x : Basis) (labels : LabelsLead x) (g : Both) (rest : List BlockLine) 
       using_all_settles x (starts g building rest) rest g.call.temps from
       (λ xs. gives (scene_of (high x.table x.blocks (starts g building rest))) to
       (costs 1 (costs (bytes start_value) (give (with_fields start_value names (values_in xs))))
-      >>= made_by (gives_hooked (facts_in x.table) (Some to_type)) how))
+      >>= made_by (gives_hooked (facts_in x.table) (Some to_type)) (bound_for g how to)))
       (λ xs has. subst (λ b. Settles x (starts g building rest) rest (gives (scene_of (high x.table x.blocks (starts g building rest))) to
-      (costs 1 (costs (bytes start_value) (give (with_fields start_value names (values_in xs)))) >>= made_by b how))) (sym t.unhooked)
+      (costs 1 (costs (bytes start_value) (give (with_fields start_value names (values_in xs)))) >>= made_by b (bound_for g how to)))) (sym t.unhooked)
       (constructed x g building rest y to o.0 look ty t.there inside numbers size (λ i s e. x.parts_at ty t.unhooked o.0 i s o.1 e) names from
       (values_in xs)
       (fields_come x g building rest y to o.0 look to_kind o.2 numbers names from xs (subst (λ k. are_fields k names all_taken ≡ true) same r.1) p.1 has)

@@ -11,7 +11,7 @@ use Rattle.flat_code.specs.declared.line.Line.{Line}
 use Rattle.flat_code.specs.declared.line.Line.TheVariants as L
 use Rattle.flat_code.specs.Codes.{block_does}
 use Rattle.flat_code.specs.Running.{scene_of}
-use Rattle.word_lowering.proofs.ApplyFits.{applies}
+use Rattle.word_lowering.proofs.ApplyFits.{applies, RowHere}
 use Rattle.word_lowering.proofs.CallLabels.{ArgumentLabels}
 use Rattle.word_lowering.proofs.CallLines.{call_line}
 use Rattle.word_lowering.proofs.CaseLines.{fits_line}
@@ -33,6 +33,7 @@ use Rattle.word_lowering.proofs.MovedLines.{fill_line, get_line, give_line, look
 use Rattle.word_lowering.proofs.NumberLines.{count_line, beyond_line, next_line, truth_line, zero_line}
 use Rattle.word_lowering.proofs.OperandLines.{binary_line, unary_line}
 use Rattle.word_lowering.proofs.PartLines.{part_line}
+use Rattle.word_lowering.proofs.PlainRows.{as_row}
 use Rattle.word_lowering.proofs.Related.{Both, high}
 use Rattle.word_lowering.proofs.ReturnLine.{return_line}
 use Rattle.word_lowering.proofs.Settling.{LabelsLead, OwnLabels, TrapsStop}
@@ -48,7 +49,7 @@ use Rattle.word_lowering.proofs.WrittenLines.{Writing}
 module _ (x : Basis) (labels : LabelsLead x) where
   abbrev Row : Operation → Type 0
   Row operation = (g : Both) (rest : List BlockLine) (to : ℕ) (how : Use) (ty : Option ℕ) (of : List (Option ℕ)) (from : List From)
-      → FollowedHere x labels g rest (L.Apply to operation how ty of from)
+      → RowHere x g rest to operation how ty of from
 
 module _ (x : Basis) (labels : LabelsLead x) (traps : TrapsStop x) (own : OwnLabels x) (arguments : ArgumentLabels x)
     (said : Writing x) where
@@ -83,7 +84,8 @@ module _ (x : Basis) (labels : LabelsLead x) (traps : TrapsStop x) (own : OwnLab
   row_followed O.Blank g rest to how ty of from y = unborn_line x labels g rest to how ty of from y
 
   line_followed : (g : Both) (rest : List BlockLine) (line : Line) → FollowedHere x labels g rest line
-  line_followed g rest (L.Apply to operation how ty of from) y = row_followed operation g rest to how ty of from y
+  line_followed g rest (L.Apply to operation how ty of from) y =
+      as_row x labels g rest to how ty of from operation (row_followed operation g rest to how ty of from) y
   line_followed g rest (L.Construct to how ty fields from) y = construct_line x labels g rest to how ty fields from y
   line_followed g rest (L.Constant to how ty pieces) y = constant_line x labels g rest to how ty pieces y
   line_followed g rest (L.Call to how ty proc from) y = call_line x labels traps arguments g rest to how ty proc from y

@@ -28,10 +28,10 @@ use Rattle.nim_program.specs.Kinds.{is_int, kind_if, same_value}
 use Rattle.nim_program.specs.View.{if_type}
 use Rattle.nim_program.specs.declared.operation.Use.{Use}
 use Rattle.nim_types.specs.Table.{facts_in}
-use Rattle.word_lowering.proofs.ApplyFits.{applies}
-use Rattle.word_lowering.proofs.ControlLines.{FollowedHere, int_read, kind_at, plain, value_type}
+use Rattle.word_lowering.proofs.ApplyFits.{applies, RowHere}
+use Rattle.word_lowering.proofs.ControlLines.{int_read, kind_at, plain, value_type}
 use Rattle.word_lowering.proofs.LineFits.{same_type}
-use Rattle.word_lowering.proofs.Lines.{Basis, all_procs, known, lower, mapped_settles, starts}
+use Rattle.word_lowering.proofs.Lines.{Basis, all_procs, known, lower, mapped_settles, starts, bound_for}
 use Rattle.word_lowering.proofs.NumberLines.{variable}
 use Rattle.word_lowering.proofs.Settling.{LabelsLead, code_next, stops_more}
 use Rattle.word_lowering.proofs.ShapeFacts.{never}
@@ -56,13 +56,13 @@ module _ (x : Basis) (g : Both) where
       (exits k v1 FIRST 0 (got 0 (omega arith)))
 
 module _ (x : Basis) (labels : LabelsLead x) (g : Both) (rest : List BlockLine) (to : ℕ) (how : Use) where
-  quit_zero : FollowedHere x labels g rest (L.Apply to O.Quit how None [] [])
+  quit_zero : RowHere x g rest to O.Quit how None [] []
   quit_zero y =
       let line = plain (L.Apply to O.Quit how None [] []) in
       stops_more (lower x) (low x.table x.blocks (starts g line rest)) 2 16 0 [] no_objects (omega arith)
       (zero_exits x g (code_next x g line rest y)) x.fresh
 
-  quit_status : (a : Option ℕ) (status : ℕ) → FollowedHere x labels g rest (L.Apply to O.Quit how None (a ∷ []) (F.Value status ∷ []))
+  quit_status : (a : Option ℕ) (status : ℕ) → RowHere x g rest to O.Quit how None (a ∷ []) (F.Value status ∷ [])
   quit_status a status y =
       let line = plain (L.Apply to O.Quit how None (a ∷ []) (F.Value status ∷ [])) in
       let f = applies x g rest to O.Quit how None (a ∷ []) (F.Value status ∷ []) y in
@@ -72,13 +72,13 @@ module _ (x : Basis) (labels : LabelsLead x) (g : Both) (rest : List BlockLine) 
       = subst (λ o. is_int (kind_if (facts_in x.table) o) ≡ true) (sym v) f.row in
       mapped_settles x (starts g line rest) rest (g.call.temps.values status) Given
       (λ z. gives (scene_of (high x.table x.blocks (starts g line rest))) to
-      (costs 1 (end (low_byte (number_of (value_of z)))) >>= made_by false how))
+      (costs 1 (end (low_byte (number_of (value_of z)))) >>= made_by false (bound_for g how to)))
       (λ v e. let o = int_read x g line rest y status v k e in
       let s = exits x g (code_next x g line rest y) g.call.vars (variable x g line rest y status) (word (number_of v)) o.word_is in
       subst (λ n. AlwaysStops (lower x) (low x.table x.blocks (starts g line rest)) [] 16 n no_objects) (exit_status (number_of v) o.fits)
       (stops_more (lower x) (low x.table x.blocks (starts g line rest)) 1 16 (word (number_of v) % 256) [] no_objects (omega arith) s) x.fresh)
 
-  pub quit_line : (ty : Option ℕ) (of : List (Option ℕ)) (from : List From) → FollowedHere x labels g rest (L.Apply to O.Quit how ty of from)
+  pub quit_line : (ty : Option ℕ) (of : List (Option ℕ)) (from : List From) → RowHere x g rest to O.Quit how ty of from
   quit_line None [] [] y = quit_zero y
   quit_line None (a ∷ []) (F.Value status ∷ []) y = quit_status a status y
   quit_line (Some ty) of from y = never (applies x g rest to O.Quit how (Some ty) of from y).row

@@ -18,7 +18,7 @@ use Rattle.flat_code.specs.Fits.{is_location}
 use Rattle.flat_code.specs.Shapes.{Shape, block, shape_of}
 use Rattle.nim_program.specs.View.{if_type}
 use Rattle.nim_program.specs.declared.operation.Use.{Use}
-use Rattle.word_lowering.proofs.ApplyFits.{applies}
+use Rattle.word_lowering.proofs.ApplyFits.{applies, RowHere}
 use Rattle.word_lowering.proofs.ControlLines.{FollowedHere, plain, value_type}
 use Rattle.word_lowering.proofs.LineFits.{are_of, declared_other, same_type, some_kind}
 use Rattle.word_lowering.proofs.Lines.{Basis, IsGood, fits_here, known, starts}
@@ -191,7 +191,7 @@ module _ (x : Basis) (labels : LabelsLead x) (g : Both) (rest : List BlockLine) 
       location_heap x g line rest y t (subst (λ o. is_heap (kind_if (facts_in x.table) o) ≡ true) (sym v) k)
 
   abbrev Row_here : Operation → Type 0
-  Row_here operation = (ty : Option ℕ) (of : List (Option ℕ)) (from : List From) → FollowedHere x labels g rest (L.Apply to operation how ty of from)
+  Row_here operation = (ty : Option ℕ) (of : List (Option ℕ)) (from : List From) → RowHere x g rest to operation how ty of from
 
   abbrev kind_is : Option ℕ → TypeKind
   kind_is a = kind_if (facts_in x.table) (if_type (known x).types a)

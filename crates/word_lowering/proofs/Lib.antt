@@ -105,6 +105,7 @@ mod PartsInMemory
 mod PieceWeights
 mod PieceWords
 mod PlaceFacts
+mod PlainRows
 mod PlacesInOrder
 mod ProcCodes
 mod ReadFacts

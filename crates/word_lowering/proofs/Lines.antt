@@ -1,5 +1,5 @@
 -- How lines of block code are followed, and what is true behind one that changes one place.
-use Rattle.std.proofs.Common.{◌≡◌, ◌≢◌, ◌⊎◌, inl, inr, ℕ, suc, ◌+◌, ◌*◌, ◌^◌, ◌<◌, ◌≤◌, List, [], ◌∷◌, ◌++◌, length, drop}
+use Rattle.std.proofs.Common.{◌≡◌, ◌≢◌, ◌⊎◌, inl, inr, ℕ, suc, ◌+◌, ◌*◌, ◌<◌, ◌≤◌, List, [], ◌∷◌, ◌++◌, length, drop}
 use Rattle.std.proofs.Common.{map, Option, Some, None, Bool, true, false}
 use Rattle.std.proofs.Common.{refl, sym, ap, subst, ◌∙◌, arith, append_assoc}
 use Rattle.std.specs.Prelude.{option_map, slice_get, ◌%◌, ◌==◌, ◌&&◌}
@@ -15,6 +15,8 @@ use Rattle.nim_types.specs.Table.{type_at, types_in, facts_in}
 use Rattle.nim_meaning.specs.Values.{Value, Operand, default_of}
 use Rattle.nim_meaning.specs.State.{World}
 use Rattle.nim_meaning.specs.Acts.{branch}
+use Rattle.nim_meaning.specs.Places.{Destination}
+use Rattle.nim_program.specs.declared.operation.Use.{Use}
 use Rattle.nim_program.specs.Kinds.{kind_of, field_at, plain_kind, is_compared, is_resource}
 use Rattle.nim_program.specs.declared.operation.Comparison.{Comparison}
 use Rattle.nim_meaning.specs.Table.{limit_of}
@@ -95,6 +97,7 @@ pub record Basis : Type 0 where
       → is_hooked table ty ≡ false → (values : Option ℕ) × (shape_of (facts_in table) (type_at (types_in table) ty) ≡ number values)
   -- what comes without the heap is made of numbers
   pub plains : (ty : ℕ) → is_hooked table ty ≡ false → of_numbers (shape_of (facts_in table) (type_at (types_in table) ty)) ≡ true
+  pub unhooked : (ty : ℕ) → is_hooked table ty ≡ false → hooked (form_of (facts_in table) (type_at (types_in table) ty)) ≡ false
   -- an object with hooks of its own isn't made of numbers
   pub resources : (ty : ℕ) → is_resource (kind_of (facts_in table) (type_at (types_in table) ty)) ≡ true
       → of_numbers (shape_of (facts_in table) (type_at (types_in table) ty)) ≡ false
@@ -197,6 +200,10 @@ changed g rest temps vars m words awaits w = record {
 -- with other variables
 abbrev pub with_vars : Both → Vars → Both
 with_vars g vars = record g { call = call g.call.site g.call.temps vars }
+
+-- what a value is for that a temporary of the call gets
+abbrev pub bound_for : Both → Use → (to : ℕ) → Destination
+bound_for g how to = record { how = how; level = g.call.site.level; node = to }
 
 abbrev pub starts : Both → BlockLine → List BlockLine → Both
 starts g line rest = with_rest g (line ∷ rest)

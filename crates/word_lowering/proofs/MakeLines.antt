@@ -5,13 +5,13 @@ use Rattle.std.proofs.Common.{ap, subst, ◌∙◌, arith}
 use Rattle.std.specs.Prelude.{◌&&◌}
 use Rattle.std.proofs.lemmas.Bool.{and_parts, and_from, eqb-true}
 use Rattle.nim_types.specs.Types as type
-use Rattle.nim_types.specs.Types.{Ty, Tys, no_types, types, Facts, Fact, fact_of}
+use Rattle.nim_types.specs.Types.{Ty, Tys, no_types, types, Facts, fact_of}
 use Rattle.nim_types.specs.Table.{facts_in}
 use Rattle.nim_program.specs.declared.operation.Operation.TheVariants as O
 use Rattle.nim_program.specs.declared.operation.Use.{Use}
 use Rattle.nim_program.specs.Fitting.{are_parts}
 use Rattle.nim_program.specs.Kinds as kind
-use Rattle.nim_program.specs.Kinds.{TypeKind, count_types, declared_kind, has_parts, is_made, is_of, kind_if, kind_of, nth_type, part_at, same_value}
+use Rattle.nim_program.specs.Kinds.{TypeKind, count_types, declared_kind, has_parts, is_made, is_of, kind_if, kind_of, nth_type, same_value}
 use Rattle.nim_program.specs.View.{if_type}
 use Rattle.nim_meaning.specs.Values.{Value, Parts, Values, Nil, More, bytes, bytes_all, Operand, value_of, values_in}
 use Rattle.nim_meaning.specs.Deeds.{Answers, costs, give, ◌>>=◌}
@@ -35,13 +35,13 @@ use Rattle.word_lowering.specs.Layouts.{is_address}
 use Rattle.word_lowering.specs.LineCode.{operands, parts_code}
 use Rattle.word_lowering.proofs.AddressFacts.{in_memory}
 use Rattle.word_lowering.proofs.AllOperands.{Have, using_all_settles}
-use Rattle.word_lowering.proofs.ApplyFits.{applies}
-use Rattle.word_lowering.proofs.ControlLines.{FollowedHere, plain, value_type}
+use Rattle.word_lowering.proofs.ApplyFits.{applies, RowHere}
+use Rattle.word_lowering.proofs.ControlLines.{plain, value_type}
 use Rattle.word_lowering.proofs.Gets.{Gets, gets_bytes, good_value, value_settles}
 use Rattle.word_lowering.proofs.InMemory.{bytes_some, parts_bytes}
 use Rattle.word_lowering.proofs.Keeping.{nowhere, to_memory}
 use Rattle.word_lowering.proofs.LineFits.{declared_other, same_type, some_kind}
-use Rattle.word_lowering.proofs.Lines.{Basis, IsGood, Settles, all_procs, all_sites, changed, known, lower, starts, stands_next, stays_on}
+use Rattle.word_lowering.proofs.Lines.{Basis, IsGood, Settles, all_procs, all_sites, changed, known, lower, starts, stands_next, stays_on, bound_for}
 use Rattle.word_lowering.proofs.Moves.{all_same}
 use Rattle.word_lowering.proofs.OperandLines.{value_type_by}
 use Rattle.word_lowering.proofs.PartRuns.{Come, Sofar, changed_same, parts_moved}
@@ -271,7 +271,7 @@ module _ (x : Basis) (labels : LabelsLead x) (g : Both) (rest : List BlockLine) 
         no_code (F.Place t ∷ from) come = absurd come
     made (More v vs) shaped numbers come = some_parts v vs shaped numbers come
 
-  pub make_line : FollowedHere x labels g rest (L.Apply to O.Make how ty of from)
+  pub make_line : RowHere x g rest to O.Make how ty of from
   make_line y =
       let f = applies x g rest to O.Make how ty of from y in
       let wants : List (Option Ty) = map (if_type (known x).types) of in
@@ -285,11 +285,11 @@ module _ (x : Basis) (labels : LabelsLead x) (g : Both) (rest : List BlockLine) 
       using_all_settles x (starts g making rest) rest g.call.temps from
       (λ xs. gives (scene_of (high x.table x.blocks (starts g making rest))) to
       (costs 1 (costs (bytes (Parts (values_in xs))) (give (Parts (values_in xs))))
-      >>= made_by (gives_hooked (facts_in x.table) (if_type (known x).types ty)) how))
+      >>= made_by (gives_hooked (facts_in x.table) (if_type (known x).types ty)) (bound_for g how to)))
       (λ xs has. let c = all_come x g making rest y to s.0 wants from xs s.2 q.0 q.1 f.typed f.placed has t.numbers t.look in
       let inside = in_memory x g making rest y (of_value to) t.there (value_plain into.kind t.there.kind) (ap is_one_word t.look ∙ c.2) in
       subst (λ b. Settles x (starts g making rest) rest (gives (scene_of (high x.table x.blocks (starts g making rest))) to
-      (costs 1 (costs (bytes (Parts (values_in xs))) (give (Parts (values_in xs)))) >>= made_by b how)))
+      (costs 1 (costs (bytes (Parts (values_in xs))) (give (Parts (values_in xs)))) >>= made_by b (bound_for g how to))))
       (sym (ap (gives_hooked (facts_in x.table)) s.1 ∙ t.unhooked))
       (made y t.there inside (values_in xs) (subst (λ u. has_shape (Parts (values_in xs)) u ≡ true) (sym t.look) c.1)
       (ap of_numbers t.look ∙ t.numbers) c.0))

@@ -12,7 +12,7 @@ use Rattle.nim_program.specs.Kinds.{is_of}
 use Rattle.nim_meaning.specs.Values.{Value, bytes, Holds}
 use Rattle.nim_meaning.specs.State.{World, load, with_slot}
 use Rattle.nim_meaning.specs.Deeds.{Answers, costs}
-use Rattle.nim_meaning.specs.Here.{gives_hooked}
+use Rattle.nim_meaning.specs.Here.{gives_hooked, form_for}
 use Rattle.nim_meaning.specs.Places.{fetched, taken_by, place_at, put}
 use Rattle.flat_code.specs.declared.block.BlockLine.{BlockLine}
 use Rattle.flat_code.specs.declared.block.BlockLine.TheVariants as block_line
@@ -33,7 +33,7 @@ use Rattle.word_lowering.specs.Spots.{moves}
 use Rattle.word_lowering.proofs.LineFits.{are_of, single_is, single_number}
 use Rattle.word_lowering.proofs.Targets.{Target, target, pointed}
 use Rattle.word_lowering.proofs.Related.{high, within, Both, body_of}
-use Rattle.word_lowering.proofs.Lines.{known, Basis, IsGood, Settles, all_sites, changed, fits_here, goes_on, stands_next, starts, using_settles}
+use Rattle.word_lowering.proofs.Lines.{known, Basis, IsGood, Settles, all_sites, changed, fits_here, goes_on, stands_next, starts, using_settles, bound_for}
 use Rattle.word_lowering.proofs.ReadFacts.{Read, ValueRead, read_value, read_location}
 use Rattle.word_lowering.proofs.ControlLines.{FollowedHere, plain}
 use Rattle.word_lowering.proofs.Settling.{code_here, code_next, LabelsLead}
@@ -199,10 +199,11 @@ module _ (x : Basis) (g : Both) (line : BlockLine) (rest : List BlockLine) (y : 
       → code_here x g line rest y
       ≡ moves (house g.call.site (of_value to)) (location (around x.table x.blocks (body_of g)) from) (code_next x g line rest y)
       → Settles x (starts g line rest) rest (gives (scene_of (high x.table x.blocks (starts g line rest))) to
-      (taken_by (gives_hooked (facts_in x.table) o) how act (location_at g.call.temps there)))
+      (taken_by (gives_hooked (facts_in x.table) o) (form_for (facts_in x.table) o) (bound_for g how to) act (location_at g.call.temps there)))
   taken_settles to ty o how act from there t is typed e code =
       subst (λ b. Settles x (starts g line rest) rest (gives (scene_of (high x.table x.blocks (starts g line rest))) to
-      (taken_by b how act (location_at g.call.temps there)))) (sym (ap (gives_hooked (facts_in x.table)) is ∙ t.unhooked))
+      (taken_by b (form_for (facts_in x.table) o) (bound_for g how to) act (location_at g.call.temps there))))
+      (sym (ap (gives_hooked (facts_in x.table)) is ∙ t.unhooked))
       (fetched_settles to ty from there t typed e code)
 
 module _ (x : Basis) (labels : LabelsLead x) (g : Both) (rest : List BlockLine) where
@@ -227,7 +228,8 @@ module _ (x : Basis) (labels : LabelsLead x) (g : Both) (rest : List BlockLine) 
         let same : a.ty ≡ f.ty = some_same a.ty f.ty (sym a.is ∙ f.is) in
         using_settles x (starts g line rest) rest (g.call.temps.places from)
         (λ there. gives (scene_of (high x.table x.blocks (starts g line rest))) to
-        (taken_by (gives_hooked (facts_in x.table) (if_type (known x).types ty)) how None (location_at g.call.temps there)))
+        (taken_by (gives_hooked (facts_in x.table) (if_type (known x).types ty)) (form_for (facts_in x.table) (if_type (known x).types ty))
+        (bound_for g how to) None (location_at g.call.temps there)))
         (λ there e. taken_settles x g line rest y to f.ty (if_type (known x).types ty) how None from there (target x g line rest y to f.ty refl refl f.is)
         (a.is_other ∙ ap Some same) f.is_other e refl)
 
@@ -246,7 +248,8 @@ module _ (x : Basis) (labels : LabelsLead x) (g : Both) (rest : List BlockLine) 
         let same : a.ty ≡ f.ty = some_same a.ty f.ty (sym a.is ∙ f.is) in
         using_settles x (starts g line rest) rest (g.call.temps.places from)
         (λ there. gives (scene_of (high x.table x.blocks (starts g line rest))) to
-        (taken_by (gives_hooked (facts_in x.table) (if_type (known x).types ty)) how act (location_at g.call.temps there)))
+        (taken_by (gives_hooked (facts_in x.table) (if_type (known x).types ty)) (form_for (facts_in x.table) (if_type (known x).types ty))
+        (bound_for g how to) act (location_at g.call.temps there)))
         (λ there e. taken_settles x g line rest y to f.ty (if_type (known x).types ty) how act from there (target x g line rest y to f.ty refl refl f.is)
         (a.is_other ∙ ap Some same) f.is_other e refl)
 

@@ -18,7 +18,7 @@ use Rattle.nim_meaning.specs.Table.{outcome}
 use Rattle.flat_code.specs.declared.line.Line.TheVariants as L
 use Rattle.flat_code.specs.declared.line.From.{From}
 use Rattle.flat_code.specs.declared.line.From.TheVariants as F
-use Rattle.flat_code.specs.Codes.{block_does, block_plain}
+use Rattle.flat_code.specs.Codes.{block_plain}
 use Rattle.flat_code.specs.Running.{scene_of}
 use Rattle.flat_code.specs.Scene.{Did, Passes, with_value}
 use Rattle.flat_code.specs.Shapes.{has_shape, shape_of, number}
@@ -36,7 +36,7 @@ use Rattle.nim_program.specs.Kinds.{TypeKind, is_bool, is_int, is_of, kind_if, s
 use Rattle.word_code.specs.declared.word.WordInstr.{WordInstr}
 use Rattle.word_lowering.proofs.ControlLines.{number_read, value_type, plain}
 use Rattle.word_lowering.proofs.LineFits.{value_type as value_is, number_value, are_of, bool_shape, int_shape, same_type}
-use Rattle.word_lowering.proofs.Lines.{Basis, IsGood, Settles, all_procs, known, starts, mapped_settles}
+use Rattle.word_lowering.proofs.Lines.{Basis, IsGood, Settles, all_procs, known, starts, mapped_settles, bound_for}
 use Rattle.word_lowering.proofs.OperationRuns.{Checks}
 use Rattle.word_lowering.proofs.Related.{Both, high, within, body_of}
 use Rattle.word_lowering.proofs.Settling.{Getting, TrapsStop, code_here, code_next, code_of_line, gives_settles, trap_settles, OwnLabels}
@@ -53,7 +53,7 @@ use Rattle.word_lowering.specs.declared.homes.TheConstants.{OWN_FROM}
 use Rattle.flat_code.specs.Lines.{gives, using}
 use Rattle.word_lowering.proofs.NumberLines.{getting, variable}
 use Rattle.std.specs.Ordering.{int_eq}
-use Rattle.word_lowering.proofs.ApplyFits.{applies}
+use Rattle.word_lowering.proofs.ApplyFits.{applies, row_does}
 use Rattle.word_lowering.specs.LineCode.{label_before}
 
 -- ---- results of a shape
@@ -205,7 +205,7 @@ module _ (x : Basis) (traps : TrapsStop x) (g : Both) (line : BlockLine) (rest :
 
   -- a value without hooks is what it is, however it is used
   pub told : (hooked : Bool) (how : Use) → hooked ≡ false → (r : Checked)
-      → answer 1 r ≡ gives (scene_of (high x.table x.blocks (starts g line rest))) to (costs 1 (outcome r) >>= made_by hooked how)
+      → answer 1 r ≡ gives (scene_of (high x.table x.blocks (starts g line rest))) to (costs 1 (outcome r) >>= made_by hooked (bound_for g how to))
   told true how e r = absurd (true≢false e)
   told false how e (Fine z) = refl
   told false how e (Trapped trap) =
@@ -225,12 +225,13 @@ module _ (x : Basis) (traps : TrapsStop x) (own : OwnLabels x) (g : Both) (rest 
     one_followed : (y : IsGood x (starts g one rest)) (values : Option ℕ) (t : Ty) → if_type (known x).types ty ≡ Some t
         → value_type x g one rest y to ≡ Some t → value_type x g one rest y from ≡ Some t → shape_of (facts_in x.table) t ≡ number values
         → ((v : Value) → has_shape v (number values) ≡ true → MayBe None (applied_to operator (number_of v)) → MayBe values (applied_to operator (number_of v)))
-        → Settles x (starts g one rest) rest (block_does (known x) (scene_of (high x.table x.blocks (starts g one rest))) one)
+        → Settles x (starts g one rest) rest (row_does x g rest to (O.Unary operator) how ty (a ∷ []) (F.Value from ∷ []))
     one_followed y values t types typed from_typed shape may =
         let got = target x g one rest y to t refl refl typed in
         mapped_settles x (starts g one rest) rest (g.call.temps.values from) Given
         (λ u. gives (scene_of (high x.table x.blocks (starts g one rest))) to
-        (costs 1 (outcome (applied_to operator (number_of (value_of u)))) >>= made_by (gives_hooked (facts_in x.table) (if_type (known x).types ty)) how))
+        (costs 1 (outcome (applied_to operator (number_of (value_of u)))) >>= made_by (gives_hooked (facts_in x.table) (if_type (known x).types ty))
+        (bound_for g how to)))
         (λ v e. let o = number_read x g one rest y from v t values from_typed shape e in
         let z = getting_any x traps g one rest y to t values got shape in
         let checks = unary_checks x.live (all_procs x) (within x.table x.blocks g) g.memory g.words g.call.vars (variable x g one rest y to)
@@ -267,7 +268,7 @@ module _ (x : Basis) (traps : TrapsStop x) (own : OwnLabels x) (g : Both) (rest 
 
     one_int : (y : IsGood x (starts g one rest)) → is_int (kind_if (facts_in x.table) (if_type (known x).types ty)) ≡ true
         → is_of (if_type (known x).types a) (if_type (known x).types ty) ≡ true
-        → Settles x (starts g one rest) rest (block_does (known x) (scene_of (high x.table x.blocks (starts g one rest))) one)
+        → Settles x (starts g one rest) rest (row_does x g rest to (O.Unary operator) how ty (a ∷ []) (F.Value from ∷ []))
     one_int y k same =
         let t = one_typed y same in
         one_followed y None t.ty_is t.types t.typed t.from_typed
@@ -276,8 +277,7 @@ module _ (x : Basis) (traps : TrapsStop x) (own : OwnLabels x) (g : Both) (rest 
   abbrev OneDoes : UnaryOperator → List (Option ℕ) → List From → Type 0
   OneDoes operator of from = (y : IsGood x (starts g (plain (L.Apply to (O.Unary operator) how ty of from)) rest))
       → Settles x (starts g (plain (L.Apply to (O.Unary operator) how ty of from)) rest) rest
-      (block_does (known x) (scene_of (high x.table x.blocks (starts g (plain (L.Apply to (O.Unary operator) how ty of from)) rest)))
-      (plain (L.Apply to (O.Unary operator) how ty of from)))
+      (row_does x g rest to (O.Unary operator) how ty of from)
 
   one_line : (operator : UnaryOperator) (a : Option ℕ) (from : ℕ) → OneDoes operator (a ∷ []) (F.Value from ∷ [])
   one_line unary.Plus a from y =
@@ -323,11 +323,12 @@ module _ (x : Basis) (traps : TrapsStop x) (own : OwnLabels x) (g : Both) (rest 
         → shape_of (facts_in x.table) t ≡ number values
         → ((v w : Value) → has_shape v (number values) ≡ true → has_shape w (number values) ≡ true
         → MayBe None (applied operator (number_of v) (number_of w)) → MayBe values (applied operator (number_of v) (number_of w)))
-        → Settles x (starts g two rest) rest (block_does (known x) (scene_of (high x.table x.blocks (starts g two rest))) two)
+        → Settles x (starts g two rest) rest (row_does x g rest to (O.Binary operator) how ty (a ∷ b ∷ []) (F.Value left ∷ F.Value right ∷ []))
     two_followed y values t types typed left_typed right_typed shape may =
         let got = target x g two rest y to t refl refl typed in
         let gives_it : Value → Value → Did = λ v w. gives (scene_of (high x.table x.blocks (starts g two rest))) to
-        (costs 1 (outcome (applied operator (number_of v) (number_of w))) >>= made_by (gives_hooked (facts_in x.table) (if_type (known x).types ty)) how) in
+        (costs 1 (outcome (applied operator (number_of v) (number_of w))) >>= made_by (gives_hooked (facts_in x.table) (if_type (known x).types ty))
+        (bound_for g how to)) in
         mapped_settles x (starts g two rest) rest (g.call.temps.values left) Given
         (λ u. using (option_map Given (g.call.temps.values right)) (λ z. gives_it (value_of u) (value_of z)))
         (λ v e. mapped_settles x (starts g two rest) rest (g.call.temps.values right) Given (λ z. gives_it v (value_of z))
@@ -380,7 +381,7 @@ module _ (x : Basis) (traps : TrapsStop x) (own : OwnLabels x) (g : Both) (rest 
         }
 
     abbrev TwoFollowed : IsGood x (starts g two rest) → Type 0
-    TwoFollowed y = Settles x (starts g two rest) rest (block_does (known x) (scene_of (high x.table x.blocks (starts g two rest))) two)
+    TwoFollowed y = Settles x (starts g two rest) rest (row_does x g rest to (O.Binary operator) how ty (a ∷ b ∷ []) (F.Value left ∷ F.Value right ∷ []))
 
     abbrev TwoKinds : (TypeKind → Bool) → Type 0
     TwoKinds is = (is (kind_if (facts_in x.table) (if_type (known x).types ty))
@@ -419,8 +420,7 @@ module _ (x : Basis) (traps : TrapsStop x) (own : OwnLabels x) (g : Both) (rest 
   abbrev TwoDoes : Operator → List (Option ℕ) → List From → Type 0
   TwoDoes operator of from = (y : IsGood x (starts g (plain (L.Apply to (O.Binary operator) how ty of from)) rest))
       → Settles x (starts g (plain (L.Apply to (O.Binary operator) how ty of from)) rest) rest
-      (block_does (known x) (scene_of (high x.table x.blocks (starts g (plain (L.Apply to (O.Binary operator) how ty of from)) rest)))
-      (plain (L.Apply to (O.Binary operator) how ty of from)))
+      (row_does x g rest to (O.Binary operator) how ty of from)
 
   module _ (a b : Option ℕ) (left right : ℕ) where
     row_of : (operator : Operator) (y : IsGood x (starts g (two operator a b left right) rest))

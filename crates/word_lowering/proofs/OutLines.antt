@@ -22,6 +22,7 @@ use Rattle.word_lowering.proofs.Clears.{gets_cleared}
 use Rattle.word_lowering.proofs.Gets.{Gets, SameTemps, good_place, gets_moved, good_value, same_temps}
 use Rattle.word_lowering.proofs.InMemory.{AllZero, blank_zero, bytes_some}
 use Rattle.word_lowering.proofs.Lines.{reaches, Basis, IsGood, all_procs, all_sites, changed, data_there, stands_next, starts, Settles, goes_on, known}
+use Rattle.word_lowering.proofs.Lines.{bound_for}
 use Rattle.word_lowering.proofs.Lines.{mapped_settles}
 use Rattle.word_lowering.proofs.Located.{place_located}
 use Rattle.word_lowering.proofs.MovedLines.{own_plain}
@@ -47,8 +48,8 @@ use Rattle.nim_types.specs.Forms.{form_of}
 use Rattle.nim_types.specs.Table.{facts_in, type_at}
 use Rattle.nim_types.specs.Types.{Ty}
 use Rattle.std.proofs.lemmas.Bool.{and_parts}
-use Rattle.word_lowering.proofs.ApplyFits.{applies}
-use Rattle.word_lowering.proofs.ControlLines.{FollowedHere, plain, value_type}
+use Rattle.word_lowering.proofs.ApplyFits.{applies, RowHere}
+use Rattle.word_lowering.proofs.ControlLines.{plain, value_type}
 use Rattle.word_lowering.proofs.LineFits.{are_of, same_type, single_is}
 use Rattle.word_lowering.proofs.OperandLines.{value_type_by}
 use Rattle.word_lowering.proofs.Settling.{LabelsLead, code_next}
@@ -197,7 +198,7 @@ module _ (x : Basis) (labels : LabelsLead x) (g : Both) (rest : List BlockLine) 
         (then_runs x.live (all_procs x) get.runs c.runs) (let h = get.some in omega (arith, h))
         (let h = get.few in let i = c.few in omega (arith, h, i, size, some)) refl)
 
-    pub move_value : FollowedHere x labels g rest (L.Apply to O.Move how (Some ty) (a ∷ []) (F.Place from ∷ []))
+    pub move_value : RowHere x g rest to O.Move how (Some ty) (a ∷ []) (F.Place from ∷ [])
     move_value y =
         let f = applies x g rest to O.Move how (Some ty) (a ∷ []) (F.Place from ∷ []) y in
         let typed = value_type_by (value_type x g moving rest y to) (Some to_type) to_type f.given refl in
@@ -209,12 +210,12 @@ module _ (x : Basis) (labels : LabelsLead x) (g : Both) (rest : List BlockLine) 
         let t = target x g moving rest y to to_type refl refl typed in
         mapped_settles x (starts g moving rest) rest (g.call.temps.places from) (λ place. At (location_at g.call.temps place))
         (λ l. gives (scene_of (high x.table x.blocks (starts g moving rest))) to
-        (costs 1 (exchanged (location_of l) start_value) >>= made_by (gives_hooked (facts_in x.table) (Some to_type)) how))
+        (costs 1 (exchanged (location_of l) start_value) >>= made_by (gives_hooked (facts_in x.table) (Some to_type)) (bound_for g how to)))
         (λ there e. subst (λ b. Settles x (starts g moving rest) rest (gives (scene_of (high x.table x.blocks (starts g moving rest))) to
-        (costs 1 (exchanged (location_at g.call.temps there) start_value) >>= made_by b how))) (sym t.unhooked)
+        (costs 1 (exchanged (location_at g.call.temps there) start_value) >>= made_by b (bound_for g how to)))) (sym t.unhooked)
         (moved_out y there e typed from_typed may.0))
 
-  pub move_line : (ty : Option ℕ) (of : List (Option ℕ)) (from : List From) → FollowedHere x labels g rest (L.Apply to O.Move how ty of from)
+  pub move_line : (ty : Option ℕ) (of : List (Option ℕ)) (from : List From) → RowHere x g rest to O.Move how ty of from
   move_line (Some ty) (a ∷ []) (F.Place from ∷ []) y = move_value ty a from y
   move_line ty [] from y = never (applies x g rest to O.Move how ty [] from y).row
   move_line ty (a ∷ b ∷ of) from y = never (applies x g rest to O.Move how ty (a ∷ b ∷ of) from y).row

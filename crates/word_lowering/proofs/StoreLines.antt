@@ -21,7 +21,7 @@ use Rattle.nim_program.specs.View.{if_type}
 use Rattle.nim_program.specs.declared.operation.Use.{Use}
 use Rattle.nim_types.specs.Table.{facts_in, type_at}
 use Rattle.nim_types.specs.Types.{Ty}
-use Rattle.word_lowering.proofs.ApplyFits.{applies}
+use Rattle.word_lowering.proofs.ApplyFits.{applies, RowHere}
 use Rattle.word_lowering.proofs.ControlLines.{FollowedHere, plain, value_type}
 use Rattle.word_lowering.proofs.Gets.{SameTemps, nothing_temps}
 use Rattle.word_lowering.proofs.InMemory.{bytes_some}
@@ -30,7 +30,7 @@ use Rattle.word_lowering.proofs.ReadFacts.{ValueRead}
 use Rattle.word_lowering.specs.Spots.{moves, passes}
 use Rattle.flat_code.specs.Codes.{block_does}
 use Rattle.word_lowering.proofs.LineFits.{are_of, no_type, ordinal_shape, same_type, type_there}
-use Rattle.word_lowering.proofs.Lines.{Basis, IsGood, Settles, known, mapped_settles, starts, all_settles, fits_here, using_settles}
+use Rattle.word_lowering.proofs.Lines.{Basis, IsGood, Settles, known, mapped_settles, starts, all_settles, fits_here, using_settles, bound_for}
 use Rattle.word_lowering.proofs.MovedLines.{value_read, moved_value, moved_word}
 use Rattle.word_lowering.proofs.OutPlaces.{Written, stored_settles, written_at}
 use Rattle.word_lowering.proofs.Related.{Both, body_of, high}
@@ -73,7 +73,7 @@ module _ (x : Basis) (labels : LabelsLead x) (g : Both) (rest : List BlockLine) 
     abbrev assign : BlockLine
     assign = plain (L.Apply to O.Assign how None (a ∷ b ∷ []) (F.Place at ∷ F.Value from ∷ []))
 
-    pub assign_values : FollowedHere x labels g rest (L.Apply to O.Assign how None (a ∷ b ∷ []) (F.Place at ∷ F.Value from ∷ []))
+    pub assign_values : RowHere x g rest to O.Assign how None (a ∷ b ∷ []) (F.Place at ∷ F.Value from ∷ [])
     assign_values y =
         let f = applies x g rest to O.Assign how None (a ∷ b ∷ []) (F.Place at ∷ F.Value from ∷ []) y in
         let none = no_type (value_type x g assign rest y to) f.given in
@@ -88,19 +88,19 @@ module _ (x : Basis) (labels : LabelsLead x) (g : Both) (rest : List BlockLine) 
         let may = and_parts (if_kind is_standing (place_named is_location (body_of g).proc.places at)) true f.written in
         mapped_settles x (starts g assign rest) rest (g.call.temps.places at) (λ place. At (location_at g.call.temps place))
         (λ l. using (option_map Given (g.call.temps.values from)) (λ z. gives (scene_of (high x.table x.blocks (starts g assign rest))) to
-        (costs 1 (put (location_of l) (value_of z)) >>= made_by false how)))
+        (costs 1 (put (location_of l) (value_of z)) >>= made_by false (bound_for g how to))))
         (λ there e. mapped_settles x (starts g assign rest) rest (g.call.temps.values from) Given
         (λ z. gives (scene_of (high x.table x.blocks (starts g assign rest))) to
-        (costs 1 (put (location_at g.call.temps there) (value_of z)) >>= made_by false how))
+        (costs 1 (put (location_at g.call.temps there) (value_of z)) >>= made_by false (bound_for g how to)))
         (λ z h. let s = writes_at x g assign rest y at there w.ty at_typed may.0 e in
         let r = value_read x g assign rest y from z w.ty from_typed s.numbers h in
         subst (λ l. Settles x (starts g assign rest) rest (gives (scene_of (high x.table x.blocks (starts g assign rest))) to
-        (costs 1 (put l z) >>= made_by false how))) (sym s.is)
+        (costs 1 (put l z) >>= made_by false (bound_for g how to)))) (sym s.is)
         (stored_settles x g assign rest y (location (around x.table x.blocks (body_of g)) at) s.at (shape_of (facts_in x.table) w.ty) z r.1
         (house g.call.site (of_value from)) r.0.read refl (with_value to g.call.temps nothing) (none_temps x g assign rest y to none)
         (1 + (bytes z + 0)) (omega arith) s.written)))
 
-  pub assign_line : (ty : Option ℕ) (of : List (Option ℕ)) (from : List From) → FollowedHere x labels g rest (L.Apply to O.Assign how ty of from)
+  pub assign_line : (ty : Option ℕ) (of : List (Option ℕ)) (from : List From) → RowHere x g rest to O.Assign how ty of from
   assign_line None (a ∷ b ∷ []) (F.Place at ∷ F.Value from ∷ []) y = assign_values a b at from y
   assign_line (Some ty) of from y = never (applies x g rest to O.Assign how (Some ty) of from y).row
   assign_line None [] from y = never (applies x g rest to O.Assign how None [] from y).row
@@ -121,12 +121,12 @@ module _ (x : Basis) (labels : LabelsLead x) (g : Both) (rest : List BlockLine) 
 
   -- ---- nothing is done
 
-  pub discard_line : (ty : Option ℕ) (of : List (Option ℕ)) (from : List From) → FollowedHere x labels g rest (L.Apply to O.Discard how ty of from)
+  pub discard_line : (ty : Option ℕ) (of : List (Option ℕ)) (from : List From) → RowHere x g rest to O.Discard how ty of from
   discard_line None of from y =
       let line = plain (L.Apply to O.Discard how None of from) in
       let f = applies x g rest to O.Discard how None of from y in
       all_settles x (starts g line rest) rest g.call.temps from
-      (λ xs. gives (scene_of (high x.table x.blocks (starts g line rest))) to (costs 1 (give nothing) >>= made_by false how))
+      (λ xs. gives (scene_of (high x.table x.blocks (starts g line rest))) to (costs 1 (give nothing) >>= made_by false (bound_for g how to)))
       (λ xs. silent_settles x g line rest y (with_value to g.call.temps nothing)
       (none_temps x g line rest y to (no_type (value_type x g line rest y to) f.given)) 1 refl)
   discard_line (Some ty) of from y = never (applies x g rest to O.Discard how (Some ty) of from y).row
@@ -156,10 +156,10 @@ module _ (x : Basis) (labels : LabelsLead x) (g : Both) (rest : List BlockLine) 
       let from_typed = type_there (value_type x g line rest y to) (value_type x g line rest y from) t f.0 typed in
       let s = target x g line rest y to t refl refl typed in
       using_settles x (starts g line rest) rest (g.call.temps.values from)
-      (λ v. gives (scene_of (high x.table x.blocks (starts g line rest))) to (costs 1 (handed_by (facts_in x.table) how (Some t) v)))
+      (λ v. gives (scene_of (high x.table x.blocks (starts g line rest))) to (costs 1 (handed_by (facts_in x.table) (bound_for g how to) (Some t) v)))
       (λ v e. let r = value_read x g line rest y from v t from_typed s.numbers e in
       subst (λ b. Settles x (starts g line rest) rest (gives (scene_of (high x.table x.blocks (starts g line rest))) to
-      (costs 1 (moved v >>= made_by b how)))) (sym s.unhooked)
+      (costs 1 (moved v >>= made_by b (bound_for g how to))))) (sym s.unhooked)
       (moved_value x g line rest y to t v s r.1 (house g.call.site (of_value from)) true r.0.read (passed_code x g line rest y to from v t s r.1 r.0)
       (1 + (bytes v + 0)) (omega arith)))
 

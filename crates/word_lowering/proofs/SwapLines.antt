@@ -34,13 +34,13 @@ use Rattle.word_lowering.specs.declared.homes.Home.{Home}
 use Rattle.word_lowering.specs.Aliases.{handed_by, is_among, places_in}
 use Rattle.word_lowering.specs.LineCode.{location, swap_code}
 use Rattle.word_lowering.proofs.AddressFacts.{handed_at}
-use Rattle.word_lowering.proofs.ApplyFits.{applies}
-use Rattle.word_lowering.proofs.ControlLines.{FollowedHere, plain, value_type}
+use Rattle.word_lowering.proofs.ApplyFits.{applies, RowHere}
+use Rattle.word_lowering.proofs.ControlLines.{plain, value_type}
 use Rattle.word_lowering.proofs.Gets.{SameTemps, same_temps}
 use Rattle.word_lowering.proofs.InMemory.{IsAt, bytes_whole, bytes_some, copied_there}
 use Rattle.word_lowering.proofs.Keeping.{number_cases, same_numbers}
 use Rattle.word_lowering.proofs.LineFits.{are_of, no_type, same_type, has_words}
-use Rattle.word_lowering.proofs.Lines.{Basis, IsGood, Settles, all_procs, all_sites, changed, data_there, goes_on, known, mapped_settles, reaches}
+use Rattle.word_lowering.proofs.Lines.{Basis, IsGood, Settles, all_procs, all_sites, changed, data_there, goes_on, known, mapped_settles, reaches, bound_for}
 use Rattle.word_lowering.proofs.Lines.{stands_next, starts}
 use Rattle.word_lowering.proofs.Located.{IsThereAt, place_located}
 use Rattle.word_lowering.proofs.Moves.{IsHigh, all_same, words_of}
@@ -316,7 +316,7 @@ module _ (x : Basis) (labels : LabelsLead x) (g : Both) (rest : List BlockLine) 
     abbrev may_write : ℕ → Bool
     may_write t = if_kind is_standing (place_named is_location (body_of g).proc.places t)
 
-    swap_values : FollowedHere x labels g rest (L.Apply to O.Swap how None (a ∷ b ∷ []) (F.Place left ∷ F.Place right ∷ []))
+    swap_values : RowHere x g rest to O.Swap how None (a ∷ b ∷ []) (F.Place left ∷ F.Place right ∷ [])
     swap_values y =
         let f = applies x g rest to O.Swap how None (a ∷ b ∷ []) (F.Place left ∷ F.Place right ∷ []) y in
         let none = none_temps x g swapping rest y to (no_type (value_type x g swapping rest y to) f.given) in
@@ -331,20 +331,20 @@ module _ (x : Basis) (labels : LabelsLead x) (g : Both) (rest : List BlockLine) 
         mapped_settles x (starts g swapping rest) rest (g.call.temps.places left) (λ place. At (location_at g.call.temps place))
         (λ l. using (option_map (λ place. At (location_at g.call.temps place)) (g.call.temps.places right))
         (λ m. gives (scene_of (high x.table x.blocks (starts g swapping rest))) to
-        (costs 1 (swapped (location_of l) (location_of m)) >>= made_by false how)))
+        (costs 1 (swapped (location_of l) (location_of m)) >>= made_by false (bound_for g how to))))
         (λ here e. mapped_settles x (starts g swapping rest) rest (g.call.temps.places right) (λ place. At (location_at g.call.temps place))
         (λ m. gives (scene_of (high x.table x.blocks (starts g swapping rest))) to
-        (costs 1 (swapped (location_at g.call.temps here) (location_of m)) >>= made_by false how))
+        (costs 1 (swapped (location_at g.call.temps here) (location_of m)) >>= made_by false (bound_for g how to)))
         (λ there h.
         let l = end_at x g swapping rest y w.ty left here left_typed may.0 (among_first left (right ∷ [])) e in
         let m = end_at x g swapping rest y w.ty right there right_typed may_right.0 (among_more right left (right ∷ []) (among_first right [])) h in
         subst (λ k. Settles x (starts g swapping rest) rest (gives (scene_of (high x.table x.blocks (starts g swapping rest))) to
-        (costs 1 (swapped k (location_at g.call.temps there)) >>= made_by false how))) (sym l.is)
+        (costs 1 (swapped k (location_at g.call.temps there)) >>= made_by false (bound_for g how to)))) (sym l.is)
         (subst (λ k. Settles x (starts g swapping rest) rest (gives (scene_of (high x.table x.blocks (starts g swapping rest))) to
-        (costs 1 (swapped l.at_location k) >>= made_by false how))) (sym m.is)
+        (costs 1 (swapped l.at_location k) >>= made_by false (bound_for g how to)))) (sym m.is)
         (both_settle x g swapping rest y w.ty left right here there l m (with_value to g.call.temps nothing) none refl))))
 
-  pub swap_line : (ty : Option ℕ) (of : List (Option ℕ)) (from : List From) → FollowedHere x labels g rest (L.Apply to O.Swap how ty of from)
+  pub swap_line : (ty : Option ℕ) (of : List (Option ℕ)) (from : List From) → RowHere x g rest to O.Swap how ty of from
   swap_line None (a ∷ b ∷ []) (F.Place left ∷ F.Place right ∷ []) y = swap_values a b left right y
   swap_line (Some ty) of from y = never (applies x g rest to O.Swap how (Some ty) of from y).row
   swap_line None [] from y = never (applies x g rest to O.Swap how None [] from y).row

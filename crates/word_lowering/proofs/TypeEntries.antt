@@ -11,24 +11,25 @@ use Rattle.nim_types.specs.Types.{Ty, Field, Fact, Facts, fact_of, members_in, b
 use Rattle.nim_types.specs.Table.{type_at, types_in, facts_in, fields_with, fields_fact, said_of, meant, and_said, facts_over, IsTable}
 use Rattle.nim_types.specs.Entries.{meant_at, said_at, one_if}
 use Rattle.nim_types.proofs.ForCallers.{by_entry, said_by}
-use Rattle.nim_program.specs.Ints.{is_true}
-use Rattle.nim_meaning.specs.Values.{Value, number_of, text_in}
+use Rattle.nim_program.specs.Ints.{is_true, low_byte}
+use Rattle.nim_meaning.specs.Values.{Value, number_of}
 use Rattle.nim_meaning.specs.Texts.{value_text, text_at}
 use Rattle.nim_program.specs.Texts.{bool_text, name_in}
 use Rattle.nim_program.specs.Kinds.{below_distinct, base_or as type_or}
 use Rattle.word_lowering.specs.Stored.{base_or, base_within, base_at, entry_at}
 use Rattle.word_lowering.proofs.Options.{none_some, some_same}
 use Rattle.word_lowering.proofs.TypeShapes.{base_below, Stays, stays_not, Looked, a_distinct, another, look}
+use Rattle.nim_meaning.specs.State.{World, text_of}
 
 -- the text of a value of a type with this entry
-abbrev pub entry_text : Option TypeDef → Value → List ℕ
-entry_text None v = signed_decimal (number_of v)
-entry_text (Some D.Int) v = signed_decimal (number_of v)
-entry_text (Some D.Bool) v = bool_text (is_true (number_of v))
-entry_text (Some D.Char) v = unsigned_abs (number_of v) ∷ []
-entry_text (Some D.Text) v = text_in v
-entry_text (Some (D.Enum name at all)) v = name_in (slice_get all (unsigned_abs (number_of v)))
-entry_text _ v = []
+abbrev pub entry_text : World → Option TypeDef → Value → List ℕ
+entry_text world None v = signed_decimal (number_of v)
+entry_text world (Some D.Int) v = signed_decimal (number_of v)
+entry_text world (Some D.Bool) v = bool_text (is_true (number_of v))
+entry_text world (Some D.Char) v = low_byte (number_of v) ∷ []
+entry_text world (Some D.Text) v = text_of world v
+entry_text world (Some (D.Enum name at all)) v = name_in (slice_get all (unsigned_abs (number_of v)))
+entry_text world _ v = []
 
 -- ---- how many distinct types stand before an entry
 
@@ -147,23 +148,24 @@ module _ (ds : List TypeDef) (table : IsTable ds) where
           let none = slice_get_past ds i h in
           type_stays (length facts) i None none refl ∙ ap (type_at ts) (sym (base_stays (length ds) i None none (λ go j. refl)))
 
-  text_by : (o : Option TypeDef) (v : Value) → fact_of facts (meant_at ts o) ≡ said_at ts o → value_text facts (meant_at ts o) v ≡ entry_text o v
-  text_by None v h = refl
-  text_by (Some D.Int) v h = refl
-  text_by (Some D.Bool) v h = refl
-  text_by (Some D.Char) v h = refl
-  text_by (Some D.Text) v h = refl
-  text_by (Some (D.Seq i)) v h = refl
-  text_by (Some (D.Param n)) v h = refl
-  text_by (Some (D.Enum name at all)) v h = ap (λ f. name_in (slice_get (members_in f) (unsigned_abs (number_of v)))) h
-  text_by (Some (D.Array n i)) v h = refl
-  text_by (Some (D.Tuple names is)) v h = refl
-  text_by (Some (D.Object name at is all own_hooks parts)) v h = refl
-  text_by (Some (D.Distinct name at i)) v h = refl
-  text_by (Some (D.Ref name i)) v h = refl
-  text_by (Some (D.Exception name at parent)) v h = refl
+  text_by : (world : World) (o : Option TypeDef) (v : Value) → fact_of facts (meant_at ts o) ≡ said_at ts o
+      → value_text facts world (meant_at ts o) v ≡ entry_text world o v
+  text_by world None v h = refl
+  text_by world (Some D.Int) v h = refl
+  text_by world (Some D.Bool) v h = refl
+  text_by world (Some D.Char) v h = refl
+  text_by world (Some D.Text) v h = refl
+  text_by world (Some (D.Seq i)) v h = refl
+  text_by world (Some (D.Param n)) v h = refl
+  text_by world (Some (D.Enum name at all)) v h = ap (λ f. name_in (slice_get (members_in f) (unsigned_abs (number_of v)))) h
+  text_by world (Some (D.Array n i)) v h = refl
+  text_by world (Some (D.Tuple names is)) v h = refl
+  text_by world (Some (D.Object name at is all own_hooks parts)) v h = refl
+  text_by world (Some (D.Distinct name at i)) v h = refl
+  text_by world (Some (D.Ref name i)) v h = refl
+  text_by world (Some (D.Exception name at parent)) v h = refl
 
-  pub type_text : (ty : ℕ) (v : Value) → text_at facts (Some (type_at ts ty)) v ≡ entry_text (entry_at ds ty) v
-  type_text ty v =
-      ap (λ t. value_text facts t v) (base_is ty ∙ by_entry ds table (base_at ds ty) (entry_at ds ty) refl)
-      ∙ text_by (entry_at ds ty) v (said_by ds table (base_at ds ty) (entry_at ds ty) refl)
+  pub type_text : (world : World) (ty : ℕ) (v : Value) → text_at facts world (Some (type_at ts ty)) v ≡ entry_text world (entry_at ds ty) v
+  type_text world ty v =
+      ap (λ t. value_text facts world t v) (base_is ty ∙ by_entry ds table (base_at ds ty) (entry_at ds ty) refl)
+      ∙ text_by world (entry_at ds ty) v (said_by ds table (base_at ds ty) (entry_at ds ty) refl)

@@ -204,15 +204,21 @@ module _ (table : List TypeDef) where
     plain_at : (ty : ℕ) → Matches facts (plain_kind facts (type_at ts ty)) (shape_of facts (type_at ts ty))
     plain_at ty = (plain_shaped facts (sorted_table table) (has_form table is_table have ty).1).matches
 
+    pub type_unhooked : (ty : ℕ) → is_hooked table ty ≡ false → hooked (form_of facts (type_at ts ty)) ≡ false
+    type_unhooked ty h = by (cases_lt ty (length table))
+      where
+        by : (ty < length table) ⊎ (length table ≤ ty) → hooked (form_of facts (type_at ts ty)) ≡ false
+        by (inl lt) = sym (ap (λ b. b && hooked (form_of facts (type_at ts ty))) (lt-ltb ty (length table) lt)) ∙ h
+        by (inr ge) = ap (λ t. hooked (form_of facts t)) (beyond_int table is_table have ty ge)
+
     pub type_plain : (ty : ℕ) → is_hooked table ty ≡ false → of_numbers (shape_of facts (type_at ts ty)) ≡ true
     type_plain ty h = by (cases_lt ty (length table))
       where
         by : (ty < length table) ⊎ (length table ≤ ty) → of_numbers (shape_of facts (type_at ts ty)) ≡ true
         by (inl lt) =
             let f = have ty lt in
-            let unhooked : hooked (form_of facts (type_at ts ty)) ≡ false =
-            sym (ap (λ b. b && hooked (form_of facts (type_at ts ty))) (lt-ltb ty (length table) lt)) ∙ h in
-            sym (free_numbers (shape_of facts (type_at ts ty))) ∙ free_of facts (sorted_table table) f.1 (sym (ap hooked (the_form f.1)) ∙ unhooked)
+            sym (free_numbers (shape_of facts (type_at ts ty)))
+            ∙ free_of facts (sorted_table table) f.1 (sym (ap hooked (the_form f.1)) ∙ type_unhooked ty h)
         by (inr ge) = ap (λ t. of_numbers (shape_of facts t)) (beyond_int table is_table have ty ge)
 
     pub type_resource : (ty : ℕ) → is_resource (kind_of facts (type_at ts ty)) ≡ true → of_numbers (shape_of facts (type_at ts ty)) ≡ false

@@ -51,14 +51,15 @@ use Rattle.word_lowering.specs.LineCode.{label_before, location, updated_code}
 use Rattle.word_lowering.specs.Lowered.{any_branches, branches_to}
 use Rattle.word_lowering.specs.Operations.{binary_code, trap_label, word}
 use Rattle.word_lowering.specs.Spots.{address, spot_of}
-use Rattle.word_lowering.proofs.ApplyFits.{applies}
+use Rattle.word_lowering.proofs.ApplyFits.{applies, RowHere}
 use Rattle.word_lowering.proofs.Arithmetic.{word_small}
-use Rattle.word_lowering.proofs.ControlLines.{FollowedHere, int_read, plain, value_type}
+use Rattle.word_lowering.proofs.ControlLines.{int_read, plain, value_type}
 use Rattle.word_lowering.proofs.Gets.{Gets, SameTemps, good_place, high_variable}
 use Rattle.word_lowering.proofs.InMemory.{IsAt}
 use Rattle.word_lowering.proofs.Keeping.{nowhere, points_there, spot_held, spot_memory}
 use Rattle.word_lowering.proofs.LineFits.{int_shape, no_type, number_fits, number_value, same_type, some_kind}
 use Rattle.word_lowering.proofs.Lines.{Basis, IsGood, Settles, all_procs, all_sites, changed, goes_on, known, lower, mapped_settles, stands_next, starts}
+use Rattle.word_lowering.proofs.Lines.{bound_for}
 use Rattle.word_lowering.proofs.Located.{IsThereAt, place_located}
 use Rattle.word_lowering.proofs.MovedLines.{own_plain}
 use Rattle.word_lowering.proofs.Moves.{IsHigh, address_runs, all_same, points_same, same_more, same_second}
@@ -372,7 +373,7 @@ module _ (x : Basis) (traps : TrapsStop x) (labels : LabelsLead x) (g : Both) (r
     -- the deed, as what it comes to
     as_deed : (r : Checked) (old : Value) (l : Location) (same_at : SameTemps x g line rest y temps) → Outcome x g line rest y traps temps same_at old l r
         → Settles x (starts g line rest) rest (Passes (behind [] 1 (behind [] (bytes old) (perform
-        (((outcome r >>= put_to l) >>= made_by false how) >>= (λ u. give (with_value to g.call.temps u))) g.world))))
+        (((outcome r >>= put_to l) >>= made_by false (bound_for g how to)) >>= (λ u. give (with_value to g.call.temps u))) g.world))))
     as_deed (Fine z) old l same_at d = d
     as_deed (Trapped trap) old l same_at d =
         subst (λ e. Settles x (starts g line rest) rest e)
@@ -393,7 +394,7 @@ module _ (x : Basis) (traps : TrapsStop x) (labels : LabelsLead x) (g : Both) (r
         → ((trap : ℕ) (k : List WordInstr) → any_branches trap (code_of_line x g line rest k)
         ≡ any_branches trap (updated_code label operator (spot_of (location (around x.table x.blocks (body_of g)) t)) by k))
         → Settles x (starts g line rest) rest (gives (scene_of (high x.table x.blocks (starts g line rest))) to
-        (costs 1 (updated (location_at g.call.temps there) (λ n. operate operator n step)) >>= made_by false how))
+        (costs 1 (updated (location_at g.call.temps there) (λ n. operate operator n step)) >>= made_by false (bound_for g how to)))
     updates_there t there none k may e up label by high_by step step_fits v same step_is front short runs shown =
         let s = some_kind (facts_in x.table) (location_type t) is_int refl k in
         let w = writes_at x g line rest y t there s.0 s.1 may e in
@@ -401,7 +402,7 @@ module _ (x : Basis) (traps : TrapsStop x) (labels : LabelsLead x) (g : Both) (r
         let h : Housed = location (around x.table x.blocks (body_of g)) t in
         let at_word = word_at x g line rest y h w.at (subst (λ q. Written x g line rest y h w.at q) (int_shape (facts_in x.table) s.0 s.2) w.written) in
         subst (λ l. Settles x (starts g line rest) rest (gives (scene_of (high x.table x.blocks (starts g line rest))) to
-        (costs 1 (updated l (λ n. operate operator n step)) >>= made_by false how))) (sym w.is)
+        (costs 1 (updated l (λ n. operate operator n step)) >>= made_by false (bound_for g how to)))) (sym w.is)
         (as_deed (applied operator (number_of (load g.world w.at)) step) (load g.world w.at) w.at same_at
         (update_settles x g line rest y traps temps same_at h operator up label by high_by step step_fits v same step_is front short runs shown w.at at_word))
 
@@ -410,7 +411,7 @@ module _ (x : Basis) (traps : TrapsStop x) (labels : LabelsLead x) (g : Both) (r
     abbrev stepping : BlockLine
     stepping = plain (L.Apply to (O.Update operator) how None (a ∷ []) (F.Place t ∷ []))
 
-    step_value : FollowedHere x labels g rest (L.Apply to (O.Update operator) how None (a ∷ []) (F.Place t ∷ []))
+    step_value : RowHere x g rest to (O.Update operator) how None (a ∷ []) (F.Place t ∷ [])
     step_value y =
         let f = applies x g rest to (O.Update operator) how None (a ∷ []) (F.Place t ∷ []) y in
         let r = and_parts (steps operator) (is_int (kind_if (facts_in x.table) (if_type (known x).types a))) f.row in
@@ -419,7 +420,7 @@ module _ (x : Basis) (traps : TrapsStop x) (labels : LabelsLead x) (g : Both) (r
         let k = subst (λ o. is_int (kind_if (facts_in x.table) o) ≡ true) (sym (same_type (location_type t) (if_type (known x).types a) p.0)) r.1 in
         mapped_settles x (starts g stepping rest) rest (g.call.temps.places t) (λ place. At (location_at g.call.temps place))
         (λ l. gives (scene_of (high x.table x.blocks (starts g stepping rest))) to
-        (costs 1 (updated (location_of l) (λ n. operate operator n (pos 1))) >>= made_by false how))
+        (costs 1 (updated (location_of l) (λ n. operate operator n (pos 1))) >>= made_by false (bound_for g how to)))
         (λ there e. updates_there stepping y t there (no_type (value_type x g stepping rest y to) f.given) k may.0 e (step_updates operator r.0)
         (label_before (map block_plain rest)) FIFTH (omega arith) (pos 1) refl (put g.call.vars FIFTH 1)
         (same_put g.call.vars FIFTH 1 (omega arith) (omega arith)) (put_here g.call.vars FIFTH 1 (omega arith)) 1 (omega arith)
@@ -432,7 +433,7 @@ module _ (x : Basis) (traps : TrapsStop x) (labels : LabelsLead x) (g : Both) (r
     abbrev adding : BlockLine
     adding = plain (L.Apply to (O.Update operator) how None (a ∷ b ∷ []) (F.Place t ∷ F.Value by ∷ []))
 
-    add_value : FollowedHere x labels g rest (L.Apply to (O.Update operator) how None (a ∷ b ∷ []) (F.Place t ∷ F.Value by ∷ []))
+    add_value : RowHere x g rest to (O.Update operator) how None (a ∷ b ∷ []) (F.Place t ∷ F.Value by ∷ [])
     add_value y =
         let f = applies x g rest to (O.Update operator) how None (a ∷ b ∷ []) (F.Place t ∷ F.Value by ∷ []) y in
         let int_a : Bool = is_int (kind_if (facts_in x.table) (if_type (known x).types a)) in
@@ -448,10 +449,10 @@ module _ (x : Basis) (traps : TrapsStop x) (labels : LabelsLead x) (g : Both) (r
         (sym (same_type (value_type x g adding rest y by) (if_type (known x).types b) q.0)) i.1 in
         mapped_settles x (starts g adding rest) rest (g.call.temps.places t) (λ place. At (location_at g.call.temps place))
         (λ l. using (option_map Given (g.call.temps.values by)) (λ z. gives (scene_of (high x.table x.blocks (starts g adding rest))) to
-        (costs 1 (updated (location_of l) (λ n. operate operator n (number_of (value_of z)))) >>= made_by false how)))
+        (costs 1 (updated (location_of l) (λ n. operate operator n (number_of (value_of z)))) >>= made_by false (bound_for g how to))))
         (λ there e. mapped_settles x (starts g adding rest) rest (g.call.temps.values by) Given
         (λ z. gives (scene_of (high x.table x.blocks (starts g adding rest))) to
-        (costs 1 (updated (location_at g.call.temps there) (λ n. operate operator n (number_of (value_of z)))) >>= made_by false how))
+        (costs 1 (updated (location_at g.call.temps there) (λ n. operate operator n (number_of (value_of z)))) >>= made_by false (bound_for g how to)))
         (λ z h. let o = int_read x g adding rest y by z k_by h in
         updates_there adding y t there (no_type (value_type x g adding rest y to) f.given) k may.0 e r.0
         (label_before (map block_plain rest)) (variable x g adding rest y by) (let high_by = o.high in omega (arith, high_by)) (number_of z) o.fits
@@ -459,7 +460,7 @@ module _ (x : Basis) (traps : TrapsStop x) (labels : LabelsLead x) (g : Both) (r
         (no_run (lower x) (at (within x.table x.blocks g) g.memory (code_here x g adding rest y) g.call.vars g.words))
         (λ trap k. refl)))
 
-  pub update_line : (ty : Option ℕ) (of : List (Option ℕ)) (from : List From) → FollowedHere x labels g rest (L.Apply to (O.Update operator) how ty of from)
+  pub update_line : (ty : Option ℕ) (of : List (Option ℕ)) (from : List From) → RowHere x g rest to (O.Update operator) how ty of from
   update_line None (a ∷ []) (F.Place t ∷ []) y = step_value a t y
   update_line None (a ∷ b ∷ []) (F.Place t ∷ F.Value by ∷ []) y = add_value a b t by y
   update_line (Some ty) of from y = never (applies x g rest to (O.Update operator) how (Some ty) of from y).row

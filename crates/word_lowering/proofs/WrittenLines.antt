@@ -8,10 +8,10 @@ use Rattle.nim_types.specs.declared.types.TypeDef.{TypeDef}
 use Rattle.nim_types.specs.declared.types.TypeDef.TheVariants as D
 use Rattle.nim_types.specs.Table.{type_at, types_in, facts_in}
 use Rattle.nim_types.specs.Types.{Ty}
-use Rattle.nim_program.specs.Ints.{is_true, inside, fits as is_int_number}
+use Rattle.nim_program.specs.Ints.{is_true, inside, low_byte, fits as is_int_number}
 use Rattle.nim_meaning.specs.Texts.{text_at}
 use Rattle.nim_program.specs.Texts.{bool_text, name_in}
-use Rattle.nim_meaning.specs.Values.{Number, Value, number_of, text_in}
+use Rattle.nim_meaning.specs.Values.{Number, Value, number_of}
 use Rattle.flat_code.specs.declared.block.BlockLine.{BlockLine}
 use Rattle.flat_code.specs.Fits.{is_value}
 use Rattle.flat_code.specs.Shapes.{Shape, block, has_shape, number, shape_of}
@@ -22,7 +22,7 @@ use Rattle.word_lowering.specs.LineCode.{literal_at, bool_code, char_code, liter
 use Rattle.word_lowering.specs.Operations.{word}
 use Rattle.word_lowering.specs.Stored.{base_at, entry_at}
 use Rattle.word_lowering.specs.Texts.{members_of, names_at, names_before}
-use Rattle.word_lowering.proofs.Arithmetic.{pos_word}
+use Rattle.word_lowering.proofs.Arithmetic.{pos_word, small_byte}
 use Rattle.word_lowering.proofs.ControlLines.{number_read}
 use Rattle.word_lowering.proofs.LineFits.{number_value}
 use Rattle.word_lowering.proofs.Lines.{Basis, IsGood, starts}
@@ -37,6 +37,7 @@ use Rattle.word_lowering.proofs.TypeEntries.{entry_text}
 use Rattle.word_lowering.proofs.TypeShapes.{Looks}
 use Rattle.word_lowering.proofs.ValueFacts.{Operand, has_type, look_of, type_in, with_home}
 use Rattle.word_lowering.proofs.WriteLines.{NameAt, bool_tells, char_tells, name_tells, number_tells}
+use Rattle.nim_meaning.specs.State.{World, text_of}
 
 -- the texts of bools, and the names of enums, stand in the data
 pub record NamesThere (x : Basis) : Type 0 where
@@ -52,7 +53,8 @@ pub record Writing (x : Basis) : Type 0 where
   pub literals : LiteralsThere x
   -- what a type looks like, and the texts of its values, by its entry
   pub looks : (ty : ℕ) → Looks x.table (entry_at x.table ty) (shape_of (facts_in x.table) (type_at (types_in x.table) ty))
-  pub texts : (ty : ℕ) (v : Value) → text_at (facts_in x.table) (Some (type_at (types_in x.table) ty)) v ≡ entry_text (entry_at x.table ty) v
+  pub texts : (world : World) (ty : ℕ) (v : Value)
+      → text_at (facts_in x.table) world (Some (type_at (types_in x.table) ty)) v ≡ entry_text world (entry_at x.table ty) v
 
 -- ---- ordinals of so many values
 
@@ -78,7 +80,8 @@ some_of (x ∷ xs) zero h = (x, refl)
 some_of (x ∷ xs) (suc n) h = some_of xs n (omega (arith, h))
 
 module _ (x : Basis) (said : Writing x) (g : Both) (line : BlockLine) (rest : List BlockLine) (y : IsGood x (starts g line rest)) (t ty : ℕ) (v : Value)
-    (typed : type_in x is_value (body_of g) t ≡ Some (type_at (types_in x.table) ty)) (e : g.call.temps.values t ≡ Some v) (k : List WordInstr) where
+    (typed : type_in x is_value (body_of g) t ≡ Some (type_at (types_in x.table) ty)) (e : g.call.temps.values t ≡ Some v) (k : List WordInstr)
+    (world : World) where
   abbrev value_ty : Ty
   value_ty = type_at (types_in x.table) ty
 
@@ -111,7 +114,7 @@ module _ (x : Basis) (said : Writing x) (g : Both) (line : BlockLine) (rest : Li
 
   an_int : shape ≡ number None
       → Writes (written_code (around x.table x.blocks (body_of g)) (Some D.Int) (base_at x.table ty) (house g.call.site (of_value t)) k)
-      (entry_text (Some D.Int) v)
+      (entry_text world (Some D.Int) v)
   an_int is = let o = read None is in number_tells x said.least g line rest y (number_of v) held k o.fits o.word_is
 
   a_bool : shape ≡ number (Some 2) → Writes (bool_code held k) (bool_text (is_true (number_of v)))
@@ -124,10 +127,10 @@ module _ (x : Basis) (said : Writing x) (g : Both) (line : BlockLine) (rest : Li
           (bool_tells x said.least g line rest y 1 held (codes "true") k (omega arith) refl said.names.true_text (read (Some 2) is).high w)
       by (suc (suc m)) at less w = absurd (omega (arith, less))
 
-  a_char : shape ≡ number (Some 256) → Writes (char_code held k) (unsigned_abs (number_of v) ∷ [])
+  a_char : shape ≡ number (Some 256) → Writes (char_code held k) (low_byte (number_of v) ∷ [])
   a_char is =
       let s = small 256 is in
-      subst (λ z. Writes (char_code held k) (unsigned_abs z ∷ [])) (sym s.1)
+      subst (λ b. Writes (char_code held k) (b ∷ [])) (sym (ap low_byte s.1 ∙ small_byte s.0 s.2))
       (char_tells x said.least g line rest y s.0 held k s.2 (read (Some 256) is).high (small_word 256 is))
 
   abbrev ends : ℕ
@@ -165,21 +168,22 @@ module _ (x : Basis) (said : Writing x) (g : Both) (line : BlockLine) (rest : Li
     abbrev place : (behind bytes : ℕ) → ℕ
     place = literal_at (around x.table x.blocks (body_of g))
 
-    a_text : Writes (literal_code (literal_at (around x.table x.blocks (body_of g))) (house g.call.site (of_value t)).alias k) (text_in v)
+    a_text : Writes (literal_code (literal_at (around x.table x.blocks (body_of g))) (house g.call.site (of_value t)).alias k) (text_of world v)
     a_text =
         let l = literal in
         let s = textual in
         let code : text_code (place (length l.before) (length l.text)) (length l.text) k
         ≡ literal_code place (house g.call.site (of_value t)).alias k
         = ap₂ (λ n m. text_code (place n m) m k) l.at l.size ∙ sym (ap (λ a. literal_code place a k) s.is) in
-        subst (λ c. Writes c (text_in v)) code (subst (Writes (text_code (place (length l.before) (length l.text)) (length l.text) k)) (sym (ap text_in l.is))
+        subst (λ c. Writes c (text_of world v)) code
+        (subst (Writes (text_code (place (length l.before) (length l.text)) (length l.text) k)) (sym (ap (text_of world) l.is))
         (text_tells x said.least g line rest y (place (length l.before) (length l.text)) l.text k
         (said.literals.literal (body_of g) y.linked.0 l.before l.text l.after l.whole l.among)))
 
   -- ---- each
 
   abbrev Here : Option TypeDef → Type 0
-  Here d = Writes (written_code (around x.table x.blocks (body_of g)) d (base_at x.table ty) (house g.call.site (of_value t)) k) (entry_text d v)
+  Here d = Writes (written_code (around x.table x.blocks (body_of g)) d (base_at x.table ty) (house g.call.site (of_value t)) k) (entry_text world d v)
 
   by_entry : (d : Option TypeDef) → entry_at x.table ty ≡ d → Looks x.table d shape → Here d
   by_entry None at is = an_int is
@@ -198,6 +202,6 @@ module _ (x : Basis) (said : Writing x) (g : Both) (line : BlockLine) (rest : Li
   by_entry (Some (D.Exception name place parent)) at is = none_tells x said.least g line rest y k
 
   pub value_tells : Writes (typed_code (around x.table x.blocks (body_of g)) (Some ty) (value (around x.table x.blocks (body_of g)) t) k)
-      (text_at (facts_in x.table) (Some value_ty) v)
+      (text_at (facts_in x.table) world (Some value_ty) v)
   value_tells = subst (Writes (typed_code (around x.table x.blocks (body_of g)) (Some ty) (value (around x.table x.blocks (body_of g)) t) k))
-      (sym (said.texts ty v)) (by_entry (entry_at x.table ty) refl (said.looks ty))
+      (sym (said.texts world ty v)) (by_entry (entry_at x.table ty) refl (said.looks ty))

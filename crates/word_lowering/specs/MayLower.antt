@@ -8,7 +8,9 @@ use Rattle.nim_types.specs.Table.{type_at, types_in, facts_in}
 use Rattle.nim_types.specs.Forms.{hooked, form_of}
 use Rattle.nim_program.specs.declared.operation.Operation.{Operation}
 use Rattle.nim_program.specs.declared.operation.Operation.TheVariants as O
+use Rattle.nim_program.specs.declared.operation.Use.{Use}
 use Rattle.nim_program.specs.declared.program.HookOf.{HookOf}
+use Rattle.nim_meaning.specs.Shapes.{is_lent}
 use Rattle.flat_code.specs.declared.line.Line.{Line}
 use Rattle.flat_code.specs.declared.line.Line.TheVariants as L
 use Rattle.flat_code.specs.declared.place.PlaceKind.{PlaceKind}
@@ -29,7 +31,7 @@ use Rattle.word_lowering.specs.declared.homes.Home.TheVariants.{Placed}
 use Rattle.word_lowering.specs.declared.homes.Housed.{Housed}
 use Rattle.word_lowering.specs.declared.homes.Layout.{Layout}
 use Rattle.word_lowering.specs.declared.may_lower.TheConstants.{MOST_ROOM, MOST_VARS, MOST_DATA}
-use Rattle.word_lowering.specs.Aliases.{value_to, location_to, alias_by, is_it, texts_of}
+use Rattle.word_lowering.specs.Aliases.{value_to, location_to, alias_by, is_it, text_in, texts_of}
 use Rattle.word_lowering.specs.Layouts.{is_empty, found, params_in, kept_in, is_param, result_in}
 use Rattle.word_lowering.specs.Lowered.{all_layouts, data_of}
 
@@ -85,9 +87,15 @@ any_hooked table [] = false
 any_hooked table (None ∷ tys) = any_hooked table tys
 any_hooked table (Some ty ∷ tys) = is_hooked table ty || any_hooked table tys
 
+-- a text of the data, which nobody owns, is lent
+abbrev pub lends : Option (List ℕ) → Use → Bool
+lends None how = true
+lends (Some text) how = is_lent how
+
 -- texts are operands of `echo` alone
 abbrev pub reads_plain : List TypeDef → Line → Bool
 reads_plain table (L.Apply to operation how ty of from) = is_echo operation || not (any_hooked table of)
+reads_plain table (L.Constant to how ty pieces) = lends (text_in pieces) how
 reads_plain table line = true
 
 abbrev pub line_may : List TypeDef → List Housed → Line → (behind : ℕ) → Bool

@@ -1,7 +1,10 @@
 use Rattle.std.proofs.Common.{[]}
 use Rattle.nim_meaning.specs.Meaning.{meaning}
 use Rattle.program_limits.specs.Limits.{program_in}
+use Rattle.nim_program.specs.declared.sizes.TheConstants.{MOST_BYTES}
+use Rattle.flat_code.specs.Scene.{known_in}
 use Rattle.flat_runner.specs.Mean.{by_units}
+use Rattle.core_compiler.proofs.LinesPlain.{lines_plain}
 use Rattle.core_compiler.proofs.Shown.{comes_means, ends, nothing_got}
 use Rattle.core_compiler.proofs.meaning.mean_core.Goals as goal
 
@@ -24,4 +27,6 @@ returns-clause-ends g c =
     (meant c.args.n) c.mean.result _ _ (c.in-Ok.ensures.exact c.args.heap [] c.args.n) (c.mean.ensures.means []))
 
 pub mean-requires : goal.mean-requires
-mean-requires g c = c.in-Ok.ensures.forms
+mean-requires g c =
+    let may = c.in-Ok.ensures.may in
+    lines_plain (known_in c.args.program.now.types) MOST_BYTES c.in-Ok.flat.procs may.plain may.alike may.fits

@@ -6,7 +6,7 @@ use Rattle.decl_types.specs.declared.known.Definition.{Definition}
 use Rattle.decl_sections.specs.ViewBodies.{member_entries}
 use Rattle.decl_types.specs.ViewKnown.{HasType}
 use Rattle.decl_types.specs.ViewMarks.{Stuck, is_enum}
-use Rattle.decl_types.specs.ViewScoped.{is_unknown}
+use Rattle.decl_types.specs.ViewMarks.{is_unknown}
 use Rattle.decl_types.proofs.ForCallers.{enum_known, last_is, on_one}
 use Rattle.decl_sections.proofs.Membering.{none_seen, not_enum}
 use Rattle.decl_sections.proofs.reading.take_members.Goals as goal

@@ -3,7 +3,7 @@ use Rattle.decl_types.specs.ViewScoped.{KnowsAll}
 use Rattle.std.specs.Prelude.{map}
 use Rattle.decl_types.specs.ViewKnown.{Holds}
 use Rattle.decl_types.specs.ViewMarks.{Stuck}
-use Rattle.decl_types.specs.ViewScoped.{is_unknown}
+use Rattle.decl_types.specs.ViewMarks.{is_unknown}
 use Rattle.decl_types.proofs.ForCallers.{holds_last, on_one}
 use Rattle.decl_sections.proofs.reading.take_up.Goals as goal
 
@@ -21,8 +21,8 @@ know_all-requires-clause-room c =
 
 pub know_all-requires-clause-holds : goal.know_all-requires-clause-holds
 know_all-requires-clause-holds c =
-    holds_last (length c.args.types.now) c.requires.sound.0 c.args.types.now c.args.reading.now.known.items c.args.reading.now.read.items
-    c.as_slice.result.now c.args.definition (omega arith) c.requires.holds c.requires.ordered c.requires.sound.1
+    holds_last (length c.args.types.now) c.args.types.now c.args.reading.now.known.items c.args.reading.now.read.items
+    c.as_slice.result.now c.args.definition (omega arith) c.requires.holds c.requires.ordered c.requires.sound
     (c.as_slice.ensures.value ∙ c.in_ok-push.ensures.items)
 
 pub returns-clause-holds : goal.returns-clause-holds

@@ -16,7 +16,6 @@ returns-clause-begins c =
       known = c.in_ok-known.ensures.types ∙ ap (λ n. replicate n None) (sym (length-map defs declaration_of)) ∙ none_is (map declaration_of defs);
       numbers = c.in_ok-numbers.ensures.numbers;
       start = c.count-start.ensures;
-      types = c.count.ensures.count;
       names = c.in_ok-all.ensures.names;
       begins = refl;
       starts = c.count-start.ensures;

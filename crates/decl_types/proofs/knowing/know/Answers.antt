@@ -1,6 +1,9 @@
-use Rattle.std.proofs.Common.{length, ap, sym, subst, ◌∙◌, Some}
+use Rattle.std.specs.Prelude.{Option, false, map}
+use Rattle.decl_types.specs.ViewMarks.{definition_mark, is_unknown}
+use Rattle.decl_types.proofs.Counting.{found_named}
+use Rattle.std.proofs.Common.{◌≡◌, ℕ, List, length, ap, sym, subst, ◌∙◌, Some}
 use Rattle.std.proofs.lemmas.List.{length-set}
-use Rattle.decl_types.specs.ViewKnown.{Becomes, KnownBelow}
+use Rattle.decl_types.specs.ViewKnown.{Becomes, IsSound, KnownBelow}
 use Rattle.decl_types.specs.ViewScoped.{declaration_from}
 use Rattle.decl_types.proofs.Growing.{knows_one}
 use Rattle.decl_types.proofs.Ordering.{holds_known}
@@ -38,7 +41,15 @@ pub add_known-requires-clause-ordered : goal.add_known-requires-clause-ordered
 add_known-requires-clause-ordered c = c.requires.holds.order c.args.number c.definition_at.result.now c.definition_at.ensures
 
 pub add_known-requires-clause-sound : goal.add_known-requires-clause-sound
-add_known-requires-clause-sound c = c.requires.holds.sound c.args.number c.definition_at.result.now c.definition_at.ensures
+add_known-requires-clause-sound c =
+    subst (λ (ks : List (Option ℕ)). IsSound (length c.args.types.now) (length ks) c.definition_at.result.now) (sym c.as_slice.ensures.value)
+    (c.requires.holds.sound c.args.number c.definition_at.result.now c.definition_at.ensures)
+
+pub add_known-requires-clause-named : goal.add_known-requires-clause-named
+add_known-requires-clause-named c =
+    let d = c.definition_at.result.now in
+    subst (λ (ks : List (Option ℕ)). definition_mark (map is_unknown ks) d ≡ false) (sym c.as_slice.ensures.value)
+    (found_named (map is_unknown c.args.known.now.items) c.args.number d (c.requires.next d c.definition_at.ensures))
 
 pub add_known-requires-clause-known : goal.add_known-requires-clause-known
 add_known-requires-clause-known c = subst (KnownBelow (length c.args.types.now)) (sym c.as_slice.ensures.value) c.requires.holds.below

@@ -1,8 +1,10 @@
-use Rattle.std.proofs.Common.{◌≡◌, ap, ◌+◌, ◌<◌, length, drop, refl, subst, ◌∙◌, arith}
-use Rattle.std.specs.Prelude.{true, map, IfSome}
-use Rattle.decl_types.specs.ViewMarks.{mark_at, Stuck}
-use Rattle.decl_types.specs.ViewScoped.{is_unknown}
-use Rattle.decl_types.proofs.Counting.{all_stuck, unknowns, unknowns_less, unknowns_most}
+use Rattle.std.proofs.Common.{◌≡◌, ℕ, List, Some, ap, ◌+◌, ◌<◌, length, drop, refl, subst, ◌∙◌, arith}
+use Rattle.std.specs.Prelude.{true, map, IfSome, Option, slice_get}
+use Rattle.decl_types.specs.ViewMarks.{is_next, Stuck}
+use Rattle.decl_types.specs.declared.known.Definition.{Definition}
+use Rattle.decl_types.proofs.Enclosing.{get_there}
+use Rattle.decl_types.specs.ViewMarks.{is_unknown}
+use Rattle.decl_types.proofs.Counting.{all_stuck, found_marked, unknowns, unknowns_less, unknowns_most}
 use Rattle.expr_parts.proofs.ForCallers.{grown_same, next_item, none_left}
 use Rattle.decl_types.proofs.Declaring.{kept_grown, kept_on}
 use Rattle.decl_types.proofs.Growing.{IsNext, KnowsLeft, knows_end, knows_first, knows_none, knows_step}
@@ -41,9 +43,13 @@ loop-definition-preserved c =
       few =
           let noted = c.in_ok-know-in-Some.ensures.noted in
           let n = length read in
-          let marked : mark_at (map is_unknown known) c.in-Some.number ≡ true =
-          subst (λ ks. mark_at (map is_unknown ks) c.in-Some.number ≡ true) c.as_slice.ensures.value
-          (subst (λ o. IfSome o (λ m. mark_at (map is_unknown c.as_slice.result.now) m ≡ true)) c.in-Some.is c.in_ok-number.ensures.marked) in
+          let there = get_there read c.in-Some.number found in
+          let is_found =
+          subst (λ (ks : List (Option ℕ)). (d : Definition) → slice_get read c.in-Some.number ≡ Some d
+          → is_next (map is_unknown ks) c.in-Some.number d ≡ true) c.as_slice.ensures.value
+          (subst (λ o. IfSome o (λ m. (d : Definition) → slice_get read m ≡ Some d → is_next (map is_unknown c.as_slice.result.now) m d ≡ true))
+          c.in-Some.is c.in_ok-number.ensures.found) in
+          let marked = found_marked (map is_unknown known) c.in-Some.number there.0 (is_found there.0 there.1) in
           let less = unknowns_less n known c.in-Some.number noted.0 found marked in
           let after = ap (unknowns n) noted.1 in
           let l = ap length e in
@@ -123,6 +129,14 @@ returns-clause-stuck c =
 
 pub know-requires-clause-holds : goal.know-requires-clause-holds
 know-requires-clause-holds c = c.loop-definition.invariant.holds
+
+pub know-requires-clause-next : goal.know-requires-clause-next
+know-requires-clause-next c =
+    let read = c.args.read.now in
+    subst (λ (ks : List (Option ℕ)). (d : Definition) → slice_get read c.in-Some.number ≡ Some d
+    → is_next (map is_unknown ks) c.in-Some.number d ≡ true) c.as_slice.ensures.value
+    (subst (λ o. IfSome o (λ m. (d : Definition) → slice_get read m ≡ Some d → is_next (map is_unknown c.as_slice.result.now) m d ≡ true))
+    c.in-Some.is c.in_ok-number.ensures.found)
 
 pub know-requires-clause-found : goal.know-requires-clause-found
 know-requires-clause-found c = subst (λ o. IfSome o (λ n. n < length c.args.read.now)) c.in-Some.is c.in_ok-number.ensures.within

@@ -1,6 +1,6 @@
 use Rattle.std.proofs.Common.{◌≡◌, ◌++◌, drop}
 use Rattle.std.specs.Prelude.{map}
-use Rattle.decl_types.specs.ViewScoped.{is_unknown}
+use Rattle.decl_types.specs.ViewMarks.{is_unknown}
 use Rattle.decl_types.proofs.knowing.unknown_marks.Given as goal
 
 abbrev pub invariant-loop-one : goal.invariant-loop-one

@@ -9,8 +9,7 @@ types_of-requires-clause-ordered c = subst (Ordered 0) (sym c.as_slice.ensures.v
 
 pub types_of-requires-clause-nodes : goal.types_of-requires-clause-nodes
 types_of-requires-clause-nodes c =
-    let m = c.requires.sound.0 in
-    (m, subst (NodesIn (length c.args.types.now) m) (sym c.as_slice.ensures.value) c.requires.sound.1.nodes)
+    subst (NodesIn (length c.args.types.now) (length c.args.known.now)) (sym c.as_slice.ensures.value) c.requires.sound.nodes
 
 pub add_meant-requires-clause-meaning : goal.add_meant-requires-clause-meaning
 add_meant-requires-clause-meaning c =
@@ -19,7 +18,7 @@ add_meant-requires-clause-meaning c =
     subst (λ k. MeaningWithin k c.args.definition.now.meaning) n c.requires.ordered.meaning
 
 pub add_meant-requires-clause-one_each : goal.add_meant-requires-clause-one_each
-add_meant-requires-clause-one_each c = c.requires.sound.1.fields
+add_meant-requires-clause-one_each c = c.requires.sound.fields
 
 pub returns-in_err-ids-clause-kept : goal.returns-in_err-ids-clause-kept
 returns-in_err-ids-clause-kept c = kept_grown c.args.types.now c.types_of.new.types c.types_of.ensures.grown
@@ -50,4 +49,6 @@ returns-in-Ok-clause-becomes c =
     let known = c.args.known.now in
     let adds = subst (λ is. AddsMeant mid new is d d.meaning c.in-Ok.id) c.as_slice-2.ensures.value c.in-Ok.ensures.adds in
     becomes c.args.types.now mid new known c.in_ok-ids.ids.items c.in-Ok.id d c.types_of.ensures.grown c.count-before.ensures.table
-    c.in_ok-ids.ensures.within (subst (NodesAre mid known c.in_ok-ids.ids.items) c.as_slice.ensures.value c.in_ok-ids.ensures.means) adds
+    c.in_ok-ids.ensures.within (subst (NodesAre mid known c.in_ok-ids.ids.items) c.as_slice.ensures.value c.in_ok-ids.ensures.means)
+    (subst (λ l. MeaningWithin l d.meaning) (sym (c.in_ok-ids.ensures.count ∙ ap length c.as_slice.ensures.value)) c.requires.ordered.meaning)
+    c.requires.named adds

@@ -1,12 +1,14 @@
-use Rattle.std.proofs.Common.{◌≡◌, ◌+◌, ◌∷◌, ◌++◌, [], length, drop, take, sym, ap, ap₂, subst, ◌∙◌, arith, length-append, length-drop}
+use Rattle.std.proofs.Common.{◌≡◌, ◌+◌, ◌∷◌, ◌++◌, [], length, drop, take, sym, ap, subst, ◌∙◌, arith, length-append, length-drop, length-take}
 use Rattle.std.proofs.lemmas.List.{map-append}
 use Rattle.std.specs.Prelude.{map}
 use Rattle.nim_types.specs.Table.{type_at, AllBelow}
 use Rattle.nim_types.proofs.ForCallers.{all_more}
 use Rattle.expr_parts.proofs.ForCallers.{grown_on, grown_same, next_item, none_left, take_all}
-use Rattle.decl_rules.specs.Meanings.{renamed}
 use Rattle.expr_parts.proofs.ForCallers.{ids_and}
+use Rattle.decl_types.specs.ViewMarks.{is_unknown, node_mark, node_marks, RenamedWhere}
 use Rattle.decl_types.specs.ViewNodes.{node_type, node_types}
+use Rattle.decl_types.proofs.Renaming.{marks_count, marks_next, renamed_last, types_count}
+use Rattle.std.proofs.lemmas.List.{length-map}
 use Rattle.decl_types.proofs.Numbering.{node_at, types_next}
 use Rattle.decl_types.proofs.Ordering.{below_more, made_at, node_more}
 use Rattle.decl_types.proofs.known.types_of.Goals as goal
@@ -17,7 +19,8 @@ loop-node-init c = record {
   grown = grown_same c.args.types.now;
   within = subst (AllBelow (length c.args.types.now)) (sym c.new-ids.ensures.items) tt;
   count = let l = ap length c.new-ids.ensures.items in omega (arith, l);
-  means = λ n m w ts facts u keys by known same. ap (map (type_at ts)) c.new-ids.ensures.items;
+  means = λ n m w ts facts u keys by known same.
+      subst (λ is. RenamedWhere [] (map (type_at ts) is) by []) (sym c.new-ids.ensures.items) (λ i lt. absurd (omega (arith, lt)));
 }
 
 pub loop-node-preserved : goal.loop-node-preserved
@@ -39,15 +42,26 @@ loop-node-preserved c =
           let l = ap length e in
           omega (arith, at.invariant.count, k, l, length-append at.ids.items (c.in-Ok.id ∷ []));
       means = λ n m w ts facts u keys by known same.
-          let done = node_types ts keys (take at.node-index c.args.nodes.now) in
+          let nodes = c.args.nodes.now in
+          let i = at.node-index in
+          let unknown = map is_unknown c.args.known.now in
+          let marks = node_marks unknown (take i nodes) in
+          let done = node_types ts keys (take i nodes) in
+          let us = map (type_at ts) at.ids.items in
+          let all = map (type_at ts) c.push.new.self.items in
           let before = at.invariant.means n m w ts facts (g.under ts facts u) keys by known same in
-          let slice = c.as_slice.ensures.value in
-          ap (map (type_at ts)) pushed ∙ map-append (type_at ts) at.ids.items (c.in-Ok.id ∷ [])
-          ∙ ap₂ (λ us t. us ++ t ∷ []) before
-          (c.in-Ok.ensures.means n m (node_at n m c.args.nodes.now at.node-index x rest w e) ts facts u keys by done known same
-          (ap (map (type_at ts)) slice ∙ before))
-          ∙ sym (map-append (renamed by) done (node_type ts keys done x ∷ []))
-          ∙ ap (map (renamed by)) (sym (types_next ts keys c.args.nodes.now at.node-index x rest e));
+          let left = length-drop i nodes in
+          let taken = length-take i nodes in
+          let ids : length us ≡ i = let k = length-map at.ids.items (type_at ts) in omega (arith, k, left, at.invariant.count, c.loop-node-test.true) in
+          let front : length (take i nodes) ≡ i = omega (arith, taken, c.loop-node-test.true) in
+          let one = c.in-Ok.ensures.means n m (node_at n m nodes i x rest w e) ts facts u keys by done marks known same
+          (subst (λ is. RenamedWhere marks (map (type_at ts) is) by done) (sym c.as_slice.ensures.value) before) in
+          subst (λ ms. RenamedWhere ms all by (node_types ts keys (take (i + 1) nodes))) (sym (marks_next unknown nodes i x rest e))
+          (subst (λ vs. RenamedWhere (marks ++ node_mark unknown marks x ∷ []) all by vs) (sym (types_next ts keys nodes i x rest e))
+          (subst (λ ws. RenamedWhere (marks ++ node_mark unknown marks x ∷ []) ws by (done ++ node_type ts keys done x ∷ []))
+          (sym (ap (map (type_at ts)) pushed ∙ map-append (type_at ts) at.ids.items (c.in-Ok.id ∷ [])))
+          (renamed_last by marks us done (node_mark unknown marks x) (type_at ts c.in-Ok.id) (node_type ts keys done x)
+          (marks_count unknown (take i nodes) ∙ front ∙ sym ids) (types_count ts keys (take i nodes) ∙ front ∙ sym ids) before one)));
     }
 
 pub type_of-requires-clause-below : goal.type_of-requires-clause-below
@@ -72,8 +86,8 @@ type_of-requires-clause-node c =
     let nodes = c.args.nodes.now in
     let e = next_item nodes i x c.node-item.is c.loop-node-test.true in
     let n = length c.args.types.now in
-    let m = c.requires.nodes.0 in
-    (m, node_more n (length at.types) m x at.invariant.grown.length (node_at n m nodes i x (drop (i + 1) nodes) c.requires.nodes.1 e))
+    let m = length c.args.known.now in
+    node_more n (length at.types) m x at.invariant.grown.length (node_at n m nodes i x (drop (i + 1) nodes) c.requires.nodes e)
 
 pub type_of-requires-clause-known : goal.type_of-requires-clause-known
 type_of-requires-clause-known c = c.loop-node.invariant.known
@@ -93,5 +107,5 @@ returns-clause-count c =
 pub returns-clause-means : goal.returns-clause-means
 returns-clause-means c = λ n m w ts facts u keys by known same.
     let at = c.loop-node in
-    at.invariant.means n m w ts facts u keys by known same
-    ∙ ap (λ nodes. map (renamed by) (node_types ts keys nodes)) (take_all c.args.nodes.now at.node-index (omega (arith, c.loop-node-test.false)))
+    subst (λ nodes. RenamedWhere (node_marks (map is_unknown c.args.known.now) nodes) (map (type_at ts) at.ids.items) by (node_types ts keys nodes))
+    (take_all c.args.nodes.now at.node-index (omega (arith, c.loop-node-test.false))) (at.invariant.means n m w ts facts u keys by known same)

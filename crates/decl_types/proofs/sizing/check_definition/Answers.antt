@@ -10,6 +10,9 @@ use Rattle.decl_types.specs.ViewNodes.{formed_nodes, node_types}
 use Rattle.decl_types.specs.ViewSized.{nodes_sized}
 use Rattle.decl_types.proofs.Declaring.{kept_grown}
 use Rattle.decl_types.proofs.Ordering.{below_more, stands_more}
+use Rattle.std.proofs.lemmas.List.{length-map}
+use Rattle.decl_types.specs.ViewMarks.{is_unknown}
+use Rattle.decl_types.proofs.Renaming.{all_renamed, types_count}
 use Rattle.decl_types.proofs.Sizes.{sized_is}
 use Rattle.decl_types.proofs.sizing.check_definition.Goals as goal
 
@@ -18,7 +21,11 @@ returns-in-Ok-clause-answers c = λ n m ts facts keys k u sound known same.
     let d = c.args.definition.now in
     let nodes = d.nodes.items in
     let us = map (type_at ts) c.in_ok-ids.ids.items in
-    let types = c.in_ok-ids.ensures.means n m (subst (NodesIn n m) (sym c.as_slice.ensures.value) sound.nodes) ts facts u keys (meaning_by k) known same
+    let slice = c.as_slice.result.now in
+    let count : length us ≡ length (node_types ts keys slice) =
+    length-map c.in_ok-ids.ids.items (type_at ts) ∙ c.in_ok-ids.ensures.count ∙ sym (types_count ts keys slice) in
+    let types = all_renamed (meaning_by k) (map is_unknown c.args.known.now) slice us (node_types ts keys slice) count c.requires.all
+    (c.in_ok-ids.ensures.means n m (subst (NodesIn n m) (sym c.as_slice.ensures.value) sound.nodes) ts facts u keys (meaning_by k) known same)
     ∙ ap (λ ns. map (renamed (meaning_by k)) (node_types ts keys ns)) c.as_slice.ensures.value in
     let sized = sized_is ts keys facts k nodes us types in
     let rest = meant_within facts (key_by d) (meant_by ts keys d) in
@@ -33,7 +40,11 @@ returns-clause-answers c = λ n m ts facts keys k u sound known same.
     let d = c.args.definition.now in
     let nodes = d.nodes.items in
     let us = map (type_at ts) c.in_ok-ids.ids.items in
-    let types = c.in_ok-ids.ensures.means n m (subst (NodesIn n m) (sym c.as_slice.ensures.value) sound.nodes) ts facts u keys (meaning_by k) known same
+    let slice = c.as_slice.result.now in
+    let count : length us ≡ length (node_types ts keys slice) =
+    length-map c.in_ok-ids.ids.items (type_at ts) ∙ c.in_ok-ids.ensures.count ∙ sym (types_count ts keys slice) in
+    let types = all_renamed (meaning_by k) (map is_unknown c.args.known.now) slice us (node_types ts keys slice) count c.requires.all
+    (c.in_ok-ids.ensures.means n m (subst (NodesIn n m) (sym c.as_slice.ensures.value) sound.nodes) ts facts u keys (meaning_by k) known same)
     ∙ ap (λ ns. map (renamed (meaning_by k)) (node_types ts keys ns)) c.as_slice.ensures.value in
     let sized = sized_is ts keys facts k nodes us types in
     let rest = meant_within facts (key_by d) (meant_by ts keys d) in
@@ -49,8 +60,7 @@ types_of-requires-clause-ordered c = subst (Ordered 0) (sym c.as_slice.ensures.v
 
 pub types_of-requires-clause-nodes : goal.types_of-requires-clause-nodes
 types_of-requires-clause-nodes c =
-    let m = c.requires.sound.0 in
-    (m, subst (NodesIn (length c.args.types.now) m) (sym c.as_slice.ensures.value) c.requires.sound.1.nodes)
+    subst (NodesIn (length c.args.types.now) (length c.args.known.now)) (sym c.as_slice.ensures.value) c.requires.sound.nodes
 
 pub check_meant-requires-clause-below : goal.check_meant-requires-clause-below
 check_meant-requires-clause-below c =

@@ -91,3 +91,8 @@ returns-clause-answers c = λ n m ts facts keys k u reads known same.
     let at = c.loop-definition in
     let none = none_left c.args.read.now at.definition-index (omega (arith, c.loop-definition-test.false)) in
     at.invariant.left n m ts facts keys k u reads known same ∙ ap (λ l. sizes_rule facts k (all_defined ts keys l)) none
+
+pub check_definition-requires-clause-room : goal.check_definition-requires-clause-room
+check_definition-requires-clause-room c =
+    let at = c.loop-definition in
+    omega (arith, at.invariant.number, c.loop-definition-test.true, c.requires.room)

@@ -1,171 +1,56 @@
-use Rattle.std.proofs.Common.{◌≡◌, ap, sym, subst, ◌∙◌, drop, map, List, Some}
-use Rattle.std.specs.Prelude.{option_map, slice_get}
+use Rattle.std.proofs.Common.{Some, refl, sym, subst, ap}
+use Rattle.std.specs.Prelude.{slice_get}
 use Rattle.nim_meaning.specs.State.{World}
-use Rattle.flat_code.specs.Scene.{Temps, known_in}
 use Rattle.flat_code.specs.Codes.{procs_of}
-use Rattle.flat_code.specs.declared.line.Line.{Line}
-use Rattle.flat_code.specs.Running.{onward, from_label, jumped, called, returned, callable}
-use Rattle.flat_code.specs.Whole.{label_in}
-use Rattle.flat_runner.specs.Made.{IsDid}
-use Rattle.flat_runner.specs.Steps.{before, less_one, NextIs, Settled, Settles}
-use Rattle.flat_runner.specs.View.{machine_is, world_with, temps_is, lines_at, value_of, slot_is, held_in}
-use Rattle.flat_runner.proofs.StepRows.{of_passes, of_says, of_stops, of_fails, of_leaps, of_returns, of_enters, of_turns, of_calls}
+use Rattle.flat_code.specs.Running.{callable, called, onward, returned, scene_of, went}
+use Rattle.flat_code.specs.Scene.{known_in, with_value}
+use Rattle.flat_runner.specs.Doing.{IsDid, comes, map_done}
+use Rattle.flat_runner.specs.Steps.{Settles}
+use Rattle.flat_runner.specs.View.{machine_is, temps_is, value_of, world_with}
+use Rattle.flat_runner.proofs.StepRows.{by_unit, settled_of}
 use Rattle.flat_runner.proofs.step.settle.Goals as goal
 
-pub returns-in-Passes : goal.returns-in-Passes
-returns-in-Passes c =
-    λ plan w u t d did.
-    let flat = c.args.flat.now in
+pub returns-in-Acts : goal.returns-in-Acts
+returns-in-Acts c =
+    λ plan w d did.
     let run = c.args.run.now in
-    let world = world_with w run.frames.items in
-    let temps = temps_is run.now.temps in
-    let old = before (machine_is flat w run) t u in
-    let rest = drop c.args.next c.args.lines.now in
-    let h = subst (λ r. IsDid d t u r temps world) c.in-Passes.is did in
-    of_passes c.args.types.now plan flat old rest run.units _ d temps world h
-    (ap (λ (l : List Line). onward old (drop c.args.next l) temps world) (sym c.requires.lines))
+    let m = machine_is c.args.flat.now w run in
+    let a = c.in-Acts in
+    let e = subst (IsDid (scene_of m) d) a.is did in
+    let new = onward m m.now.rest (temps_is c.put.new.temps) (world_with w c.put.new.frames.items) in
+    subst (λ d. Settles c.args.types.now plan c.args.flat.now m d run.units c.put.result new run.units) (sym e)
+    (settled_of (went m m.now.rest (map_done (with_value a.to m.now.temps) (comes m.now.temps m.world a.acted))) (Some run.units) c.put.result new run.units
+    (c.put.ensures m m.now.rest w) refl)
 
-pub returns-in-Says : goal.returns-in-Says
-returns-in-Says c =
-    λ plan w u t d did.
-    let flat = c.args.flat.now in
-    let run = c.args.run.now in
-    let world = world_with w run.frames.items in
-    let temps = temps_is run.now.temps in
-    let old = before (machine_is flat w run) t u in
-    let rest = drop c.args.next c.args.lines.now in
-    let h = subst (λ r. IsDid d t u r temps world) c.in-Says.is did in
-    of_says c.args.types.now plan flat old rest run.units _ d c.in-Says.line temps world h
-    (ap (λ (l : List Line). onward old (drop c.args.next l) temps world) (sym c.requires.lines))
-
-pub returns-in-Stops : goal.returns-in-Stops
-returns-in-Stops c =
-    λ plan w u t d did.
-    let flat = c.args.flat.now in
-    let run = c.args.run.now in
-    let world = world_with w run.frames.items in
-    let temps = temps_is run.now.temps in
-    let old = before (machine_is flat w run) t u in
-    let rest = drop c.args.next c.args.lines.now in
-    let h = subst (λ r. IsDid d t u r temps world) c.in-Stops.is did in
-    of_stops c.args.types.now plan flat old rest run.units (machine_is flat w run) d c.in-Stops.stop h
-
-pub returns-in-Fails : goal.returns-in-Fails
-returns-in-Fails c =
-    λ plan w u t d did.
-    let flat = c.args.flat.now in
-    let run = c.args.run.now in
-    let world = world_with w run.frames.items in
-    let temps = temps_is run.now.temps in
-    let old = before (machine_is flat w run) t u in
-    let rest = drop c.args.next c.args.lines.now in
-    let h = subst (λ r. IsDid d t u r temps world) c.in-Fails.is did in
-    of_fails c.args.types.now plan flat old rest run.units (machine_is flat w run) d h
-
-pub returns-in-Leaps : goal.returns-in-Leaps
-returns-in-Leaps c =
-    λ plan w u t d did.
-    let types = c.args.types.now in
-    let flat = c.args.flat.now in
-    let run = c.args.run.now in
-    let world = world_with w run.frames.items in
-    let temps = temps_is run.now.temps in
-    let m = machine_is flat w run in
-    let old = before m t u in
-    let rest = drop c.args.next c.args.lines.now in
-    let h = subst (λ r. IsDid d t u r temps world) c.in-Leaps.is did in
-    let label = c.in-Leaps.name in
-    let o = from_label label_in label rest in
-    let at = subst (λ (l : List Line). option_map (λ i. drop i l) c.ahead.result ≡ o) c.requires.lines (c.ahead.ensures c.requires.labels) in
-    let r = c.go_to.result in
-    let new = machine_is flat w c.go_to.new.run in
-    let g = subst (λ (x : World). NextIs (jumped (before m t x) temps o) r new) h.2 (c.go_to.ensures.next flat w t o at) in
-    let g2 = subst (λ (x : Temps). NextIs (jumped old x o) r new) h.1 g in
-    subst (λ n. Settles types plan flat old rest d run.units r new n) (sym c.go_to.ensures.units)
-    (of_leaps types plan flat old rest run.units new d label r h.0 g2)
-
-pub returns-in-Enters : goal.returns-in-Enters
-returns-in-Enters c =
-    λ plan w u t d did.
-    let flat = c.args.flat.now in
-    let run = c.args.run.now in
-    let world = world_with w run.frames.items in
-    let temps = temps_is run.now.temps in
-    let m = machine_is flat w run in
-    let old = before m t u in
-    let rest = drop c.args.next c.args.lines.now in
-    let h = subst (λ r. IsDid d t u r temps world) c.in-Enters.is did in
-    let at = ap (λ (l : List Line). Some (drop c.args.next l)) (sym c.requires.lines) in
-    let r = c.turn.result in
-    let new = machine_is flat w c.turn.new.run in
-    let left = c.turn.new.run.units in
-    let g = subst (λ (x : World). Settled (jumped (before m t x) temps (Some rest)) (less_one run.units) r new left) h.2
-    (c.turn.ensures flat w t (Some rest) at) in
-    of_enters c.args.types.now plan flat old rest run.units new d temps left r h.0 h.1 g
-
-pub returns-in-Turns : goal.returns-in-Turns
-returns-in-Turns c =
-    λ plan w u t d did.
-    let flat = c.args.flat.now in
-    let run = c.args.run.now in
-    let world = world_with w run.frames.items in
-    let temps = temps_is run.now.temps in
-    let m = machine_is flat w run in
-    let old = before m t u in
-    let rest = drop c.args.next c.args.lines.now in
-    let h = subst (λ r. IsDid d t u r temps world) c.in-Turns.is did in
-    let label = c.in-Turns.name in
-    let whole = lines_at flat run.now.proc in
-    let o = from_label label_in label whole in
-    let e = subst (λ (l : List Line). from_label label_in label l ≡ option_map (λ i. drop i l) (held_in c.args.book.now.labels.items label)) c.requires.lines
-    (c.requires.labels label) in
-    let at = ap (option_map (λ i. drop i whole)) c.back.ensures ∙ sym e in
-    let r = c.turn-in-Turns.result in
-    let new = machine_is flat w c.turn-in-Turns.new.run in
-    let left = c.turn-in-Turns.new.run.units in
-    let g = subst (λ (x : World). Settled (jumped (before m t x) temps o) (less_one run.units) r new left) h.1 (c.turn-in-Turns.ensures flat w t o at) in
-    of_turns c.args.types.now plan flat old rest run.units new d temps label left r h.0 g
+pub returns-in-Fills : goal.returns-in-Fills
+returns-in-Fills c =
+    λ plan w d did.
+    let m = machine_is c.args.flat.now w c.args.run.now in
+    let e = subst (IsDid (scene_of m) d) c.in-Fills.is did in
+    rw e (((refl, refl), ap (λ (u : World). onward m m.now.rest m.now.temps u) (sym (c.fill.ensures w))), refl)
 
 pub returns-in-Calls : goal.returns-in-Calls
 returns-in-Calls c =
-    λ plan w u t d did.
-    let types = c.args.types.now in
+    λ plan w d did.
     let flat = c.args.flat.now in
+    let known = known_in c.args.types.now in
     let run = c.args.run.now in
-    let world = world_with w run.frames.items in
-    let temps = temps_is run.now.temps in
     let m = machine_is flat w run in
-    let old = before m t u in
-    let rest = drop c.args.next c.args.lines.now in
-    let h = subst (λ r. IsDid d t u r temps world) c.in-Calls.is did in
-    let given = c.in-Calls in
-    let k = h.0 in
-    let r = c.spend_call.result in
-    let new = machine_is flat w c.spend_call.new.run in
-    let left = c.spend_call.new.run.units in
-    let o = slice_get (callable (procs_of (known_in types) flat)) given.proc in
-    let g = subst (λ (x : World). Settled (called (before m t x) (drop c.args.next (lines_at flat run.now.proc)) given.to k.all k.work m.now.left o)
-    (less_one run.units) r new left) h.2 (c.spend_call.ensures w t k.all k.work k.same h.1) in
-    let g2 = subst (λ (l : List Line). Settled (called old (drop c.args.next l) given.to k.all k.work m.now.left o) (less_one run.units) r new left)
-    (sym c.requires.lines) g in
-    of_calls types plan flat old rest run.units new d given.to given.proc (map slot_is given.slots.items) left r k g2
+    let a = c.in-Calls in
+    let called_by = subst (IsDid (scene_of m) d) a.is did in
+    let new = c.call.new.run in
+    subst (λ d. Settles c.args.types.now plan flat m d run.units c.call.result (machine_is flat w new) new.units) (sym called_by.is)
+    (by_unit c.args.types.now plan flat (called m m.now.rest a.to called_by.all 0 m.now.left (slice_get (callable (procs_of known flat)) a.proc))
+    run.units new.units c.call.result _ (c.call.ensures w called_by.all called_by.same))
 
 pub returns-in-Returns : goal.returns-in-Returns
 returns-in-Returns c =
-    λ plan w u t d did.
-    let types = c.args.types.now in
+    λ plan w d did.
     let flat = c.args.flat.now in
     let run = c.args.run.now in
-    let world = world_with w run.frames.items in
-    let temps = temps_is run.now.temps in
     let m = machine_is flat w run in
-    let old = before m t u in
-    let rest = drop c.args.next c.args.lines.now in
-    let h = subst (λ r. IsDid d t u r temps world) c.in-Returns.is did in
-    let v = value_of c.in-Returns.v in
-    let r = c.give_back.result in
-    let new = machine_is flat w c.give_back.new.run in
-    let k = h.0 in
-    let g = subst (λ (x : World). NextIs (returned (before m t x) v k.work m.waiting) r new) h.1 (c.give_back.ensures.next flat w t k.work) in
-    subst (λ n. Settles types plan flat old rest d run.units r new n) (sym c.give_back.ensures.units)
-    (of_returns types plan flat old rest run.units new d v r k g)
+    let e = subst (IsDid (scene_of m) d) c.in-Returns.is did in
+    let new = c.give_back.new.run in
+    subst (λ d. Settles c.args.types.now plan flat m d run.units c.give_back.result (machine_is flat w new) new.units) (sym e)
+    (settled_of (returned m (value_of c.in-Returns.v) 0 m.waiting) (Some run.units) c.give_back.result _ new.units (c.give_back.ensures.next flat w)
+    (ap Some (sym c.give_back.ensures.units)))

@@ -1,4 +1,4 @@
-use Rattle.std.proofs.Common.{◌≡◌, ℕ, zero, suc, true, false, inl, inr, List, [], length, Option, Some, None, refl, ap, subst, arith}
+use Rattle.std.proofs.Common.{◌≡◌, ℕ, zero, suc, true, false, inr, List, [], length, Option, Some, None, refl, ap, subst, arith}
 use Rattle.std.specs.Prelude.{slice_get}
 use Rattle.nim_types.specs.Types.{int}
 use Rattle.nim_program.specs.Program.{Body, Proc, Apply, Calling, Count}
@@ -22,7 +22,7 @@ IsBody proc body = BodyFormed (ground_of counting (named_in none_named) false bo
 
 is_next : (body : Body) → next.body ≡ Some body → IsBody next body
 is_next body has = subst (λ b. IsBody next b) (ap (λ o. body_or body o) has)
-    (omega arith, (((refl, (refl, (refl, tt))), (inl refl, (inl refl, tt)), ((refl, omega arith), ((refl, tt, tt), tt))), tt))
+    (omega arith, (((refl, (refl, (refl, tt))), ((refl, omega arith), ((refl, tt), tt))), tt))
 
 abbrev nowhere : Option Proc
 nowhere = None
@@ -46,13 +46,13 @@ variable_is : Formed around (InLoop around Open (Count (place 0) true)) (read 0)
 variable_is = (refl, inr (refl, tt))
 
 called_is : Formed around (InLoop around Open (Count (place 0) true)) (Apply node (Some int) (Calling 0 []) (one (read 0)))
-called_is = ((refl, refl, λ place is. absurd is), (inl refl, tt), (variable_is, tt))
+called_is = ((refl, λ place is. absurd is), (variable_is, tt))
 
 three_is : Formed around (InLoop around Open (Count (place 0) true)) (equal (read 0) (number 3))
-three_is = ((refl, (refl, (refl, tt))), (inl refl, (inl refl, tt)), (variable_is, ((refl, tt, tt), tt)))
+three_is = ((refl, (refl, (refl, tt))), (variable_is, ((refl, tt), tt)))
 
 two_is : Formed around (InLoop around Open (Count (place 0) true)) (equal (Apply node (Some int) (Calling 0 []) (one (read 0))) (number 2))
-two_is = ((refl, (refl, (refl, tt))), (inl refl, (inl refl, tt)), (called_is, ((refl, tt, tt), tt)))
+two_is = ((refl, (refl, (refl, tt))), (called_is, ((refl, tt), tt)))
 
 pub returns-clause-formed : goal.returns-clause-formed
 returns-clause-formed c =
@@ -64,15 +64,15 @@ returns-clause-formed c =
         (
           (
             tt,
-            (inl refl, (inl refl, tt)),
-            ((refl, tt, tt), ((refl, tt, tt), tt)),
+            ((refl, tt), ((refl, tt), tt)),
             omega arith,
-            ((tt, (three_is, tt), ((refl, tt), tt)), (((tt, (refl, tt)), (inl refl, tt), (two_is, tt)), tt)),
+            ((tt, tt, (three_is, tt), ((refl, tt), tt)), (((tt, (refl, tt)), (two_is, tt)), tt)),
           ),
           tt,
         ),
       );
       gives = refl;
+      no_hooks = refl;
     }
 
 pub returns-clause-shown : goal.returns-clause-shown

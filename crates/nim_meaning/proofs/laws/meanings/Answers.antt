@@ -1,4 +1,4 @@
-use Rattle.nim_meaning.proofs.Whole.{meaning_steady, meaning_sound, frames_kept, demand_within, blocks_balanced}
+use Rattle.nim_meaning.proofs.Whole.{meaning_steady, meaning_sound, frames_kept, demand_within, blocks_balanced, blocks_once, demand_asked}
 use Rattle.nim_meaning.proofs.laws.meanings.Goals as goal
 
 pub returns-clause-steady : goal.returns-clause-steady
@@ -15,3 +15,9 @@ returns-clause-demand c = demand_within
 
 pub returns-clause-balanced : goal.returns-clause-balanced
 returns-clause-balanced c = blocks_balanced
+
+pub returns-clause-once : goal.returns-clause-once
+returns-clause-once c = blocks_once
+
+pub returns-clause-asked : goal.returns-clause-asked
+returns-clause-asked c = demand_asked

@@ -1,0 +1,136 @@
+// The routines by which texts get more characters and other lengths, each as a procedure of word code.
+ghost use Rattle.std.specs.Prelude.{◌≡◌, IfOk};
+ghost use Rattle.refc_runtime.specs.Code.{routine};
+ghost use Rattle.refc_runtime.specs.LineCode.{append_lines, resize_lines, release_lines};
+ghost use Rattle.refc_runtime.specs.Code.{digits_lines};
+
+use crate::heap::GIVE;
+use crate::routines::{branch, compute, constant, routine, spelling_routine, store, sum_with};
+use crate::texts::{GROW, MOVE, argument, call};
+use arc_base::Memory;
+use rv32_isa::Size;
+use std::alloc::Global;
+use word_code::{SCRATCH_BYTES, Test, WordInstr, WordOperation, WordProc};
+
+/// Gives a block back where there is one.
+pub const RELEASE: u32 = 19;
+
+/// The lines of it, with the call.
+pub const RELEASE_LINES: u32 = 20;
+
+/// Puts a text behind another.
+pub const APPEND: u32 = 20;
+
+/// The lines of it, with the call, beside those of the growth and for each byte.
+pub const APPEND_LINES: u32 = 28;
+
+/// Gives a text another length.
+pub const RESIZE: u32 = 21;
+
+/// The lines of it, with the call, beside those of the growth and for each byte.
+pub const RESIZE_LINES: u32 = 10;
+
+/// The lines for each byte that comes.
+pub const ZERO_BYTE: u32 = 4;
+
+/// Spells a number.
+pub const DIGITS: u32 = 22;
+
+/// The lines that spell a number of one byte, with the call.
+pub const DIGITS_LINES: u32 = 10;
+
+pub fn copy(to: u32, from: u32) -> WordInstr
+    ensures { result ≡ WordInstr.Copy to from }
+{
+    WordInstr::Copy { to, from }
+}
+
+/// That gives a block back where there is one.
+pub fn release_routine(alloc: Global) -> Result<WordProc, Memory>
+    ensures { IfOk result (λ p. p ≡ routine RELEASE 1 2 release_lines) }
+{
+    routine(
+        alloc,
+        RELEASE,
+        1,
+        2,
+        &[
+            constant(1, 0),
+            branch(Test::Equal, 0, 1, 0),
+            argument(0, 0),
+            call(1, GIVE),
+            WordInstr::Label { name: 0 },
+            WordInstr::Return { from: 0 },
+        ],
+    )
+}
+
+/// That puts a text behind another.
+pub fn append_routine(alloc: Global) -> Result<WordProc, Memory>
+    ensures { IfOk result (λ p. p ≡ routine APPEND 4 6 append_lines) }
+{
+    routine(
+        alloc,
+        APPEND,
+        4,
+        6,
+        &[
+            compute(5, WordOperation::Add, 1, 3),
+            argument(0, 0),
+            argument(1, 1),
+            argument(2, 5),
+            call(4, GROW),
+            branch(Test::Unequal, 0, 2, 0),
+            copy(2, 4),
+            WordInstr::Label { name: 0 },
+            compute(5, WordOperation::Add, 4, 1),
+            argument(0, 5),
+            argument(1, 2),
+            argument(2, 3),
+            call(5, MOVE),
+            WordInstr::Return { from: 4 },
+        ],
+    )
+}
+
+/// That gives a text another length.
+pub fn resize_routine(alloc: Global) -> Result<WordProc, Memory>
+    ensures { IfOk result (λ p. p ≡ routine RESIZE 3 7 resize_lines) }
+{
+    routine(
+        alloc,
+        RESIZE,
+        3,
+        7,
+        &[
+            branch(Test::Below, 1, 2, 0),
+            WordInstr::Return { from: 0 },
+            WordInstr::Label { name: 0 },
+            argument(0, 0),
+            argument(1, 1),
+            argument(2, 2),
+            call(3, GROW),
+            compute(4, WordOperation::Add, 3, 1),
+            compute(5, WordOperation::Add, 3, 2),
+            constant(6, 0),
+            WordInstr::Label { name: 1 },
+            store(4, 6, Size::Byte),
+            sum_with(4, 4, 1),
+            branch(Test::Unequal, 4, 5, 1),
+            WordInstr::Return { from: 3 },
+        ],
+    )
+}
+
+/// That spells a number.
+pub fn digits_routine(alloc: Global) -> Result<WordProc, Memory>
+    ensures { IfOk result (λ p. p ≡ routine DIGITS 2 7 digits_lines) }
+{
+    spelling_routine(
+        alloc,
+        DIGITS,
+        2,
+        sum_with(2, 1, SCRATCH_BYTES - 1),
+        &[WordInstr::Return { from: 2 }],
+    )
+}

@@ -1,0 +1,82 @@
+-- A line of an operation does what the row of types without hooks says: no type of it has any, but that of a text which `echo` writes.
+use Rattle.std.proofs.Common.{◌≡◌, ℕ, List, [], ◌∷◌, map, Option, Some, None, Bool, true, false, refl, sym, ap, subst, ◌∙◌}
+use Rattle.std.specs.Prelude.{not, ◌||◌}
+use Rattle.std.proofs.lemmas.Bool.{not-true}
+use Rattle.nim_types.specs.Table.{facts_in, type_at}
+use Rattle.nim_program.specs.declared.operation.Operation.{Operation}
+use Rattle.nim_program.specs.declared.operation.Operation.TheVariants as O
+use Rattle.nim_program.specs.declared.operation.Use.{Use}
+use Rattle.nim_program.specs.View.{if_type}
+use Rattle.nim_meaning.specs.Deeds.{branch, costs, ◌>>=◌}
+use Rattle.nim_meaning.specs.Here.{any_hooked, gives_hooked}
+use Rattle.nim_meaning.specs.OwnedRows.{owned}
+use Rattle.nim_meaning.specs.Places.{made_by}
+use Rattle.nim_meaning.specs.Table.{does}
+use Rattle.flat_code.specs.declared.block.BlockLine.{BlockLine}
+use Rattle.flat_code.specs.declared.line.From.{From}
+use Rattle.flat_code.specs.declared.line.Line.TheVariants as L
+use Rattle.flat_code.specs.Lines.{gives, using_all}
+use Rattle.flat_code.specs.Running.{scene_of}
+use Rattle.flat_code.specs.Scene.{Did}
+use Rattle.word_lowering.specs.MayLower.{is_echo, is_hooked}
+use Rattle.word_lowering.specs.MayLower as may
+use Rattle.word_lowering.proofs.ApplyFits.{RowHere, applies, apply_line, gets_type, of_types}
+use Rattle.word_lowering.proofs.ControlLines.{FollowedHere, value_type}
+use Rattle.word_lowering.proofs.Lines.{Basis, IsGood, Settles, bound_for, known, starts}
+use Rattle.word_lowering.proofs.OperandLines.{value_type_by}
+use Rattle.word_lowering.proofs.Related.{Both, high}
+use Rattle.word_lowering.proofs.Settling.{LabelsLead}
+use Rattle.word_lowering.proofs.ShapeFacts.{never}
+use Rattle.word_lowering.proofs.Targets.{plain_operands, target}
+
+neither : (a b : Bool) → (a || b) ≡ false → (a ≡ false) × (b ≡ false)
+neither true b h = never (sym h)
+neither false b h = (refl, h)
+
+any_unhooked : (x : Basis) (of : List (Option ℕ)) → may.any_hooked x.table of ≡ false
+    → any_hooked (facts_in x.table) (map (if_type (known x).types) of) ≡ false
+any_unhooked x [] h = refl
+any_unhooked x (None ∷ of) h = any_unhooked x of h
+any_unhooked x (Some ty ∷ of) h =
+    let n = neither (is_hooked x.table ty) (may.any_hooked x.table of) h in
+    ap (λ b. b || any_hooked (facts_in x.table) (map (if_type (known x).types) of)) (x.unhooked ty n.0) ∙ any_unhooked x of n.1
+
+module _ (x : Basis) (labels : LabelsLead x) (g : Both) (rest : List BlockLine) (to : ℕ) (how : Use) (ty : Option ℕ) (of : List (Option ℕ))
+    (from : List From) where
+  abbrev has_hooks : Operation → Bool
+  has_hooks operation = gives_hooked (facts_in x.table) (gets_type x g rest to operation how ty of from)
+      || any_hooked (facts_in x.table) (of_types x g rest to operation how ty of from)
+
+  -- what the line does, by whether a type of it has hooks
+  abbrev does_by : Operation → Bool → Did
+  does_by operation b = using_all g.call.temps from (λ xs.
+      gives (scene_of (high x.table x.blocks (starts g (apply_line x g rest to operation how ty of from) rest))) to
+      (costs 1 (branch b
+      (owned operation (facts_in x.table) (if_type (known x).types ty) (map (if_type (known x).types) of) xs
+      (does operation (facts_in x.table) (if_type (known x).types ty) (map (if_type (known x).types) of) xs))
+      (does operation (facts_in x.table) (if_type (known x).types ty) (map (if_type (known x).types) of) xs))
+      >>= made_by (gives_hooked (facts_in x.table) (if_type (known x).types ty)) (bound_for g how to)))
+
+  module _ (operation : Operation) (y : IsGood x (starts g (apply_line x g rest to operation how ty of from) rest)) where
+    value_unhooked : (o : Option ℕ) → ty ≡ o → gives_hooked (facts_in x.table) (if_type (known x).types o) ≡ false
+    value_unhooked None e = refl
+    value_unhooked (Some n) e =
+        let line = apply_line x g rest to operation how ty of from in
+        let typed = value_type_by (value_type x g line rest y to) (if_type (known x).types ty) (type_at (known x).types n)
+        (applies x g rest to operation how ty of from y).given (ap (if_type (known x).types) e) in
+        (target x g line rest y to (type_at (known x).types n) refl refl typed).unhooked
+
+    none_hooked : is_echo operation ≡ false → has_hooks operation ≡ false
+    none_hooked e =
+        ap (λ b. b || any_hooked (facts_in x.table) (map (if_type (known x).types) of)) (value_unhooked ty refl)
+        ∙ any_unhooked x of (not-true (may.any_hooked x.table of) (subst (λ b. (b || not (may.any_hooked x.table of)) ≡ true) e
+        (plain_operands x g (apply_line x g rest to operation how ty of from) rest y)))
+
+  pub as_row : (operation : Operation) → RowHere x g rest to operation how ty of from → FollowedHere x labels g rest (L.Apply to operation how ty of from)
+  as_row O.Echo row y = by (has_hooks O.Echo)
+    where
+      by : (b : Bool) → Settles x (starts g (apply_line x g rest to O.Echo how ty of from) rest) rest (does_by O.Echo b)
+      by true = row y
+      by false = row y
+  as_row operation row y = subst (λ b. Settles x (starts g (apply_line x g rest to operation how ty of from) rest) rest (does_by operation b))
+      (sym (none_hooked operation y refl)) (row y)
