@@ -11,7 +11,7 @@ use Rattle.nim_plan.specs.declared.plan.Plan.{Plan}
 use Rattle.nim_program.specs.declared.program.HookOf.{HookOf}
 use Rattle.nim_meaning.specs.Meaning.{seen_call}
 use Rattle.nim_meaning.specs.Values.{Slot}
-use Rattle.nim_meaning.specs.State.{with_frame}
+use Rattle.nim_meaning.specs.State.{World, with_frame}
 use Rattle.std.proofs.lemmas.Bool.{true≢false}
 use Rattle.nim_meaning.specs.Deeds.{Answers, Finishes, Fails as DeedFails}
 use Rattle.flat_code.specs.declared.line.Line.{Line}
@@ -26,10 +26,11 @@ use Rattle.flat_code.specs.Whole.{label_in}
 use Rattle.flat_code.specs.Codes.{procs_of}
 use Rattle.flat_runner.specs.declared.step.Step.{Step}
 use Rattle.flat_runner.specs.declared.step.Step.TheVariants as S
+use Rattle.flat_runner.specs.declared.state.Run.{Run}
 use Rattle.flat_runner.specs.declared.stop.Stop.{Stop}
 use Rattle.flat_runner.specs.Doing.{bare}
 use Rattle.flat_runner.specs.Tables.{AreLabels}
-use Rattle.flat_runner.specs.View.{held_in}
+use Rattle.flat_runner.specs.View.{held_in, machine_is}
 use Rattle.flat_runner.specs.Stops.{last_line, status_of}
 use Rattle.flat_runner.specs.Steps.{IsQuiet, bare_next, Shows, NextIs, Settled, Settles, Stepped, less_one, inside}
 
@@ -128,6 +129,11 @@ module _ (types : List TypeDef) (plan : Plan) (flat : Code Line) where
       let procs = procs_of (known_in types) flat in
       subst (λ (l : List Line). Settled (step_lines label_in go procs m l) (unit_left label_in go procs (spends_next label_in go procs m l) units)
       S.Faults new units) (sym e) (tt, refl)
+
+  -- from a run that was left as it was
+  pub kept_step : (old new : Run) (w : World) (r : Step) (m : Machine Line) (left : ℕ) → new ≡ old
+      → Stepped types plan flat (machine_is flat w new) new.units r m left → Stepped types plan flat (machine_is flat w old) old.units r m left
+  kept_step old new w r m left e h = subst (λ (run : Run). Stepped types plan flat (machine_is flat w run) run.units r m left) e h
 
   -- where a unit is spent
   spent : (n : ℕ) → unit_left label_in (does (known_in types) plan) (procs_of (known_in types) flat) true n ≡ less_one n

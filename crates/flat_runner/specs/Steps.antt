@@ -18,12 +18,21 @@ use Rattle.flat_code.specs.Whole.{label_in}
 use Rattle.flat_code.specs.Codes.{procs_of}
 use Rattle.flat_runner.specs.declared.step.Step.{Step}
 use Rattle.flat_runner.specs.declared.step.Step.TheVariants as S
+use Rattle.flat_runner.specs.declared.step.Went.{Went}
+use Rattle.flat_runner.specs.declared.step.Went.TheVariants as G
 use Rattle.flat_runner.specs.Mean.{bytes_on}
 use Rattle.flat_runner.specs.Stops.{last_line, status_of}
 
 -- nothing is written
 abbrev pub IsQuiet : List Event → Type 0
 IsQuiet es = (bytes_on Output es ≡ []) × (bytes_on Errors es ≡ [])
+
+-- the step that a brief line comes to
+abbrev pub step_of : Went → Step
+step_of G.Goes = S.Goes
+step_of G.Waits = S.Waits
+step_of G.Faults = S.Faults
+step_of G.Memory = S.Memory
 
 -- a step without its work
 abbrev pub bare_next : Next Event (Machine Line) → Next Event (Machine Line)

@@ -21,6 +21,7 @@ mod brief;
 mod constant;
 mod did;
 mod fields;
+mod frames;
 mod labels;
 mod lines;
 pub mod mean;

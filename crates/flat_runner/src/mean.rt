@@ -10,8 +10,9 @@ ghost use Rattle.nim_meaning.specs.State.{world_of as first_world};
 ghost use Rattle.nim_plan.specs.declared.plan.Plan.{Plan};
 ghost use Rattle.std.specs.Prelude.{IfOk, List, [], length, ℕ, ◌-◌, ◌≡◌};
 
+use crate::frames::frame_for;
 use crate::state::{Active, Frame, Run, Slot};
-use crate::step::{Step, advance, frame_for};
+use crate::step::{Step, Went, advance, carry};
 use crate::stop::{last_line, status_of};
 use crate::tables::{Tables, proc_at, tables_of};
 use crate::temps::no_temps;
@@ -130,18 +131,26 @@ pub fn mean<I: Source, O: Sink, E: Sink>(
     };
     loop {
         match advance(alloc, types, flat, &tables, &mut run) {
-            Step::Goes => {}
-            Step::Says(line) => match put_all(out, line.as_slice()) {
-                Err(_) => return MeanEnd::WriteFault(Stream::Out),
-                Ok(()) => {}
+            Some(went) => match went {
+                Went::Goes => {}
+                Went::Waits => return MeanEnd::Going,
+                Went::Faults => return MeanEnd::Faulted,
+                Went::Memory => return MeanEnd::Memory,
             },
-            Step::Stops(stop) => match put_all(err, last_line(stop)) {
-                Err(_) => return MeanEnd::WriteFault(Stream::Err),
-                Ok(()) => return MeanEnd::Ended(status_of(stop)),
+            None => match carry(alloc, types, flat, &tables, &mut run) {
+                Step::Goes => {}
+                Step::Says(line) => match put_all(out, line.as_slice()) {
+                    Err(_) => return MeanEnd::WriteFault(Stream::Out),
+                    Ok(()) => {}
+                },
+                Step::Stops(stop) => match put_all(err, last_line(stop)) {
+                    Err(_) => return MeanEnd::WriteFault(Stream::Err),
+                    Ok(()) => return MeanEnd::Ended(status_of(stop)),
+                },
+                Step::Waits => return MeanEnd::Going,
+                Step::Faults => return MeanEnd::Faulted,
+                Step::Memory => return MeanEnd::Memory,
             },
-            Step::Waits => return MeanEnd::Going,
-            Step::Faults => return MeanEnd::Faulted,
-            Step::Memory => return MeanEnd::Memory,
         }
     }
 }

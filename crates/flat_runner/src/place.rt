@@ -5,12 +5,12 @@ ghost use Rattle.flat_runner.specs.View.{found_value, joined, location_of, slot_
 ghost use Rattle.flat_runner.specs.View.{temps_is, value_of, value_or, where_of, world_in};
 ghost use Rattle.flat_runner.specs.View.{world_with};
 ghost use Rattle.nim_meaning.specs.State.{World, held, load, slot_at, store, whole_at, with_slot};
-ghost use Rattle.nim_meaning.specs.Values.{Holds, part, put_part};
+ghost use Rattle.nim_meaning.specs.Values.{Holds, Number, part, put_part};
 ghost use Rattle.std.specs.Prelude.{None, Some, option_map, true, ◌≡◌};
 
 use crate::state::{Base, Frame, Location, Slot, Temps, Where};
 use crate::temps::value_at;
-use crate::value::{Found, Value, part, put_part};
+use crate::value::{Found, Value, part, put_part, renumber};
 use std::mem::replace;
 
 /// A location that is looked at: at a place, or in a value that nobody owns.
@@ -168,6 +168,33 @@ pub fn fill(frames: &mut Vec<Frame>, level: u32, number: u32, v: Value)
     exchange(frames, level, number, Slot::Holds(v));
 }
 
+#[inline(always)]
+fn renumber_slot(slot: &mut Slot, z: i32)
+    ensures { slot_is slot.new ≡ Some (Holds (Number z)) }
+{
+    match slot {
+        Slot::Closed => *slot = Slot::Holds(Value::Number(z)),
+        Slot::Holds(v) => renumber(v, z),
+        Slot::Stands(_) => *slot = Slot::Holds(Value::Number(z)),
+    }
+}
+
+// A place gets a number.
+#[inline(always)]
+fn fill_number(frames: &mut Vec<Frame>, level: u32, number: u32, z: i32)
+    ensures { (w : World) → world_with w frames.new.items
+        ≡ with_slot (world_with w frames.old.items) level number (Some (Holds (Number z))) }
+{
+    if level as usize >= frames.len() {
+        return;
+    }
+    let frame = &mut frames[level as usize];
+    let i = number.saturating_sub(frame.first) as usize;
+    if i < frame.slots.len() {
+        renumber_slot(&mut frame.slots[i], z);
+    }
+}
+
 // The value of a place is taken out, to be put back.
 fn take(frames: &mut Vec<Frame>, level: u32, number: u32) -> Value
     ensures value { value_of result ≡ held (slot_at (world_in frames.old.items) level number) }
@@ -213,6 +240,28 @@ pub fn store(frames: &mut Vec<Frame>, spot: Spot, v: Value) -> bool
             number,
             path,
         } => put(frames, level, number, path, v),
+        Spot::Made { .. } => true,
+    }
+}
+
+/// The same of a number, which is written in place at a place itself.
+#[inline(always)]
+pub fn store_number(frames: &mut Vec<Frame>, spot: Spot, z: i32) -> bool
+    ensures { (w : World) → result ≡ true → world_with w frames.new.items
+        ≡ store (world_with w frames.old.items) (spot_is spot.entry) (Number z) }
+{
+    match spot {
+        Spot::Standing {
+            level,
+            number,
+            path,
+        } => {
+            if path.is_empty() {
+                fill_number(frames, level, number, z);
+                return true;
+            }
+            put(frames, level, number, path, Value::Number(z))
+        }
         Spot::Made { .. } => true,
     }
 }

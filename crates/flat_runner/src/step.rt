@@ -1,18 +1,17 @@
 // One step of a run: a line, and what comes of it.
 ghost use Rattle.arc_base.specs.Event.{Event};
 ghost use Rattle.arc_base.specs.Stepping.{Goes};
-ghost use Rattle.flat_code.specs.Codes.{proc_of, procs_of, result_in};
-ghost use Rattle.flat_code.specs.Running.{Machine, callable, called, frame_of, jumped, onward};
+ghost use Rattle.flat_code.specs.Codes.{proc_of, procs_of};
+ghost use Rattle.flat_code.specs.Running.{Machine, callable, called, jumped, onward};
 ghost use Rattle.flat_code.specs.Running.{returned, scene_of, went};
 ghost use Rattle.flat_code.specs.Scene.{Did as SpecDid, Known, known_in, with_value};
 ghost use Rattle.flat_code.specs.declared.code.Code.{Code};
 ghost use Rattle.flat_code.specs.declared.line.Line.{Line};
-ghost use Rattle.flat_runner.specs.Doing.{IsBrief, IsDid, bare, comes, location_from, map_done, plainly};
+ghost use Rattle.flat_runner.specs.Doing.{IsBrief, IsDid, comes, location_from, map_done};
 ghost use Rattle.flat_runner.specs.PlainLines.{AllPlain};
-ghost use Rattle.flat_runner.specs.Steps.{IsQuiet, NextIs, Settled, Settles, Stepped};
-ghost use Rattle.flat_runner.specs.Steps.{inside as into_call, less_one, padded};
+ghost use Rattle.flat_runner.specs.Steps.{IsQuiet, NextIs, Settled, Settles, Stepped, step_of};
+ghost use Rattle.flat_runner.specs.Steps.{inside as into_call, less_one};
 ghost use Rattle.flat_runner.specs.Tables.{AreBooks, AreLabels, IsBook, IsTables};
-ghost use Rattle.flat_runner.specs.Tables.{result_slots};
 ghost use Rattle.flat_runner.specs.View.{frame_is, lines_at, machine_is, slot_is, temps_is};
 ghost use Rattle.flat_runner.specs.View.{value_of, world_with};
 ghost use Rattle.nim_meaning.specs.Deeds.{Answers};
@@ -20,19 +19,18 @@ ghost use Rattle.nim_meaning.specs.State.{World, store};
 ghost use Rattle.nim_meaning.specs.Values.{Number, Slot as SpecSlot, nothing};
 ghost use Rattle.nim_plan.specs.declared.plan.Plan.{Plan};
 ghost use Rattle.nim_program.specs.declared.program.TheConstants.{ACTIVE_CALLS};
-ghost use Rattle.nim_types.specs.Table.{facts_in};
 ghost use Rattle.nim_types.specs.declared.types.TypeDef.{TypeDef};
-ghost use Rattle.std.specs.Prelude.{IfOk, IfSome, List, None, OnOk, Option, Some, [], drop};
-ghost use Rattle.std.specs.Prelude.{if◌then◌else◌, length, map, option_map, slice_get, true};
+ghost use Rattle.std.specs.Prelude.{IfNone, IfSome, List, None, Option, Some, [], drop};
+ghost use Rattle.std.specs.Prelude.{if◌then◌else◌, map, option_map, slice_get, true};
 ghost use Rattle.std.specs.Prelude.{◌++◌, ◌<◌, ◌∷◌, ◌≡◌};
 
 use crate::brief::{Brief, at_once};
 use crate::did::{Acted, Did, Here};
+use crate::frames::frame_for;
 use crate::labels::{ahead, back};
 use crate::lines::does;
 use crate::operand::place_of;
-use crate::place::{fill, store};
-use crate::start::start_of;
+use crate::place::{fill, store, store_number};
 use crate::state::{Active, Frame, Run, Slot, Temps, Waiting};
 use crate::stop::Stop;
 use crate::tables::{Book, Tables, proc_at};
@@ -55,6 +53,19 @@ pub enum Step {
     Says(Bytes),
     /// The run ends.
     Stops(Stop),
+    /// No unit is left.
+    Waits,
+    /// The next line can't be carried out, or there is none.
+    Faults,
+    /// No memory was found.
+    Memory,
+}
+
+/// What a brief line came to.
+#[derive(Clone, Copy)]
+pub enum Went {
+    /// The run goes on.
+    Goes,
     /// No unit is left.
     Waits,
     /// The next line can't be carried out, or there is none.
@@ -123,18 +134,18 @@ fn put(temps: &mut Temps, frames: &mut Vec<Frame>, to: u32, acted: Acted) -> Ste
 
 // The same of a number that is stored.
 #[inline(never)]
-fn put_number(temps: &mut Temps, frames: &mut Vec<Frame>, to: u32, at: Option<From>, z: i32) -> Step
+fn put_number(temps: &mut Temps, frames: &mut Vec<Frame>, to: u32, at: Option<From>, z: i32) -> Went
     ensures { (m : Machine Line) (rest : List Line) (w : World) → NextIs (went m rest (Answers [] 0
         (with_value to (temps_is temps.old) nothing) (store (world_with w frames.old.items)
-        (location_from (temps_is temps.old) at) (Number z)))) result
+        (location_from (temps_is temps.old) at) (Number z)))) (step_of result)
         (onward m rest (temps_is temps.new) (world_with w frames.new.items)) }
 {
-    if !store(frames, place_of(temps, at), Value::Number(z)) {
-        return Step::Memory;
+    if !store_number(frames, place_of(temps, at), z) {
+        return Went::Memory;
     }
     match set_number(temps, to, 0) {
-        Err(_) => Step::Memory,
-        Ok(()) => Step::Goes,
+        Err(_) => Went::Memory,
+        Ok(()) => Went::Goes,
     }
 }
 
@@ -142,93 +153,38 @@ fn put_number(temps: &mut Temps, frames: &mut Vec<Frame>, to: u32, at: Option<Fr
 
 // It goes on at a line, where there is one.
 #[inline(always)]
-fn go_to(run: &mut Run, at: Option<usize>) -> Step
+fn go_to(run: &mut Run, at: Option<usize>) -> Went
     ensures next { (flat : Code Line) (w : World) (rest : Option (List Line)) →
         option_map (λ i. drop i (lines_at flat run.old.now.proc)) at ≡ rest →
-        NextIs (jumped (machine_is flat w run.old) (temps_is run.old.now.temps) rest) result
+        NextIs (jumped (machine_is flat w run.old) (temps_is run.old.now.temps) rest) (step_of result)
         (machine_is flat w run.new) }
     ensures units { run.new.units ≡ run.old.units }
 {
     match at {
-        None => Step::Faults,
+        None => Went::Faults,
         Some(at) => {
             run.now.at = at;
-            Step::Goes
+            Went::Goes
         }
     }
 }
 
 // A turn begins at a line, where there is one, and spends a unit.
 #[inline(always)]
-fn turn(run: &mut Run, at: Option<usize>) -> Step
+fn turn(run: &mut Run, at: Option<usize>) -> Went
     ensures { (flat : Code Line) (w : World) (rest : Option (List Line)) →
         option_map (λ i. drop i (lines_at flat run.old.now.proc)) at ≡ rest → Settled
         (jumped (machine_is flat w run.old) (temps_is run.old.now.temps) rest)
-        (less_one run.old.units) result (machine_is flat w run.new) run.new.units }
+        (less_one run.old.units) (step_of result) (machine_is flat w run.new) run.new.units }
 {
     if spend(&mut run.units) {
         go_to(run, at)
     } else {
-        Step::Waits
+        Went::Waits
     }
 }
 
 // ---- calls
-
-// The slot of a result, where there is one.
-fn push_result(
-    alloc: Global,
-    types: &TypeTable,
-    declared: u32,
-    slots: &mut Vec<Slot>,
-    ty: Option<TypeId>,
-) -> Result<(), Memory>
-    requires { declared ≡ length (facts_in types.now) }
-    ensures { (all : List SpecSlot) → map slot_is slots.old.items ≡ map Some all →
-        OnOk result (map slot_is slots.new.items
-        ≡ map Some (all ++ result_slots (known_in types.now) ty)) }
-{
-    if let Some(ty) = ty {
-        let v = start_of(alloc, types, declared, ty)?;
-        slots.push(Slot::Holds(v))?;
-    }
-    Ok(())
-}
-
-// Slots of what isn't declared yet.
-fn pad(slots: &mut Vec<Slot>, places: u32) -> Result<(), Memory>
-    ensures { OnOk result (map slot_is slots.new.items
-        ≡ padded places (map slot_is slots.old.items)) }
-{
-    while slots.len() < places as usize {
-        slots.push(Slot::Closed)?;
-    }
-    Ok(())
-}
-
-/// The frame of a call.
-pub fn frame_for(
-    alloc: Global,
-    types: &TypeTable,
-    declared: u32,
-    proc: &CodeProc<Line>,
-    ty: Option<TypeId>,
-    slots: Vec<Slot>,
-) -> Result<Frame, Memory>
-    requires { declared ≡ length (facts_in types.now) }
-    ensures { (all : List SpecSlot) → map slot_is slots.items ≡ map Some all →
-        result_in (known_in types.now) proc.now.places ≡ result_slots (known_in types.now) ty →
-        IfOk result (λ frame. frame_is frame
-        ≡ frame_of (proc_of (known_in types.now) proc.now) all) }
-{
-    let mut slots = slots;
-    push_result(alloc, types, declared, &mut slots, ty)?;
-    pad(&mut slots, proc.span)?;
-    Ok(Frame {
-        first: proc.first,
-        slots,
-    })
-}
 
 // One frame more. Whether there was memory for it.
 fn add_frame(frames: &mut Vec<Frame>, frame: Frame) -> bool
@@ -389,24 +345,24 @@ fn settle(
 
 // The same of a line that is brief.
 #[inline(always)]
-fn settle_brief(alloc: Global, lines: &[Line], book: &Book, run: &mut Run, brief: Brief) -> Step
+fn settle_brief(alloc: Global, lines: &[Line], book: &Book, run: &mut Run, brief: Brief) -> Went
     requires { AreLabels lines.now book.now.labels.items }
     ensures { (types : List TypeDef) (flat : Code Line) (plan : Plan) (w : World) (d : SpecDid) →
         lines.now ≡ lines_at flat run.old.now.proc →
         IsBrief (scene_of (machine_is flat w run.old)) d brief →
-        Settles types plan flat (machine_is flat w run.old) d run.old.units result
+        Settles types plan flat (machine_is flat w run.old) d run.old.units (step_of result)
         (machine_is flat w run.new) run.new.units }
 {
     match brief {
-        Brief::Passes => Step::Goes,
+        Brief::Passes => Went::Goes,
         Brief::Number(to, z) => match set_number(&mut run.now.temps, to, z) {
-            Err(_) => Step::Memory,
-            Ok(()) => Step::Goes,
+            Err(_) => Went::Memory,
+            Ok(()) => Went::Goes,
         },
         Brief::Root(to, level, number) => {
             match set_root(alloc, &mut run.now.temps, to, level, number) {
-                Err(_) => Step::Memory,
-                Ok(()) => Step::Goes,
+                Err(_) => Went::Memory,
+                Ok(()) => Went::Goes,
             }
         }
         Brief::Stores(to, at, z) => put_number(&mut run.now.temps, &mut run.frames, to, at, z),
@@ -414,67 +370,37 @@ fn settle_brief(alloc: Global, lines: &[Line], book: &Book, run: &mut Run, brief
         Brief::Enters => turn(run, Some(run.now.at)),
         Brief::Turns(name) => turn(run, back(&book.labels, name)),
         Brief::Counts(to, z, name) => match set_number(&mut run.now.temps, to, z) {
-            Err(_) => Step::Memory,
+            Err(_) => Went::Memory,
             Ok(()) => turn(run, back(&book.labels, name)),
         },
-        Brief::Fails => Step::Faults,
+        Brief::Fails => Went::Faults,
     }
 }
 
-// Carries out a line that isn't brief, where the line behind is next. Apart, since the compiler
-// clears all that a function may hold.
-#[inline(never)]
-fn carry(
-    alloc: Global,
-    types: &TypeTable,
-    flat: &Flat,
-    tables: &Tables,
-    run: &mut Run,
-    line: &Line,
-) -> Step
-    requires { IsTables types.now flat.now tables.now }
-    ensures { (plan : Plan) (w : World) → Settles types.now plan flat.now
-        (machine_is flat.now w run.old)
-        (bare (plainly (known_in types.now) plan (scene_of (machine_is flat.now w run.old)) line.now))
-        run.old.units result (machine_is flat.now w run.new) run.new.units }
-{
-    let here = Here {
-        alloc,
-        types,
-        declared: tables.declared,
-        level: run.now.level,
-        temps: &run.now.temps,
-        frames: &run.frames,
-    };
-    match does(&here, line) {
-        Err(_) => Step::Memory,
-        Ok(did) => settle(alloc, types, flat, tables, run, did),
-    }
-}
-
-/// Carries out the next line.
+/// Carries out the next line, if it is brief.
+#[inline(always)]
 pub fn advance(
     alloc: Global,
     types: &TypeTable,
     flat: &Flat,
     tables: &Tables,
     run: &mut Run,
-) -> Step
+) -> Option<Went>
     requires tables { IsTables types.now flat.now tables.now }
     requires plain { AllPlain (known_in types.now) flat.now.procs }
-    ensures { (plan : Plan) (w : World) → Stepped types.now plan flat.now
-        (machine_is flat.now w run.old) run.old.units result (machine_is flat.now w run.new)
-        run.new.units }
+    ensures brief { (plan : Plan) (w : World) → IfSome result (λ went. Stepped types.now plan
+        flat.now (machine_is flat.now w run.old) run.old.units (step_of went)
+        (machine_is flat.now w run.new) run.new.units) }
+    ensures longer { IfNone result (run.new ≡ run.old) }
 {
     let Some((proc, book)) = proc_at(flat, tables, run.now.proc) else {
-        return Step::Faults;
+        return Some(Went::Faults);
     };
     let lines = proc.lines.as_slice();
     let at = run.now.at;
     if at >= lines.len() {
-        return Step::Faults;
+        return Some(Went::Faults);
     }
-    run.now.at = at + 1;
     let line = &lines[at];
     let here = Here {
         alloc,
@@ -485,7 +411,46 @@ pub fn advance(
         frames: &run.frames,
     };
     match at_once(&here, line) {
-        None => carry(alloc, types, flat, tables, run, line),
-        Some(brief) => settle_brief(alloc, lines, book, run, brief),
+        None => None,
+        Some(brief) => {
+            run.now.at = at + 1;
+            Some(settle_brief(alloc, lines, book, run, brief))
+        }
+    }
+}
+
+/// Carries out the next line, whatever it is. Apart, since the compiler clears all that a function
+/// may hold, and nearly all lines of loops are brief.
+#[inline(never)]
+pub fn carry(alloc: Global, types: &TypeTable, flat: &Flat, tables: &Tables, run: &mut Run) -> Step
+    requires tables { IsTables types.now flat.now tables.now }
+    requires plain { AllPlain (known_in types.now) flat.now.procs }
+    ensures { (plan : Plan) (w : World) → Stepped types.now plan flat.now
+        (machine_is flat.now w run.old) run.old.units result (machine_is flat.now w run.new)
+        run.new.units }
+{
+    let Some((proc, _)) = proc_at(flat, tables, run.now.proc) else {
+        return Step::Faults;
+    };
+    let lines = proc.lines.as_slice();
+    let at = run.now.at;
+    if at >= lines.len() {
+        return Step::Faults;
+    }
+    let line = &lines[at];
+    let here = Here {
+        alloc,
+        types,
+        declared: tables.declared,
+        level: run.now.level,
+        temps: &run.now.temps,
+        frames: &run.frames,
+    };
+    match does(&here, line) {
+        Err(_) => Step::Memory,
+        Ok(did) => {
+            run.now.at = at + 1;
+            settle(alloc, types, flat, tables, run, did)
+        }
     }
 }

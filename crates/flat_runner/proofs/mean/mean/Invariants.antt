@@ -6,8 +6,8 @@ use Rattle.flat_runner.proofs.Falling.{bound}
 use Rattle.flat_runner.proofs.Running.{Holding}
 use Rattle.flat_runner.proofs.mean.mean.Given as goal
 
-abbrev pub invariant-loop-line : goal.invariant-loop-line
-invariant-loop-line g l =
+abbrev pub invariant-loop-went : goal.invariant-loop-went
+invariant-loop-went g l =
     (bytes : List ℕ) →
     Holding l.types l.plan l.flat (by_units l.types l.plan l.flat l.heap bytes l.n) (machine_is l.flat (world_of [] l.heap bytes) l.run) l.run.units
     (record {
@@ -23,5 +23,5 @@ invariant-loop-line g l =
       faults_now = g.E.Sink.faults l.err;
     })
 
-abbrev pub decreases-loop-line : goal.decreases-loop-line
-decreases-loop-line g l = bound l.types l.plan l.flat (machine_is l.flat (world_of [] l.heap []) l.run) l.run.units
+abbrev pub decreases-loop-went : goal.decreases-loop-went
+decreases-loop-went g l = bound l.types l.plan l.flat (machine_is l.flat (world_of [] l.heap []) l.run) l.run.units

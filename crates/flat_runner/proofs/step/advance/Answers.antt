@@ -4,6 +4,7 @@ use Rattle.flat_code.specs.declared.line.Line.{Line}
 use Rattle.flat_code.specs.Running.{scene_of}
 use Rattle.flat_code.specs.Scene.{known_in}
 use Rattle.flat_runner.specs.Doing.{bare, plainly}
+use Rattle.flat_runner.specs.Steps.{step_of}
 use Rattle.flat_runner.specs.Tables.{AreLabels}
 use Rattle.flat_runner.specs.View.{lines_at, lines_of, machine_is}
 use Rattle.flat_runner.proofs.Bare.{plain_at, plain_line}
@@ -12,8 +13,8 @@ use Rattle.flat_runner.proofs.StepRows.{no_line, one_line}
 use Rattle.flat_runner.proofs.PieceRows.{drop_at, drop_all}
 use Rattle.flat_runner.proofs.step.advance.Goals as goal
 
-pub returns-then-at-lines : goal.returns-then-at-lines
-returns-then-at-lines c =
+pub returns-then-at-lines-clause-brief : goal.returns-then-at-lines-clause-brief
+returns-then-at-lines-clause-brief c =
     λ plan w.
     let flat = c.args.flat.now in
     let run = c.args.run.now in
@@ -27,29 +28,8 @@ pub settle_brief-requires : goal.settle_brief-requires
 settle_brief-requires c =
     subst (λ (l : List Line). AreLabels l c.in-Some.book.now.labels.items) (sym c.as_slice-lines.ensures) c.in-Some.ensures.book.labels
 
-pub returns-in-None : goal.returns-in-None
-returns-in-None c =
-    λ plan w.
-    let types = c.args.types.now in
-    let flat = c.args.flat.now in
-    let run = c.args.run.now in
-    let m = machine_is flat w run in
-    let slice = c.as_slice-lines.result.now in
-    let lines : slice ≡ lines_at flat run.now.proc = c.as_slice-lines.ensures ∙ ap lines_of c.in-Some.ensures.proc in
-    let line = c.index-lines-at.result in
-    let at : run.now.at < length slice = omega (arith, c.if-at-lines.false) in
-    let here : slice_get (lines_at flat run.now.proc) run.now.at ≡ Some line =
-    subst (λ (l : List Line). slice_get l run.now.at ≡ Some line) lines (got slice run.now.at line at c.index-lines-at.is) in
-    let n : suc run.now.at ≡ run.now.at + 1 = omega arith in
-    let known = known_in types in
-    one_line types plan flat m (machine_is flat w c.carry.new.run) line (drop (run.now.at + 1) (lines_at flat run.now.proc))
-    (bare (plainly known plan (scene_of m) line)) run.units c.carry.new.run.units c.carry.result
-    (subst (λ (i : ℕ). m.now.rest ≡ line ∷ drop i (lines_at flat run.now.proc)) n (drop_at (lines_at flat run.now.proc) run.now.at line here))
-    (plain_line known plan (scene_of m) line (plain_at known flat.procs run.now.proc run.now.at line c.requires.plain here))
-    (c.carry.ensures plan w)
-
-pub returns-in-Some-at_once : goal.returns-in-Some-at_once
-returns-in-Some-at_once c =
+pub returns-in-Some-at_once-clause-brief : goal.returns-in-Some-at_once-clause-brief
+returns-in-Some-at_once-clause-brief c =
     λ plan w.
     let types = c.args.types.now in
     let flat = c.args.flat.now in
@@ -64,7 +44,7 @@ returns-in-Some-at_once c =
     let n : suc run.now.at ≡ run.now.at + 1 = omega arith in
     let known = known_in types in
     one_line types plan flat m (machine_is flat w c.settle_brief.new.run) line (drop (run.now.at + 1) (lines_at flat run.now.proc))
-    (bare (plainly known plan (scene_of m) line)) run.units c.settle_brief.new.run.units c.settle_brief.result
+    (bare (plainly known plan (scene_of m) line)) run.units c.settle_brief.new.run.units (step_of c.settle_brief.result)
     (subst (λ (i : ℕ). m.now.rest ≡ line ∷ drop i (lines_at flat run.now.proc)) n (drop_at (lines_at flat run.now.proc) run.now.at line here))
     (plain_line known plan (scene_of m) line (plain_at known flat.procs run.now.proc run.now.at line c.requires.plain here))
     (c.settle_brief.ensures types flat plan w (bare (plainly known plan (scene_of m) line)) lines (c.in-Some-at_once.ensures plan w))

@@ -5,7 +5,7 @@ use Rattle.flat_code.specs.Scene.{known_in}
 use Rattle.flat_runner.specs.Steps.{padded}
 use Rattle.flat_runner.specs.Tables.{result_slots}
 use Rattle.flat_runner.proofs.Machines.{padded_filled}
-use Rattle.flat_runner.proofs.step.frame_for.Goals as goal
+use Rattle.flat_runner.proofs.frames.frame_for.Goals as goal
 
 pub returns : goal.returns
 returns c =

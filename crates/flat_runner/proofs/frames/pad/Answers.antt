@@ -3,7 +3,7 @@ use Rattle.std.proofs.lemmas.List.{map-append, length-map}
 use Rattle.flat_runner.specs.Steps.{padded}
 use Rattle.flat_runner.specs.View.{slot_is}
 use Rattle.flat_runner.proofs.Machines.{padded_more, padded_full}
-use Rattle.flat_runner.proofs.step.pad.Goals as goal
+use Rattle.flat_runner.proofs.frames.pad.Goals as goal
 
 pub loop-slots-preserved : goal.loop-slots-preserved
 loop-slots-preserved c =
