@@ -186,8 +186,8 @@ module _ (law : AgreesLaw) (pace : PaceLaw) where
         let upper = top.agrees heap input in
         law _ _ _ (middle.agrees fresh heap stack input few top.fits top.hooks (sound_low upper)) upper
 
-    pub code_most : (bytes : ℕ) → bytes ≤ most_bytes words.procs → bytes ≤ code_bound program
-    code_most bytes few = let bound = bound_is program flat words.procs top.weight middle.code_most in omega (arith, few, bound)
+    pub code_most : (bytes : ℕ) → bytes ≤ most_bytes words.procs → bytes ≤ code_bound program plan
+    code_most bytes few = let bound = bound_is program plan flat words.procs top.weight middle.code_most in omega (arith, few, bound)
 
     pub data_most : length words.statics ≤ data_counted program + 4092
     data_most = let few = middle.data_size in omega (arith, few, top.data_size)

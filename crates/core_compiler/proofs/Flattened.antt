@@ -20,9 +20,10 @@ use Rattle.flat_code.specs.Sizes.{code_weight, code_texts, distinct_texts, data_
 use Rattle.flat_code.specs.Whole.{label_in}
 use Rattle.program_limits.specs.Data.{data_counted, program_texts, texts_size}
 use Rattle.program_limits.specs.Limits.{program_in}
-use Rattle.flattening.specs.Counted.{program_parts, times, program_times}
-use Rattle.flattening.specs.Flattened.{known_of, code_of, flat_meaning, IsExact}
+use Rattle.flattening.specs.Counted.{program_parts, program_pairs, times, program_times}
+use Rattle.flattening.specs.Flattened.{known_of, code_of, modes_of, flat_meaning, IsExact}
 use Rattle.flattening.specs.Given.{flat_procs, flat_of}
+use Rattle.flattening.specs.Lent.{NoneLent}
 use Rattle.flat_code.specs.Alike.{AllAlike}
 use Rattle.flat_code.specs.PlainCode.{ArePlainProcs}
 use Rattle.core_compiler.specs.Stages.{ShowsSame, IsFlatOf}
@@ -40,12 +41,14 @@ module _ (p : RustProgram) (plan : Plan) (flat : Code Line) (procs : flat.procs 
     (exact : (heap : ℕ) (input : List ℕ) (units : ℕ) → IsExact (program_in p) plan heap input units)
     (fits : code_fits flat_plain (known_of (program_in p)) (flat_procs (program_in p) plan) ≡ true)
     (hooks : AreNone (hooks_of (flat_of (program_in p) plan)))
-    (weight : code_weight flat_plain (flat_procs (program_in p) plan) ≤ 25 * program_parts (program_in p))
+    (weight : code_weight flat_plain (flat_procs (program_in p) plan) ≤ 33 * program_parts (program_in p)
+    + 5 * program_pairs (modes_of (program_in p) plan) (program_in p))
     (globals : globals_bytes (known_of (program_in p)) (start_places (flat_procs (program_in p) plan))
     ≤ globals_size (program_in p).facts (program_in p).globals)
     (texts : (text : List ℕ) → times text (code_texts flat_plain (flat_procs (program_in p) plan)) ≤ 2 * program_times text (program_in p))
     (forms : HaveForms p.types)
     (alike : AllAlike (flat_procs (program_in p) plan)) (plain : ArePlainProcs (known_of (program_in p)) 16384 (flat_procs (program_in p) plan))
+    (lent : NoneLent (flat_procs (program_in p) plan))
     (few : data_counted (program_in p) ≤ 1040384)
   where
     abbrev program : Program
@@ -86,13 +89,14 @@ module _ (p : RustProgram) (plan : Plan) (flat : Code Line) (procs : flat.procs 
           (sym code) (paced heap input);
       exact = shown;
       fits = fit;
-      weight = subst (λ ps. code_weight flat_plain ps ≤ 25 * program_parts program) (sym procs) weight;
+      weight = subst (λ ps. code_weight flat_plain ps ≤ 33 * program_parts program + 5 * program_pairs (modes_of program plan) program) (sym procs) weight;
       data_size = data_most;
       hooks = none;
       may = record {
         some = subst (λ (ps : List (CodeProc Line)). 0 < length ps) (sym procs) (last_there _ _);
         alike = subst (λ ps. AllAlike ps) (sym procs) alike;
         plain = subst (λ ps. ArePlainProcs known 16384 ps) (sym procs) plain;
+        lent = subst NoneLent (sym procs) lent;
         fits = fit;
         hooks = none;
         data_few = let most = data_most in omega (arith, most, few);

@@ -14,7 +14,8 @@ use Rattle.flat_code.specs.declared.place.PlaceKind.{PlaceKind}
 use Rattle.flat_code.specs.declared.place.PlaceKind.TheVariants as K
 use Rattle.flat_code.specs.Fits.{Signature, is_value, is_location, is_global, place_named}
 use Rattle.flat_code.specs.Scene.{known_in}
-use Rattle.flat_code.specs.Sizes.{kind_bytes, places_bytes}
+use Rattle.flat_code.specs.Sizes.{kind_bytes, lent_bytes, place_bytes, places_bytes}
+use Rattle.flattening.specs.Lent.{is_lent, none_lent}
 use Rattle.flat_code.specs.PlainCode.{is_counter, is_temporary, has_hooks, gets_text, IsPlainPlace, ArePlainPlaces, no_globals, params_among, handed_among}
 use Rattle.flat_code.specs.PlainCode as plain
 use Rattle.flattening.proofs.ForCallers.{bytes_least}
@@ -65,9 +66,21 @@ placed_most out word K.Within n g k = absurd (both_ways true k refl)
 placed_most out word K.Counter n g k = absurd (both_ways true k refl)
 placed_most out word kind n g k = omega arith
 
+-- what isn't lent has its value's bytes
+own_bytes : (kind : PlaceKind) (hooked : Bool) (n : ℕ) → not (is_lent kind hooked) ≡ true → lent_bytes kind hooked n ≡ kind_bytes kind n
+own_bytes (K.Param Plain) true n e = never e
+own_bytes (K.Param Plain) false n e = refl
+own_bytes kind hooked n e = refl
+
 module _ (table : List TypeDef) (start : Bool) (lines : List Line) where
   abbrev one_bytes : FlatPlace → ℕ
   one_bytes p = kind_bytes p.kind (type_bytes (facts_in table) (type_at (types_in table) p.ty))
+
+  first_own : (p : FlatPlace) (ps : List FlatPlace) → none_lent (p ∷ ps) ≡ true →
+      (place_bytes (known_in table) p ≡ one_bytes p) × (none_lent ps ≡ true)
+  first_own p ps e =
+      let q = and_parts (not (is_lent p.kind p.hooked)) (none_lent ps) e in
+      (own_bytes p.kind p.hooked (type_bytes (facts_in table) (type_at (types_in table) p.ty)) q.0, q.1)
 
   -- a global of the start code is in the data
   of_static : (kind : PlaceKind) → (start ≡ false → is_global kind ≡ false) → is_static start kind ≡ false → is_global kind ≡ false
@@ -108,14 +121,16 @@ module _ (table : List TypeDef) (start : Bool) (lines : List Line) where
   rest_globals : (p : FlatPlace) (ps : List FlatPlace) → Globals (p ∷ ps) → Globals ps
   rest_globals p ps g s = (and_parts (not (is_global p.kind)) (no_globals ps) (g s)).1
 
-  pub room : (ps : List FlatPlace) (free : Free) → Globals ps →
+  pub room : (ps : List FlatPlace) (free : Free) → Globals ps → none_lent ps ≡ true →
       4 * (behind_all table start lines free ps).variable + (behind_all table start lines free ps).byte
       ≤ 4 * free.variable + free.byte + places_bytes (known_in table) ps
-  room [] free g = omega arith
-  room (p ∷ ps) free g =
+  room [] free g own = omega arith
+  room (p ∷ ps) free g own =
+      let o = first_own p ps own in
+      let b = o.0 in
       let h = one_behind free p (first_global p ps g) in
-      let i = room ps (behind table start lines free p) (rest_globals p ps g) in
-      omega (arith, h, i)
+      let i = room ps (behind table start lines free p) (rest_globals p ps g) o.1 in
+      omega (arith, b, h, i)
 
   -- ---- parameters
 
@@ -145,24 +160,27 @@ module _ (table : List TypeDef) (start : Bool) (lines : List Line) where
       of (K.Param Var) e = omega arith
       of kind e = never e
 
-  pub params_room : (ps : List FlatPlace) (free : Free) →
+  pub params_room : (ps : List FlatPlace) (free : Free) → none_lent ps ≡ true →
       4 * kept_in (params_in (all_housed table start lines free ps)) + placed_bytes (params_in (all_housed table start lines free ps))
       ≤ places_bytes (known_in table) (params_among ps)
-  params_room [] free = omega arith
-  params_room (p ∷ ps) free = by (is_param p.kind) refl (params_room ps (behind table start lines free p))
+  params_room [] free own = omega arith
+  params_room (p ∷ ps) free own =
+      let o = first_own p ps own in
+      by (is_param p.kind) refl o.0 (params_room ps (behind table start lines free p) o.1)
     where
       tail : List Housed
       tail = params_in (all_housed table start lines (behind table start lines free p) ps)
 
-      by : (b : Bool) → is_param p.kind ≡ b → 4 * kept_in tail + placed_bytes tail ≤ places_bytes (known_in table) (params_among ps) →
+      by : (b : Bool) → is_param p.kind ≡ b → place_bytes (known_in table) p ≡ one_bytes p →
+          4 * kept_in tail + placed_bytes tail ≤ places_bytes (known_in table) (params_among ps) →
           4 * kept_in (if b then housed table start lines free p ∷ tail else tail) + placed_bytes (if b then housed table start lines free p ∷ tail else tail)
           ≤ places_bytes (known_in table) (params_among (p ∷ ps))
-      by true e h =
+      by true e o h =
           let i = param_kept p free (kept_in tail) (placed_bytes tail) e in
-          let j : places_bytes (known_in table) (params_among (p ∷ ps)) ≡ one_bytes p + places_bytes (known_in table) (params_among ps)
+          let j : places_bytes (known_in table) (params_among (p ∷ ps)) ≡ place_bytes (known_in table) p + places_bytes (known_in table) (params_among ps)
           = ap (λ c. places_bytes (known_in table) (if c then p ∷ params_among ps else params_among ps)) (same_param p.kind ∙ e) in
-          omega (arith, h, i, j)
-      by false e h =
+          omega (arith, o, h, i, j)
+      by false e o h =
           let j : places_bytes (known_in table) (params_among (p ∷ ps)) ≡ places_bytes (known_in table) (params_among ps)
           = ap (λ c. places_bytes (known_in table) (if c then p ∷ params_among ps else params_among ps)) (same_param p.kind ∙ e) in
           omega (arith, h, j)
@@ -228,12 +246,13 @@ module _ (table : List TypeDef) (start : Bool) (lines : List Line) where
           refuted false false e n = never e
       by false e c n go = go
 
-  pub result_room : (ps : List FlatPlace) (free : Free) → Globals ps → plain.handed_lead ps ≡ true →
+  pub result_room : (ps : List FlatPlace) (free : Free) → Globals ps → none_lent ps ≡ true → plain.handed_lead ps ≡ true →
       result_end (result_in (all_housed table start lines free ps)) ≤ free.byte + places_bytes (known_in table) (handed_among ps)
-  result_room [] free g lead = omega arith
-  result_room (p ∷ ps) free g lead =
-      by (plain.is_param p.kind) refl (plain.is_result p.kind) refl lead
-      (result_room ps (behind table start lines free p) (rest_globals p ps g))
+  result_room [] free g own lead = omega arith
+  result_room (p ∷ ps) free g own lead =
+      let o = first_own p ps own in
+      by (plain.is_param p.kind) refl (plain.is_result p.kind) refl lead o.0
+      (result_room ps (behind table start lines free p) (rest_globals p ps g) o.1)
     where
       tail : Option Housed
       tail = result_in (all_housed table start lines (behind table start lines free p) ps)
@@ -243,24 +262,24 @@ module _ (table : List TypeDef) (start : Bool) (lines : List Line) where
       picked b e = ap (λ c. if c then Some (housed table start lines free p) else tail) (sym (same_result p.kind) ∙ e)
 
       by : (a : Bool) → plain.is_param p.kind ≡ a → (b : Bool) → plain.is_result p.kind ≡ b →
-          (if a || b then plain.handed_lead ps else plain.none_handed ps) ≡ true →
+          (if a || b then plain.handed_lead ps else plain.none_handed ps) ≡ true → place_bytes (known_in table) p ≡ one_bytes p →
           (plain.handed_lead ps ≡ true → result_end tail ≤ (behind table start lines free p).byte + places_bytes (known_in table) (handed_among ps)) →
           result_end (result_in (all_housed table start lines free (p ∷ ps)))
           ≤ free.byte + places_bytes (known_in table) (if a || b then p ∷ handed_among ps else handed_among ps)
-      by true is true e l go =
+      by true is true e l o go =
           let h = one_end free p e in
           let i = ap result_end (picked true e) in
-          omega (arith, h, i)
-      by false is true e l go =
+          omega (arith, o, h, i)
+      by false is true e l o go =
           let h = one_end free p e in
           let i = ap result_end (picked true e) in
-          omega (arith, h, i)
-      by true is false e l go =
+          omega (arith, o, h, i)
+      by true is false e l o go =
           let h = go l in
           let i = ap result_end (picked false e) in
           let j = byte_behind free p (first_global p ps g) in
-          omega (arith, h, i, j)
-      by false is false e l go =
+          omega (arith, o, h, i, j)
+      by false is false e l o go =
           let h = no_result ps (behind table start lines free p) l in
           let i = ap result_end (picked false e) in
           omega (arith, h, i)

@@ -1,44 +1,15 @@
--- What lines of block code give, by names: those of the flat code that they come from, which differ in sites alone.
+-- What lines give, by names.
 use Rattle.std.proofs.Common.{◌≡◌, ℕ, ◌⊎◌, inl, inr, Bool, true, false, List, [], ◌∷◌, Option, Some, None, refl, sym, ap, ◌∙◌, arith}
 use Rattle.std.specs.Prelude.{nat_eq}
 use Rattle.std.proofs.lemmas.Bool.{ne_eqb, eqb-true, eq-eqb, both_ways}
-use Rattle.nim_plan.specs.declared.plan.Plan.{Plan}
-use Rattle.nim_program.specs.declared.operation.Use.{Use}
 use Rattle.flat_code.specs.declared.line.Line.{Line}
 use Rattle.flat_code.specs.declared.line.Line.TheVariants as L
 use Rattle.flat_code.specs.declared.line.Piece.{Piece}
 use Rattle.flat_code.specs.declared.line.Piece.TheVariants as P
-use Rattle.flat_code.specs.Codes.{under, owned_plain}
 use Rattle.flat_code.specs.Whole.{label_in}
 use Rattle.flat_code.specs.Alike.{value_name, location_name, label_name, name_of, is_one_text, gives_text, is_named}
 use Rattle.word_lowering.specs.declared.homes.Alias.TheVariants.{Own}
 use Rattle.word_lowering.specs.Aliases.{value_to, location_to, text_in, text_alias, alias_by, is_it}
-
--- ---- a line of block code is that of flat code, or has another site
-
-abbrev pub block_line : Plan → Line → Line
-block_line plan line = owned_plain (under plan line)
-
-pub record IsGet (plan : Plan) (line : Line) : Type 0 where
-  pub to : ℕ
-  pub from : ℕ
-  pub how : Use
-  pub site : ℕ
-  pub ty : Option ℕ
-  pub is : line ≡ L.Get to from how site ty
-
-pub same_or_get : (plan : Plan) (line : Line) → (block_line plan line ≡ line) ⊎ IsGet plan line
-same_or_get plan (L.Get to from how site ty) = inr (record { to = to; from = from; how = how; site = site; ty = ty; is = refl })
-same_or_get plan line = inl refl
-
--- what is blind to sites
-pub site_blind : {A : Type 0} (f : Line → A) → ((to from : ℕ) (how : Use) (a b : ℕ) (ty : Option ℕ) → f (L.Get to from how a ty) ≡ f (L.Get to from how b ty)) →
-    (plan : Plan) (line : Line) → f (block_line plan line) ≡ f line
-site_blind f blind plan line = by (same_or_get plan line)
-  where
-    by : (block_line plan line ≡ line) ⊎ IsGet plan line → f (block_line plan line) ≡ f line
-    by (inl e) = ap f e
-    by (inr g) = ap (λ l. f (block_line plan l)) g.is ∙ blind g.to g.from g.how 0 g.site g.ty ∙ ap f (sym g.is)
 
 -- ---- names
 
@@ -90,10 +61,10 @@ named (L.Apply to operation how ty of from) = valued (L.Apply to operation how t
 named (L.Construct to how ty fields from) = valued (L.Construct to how ty fields from) to refl refl refl refl
 named (L.Constant to how ty pieces) = valued (L.Constant to how ty pieces) to refl refl refl refl
 named (L.Call to how ty proc from) = valued (L.Call to how ty proc from) to refl refl refl refl
-named (L.Get to from how site ty) = valued (L.Get to from how site ty) to refl refl refl refl
+named (L.Get to from how ty) = valued (L.Get to from how ty) to refl refl refl refl
 named (L.Look to from) = valued (L.Look to from) to refl refl refl refl
 named (L.Root to place global) = led (L.Root to place global) to refl refl refl refl
-named (L.Fresh to from) = led (L.Fresh to from) to refl refl refl refl
+named (L.Fresh to from waits) = led (L.Fresh to from waits) to refl refl refl refl
 named (L.Standing to ty pieces) = led (L.Standing to ty pieces) to refl refl refl refl
 named (L.Part to from field) = led (L.Part to from field) to refl refl refl refl
 named (L.Item to from index) = led (L.Item to from index) to refl refl refl refl
@@ -124,7 +95,7 @@ no_alias (P.Elements n ∷ pieces) behind e = refl
 pub own_value : (line : Line) (behind t : ℕ) → is_it t (value_to line) ≡ true → gives_text line ≡ false → alias_by line behind ≡ Own
 own_value (L.Constant to how ty pieces) behind t e bare = no_alias pieces behind bare
 own_value (L.Root to place global) behind t e bare = absurd (both_ways false refl e)
-own_value (L.Fresh to from) behind t e bare = absurd (both_ways false refl e)
+own_value (L.Fresh to from waits) behind t e bare = absurd (both_ways false refl e)
 own_value line behind t e bare = refl
 
 -- where a line leads is the same whatever stands behind

@@ -8,12 +8,13 @@ use Rattle.nim_types.specs.Table.{type_at, types_in, facts_in}
 use Rattle.nim_types.proofs.ForCallers.{same_sound}
 use Rattle.nim_program.specs.declared.operation.Operation.{Operation}
 use Rattle.nim_program.specs.declared.operation.Operation.TheVariants as O
-use Rattle.nim_program.specs.declared.operation.Use.{Use}
+use Rattle.nim_program.specs.declared.expr.Label.TheVariants as C
 use Rattle.nim_program.specs.Kinds.{is_of}
 use Rattle.nim_program.specs.Program.{Doing}
 use Rattle.nim_meaning.specs.LeftOut.{writes_literals}
 use Rattle.nim_meaning.specs.Shapes.{is_lent}
 use Rattle.nim_meaning.specs.Values.{Fixed}
+use Rattle.flat_code.specs.declared.line.UseAt.{UseAt}
 use Rattle.flat_code.specs.declared.line.Line.{Line}
 use Rattle.flat_code.specs.declared.line.Line.TheVariants as L
 use Rattle.flat_code.specs.declared.line.Piece.{Piece}
@@ -69,7 +70,7 @@ text_too (Text other more) behind bytes h = refl
 
 pub record IsText (line : Line) : Type 0 where
   pub to : ℕ
-  pub how : Use
+  pub how : UseAt
   pub ty : ℕ
   pub text : List ℕ
   pub is : line ≡ L.Constant to how ty (P.Text text ∷ [])
@@ -111,10 +112,13 @@ module _ (table : List TypeDef) where
   reads (L.Apply to operation how ty of from) (inr e) = or_right (is_echo operation) (not (any_hooked table of)) (ap not (none_hooked of e))
   reads (L.Constant to how ty pieces) h = reads_constant pieces how h
     where
-      reads_constant : (pieces : List Piece) (how : Use) → (is_one_text pieces ≡ false) ⊎ (is_lent how ≡ true) → lends (text_in pieces) how ≡ true
+      reads_constant : (pieces : List Piece) (how : UseAt) → (is_one_text pieces ≡ false) ⊎ (is_lent how.how ≡ true) → lends (text_in pieces) how.how ≡ true
       reads_constant (P.Text text ∷ []) how (inl e) = never (sym e)
       reads_constant (P.Text text ∷ []) how (inr e) = e
       reads_constant pieces how h = refl
+  reads (L.Fresh to from (Some node)) h = absurd h
+  reads (L.Fits from (C.Text text) to) h = absurd h
+  reads (L.Own what from) h = absurd h
   reads line h = refl
 
   -- ---- the first line that gives a temporary, and all others
@@ -224,7 +228,7 @@ module _ (table : List TypeDef) where
         let n : place_named is_location places to ≡ None = ap (place_named is_location places) (one e) ∙ none in
         none_of (if_type_of (known_in table) (place_named is_location places to)) (any_place (known_in table) procs globals places place global)
         (ap (if_type_of (known_in table)) n) (and_parts _ _ f).0
-    led_own (L.Fresh to from) behind t e f none =
+    led_own (L.Fresh to from waits) behind t e f none =
         let n : place_named is_location places to ≡ None = ap (place_named is_location places) (one e) ∙ none in
         none_of (if_type_of (known_in table) (place_named is_location places to)) (value (known_in table) procs globals places from)
         (ap (if_type_of (known_in table)) n) (and_parts _ _ f).0

@@ -13,6 +13,7 @@ use Rattle.nim_meaning.specs.Here.{is_hooked, gives_hooked, any_hooked}
 use Rattle.nim_meaning.specs.LeftOut.{writes_literals}
 use Rattle.nim_meaning.specs.Shapes.{is_lent}
 use Rattle.flat_code.specs.declared.code.CodeProc.{CodeProc}
+use Rattle.nim_program.specs.declared.expr.Label.TheVariants as C
 use Rattle.flat_code.specs.declared.line.Line.{Line}
 use Rattle.flat_code.specs.declared.line.Line.TheVariants as L
 use Rattle.flat_code.specs.declared.place.FlatPlace.{FlatPlace}
@@ -144,14 +145,17 @@ module _ (known : Known) (procs : List Signature) (globals places : List FlatPla
       given to (type_at known.types ty) (stands (L.Construct to how ty fields from) k here to refl refl) (and_parts _ _ f).1
   one (L.Constant to how ty pieces) k here f r = at (is_one_text pieces) refl r
     where
-      at : (b : Bool) → is_one_text pieces ≡ b → (is_one_text pieces ≡ false) ⊎ (is_lent how ≡ true) → IsPlain known (L.Constant to how ty pieces)
+      at : (b : Bool) → is_one_text pieces ≡ b → (is_one_text pieces ≡ false) ⊎ (is_lent how.how ≡ true) → IsPlain known (L.Constant to how ty pieces)
       at true e (inl g) = never (sym g ∙ e)
       at true e (inr g) = inr (e, g)
       at false e r = inl (given to (type_at known.types ty) (stands (L.Constant to how ty pieces) k here to refl e) (and_parts _ _ f).1)
-  one (L.Get to from how site ty) k here f r =
-      given_some to (if_type known.types ty) (stands (L.Get to from how site ty) k here to refl refl) (and_parts _ _ f).0
+  one (L.Get to from how ty) k here f r =
+      given_some to (if_type known.types ty) (stands (L.Get to from how ty) k here to refl refl) (and_parts _ _ f).0
   one (L.Pass to from how ty) k here f r =
       given_passed to (if_type known.types ty) (stands (L.Pass to from how ty) k here to refl refl) (and_parts _ _ f).1
+  one (L.Fresh to from (Some node)) k here f r = absurd r
+  one (L.Fits from (C.Text text) to) k here f r = absurd r
+  one (L.Own what from) k here f r = absurd r
   one line k here f r = tt
 
   all : (lines : List Line) → ((n : ℕ) → gives_as n is_text false lines ≡ true → gives_as n is_text false whole ≡ true)

@@ -9,11 +9,12 @@ use Rattle.nim_plan.specs.declared.plan.Plan.{Plan}
 use Rattle.flat_code.specs.declared.code.CodeProc.{CodeProc}
 use Rattle.flat_code.specs.declared.code.Code.{Code}
 use Rattle.flat_code.specs.declared.line.Line.{Line}
+use Rattle.flat_code.specs.declared.line.Line.TheVariants as L
 use Rattle.flat_code.specs.declared.block.BlockLine.{BlockLine}
 use Rattle.flat_code.specs.declared.block.BlockLine.TheVariants as B
 use Rattle.flat_code.specs.declared.owned.OwnedLine.{OwnedLine}
 use Rattle.flat_code.specs.declared.place.FlatPlace.{FlatPlace}
-use Rattle.flat_code.specs.Codes.{each_line, under, block_plain, AreNone}
+use Rattle.flat_code.specs.Codes.{each_line, under, owned_plain, block_plain, AreNone}
 use Rattle.flat_code.specs.Fits.{Signature, start_places, signatures, proc_fits, each_fits, code_fits, has_lines_for, in_order, are_none, params_at, results_at}
 use Rattle.flat_code.specs.Fits.{all_fit}
 use Rattle.flat_code.specs.Running.{before_last}
@@ -36,8 +37,9 @@ use Rattle.word_lowering.specs.MayLower.{defs_may, proc_may, procs_may, may_lowe
 use Rattle.word_lowering.proofs.ForCallers.{data_sized}
 use Rattle.destructor_injection.specs.Injecting.{IsOwned}
 use Rattle.goto_exceptions.specs.Branches.{IsBranched}
+use Rattle.flattening.specs.Lent.{none_lent, NoneLent}
 use Rattle.core_compiler.specs.Stages.{MayBeLowered}
-use Rattle.core_compiler.proofs.LineNames.{block_line, same_or_get, IsGet, site_blind, named}
+use Rattle.core_compiler.proofs.LineNames.{named}
 use Rattle.core_compiler.proofs.LinesAgree.{never, or_right, may, text_named}
 use Rattle.core_compiler.proofs.LayoutRooms.{lead_same, room, params_room, finds, plain_all, result_room}
 use Rattle.word_lowering.specs.Lookups.{result_in}
@@ -122,63 +124,16 @@ module _ (whole : List Line) (alike : AreAlike whole) where
   pub once : labels_once whole ≡ true
   once = all_once whole (λ n has b h. h)
 
--- ---- lines of block code, by those of flat code
+-- ---- lines of block code are those of flat code
 
 module _ (plan : Plan) where
-  abbrev blocked : List Line → List Line
-  blocked lines = map (block_line plan) lines
+  line_same : (line : Line) → owned_plain (under plan line) ≡ line
+  line_same (L.Get to from how ty) = refl
+  line_same line = refl
 
-  pub lines_are : (lines : List Line) → map block_plain (map B.Plain (map (under plan) lines)) ≡ blocked lines
+  pub lines_are : (lines : List Line) → map block_plain (map B.Plain (map (under plan) lines)) ≡ lines
   lines_are [] = refl
-  lines_are (line ∷ lines) = ap (λ ls. block_line plan line ∷ ls) (lines_are lines)
-
-  name_same : (line : Line) → name_of (block_line plan line) ≡ name_of line
-  name_same line = site_blind name_of (λ to from how a b ty. refl) plan line
-
-  text_same : (line : Line) → gives_text (block_line plan line) ≡ gives_text line
-  text_same line = site_blind gives_text (λ to from how a b ty. refl) plan line
-
-  pub alike_blocks : (lines : List Line) → AreAlike lines → AreAlike (blocked lines)
-  alike_blocks lines alike = λ name has of_values is.
-      let had : Line → (behind : List Line) → Bool = λ line k. has (block_line plan line) (blocked k) in
-      ap₂ (λ a b. a && b) (gives_same name has true lines) (gives_same name has false lines)
-      ∙ alike name had of_values (record {
-        values = λ line to k n bare. is.values (block_line plan line) to (blocked k) (name_same line ∙ n) (text_same line ∙ bare);
-        locations = λ line to k l n. is.locations (block_line plan line) to (blocked k) (blocked l) (name_same line ∙ n);
-      })
-    where
-      gives_same : (name : ℕ) (has : Line → (behind : List Line) → Bool) (b : Bool) (ls : List Line) →
-          gives_as name has b (blocked ls) ≡ gives_as name (λ line k. has (block_line plan line) (blocked k)) b ls
-      gives_same name has b [] = refl
-      gives_same name has b (line ∷ ls) =
-          ap₂ (λ x y. (is_named name x && is_as b (has (block_line plan line) (blocked ls))) || y) (name_same line) (gives_same name has b ls)
-
-  gets_same : (t : ℕ) (lines : List Line) → gets_text t (blocked lines) ≡ gets_text t lines
-  gets_same t [] = refl
-  gets_same t (line ∷ lines) =
-      ap₂ (λ a b. a || b) (ap₂ (λ x y. x && is_named (value_name t) y) (text_same line) (name_same line)) (gets_same t lines)
-
-  module _ (known : Known) where
-    pub places_blocks : (lines : List Line) (ps : List FlatPlace) → ArePlainPlaces known lines ps → ArePlainPlaces known (blocked lines) ps
-    places_blocks lines [] h = tt
-    places_blocks lines (p ∷ ps) h = (one h.0, places_blocks lines ps h.1)
-      where
-        text : (has_hooks known p.ty ≡ false) ⊎ ((is_temporary p.kind ≡ true) × (gets_text p.number lines ≡ true)) →
-            (has_hooks known p.ty ≡ false) ⊎ ((is_temporary p.kind ≡ true) × (gets_text p.number (blocked lines) ≡ true))
-        text (inl e) = inl e
-        text (inr q) = inr (q.0, gets_same p.number lines ∙ q.1)
-
-        one : IsPlainPlace known lines p → IsPlainPlace known (blocked lines) p
-        one (inl counter) = inl counter
-        one (inr q) = inr (q.0, text q.1)
-
-    pub reads_blocks : (lines : List Line) → ReadPlain known lines → ReadPlain known (blocked lines)
-    reads_blocks [] h = tt
-    reads_blocks (line ∷ lines) h = (one (same_or_get plan line), reads_blocks lines h.1)
-      where
-        one : (block_line plan line ≡ line) ⊎ IsGet plan line → ReadsPlain known (block_line plan line)
-        one (inl e) = subst (λ l. ReadsPlain known l) (sym e) h.0
-        one (inr g) = subst (λ l. ReadsPlain known (block_line plan l)) (sym g.is) tt
+  lines_are (line ∷ lines) = ap₂ (λ l ls. l ∷ ls) (line_same line) (lines_are lines)
 
   -- ---- procedures
 
@@ -187,33 +142,28 @@ module _ (plan : Plan) where
 
   module _ (table : List TypeDef) (datum : ℕ) (procs : List Signature) (globals : List FlatPlace) where
     -- one with these lines
-    module _ (start : Bool) (p : CodeProc Line) (plain : IsPlainProc (known_in table) 16384 start p) (alike : AreAlike p.lines)
-        (fit : all_fit (known_in table) procs globals p.places (blocked p.lines) ≡ true) where
-      lines : List Line
-      lines = blocked p.lines
-
-      own_may : (ls : List Line) → ls ≡ blocked p.lines →
+    module _ (start : Bool) (p : CodeProc Line) (plain : IsPlainProc (known_in table) 16384 start p) (own : none_lent p.places ≡ true)
+        (alike : AreAlike p.lines)
+        (fit : all_fit (known_in table) procs globals p.places p.lines ≡ true) where
+      own_may : (ls : List Line) → ls ≡ p.lines →
           (params_lead p.places && (all_plain table (all_housed table start ls (free_at datum) p.places) && true)) &&
           lines_may table (all_housed table start ls (free_at datum) p.places) ls ≡ true
       own_may ls e = subst (λ ls. (params_lead p.places && (all_plain table (all_housed table start ls (free_at datum) p.places) && true))
           && lines_may table (all_housed table start ls (free_at datum) p.places) ls ≡ true) (sym e) here
         where
-          same : AreAlike (blocked p.lines)
-          same = alike_blocks p.lines alike
-
-          here : (params_lead p.places && (all_plain table (all_housed table start (blocked p.lines) (free_at datum) p.places) && true))
-              && lines_may table (all_housed table start (blocked p.lines) (free_at datum) p.places) (blocked p.lines) ≡ true
+          here : (params_lead p.places && (all_plain table (all_housed table start p.lines (free_at datum) p.places) && true))
+              && lines_may table (all_housed table start p.lines (free_at datum) p.places) p.lines ≡ true
           here =
-              let hs = all_housed table start (blocked p.lines) (free_at datum) p.places in
-              let found = finds table start (blocked p.lines) procs globals p.places (free_at datum) in
+              let hs = all_housed table start p.lines (free_at datum) p.places in
+              let found = finds table start p.lines procs globals p.places (free_at datum) in
               and_from _ _
               (and_from _ _ (sym (lead_same p.places) ∙ plain.lead)
               (and_from _ _
-              (plain_all table start (blocked p.lines)
-              (λ t h. text_named table procs globals p.places (blocked p.lines) same hs found t (blocked p.lines)
+              (plain_all table start p.lines
+              (λ t h. text_named table procs globals p.places p.lines alike hs found t p.lines
               (record { gives = λ n holds b g. g; any = λ t g. g }) h)
-              p.places (free_at datum) (places_blocks (known_in table) p.lines p.places plain.places)) refl))
-              (may table procs globals p.places (blocked p.lines) same hs found fit (reads_blocks (known_in table) p.lines plain.lines))
+              p.places (free_at datum) plain.places) refl))
+              (may table procs globals p.places p.lines alike hs found fit plain.lines)
 
       sizes : (ls : List Line) →
           nat_le (behind_all table start ls (free_at datum) p.places).byte MOST_ROOM
@@ -222,12 +172,12 @@ module _ (plan : Plan) where
           && (nat_le (6 + kept_in (params_in (all_housed table start ls (free_at datum) p.places))) MOST_ARGUMENTS
           && nat_le (result_end (result_in (all_housed table start ls (free_at datum) p.places))) SPARE_ROOM))) ≡ true
       sizes ls =
-          let r = room table start ls p.places (free_at datum) plain.globals in
-          let q = params_room table start ls p.places (free_at datum) in
+          let r = room table start ls p.places (free_at datum) plain.globals own in
+          let q = params_room table start ls p.places (free_at datum) own in
           let b = plain.bytes in
           let c = plain.params_bytes in
           let d = plain.handed_bytes in
-          let s = result_room table start ls p.places (free_at datum) plain.globals plain.handed in
+          let s = result_room table start ls p.places (free_at datum) plain.globals own plain.handed in
           let end_at : ℕ = result_end (result_in (all_housed table start ls (free_at datum) p.places)) in
           let end : Free = behind_all table start ls (free_at datum) p.places in
           let taken : List Housed = params_in (all_housed table start ls (free_at datum) p.places) in
@@ -249,39 +199,39 @@ module _ (plan : Plan) where
     none_same [] = refl
     none_same (p ∷ ps) = refl
 
-    all_may : (ps : List (CodeProc Line)) → ArePlainProcs (known_in table) 16384 ps → AllAlike ps → AreNone (map (λ (p : CodeProc Line). p.hook) ps) →
+    all_may : (ps : List (CodeProc Line)) → ArePlainProcs (known_in table) 16384 ps → NoneLent ps → AllAlike ps → AreNone (map (λ (p : CodeProc Line). p.hook) ps) →
         each_fits block_plain (known_in table) procs globals (map block_of ps) ≡ true →
         procs_may table (layouts table datum (map block_of ps)) (map block_of ps) ≡ true
-    all_may [] plain alike none f = refl
-    all_may (p ∷ ps) plain alike none f =
+    all_may [] plain lent alike none f = refl
+    all_may (p ∷ ps) plain lent alike none f =
         let q = and_parts (proc_fits block_plain (known_in table) procs globals (block_of p))
         (each_fits block_plain (known_in table) procs globals (map block_of ps)) f in
         let r = (and_parts (in_order block_plain (known_in table) (block_of p)) _ (and_parts (has_lines_for p.places (block_of p).lines) _ q.0).1).1 in
         and_from _ _
         (ap (λ b. proc_may table (layout_of table b datum (block_of p)) (block_of p)) (none_same ps)
-        ∙ one_may (is_none ps) p plain.0 alike.0
+        ∙ one_may (is_none ps) p plain.0 lent.0 alike.0
         (sym (ap (all_fit (known_in table) procs globals p.places) (lines_are p.lines)) ∙ r) none.0)
-        (all_may ps plain.1 alike.1 none.1 q.1)
+        (all_may ps plain.1 lent.1 alike.1 none.1 q.1)
 
   labels_all : (ps : List (CodeProc Line)) → AllAlike ps → labels_may (map block_of ps) ≡ true
   labels_all [] alike = refl
   labels_all (p ∷ ps) alike =
-      and_from _ _ (ap labels_once (lines_are p.lines) ∙ once (blocked p.lines) (alike_blocks p.lines alike.0)) (labels_all ps alike.1)
+      and_from _ _ (ap labels_once (lines_are p.lines) ∙ once p.lines alike.0) (labels_all ps alike.1)
 
   -- ---- the whole
 
   pub blocks_may : (table : List TypeDef) (ps : List (CodeProc Line)) (blocks : Code BlockLine) → blocks.procs ≡ map block_of ps →
-      ArePlainProcs (known_in table) 16384 ps → AllAlike ps → AreNone (map (λ (p : CodeProc Line). p.hook) ps) →
+      ArePlainProcs (known_in table) 16384 ps → NoneLent ps → AllAlike ps → AreNone (map (λ (p : CodeProc Line). p.hook) ps) →
       code_fits block_plain (known_in table) blocks.procs ≡ true → data_bytes block_plain table blocks.procs ≤ 1040384 → defs_may table ≡ true →
       may_lower table blocks ≡ true
-  blocks_may table ps blocks e plain alike none fits few names =
+  blocks_may table ps blocks e plain lent alike none fits few names =
       let f = (and_parts (are_none (params_at (start_places blocks.procs) ++ results_at (start_places blocks.procs))) _ fits).1 in
       let sigs = signatures block_plain (known_in table) (before_last blocks.procs) in
       let globals = start_places blocks.procs in
       let d = data_sized table blocks in
       and_from _ _
       (subst (λ bs. procs_may table (layouts table FIXED_BYTES bs) bs ≡ true) (sym e)
-      (all_may table FIXED_BYTES sigs globals ps plain alike none (subst (λ bs. each_fits block_plain (known_in table) sigs globals bs ≡ true) e f)))
+      (all_may table FIXED_BYTES sigs globals ps plain lent alike none (subst (λ bs. each_fits block_plain (known_in table) sigs globals bs ≡ true) e f)))
       (and_from _ _ (le-leb (length (data_of table blocks.procs)) MOST_DATA (omega (arith, d, few)))
       (and_from _ _ names (subst (λ bs. labels_may bs ≡ true) (sym e) (labels_all ps alike))))
 
@@ -299,7 +249,7 @@ module _ (plan : Plan) where
       let few = h.data_few in
       blocks_may table flat.procs blocks
       (branched.each ∙ ap (λ ps. map (each_line B.Plain) ps) injected.each ∙ both_lines flat.procs)
-      h.plain h.alike h.hooks (branched.form.fits (known_in table) (injected.form.fits (known_in table) h.fits)) (omega (arith, more, most, few))
+      h.plain h.lent h.alike h.hooks (branched.form.fits (known_in table) (injected.form.fits (known_in table) h.fits)) (omega (arith, more, most, few))
       enums
 
   -- the module's code is there

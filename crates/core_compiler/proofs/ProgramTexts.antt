@@ -8,15 +8,18 @@ use Rattle.std.proofs.lemmas.Bool.{both_ways}
 use Rattle.nim_types.specs.Types.{same_text}
 use Rattle.nim_plan.specs.declared.plan.Plan.{Plan}
 use Rattle.nim_program.specs.Program.{Literal, Literals, Number, Characters, NoObject, PartsOf, ElementsOf, NoLiteral, ALiteral, Giving, Program}
-use Rattle.nim_program.specs.Folds.{Standing, Part, Acting, Leading, lists, numbers}
+use Rattle.nim_program.specs.Program.{Label, Ordinals, Exactly, Chooser, ByConditions, ByLabels}
+use Rattle.nim_program.specs.Folds.{Standing, Part, Acting, Choosing, Leading, lists, numbers}
 use Rattle.nim_program.proofs.ForCallers.{Relates, related_of, related_bodies}
 use Rattle.flat_code.specs.Codes.{flat_plain}
 use Rattle.flat_code.specs.declared.line.Piece.{Piece}
 use Rattle.flat_code.specs.declared.line.Piece.TheVariants as P
 use Rattle.flat_code.specs.Pieces.{pieces_of, pieces_of_all, count_of, piece_words, words_bytes, standing_bytes}
 use Rattle.flat_code.specs.Sizes.{piece_texts, pieces_texts, code_texts}
+use Rattle.flattening.specs.Counted.{label_texts as counted_label, these_texts, branch_texts as counted_branches, chooser_texts as counted_chooser}
 use Rattle.flattening.specs.Counted.{times, part_texts as counted_texts, own_times, body_times, program_times}
 use Rattle.flattening.specs.Given.{flat_procs}
+use Rattle.program_limits.specs.Data.{label_texts, branch_texts, labels_texts, chooser_texts}
 use Rattle.program_limits.specs.Data.{literal_bytes, joined_bytes, literal_texts, all_texts, part_texts, own_texts, body_texts, program_texts, texts_size}
 use Rattle.program_limits.proofs.ForCallers.{texts_most}
 
@@ -80,6 +83,24 @@ mutual
   joined_are (ALiteral first rest) =
       append_pieces (pieces_of first) (pieces_of_all rest) ∙ ap₂ (λ bs cs. bs ++ cs) (bytes_are first) (joined_are rest)
 
+-- ---- labels
+
+label_same : (label : Label) → counted_label label ≡ label_texts label
+label_same (Ordinals low high) = refl
+label_same (Exactly text) = refl
+
+branch_same : (labels : List Label) → these_texts labels ≡ branch_texts labels
+branch_same [] = refl
+branch_same (label ∷ labels) = ap₂ (λ ts us. ts ++ us) (label_same label) (branch_same labels)
+
+labels_same : (all : List (List Label)) → counted_branches all ≡ labels_texts all
+labels_same [] = refl
+labels_same (labels ∷ rest) = ap₂ (λ ts us. ts ++ us) (branch_same labels) (labels_same rest)
+
+chooser_same : (chooser : Chooser) → counted_chooser chooser ≡ chooser_texts chooser
+chooser_same ByConditions = refl
+chooser_same (ByLabels labels) = labels_same labels
+
 module _ (text : List ℕ) where
   -- ---- how often it stands in the list is how often it stands in the program
 
@@ -92,6 +113,7 @@ module _ (text : List ℕ) where
 
   part_counts : (part : Part) → Counts (part_texts part) (times text (counted_texts part))
   part_counts (Acting (Giving literal)) = ap (times text) (sym (pieces_are literal))
+  part_counts (Choosing chooser looked) = ap (times text) (sym (chooser_same chooser))
   part_counts (Leading read written (Standing literal)) =
       ap₂ (λ bytes ts. times text (bytes ∷ ts)) (sym (bytes_are literal)) (sym (pieces_are literal))
   part_counts part = refl

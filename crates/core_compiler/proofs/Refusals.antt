@@ -18,7 +18,8 @@ use Rattle.flat_code.specs.Codes.{flat_plain}
 use Rattle.flat_code.specs.Sizes.{code_weight}
 use Rattle.program_limits.specs.Frames.{beginning, frame_limits}
 use Rattle.program_limits.specs.Limits.{unless_left_out, unless_large, data_limits, tree_limits}
-use Rattle.flattening.specs.Counted.{program_parts}
+use Rattle.flattening.specs.Counted.{program_parts, program_pairs}
+use Rattle.flattening.specs.Flattened.{modes_of}
 use Rattle.rv32_codegen.specs.Lowering.{most_bytes}
 use Rattle.core_compiler.specs.Limits.{code_bound, code_limits, build_limits}
 use Rattle.core_compiler.specs.Limits.{where_built, check_limits}
@@ -39,10 +40,11 @@ module _ (program : Program) where
         | inr f ↦ f
       ]
 
-  pub bound_is : (flat : Code Line) (procs : List WordProc) → code_weight flat_plain flat.procs ≤ 25 * program_parts program →
-      most_bytes procs ≤ 48 * code_weight flat_plain flat.procs + 2756 → most_bytes procs ≤ code_bound program
-  bound_is flat procs few most =
-      let bound : 1200 * program_parts program + 2756 ≤ code_bound program = omega arith in
+  pub bound_is : (plan : Plan) (flat : Code Line) (procs : List WordProc) →
+      code_weight flat_plain flat.procs ≤ 33 * program_parts program + 5 * program_pairs (modes_of program plan) program →
+      most_bytes procs ≤ 48 * code_weight flat_plain flat.procs + 2756 → most_bytes procs ≤ code_bound program plan
+  bound_is plan flat procs few most =
+      let bound : 1584 * program_parts program + (240 * program_pairs (modes_of program plan) program + 2756) ≤ code_bound program plan = omega arith in
       omega (arith, few, most, bound)
 
 -- ---- where all of it is built

@@ -58,7 +58,7 @@ pub record IsLabelCode (words : WordCode) (homes : List Homes) (lines : List Lab
 
 -- Code of so many bytes does what the program means under a plan: label code of word code that means the same, with each heap and each stack
 -- that a machine may have, whatever bytes new places bring. The bytes are those that the lines have where they are laid out, and no more than the bound for the
--- program; its data are at most those of the program that count, and 4,092 bytes more.
+-- program under the plan; its data are at most those of the program that count, and 4,092 bytes more.
 pub record HasCode (program : Program) (plan : Plan) (bytes : ℕ) : Type 0 where
   pub words : WordCode
   pub homes : List Homes
@@ -67,7 +67,7 @@ pub record HasCode (program : Program) (plan : Plan) (bytes : ℕ) : Type 0 wher
   pub agrees : (fresh : Fresh) (heap stack : ℕ) (input : List ℕ) → CanRun words homes heap stack →
       Agrees (word_meaning live_objects words fresh heap stack input) (meaning program plan heap input)
   pub size : code_size lines ≡ bytes
-  pub bound : bytes ≤ code_bound program
+  pub bound : bytes ≤ code_bound program plan
   pub data_most : length words.statics ≤ data_counted program + (MORE_DATA + RUNTIME_DATA)
 
 -- the image of code with such a heap, and with just the stack that it needs

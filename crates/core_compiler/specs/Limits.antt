@@ -3,16 +3,18 @@
 use Rattle.std.specs.Prelude.{ℕ, ◌+◌, ◌*◌, nat_le, Option, Some, None, Result, Ok}
 use Rattle.arc_base.specs.declared.place.Place.{Place}
 use Rattle.arc_base.specs.Refusal.{Refusal, and_then}
+use Rattle.nim_plan.specs.declared.plan.Plan.{Plan}
 use Rattle.nim_program.specs.Program.{Program}
 use Rattle.nim_meaning.specs.LeftOut.{first_left_out}
 use Rattle.program_limits.specs.Limits.{unless_large, tree_limits}
-use Rattle.flattening.specs.Counted.{program_parts}
+use Rattle.flattening.specs.Counted.{program_parts, program_pairs}
+use Rattle.flattening.specs.Flattened.{modes_of}
 use Rattle.rv32_codegen.specs.declared.layout.TheConstants.{MOST_CODE_BYTES}
-use Rattle.core_compiler.specs.declared.program.TheConstants.{BYTES_OF_PART, BYTES_OF_ALL}
+use Rattle.core_compiler.specs.declared.program.TheConstants.{BYTES_OF_PART, BYTES_OF_PAIR, BYTES_OF_ALL}
 
--- code never has more bytes
-abbrev pub code_bound : Program → ℕ
-code_bound program = BYTES_OF_PART * program_parts program + BYTES_OF_ALL
+-- code under a plan never has more bytes
+abbrev pub code_bound : Program → Plan → ℕ
+code_bound program plan = BYTES_OF_PART * program_parts program + (BYTES_OF_PAIR * program_pairs (modes_of program plan) program + BYTES_OF_ALL)
 
 -- code has so many bytes
 abbrev pub code_limits : (code : ℕ) → Result (Unit {0}) Refusal

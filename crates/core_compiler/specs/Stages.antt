@@ -27,9 +27,11 @@ use Rattle.word_code.specs.Sizes.{longest_chain, has_no_circle}
 use Rattle.word_code.specs.Words.{word_meaning, is_word_code, have_no_hooks, Fresh}
 use Rattle.flat_runner.specs.Mean.{by_units}
 use Rattle.program_limits.specs.Frames.{beginning}
-use Rattle.flattening.specs.declared.laws.TheConstants.{FLAT_PACE, NODE_WEIGHT}
+use Rattle.flattening.specs.declared.laws.TheConstants.{FLAT_PACE, NODE_WEIGHT, PAIR_WEIGHT}
 use Rattle.flat_code.specs.Alike.{AllAlike}
-use Rattle.flattening.specs.Counted.{program_parts}
+use Rattle.flattening.specs.Counted.{program_parts, program_pairs}
+use Rattle.flattening.specs.Flattened.{modes_of}
+use Rattle.flattening.specs.Lent.{NoneLent}
 use Rattle.flat_code.specs.PlainCode.{ArePlainProcs}
 use Rattle.program_limits.specs.Data.{data_counted}
 use Rattle.rv32_codegen.specs.declared.label_code.TheConstants.{BYTES_OF_LINE, CODE_PACE}
@@ -59,19 +61,20 @@ pub record MayBeLowered (table : List TypeDef) (flat : Code Line) : Type 0 where
   pub some : 0 < length flat.procs
   pub alike : AllAlike flat.procs
   pub plain : ArePlainProcs (known_in table) MOST_BYTES flat.procs
+  pub lent : NoneLent flat.procs
   pub fits : code_fits flat_plain (known_in table) flat.procs ≡ true
   pub hooks : AreNone (hooks_of flat)
   pub data_few : data_bytes flat_plain table flat.procs ≤ MOST_DATA_BYTES
 
 -- Flat code does what the program means under the plan, and with so many units shows the same after some number of lines and ever after; its lines
--- fit the types of its places; it weighs as much as the program's parts, and has the data that count. No type of the table contains itself.
+-- fit the types of its places; it weighs as much as the program's parts and pairs, and has the data that count. No type of the table contains itself.
 pub record IsFlatOf (table : List TypeDef) (program : Program) (plan : Plan) (flat : Code Line) : Type 0 where
   pub agrees : (heap : ℕ) (input : List ℕ) → Agrees (flat_meaning table flat plan heap input) (meaning program plan heap input)
   pub paced : (heap : ℕ) (input : List ℕ) → Paced FLAT_PACE (flat_meaning table flat plan heap input) (meaning program plan heap input)
   pub exact : (heap : ℕ) (input : List ℕ) (units : ℕ) → (lines : ℕ)
       × ((more : ℕ) → ShowsSame (by_units table plan flat heap input units (lines + more)) (meaning program plan heap input units))
   pub fits : code_fits flat_plain (known_in table) flat.procs ≡ true
-  pub weight : code_weight flat_plain flat.procs ≤ NODE_WEIGHT * program_parts program
+  pub weight : code_weight flat_plain flat.procs ≤ NODE_WEIGHT * program_parts program + PAIR_WEIGHT * program_pairs (modes_of program plan) program
   pub data_size : data_bytes flat_plain table flat.procs ≤ data_counted program
   pub hooks : AreNone (hooks_of flat)
   pub forms : HaveForms table

@@ -9,6 +9,6 @@ mod program;
 pub use laws::code_limits;
 pub use meaning::mean_core;
 pub use program::{
-    BYTES_OF_ALL, BYTES_OF_PART, IMAGE_LATE, IMAGE_PACE, TIME_LATE, TIME_PACE, check_core,
-    compile_core, within_core,
+    BYTES_OF_ALL, BYTES_OF_PAIR, BYTES_OF_PART, IMAGE_LATE, IMAGE_PACE, TIME_LATE, TIME_PACE,
+    check_core, compile_core, within_core,
 };

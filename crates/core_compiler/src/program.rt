@@ -47,7 +47,10 @@ pub const TIME_PACE: u32 = 262_144;
 pub const TIME_LATE: u32 = 64;
 
 /// The most bytes of code for each part that is counted of a program.
-pub const BYTES_OF_PART: u32 = 1_200;
+pub const BYTES_OF_PART: u32 = 1_584;
+
+/// The most for each pair of an exit and what ends there.
+pub const BYTES_OF_PAIR: u32 = 240;
 
 /// And for the whole.
 pub const BYTES_OF_ALL: u32 = 2_756;
@@ -74,9 +77,9 @@ pub fn flat_of(alloc: Global, program: &Program, plan: &Plan) -> Result<Flat, Me
     ensures { IfOk result (λ flat.
         IsFlatOf program.now.types (program_in program.now) plan.now flat) }
 {
+    table_forms();
     let flat = flatten(alloc, program, plan)?;
     formed();
-    table_forms();
     flat_code();
     fits();
     may_be_lowered();

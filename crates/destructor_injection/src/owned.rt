@@ -19,15 +19,8 @@ pub const LINES_EACH: u32 = 1;
 fn owned_line(alloc: Global, line: &Line, plan: &Plan) -> Result<OwnedLine, Memory>
     ensures { IsInOrder plan.now → IfOk result (λ owned. owned ≡ under plan.now line.now) }
 {
-    if let Line::Get {
-        to,
-        from,
-        how,
-        site,
-        ty,
-    } = line
-    {
-        let act = act_of(plan, *site);
+    if let Line::Get { to, from, how, ty } = line {
+        let act = act_of(plan, how.node);
         return Ok(OwnedLine::Take {
             to: *to,
             from: *from,

@@ -5,13 +5,13 @@ use Rattle.std.proofs.lemmas.Bool.{both_ways, and_parts, and_from, eqb-true}
 use Rattle.nim_types.specs.Types as type
 use Rattle.nim_types.specs.Types.{Ty, Tys, no_types, types, Key, Fact, members, fields, base, below, Facts, fact_of}
 use Rattle.nim_types.specs.Forms as form
-use Rattle.nim_types.specs.Forms.{Form, Forms, HasForm, IsForm, of_int, of_bool, of_char, of_text, of_sequence, of_any_sequence, of_array, of_tuple}
+use Rattle.nim_types.specs.Forms.{Form, Forms, HasForm, of_int, of_bool, of_char, of_text, of_sequence, of_any_sequence, of_array, of_tuple}
 use Rattle.nim_types.specs.Forms.{of_parameter}
 use Rattle.nim_types.specs.Forms.{of_enum, of_object, of_distinct, of_ref, of_exception, AreForms, none_of, more_of, object_form, wrapped, types_of}
 use Rattle.nim_types.specs.Forms.{hooked, hooked_any}
 use Rattle.nim_program.specs.Ints.{fits}
 use Rattle.nim_program.specs.Kinds as kind
-use Rattle.nim_program.specs.Kinds.{TypeKind, kind_of, plain_kind, is_value, is_among, is_text, is_ref, is_sequence, part_at, nth_type, count_types}
+use Rattle.nim_program.specs.Kinds.{TypeKind, plain_kind, is_value, is_text, is_ref, is_sequence, part_at, nth_type, count_types}
 use Rattle.nim_program.specs.Kinds.{has_parts, for_some}
 use Rattle.nim_program.specs.Kinds.{count_literals, is_constant, are_constants}
 use Rattle.nim_program.specs.Program.{Literal, Number as Ordinal, Characters, NoObject, PartsOf, ElementsOf, Literals, NoLiteral, ALiteral}

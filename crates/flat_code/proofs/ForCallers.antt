@@ -2,7 +2,7 @@
 
 pub use Rattle.flat_code.proofs.Same.{same_agrees, same_pace}
 pub use Rattle.flat_code.proofs.ByLines.{runs_by_lines}
-pub use Rattle.flat_code.proofs.KeptForms.{Alike, same, got, form_by_lines}
+pub use Rattle.flat_code.proofs.KeptForms.{form_by_lines}
 -- ---- shapes of types that have forms
 pub use Rattle.flat_code.proofs.ShapeDepths.{IsSorted, AreSorted}
 pub use Rattle.flat_code.proofs.SortedTables.{sorted_table}

@@ -1,16 +1,14 @@
--- Code of which each line becomes another one that is alike keeps its form.
+-- Code of which each line becomes another one that is, as a line of flat code, what it was keeps its form.
 use Rattle.std.proofs.Common.{◌≡◌, refl, ap, ap₂, ◌∙◌, arith, ℕ, suc, ◌+◌, ◌*◌, ◌≤◌, Bool, true, false, ◌&&◌, List, [], ◌∷◌, ◌++◌, map, length, Option}
 use Rattle.std.proofs.Common.{Some, None}
 use Rattle.std.specs.Prelude.{option_map}
 use Rattle.std.specs.Set.{unique_keys}
 use Rattle.nim_types.specs.Types.{same_text}
 use Rattle.nim_types.specs.declared.types.TypeDef.{TypeDef}
-use Rattle.nim_program.specs.declared.operation.Use.{Use}
 use Rattle.nim_program.specs.TextSizes.{all_bytes}
 use Rattle.flat_code.specs.declared.code.Code.{Code}
 use Rattle.flat_code.specs.declared.code.CodeProc.{CodeProc}
 use Rattle.flat_code.specs.declared.line.Line.{Line}
-use Rattle.flat_code.specs.declared.line.Line.TheVariants as L
 use Rattle.flat_code.specs.declared.place.FlatPlace.{FlatPlace}
 use Rattle.flat_code.specs.Scene.{Known, known_in}
 use Rattle.flat_code.specs.Running.{from_label, before_last}
@@ -22,42 +20,6 @@ use Rattle.flat_code.specs.Codes.{proc_of, lines_in, each_line, by_lines, KeepsF
 use Rattle.flat_code.proofs.LineMaps.{in_proc, before_last_map, label_map}
 use Rattle.flat_code.proofs.ByLines.{procs_by_lines}
 
--- the same but for the number of a site
-pub data Alike : (a b : Line) → Type 0 where
-  same : {l : Line} → Alike l l
-  got : {to from here there : ℕ} {how : Use} {ty : Option ℕ} → Alike (L.Get to from how here ty) (L.Get to from how there ty)
-
--- ---- alike lines
-
-alike_weight : {a b : Line} → Alike a b → weight a ≡ weight b
-alike_weight same = refl
-alike_weight got = refl
-
-alike_texts : {a b : Line} → Alike a b → texts_in a ≡ texts_in b
-alike_texts same = refl
-alike_texts got = refl
-
-alike_label : {a b : Line} → Alike a b → label_in a ≡ label_in b
-alike_label same = refl
-alike_label got = refl
-
-alike_target : {a b : Line} → Alike a b → target a ≡ target b
-alike_target same = refl
-alike_target got = refl
-
-alike_back : {a b : Line} → Alike a b → back_to a ≡ back_to b
-alike_back same = refl
-alike_back got = refl
-
-alike_falls : {a b : Line} → Alike a b → falls a ≡ falls b
-alike_falls same = refl
-alike_falls got = refl
-
-alike_fits : (known : Known) (procs : List Signature) (globals places : List FlatPlace) {a b : Line} → Alike a b →
-    fits known procs globals places a ≡ fits known procs globals places b
-alike_fits known procs globals places same = refl
-alike_fits known procs globals places got = refl
-
 -- ---- lists
 
 length_map : {A B : Type 0} (g : A → B) (xs : List A) → length (map g xs) ≡ length xs
@@ -68,17 +30,16 @@ map_map : {A B C : Type 0} (g : B → C) (f : A → B) (h : A → C) → ((x : A
 map_map g f h is [] = refl
 map_map g f h is (x ∷ xs) = ap₂ (λ y ys. y ∷ ys) (is x) (map_map g f h is xs)
 
-module _ {L M : Type 0} (f : L → M) (plain : L → Line) (plain' : M → Line) (alike : (line : L) → Alike (plain' (f line)) (plain line)) where
+module _ {L M : Type 0} (f : L → M) (plain : L → Line) (plain' : M → Line) (is : (line : L) → plain' (f line) ≡ plain line) where
   -- ---- sizes
 
-  sums : (measure : Line → ℕ) → ((a b : Line) → Alike a b → measure a ≡ measure b) → (lines : List L) →
-      summed measure (map plain' (map f lines)) ≡ summed measure (map plain lines)
-  sums measure is [] = refl
-  sums measure is (l ∷ lines) = ap₂ (λ m n. m + n) (is _ _ (alike l)) (sums measure is lines)
+  sums : (measure : Line → ℕ) → (lines : List L) → summed measure (map plain' (map f lines)) ≡ summed measure (map plain lines)
+  sums measure [] = refl
+  sums measure (l ∷ lines) = ap₂ (λ m n. m + n) (ap measure (is l)) (sums measure lines)
 
   proc_weights : (lines : List L) → proc_weight (map plain' (map f lines)) ≡ proc_weight (map plain lines)
   proc_weights [] = refl
-  proc_weights (l ∷ lines) = ap (λ n. 18 + n) (sums weight (λ a b h. alike_weight h) (l ∷ lines))
+  proc_weights (l ∷ lines) = ap (λ n. 18 + n) (sums weight (l ∷ lines))
 
   weights : (procs : List (CodeProc L)) → code_weight plain' (map (each_line f) procs) ≡ code_weight plain procs
   weights [] = refl
@@ -86,7 +47,7 @@ module _ {L M : Type 0} (f : L → M) (plain : L → Line) (plain' : M → Line)
 
   own_texts : (lines : List L) → lines_texts (map plain' (map f lines)) ≡ lines_texts (map plain lines)
   own_texts [] = refl
-  own_texts (l ∷ lines) = ap₂ (λ ts us. ts ++ us) (alike_texts (alike l)) (own_texts lines)
+  own_texts (l ∷ lines) = ap₂ (λ ts us. ts ++ us) (ap texts_in (is l)) (own_texts lines)
 
   texts : (procs : List (CodeProc L)) → code_texts plain' (map (each_line f) procs) ≡ code_texts plain procs
   texts [] = refl
@@ -111,8 +72,8 @@ module _ {L M : Type 0} (f : L → M) (plain : L → Line) (plain' : M → Line)
       ≡ all_lead (λ line. label_in (plain line)) plain whole rest
   leads whole [] = refl
   leads whole (line ∷ rest) =
-      ap₂ (λ a b. a && b) (ap₂ (λ a b. a && b) (stood rest (alike_target (alike line))) (stood whole (alike_back (alike line))))
-      (ap₂ (λ a b. a && b) (followed (alike_falls (alike line)) rest) (leads whole rest))
+      ap₂ (λ a b. a && b) (ap₂ (λ a b. a && b) (stood rest (ap target (is line))) (stood whole (ap back_to (is line))))
+      (ap₂ (λ a b. a && b) (followed (ap falls (is line)) rest) (leads whole rest))
     where
       found : (o : Option (List L)) → is_found (option_map (map f) o) ≡ is_found o
       found None = refl
@@ -122,7 +83,7 @@ module _ {L M : Type 0} (f : L → M) (plain : L → Line) (plain' : M → Line)
           ≡ stands (λ line. label_in (plain line)) plain lines o
       by_name lines None = refl
       by_name lines (Some name) =
-          ap is_found (label_map f (λ line. label_in (plain line)) (λ line. label_in (plain' line)) (λ line. alike_label (alike line)) name lines)
+          ap is_found (label_map f (λ line. label_in (plain line)) (λ line. label_in (plain' line)) (λ line. ap label_in (is line)) name lines)
           ∙ found (from_label (λ line. label_in (plain line)) name lines)
 
       stood : (lines : List L) {o o' : Option ℕ} → o' ≡ o → stands (λ line. label_in (plain' line)) plain' (map f lines) o'
@@ -150,7 +111,7 @@ module _ {L M : Type 0} (f : L → M) (plain : L → Line) (plain' : M → Line)
         all_fit known sigs globals places (map plain' (map f lines)) ≡ all_fit known sigs globals places (map plain lines)
     all_fits sigs globals places [] = refl
     all_fits sigs globals places (l ∷ lines) =
-        ap₂ (λ a b. a && b) (alike_fits known sigs globals places (alike l)) (all_fits sigs globals places lines)
+        ap₂ (λ a b. a && b) (ap (fits known sigs globals places) (is l)) (all_fits sigs globals places lines)
 
     has_lines : (places : List FlatPlace) (lines : List L) → has_lines_for places (map f lines) ≡ has_lines_for places lines
     has_lines [] lines = refl

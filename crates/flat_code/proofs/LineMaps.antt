@@ -60,10 +60,10 @@ module _ {L M : Type 0} (f : L → M) where
   went_map m rest (Finishes es n status world) = refl
   went_map m rest (Fails es n world) = refl
 
-  jumped_map : (m : Machine L) (temps : Temps) (o : Option (List L)) →
-      jumped (in_machine m) temps (option_map (map f) o) ≡ next_map in_machine (jumped m temps o)
-  jumped_map m temps None = refl
-  jumped_map m temps (Some rest) = refl
+  jumped_map : (m : Machine L) (temps : Temps) (work : ℕ) (o : Option (List L)) →
+      jumped (in_machine m) temps work (option_map (map f) o) ≡ next_map in_machine (jumped m temps work o)
+  jumped_map m temps work None = refl
+  jumped_map m temps work (Some rest) = refl
 
   entered_map : (m : Machine L) (rest : List L) (to : ℕ) (slots : List Slot) (work left : ℕ) (p : Proc L) (lines : List L) →
       entered (in_machine m) (map f rest) to slots work left (in_proc p) (map f lines) ≡ next_map in_machine (entered m rest to slots work left p lines)
@@ -105,9 +105,9 @@ module _ {L M : Type 0} (f : L → M) where
       settled_map : (m : Machine L) (rest : List L) (d : Did) →
           settled label_of' does' (map in_proc procs) (in_machine m) (map f rest) d ≡ next_map in_machine (settled label_of does procs m rest d)
       settled_map m rest (Passes done) = went_map m rest done
-      settled_map m rest (Leaps name) = ap (jumped (in_machine m) m.now.temps) (label_map name rest) ∙ jumped_map m m.now.temps _
+      settled_map m rest (Leaps name work) = ap (jumped (in_machine m) m.now.temps work) (label_map name rest) ∙ jumped_map m m.now.temps work _
       settled_map m rest Enters = refl
-      settled_map m rest (Turns temps name) = ap (jumped (in_machine m) temps) (label_map name m.now.whole) ∙ jumped_map m temps _
+      settled_map m rest (Turns temps name) = ap (jumped (in_machine m) temps 1) (label_map name m.now.whole) ∙ jumped_map m temps 1 _
       settled_map m rest (Calls to proc slots work) =
           ap (called (in_machine m) (map f rest) to slots work m.now.left) (proc_map proc) ∙ called_map m rest to slots work m.now.left _
       settled_map m rest (Returns v work) = returned_map m v work m.waiting

@@ -98,13 +98,13 @@ no_plan = record { sites = []; sinks = []; skips = [] }
 
 -- a line of flat code under a plan
 abbrev pub under : Plan → Line → OwnedLine
-under plan (Get to from how site ty) = O.Take to from how (act_at plan site) ty
+under plan (Get to from how ty) = O.Take to from how (act_at plan how.node) ty
 under plan line = O.Plain line
 
 -- as a line of flat code, whatever the plan says
 abbrev pub owned_plain : OwnedLine → Line
 owned_plain (O.Plain line) = line
-owned_plain (O.Take to from how act ty) = Get to from how 0 ty
+owned_plain (O.Take to from how act ty) = Get to from how ty
 
 abbrev pub owned_label : OwnedLine → Option ℕ
 owned_label line = label_in (owned_plain line)
@@ -113,7 +113,7 @@ abbrev pub owned_does : Known → Scene → OwnedLine → Did
 owned_does known x (O.Plain line) = does known no_plan x line
 owned_does known x (O.Take to from how act ty) =
     using_place x.temps from (λ place location. gives x to
-    (taken_by (gives_hooked known.facts (if_type known.types ty)) (form_for known.facts (if_type known.types ty)) (destination x how to) act location))
+    (taken_by (gives_hooked known.facts (if_type known.types ty)) (form_for known.facts (if_type known.types ty)) (destination x how) act location))
 
 abbrev pub owned_meaning : List TypeDef → Code OwnedLine → (heap : ℕ) → (input : List ℕ) → Behaviour Event
 owned_meaning table owned heap input = runs owned_label (owned_does (known_in table)) (procs_of (known_in table) owned) heap input

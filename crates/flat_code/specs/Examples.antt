@@ -14,6 +14,7 @@ use Rattle.nim_meaning.specs.Trees.{sight_of}
 use Rattle.flat_code.specs.declared.code.Code.{Code}
 use Rattle.flat_code.specs.declared.code.CodeProc.{CodeProc}
 use Rattle.flat_code.specs.declared.line.From.TheVariants.{Value, Place as At}
+use Rattle.flat_code.specs.declared.line.UseAt.{UseAt}
 use Rattle.flat_code.specs.declared.line.Line.{Line}
 use Rattle.flat_code.specs.declared.line.Line.TheVariants as L
 use Rattle.flat_code.specs.declared.line.Piece.TheVariants as P
@@ -45,21 +46,28 @@ abbrev places : PlaceKind → (ty : ℕ) → List ℕ → List FlatPlace
 places kind ty [] = []
 places kind ty (n ∷ ns) = place kind ty n ∷ places kind ty ns
 
+-- no value waits
+abbrev owned : UseAt
+owned = record { how = Owned; node = 0 }
+
+abbrev looked : UseAt
+looked = record { how = Looked; node = 0 }
+
 abbrev number : (to n : ℕ) → Line
-number to n = L.Constant to Owned 0 (P.Ordinal (pos n) ∷ [])
+number to n = L.Constant to owned 0 (P.Ordinal (pos n) ∷ [])
 
 abbrev get : (to from : ℕ) → Line
-get to from = L.Get to from Owned 0 (Some 0)
+get to from = L.Get to from owned (Some 0)
 
 -- an int is written; the temporary 99 gets nothing
 abbrev echo : (from : ℕ) → Line
-echo from = L.Apply 99 O.Echo Looked None (Some 0 ∷ []) (Value from ∷ [])
+echo from = L.Apply 99 O.Echo looked None (Some 0 ∷ []) (Value from ∷ [])
 
 abbrev add : (location value : ℕ) → Line
-add location value = L.Apply 99 (O.Update Add) Looked None (Some 0 ∷ Some 0 ∷ []) (At location ∷ Value value ∷ [])
+add location value = L.Apply 99 (O.Update Add) looked None (Some 0 ∷ Some 0 ∷ []) (At location ∷ Value value ∷ [])
 
 abbrev assign : (location value : ℕ) → Line
-assign location value = L.Apply 99 O.Assign Looked None (Some 0 ∷ Some 0 ∷ []) (At location ∷ Value value ∷ [])
+assign location value = L.Apply 99 O.Assign looked None (Some 0 ∷ Some 0 ∷ []) (At location ∷ Value value ∷ [])
 
 abbrev proc : (first span : ℕ) → List FlatPlace → List Line → CodeProc Line
 proc first span places lines = record { first = first; span = span; places = places; lines = lines; hook = None }
@@ -117,7 +125,7 @@ sum inclusive = proc 0 3
 -- quit(sum(n))
 abbrev sum_start : (argument : List Line) → CodeProc Line
 sum_start argument = proc 0 3 (places K.Temp 0 (2 ∷ 3 ∷ []))
-    (argument ++ (L.Call 2 Owned (Some 0) 0 (Value 3 ∷ []) ∷ L.Apply 99 O.Quit Looked None (Some 0 ∷ []) (Value 2 ∷ []) ∷ L.Return None ∷ []))
+    (argument ++ (L.Call 2 owned (Some 0) 0 (Value 3 ∷ []) ∷ L.Apply 99 O.Quit looked None (Some 0 ∷ []) (Value 2 ∷ []) ∷ L.Return None ∷ []))
 
 abbrev pub summing : (n : ℕ) → Code Line
 summing n = code (sum true ∷ sum_start (number 3 n ∷ []) ∷ [])
@@ -149,7 +157,7 @@ bump_start index = proc 1 1
     ++ (places K.Location 3 (12 ∷ 21 ∷ 31 ∷ 41 ∷ []) ++ places K.Location 0 (13 ∷ 22 ∷ 32 ∷ 42 ∷ [])))
     (L.Blank 1 3
     ∷ number 10 1 ∷ number 11 7 ∷ L.Root 12 1 true ∷ L.Item 13 12 10 ∷ assign 13 11
-    ∷ number 20 1 ∷ L.Root 21 1 true ∷ L.Item 22 21 20 ∷ L.Call 99 Owned None 0 (At 22 ∷ [])
+    ∷ number 20 1 ∷ L.Root 21 1 true ∷ L.Item 22 21 20 ∷ L.Call 99 owned None 0 (At 22 ∷ [])
     ∷ number 30 1 ∷ L.Root 31 1 true ∷ L.Item 32 31 30 ∷ get 33 32 ∷ echo 33
     ∷ number 40 index ∷ L.Root 41 1 true ∷ L.Item 42 41 40 ∷ get 43 42 ∷ echo 43
     ∷ L.Return None ∷ [])
@@ -160,7 +168,7 @@ bumping index = code (bump ∷ bump_start index ∷ [])
 -- the same with the value of the element in place of its location
 abbrev pub bumping_value : Code Line
 bumping_value = code (bump ∷ proc 1 1 (place K.Global 3 1 ∷ places K.Temp 0 (11 ∷ []))
-    (L.Blank 1 3 ∷ number 11 7 ∷ L.Call 99 Owned None 0 (Value 11 ∷ []) ∷ L.Return None ∷ []) ∷ [])
+    (L.Blank 1 3 ∷ number 11 7 ∷ L.Call 99 owned None 0 (Value 11 ∷ []) ∷ L.Return None ∷ []) ∷ [])
 
 -- ---- a constant that stands in the data
 
@@ -224,7 +232,7 @@ writes_to kind lines = code (proc 0 1 (place K.Global 0 0 ∷ places K.Temp 0 (1
     (number 1 1 ∷ lines ++ (assign 3 1 ∷ L.Return None ∷ [])) ∷ [])
 
 abbrev pub fresh_written : Code Line
-fresh_written = writes_to K.Within (L.Fresh 3 1 ∷ [])
+fresh_written = writes_to K.Within (L.Fresh 3 1 None ∷ [])
 
 abbrev pub standing_written : Code Line
 standing_written = writes_to K.Within (L.Standing 3 0 (P.Ordinal (pos 5) ∷ []) ∷ [])

@@ -7,15 +7,23 @@ use Rattle.nim_types.specs.Table.{type_at}
 use Rattle.nim_program.specs.declared.operation.Operation.{Operation}
 use Rattle.nim_program.specs.declared.operation.Operation.TheVariants as O
 use Rattle.nim_program.specs.declared.program.Mode.{Mode}
-use Rattle.nim_program.specs.declared.program.Mode.TheVariants.{Var}
+use Rattle.nim_program.specs.declared.program.Mode.TheVariants.{Plain, Var}
 use Rattle.nim_program.specs.Ints.{fits as is_int_number}
 use Rattle.nim_program.specs.Fitting as table
 use Rattle.nim_program.specs.Fitting.{building_fits, places_in}
-use Rattle.nim_program.specs.Kinds.{TypeKind, kind_of, kind_if, is_int, is_bool, is_ordinal, has_length, field_at, element_of, object_of, is_of, same_value}
+use Rattle.nim_program.specs.Kinds.{TypeKind, kind_of, kind_if, is_int, is_bool, is_ordinal, is_text, has_length, field_at, element_of, object_of, is_of, same_value}
 use Rattle.nim_program.specs.View.{if_type}
+use Rattle.nim_program.specs.declared.operation.Use.{Use}
+use Rattle.nim_program.specs.Uses.{use_by}
+use Rattle.nim_meaning.specs.Here.{is_hooked, gives_hooked}
+use Rattle.nim_meaning.specs.Shapes.{is_lent, is_given}
 use Rattle.flat_code.specs.declared.code.CodeProc.{CodeProc}
 use Rattle.flat_code.specs.declared.line.From.{From}
 use Rattle.flat_code.specs.declared.line.From.TheVariants as F
+use Rattle.nim_program.specs.declared.expr.Label.{Label}
+use Rattle.nim_program.specs.declared.expr.Label.TheVariants as C
+use Rattle.flat_code.specs.declared.line.Owning.{Owning}
+use Rattle.flat_code.specs.declared.line.Owning.TheVariants as W
 use Rattle.flat_code.specs.declared.line.Line.{Line}
 use Rattle.flat_code.specs.declared.line.Line.TheVariants as L
 use Rattle.flat_code.specs.declared.line.Piece.{Piece}
@@ -83,14 +91,21 @@ if_kind is_kind (Some p) = is_kind p.kind
 
 -- ---- parameters and results
 
--- what a parameter takes, and whether that is a location
+-- what a parameter takes, whether that is a location, and whether it is written there
 pub record Taken : Type 0 where
   pub by_location : Bool
+  pub written : Bool
   pub of : Ty
 
-abbrev pub and_param : PlaceKind → Ty → List Taken → List Taken
-and_param (K.Param mode) ty rest = record { by_location = is_var mode; of = ty } ∷ rest
-and_param kind ty rest = rest
+-- what has hooks is lent to a plain parameter, by where it waits
+abbrev pub is_lent_by : Mode → (hooked : Bool) → Bool
+is_lent_by Plain hooked = hooked
+is_lent_by mode hooked = false
+
+abbrev pub and_param : Facts → PlaceKind → Ty → List Taken → List Taken
+and_param facts (K.Param mode) ty rest =
+    record { by_location = is_var mode || is_lent_by mode (is_hooked facts ty); written = is_var mode; of = ty } ∷ rest
+and_param facts kind ty rest = rest
 
 abbrev pub or_result : {A : Type 0} → PlaceKind → A → Option A → Option A
 or_result K.Result x rest = Some x
@@ -105,7 +120,7 @@ module _ (known : Known) where
   -- what a procedure takes, what it gives, and the place of its result
   abbrev pub taken_by : List FlatPlace → List Taken
   taken_by [] = []
-  taken_by (p ∷ places) = and_param p.kind (place_type known p) (taken_by places)
+  taken_by (p ∷ places) = and_param known.facts p.kind (place_type known p) (taken_by places)
 
   abbrev pub given_by : List FlatPlace → Option Ty
   given_by [] = None
@@ -130,12 +145,22 @@ same_place None None = true
 same_place (Some p) (Some q) = nat_eq p q
 same_place p q = false
 
--- so many of the first operands are locations, and all others values
-abbrev pub are_placed : ℕ → List From → Bool
-are_placed zero [] = true
-are_placed zero (F.Value t ∷ from) = are_placed zero from
-are_placed (suc n) (F.Place t ∷ from) = are_placed n from
-are_placed n from = false
+-- What is lent, or copied by a place, may be a location where it has hooks.
+abbrev pub may_stand : Facts → Use → Option Ty → Bool
+may_stand facts how ty = gives_hooked facts ty && (is_lent how || is_given how)
+
+-- so many of the first operands are locations, and all others values, but for what may stand
+abbrev pub are_placed : Facts → Use → ℕ → (of : List (Option Ty)) → List From → Bool
+are_placed facts how n [] [] = nat_eq n 0
+are_placed facts how zero (ty ∷ of) (F.Value t ∷ from) = are_placed facts how zero of from
+are_placed facts how zero (ty ∷ of) (F.Place t ∷ from) = may_stand facts how ty && are_placed facts how zero of from
+are_placed facts how (suc n) (ty ∷ of) (F.Place t ∷ from) = are_placed facts how n of from
+are_placed facts how n of from = false
+
+abbrev pub are_values : List From → Bool
+are_values [] = true
+are_values (F.Value t ∷ from) = are_values from
+are_values (F.Place t ∷ from) = false
 
 -- what an operation has by its location is written, but for what is asked how many elements it has
 abbrev pub writes : Operation → Bool
@@ -150,6 +175,11 @@ same_bool false b = not b
 abbrev pub operation_fits : Facts → Operation → (ty : Option Ty) → (of : List (Option Ty)) → Bool
 operation_fits facts O.Default ty [] = true
 operation_fits facts operation ty of = table.fits facts operation ty of
+
+-- a value of a kind may be compared with a label
+abbrev pub is_selected_by : Label → TypeKind → Bool
+is_selected_by (C.Ordinals low high) kind = is_ordinal kind && (is_int_number low && is_int_number high)
+is_selected_by (C.Text text) kind = is_text kind
 
 module _ (known : Known) (procs : List Signature) (globals places : List FlatPlace) where
   abbrev pub value : ℕ → Option Ty
@@ -175,11 +205,12 @@ module _ (known : Known) (procs : List Signature) (globals places : List FlatPla
   taken (F.Value t) = value t
   taken (F.Place t) = location t
 
-  -- locations that may be written
-  abbrev pub may_write_all : List From → Bool
-  may_write_all [] = true
-  may_write_all (F.Value t ∷ from) = may_write_all from
-  may_write_all (F.Place t ∷ from) = may_write t && may_write_all from
+  -- locations that may be written are so many of the first
+  abbrev pub may_write_first : ℕ → List From → Bool
+  may_write_first zero from = true
+  may_write_first (suc n) [] = true
+  may_write_first (suc n) (F.Value t ∷ from) = may_write_first n from
+  may_write_first (suc n) (F.Place t ∷ from) = may_write t && may_write_first n from
 
   -- of the place or the value in which another location is
   abbrev pub same_base : (to from : ℕ) → Bool
@@ -195,7 +226,7 @@ module _ (known : Known) (procs : List Signature) (globals places : List FlatPla
   abbrev pub are_arguments : List Taken → List From → Bool
   are_arguments [] [] = true
   are_arguments (p ∷ ps) (F.Value t ∷ from) = not p.by_location && (is_of (value t) (Some p.of) && are_arguments ps from)
-  are_arguments (p ∷ ps) (F.Place t ∷ from) = (p.by_location && may_write t) && (is_of (location t) (Some p.of) && are_arguments ps from)
+  are_arguments (p ∷ ps) (F.Place t ∷ from) = (p.by_location && (not p.written || may_write t)) && (is_of (location t) (Some p.of) && are_arguments ps from)
   are_arguments ps from = false
 
   abbrev pub call_fits : Option Signature → (ty : Option Ty) → List From → Bool
@@ -211,22 +242,38 @@ module _ (known : Known) (procs : List Signature) (globals places : List FlatPla
   abbrev pub is_constant_of : (ty : ℕ) → List Piece → Bool
   is_constant_of ty pieces = are_one pieces 0 && has_shape (value_of pieces) (shape_of known.facts (type_at known.types ty))
 
+  -- a place and what it is filled with, or gets
+  abbrev pub gets : (place ty : ℕ) → Option Ty → Bool
+  gets place ty got = is_of (own place) (Some (type_at known.types ty)) && is_of got (Some (type_at known.types ty))
+
+  abbrev pub owning_fits : Owning → List From → Bool
+  owning_fits (W.TakenUp node) [] = true
+  owning_fits (W.Waits node) (F.Value t ∷ []) = if_kind is_value (place_named is_value places t)
+  owning_fits (W.TemporaryEnds node ty) [] = true
+  owning_fits (W.PlaceEnds place ty) [] = is_of (any_place place false) (Some (type_at known.types ty))
+  owning_fits (W.PlaceCopies place ty) (F.Place t ∷ []) = gets place ty (location t)
+  owning_fits (W.PlaceStands place) (F.Place t ∷ []) = is_of (any_place place false) (location t)
+  owning_fits (W.ResultGets place ty) (x ∷ []) = gets place ty (taken x)
+  owning_fits what from = false
+
   -- What gives no value gives it to a number that no temporary has.
   abbrev pub fits : Line → Bool
   fits (L.Apply to operation how ty of from) =
       (operation_fits known.facts operation (if_type known.types ty) (map (if_type known.types) of)
-      && (are_of (map (if_type known.types) of) from && (are_placed (places_in operation) from && (not (writes operation) || may_write_all from))))
+      && (are_of (map (if_type known.types) of) from
+      && (are_placed known.facts (use_by operation) (places_in operation) (map (if_type known.types) of) from
+      && (not (writes operation) || may_write_first (places_in operation) from))))
       && same_value (value to) (if_type known.types ty)
   fits (L.Construct to how ty fields from) =
-      (building_fits known.facts (Some (type_at known.types ty)) fields (map taken from) && are_placed zero from)
+      (building_fits known.facts (Some (type_at known.types ty)) fields (map taken from) && are_values from)
       && is_of (value to) (Some (type_at known.types ty))
   fits (L.Constant to how ty pieces) = is_constant_of ty pieces && is_of (value to) (Some (type_at known.types ty))
   fits (L.Call to how ty proc from) =
       call_fits (slice_get procs proc) (if_type known.types ty) from && same_value (value to) (if_type known.types ty)
-  fits (L.Get to from how site ty) = is_of (value to) (if_type known.types ty) && is_of (value to) (location from)
+  fits (L.Get to from how ty) = is_of (value to) (if_type known.types ty) && is_of (value to) (location from)
   fits (L.Look to from) = is_of (value to) (location from)
   fits (L.Root to place global) = is_of (location to) (any_place place global) && may_write to
-  fits (L.Fresh to from) = is_of (location to) (value from) && not (may_write to)
+  fits (L.Fresh to from waits) = is_of (location to) (value from) && not (may_write to)
   fits (L.Standing to ty pieces) =
       is_constant_of ty pieces && (is_of (location to) (Some (type_at known.types ty)) && not (may_write to))
   fits (L.Part to from field) = is_of (location to) (field_at (kind_at (location from)) field) && same_base to from
@@ -238,6 +285,7 @@ module _ (known : Known) (procs : List Signature) (globals places : List FlatPla
   fits (L.Fill place from) = is_of (own place) (value from)
   fits (L.Blank place ty) = is_of (own place) (Some (type_at known.types ty))
   fits (L.Give place from) = is_of (own place) (value from)
+  fits (L.Own what from) = owning_fits what from
   fits (L.Zero to) = is_int (kind_at (value to))
   fits (L.Length to from) = is_int (kind_at (value to)) && has_length (kind_at (location from))
   fits (L.Still from len) = has_length (kind_at (location from)) && is_int (kind_at (value len))
@@ -247,7 +295,7 @@ module _ (known : Known) (procs : List Signature) (globals places : List FlatPla
   fits (L.Label name) = true
   fits (L.Jump to) = true
   fits (L.Unless from to) = is_bool (kind_at (value from))
-  fits (L.Fits from low high to) = is_ordinal (kind_at (value from)) && (is_int_number low && is_int_number high)
+  fits (L.Fits from these to) = is_selected_by these (kind_at (value from))
   fits L.Enter = true
   fits (L.Turn to) = true
   fits (L.TurnIf from to) = is_bool (kind_at (value from))

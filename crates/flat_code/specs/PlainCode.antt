@@ -5,6 +5,7 @@ use Rattle.nim_program.specs.Program.{Doing}
 use Rattle.nim_meaning.specs.Here.{is_hooked}
 use Rattle.nim_meaning.specs.LeftOut.{writes_literals}
 use Rattle.nim_meaning.specs.Shapes.{is_lent}
+use Rattle.nim_program.specs.declared.expr.Label.TheVariants as C
 use Rattle.flat_code.specs.declared.code.CodeProc.{CodeProc}
 use Rattle.flat_code.specs.declared.line.Line.{Line}
 use Rattle.flat_code.specs.declared.line.Line.TheVariants as L
@@ -52,7 +53,10 @@ module _ (known : Known) where
   -- texts are operands of `echo` alone, to which they are lent
   abbrev pub ReadsPlain : Line → Type 0
   ReadsPlain (L.Apply to operation how ty of from) = (writes_literals (Doing operation) ≡ true) ⊎ (any_has_hooks of ≡ false)
-  ReadsPlain (L.Constant to how ty pieces) = (is_one_text pieces ≡ false) ⊎ (is_lent how ≡ true)
+  ReadsPlain (L.Constant to how ty pieces) = (is_one_text pieces ≡ false) ⊎ (is_lent how.how ≡ true)
+  ReadsPlain (L.Fresh to from (Some node)) = ⊥
+  ReadsPlain (L.Fits from (C.Text text) to) = ⊥
+  ReadsPlain (L.Own what from) = ⊥
   ReadsPlain line = Unit {0}
 
   abbrev pub ReadPlain : List Line → Type 0

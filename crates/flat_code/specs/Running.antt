@@ -89,9 +89,9 @@ went m rest (Answers es n temps world) = Goes es n (onward m rest temps world)
 went m rest (Finishes es n status world) = Ends es n status (live world)
 went m rest (Fails es n world) = Errs
 
-abbrev pub jumped : {L : Type 0} → Machine L → Temps → Option (List L) → Next Event (Machine L)
-jumped m temps None = Faults
-jumped m temps (Some rest) = Goes [] 1 (onward m rest temps m.world)
+abbrev pub jumped : {L : Type 0} → Machine L → Temps → (work : ℕ) → Option (List L) → Next Event (Machine L)
+jumped m temps work None = Faults
+jumped m temps work (Some rest) = Goes [] work (onward m rest temps m.world)
 
 -- a trap writes its line to standard error, and ends the run with status 1
 abbrev pub traps : {L : Type 0} → World → (work : ℕ) → Trap → Next Event (Machine L)
@@ -140,9 +140,9 @@ returned m v work (w ∷ waiting) = Goes [] work (record {
 module _ {L : Type 0} (label_of : L → Option ℕ) (does : Scene → L → Did) (procs : List (Proc L)) where
   abbrev pub settled : Machine L → List L → Did → Next Event (Machine L)
   settled m rest (Passes done) = went m rest done
-  settled m rest (Leaps name) = jumped m m.now.temps (from_label label_of name rest)
+  settled m rest (Leaps name work) = jumped m m.now.temps work (from_label label_of name rest)
   settled m rest Enters = Goes [] 1 (onward m rest m.now.temps m.world)
-  settled m rest (Turns temps name) = jumped m temps (from_label label_of name m.now.whole)
+  settled m rest (Turns temps name) = jumped m temps 1 (from_label label_of name m.now.whole)
   settled m rest (Calls to proc slots work) = called m rest to slots work m.now.left (slice_get (callable procs) proc)
   settled m rest (Returns v work) = returned m v work m.waiting
   settled m rest scenes.Fails = Faults

@@ -1,5 +1,5 @@
 -- How much code there is, how many bytes the variables of a procedure take, and how many data: what passes bound.
-use Rattle.std.specs.Prelude.{ℕ, suc, ◌+◌, ◌*◌, pos, if◌then◌else◌, List, [], ◌∷◌, ◌++◌, length, map}
+use Rattle.std.specs.Prelude.{ℕ, suc, Bool, true, ◌+◌, ◌*◌, pos, if◌then◌else◌, List, [], ◌∷◌, ◌++◌, length, map}
 use Rattle.std.specs.Ordering.{int_eq}
 use Rattle.std.specs.Set.{unique_keys}
 use Rattle.nim_types.specs.Types.{same_text}
@@ -13,6 +13,10 @@ use Rattle.nim_program.specs.declared.program.Mode.TheVariants.{Plain, Sink, Var
 use Rattle.nim_program.specs.Sizes.{type_bytes}
 use Rattle.nim_program.specs.TextSizes.{all_bytes}
 use Rattle.flat_code.specs.declared.code.CodeProc.{CodeProc}
+use Rattle.nim_program.specs.declared.expr.Label.{Label}
+use Rattle.nim_program.specs.declared.expr.Label.TheVariants as C
+use Rattle.flat_code.specs.declared.line.Owning.{Owning}
+use Rattle.flat_code.specs.declared.line.Owning.TheVariants as W
 use Rattle.flat_code.specs.declared.line.Line.{Line}
 use Rattle.flat_code.specs.declared.line.Line.TheVariants as L
 use Rattle.flat_code.specs.declared.line.Piece.{Piece}
@@ -42,8 +46,13 @@ kind_bytes Location value = WORD_BYTES
 kind_bytes Within value = WORD_BYTES
 kind_bytes Counter value = WORD_BYTES
 
+-- what is lent to a plain parameter is a word
+abbrev pub lent_bytes : PlaceKind → (hooked : Bool) → (value : ℕ) → ℕ
+lent_bytes (Param Plain) true value = WORD_BYTES
+lent_bytes kind hooked value = kind_bytes kind value
+
 abbrev pub place_bytes : Known → FlatPlace → ℕ
-place_bytes known p = kind_bytes p.kind (type_bytes known.facts (type_at known.types p.ty))
+place_bytes known p = lent_bytes p.kind p.hooked (type_bytes known.facts (type_at known.types p.ty))
 
 -- the bytes of the variables of a procedure
 abbrev pub places_bytes : Known → List FlatPlace → ℕ
@@ -96,16 +105,31 @@ abbrev pub pieces_weight : List Piece → ℕ
 pieces_weight [] = 0
 pieces_weight (piece ∷ pieces) = piece_weight piece + pieces_weight pieces
 
+-- a label of a `case`: a text is compared by a routine
+abbrev pub label_weight : Label → ℕ
+label_weight (C.Ordinals low high) = 4
+label_weight (C.Text text) = 9
+
+-- what is owned: a hook is called with one or two addresses
+abbrev pub owning_weight : Owning → ℕ
+owning_weight (W.TakenUp node) = 1
+owning_weight (W.Waits node) = 1
+owning_weight (W.TemporaryEnds node ty) = 5
+owning_weight (W.PlaceEnds place ty) = 5
+owning_weight (W.PlaceCopies place ty) = 7
+owning_weight (W.PlaceStands place) = 1
+owning_weight (W.ResultGets place ty) = 7
+
 abbrev pub weight : Line → ℕ
 weight (L.Apply to operation how ty of from) = weight_of operation (length from)
 weight (L.Construct to how ty fields from) = clear_weight + move_weight * length from
 weight (L.Constant to how ty pieces) = clear_weight + pieces_weight pieces
 -- the test of how many calls are active, and the result
 weight (L.Call to how ty proc from) = 5 + move_weight + argument_weight * length from
-weight (L.Get to from how site ty) = move_weight
+weight (L.Get to from how ty) = move_weight
 weight (L.Look to from) = move_weight
 weight (L.Root to place global) = 1
-weight (L.Fresh to from) = 1
+weight (L.Fresh to from waits) = 1
 weight (L.Standing to ty pieces) = 1
 weight (L.Part to from field) = 2
 weight (L.Item to from index) = 6
@@ -115,6 +139,7 @@ weight (L.Truth to holds) = 1
 weight (L.Fill place from) = move_weight
 weight (L.Blank place ty) = clear_weight
 weight (L.Give place from) = move_weight
+weight (L.Own what from) = owning_weight what
 weight (L.Zero to) = 1
 weight (L.Length to from) = 1
 weight (L.Still from len) = 2
@@ -124,7 +149,7 @@ weight (L.Next counter last) = 1
 weight (L.Label name) = 1
 weight (L.Jump to) = 1
 weight (L.Unless from to) = 2
-weight (L.Fits from low high to) = 4
+weight (L.Fits from these to) = label_weight these
 weight L.Enter = 1
 weight (L.Turn to) = 1
 weight (L.TurnIf from to) = 2
@@ -145,6 +170,7 @@ pieces_texts (piece ∷ pieces) = piece_texts piece ++ pieces_texts pieces
 abbrev pub texts_in : Line → List (List ℕ)
 texts_in (L.Constant to how ty pieces) = pieces_texts pieces
 texts_in (L.Standing to ty pieces) = standing_bytes pieces ∷ pieces_texts pieces
+texts_in (L.Fits from (C.Text text) to) = text ∷ []
 texts_in line = []
 
 abbrev pub lines_texts : List Line → List (List ℕ)

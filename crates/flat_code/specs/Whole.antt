@@ -12,7 +12,7 @@ label_in line = None
 abbrev pub target : Line → Option ℕ
 target (Jump to) = Some to
 target (Unless from to) = Some to
-target (Fits from low high to) = Some to
+target (Fits from these to) = Some to
 target (Beyond counter last inclusive to) = Some to
 target line = None
 

@@ -4,6 +4,7 @@ ghost use Rattle.std.specs.Prelude.{◌≡◌, IfOk};
 use crate::line::{Line, Piece};
 use crate::owned::OwnedLine;
 use arc_base::{Bytes, Items, Memory};
+use nim_program::Label;
 use std::alloc::Global;
 
 /// A list of its own with these items.
@@ -47,6 +48,22 @@ fn pieces_copied(alloc: Global, pieces: &[Piece]) -> Result<Items<Piece>, Memory
     Ok(copy)
 }
 
+// The same label, with a text of its own.
+fn label_copied(alloc: Global, label: &Label) -> Result<Label, Memory>
+    ensures { IfOk result (λ copy. copy ≡ label.now) }
+{
+    match label {
+        Label::Ordinals { low, high } => Ok(Label::Ordinals {
+            low: *low,
+            high: *high,
+        }),
+        Label::Text(text) => {
+            let text = Bytes::from_slice(alloc, text.as_slice())?;
+            Ok(Label::Text(text))
+        }
+    }
+}
+
 // What a line holds, by its variants: numbers and the like alone; and behind these one list, or two.
 macro_rules! copy_of {
     ($line:expr, $alloc:expr;
@@ -62,6 +79,10 @@ macro_rules! copy_of {
                 let pieces = pieces_copied($alloc, pieces.as_slice())?;
                 Ok(Line::Constant { to: *to, how: *how, ty: *ty, pieces })
             }
+            Line::Fits { from, these, to } => {
+                let these = label_copied($alloc, these)?;
+                Ok(Line::Fits { from: *from, these, to: *to })
+            }
             Line::Standing { to, ty, pieces } => {
                 let pieces = pieces_copied($alloc, pieces.as_slice())?;
                 Ok(Line::Standing { to: *to, ty: *ty, pieces })
@@ -76,15 +97,15 @@ impl Line {
         ensures { IfOk result (λ line. line ≡ self.now) }
     {
         copy_of!(self, alloc;
-            Get { to, from, how, site, ty } Look { to, from } Root { to, place, global } Fresh { to, from }
+            Get { to, from, how, ty } Look { to, from } Root { to, place, global } Fresh { to, from, waits }
             Part { to, from, field } Item { to, from, index } Object { to, from } Pass { to, from, how, ty }
             Truth { to, value } Fill { place, from } Blank { place, ty } Give { place, from } Zero { to }
             Length { to, from } Still { from, length } Element { to, from, index }
             Beyond { counter, last, inclusive, to } Next { counter, last } Label { name } Jump { to }
-            Unless { from, to } Fits { from, low, high, to } Enter {} Turn { to } TurnIf { from, to }
+            Unless { from, to } Enter {} Turn { to } TurnIf { from, to }
             CountTurn { counter, last, inclusive, to } Return { result };
             Apply { to, operation, how, ty; of, from } Construct { to, how, ty; fields, from }
-            Call { to, how, ty, proc; from })
+            Call { to, how, ty, proc; from } Own { what; from })
     }
 }
 

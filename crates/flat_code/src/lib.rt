@@ -17,6 +17,6 @@ pub use copy::copied;
 pub use examples::{flat_examples, form_examples};
 pub use flat::Flat;
 pub use laws::{codes, weights};
-pub use line::{From, Line, Piece};
+pub use line::{From, Line, Owning, Piece, UseAt};
 pub use owned::{Owned, OwnedLine};
 pub use place::{FlatPlace, PlaceKind};

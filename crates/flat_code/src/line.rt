@@ -1,6 +1,6 @@
 // The lines that flat, owned and block code have in common: one operation a line.
 use arc_base::{Bytes, Items};
-use nim_program::{Operation, Use};
+use nim_program::{Label, Operation, Use};
 use nim_types::TypeId;
 
 /// A part of a constant's value. A value is its pieces one after another, parts before the whole.
@@ -25,6 +25,34 @@ pub enum From {
     Place(u32),
 }
 
+/// What the value of a line is for, and the node at which it waits if it does.
+#[derive(Clone, Copy)]
+pub struct UseAt {
+    pub how: Use,
+    pub node: u32,
+}
+
+/// What is done with a value that somebody owns, beside the rows of the table. A `node` is one of
+/// the call at which a value waits, a `place` one of the call, and `ty` the type of the value.
+#[derive(Clone, Copy)]
+pub enum Owning {
+    /// An operation takes the value that waits at a node, which is none any more.
+    TakenUp { node: u32 },
+    /// A call's value waits at a node.
+    Waits { node: u32 },
+    /// The value that waits at a node ends, if there is one.
+    TemporaryEnds { node: u32, ty: TypeId },
+    /// What a place holds ends; what it stands for is another's.
+    PlaceEnds { place: u32, ty: TypeId },
+    /// A place is filled with a copy of what stands at a location.
+    PlaceCopies { place: u32, ty: TypeId },
+    /// A place stands for a location.
+    PlaceStands { place: u32 },
+    /// The place of the result gets a value, or a copy of what stands at a location, in place of
+    /// what it holds, which ends.
+    ResultGets { place: u32, ty: TypeId },
+}
+
 /// A line of flat, owned and block code.
 ///
 /// Each call has temporaries of its own, by number: for values, and, apart from these, for
@@ -37,7 +65,7 @@ pub enum Line {
     Apply {
         to: u32,
         operation: Operation,
-        how: Use,
+        how: UseAt,
         ty: Option<TypeId>,
         of: Items<Option<TypeId>>,
         from: Items<From>,
@@ -45,7 +73,7 @@ pub enum Line {
     /// An object with these fields, and with the others at their defaults.
     Construct {
         to: u32,
-        how: Use,
+        how: UseAt,
         ty: TypeId,
         fields: Items<u32>,
         from: Items<From>,
@@ -53,24 +81,23 @@ pub enum Line {
     /// The value of a constant.
     Constant {
         to: u32,
-        how: Use,
+        how: UseAt,
         ty: TypeId,
         pieces: Items<Piece>,
     },
     /// Calls a procedure, by its number, whose result goes to a temporary.
     Call {
         to: u32,
-        how: Use,
+        how: UseAt,
         ty: Option<TypeId>,
         proc: u32,
         from: Items<From>,
     },
-    /// The value at a location, at a site by its number.
+    /// The value at a location, at a site, which is the node at which it waits if it does.
     Get {
         to: u32,
         from: u32,
-        how: Use,
-        site: u32,
+        how: UseAt,
         ty: Option<TypeId>,
     },
     /// The value at a location, in place.
@@ -84,10 +111,12 @@ pub enum Line {
         place: u32,
         global: bool,
     },
-    /// The location of a value that no place holds.
+    /// The location of a value that no place holds: the node at which it waits, or, of one that
+    /// nobody owns, its temporary.
     Fresh {
         to: u32,
         from: u32,
+        waits: Option<u32>,
     },
     /// The location of a constant, which stands in the data and is never written.
     Standing {
@@ -116,7 +145,7 @@ pub enum Line {
     Pass {
         to: u32,
         from: u32,
-        how: Use,
+        how: UseAt,
         ty: Option<TypeId>,
     },
     /// A bool, before an operator that stops early decides whether it is the value.
@@ -138,6 +167,11 @@ pub enum Line {
     Give {
         place: u32,
         from: u32,
+    },
+    /// Something is done with a value that somebody owns, with at most one operand.
+    Own {
+        what: Owning,
+        from: Items<From>,
     },
     /// The number 0.
     Zero {
@@ -185,11 +219,10 @@ pub enum Line {
         from: u32,
         to: u32,
     },
-    /// Goes on at a label behind where an ordinal is one of those from `low` to `high`.
+    /// Goes on at a label behind where a value is one of those of a label of a `case`.
     Fits {
         from: u32,
-        low: i32,
-        high: i32,
+        these: Label,
         to: u32,
     },
     /// The first turn of a loop begins.

@@ -1,8 +1,7 @@
 // Owned code: what the plan says at a site stands in the line, so it has no plan.
 use crate::code::Code;
-use crate::line::Line;
+use crate::line::{Line, UseAt};
 use nim_plan::Act;
-use nim_program::Use;
 use nim_types::TypeId;
 
 /// A line of owned code.
@@ -14,7 +13,7 @@ pub enum OwnedLine {
     Take {
         to: u32,
         from: u32,
-        how: Use,
+        how: UseAt,
         act: Option<Act>,
         ty: Option<TypeId>,
     },

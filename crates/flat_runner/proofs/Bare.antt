@@ -8,6 +8,7 @@ use Rattle.nim_types.specs.Types.{Ty, Facts}
 use Rattle.nim_types.specs.Forms.{Form}
 use Rattle.nim_plan.specs.declared.plan.Plan.{Plan}
 use Rattle.nim_program.specs.declared.operation.Operation.{Operation}
+use Rattle.nim_program.specs.declared.expr.Label.TheVariants as C
 use Rattle.nim_program.specs.declared.operation.Operation.TheVariants as O
 use Rattle.nim_program.specs.declared.operation.Use.{Use}
 use Rattle.nim_program.specs.declared.operation.Use.TheVariants as U
@@ -21,7 +22,7 @@ use Rattle.nim_meaning.specs.Here.{gives_hooked, any_hooked, form_for, act_at}
 use Rattle.nim_meaning.specs.LeftOut.{writes_literals}
 use Rattle.nim_meaning.specs.Meaning.{handed_by}
 use Rattle.nim_meaning.specs.OwnedRows.{owned}
-use Rattle.nim_meaning.specs.Places.{Destination, made_by, taken_by}
+use Rattle.nim_meaning.specs.Places.{Destination, made_by, taken_by, text_for}
 use Rattle.nim_meaning.specs.Shapes.{is_lent}
 use Rattle.nim_meaning.specs.Table.{acts, constant_for, does as operates, moved, operates as operates_by, with_fields}
 use Rattle.nim_meaning.specs.Deeds.{changed, with_block, Deed, Gives, Ends, Errs, Works, Says, Looks, Changes, Takes, branch}
@@ -107,11 +108,14 @@ constant_plain : (hooked : Bool) (f : Form) (n : ℕ) (v : Value) (to : Destinat
 constant_plain hooked f n v to w e = ap (λ b. bare_done (perform (costs 1 (costs n (constant_for b f v)) >>= made_by b to) w)) e
 
 -- a text that is lent stays what it is
-text_plain : (hooked : Bool) (f : Form) (n : ℕ) (t : List ℕ) (x : Scene) (how : Use) (to : ℕ) (w : World) → is_lent how ≡ true
-    → bare_done (perform (costs 1 (costs n (constant_for hooked f (Fixed t))) >>= made_by hooked (destination x how to)) w) ≡ Answers [] 0 (Fixed t) w
-text_plain false f n t x how to w e = refl
-text_plain true f n t x U.Lent to w e = refl
-text_plain true f n t x how to w e = absurd (false≢true e)
+lent_text : (how : Use) (to : Destination) (t : List ℕ) → is_lent how ≡ true → text_for how to t ≡ give (Fixed t)
+lent_text U.Lent to t e = refl
+lent_text how to t e = absurd (false≢true e)
+
+text_plain : (hooked : Bool) (f : Form) (n : ℕ) (t : List ℕ) (to : Destination) (w : World) → is_lent to.how ≡ true
+    → bare_done (perform (costs 1 (costs n (constant_for hooked f (Fixed t))) >>= made_by hooked to) w) ≡ Answers [] 0 (Fixed t) w
+text_plain false f n t to w e = refl
+text_plain true f n t to w e = ap (λ (deed : Deed Value). bare_done (perform (costs 1 (costs n deed)) w)) (lent_text to.how to t e)
 
 handed_plain : (facts : Facts) (to : Destination) (ty : Option Ty) (v : Value) (w : World) → gives_hooked facts ty ≡ false
     → bare_done (perform (costs 1 (handed_by facts to ty v)) w) ≡ Answers [] 0 v w
@@ -146,36 +150,39 @@ module _ (known : Known) where
       let ts = map (if_type known.types) of in
       all_same x.temps from _ _ (λ xs.
       let row = operates_by operation known.facts t ts xs in
-      gives_same x to (costs 1 row >>= made_by (gives_hooked known.facts t) (destination x how to)) (operates operation known.facts t ts xs)
-      (made_plain (costs 1 row) (gives_hooked known.facts t) (destination x how to) x.world h.0 ∙ works_bare 1 (perform row x.world)
+      gives_same x to (costs 1 row >>= made_by (gives_hooked known.facts t) (destination x how)) (operates operation known.facts t ts xs)
+      (made_plain (costs 1 row) (gives_hooked known.facts t) (destination x how) x.world h.0 ∙ works_bare 1 (perform row x.world)
       ∙ ap (λ d. bare_done (perform d x.world)) (operates_plain operation known.facts t ts xs h.0 h.1)))
   plain_line plan x (L.Construct to how ty fields from) h =
       let t = Some (type_at known.types ty) in
       all_same x.temps from _ _ (λ xs.
       let row = acts (Building fields) known.facts t [] xs in
-      gives_same x to (row >>= made_by (gives_hooked known.facts t) (destination x how to))
+      gives_same x to (row >>= made_by (gives_hooked known.facts t) (destination x how))
       (give (with_fields (default_of known.facts (type_at known.types ty)) fields (values_in xs)))
-      (made_plain row (gives_hooked known.facts t) (destination x how to) x.world h))
+      (made_plain row (gives_hooked known.facts t) (destination x how) x.world h))
   plain_line plan x (L.Constant to how ty pieces) (inl e) =
       let t = Some (type_at known.types ty) in
       gives_same x to
       (costs 1 (costs (pieces_bytes pieces) (constant_for (gives_hooked known.facts t) (form_for known.facts t) (value_of pieces)))
-      >>= made_by (gives_hooked known.facts t) (destination x how to)) (give (value_of pieces))
-      (constant_plain (gives_hooked known.facts t) (form_for known.facts t) (pieces_bytes pieces) (value_of pieces) (destination x how to) x.world e)
+      >>= made_by (gives_hooked known.facts t) (destination x how)) (give (value_of pieces))
+      (constant_plain (gives_hooked known.facts t) (form_for known.facts t) (pieces_bytes pieces) (value_of pieces) (destination x how) x.world e)
   plain_line plan x (L.Constant to how ty (P.Text text ∷ [])) (inr h) =
       let t = Some (type_at known.types ty) in
       gives_same x to
       (costs 1 (costs 0 (constant_for (gives_hooked known.facts t) (form_for known.facts t) (Fixed text)))
-      >>= made_by (gives_hooked known.facts t) (destination x how to)) (give (Fixed text))
-      (text_plain (gives_hooked known.facts t) (form_for known.facts t) 0 text x how to x.world h.1)
+      >>= made_by (gives_hooked known.facts t) (destination x how)) (give (Fixed text))
+      (text_plain (gives_hooked known.facts t) (form_for known.facts t) 0 text (destination x how) x.world h.1)
   plain_line plan x (L.Constant to how ty pieces) (inr h) = absurd (false≢true h.0)
-  plain_line plan x (L.Get to from how site ty) h =
+  plain_line plan x (L.Get to from how ty) h =
       ap (λ b. bare (using_place x.temps from (λ place location.
-      gives x to (taken_by b (form_for known.facts (if_type known.types ty)) (destination x how to) (act_at plan site) location)))) h
+      gives x to (taken_by b (form_for known.facts (if_type known.types ty)) (destination x how) (act_at plan how.node) location)))) h
   plain_line plan x (L.Pass to from how ty) h =
       using_same (x.temps.values from) _ _ (λ v.
-      gives_same x to (costs 1 (handed_by known.facts (destination x how to) (if_type known.types ty) v)) (give v)
-      (handed_plain known.facts (destination x how to) (if_type known.types ty) v x.world h))
+      gives_same x to (costs 1 (handed_by known.facts (destination x how) (if_type known.types ty) v)) (give v)
+      (handed_plain known.facts (destination x how) (if_type known.types ty) v x.world h))
+  plain_line plan x (L.Fresh to from (Some node)) h = absurd h
+  plain_line plan x (L.Fits from (C.Text text) to) h = absurd h
+  plain_line plan x (L.Own what from) h = absurd h
   plain_line plan x line h = refl
 
   -- a line of a procedure

@@ -82,10 +82,10 @@ module _ (types : List TypeDef) (plan : Plan) (flat : Code Line) where
   room true = most
   room false = 0
 
-  jumped_left : (m : Machine Line) (temps : Temps) (o : Option (List Line)) (n : ℕ) → ((rest : List Line) → o ≡ Some rest → length rest ≤ n)
-      → left_after (jumped m temps o) ≤ n + waiting_left m.waiting
-  jumped_left m temps None n h = omega arith
-  jumped_left m temps (Some rest) n h = omega (arith, h rest refl)
+  jumped_left : (m : Machine Line) (temps : Temps) (work : ℕ) (o : Option (List Line)) (n : ℕ) → ((rest : List Line) → o ≡ Some rest → length rest ≤ n)
+      → left_after (jumped m temps work o) ≤ n + waiting_left m.waiting
+  jumped_left m temps work None n h = omega arith
+  jumped_left m temps work (Some rest) n h = omega (arith, h rest refl)
 
   called_left : (m : Machine Line) (rest : List Line) (to : ℕ) (slots : List Slot) (work left : ℕ) (o : Option (Proc Line))
       → ((p : Proc Line) → o ≡ Some p → length p.lines ≤ most) → left_after (called m rest to slots work left o) ≤ most + (length rest + waiting_left m.waiting)
@@ -103,11 +103,11 @@ module _ (types : List TypeDef) (plan : Plan) (flat : Code Line) where
   settled_left m rest (Passes (Answers es n temps world)) whole = omega arith
   settled_left m rest (Passes (Finishes es n status world)) whole = omega arith
   settled_left m rest (Passes (Fails es n world)) whole = omega arith
-  settled_left m rest (Leaps name) whole =
-      omega (arith, jumped_left m m.now.temps (from_label label_in name rest) (length rest) (λ found e. found_within name rest found e))
+  settled_left m rest (Leaps name work) whole =
+      omega (arith, jumped_left m m.now.temps work (from_label label_in name rest) (length rest) (λ found e. found_within name rest found e))
   settled_left m rest Enters whole = omega arith
   settled_left m rest (Turns temps name) whole =
-      let h = jumped_left m temps (from_label label_in name m.now.whole) most (λ found e. omega (arith, found_within name m.now.whole found e, whole)) in
+      let h = jumped_left m temps 1 (from_label label_in name m.now.whole) most (λ found e. omega (arith, found_within name m.now.whole found e, whole)) in
       omega (arith, h)
   settled_left m rest (Calls to proc slots work) whole =
       called_left m rest to slots work m.now.left (slice_get (callable procs) proc) (λ p e. one_of_all known flat.procs proc p e)

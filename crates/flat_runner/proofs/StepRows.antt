@@ -61,15 +61,15 @@ module _ (types : List TypeDef) (plan : Plan) (flat : Code Line) where
   settled_past m rest (Passes (Answers es n t w)) = refl
   settled_past m rest (Passes (Finishes es n status w)) = refl
   settled_past m rest (Passes (DeedFails es n w)) = refl
-  settled_past m rest (Leaps name) = jump m.now.temps (from_label label_in name rest)
+  settled_past m rest (Leaps name work) = jump m.now.temps (from_label label_in name rest)
     where
-      jump : (t : Temps) (o : Option (List Line)) → bare_next (jumped m t o) ≡ bare_next (jumped (past m rest) t o)
+      jump : (t : Temps) (o : Option (List Line)) → bare_next (jumped m t work o) ≡ bare_next (jumped (past m rest) t 1 o)
       jump t None = refl
       jump t (Some lines) = refl
   settled_past m rest Enters = refl
   settled_past m rest (Turns t name) = jump (from_label label_in name m.now.whole)
     where
-      jump : (o : Option (List Line)) → bare_next (jumped m t o) ≡ bare_next (jumped (past m rest) t o)
+      jump : (o : Option (List Line)) → bare_next (jumped m t 1 o) ≡ bare_next (jumped (past m rest) t 1 o)
       jump None = refl
       jump (Some lines) = refl
   settled_past m rest (Calls to proc slots work) = call m.now.left (slice_get (callable (procs_of (known_in types) flat)) proc)
@@ -93,7 +93,7 @@ module _ (types : List TypeDef) (plan : Plan) (flat : Code Line) where
   spends_bare : (d : Did) → spends label_in (does (known_in types) plan) (procs_of (known_in types) flat) d
       ≡ spends label_in (does (known_in types) plan) (procs_of (known_in types) flat) (bare d)
   spends_bare (Passes done) = refl
-  spends_bare (Leaps name) = refl
+  spends_bare (Leaps name work) = refl
   spends_bare Enters = refl
   spends_bare (Turns t name) = refl
   spends_bare (Calls to proc slots work) = refl
@@ -154,7 +154,7 @@ label_at slice lines labels name at e h f =
     ∙ sym (subst (λ (l : List Line). from_label label_in name l ≡ option_map (λ i. drop i l) (held_in labels name)) e (h name))
 
 -- the temporaries of before don't matter to a jump
-pub jumps_same : (m : Machine Line) (t u : Temps) (o : Option (List Line)) → jumped (record m { now = record m.now { temps = u } }) t o ≡ jumped m t o
+pub jumps_same : (m : Machine Line) (t u : Temps) (o : Option (List Line)) → jumped (record m { now = record m.now { temps = u } }) t 1 o ≡ jumped m t 1 o
 jumps_same m t u None = refl
 jumps_same m t u (Some rest) = refl
 

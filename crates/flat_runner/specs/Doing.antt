@@ -12,6 +12,7 @@ use Rattle.nim_meaning.specs.Places.{place_at}
 use Rattle.nim_meaning.specs.State.{World, with_slot, store, world_of as first_world}
 use Rattle.nim_meaning.specs.Deeds.{Done, Answers, Finishes, Fails as DeedFails, give, perform}
 use Rattle.nim_meaning.specs.Table.{does as operates, with_fields}
+use Rattle.nim_program.specs.declared.expr.Label.TheVariants as C
 use Rattle.flat_code.specs.declared.line.From.{From}
 use Rattle.flat_code.specs.declared.line.Line.{Line}
 use Rattle.flat_code.specs.declared.line.Line.TheVariants as L
@@ -41,7 +42,7 @@ bare_done (DeedFails es n world) = DeedFails es 0 over
 
 abbrev pub bare : Did → Did
 bare (Passes done) = Passes (bare_done done)
-bare (Leaps label) = Leaps label
+bare (Leaps label work) = Leaps label 1
 bare Enters = Enters
 bare (Turns temps label) = Turns temps label
 bare (Calls to proc slots work) = Calls to proc slots 0
@@ -77,15 +78,18 @@ operated w x operation ty of from =
 
 -- ---- lines
 
--- what a line of plain code does, which has nothing to do with hooks
+-- What a line of plain code does, which has nothing to do with hooks. Lines that plain code has none of are at a fault.
 abbrev pub plainly : Known → Plan → Scene → Line → Did
 plainly known plan x (L.Apply to operation how ty of from) =
     using_all x.temps from (λ xs. gives x to (operates operation known.facts (if_type known.types ty) (map (if_type known.types) of) xs))
 plainly known plan x (L.Construct to how ty fields from) =
     using_all x.temps from (λ xs. gives x to (give (with_fields (default_of known.facts (type_at known.types ty)) fields (values_in xs))))
 plainly known plan x (L.Constant to how ty pieces) = gives x to (give (value_of_pieces pieces))
-plainly known plan x (L.Get to from how site ty) = does known plan x (L.Look to from)
+plainly known plan x (L.Get to from how ty) = does known plan x (L.Look to from)
 plainly known plan x (L.Pass to from how ty) = using (x.temps.values from) (λ v. gives x to (give v))
+plainly known plan x (L.Fresh to from (Some node)) = Fails
+plainly known plan x (L.Fits from (C.Text text) to) = Fails
+plainly known plan x (L.Own what from) = Fails
 plainly known plan x line = does known plan x line
 
 -- a call with slots of parameters
@@ -117,7 +121,7 @@ IsBrief x did B.Passes = did ≡ Passes (Answers [] 0 x.temps x.world)
 IsBrief x did (B.Number to z) = did ≡ Passes (Answers [] 0 (with_value to x.temps (Number z)) x.world)
 IsBrief x did (B.Root to level number) = did ≡ Passes (Answers [] 0 (with_place to x.temps (Located (place_at level number))) x.world)
 IsBrief x did (B.Stores to at z) = did ≡ Passes (Answers [] 0 (with_value to x.temps nothing) (store x.world (location_from x.temps at) (Number z)))
-IsBrief x did (B.Leaps label) = did ≡ Leaps label
+IsBrief x did (B.Leaps label) = did ≡ Leaps label 1
 IsBrief x did B.Enters = did ≡ Enters
 IsBrief x did (B.Turns label) = did ≡ Turns x.temps label
 IsBrief x did (B.Counts to z label) = did ≡ Turns (with_value to x.temps (Number z)) label

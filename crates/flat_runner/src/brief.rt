@@ -28,7 +28,7 @@ use crate::state::{Base, Slot, Where};
 use crate::temps::{number_at, place_at, value_at};
 use crate::value::{Found, Value, part};
 use flat_code::{From, Line};
-use nim_program::{Operation, Operator};
+use nim_program::{Label, Operation, Operator};
 use plain_values::{Trap, apply, calculate, compares};
 
 /// What such a line does.
@@ -272,13 +272,11 @@ fn jumps(x: &Here, line: &Line) -> Option<Brief>
                 Brief::Passes
             })
         }
-        Line::Fits {
-            from,
-            low,
-            high,
-            to,
-        } => {
+        Line::Fits { from, these, to } => {
             let Some(z) = number_at(x.temps, *from) else {
+                return Some(Brief::Fails);
+            };
+            let Label::Ordinals { low, high } = these else {
                 return Some(Brief::Fails);
             };
             Some(if *low <= z && z <= *high {

@@ -103,8 +103,8 @@ fn paths(x: &Here, line: &Line) -> Result<Did, Memory>
             let place = root(x.alloc, x.frames, level, *place)?;
             Ok(Did::Leads(*to, place))
         }
-        Line::Fresh { to, from } => {
-            if value_at(x.temps, *from).is_none() {
+        Line::Fresh { to, from, waits } => {
+            if waits.is_some() || value_at(x.temps, *from).is_none() {
                 return Ok(Did::Fails);
             }
             let place = Where::Within {
@@ -271,6 +271,7 @@ fn makes(x: &Here, line: &Line) -> Result<Did, Memory>
             let v = start_of(x.alloc, x.types, x.declared, *ty)?;
             Ok(Did::Fills(*place, v))
         }
+        Line::Own { .. } => Ok(Did::Fails),
         // The others are brief.
         _ => Err(Memory),
     }

@@ -156,7 +156,7 @@ fn put_number(temps: &mut Temps, frames: &mut Vec<Frame>, to: u32, at: Option<Fr
 fn go_to(run: &mut Run, at: Option<usize>) -> Went
     ensures next { (flat : Code Line) (w : World) (rest : Option (List Line)) →
         option_map (λ i. drop i (lines_at flat run.old.now.proc)) at ≡ rest →
-        NextIs (jumped (machine_is flat w run.old) (temps_is run.old.now.temps) rest) (step_of result)
+        NextIs (jumped (machine_is flat w run.old) (temps_is run.old.now.temps) 1 rest) (step_of result)
         (machine_is flat w run.new) }
     ensures units { run.new.units ≡ run.old.units }
 {
@@ -174,7 +174,7 @@ fn go_to(run: &mut Run, at: Option<usize>) -> Went
 fn turn(run: &mut Run, at: Option<usize>) -> Went
     ensures { (flat : Code Line) (w : World) (rest : Option (List Line)) →
         option_map (λ i. drop i (lines_at flat run.old.now.proc)) at ≡ rest → Settled
-        (jumped (machine_is flat w run.old) (temps_is run.old.now.temps) rest)
+        (jumped (machine_is flat w run.old) (temps_is run.old.now.temps) 1 rest)
         (less_one run.old.units) (step_of result) (machine_is flat w run.new) run.new.units }
 {
     if spend(&mut run.units) {

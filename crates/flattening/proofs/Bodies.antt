@@ -1,105 +1,106 @@
--- Flat code of a body follows the body, up to where it returns.
-use Rattle.std.proofs.Common.{◌≡◌, ℕ, ◌<◌, Bool, true, false, List, [], ◌∷◌, Option, refl}
+-- Flat code of a body follows the body, up to where its parameters end and it returns.
+use Rattle.std.proofs.Common.{◌≡◌, ℕ, ◌<◌, Bool, true, false, List, [], ◌∷◌, Option, Some, None, refl, subst}
 use Rattle.std.specs.Prelude.{◌-◌}
 use Rattle.std.proofs.lemmas.Bool.{false≢true}
-use Rattle.nim_program.specs.Program.{Declared, Body}
+use Rattle.nim_types.specs.Types.{Ty}
+use Rattle.nim_program.specs.Program.{Declared, Param, Body}
 use Rattle.nim_meaning.specs.State.{World, State}
 use Rattle.nim_meaning.specs.Acts.{Broke, Continued, Returned, Raised, Outcome, On, Out}
-use Rattle.nim_meaning.specs.Here.{is_hooked}
-use Rattle.nim_meaning.specs.Runs.{is_plain_block}
 use Rattle.nim_meaning.specs.Meaning.{exec_all}
 use Rattle.flat_code.specs.declared.line.Line.{Line}
 use Rattle.flat_code.specs.declared.line.Line.TheVariants as L
 use Rattle.flat_code.specs.Scene.{Temps, no_temps}
 use Rattle.flat_code.specs.Running.{Waiting}
-use Rattle.flattening.specs.StmtLines.{outermost as no_loop, returned, number_of, body_lines}
+use Rattle.flattening.specs.StmtLines.{Exits, outermost as no_loop, param_ends, number_of, body_lines}
 use Rattle.flattening.specs.Flattened.{modes_of}
-use Rattle.flattening.specs.Formed.{AtFirst, BodyFormed}
+use Rattle.flattening.specs.Formed.{Scope, AtFirst, ResultFormed, BodyFormed}
 use Rattle.flattening.proofs.Runs.{Fixed, M, Runs}
 use Rattle.flattening.proofs.Worlds.{Since}
-use Rattle.flattening.proofs.Puts.{puts_none, puts_line, is_empty}
-use Rattle.flattening.proofs.PutsParts.{PutsExits, puts_stmts}
+use Rattle.flattening.proofs.Puts.{Puts, puts_none, puts_line, is_empty, ◌>>◌}
 use Rattle.flattening.proofs.Spots.{Spot, here_of, there, weaker}
 use Rattle.flattening.proofs.Standing.{grounded, Stands}
 use Rattle.flattening.proofs.Acting.{CallsFollow}
-use Rattle.flattening.proofs.Leaving.{Around, Left}
+use Rattle.flattening.proofs.Leaving.{PutsExits, Around, Left, puts_place_end}
+use Rattle.flattening.proofs.PutsStmts.{puts_stmts}
+use Rattle.flattening.proofs.Stmts.{IsListedResult}
 use Rattle.flattening.proofs.Executing.{block_follows}
 
 -- where a call of a body stands
-abbrev pub spot_of : Fixed → Body → (level left : ℕ) → List (Waiting Line) → Spot
-spot_of x body level left waiting = record {
+abbrev pub spot_of : Fixed → List Param → Body → (level left : ℕ) → List (Waiting Line) → Spot
+spot_of x params body level left waiting = record {
   fixed = x;
-  whole = body_lines x.program.types (modes_of x.program x.plan) body;
+  whole = body_lines x.program.types x.program.facts (modes_of x.program x.plan) params body;
   level = level;
   left = left;
   waiting = waiting;
   result = body.result;
 }
 
--- before a line that returns
-pub record ReturnsAt (c : Spot) (old new : World) (m : M) : Type 0 where
+-- before the lines by which parameters end, and the one that returns
+abbrev pub ends_of : Spot → List Param → List Line → List Line
+ends_of c params k = param_ends c.fixed.program.types c.fixed.program.facts params (L.Return (number_of c.result) ∷ k)
+
+pub record ReturnsAt (c : Spot) (params : List Param) (old new : World) (m : M) : Type 0 where
   pub k : List Line
   pub now : Temps
-  pub is : m ≡ there c (L.Return (number_of c.result) ∷ k) now new
+  pub is : m ≡ there c (ends_of c params k) now new
   pub since : Since c.level old new
 
 -- however control left the body
-abbrev pub Back : (c : Spot) → World → Outcome (Unit {0}) → State → M → Type 0
-Back c old (On done) b m = ReturnsAt c old b.world m
-Back c old (Out (Broke by)) b m = ReturnsAt c old b.world m
-Back c old (Out (Continued by)) b m = ReturnsAt c old b.world m
-Back c old (Out (Returned by)) b m = ReturnsAt c old b.world m
-Back c old (Out (Raised exception by)) b m = ⊥
+abbrev pub Back : (c : Spot) → List Param → World → Outcome (Unit {0}) → State → M → Type 0
+Back c params old (Out (Raised exception by)) b m = ⊥
+Back c params old flow b m = ReturnsAt c params old b.world m
 
 abbrev pub room_of : Body → ℕ → Type 0
 room_of body place = place - body.first < body.places
 
-pub puts_no_loop : (result : Option Declared) → PutsExits (no_loop result)
-puts_no_loop result = record { breaks = puts_none; continues = puts_none; returns = puts_line (L.Return (number_of result)) refl }
+pub puts_params : (c : Spot) (params : List Param) (lo hi : ℕ) → Puts lo hi (param_ends c.fixed.program.types c.fixed.program.facts params)
+puts_params c [] lo hi = puts_none
+puts_params c (param ∷ params) lo hi = puts_params c params lo hi >> puts_place_end c param.place lo hi
 
--- it has lines
-pub some_lines : (x : Fixed) (body : Body) → is_empty (body_lines x.program.types (modes_of x.program x.plan) body) ≡ false
-some_lines x body =
-    (puts_stmts x.program.types (modes_of x.program x.plan) body.result body.stmts (no_loop body.result) 0 (puts_no_loop body.result)).some
-    (returned body.result []) refl
+pub result_listed : (types : List Ty) (Open : Scope) (result : Option Declared) → ResultFormed types Open result → IsListedResult types result
+result_listed types Open None f = f
+result_listed types Open (Some place) f = f.1
 
-module _ (x : Fixed) (body : Body) (level left : ℕ) (waiting : List (Waiting Line)) where
+pub result_among : (types : List Ty) (Open : Scope) (result : Option Declared) → ResultFormed types Open result → (place : Declared) →
+    result ≡ Some place → Open false place.number
+result_among types Open result f place e = (subst (λ r. ResultFormed types Open r) e f).0
+
+module _ (x : Fixed) (params : List Param) (body : Body) (level left : ℕ) (waiting : List (Waiting Line)) where
   abbrev c : Spot
-  c = spot_of x body level left waiting
+  c = spot_of x params body level left waiting
 
-  last_line : List Line
-  last_line = L.Return (number_of body.result) ∷ []
+  abbrev exits : Exits
+  exits = no_loop (ends_of c params)
 
-  abbrev nothing_around : Around c (no_loop body.result) false
-  nothing_around = record {
-    break_at = 0;
-    continue_at = 0;
-    break_to = L.Return (number_of body.result) ∷ [];
-    continue_to = L.Return (number_of body.result) ∷ [];
-    breaks = λ is. absurd (false≢true is);
-    continues = λ is. absurd (false≢true is);
-    returns = λ k. refl;
-    puts = puts_no_loop body.result;
-  }
+  puts_exits : PutsExits exits
+  puts_exits = record { breaks = puts_none; continues = puts_none; returns = puts_params c params _ _ >> puts_line (L.Return (number_of body.result)) refl }
+
+  -- it has lines
+  pub some_lines : is_empty c.whole ≡ false
+  some_lines =
+      (puts_stmts x.program.types x.program.facts (modes_of x.program x.plan) body.result body.stmts exits 0 puts_exits).some (ends_of c params [])
+      ((puts_params c params 0 0).some (L.Return (number_of body.result) ∷ []) refl)
+
+  abbrev nothing_around : Around c exits false
+  nothing_around = record { break_at = 0; continue_at = 0; break_to = []; continue_to = []; puts = puts_exits }
 
   returns_at : (lo hi : ℕ) (temps : Temps) (world : World) (flow : Outcome (Unit {0})) (b : State) (m : M) →
-      Left c nothing_around (L.Return (number_of body.result) ∷ []) lo hi temps world flow b m → Back c world flow b m
+      Left c nothing_around (ends_of c params []) lo hi temps world flow b m → Back c params world flow b m
   returns_at lo hi temps world (On done) b m g = record { k = []; now = g.now; is = g.is; since = g.since }
-  returns_at lo hi temps world (Out (Broke by)) b m g = record { k = []; now = g.now; is = g.is; since = g.since }
-  returns_at lo hi temps world (Out (Continued by)) b m g = record { k = []; now = g.now; is = g.is; since = g.since }
+  returns_at lo hi temps world (Out (Broke by)) b m g = absurd (false≢true g.2)
+  returns_at lo hi temps world (Out (Continued by)) b m g = absurd (false≢true g.2)
   returns_at lo hi temps world (Out (Returned by)) b m g = record { k = g.0; now = g.1.now; is = g.1.is; since = g.1.since }
   returns_at lo hi temps world (Out (Raised exception by)) b m g = absurd g
 
-  pub body_follows : (top : Bool) (names : (proc place : ℕ) → Type 0) (params : ℕ) (named : ℕ → Type 0) → CallsFollow c names → (top ≡ true → level ≡ 0) →
-      BodyFormed (grounded c top (room_of body) names) (AtFirst params named body) body → is_plain_block (is_hooked x.program.facts) body.stmts ≡ true →
-      (s : State) →
-      Stands c (room_of body) (AtFirst params named body) s.world →
-      Runs x (Back c s.world) 0 0 (there c c.whole no_temps s.world) s.meter
-      (exec_all body.stmts (here_of c) s)
-  body_follows top names params named calls outermost f p s h =
+  pub body_follows : (top : Bool) (names : (proc place : ℕ) → Type 0) (many : ℕ) (named : ℕ → Type 0) → CallsFollow c names →
+      (top ≡ true → level ≡ 0) → BodyFormed (grounded c top (room_of body) names) (AtFirst many named body) params body → (s : State) →
+      Stands c (room_of body) (AtFirst many named body) s.world →
+      Runs x (Back c params s.world) 0 0 (there c c.whole no_temps s.world) s.meter (exec_all body.stmts (here_of c) s)
+  body_follows top names many named calls outermost f s h =
       weaker c
-      (block_follows c top (room_of body) names calls outermost body.stmts false (AtFirst params named body) f.1 p (no_loop body.result) nothing_around 0
-      (L.Return (number_of body.result) ∷ [])
+      (block_follows c top (room_of body) names calls outermost (result_listed x.program.types (AtFirst many named body) body.result f.0) body.stmts false
+      (AtFirst many named body) f.2 exits nothing_around 0 (ends_of c params [])
       (record {
         breaks = λ is. absurd (false≢true is);
         continues = λ is. absurd (false≢true is);

@@ -1,7 +1,6 @@
 -- Flat code follows the statement `if`.
-use Rattle.std.proofs.Common.{◌≡◌, ℕ, suc, ◌+◌, ◌*◌, ◌<◌, Bool, true, false, List, ◌∷◌, Some, refl, sym, subst, ◌∙◌, arith}
-use Rattle.std.proofs.lemmas.Bool.{and_parts}
-use Rattle.nim_types.specs.Types.{Ty}
+use Rattle.std.proofs.Common.{◌≡◌, ℕ, suc, ◌+◌, ◌*◌, ◌<◌, Bool, true, false, List, ◌∷◌, Some, refl, ◌∙◌, arith}
+use Rattle.nim_types.specs.Types.{Ty, Facts}
 use Rattle.nim_program.specs.declared.expr.Node.{Node}
 use Rattle.nim_program.specs.declared.operation.Use.TheVariants.{Owned}
 use Rattle.nim_program.specs.declared.program.Mode.{Mode}
@@ -11,10 +10,10 @@ use Rattle.nim_meaning.specs.Values.{Value, number_of}
 use Rattle.nim_meaning.specs.State.{State}
 use Rattle.nim_meaning.specs.ActTree.{Asks, Decides, Begins}
 use Rattle.nim_meaning.specs.Ways.{At as Point}
-use Rattle.nim_meaning.specs.Acts.{Does, branch, worked, with_trail, ◌>>=◌}
-use Rattle.nim_meaning.specs.Here.{Here, is_hooked}
-use Rattle.nim_meaning.specs.Runs.{is_plain_value, are_plain, is_plain_block, are_plain_blocks}
-use Rattle.nim_meaning.specs.Meaning.{at_node, eval, exec_all, first_block}
+use Rattle.nim_meaning.specs.Acts.{Does, branch, worked, with_trail}
+use Rattle.nim_meaning.specs.Here.{Here}
+use Rattle.nim_meaning.specs.Waiting.{waiting}
+use Rattle.nim_meaning.specs.Meaning.{exec_all, first_block}
 use Rattle.flat_code.specs.declared.line.Line.{Line}
 use Rattle.flat_code.specs.declared.line.Line.TheVariants as L
 use Rattle.flat_code.specs.Scene.{Temps}
@@ -28,19 +27,22 @@ use Rattle.flattening.proofs.Worlds.{since_none}
 use Rattle.flattening.proofs.Temps.{kept_none, kept_wide}
 use Rattle.flattening.proofs.Puts.{Puts, found, found_here, puts_none, puts_line, puts_label, puts_wide, ◌>>◌}
 use Rattle.flattening.proofs.PutsParts.{puts_expr}
-use Rattle.flattening.proofs.PutsParts.{puts_stmts, puts_branches}
+use Rattle.flattening.proofs.PutsStmts.{puts_stmts, puts_branches}
 use Rattle.flattening.proofs.Spots.{Spot, here_of, there, after, goes, leaps}
 use Rattle.flattening.proofs.Standing.{grounded, Stands, stands_since}
-use Rattle.flattening.proofs.Groups.{value_alone}
 use Rattle.flattening.proofs.Acting.{CallsFollow}
 use Rattle.flattening.proofs.Choices.{unless_is}
-use Rattle.flattening.proofs.Evaluating.{expr_follows}
-use Rattle.flattening.proofs.Leaving.{Around, Reaches, reaches, reaches_later, Leads, leads_on, Left, further_left, rejoin, stays}
-use Rattle.flattening.proofs.Stmts.{StmtFollows, BlockFollows}
+use Rattle.flattening.proofs.Exprs.{expr_follows}
+use Rattle.flattening.proofs.Groups.{alone_follows, waits_listed}
+use Rattle.flattening.proofs.Leaving.{puts_ends, Around, Reaches, reaches, reaches_later, Leads, leads_on, Left, further_left, rejoin, stays}
+use Rattle.flattening.proofs.Stmts.{IsListedResult, StmtFollows, BlockFollows}
 use Rattle.flattening.proofs.Widths.{some_width, width_of_blocks, turn_width}
 
 module _ (c : Spot) (top : Bool) (room : ℕ → Type 0) (names : (proc place : ℕ) → Type 0) (calls : CallsFollow c names)
-    (outermost : top ≡ true → c.level ≡ 0) where
+    (outermost : top ≡ true → c.level ≡ 0) (gives_listed : IsListedResult c.fixed.program.types c.result) where
+  abbrev facts : Facts
+  facts = c.fixed.program.facts
+
   abbrev types : List Ty
   types = c.fixed.program.types
 
@@ -50,55 +52,44 @@ module _ (c : Spot) (top : Bool) (room : ℕ → Type 0) (names : (proc place : 
   abbrev here : Here
   here = here_of c
 
-  abbrev hooked : Ty → Bool
-  hooked = is_hooked c.fixed.program.facts
-
   abbrev Follows : Stmts → Type 1
-  Follows block = BlockFollows c top room names calls outermost block
+  Follows block = BlockFollows c top room names calls outermost gives_listed block
 
   -- the block behind the first condition that holds, up to where the whole ends
   abbrev pub BranchesFollow : (tests : Args) (blocks : Blocks) → Type 1
   BranchesFollow tests blocks = (inside : Bool) (Open : Scope) → AllFormed (grounded c top room names) Open tests →
-      BlocksFormed (grounded c top room names) inside Open blocks → are_plain hooked false tests ≡ true → are_plain_blocks hooked blocks ≡ true →
-      (exits : Exits) (around : Around c exits inside) (t n : ℕ) → t < n → (k : List Line) →
-      Reaches around n (L.Label (label End t) ∷ k) → Leads c n (branch_lines types modes c.result tests blocks exits t n (L.Label (label End t) ∷ k)) →
+      BlocksFormed (grounded c top room names) inside Open blocks → (exits : Exits) (around : Around c exits inside) (t n : ℕ) → t < n → (k : List Line) →
+      Reaches around n (L.Label (label End t) ∷ k) → Leads c n (branch_lines types facts modes c.result tests blocks exits t n (L.Label (label End t) ∷ k)) →
       (temps : Temps)
       (s : State) → Stands c room Open s.world →
       Runs c.fixed (Left c around (L.Label (label End t) ∷ k) n (n + (widths tests + width_of_blocks blocks)) temps s.world) 12 1
-      (there c (branch_lines types modes c.result tests blocks exits t n (L.Label (label End t) ∷ k)) temps s.world) s.meter (first_block tests blocks here s)
+      (there c (branch_lines types facts modes c.result tests blocks exits t n (L.Label (label End t) ∷ k)) temps s.world) s.meter
+      (first_block tests blocks here s)
 
   pub otherwise : (block : Stmts) → Follows block → BranchesFollow NoArg (Otherwise block)
-  otherwise block follows inside Open f g p q exits around t n less k r l temps s h =
+  otherwise block follows inside Open f g exits around t n less k r l temps s h =
       spares 0 0 (omega arith) (omega arith)
       (further_left c around {lo' = n} {hi' = n + width_of block} (omega arith) (omega arith) (kept_none n _ temps) (since_none c.level s.world)
-      (follows inside Open g q exits around n (L.Label (label End t) ∷ k) r l temps s h))
+      (follows inside Open g exits around n (L.Label (label End t) ∷ k) r l temps s h))
 
   pub block_alone : (first : Stmts) (rest : Blocks) → Follows first → BranchesFollow NoArg (Block first rest)
-  block_alone first rest follows inside Open f g p q exits around t n less k r l temps s h =
+  block_alone first rest follows inside Open f g exits around t n less k r l temps s h =
       spares 0 0 (omega arith) (omega arith)
       (further_left c around {lo' = n} {hi' = n + width_of first} (omega arith) (omega arith) (kept_none n _ temps) (since_none c.level s.world)
-      (follows inside Open g.0 (and_parts (is_plain_block hooked first) (are_plain_blocks hooked rest) q).0 exits around n (L.Label (label End t) ∷ k) r l
-      temps s h))
+      (follows inside Open g.0 exits around n (L.Label (label End t) ∷ k) r l temps s h))
 
   pub no_test : (path : Path) (tests : Args) (blocks : Blocks) → BranchesFollow (ByPath path tests) blocks
-  no_test path tests blocks inside Open f g p q exits around t n less k r l temps s h =
+  no_test path tests blocks inside Open f g exits around t n less k r l temps s h =
       stays c around s temps (omega arith) (kept_none n _ temps) (since_none c.level s.world)
 
   pub no_block : (condition : Expr) (tests : Args) (block : Stmts) → BranchesFollow (ByValue condition tests) (Otherwise block)
-  no_block condition tests block inside Open f g p q exits around t n less k r l temps s h =
+  no_block condition tests block inside Open f g exits around t n less k r l temps s h =
       stays c around s temps (omega arith) (kept_none n _ temps) (since_none c.level s.world)
 
   module _ (condition : Expr) (tests : Args) (first : Stmts) (rest : Blocks) (follows : Follows first) (more : BranchesFollow tests rest) (inside : Bool)
       (Open : Scope)
       (f : AllFormed (grounded c top room names) Open (ByValue condition tests)) (g : BlocksFormed (grounded c top room names) inside Open (Block first rest))
-      (p : are_plain hooked false (ByValue condition tests) ≡ true) (q : are_plain_blocks hooked (Block first rest) ≡ true) (exits : Exits)
-      (around : Around c exits inside) (t n : ℕ) (less : t < n) (k : List Line) (r : Reaches around n (L.Label (label End t) ∷ k)) where
-    plain_tests : (is_plain_value hooked condition ≡ true) × (are_plain hooked false tests ≡ true)
-    plain_tests = and_parts (is_plain_value hooked condition) (are_plain hooked false tests) p
-
-    plain_blocks : (is_plain_block hooked first ≡ true) × (are_plain_blocks hooked rest ≡ true)
-    plain_blocks = and_parts (is_plain_block hooked first) (are_plain_blocks hooked rest) q
-
+      (exits : Exits) (around : Around c exits inside) (t n : ℕ) (less : t < n) (k : List Line) (r : Reaches around n (L.Label (label End t) ∷ k)) where
     abbrev n2 : ℕ
     n2 = n + width condition
 
@@ -112,20 +103,20 @@ module _ (c : Spot) (top : Bool) (room : ℕ → Type 0) (names : (proc place : 
     ending = L.Label (label End t) ∷ k
 
     abbrev others : List Line
-    others = branch_lines types modes c.result tests rest exits t n3 ending
+    others = branch_lines types facts modes c.result tests rest exits t n3 ending
 
     abbrev behind : List Line
     behind = L.Jump (label End t) ∷ L.Label (label Arm n) ∷ others
 
     abbrev block_lines : List Line
-    block_lines = lines_of types modes c.result first exits n2 behind
+    block_lines = lines_of types facts modes c.result first exits n2 behind
 
     puts_others : Puts (4 * n) (4 * (n3 + (widths tests + width_of_blocks rest)))
-        (λ k. L.Label (label Arm n) ∷ branch_lines types modes c.result tests rest exits t n3 k)
+        (λ k. L.Label (label Arm n) ∷ branch_lines types facts modes c.result tests rest exits t n3 k)
     puts_others =
         let w = some_width condition in
         puts_label (label Arm n) (omega arith) (omega (arith, w))
-        >> puts_wide (omega arith) (omega arith) (puts_branches types modes c.result tests rest exits t n3 around.puts)
+        >> puts_wide (omega arith) (omega arith) (puts_branches types facts modes c.result tests rest exits t n3 around.puts)
 
     end_is_found : found (label End t) (L.Label (label Arm n) ∷ others) ≡ Some ending
     end_is_found = puts_others.skips (label End t) ending (λ le. absurd (omega (arith, le, less))) ∙ found_here (label End t) k
@@ -133,20 +124,21 @@ module _ (c : Spot) (top : Bool) (room : ℕ → Type 0) (names : (proc place : 
     arm_is_found : found (label Arm n) block_lines ≡ Some (L.Label (label Arm n) ∷ others)
     arm_is_found =
         let w = some_width condition in
-        (puts_stmts types modes c.result first exits n2 around.puts).skips (label Arm n) behind (λ le. absurd (omega (arith, le, w))) ∙ found_here
+        (puts_stmts types facts modes c.result first exits n2 around.puts).skips (label Arm n) behind (λ le. absurd (omega (arith, le, w))) ∙ found_here
         (label Arm n) others
 
-    module _ (l : Leads c n (branch_lines types modes c.result (ByValue condition tests) (Block first rest) exits t n ending)) where
+    module _ (l : Leads c n (branch_lines types facts modes c.result (ByValue condition tests) (Block first rest) exits t n ending)) where
       block_leads : Leads c n2 block_lines
       block_leads =
           leads_on {lo = 0} {hi = 4 * n2} (omega arith) (omega arith)
-          (puts_wide (omega arith) (omega arith) (puts_expr types modes condition Owned n) >> puts_line (L.Unless n (label Arm n)) refl) l
+          (puts_wide (omega arith) (omega arith) (puts_expr types facts modes condition Owned n)
+          >> (puts_ends c (waiting facts modes condition Owned) 0 (4 * n2) >> puts_line (L.Unless n (label Arm n)) refl)) l
 
       others_lead : Leads c n3 others
       others_lead =
           let w = some_width condition in
           leads_on {lo = 0} {hi = 4 * n3} (omega arith) (omega arith)
-          (puts_wide {lo = 0} {hi = 4 * n3} (omega arith) (omega arith) (puts_stmts types modes c.result first exits n2 around.puts)
+          (puts_wide {lo = 0} {hi = 4 * n3} (omega arith) (omega arith) (puts_stmts types facts modes c.result first exits n2 around.puts)
           >> (puts_line (L.Jump (label End t)) refl >> puts_label (label Arm n) (omega arith) (omega (arith, w)))) block_leads
 
       chosen : (b : Bool) (x : Value) (now : Temps) (d : State) → is_true (number_of x) ≡ b → now.values n ≡ Some x → Stands c room Open d.world →
@@ -156,48 +148,39 @@ module _ (c : Spot) (top : Bool) (room : ℕ → Type 0) (names : (proc place : 
           goes c 13 1 (omega arith) (unless_is c now d.world n (label Arm n) x true has is)
           (rejoin c around {lo' = n2} {hi' = n3} 13 (omega arith) (omega arith) (omega arith) (omega arith) (omega arith) (kept_none n hi now)
           (since_none c.level d.world)
-          (follows inside Open g.0 plain_blocks.0 exits around n2 behind (reaches (omega arith) (omega arith)
+          (follows inside Open g.0 exits around n2 behind (reaches (omega arith) (omega arith)
           (puts_line (L.Jump (label End t)) refl >> puts_others) r) block_leads now d h)
-          (λ b last kept since. leaps c 12 (label End t) (omega arith) refl end_is_found (stays c around b last (omega arith) kept since)))
+          (λ b last kept since. leaps c 12 (label End t) 1 (omega arith) refl end_is_found (stays c around b last (omega arith) kept since)))
       chosen false x now d is has h =
-          leaps c 13 (label Arm n) (omega arith) (unless_is c now d.world n (label Arm n) x false has is) arm_is_found
+          leaps c 13 (label Arm n) 1 (omega arith) (unless_is c now d.world n (label Arm n) x false has is) arm_is_found
           (goes c 12 1 (omega arith) refl
           (further_left c around (omega arith) (omega arith) (kept_none n hi now) (since_none c.level d.world)
-          (more inside Open f.1 g.1 plain_tests.1 plain_blocks.1 exits around t n3 (omega (arith, less)) k (reaches_later (omega arith) r) others_lead
-          now d h)))
+          (more inside Open f.1 g.1 exits around t n3 (omega (arith, less)) k (reaches_later (omega arith) r) others_lead now d h)))
 
   pub a_branch : (condition : Expr) (tests : Args) (first : Stmts) (rest : Blocks) → Follows first → BranchesFollow tests rest →
       BranchesFollow (ByValue condition tests) (Block first rest)
-  a_branch condition tests first rest follows more inside Open f g p q exits around t n less k r l temps s h =
+  a_branch condition tests first rest follows more inside Open f g exits around t n less k r l temps s h =
       let number = (node_of condition).number in
-      let block = block_lines condition tests first rest follows more inside Open f g p q exits around t n less k r in
-      let top_of = hi condition tests first rest follows more inside Open f g p q exits around t n less k r in
-      let plain = (and_parts (is_plain_value hooked condition) (are_plain hooked false tests) p).0 in
-      let chooses : Value → Does (Unit {0}) =
-      λ x. at_node number Decides (branch {A = Does (Unit {0})} (is_true (number_of x)) (exec_all first here) (first_block tests rest here)) in
-      subst (λ (test : Does Value). Runs c.fixed (Left c around (L.Label (label End t) ∷ k) n top_of temps s.world) 12 1
-      (there c (branch_lines types modes c.result (ByValue condition tests) (Block first rest) exits t n (L.Label (label End t) ∷ k)) temps s.world) s.meter
-      ((at_node number Asks test >>= chooses) s)) (sym (value_alone here condition Owned (eval condition Owned here) plain))
-      (after 14 (omega arith) (omega arith)
-      (expr_follows c top room names Open calls condition f.0 plain Owned n (L.Unless n (label Arm n) ∷ block) temps
-      (with_trail (Point number Asks ∷ s.trail) s) h)
+      let block = block_lines condition tests first rest follows more inside Open f g exits around t n less k r in
+      after 14 (omega arith) (omega arith)
+      (alone_follows c top room names Open condition Owned (waits_listed c top room names Open condition Owned f.0)
+      (expr_follows c top room names Open calls condition f.0) n (L.Unless n (label Arm n) ∷ block) temps (with_trail (Point number Asks ∷ s.trail) s) h)
       (λ x b now comes kept since.
-      further_left c around {lo' = n} {hi' = top_of} (omega arith) (omega arith)
+      further_left c around {lo' = n} {hi' = hi condition tests first rest follows more inside Open f g exits around t n less k r} (omega arith) (omega arith)
       (kept_wide (omega arith) (omega arith) kept) since
-      (chosen condition tests first rest follows more inside Open f g p q exits around t n less k r l (is_true (number_of x)) x now
-      (with_trail (Point number Decides ∷ b.trail) b) refl comes (stands_since h since))))
+      (chosen condition tests first rest follows more inside Open f g exits around t n less k r l (is_true (number_of x)) x now
+      (with_trail (Point number Decides ∷ b.trail) b) refl comes (stands_since h since)))
 
   pub by_conditions : (node : Node) (tests : Args) (blocks : Blocks) → BranchesFollow tests blocks →
-      StmtFollows c top room names calls outermost (Select node ByConditions tests blocks)
-  by_conditions node tests blocks follows inside Open f p exits around t k r l temps s h =
-      let plain = and_parts (are_plain hooked false tests) (are_plain_blocks hooked blocks) p in
+      StmtFollows c top room names calls outermost gives_listed (Select node ByConditions tests blocks)
+  by_conditions node tests blocks follows inside Open f exits around t k r l temps s h =
       let hi = t + width_in (Select node ByConditions tests blocks) in
       let w = turn_width tests blocks in
       pays 12 1 (omega arith)
       (rejoin c around {lo' = suc t} {hi' = suc t + (widths tests + width_of_blocks blocks)} 1 (omega arith) (omega arith) (omega arith) (omega arith)
       (omega (arith, w))
       (kept_none t hi temps) (since_none c.level s.world)
-      (follows inside Open f.2 f.3 plain.0 plain.1 exits around t (suc t) (omega arith) k
+      (follows inside Open f.2 f.3 exits around t (suc t) (omega arith) k
       (reaches {lo = 4 * t} {hi = 4 * t + 2} (omega arith) (omega arith) (puts_label (label End t) (omega arith) (omega arith)) r)
       (leads_on {lo = 0} {hi = 0} {F = λ k. k} (omega arith) (omega arith) puts_none l) temps
       (with_trail (Point node.number Begins ∷ s.trail) (worked 1 s)) h)

@@ -1,14 +1,13 @@
 -- Flat code follows calls: by induction on how many more may be active.
-use Rattle.std.proofs.Common.{◌≡◌, ℕ, zero, suc, ◌+◌, Bool, true, false, List, [], ◌∷◌, ◌++◌, map, length, Option, Some, None, refl, sym, ap, ◌∙◌, subst, arith}
+use Rattle.std.proofs.Common.{◌≡◌, ℕ, zero, suc, ◌+◌, true, false, List, [], ◌∷◌, ◌++◌, map, length, Option, Some, None, refl, sym, ap, ◌∙◌, subst, arith}
 use Rattle.std.proofs.Common.{append-nil}
-use Rattle.std.specs.Prelude.{not, slice_get, option_map}
-use Rattle.std.proofs.lemmas.Bool.{false≢true, and_parts}
+use Rattle.std.specs.Prelude.{slice_get, option_map}
+use Rattle.std.proofs.lemmas.Bool.{false≢true}
 use Rattle.std.proofs.lemmas.Option.{slice_get-map}
 use Rattle.arc_base.specs.Event.{Event, writes}
 use Rattle.arc_base.specs.declared.outside.Stream.TheVariants.{Err}
 use Rattle.arc_base.specs.Stepping.{Goes}
 use Rattle.arc_base.specs.BigStep.{Got, then_do}
-use Rattle.nim_types.specs.Types.{Ty}
 use Rattle.nim_plan.specs.declared.plan.Plan.{Plan}
 use Rattle.nim_program.specs.Traps.{CallDepth, trap_text}
 use Rattle.nim_program.specs.Program.{Declared, Param, Body, Program, last_of}
@@ -17,15 +16,14 @@ use Rattle.nim_program.specs.Sizes.{body_sum, if_place_bytes}
 use Rattle.nim_meaning.specs.Values.{Value, nothing, bytes, Slot}
 use Rattle.nim_meaning.specs.State.{World, State, Frame, live, load, slot_at, with_frame, down_to}
 use Rattle.nim_meaning.specs.Ways.{Point}
-use Rattle.nim_meaning.specs.Here.{Here, is_hooked}
-use Rattle.nim_meaning.specs.Runs.{is_plain_place, is_plain_block, is_plain_body, are_plain_params, is_plain_if_body, are_plain_procs}
+use Rattle.nim_meaning.specs.Here.{Here}
 use Rattle.nim_meaning.specs.Places.{place_at}
 use Rattle.nim_meaning.specs.Acts.{Broke, Continued, Returned, Raised, Outcome, On, Out, Does}
-use Rattle.nim_meaning.specs.Acts.{onward, worked, said, left_with, with_trail, exit_of, line_of}
-use Rattle.nim_meaning.specs.Acts.{spending, elsewhere, branch, change, costs, give}
+use Rattle.nim_meaning.specs.Acts.{worked, said, left_with, with_trail, exit_of, line_of}
+use Rattle.nim_meaning.specs.Acts.{spending, elsewhere, branch, change, costs, looks}
 use Rattle.nim_meaning.specs.Acts as acting
-use Rattle.nim_meaning.specs.Meaning.{calls, called, entered, from_level, result_slots, frame_of, params_end}
-use Rattle.nim_meaning.specs.Meaning.{ends, handed, handing, result_of, result_bytes, seen_call, exec_all}
+use Rattle.nim_meaning.specs.Meaning.{calls, called, entered, from_level, result_slots, frame_of}
+use Rattle.nim_meaning.specs.Meaning.{handed, handing, result_of, result_bytes, seen_call, exec_all}
 use Rattle.flat_code.specs.declared.line.Line.{Line}
 use Rattle.flat_code.specs.declared.line.Line.TheVariants as L
 use Rattle.flat_code.specs.Scene.{Temps, no_temps, with_value, Calls, Returns}
@@ -35,19 +33,18 @@ use Rattle.flat_code.specs.Running.{Proc, Waiting, callable, before_last, slot_b
 use Rattle.flat_code.specs.Running as running
 use Rattle.flattening.specs.StmtLines.{number_of, body_lines}
 use Rattle.flattening.specs.Flattened.{modes_of, code_of_body, code_of_proc}
-use Rattle.flattening.specs.Formed.{Scope, AtFirst, ResultFormed, IsFormed, named_in, params_of, taken_by}
-use Rattle.nim_meaning.proofs.ForCallers.{not_true}
+use Rattle.flattening.specs.Formed.{Scope, AtFirst, ResultFormed, ParamsFormed, IsFormed, named_in, params_of, taken_by}
 use Rattle.flattening.proofs.Runs.{Fixed, M, procs, step, spends_at, Runs, Walks, line, line_spending, line_ends_spending, behind, follows_on, spends}
-use Rattle.flattening.proofs.Worlds.{Since, since_none, since_call, still_holds}
+use Rattle.flattening.proofs.Worlds.{Since, since_none, since_then, since_call}
 use Rattle.flattening.proofs.Temps.{kept_none, kept_value, put_same}
 use Rattle.flattening.proofs.Puts.{is_empty}
-use Rattle.flattening.proofs.Spots.{Spot, here_of, there, does_at, Lands, answers, spent, stepped, do_assoc}
-use Rattle.flattening.proofs.Standing.{Stands}
-use Rattle.flattening.proofs.Groups.{nothing_ends}
+use Rattle.flattening.proofs.Spots.{Spot, here_of, there, does_at, Lands, after_both, answers, spent, stepped, do_assoc}
+use Rattle.flattening.proofs.Standing.{Stands, stands_since}
+use Rattle.flattening.proofs.Endings.{AreListedParams, AreOpenParams, param_ends_follow}
 use Rattle.flattening.proofs.Acting.{CallsFollow}
 use Rattle.flattening.proofs.Results.{result_small}
 use Rattle.flattening.proofs.Frames.{stands_called}
-use Rattle.flattening.proofs.Bodies.{spot_of, ReturnsAt, Back, room_of, some_lines, body_follows}
+use Rattle.flattening.proofs.Bodies.{spot_of, result_among, ReturnsAt, Back, room_of, some_lines, body_follows}
 
 -- ---- procedures by number
 
@@ -57,43 +54,21 @@ before_behind (x ∷ []) y = refl
 before_behind (x ∷ z ∷ xs) y = ap (λ l. x ∷ l) (before_behind (z ∷ xs) y)
 
 abbrev pub code_at : Program → Plan → trees.Proc → Proc Line
-code_at program plan proc = code_of_proc program plan proc.hook proc.body
+code_at program plan proc = code_of_proc program plan proc.hook proc.params proc.body
 
 callable_is : (x : Fixed) (n : ℕ) → slice_get (callable (procs x)) n ≡ option_map (code_at x.program x.plan) (slice_get x.program.procs n)
 callable_is x n =
-    ap (λ l. slice_get l n) (before_behind (map (code_at x.program x.plan) x.program.procs) (code_of_body x.program x.plan None x.program.start))
+    ap (λ l. slice_get l n) (before_behind (map (code_at x.program x.plan) x.program.procs) (code_of_body x.program x.plan None [] x.program.start))
     ∙ slice_get-map (code_at x.program x.plan) x.program.procs n
 
--- ---- procedures without hooks
+params_listed : (c : Spot) (Open : Scope) (params : List Param) → ParamsFormed c.fixed.program.types Open params → AreListedParams c params
+params_listed c Open [] f = tt
+params_listed c Open (param ∷ params) f = (f.0.1, params_listed c Open params f.1)
 
--- a body, and its parameters
-plain_body : (hooked : Ty → Bool) (procs : List trees.Proc) (n : ℕ) (p : trees.Proc) (body : Body) → are_plain_procs hooked procs ≡ true →
-    slice_get procs n ≡ Some p → p.body ≡ Some body → (are_plain_params hooked p.params ≡ true) × (is_plain_block hooked body.stmts ≡ true)
-plain_body hooked [] n p body h known has = cc
-plain_body hooked (first ∷ procs) zero p body h known has =
-    let e : first ≡ p = cc in
-    let q = (and_parts (is_plain_if_body hooked first.params first.body) (are_plain_procs hooked procs) h).0 in
-    let r = subst (λ (b : Option Body). is_plain_if_body hooked p.params b ≡ true) has
-    (subst (λ (p : trees.Proc). is_plain_if_body hooked p.params p.body ≡ true) e q) in
-    let parts = and_parts (are_plain_params hooked p.params) (is_plain_body hooked body) r in
-    (parts.0, (and_parts (is_plain_place hooked body.result) (is_plain_block hooked body.stmts) parts.1).1)
-plain_body hooked (first ∷ procs) (suc n) p body h known has =
-    plain_body hooked procs n p body (and_parts (is_plain_if_body hooked first.params first.body) (are_plain_procs hooked procs) h).1 known has
-
--- ---- the ends of parameters
-
-params_are : (here : Here) (params : List Param) (exit : ℕ) → are_plain_params (is_hooked here.facts) params ≡ true → (s : State) →
-    params_end here params exit s ≡ Got (On tt) (worked (length params) s)
-params_are here [] exit plain s = let e : s.meter.work ≡ s.meter.work + 0 = omega arith in
-    ap (λ w. Got (On (tt {0})) (record s { meter = record (s.meter) { work = w } })) e
-params_are here (param ∷ params) exit plain s =
-    let n = length params in
-    let hooked = is_hooked here.facts param.place.of in
-    let q = and_parts (not hooked) (are_plain_params (is_hooked here.facts) params) plain in
-    let e : s.meter.work + n + 1 ≡ s.meter.work + suc n = omega arith in
-    ap (λ (act : Does (Unit {0})). then_do (params_end here params exit s) (onward (λ done. act))) (nothing_ends here param.place exit (not_true hooked q.0))
-    ∙ ap (λ r. then_do r (onward (λ done. costs 1 (give tt)))) (params_are here params exit q.1 s)
-    ∙ ap (λ w. Got (On (tt {0})) (record s { meter = record (s.meter) { work = w } })) e
+params_open : (c : Spot) (room : ℕ → Type 0) (Open : Scope) (params : List Param) → ParamsFormed c.fixed.program.types Open params → (world : World) →
+    Stands c room Open world → AreOpenParams c params world
+params_open c room Open [] f world h = tt
+params_open c room Open (param ∷ params) f world h = (h.open_is false param.place.number f.0.0, params_open c room Open params f.1 world h)
 
 -- ---- what comes of a line that calls
 
@@ -124,10 +99,10 @@ hands_is c temps world (Some place) opened =
 abbrev caller : Spot → List Line → Temps → (to : ℕ) → Waiting Line
 caller c k temps to = record { active = record { whole = c.whole; rest = k; level = c.level; left = c.left; temps = temps }; to = to }
 
-module _ (c : Spot) (body : Body) (left : ℕ) (k : List Line) (temps : Temps) (to : ℕ) (old : World) (slots : List Slot)
+module _ (c : Spot) (params : List Param) (body : Body) (left : ℕ) (k : List Line) (temps : Temps) (to : ℕ) (old : World) (slots : List Slot)
     (framed : length old.frames ≡ suc c.level) where
   abbrev callee : Spot
-  callee = spot_of c.fixed body (suc c.level) left (caller c k temps to ∷ c.waiting)
+  callee = spot_of c.fixed params body (suc c.level) left (caller c k temps to ∷ c.waiting)
 
   abbrev frame : Frame
   frame = frame_of c.fixed.program.facts body slots
@@ -135,65 +110,59 @@ module _ (c : Spot) (body : Body) (left : ℕ) (k : List Line) (temps : Temps) (
   abbrev there_here : Here
   there_here = here_of callee
 
-  -- the line that returns
-  returned : (b : State) (m : M) → ReturnsAt callee (with_frame old frame) b.world m →
-      ((place : Declared) → body.result ≡ Some place → is_there (slot_at b.world (suc c.level) place.number) ≡ true) → (params : ℕ) (trail : List Point) →
-      let v = result_of body.result (suc c.level) b.world in
-      let d : State = with_trail trail (worked (result_bytes body.result v) (record (worked params b) { world = down_to (suc c.level) b.world })) in
-      Runs c.fixed (Lands c k to (suc to) temps old (λ v now. now.values to ≡ Some v)) 1 0 m b.meter (Got (On v) d)
-  returned b m g opened params trail =
-      let v = result_of body.result (suc c.level) b.world in
-      let n = result_bytes body.result v in
-      let d : State = with_trail trail (worked n (record (worked params b) { world = down_to (suc c.level) b.world })) in
-      let l = L.Return (number_of body.result) in
-      let is = hands_is callee g.now b.world body.result opened in
-      let w : Walks c.fixed 1 0 (there callee (l ∷ g.k) g.now b.world) b.meter (there c k (with_value to temps v) (down_to (suc c.level) b.world)) d.meter =
-      line [] (suc n) (spent callee l g.k g.now b.world _ is) (stepped callee l g.k g.now b.world _ is) (append-nil b.meter.out) refl (omega arith) in
-      subst (λ m. Runs c.fixed (Lands c k to (suc to) temps old (λ v now. now.values to ≡ Some v)) 1 0 m b.meter (Got (On v) d)) (sym g.is)
-      (behind (omega arith) w
-      (answers {P = λ v now. now.values to ≡ Some v} {p = 0} {q = 0} v d (with_value to temps v) (omega arith) (put_same temps.values to v)
-      (kept_value to v (omega arith) (omega arith) (kept_none to (suc to) temps)) (since_call c.level old b.world frame framed g.since)))
-
   abbrev LandsBack : Outcome Value → State → M → Type 0
   LandsBack = Lands c k to (suc to) temps old (λ v now. now.values to ≡ Some v)
 
-  -- what is handed to the caller
-  hands_back : (flow : Outcome (Unit {0})) (b : State) (m : M) → Back callee (with_frame old frame) flow b m →
-      ((place : Declared) → body.result ≡ Some place → is_there (slot_at b.world (suc c.level) place.number) ≡ true) → (params : List Param) →
-      are_plain_params (is_hooked c.fixed.program.facts) params ≡ true → (last : ℕ) (trail : List Point) →
+  -- the line that returns
+  returned : (b : State) (more : List Line) (now : Temps) → Since (suc c.level) (with_frame old frame) b.world →
+      ((place : Declared) → body.result ≡ Some place → is_there (slot_at b.world (suc c.level) place.number) ≡ true) → (trail : List Point) →
+      let v = result_of body.result (suc c.level) b.world in
+      let d : State = with_trail trail (worked (result_bytes body.result v) (record b { world = down_to (suc c.level) b.world })) in
+      Runs c.fixed LandsBack 1 0 (there callee (L.Return (number_of body.result) ∷ more) now b.world) b.meter (Got (On v) d)
+  returned b more now since opened trail =
+      let v = result_of body.result (suc c.level) b.world in
+      let n = result_bytes body.result v in
+      let d : State = with_trail trail (worked n (record b { world = down_to (suc c.level) b.world })) in
+      let l = L.Return (number_of body.result) in
+      let is = hands_is callee now b.world body.result opened in
+      let w : Walks c.fixed 1 0 (there callee (l ∷ more) now b.world) b.meter (there c k (with_value to temps v) (down_to (suc c.level) b.world)) d.meter =
+      line [] (suc n) (spent callee l more now b.world _ is) (stepped callee l more now b.world _ is) (append-nil b.meter.out) refl (omega arith) in
+      behind (omega arith) w
+      (answers {P = λ v now. now.values to ≡ Some v} {p = 0} {q = 0} v d (with_value to temps v) (omega arith) (put_same temps.values to v)
+      (kept_value to v (omega arith) (omega arith) (kept_none to (suc to) temps)) (since_call c.level old b.world frame framed since))
+
+  -- what is handed to the caller, behind the ends of the parameters
+  abbrev hands_on : Outcome (Unit {0}) → Does Value
+  hands_on flow = looks (λ world. acting.◌>>◌ (change (down_to (suc c.level)))
+      (costs (result_bytes body.result (result_of body.result (suc c.level) world)) (handing flow (result_of body.result (suc c.level) world))))
+
+  hands_back : (flow : Outcome (Unit {0})) (b : State) (m : M) → Back callee params (with_frame old frame) flow b m → AreListedParams callee params →
+      ((new : World) → Since (suc c.level) (with_frame old frame) new → AreOpenParams callee params new) →
+      ((new : World) → Since (suc c.level) (with_frame old frame) new → (place : Declared) → body.result ≡ Some place →
+      is_there (slot_at new (suc c.level) place.number) ≡ true) → (last : ℕ) (trail : List Point) →
       Runs c.fixed LandsBack 1 0 m b.meter (then_do (handed params last there_here flow b) (λ flow d. Got flow (with_trail trail d)))
-  hands_back flow b m g opened params plain last trail =
-      subst (λ r. Runs c.fixed LandsBack 1 0 m b.meter (then_do (then_do r (onward (behind_params flow b.world))) (λ flow d. Got flow (with_trail trail d))))
-      (sym (params_are there_here params (exit_of last flow) plain b)) (on flow g)
+  hands_back flow b m g listed params_are opened last trail = on flow g
     where
-      behind_params : Outcome (Unit {0}) → World → Unit {0} → Does Value
-      behind_params flow world done =
-          acting.◌>>◌ (change (down_to (suc c.level)))
-          (costs (result_bytes body.result (result_of body.result (suc c.level) world)) (handing flow (result_of body.result (suc c.level) world)))
+      behind_it : (flow : Outcome (Unit {0})) → ReturnsAt callee params (with_frame old frame) b.world m →
+          ((d : State) (now : Temps) (more : List Line) → Since (suc c.level) (with_frame old frame) d.world →
+          Runs c.fixed LandsBack 1 0 (there callee (L.Return (number_of body.result) ∷ more) now d.world) d.meter
+          (then_do (hands_on flow d) (λ flow d. Got flow (with_trail trail d)))) →
+          Runs c.fixed LandsBack 1 0 m b.meter (then_do (handed params last there_here flow b) (λ flow d. Got flow (with_trail trail d)))
+      behind_it flow g more =
+          subst (λ m. Runs c.fixed LandsBack 1 0 m b.meter (then_do (handed params last there_here flow b) (λ flow d. Got flow (with_trail trail d))))
+          (sym g.is)
+          (after_both {c = callee} (λ u. hands_on flow) (λ flow d. Got flow (with_trail trail d)) 1 (omega arith) (omega arith)
+          (param_ends_follow callee params listed (exit_of last flow) (L.Return (number_of body.result) ∷ g.k) g.now b
+          (params_are b.world g.since))
+          (λ u d now same kept since. more d now g.k (since_then g.since since)))
 
-      on : (flow : Outcome (Unit {0})) → Back callee (with_frame old frame) flow b m →
-          Runs c.fixed LandsBack 1 0 m b.meter
-          (then_do (behind_params flow b.world tt (worked (length params) b)) (λ flow d. Got flow (with_trail trail d)))
-      on (On done) g = returned b m g opened (length params) trail
-      on (Out (Broke by)) g = returned b m g opened (length params) trail
-      on (Out (Continued by)) g = returned b m g opened (length params) trail
-      on (Out (Returned by)) g = returned b m g opened (length params) trail
+      on : (flow : Outcome (Unit {0})) → Back callee params (with_frame old frame) flow b m →
+          Runs c.fixed LandsBack 1 0 m b.meter (then_do (handed params last there_here flow b) (λ flow d. Got flow (with_trail trail d)))
+      on (On done) g = behind_it (On done) g (λ d now more since. returned d more now since (opened d.world since) trail)
+      on (Out (Broke by)) g = behind_it (Out (Broke by)) g (λ d now more since. returned d more now since (opened d.world since) trail)
+      on (Out (Continued by)) g = behind_it (Out (Continued by)) g (λ d now more since. returned d more now since (opened d.world since) trail)
+      on (Out (Returned by)) g = behind_it (Out (Returned by)) g (λ d now more since. returned d more now since (opened d.world since) trail)
       on (Out (Raised exception by)) g = absurd g
-
--- ---- the place of the result is open
-
-pub back_since : (c : Spot) (old : World) (flow : Outcome (Unit {0})) (b : State) (m : M) → Back c old flow b m → Since c.level old b.world
-back_since c old (On done) b m g = g.since
-back_since c old (Out (Broke by)) b m g = g.since
-back_since c old (Out (Continued by)) b m g = g.since
-back_since c old (Out (Returned by)) b m g = g.since
-back_since c old (Out (Raised exception by)) b m g = absurd g
-
-pub result_open : (c : Spot) (room : ℕ → Type 0) (Open : Scope) (result : Option Declared) → ResultFormed Open result → (old new : World) →
-    Stands c room Open old →
-    Since c.level old new → (place : Declared) → result ≡ Some place → is_there (slot_at new c.level place.number) ≡ true
-result_open c room Open result f old new h since place e =
-    still_holds c.level place.number (omega arith) since (h.open_is false place.number (subst (λ r. ResultFormed Open r) e f))
 
 -- ---- calls
 
@@ -270,9 +239,10 @@ module _ (x : Fixed) (formed : IsFormed x.program) where
       -- a body is entered, and comes back
       module _ (p : trees.Proc) (body : Body) (known : slice_get x.program.procs proc ≡ Some p) (has : p.body ≡ Some body)
           (goes : step x m
-          ≡ running.entered m k to slots work left (code_of_body x.program x.plan p.hook body) (code_of_body x.program x.plan p.hook body).lines) where
+          ≡ running.entered m k to slots work left (code_of_body x.program x.plan p.hook p.params body)
+          (code_of_body x.program x.plan p.hook p.params body).lines) where
         abbrev inside : Spot
-        inside = callee c body left k temps to s.world slots framed
+        inside = callee c p.params body left k temps to s.world slots framed
 
         abbrev entry : Frame
         entry = frame_of x.program.facts body slots
@@ -281,14 +251,16 @@ module _ (x : Fixed) (formed : IsFormed x.program) where
             (there inside inside.whole no_temps (with_frame s.world entry))
         enters =
             goes
-            ∙ entered_some x m k to slots work left (code_of_body x.program x.plan p.hook body) (body_lines x.program.types (modes_of x.program x.plan) body)
-            (some_lines x body)
+            ∙ entered_some x m k to slots work left (code_of_body x.program x.plan p.hook p.params body)
+            (body_lines x.program.types x.program.facts (modes_of x.program x.plan) p.params body)
+            (some_lines x p.params body (suc level) left (caller c k temps to ∷ waiting))
 
         stands : Stands inside (room_of body) (AtFirst (length p.params) (named_in formed.names proc) body) (with_frame s.world entry)
         stands =
             stands_called inside x.program.facts body slots (length p.params) (named_in formed.names proc) s.world
             (many ∙ ap (λ o. length (params_of o)) known) framed
             (λ place is. (named place is, omega (arith, framed)))
+            (result_among x.program.types (AtFirst (length p.params) (named_in formed.names proc) body) body.result (formed.procs proc p body known has).0)
 
         comes : (n : ℕ) → s.meter.units ≡ suc n →
             Runs x LandsHere (suc work) 0 m s.meter
@@ -301,27 +273,26 @@ module _ (x : Fixed) (formed : IsFormed x.program) where
             line_spending (seen_call p.hook) (work + slot_bytes (result_slots x.program.facts body.result)) spent_here enters refl e (omega (arith, small)) in
             let go = handed p.params (last_of body.stmts) (at_body body) in
             let f = formed.procs proc p body known has in
-            let plain = plain_body (is_hooked x.program.facts) x.program.procs proc p body
-            (and_parts (are_plain_procs (is_hooked x.program.facts) x.program.procs) (is_plain_body (is_hooked x.program.facts) x.program.start)
-            formed.no_hooks).0 known has in
+            let opened : Scope = AtFirst (length p.params) (named_in formed.names proc) body in
             behind (omega arith) w
             (subst (λ r. Runs x LandsHere 1 0 (there inside inside.whole no_temps d.world) d.meter r)
             (sym (do_assoc (exec_all body.stmts (at_body body) d) go (λ flow d. Got flow (with_trail s.trail d))))
             (follows_on 1 (λ flow s'. then_do (go flow s') (λ flow d. Got flow (with_trail s.trail d))) (omega arith) (omega arith)
-            (body_follows x body (suc level) left (caller c k temps to ∷ waiting) false (named_in formed.names) (length p.params) (named_in formed.names proc)
-            (deeper inside.whole (caller c k temps to ∷ waiting) body.result) (λ e. absurd (false≢true e)) f plain.1 d stands)
+            (body_follows x p.params body (suc level) left (caller c k temps to ∷ waiting) false (named_in formed.names) (length p.params)
+            (named_in formed.names proc) (deeper inside.whole (caller c k temps to ∷ waiting) body.result) (λ e. absurd (false≢true e)) f d stands)
             (λ flow b m1 falls g.
-            hands_back c body left k temps to s.world slots framed flow b m1 g
-            (result_open inside (room_of body) (AtFirst (length p.params) (named_in formed.names proc) body) body.result f.0 d.world b.world stands
-            (back_since inside d.world flow b m1 g))
-            p.params plain.0 (last_of body.stmts) s.trail)))
+            hands_back c p.params body left k temps to s.world slots framed flow b m1 g (params_listed inside opened p.params f.1)
+            (λ new since. params_open inside (room_of body) opened p.params f.1 new (stands_since stands since))
+            (λ new since. (stands_since stands since).result_is)
+            (last_of body.stmts) s.trail)))
 
         coded : Runs x LandsHere (suc work) 0 m s.meter
             (spending (elsewhere (acting.◌>>◌ (acting.say (seen_call p.hook)) (entered globals p.params (Some body) slots at_body))) s)
         coded = spends s spent_here (λ n e. comes n e)
 
       entered_by : (p : trees.Proc) (body : Option Body) → slice_get x.program.procs proc ≡ Some p → p.body ≡ body →
-          step x m ≡ running.entered m k to slots work left (code_of_proc x.program x.plan p.hook body) (code_of_proc x.program x.plan p.hook body).lines →
+          step x m ≡ running.entered m k to slots work left (code_of_proc x.program x.plan p.hook p.params body)
+          (code_of_proc x.program x.plan p.hook p.params body).lines →
           Runs x LandsHere (suc work) 0 m s.meter (spending (elsewhere
           (acting.◌>>◌ (acting.say (seen_call p.hook)) (entered globals p.params body slots at_body))) s)
       entered_by p None known has goes = bodiless p goes

@@ -1,13 +1,12 @@
 -- Flat code follows `for` over ints.
-use Rattle.std.proofs.Common.{◌≡◌, ℕ, suc, ◌+◌, ◌*◌, ◌<◌, ◌⊎◌, inl, inr, Bool, true, false, ◌&&◌, List, ◌∷◌, Some, refl, sym, ap, ◌∙◌, subst, arith}
-use Rattle.std.specs.Prelude.{ℤ, pos, ◌+ℤ◌, int_lt, not}
-use Rattle.std.proofs.lemmas.Bool.{and_parts, false≢true}
+use Rattle.std.proofs.Common.{◌≡◌, ℕ, suc, ◌+◌, ◌*◌, ◌<◌, ◌⊎◌, inl, inr, Bool, true, false, List, [], ◌∷◌, Some, refl, sym, ap, ◌∙◌, subst, arith}
+use Rattle.std.specs.Prelude.{◌&&◌, if◌then◌else◌, ℤ, pos, ◌+ℤ◌, int_lt}
 use Rattle.arc_base.specs.BigStep.{then_do, Turn as TurnOf, Again, Leave as LeaveLoop}
-use Rattle.nim_types.specs.Types.{Ty}
+use Rattle.nim_types.specs.Types.{Ty, Facts}
 use Rattle.nim_program.specs.declared.expr.Node.{Node}
 use Rattle.nim_program.specs.declared.operation.Use.TheVariants.{Owned}
 use Rattle.nim_program.specs.declared.program.Mode.{Mode}
-use Rattle.nim_program.specs.Program.{Expr, Args, NoArg, ByValue, ByPath, Declared, Count, Loop, Stmts, last_of}
+use Rattle.nim_program.specs.Program.{Act, Building, Expr, Args, NoArg, ByValue, ByPath, Declared, Count, Loop, Stmts, last_of}
 use Rattle.nim_meaning.specs.Values.{Value, Number, number_of, Holds, Given}
 use Rattle.nim_meaning.specs.State.{World, State}
 use Rattle.nim_meaning.specs.ActTree.{Turns, Chooses, Fills, Begins}
@@ -16,11 +15,11 @@ use Rattle.nim_meaning.specs.Acts.{Outcome, On, Does, branch, worked, left_with,
 use Rattle.nim_meaning.specs.Acts as acting
 use Rattle.nim_meaning.specs.Deeds.{Opens, changed}
 use Rattle.nim_meaning.specs.Deeds as deeds
-use Rattle.nim_meaning.specs.Here.{Here, is_hooked}
-use Rattle.nim_meaning.specs.Runs.{are_plain, is_plain_stmt, is_plain_block}
-use Rattle.nim_meaning.specs.Meaning.{exec_all, fill, scoped, at_node, limit, count_turn, head_values, ready_operand, ready_rest}
-use Rattle.nim_meaning.proofs.ForCallers.{not_true}
+use Rattle.nim_meaning.specs.Here.{Here}
+use Rattle.nim_meaning.specs.Waiting.{Wait, waiting_all}
+use Rattle.nim_meaning.specs.Meaning.{head_values, exec_all, fill, scoped, at_node, limit, count_turn, ready_operand, ready_rest}
 use Rattle.nim_meaning.specs.Aims.{Ready, Evaluated}
+use Rattle.flat_code.specs.declared.line.From.TheVariants as F
 use Rattle.flat_code.specs.declared.line.Line.{Line}
 use Rattle.flat_code.specs.declared.line.Line.TheVariants as L
 use Rattle.flat_code.specs.Scene.{Temps, with_value, Did, Leaps}
@@ -28,28 +27,42 @@ use Rattle.flat_code.specs.Lines.{using, using_number, turns_where}
 use Rattle.flat_code.specs.Lines as does
 use Rattle.flattening.specs.declared.numbers.Purpose.TheVariants.{End, Next, Turn}
 use Rattle.flattening.specs.Numbering.{width, widths, width_in, width_of, label}
-use Rattle.flattening.specs.ExprLines.{ready_lines}
-use Rattle.flattening.specs.StmtLines.{Exits, in_loop, lines_of, lines_in}
+use Rattle.flattening.specs.ExprLines.{has_hooks, from_of, ready_lines}
+use Rattle.flattening.specs.StmtLines.{Exits, ending as exits_ending, in_loop, in_scope, place_end, head_ends, lines_of}
 use Rattle.flattening.specs.Flattened.{modes_of}
 use Rattle.flattening.specs.Formed.{Scope, With, StmtFormed}
 use Rattle.flattening.proofs.Runs.{M, Runs, walks_spared, pays, spares, lands, Turned}
 use Rattle.flattening.proofs.Worlds.{Since, since_then, since_slot}
 use Rattle.flattening.proofs.Temps.{Kept, kept_then, kept_wide, kept_value, put_same, put_other, value_before}
 use Rattle.flattening.proofs.Puts.{Puts, found, found_here, puts_line, puts_label, puts_wide, ◌>>◌}
-use Rattle.flattening.proofs.PutsParts.{puts_ready}
-use Rattle.flattening.proofs.PutsParts.{puts_stmts}
+use Rattle.flattening.proofs.PutsStmts.{puts_ready}
+use Rattle.flattening.proofs.PutsStmts.{puts_stmts}
 use Rattle.flattening.proofs.Spots.{Spot, here_of, there, scene, does_at, after, walks_line, walks_leap, goes, turns, enters}
 use Rattle.flattening.proofs.Standing.{grounded, Stands, stands_since}
-use Rattle.flattening.proofs.Groups.{head_alone}
 use Rattle.flattening.proofs.Acting.{CallsFollow}
-use Rattle.flattening.proofs.Evaluating.{args_follow}
+use Rattle.flattening.proofs.Exprs.{args_follow}
 use Rattle.flattening.proofs.Leaving.{Around, Reaches, Leads, leads_on, Left, Looped, inner}
-use Rattle.flattening.proofs.Leaving.{spend_then, runs_loop, body_ends, loop_ends, stays, scope_closes, stands_with}
-use Rattle.flattening.proofs.Stmts.{StmtFollows, BlockFollows}
+use Rattle.flattening.proofs.Leaving.{spend_then, runs_loop, body_ends, loop_ends, stays, around_end, puts_ends, puts_place_end, scope_leaves, group_leaves}
+use Rattle.flattening.proofs.Opened.{stands_with}
+use Rattle.flattening.proofs.Scopes.{reaches_ended}
+use Rattle.flattening.proofs.Groups.{waits_listed_all}
+use Rattle.flattening.proofs.Operands.{IsAt}
+use Rattle.flattening.proofs.Stmts.{IsListedResult, StmtFollows, BlockFollows}
 use Rattle.flattening.proofs.Widths.{some_width}
 
+-- the value of an operand of one's own is in its temporary
+pub owned_from : (facts : Facts) (act : Act) (value : Expr) (t : ℕ) → from_of facts act Owned value t ≡ F.Value t
+owned_from facts act value t = on (has_hooks facts value)
+  where
+    on : (b : Bool) → (if b && false then F.Place (suc t) else if b && false then F.Place t else F.Value t) ≡ F.Value t
+    on true = refl
+    on false = refl
+
 module _ (c : Spot) (top : Bool) (room : ℕ → Type 0) (names : (proc place : ℕ) → Type 0) (calls : CallsFollow c names)
-    (outermost : top ≡ true → c.level ≡ 0) where
+    (outermost : top ≡ true → c.level ≡ 0) (gives_listed : IsListedResult c.fixed.program.types c.result) where
+  abbrev facts : Facts
+  facts = c.fixed.program.facts
+
   abbrev types : List Ty
   types = c.fixed.program.types
 
@@ -59,21 +72,18 @@ module _ (c : Spot) (top : Bool) (room : ℕ → Type 0) (names : (proc place : 
   abbrev here : Here
   here = here_of c
 
-  abbrev hooked : Ty → Bool
-  hooked = is_hooked c.fixed.program.facts
-
   -- ---- the lines that test a number
 
   pub beyond_is : (temps : Temps) (world : World) (counter last : ℕ) (inclusive : Bool) (name : ℕ) (v w : Value) (b : Bool) → temps.values counter ≡ Some v →
       temps.values last ≡ Some w → int_lt (number_of v) (limit inclusive (number_of w)) ≡ b →
       does_at c temps world (L.Beyond counter last inclusive name)
-      ≡ branch b (does.gives (scene c temps world) counter (deeds.costs 1 (deeds.give (Number (number_of v))))) (Leaps name)
+      ≡ branch b (does.gives (scene c temps world) counter (deeds.costs 1 (deeds.give (Number (number_of v))))) (Leaps name 1)
   beyond_is temps world counter last inclusive name v w b at end is =
       let go : ℤ → ℤ → Did =
-      λ i n. branch (int_lt i (limit inclusive n)) (does.gives (scene c temps world) counter (deeds.costs 1 (deeds.give (Number i)))) (Leaps name) in
+      λ i n. branch (int_lt i (limit inclusive n)) (does.gives (scene c temps world) counter (deeds.costs 1 (deeds.give (Number i)))) (Leaps name 1) in
       ap (λ o. using o (λ v. using_number temps last (λ n. go (number_of v) n))) at
       ∙ (ap (λ o. using o (λ w. go (number_of v) (number_of w))) end
-      ∙ ap (λ b. branch b (does.gives (scene c temps world) counter (deeds.costs 1 (deeds.give (Number (number_of v))))) (Leaps name)) is)
+      ∙ ap (λ b. branch b (does.gives (scene c temps world) counter (deeds.costs 1 (deeds.give (Number (number_of v))))) (Leaps name 1)) is)
 
   counts_is : (temps : Temps) (world : World) (counter last : ℕ) (inclusive : Bool) (name : ℕ) (v w : Value) (b : Bool) → temps.values counter ≡ Some v →
       temps.values last ≡ Some w → int_lt (number_of v +ℤ pos 1) (limit inclusive (number_of w)) ≡ b →
@@ -87,18 +97,11 @@ module _ (c : Spot) (top : Bool) (room : ℕ → Type 0) (names : (proc place : 
       ∙ ap (λ b. turns_where (scene c temps world) b (with_value counter temps (Number (number_of v +ℤ pos 1))) name) is)
 
   module _ (node : Node) (place : Declared) (inclusive : Bool) (first last : Expr) (rest : Args) (body : Stmts)
-      (follows : BlockFollows c top room names calls outermost body) (inside : Bool) (Open : Scope)
-      (f : StmtFormed (grounded c top room names) inside Open (Loop node (Count place inclusive) (ByValue first (ByValue last rest)) body))
-      (p : is_plain_stmt hooked (Loop node (Count place inclusive) (ByValue first (ByValue last rest)) body) ≡ true) (exits : Exits)
+      (follows : BlockFollows c top room names calls outermost gives_listed body) (inside : Bool) (Open : Scope)
+      (f : StmtFormed (grounded c top room names) inside Open (Loop node (Count place inclusive) (ByValue first (ByValue last rest)) body)) (exits : Exits)
       (around : Around c exits inside) (t : ℕ) (k : List Line) where
     abbrev head : Args
     head = ByValue first (ByValue last rest)
-
-    place_plain : (not (hooked place.of) ≡ true) × ((are_plain hooked false head && is_plain_block hooked body) ≡ true)
-    place_plain = and_parts (not (hooked place.of)) (are_plain hooked false head && is_plain_block hooked body) p
-
-    plain : (are_plain hooked false head ≡ true) × (is_plain_block hooked body ≡ true)
-    plain = and_parts (are_plain hooked false head) (is_plain_block hooked body) place_plain.1
 
     abbrev counter : ℕ
     counter = suc t
@@ -112,8 +115,18 @@ module _ (c : Spot) (top : Bool) (room : ℕ → Type 0) (names : (proc place : 
     abbrev hi : ℕ
     hi = t + width_in (Loop node (Count place inclusive) head body)
 
+    -- what ends behind it, and on each way out
+    abbrev waits : List Wait
+    waits = waiting_all facts modes head (λ i. Owned) 0
+
+    abbrev heads_end : List Line → List Line
+    heads_end = head_ends types facts modes c.result head
+
+    abbrev around_head : Around c (exits_ending heads_end exits) inside
+    around_head = around_end around heads_end (puts_ends c waits)
+
     abbrev ending : List Line
-    ending = L.Label (label End t) ∷ k
+    ending = L.Label (label End t) ∷ heads_end k
 
     abbrev counting : List Line
     counting = L.CountTurn counter end inclusive (label Turn t) ∷ ending
@@ -122,7 +135,8 @@ module _ (c : Spot) (top : Bool) (room : ℕ → Type 0) (names : (proc place : 
     next_lines = L.Label (label Next t) ∷ counting
 
     abbrev bodied : List Line
-    bodied = lines_of types modes c.result body (in_loop exits t) n next_lines
+    bodied = lines_of types facts modes c.result body (in_scope types facts modes c.result place (in_loop (exits_ending heads_end exits) t)) n
+        (place_end types facts place next_lines)
 
     abbrev turn_lines : List Line
     turn_lines = L.Label (label Turn t) ∷ L.Fill place.number counter ∷ bodied
@@ -130,34 +144,44 @@ module _ (c : Spot) (top : Bool) (room : ℕ → Type 0) (names : (proc place : 
     abbrev beginning : List Line
     beginning = L.Beyond counter end inclusive (label End t) ∷ L.Enter ∷ turn_lines
 
-    abbrev around_body : Around c (in_loop exits t) true
-    around_body = inner around t ending next_lines
+    abbrev around_loop : Around c (in_loop (exits_ending heads_end exits) t) true
+    around_loop = inner around_head t ending next_lines
+
+    abbrev around_body : Around c (exits_ending (place_end types facts place) (in_loop (exits_ending heads_end exits) t)) true
+    around_body = around_end around_loop (place_end types facts place) (puts_place_end c place)
 
     puts_bodied : Puts (4 * t + 3) (4 * (n + width_of body))
-        (λ k. L.Label (label Turn t) ∷ L.Fill place.number counter ∷ lines_of types modes c.result body (in_loop exits t) n k)
+        (λ k. L.Label (label Turn t) ∷ L.Fill place.number counter ∷ lines_of types facts modes c.result body
+        (in_scope types facts modes c.result place (in_loop (exits_ending heads_end exits) t)) n (place_end types facts place k))
     puts_bodied =
         puts_label (label Turn t) (omega arith) (omega arith)
         >> (puts_line (L.Fill place.number counter) refl
-        >> puts_wide (omega arith) (omega arith) (puts_stmts types modes c.result body (in_loop exits t) n around_body.puts))
+        >> (puts_wide (omega arith) (omega arith)
+        (puts_stmts types facts modes c.result body (in_scope types facts modes c.result place (in_loop (exits_ending heads_end exits) t)) n around_body.puts)
+        >> puts_place_end c place _ _))
 
     end_is_found : found (label End t) next_lines ≡ Some ending
     end_is_found =
         (puts_label {lo = 4 * t + 2} {hi = 4 * t + 3} (label Next t) (omega arith) (omega arith)).skips (label End t) counting
         (λ le. absurd (omega (arith, le)))
-        ∙ found_here (label End t) k
+        ∙ found_here (label End t) (heads_end k)
 
     end_is_behind : found (label End t) turn_lines ≡ Some ending
     end_is_behind = puts_bodied.skips (label End t) next_lines (λ le. absurd (omega (arith, le))) ∙ end_is_found
 
-    body_reaches : Reaches around_body n next_lines
-    body_reaches = record {
+    loop_reaches : Reaches around_loop n next_lines
+    loop_reaches = record {
       breaks = λ is. end_is_found;
       continues = λ is. found_here (label Next t) counting;
       break_before = λ is. omega arith;
       continue_before = λ is. omega arith;
     }
 
-    module _ (l : Leads c t (ready_lines types modes head (λ i. Owned) 0 (suc t) beginning)) (temps : Temps) (world : World) (h : Stands c room Open world)
+    body_reaches : Reaches around_body n (place_end types facts place next_lines)
+    body_reaches = reaches_ended {around = around_loop} (place_end types facts place) (puts_place_end c place) (omega arith) loop_reaches
+
+    module _ (l : Leads c t (ready_lines types facts modes (Building []) head (λ i. Owned) 0 (suc t) beginning)) (temps : Temps) (world : World)
+        (h : Stands c room Open world)
         (w : Value) where
       abbrev goal : ℤ
       goal = limit inclusive (number_of w)
@@ -165,7 +189,7 @@ module _ (c : Spot) (top : Bool) (room : ℕ → Type 0) (names : (proc place : 
       starts_lead : Leads c n turn_lines
       starts_lead =
           leads_on {lo = 0} {hi = 4 * n} (omega arith) (omega arith)
-          (puts_wide {lo = 0} {hi = 4 * n} (omega arith) (omega arith) (puts_ready types modes head (λ i. Owned) 0 (suc t))
+          (puts_wide {lo = 0} {hi = 4 * n} (omega arith) (omega arith) (puts_ready types facts modes (Building []) head (λ i. Owned) 0 (suc t))
           >> (puts_line (L.Beyond counter end inclusive (label End t)) refl >> puts_line L.Enter refl)) l
 
       body_leads : Leads c n bodied
@@ -176,7 +200,7 @@ module _ (c : Spot) (top : Bool) (room : ℕ → Type 0) (names : (proc place : 
       turn_is_found : found (label Turn t) c.whole ≡ Some turn_lines
       turn_is_found =
           l.all (label Turn t) (omega arith)
-          ∙ ((puts_ready types modes head (λ i. Owned) 0 (suc t)).skips (label Turn t) beginning (λ le. absurd (omega (arith, le)))
+          ∙ ((puts_ready types facts modes (Building []) head (λ i. Owned) 0 (suc t)).skips (label Turn t) beginning (λ le. absurd (omega (arith, le)))
           ∙ found_here (label Turn t) (L.Fill place.number counter ∷ bodied))
 
       -- Before the first test its number is in the counter, and before each other one the number before.
@@ -194,7 +218,7 @@ module _ (c : Spot) (top : Bool) (room : ℕ → Type 0) (names : (proc place : 
       Inv i b m = Counts i beginning i b m ⊎ ((j : ℤ) × (j +ℤ pos 1 ≡ i) × Counts i counting j b m)
 
       abbrev Ends : Outcome (Unit {0}) → State → M → Type 0
-      Ends = Looped c around ending t hi temps world
+      Ends = Looped c around_head ending t hi temps world
 
       abbrev acts : ℤ → Does (Unit {0})
       acts i = acting.◌>>◌ (at_node node.number Fills (fill here place.number (Number i))) (scoped here place (last_of body) (exec_all body here))
@@ -204,22 +228,27 @@ module _ (c : Spot) (top : Bool) (room : ℕ → Type 0) (names : (proc place : 
           Kept t hi temps now → Since c.level world d.world →
           Runs c.fixed (Turned Inv Ends u) 12 6 (there c turn_lines now d.world) d.meter (then_do (then_do (acts i d) (next (i +ℤ pos 1))) turn_of)
       turn_follows i u now d at ends few kept since =
-          let n1 = place.number in
+          let p = place.number in
           let v : Value = Number i in
           let d1 : State = worked 4 (with_trail (Point node.number Fills ∷ d.trail) d) in
-          let d2 : State = record d1 { world = changed (Opens c.level n1 (Holds v)) d.world } in
+          let d2 : State = record d1 { world = changed (Opens c.level p (Holds v)) d.world } in
           let w1 = some_width last in
+          let opened : Stands c room (With (grounded c top room names) Open p) d2.world =
+          stands_with top names p (Holds v) outermost f.2.1 (stands_since h since) in
           goes c 11 1 (omega arith) refl
           (pays 59 4 (omega arith)
-          (goes c 54 5 (omega arith) (ap (λ o. using o (λ v. does.acts (scene c now d.world) (deeds.costs 1 (does.fills c.level n1 v)))) at)
-          (body_ends c around t ending next_lines t hi temps world Inv {q = 54} (i +ℤ pos 1) u (omega arith) few (omega arith) (omega arith) kept
-          (since_then since (since_slot c.level d.world c.level n1 (Holds v)))
+          (goes c 54 5 (omega arith) (ap (λ o. using o (λ v. does.acts (scene c now d.world) (deeds.costs 1 (does.fills c.level p v)))) at)
+          (body_ends c around_head t ending next_lines t hi temps world Inv {q = 54} 53 (i +ℤ pos 1) u (omega arith) (omega arith) few (omega arith)
+          (omega arith) kept
+          (since_then since (since_slot c.level d.world c.level p (Holds v)))
           (spares 0 0 (omega arith) (omega arith)
-          (scope_closes c around_body here place (last_of body) (not_true (hooked place.of) place_plain.0)
-          (follows true (With (grounded c top room names) Open n1) f.3 plain.1 (in_loop exits t) around_body n next_lines body_reaches body_leads now d2
-          (stands_with top names n1 (Holds v) outermost f.2 (stands_since h since)))))
+          (scope_leaves c around_loop place f.2.0 (last_of body) (opened.open_is false p (inr (refl, tt))) (exec_all body here) d2
+          (follows true (With (grounded c top room names) Open p) f.3 (in_scope types facts modes c.result place (in_loop (exits_ending heads_end exits) t))
+          around_body n
+          (place_end types facts place next_lines) body_reaches body_leads now d2
+          opened)))
           (λ b last fewer kept2 since2.
-          goes c 53 1 (omega arith) refl
+          goes c 52 1 (omega arith) refl
           (lands (Again (i +ℤ pos 1)) b (omega arith) (
             inr (
               i,
@@ -232,7 +261,7 @@ module _ (c : Spot) (top : Bool) (room : ℕ → Type 0) (names : (proc place : 
                 number = refl;
                 ends = value_before end (omega (arith, w1)) kept2 ∙ ends;
                 kept = kept_then kept (kept_wide (omega arith) (omega arith) kept2);
-                since = since_then since (since_then (since_slot c.level d.world c.level n1 (Holds v)) since2);
+                since = since_then since (since_then (since_slot c.level d.world c.level p (Holds v)) since2);
               },
             ),
             fewer,
@@ -264,7 +293,7 @@ module _ (c : Spot) (top : Bool) (room : ℕ → Type 0) (names : (proc place : 
           (lands (LeaveLoop (On tt)) d (omega arith)
           (record {
             now = x.now;
-            walks = walks_spared (omega arith) (walks_leap c (label End t) d.meter
+            walks = walks_spared (omega arith) (walks_leap c (label End t) 1 d.meter
                 (beyond_is x.now d.world counter end inclusive (label End t) x.value w false x.counts x.ends
                 (ap (λ i. int_lt i goal) x.number ∙ is)) end_is_behind);
             kept = x.kept;
@@ -312,51 +341,55 @@ module _ (c : Spot) (top : Bool) (room : ℕ → Type 0) (names : (proc place : 
           at_next (int_lt i goal) i j (with_trail (Point node.number Chooses ∷ Point node.number Turns ∷ b.trail) b) m next_is refl
           (record { now = x.now; value = x.value; is = x.is; counts = x.counts; number = x.number; ends = x.ends; kept = x.kept; since = x.since })
 
-  pub counts : (node : Node) (place : Declared) (inclusive : Bool) (head : Args) (body : Stmts) → BlockFollows c top room names calls outermost body →
-      StmtFollows c top room names calls outermost (Loop node (Count place inclusive) head body)
-  counts node place inclusive NoArg body follows inside Open f p exits around t k r l temps s h = absurd f.0
-  counts node place inclusive (ByPath path rest) body follows inside Open f p exits around t k r l temps s h = absurd f.0
-  counts node place inclusive (ByValue first NoArg) body follows inside Open f p exits around t k r l temps s h = absurd f.0
-  counts node place inclusive (ByValue first (ByPath path rest)) body follows inside Open f p exits around t k r l temps s h = absurd f.0
-  counts node place inclusive (ByValue first (ByValue last rest)) body follows inside Open f p exits around t k r l temps s h =
-      let K = ending node place inclusive first last rest body follows inside Open f p exits around t k in
-      let lines_next = next_lines node place inclusive first last rest body follows inside Open f p exits around t k in
-      let begin = beginning node place inclusive first last rest body follows inside Open f p exits around t k in
-      let top_of = hi node place inclusive first last rest body follows inside Open f p exits around t k in
+  pub counts : (node : Node) (place : Declared) (inclusive : Bool) (head : Args) (body : Stmts) →
+      BlockFollows c top room names calls outermost gives_listed body →
+      StmtFollows c top room names calls outermost gives_listed (Loop node (Count place inclusive) head body)
+  counts node place inclusive NoArg body follows inside Open f exits around t k r l temps s h = absurd f.0
+  counts node place inclusive (ByPath path rest) body follows inside Open f exits around t k r l temps s h = absurd f.0
+  counts node place inclusive (ByValue first NoArg) body follows inside Open f exits around t k r l temps s h = absurd f.0
+  counts node place inclusive (ByValue first (ByPath path rest)) body follows inside Open f exits around t k r l temps s h = absurd f.0
+  counts node place inclusive (ByValue first (ByValue last rest)) body follows inside Open f exits around t k r l temps s h =
+      let K = ending node place inclusive first last rest body follows inside Open f exits around t k in
+      let lines_next = next_lines node place inclusive first last rest body follows inside Open f exits around t k in
+      let begin = beginning node place inclusive first last rest body follows inside Open f exits around t k in
+      let top_of = hi node place inclusive first last rest body follows inside Open f exits around t k in
+      let all_ends = heads_end node place inclusive first last rest body follows inside Open f exits around t k in
+      let around1 = around_head node place inclusive first last rest body follows inside Open f exits around t k in
+      let head1 : Args = ByValue first (ByValue last rest) in
       let turn : List Ready → ℤ → Does (TurnOf ℤ (Unit {0})) =
       λ ready. count_turn node.number here place (last_of body) (exec_all body here) (limit inclusive (number_of (ready_operand (ready_rest ready)))) in
-      let some = plain node place inclusive first last rest body follows inside Open f p exits around t k in
-      let over : List Ready → Does (Unit {0}) = λ ready. loop (turn ready) (number_of (ready_operand ready)) in
-      subst (λ (part : Does (Unit {0})). Runs c.fixed (Left c around k t top_of temps s.world) 0 0
-      (there c (lines_in types modes c.result (Loop node (Count place inclusive) (ByValue first (ByValue last rest)) body) exits t k) temps s.world) s.meter
-      (costs 1 (at_node node.number Begins part) s))
-      (sym (head_alone here (ByValue first (ByValue last rest)) (acting.◌>>=◌ (head_values (ByValue first (ByValue last rest)) here) over) some.0))
-      (pays 12 1 (omega arith)
+      let looping : List Ready → Does (Unit {0}) = λ ready. loop (turn ready) (number_of (ready_operand ready)) in
+      let s1 : State = with_trail (Point node.number Begins ∷ s.trail) (worked 1 s) in
+      pays 12 1 (omega arith)
+      (group_leaves c around (waiting_all facts modes head1 (λ i. Owned) 0) (waits_listed_all c top room names Open head1 (λ i. Owned) 0 f.1)
+      (acting.◌>>=◌ (head_values head1 here) looping) s1
       (after 12 (omega arith) (omega arith)
-      (args_follow c top room names Open calls false (ByValue first (ByValue last rest)) f.1 some.0 (λ i. Owned) (λ e. absurd (false≢true e)) 0 (suc t)
-      begin temps
-      (with_trail (Point node.number Begins ∷ s.trail) (worked 1 s)) h)
+      (args_follow c top room names Open calls (Building []) head1 f.1 (λ i. Owned) 0 (suc t) begin temps s1 h)
       (λ ready b now ready_is kept since.
-      let v = ready_is.0 in
       let more = ready_is.4 in
-      let w = more.0 in
-      let invariant = Inv node place inclusive first last rest body follows inside Open f p exits around t k l temps s.world h w in
-      let is : ready ≡ Evaluated (Given v) ∷ Evaluated (Given w) ∷ more.1 = ready_is.2 ∙ ap (λ r. Evaluated (Given v) ∷ r) more.2 in
-      subst (λ ready. Runs c.fixed (Left c around k t top_of temps s.world) 12 0 (there c begin now b.world) b.meter
-      (loop (turn ready) (number_of (ready_operand ready)) b)) (sym is)
-      (loop_ends c around t K lines_next t top_of temps s.world invariant {q = 6} {Q = 0} (omega arith)
+      let at_first = subst (λ from. IsAt (suc t) (suc t + width first) from ready_is.0 now) (owned_from facts (Building []) first (suc t)) ready_is.3 in
+      let at_last = subst (λ from. IsAt (suc t + width first) (suc t + width first + width last) from more.0 now)
+      (owned_from facts (Building []) last (suc t + width first)) more.3 in
+      let v = at_first.0 in
+      let w = at_last.0 in
+      let invariant = Inv node place inclusive first last rest body follows inside Open f exits around t k l temps s.world h w in
+      let is : ready ≡ Evaluated (Given v) ∷ Evaluated (Given w) ∷ more.1 =
+      ready_is.2 ∙ (ap (λ x. Evaluated x ∷ ready_is.1) at_first.1
+      ∙ ap (λ r. Evaluated (Given v) ∷ r) (more.2 ∙ ap (λ x. Evaluated x ∷ more.1) at_last.1)) in
+      subst (λ ready. Runs c.fixed (Left c around1 (all_ends k) t top_of temps s.world) 12 0 (there c begin now b.world) b.meter (looping ready b)) (sym is)
+      (loop_ends c around1 t K lines_next t top_of temps s.world invariant {q = 6} {Q = 0} (omega arith)
       (spares 6 6 (omega arith) (omega arith)
-      (runs_loop c around t K lines_next t top_of temps s.world invariant 6 (turn (Evaluated (Given v) ∷ Evaluated (Given w) ∷ more.1))
-      (a_turn node place inclusive first last rest body follows inside Open f p exits around t k l temps s.world h w) (number_of v) b
+      (runs_loop c around1 t K lines_next t top_of temps s.world invariant 6 (turn (Evaluated (Given v) ∷ Evaluated (Given w) ∷ more.1))
+      (a_turn node place inclusive first last rest body follows inside Open f exits around t k l temps s.world h w) (number_of v) b
       (there c begin now b.world)
       (inl (record {
         now = now;
         value = v;
         is = refl;
-        counts = ready_is.3;
+        counts = at_first.2;
         number = refl;
-        ends = more.3;
+        ends = at_last.2;
         kept = kept_wide (omega arith) (omega arith) kept;
         since = since;
       }))))
-      (λ b last kept since. goes c 0 1 (omega arith) refl (stays c around b last (omega arith) kept since))))))
+      (λ b last kept since. goes c 0 1 (omega arith) refl (stays c around1 b last (omega arith) kept since))))))

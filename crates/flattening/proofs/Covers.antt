@@ -10,14 +10,17 @@ use Rattle.nim_types.specs.Forms.{Form, Forms, size, size_all, form_of, or_word}
 use Rattle.nim_types.specs.Table.{type_at}
 use Rattle.nim_types.proofs.ForCallers.{same_sound, same_refl}
 use Rattle.nim_program.specs.declared.expr.Node.{Node}
+use Rattle.nim_program.specs.declared.program.Mode.{Mode}
+use Rattle.nim_program.specs.declared.program.Mode.TheVariants.{Plain}
 use Rattle.nim_program.specs.Kinds.{is_among_types}
 use Rattle.nim_program.specs.Sizes.{type_bytes}
 use Rattle.nim_meaning.specs.Here.{is_hooked}
 use Rattle.flat_code.specs.declared.line.Line.{Line}
 use Rattle.flat_code.specs.declared.place.FlatPlace.{FlatPlace}
 use Rattle.flat_code.specs.declared.place.PlaceKind.{PlaceKind}
+use Rattle.flat_code.specs.declared.place.PlaceKind.TheVariants as K
 use Rattle.flat_code.specs.Scene.{Known}
-use Rattle.flat_code.specs.Sizes.{places_bytes}
+use Rattle.flat_code.specs.Sizes.{kind_bytes, lent_bytes, place_bytes, places_bytes}
 use Rattle.flat_code.specs.Alike.{value_name, name_of, is_named, gives_text}
 use Rattle.flattening.specs.Numbering.{type_number}
 use Rattle.flattening.specs.Places.{place}
@@ -168,10 +171,20 @@ module _ (types : List Ty) (facts : Facts) where
 
   -- ---- places of types of the table
 
-  pub place_plain : (lines : List Line) (number : ℕ) (node : Node) (kind : PlaceKind) (ty : Ty) → IsFine types facts ty →
-      IsPlainPlace (known types facts) lines (place types number node.at kind ty)
-  place_plain lines number node kind ty f =
+  pub place_plain : (modes : (proc position : ℕ) → Mode) (lines : List Line) (number : ℕ) (node : Node) (kind : PlaceKind) (ty : Ty) →
+      IsFine types facts ty → IsPlainPlace (known types facts) lines (place types facts modes number node.at kind ty)
+  place_plain modes lines number node kind ty f =
       inr (number_within types ty f.0, inl (subst (λ t. is_hooked facts t ≡ false) (sym (listed types ty f.0)) f.1))
 
   pub value_bytes : (ty : Ty) → is_among_types types ty ≡ true → type_bytes facts (type_at types (type_number types ty)) ≡ type_bytes facts ty
   value_bytes ty among = ap (type_bytes facts) (listed types ty among)
+
+  -- without hooks nothing is lent
+  unlent : (kind : PlaceKind) (hooked : Bool) (n : ℕ) → hooked ≡ false → lent_bytes kind hooked n ≡ kind_bytes kind n
+  unlent kind true n e = never (sym e)
+  unlent (K.Param Plain) false n e = refl
+  unlent kind false n e = refl
+
+  pub fine_bytes : (modes : (proc position : ℕ) → Mode) (number : ℕ) (node : Node) (kind : PlaceKind) (ty : Ty) → IsFine types facts ty →
+      place_bytes (known types facts) (place types facts modes number node.at kind ty) ≡ kind_bytes kind (type_bytes facts ty)
+  fine_bytes modes number node kind ty f = unlent kind (is_hooked facts ty) _ f.1 ∙ ap (kind_bytes kind) (value_bytes ty f.0)

@@ -2,7 +2,8 @@
 use Rattle.std.proofs.Common.{◌≡◌, ◌≢◌, ℕ, suc, ◌≤◌, ◌⊎◌, inl, inr, Bool, true, false, List, [], ◌∷◌, ◌++◌, Some, refl, sym, ap, ◌∙◌, subst, arith}
 use Rattle.std.specs.Prelude.{nat_le, nat_lt, ◌&&◌, if◌then◌else◌, map}
 use Rattle.std.proofs.lemmas.Bool.{and_parts, and_from, leb-true, ne_eqb, lt-ltb}
-use Rattle.nim_types.specs.Types.{Ty}
+use Rattle.nim_types.specs.Types.{Ty, Facts}
+use Rattle.nim_program.specs.declared.program.Mode.{Mode}
 use Rattle.nim_program.specs.Program.{Declared, Stmts}
 use Rattle.nim_program.specs.Folds.{Part, Declaring, Handling, Seen, lists, total_of, own_places}
 use Rattle.nim_program.specs.Numbering as numbering
@@ -15,10 +16,10 @@ use Rattle.flat_code.specs.declared.place.FlatPlace.{FlatPlace}
 use Rattle.flat_code.specs.Fits.{is_declared, is_own, place_named, type_by_kind, are_within}
 use Rattle.flattening.specs.Formed.{IsListed}
 use Rattle.flattening.specs.Numbering.{type_number}
-use Rattle.flattening.specs.Places.{kind_of_declared, place, all_declared, own_declared}
-use Rattle.flattening.proofs.FitParts.{never}
+use Rattle.flattening.specs.Places.{kind_of_declared, all_declared, own_declared}
 use Rattle.flattening.proofs.Numbered.{named_here}
 use Rattle.flattening.proofs.Parts.{Each, apart, both}
+use Rattle.flattening.proofs.Simple.{never}
 
 -- the kind of what a block declares
 abbrev pub is_block : PlaceKind → Bool
@@ -79,18 +80,19 @@ kind_block globals (Declaring cursor) d = by (is_global_number globals d.number)
 kind_block globals Handling d = refl
 kind_block globals part d = refl
 
-all_like : (types : List Ty) (kind : Declared → PlaceKind) → ((d : Declared) → is_block (kind d) ≡ true) → (ds : List Declared) →
-    Likes types (all_declared types kind ds) ds
-all_like types kind is [] = tt
-all_like types kind is (d ∷ ds) = (record { number = refl; of = refl; block = is d }, all_like types kind is ds)
+module _ (types : List Ty) (facts : Facts) (modes : (proc position : ℕ) → Mode) where
+  all_like : (kind : Declared → PlaceKind) → ((d : Declared) → is_block (kind d) ≡ true) → (ds : List Declared) →
+      Likes types (all_declared types facts modes kind ds) ds
+  all_like kind is [] = tt
+  all_like kind is (d ∷ ds) = (record { number = refl; of = refl; block = is d }, all_like kind is ds)
 
-pub block_like : (types : List Ty) (globals : List Declared) (b : Stmts) →
-    Likes types (total_of lists (own_declared types globals) b) (total_of lists own_places b)
-block_like types globals b = related_of lists lists (own_declared types globals) own_places (Likes types) (record {
-  none = tt;
-  plus = λ ps qs ds es h k. likes_both types ps qs ds es h k;
-  own = λ seen. all_like types (kind_of_declared globals seen.part) (kind_block globals seen.part) seen.places;
-}) b
+  pub block_like : (globals : List Declared) (b : Stmts) →
+      Likes types (total_of lists (own_declared types facts modes globals) b) (total_of lists own_places b)
+  block_like globals b = related_of lists lists (own_declared types facts modes globals) own_places (Likes types) (record {
+    none = tt;
+    plus = λ ps qs ds es h k. likes_both types ps qs ds es h k;
+    own = λ seen. all_like (kind_of_declared globals seen.part) (kind_block globals seen.part) seen.places;
+  }) b
 
 -- the types of what a block declares stand in it
 pub place_listed : (types : List Ty) (ds : List Declared) → Each (IsListed types) (map (λ (d : Declared). d.of) ds) →

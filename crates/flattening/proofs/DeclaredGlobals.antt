@@ -16,7 +16,9 @@ use Rattle.flat_code.specs.declared.place.FlatPlace.{FlatPlace}
 use Rattle.flat_code.specs.declared.place.PlaceKind.TheVariants as K
 use Rattle.flat_code.specs.Fits.{is_global, is_declared, place_named, if_type_of}
 use Rattle.flat_code.specs.Scene.{Known}
-use Rattle.flattening.specs.Flattened.{known_of}
+use Rattle.nim_plan.specs.declared.plan.Plan.{Plan}
+use Rattle.nim_program.specs.declared.program.Mode.{Mode}
+use Rattle.flattening.specs.Flattened.{known_of, modes_of}
 use Rattle.flattening.specs.Formed.{IsListed}
 use Rattle.flattening.specs.Places.{kind_of_declared, of_declared, own_declared, body_places}
 use Rattle.flattening.proofs.Declared.{Member, member_second, place_listed}
@@ -32,7 +34,7 @@ one e = cc
 nothing : {A : Type 0} {B : Type 0} {x : A} → None ≡ Some x → B
 nothing e = cc
 
-module _ (program : Program) where
+module _ (program : Program) (plan : Plan) where
   abbrev types : List Ty
   types = program.types
 
@@ -45,12 +47,15 @@ module _ (program : Program) where
   abbrev known : Known
   known = known_of program
 
+  abbrev modes : (proc position : ℕ) → Mode
+  modes = modes_of program plan
+
   abbrev start : List FlatPlace
-  start = body_places types program.globals [] program.start
+  start = body_places types facts modes plan.sinks program.globals [] program.start
 
   -- what is known where so many of them are there
   abbrev seen_by : ℕ → List Placed → Here
-  seen_by filled first_in = parts.seen types facts program.procs globals [] start start filled first_in None
+  seen_by filled first_in = parts.seen types facts modes program.procs globals [] start start filled first_in None
 
   -- ---- types that stand in a body
 
@@ -99,14 +104,14 @@ module _ (program : Program) where
     first_in = map placed (if_declared program.start.result)
 
     globals_found : (filled : ℕ) (b : Stmts) → is_typed_code (seen_by filled first_in) b ≡ true →
-        ((p : FlatPlace) → Member p (total_of lists (own_declared types program.globals) b) →
-        Member p (total_of lists (own_declared types program.globals) program.start.stmts)) →
+        ((p : FlatPlace) → Member p (total_of lists (own_declared types facts modes program.globals) b) →
+        Member p (total_of lists (own_declared types facts modes program.globals) program.start.stmts)) →
         Each (IsListed types) (total_of lists own_types b) → Each Found (drop filled globals)
     globals_found filled Empty h within l = subst (Each Found) (sym (drop_all filled globals (eqb-true filled (length globals) h))) tt
     globals_found filled (Then first rest) h within l =
         globals_found filled rest (and_parts (is_typed_stmt _ module_code first) _ h).1
-        (λ p m. within p (member_second p (total_in lists (own_declared types program.globals) first)
-        (total_of lists (own_declared types program.globals) rest) m))
+        (λ p m. within p (member_second p (total_in lists (own_declared types facts modes program.globals) first)
+        (total_of lists (own_declared types facts modes program.globals) rest) m))
         (apart (IsListed types) (total_in lists own_types first) (total_of lists own_types rest) l).1
     globals_found filled (Declare node place cursor value rest) h within l =
         let seen = seen_by filled first_in in
@@ -114,12 +119,12 @@ module _ (program : Program) where
         let r = and_parts (is_next (slice_get globals filled) (placed place)) (starts facts place.of value && are_typed seen value) q.0 in
         next (slice_get globals filled) refl r.0
         (globals_found (suc filled) rest q.1
-        (λ p m. within p (inr (member_second p (totals lists (own_declared types program.globals) value)
-        (total_of lists (own_declared types program.globals) rest) m)))
+        (λ p m. within p (inr (member_second p (totals lists (own_declared types facts modes program.globals) value)
+        (total_of lists (own_declared types facts modes program.globals) rest) m)))
         (apart (IsListed types) (totals lists own_types value) (total_of lists own_types rest) l.1).1)
       where
         flat : FlatPlace
-        flat = of_declared types (kind_of_declared program.globals (Declaring cursor) place) place
+        flat = of_declared types facts modes (kind_of_declared program.globals (Declaring cursor) place) place
 
         next : (o : Option Placed) → slice_get globals filled ≡ o → is_next o (placed place) ≡ true → Each Found (drop (suc filled) globals) →
             Each Found (drop filled globals)
@@ -132,8 +137,9 @@ module _ (program : Program) where
             ap (λ b. if b then K.Global else if cursor then K.Cursor else K.Local)
             (subst (λ n. is_global_number program.globals n ≡ true) number (told program.globals filled g e)) in
             let is : if_type_of known (place_named is_global start place.number) ≡ Some place.of =
-            bodies.type_found types facts program.globals [] program.start numbered is_global flat place
-            (bodies.in_blocks types facts program.globals [] program.start numbered flat (within flat (inl refl))) (ap is_global kind) (ap is_declared kind)
+            bodies.type_found types facts modes plan.sinks program.globals [] program.start numbered is_global flat place
+            (bodies.in_blocks types facts modes plan.sinks program.globals [] program.start numbered flat (within flat (inl refl))) (ap is_global kind)
+            (ap is_declared kind)
             refl refl l.0 in
             subst (Each Found) (sym (drop_next filled globals g e))
             (ap (λ n. if_type_of known (place_named is_global start n)) number ∙ is ∙ ap Some (sym of), rest)

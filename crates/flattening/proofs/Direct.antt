@@ -1,4 +1,4 @@
--- Expressions without dereferences and without calls that have types for type parameters: those of programs of which nothing is left out.
+-- Code without calls that have types for type parameters, whose constants are texts or have no hooks: that of programs of which nothing is left out.
 use Rattle.std.proofs.Common.{◌≡◌, Bool, true, false, List, [], ◌∷◌, Option, None, refl, ap, ◌∙◌}
 use Rattle.std.specs.Prelude.{not, ◌&&◌, ◌||◌}
 use Rattle.std.proofs.lemmas.Bool.{both_ways, and_from, or_parts, not-false}
@@ -6,9 +6,12 @@ use Rattle.nim_types.specs.Types.{Ty, Facts}
 use Rattle.nim_program.specs.Program.{Literal, Characters, Number, NoObject, PartsOf, ElementsOf, Act, Doing, Building, Giving, Calling, Expr, Apply, Read}
 use Rattle.nim_program.specs.Program.{Early, Choose}
 use Rattle.nim_program.specs.Program.{Path, Variable, Fresh, Field, Element, Deref, Args, NoArg, ByValue, ByPath, types_in}
+use Rattle.nim_program.specs.Program.{Stmt, Do, Idle, Give, Leave, Select, Loop, Raise, Try, Stmts, Empty, Then, Declare, Defer, Blocks, Otherwise, Block}
+use Rattle.nim_program.specs.Folds.{loop_places}
 use Rattle.nim_meaning.specs.Here.{is_hooked, gives_hooked}
+use Rattle.nim_meaning.specs.LeftOut.{◌or_then◌, earlier, any_place_hooked, left_out_in_stmt, left_out_in_block, left_out_in_blocks}
 use Rattle.nim_meaning.specs.LeftOut.{is_act_built, writes_literals, unless_literal, out_if, first_hooked, left_out_in, left_out_in_path, left_out_in_args}
-use Rattle.flattening.proofs.Plain.{kept, neither, found}
+use Rattle.flattening.proofs.Plain.{kept, neither, found, none_earlier}
 
 -- a text, which a line reads where it stands
 abbrev pub is_text : Literal → Bool
@@ -34,12 +37,36 @@ module _ (facts : Facts) where
     is_direct_path (Fresh value) = is_direct value
     is_direct_path (Field node ty base field) = is_direct_path base
     is_direct_path (Element node ty base index constant) = is_direct_path base && is_direct index
-    is_direct_path (Deref ty base) = false
+    is_direct_path (Deref ty base) = is_direct_path base
 
     pub are_direct : Args → Bool
     are_direct NoArg = true
     are_direct (ByValue value rest) = is_direct value && are_direct rest
     are_direct (ByPath path rest) = is_direct_path path && are_direct rest
+
+  -- exceptions have no lines yet
+  abbrev mutual
+    pub is_direct_stmt : Stmt → Bool
+    is_direct_stmt (Do value) = is_direct value
+    is_direct_stmt (Idle node parts) = true
+    is_direct_stmt (Give node back value) = is_direct value
+    is_direct_stmt (Leave node leaving parts) = true
+    is_direct_stmt (Select node chooser tests blocks) = are_direct tests && are_direct_blocks blocks
+    is_direct_stmt (Loop node kind head body) = are_direct head && is_direct_block body
+    is_direct_stmt (Raise node exception message) = true
+    is_direct_stmt (Try node body handlers last) = true
+
+    pub is_direct_block : Stmts → Bool
+    is_direct_block Empty = true
+    is_direct_block (Then first rest) = is_direct_stmt first && is_direct_block rest
+    is_direct_block (Declare node place cursor value rest) = are_direct value && is_direct_block rest
+    is_direct_block (Defer node last rest) = true
+
+    pub are_direct_blocks : Blocks → Bool
+    are_direct_blocks (Otherwise block) = is_direct_block block
+    are_direct_blocks (Block first rest) = is_direct_block first && are_direct_blocks rest
+
+  -- ---- where nothing is left out
 
   unhooked_right : (literal : Literal) (b : Bool) → b ≡ false → is_text literal || not b ≡ true
   unhooked_right literal b h = ap (λ c. is_text literal || not c) h ∙ or_true (is_text literal)
@@ -104,3 +131,38 @@ module _ (facts : Facts) where
     all_direct written (ByPath path rest) p =
         let q = neither (left_out_in_path facts path) (left_out_in_args facts written rest) p in
         and_from (is_direct_path path) (are_direct rest) (direct_path path q.0) (all_direct written rest q.1)
+
+  mutual
+    pub direct_stmt : (s : Stmt) → left_out_in_stmt facts s ≡ None → is_direct_stmt s ≡ true
+    direct_stmt (Do value) p = direct value p
+    direct_stmt (Idle node parts) p = refl
+    direct_stmt (Give node back value) p = direct value p
+    direct_stmt (Leave node leaving parts) p = refl
+    direct_stmt (Select node chooser tests blocks) p =
+        let q = none_earlier (left_out_in_args facts false tests) (left_out_in_blocks facts blocks)
+        (neither (out_if (first_hooked facts (types_in tests)) node) (earlier (left_out_in_args facts false tests) (left_out_in_blocks facts blocks)) p).1 in
+        and_from (are_direct tests) (are_direct_blocks blocks) (all_direct false tests q.0) (direct_blocks blocks q.1)
+    direct_stmt (Loop node kind head body) p =
+        let q = neither (left_out_in_args facts false head) (left_out_in_block facts body)
+        (neither (out_if (any_place_hooked facts (loop_places kind) || first_hooked facts (types_in head)) node)
+        (left_out_in_args facts false head or_then left_out_in_block facts body) p).1 in
+        and_from (are_direct head) (is_direct_block body) (all_direct false head q.0) (direct_block body q.1)
+    direct_stmt (Raise node exception message) p = refl
+    direct_stmt (Try node body handlers last) p = refl
+
+    pub direct_block : (b : Stmts) → left_out_in_block facts b ≡ None → is_direct_block b ≡ true
+    direct_block Empty p = refl
+    direct_block (Then first rest) p =
+        let q = neither (left_out_in_stmt facts first) (left_out_in_block facts rest) p in
+        and_from (is_direct_stmt first) (is_direct_block rest) (direct_stmt first q.0) (direct_block rest q.1)
+    direct_block (Declare node place cursor value rest) p =
+        let q = neither (left_out_in_args facts false value) (left_out_in_block facts rest)
+        (neither (out_if (is_hooked facts place.of) node) (left_out_in_args facts false value or_then left_out_in_block facts rest) p).1 in
+        and_from (are_direct value) (is_direct_block rest) (all_direct false value q.0) (direct_block rest q.1)
+    direct_block (Defer node last rest) p = refl
+
+    direct_blocks : (bs : Blocks) → left_out_in_blocks facts bs ≡ None → are_direct_blocks bs ≡ true
+    direct_blocks (Otherwise block) p = direct_block block p
+    direct_blocks (Block first rest) p =
+        let q = neither (left_out_in_block facts first) (left_out_in_blocks facts rest) p in
+        and_from (is_direct_block first) (are_direct_blocks rest) (direct_block first q.0) (direct_blocks rest q.1)

@@ -1,61 +1,55 @@
--- Flat code follows every expression: the induction over the tree.
-use Rattle.std.proofs.Common.{◌≡◌, ℕ, suc, ◌+◌, Bool, true, false, ◌&&◌, List, [], ◌∷◌, Option, refl, sym, ap, ◌∙◌, subst, arith}
-use Rattle.std.specs.Prelude.{not}
-use Rattle.std.proofs.lemmas.Bool.{and_parts}
-use Rattle.arc_base.specs.BigStep.{then_do}
+-- Flat code follows operations, reads and paths.
+use Rattle.std.proofs.Common.{◌≡◌, ℕ, suc, ◌+◌, ◌<◌, ◌≤◌, Bool, true, false, List, [], ◌∷◌, length, Option, Some, None, refl, sym, ap, ◌∙◌, subst, arith}
+use Rattle.std.specs.Prelude.{ℤ}
+use Rattle.std.proofs.lemmas.Bool.{false≢true}
 use Rattle.nim_types.specs.Types.{Ty, Facts}
 use Rattle.nim_program.specs.declared.expr.Node.{Node}
 use Rattle.nim_program.specs.declared.operation.Use.{Use}
-use Rattle.nim_program.specs.declared.operation.Use.TheVariants.{Looked}
+use Rattle.nim_program.specs.declared.operation.Use.TheVariants.{Owned, Looked}
 use Rattle.nim_program.specs.declared.program.Mode.{Mode}
-use Rattle.nim_program.specs.Program.{Giving, Characters, Label, ByConditions, ByLabels, Expr, Apply, Read, Early, Choose, Path, Variable, Fresh, Field}
-use Rattle.nim_program.specs.Program.{Element, Deref}
-use Rattle.nim_program.specs.Program.{Args, NoArg, ByValue, ByPath, type_of, type_at}
-use Rattle.nim_meaning.specs.Values.{Value, Location}
-use Rattle.nim_meaning.specs.ActTree.{Chooses}
+use Rattle.nim_program.specs.Program.{Literal, Act, Expr, Apply, Read, Early, Choose, Path, Variable, Fresh, Field, Element, Deref, Args}
+use Rattle.nim_program.specs.Program.{node_of, node_at, type_of, type_at, types_in, constant_in}
+use Rattle.nim_program.specs.Folds.{by_constant, if_constant}
+use Rattle.nim_program.specs.Uses.{use_of}
+use Rattle.nim_program.specs.View.{if_type}
+use Rattle.nim_meaning.specs.Values.{Value, number_of, literal_value, Standing, Made, Location}
+use Rattle.nim_meaning.specs.State.{State}
+use Rattle.nim_meaning.specs.ActTree.{Does as Done_by}
 use Rattle.nim_meaning.specs.Ways.{At as Point}
-use Rattle.nim_meaning.specs.Acts.{Does, onward, worked, with_trail}
-use Rattle.nim_meaning.specs.Deeds.{carry}
-use Rattle.nim_meaning.specs.Here.{Here, is_hooked, gives_hooked}
-use Rattle.nim_meaning.specs.LeftOut.{writes_literals}
-use Rattle.nim_meaning.specs.Runs.{is_plain_type, is_plain_value, is_plain_path, are_plain}
-use Rattle.nim_meaning.proofs.ForCallers.{plain_none, plain_value, plain_path}
-use Rattle.nim_meaning.specs.Places.{fetched}
-use Rattle.nim_meaning.specs.Shapes.{is_covered}
-use Rattle.nim_meaning.specs.Meaning.{at_node, at_path, handed_on, picked_value, selecting}
-use Rattle.nim_meaning.specs.Aims.{find}
+use Rattle.nim_meaning.specs.Acts.{Does, give, ◌>>=◌, with_trail}
+use Rattle.nim_meaning.specs.Shapes.{is_read}
+use Rattle.nim_meaning.specs.Here.{Here, level_of, gives_hooked}
+use Rattle.nim_meaning.specs.Waiting.{held_from}
+use Rattle.nim_meaning.specs.Meaning.{destination, carried, got, got_by, eval, source, aimed}
+use Rattle.nim_meaning.specs.Aims.{Root, PartOf, ItemOf, ObjectOf, fresh_root}
+use Rattle.flat_code.specs.declared.line.Line.{Line}
 use Rattle.flat_code.specs.declared.line.Line.TheVariants as L
-use Rattle.flat_code.specs.Scene.{with_value, location_at}
-use Rattle.flat_code.specs.Lines.{using}
+use Rattle.flat_code.specs.Scene.{Temps, with_value, location_at}
+use Rattle.flat_code.specs.Lines.{using, level_at}
 use Rattle.flat_code.specs.Lines as does
-use Rattle.flattening.specs.declared.numbers.Purpose.TheVariants.{End, Next}
-use Rattle.flattening.specs.Numbering.{arm_count, width, width_at, widths, label, looked_from, behind_selector}
-use Rattle.flattening.specs.ExprLines.{find_lines, value_tests, arm_lines}
+use Rattle.flattening.specs.Numbering.{if_number, width, width_at, widths}
+use Rattle.flattening.specs.ExprLines.{use_at, froms, act_line, back_line, find_lines, settle_lines, taken_lines, lines, aim_lines, copied_lines}
 use Rattle.flattening.specs.Flattened.{modes_of}
-use Rattle.flattening.specs.Formed.{Scope, Formed, PathFormed, AllFormed, AllOrdinals}
-use Rattle.flattening.proofs.Runs.{Runs, pays, spares}
+use Rattle.flattening.specs.Formed.{Scope, Formed, PathFormed}
+use Rattle.flattening.proofs.Runs.{Runs}
 use Rattle.flattening.proofs.Worlds.{since_none, since_then}
-use Rattle.flattening.proofs.Temps.{kept_none, kept_then, kept_wide, kept_value, put_same}
-use Rattle.flattening.proofs.Spots.{Spot, here_of, there, scene, Lands, after_both, answers, further, performs_alone, at_point}
-use Rattle.flattening.proofs.Standing.{grounded, stands_since}
-use Rattle.flattening.proofs.Paths.{find_follows}
-use Rattle.flattening.proofs.Acting.{Has, IsPlainIf, CallsFollow}
-use Rattle.flattening.proofs.Groups.{as_it_is}
-use Rattle.flattening.proofs.Choices.{ExprFollows, alone_follows, branch_follows, ChoiceFollows, TestsFollow, no_choice, last_choice, a_choice, none_follows}
-use Rattle.flattening.proofs.Arms.{none_fits, none_by_path, otherwise, an_arm}
-use Rattle.flattening.proofs.Exprs.{AimFollows, ArgsFollow, SelectFollows, variable_follows, fresh_follows, field_follows, element_follows, deref_follows}
-use Rattle.flattening.proofs.Exprs.{value_follows, text_follows, path_follows, apply_follows, read_follows, early_is}
-use Rattle.flattening.proofs.Widths.{same_width, some_width_at, selector_width}
+use Rattle.flattening.proofs.Openings.{answering_all}
+use Rattle.flattening.proofs.Temps.{kept_none, kept_then, kept_wide, kept_value, put_same, value_before}
+use Rattle.flattening.proofs.Spots.{Spot, here_of, there, scene, Lands, after, answers, further, performs_alone, at_point}
+use Rattle.flattening.proofs.Standing.{grounded, Stands, stands_since}
+use Rattle.flattening.proofs.Groups.{Has, ExprFollows, taken_follows}
+use Rattle.flattening.proofs.Paths.{Leads, leads_now, leads_wide, Begins, Aims, aims_kept, find_gain, aim_gain, gains, find_follows}
+use Rattle.flattening.proofs.Acting.{CallsFollow, type_is, act_follows}
+use Rattle.flattening.proofs.Operands.{Readies, settle_follows}
+use Rattle.flattening.proofs.Lending.{AimFollows, SourceFollows, ArgsFollow}
+use Rattle.flattening.proofs.Widths.{same_width, fresh_width, some_width, some_width_at, read_width}
 
-module _ (c : Spot) (top : Bool) (room : ℕ → Type 0) (names : (proc place : ℕ) → Type 0) (Open : Scope) (calls : CallsFollow c names) where
-  abbrev types : List Ty
-  types = c.fixed.program.types
-
+module _ (c : Spot) (top : Bool) (room : ℕ → Type 0) (names : (proc place : ℕ) → Type 0) (Open : Scope) where
   abbrev facts : Facts
   facts = c.fixed.program.facts
 
-  abbrev hooked : Ty → Bool
-  hooked = is_hooked facts
+  abbrev types : List Ty
+  types = c.fixed.program.types
 
   abbrev modes : (proc position : ℕ) → Mode
   modes = modes_of c.fixed.program c.fixed.plan
@@ -63,179 +57,132 @@ module _ (c : Spot) (top : Bool) (room : ℕ → Type 0) (names : (proc place : 
   abbrev here : Here
   here = here_of c
 
-  by_conditions : (node : Node) (ty : Option Ty) (parts : Args) → ((how : Use) (t : ℕ) → ChoiceFollows c top room names Open parts ty how node.number t) →
-      ExprFollows c top room names Open (Choose node ty ByConditions parts)
-  by_conditions node ty parts follows how t k temps s h =
-      pays 12 1 (omega arith)
-      (further {lo' = t} {hi' = suc t + widths parts} (omega arith) (omega arith) (kept_none t (t + width (Choose node ty ByConditions parts)) temps)
-      (since_none c.level s.world) (λ v now has kept. has)
-      (follows how t (suc t) (omega arith) k temps (with_trail (Point node.number Chooses ∷ s.trail) (worked 1 s)) h))
+  -- ---- paths
 
-  by_labels : (node : Node) (ty : Option Ty) (labels : List (List Label)) (parts : Args) → SelectFollows c top room names Open calls labels parts ty →
-      ExprFollows c top room names Open (Choose node ty (ByLabels labels) parts)
-  by_labels node ty labels parts follows how t k temps s h =
-      pays 12 1 (omega arith)
-      (let w = selector_width labels parts t in
-      let sel = suc t + arm_count (ByLabels labels) in
-      further {lo' = t} {hi' = behind_selector parts sel} (omega arith) (omega (arith, w))
-      (kept_none t (t + width (Choose node ty (ByLabels labels) parts)) temps)
-      (since_none c.level s.world) (λ v now has kept. has)
-      (follows node.number how t sel (omega arith) k temps (worked 1 s) h))
+  same_level : (global : Bool) → level_of global here ≡ level_at global c.level
+  same_level true = refl
+  same_level false = refl
 
-  -- ---- the selector of a `case`
+  pub variable_follows : (node : Node) (ty : Ty) (place : ℕ) (global : Bool) → AimFollows c top room names Open (Variable node ty place global)
+  variable_follows node ty place global t k temps s h =
+      answers (Root (Standing (level_of global here) place)) s temps (omega arith) (ap (λ l. Root (Standing l place)) (same_level global))
+      (kept_none t (t + 1) temps) (since_none c.level s.world)
 
-  selects_none : (labels : List (List Label)) (ty : Option Ty) → IsPlainIf c ty → SelectFollows c top room names Open calls labels NoArg ty
-  selects_none labels ty listed node how t u less k temps s h =
-      spares 8 2 (omega arith) (omega arith) (none_follows c top room names Open ty listed how node t (u + 0) (omega (arith, less)) k temps s)
+  -- a constant is where it stands, any other value comes to the next temporary
+  begin_follows : (constant : Option Literal) (value : Expr) → ExprFollows c top room names Open value → (t : ℕ) (k : List Line) (temps : Temps) (s : State) →
+      Stands c room Open s.world →
+      Runs c.fixed (Lands c k t (t + fresh_width constant value) temps s.world (Begins c top room names Open constant value t)) 0 (if_constant constant 0 2)
+      (there c (if_constant constant k (lines types facts modes value Looked (suc t) k)) temps s.world) s.meter
+      (by_constant constant (λ literal. give (Root (Made (literal_value literal)))) (eval value Looked here
+      >>= (λ v. give (fresh_root (gives_hooked facts (type_of value)) c.level (node_of value).number v))) s)
+  begin_follows None value follows t k temps s h =
+      after 2 (omega arith) (omega arith) (follows Looked (suc t) k temps s h)
+      (λ v b now comes kept since.
+      answers (fresh_root (gives_hooked facts (type_of value)) c.level (node_of value).number v) b now (omega arith) (v, comes, refl)
+      (kept_wide (omega arith) (omega arith) kept) since)
+  begin_follows (Some literal) value follows t k temps s h =
+      answers (Root (Made (literal_value literal))) s temps (omega arith) refl (kept_none t (t + 1) temps) (since_none c.level s.world)
 
-  selects_value : (labels : List (List Label)) (selector : Expr) (rest : Args) (ty : Option Ty) → gives_hooked facts (type_of selector) ≡ false →
-      ExprFollows c top room names Open selector →
-      ((covered : Bool) (how : Use) (site t : ℕ) → TestsFollow c top room names Open covered labels rest ty how site t) →
-      SelectFollows c top room names Open calls labels (ByValue selector rest) ty
-  selects_value labels selector rest ty e follows tests node how t u less k temps s h =
-      let covered = is_covered (type_of selector) in
-      let u2 = u + width selector in
-      let K = L.Label (label End t) ∷ k in
-      let arms = arm_lines types modes covered labels rest ty how t u2 K in
-      let chooses : Value → Does Value = λ x. at_node node Chooses (picked_value covered labels rest x ty here) in
-      after_both (λ x. selecting here (type_of selector) x chooses) (onward (handed_on here how node ty)) 12 (omega arith) (omega arith)
-      (follows Looked u (value_tests labels rest u u2 (L.Jump (label Next t) ∷ arms)) temps s h)
-      (λ x b now comes kept since.
-      subst (λ act. Runs c.fixed (Lands c k t (behind_selector (ByValue selector rest) u) temps s.world (Has t)) 12 2
-      (there c (value_tests labels rest u u2 (L.Jump (label Next t) ∷ arms)) now b.world) b.meter (then_do (act b) (onward (handed_on here how node ty))))
-      (sym (as_it_is here (type_of selector) x chooses e))
-      (further {lo' = t} {hi' = u2 + widths rest} (omega arith) (omega arith) (kept_wide (omega (arith, less)) (omega arith) kept) since (λ v n p kept. p)
-      (tests covered how node t x u u2 (omega (arith, less)) k arms now (with_trail (Point node Chooses ∷ b.trail) b) comes (stands_since h since)
-      (λ name which. refl))))
+  pub fresh_follows : (value : Expr) → ExprFollows c top room names Open value → AimFollows c top room names Open (Fresh value)
+  fresh_follows value follows t k temps s h = begin_follows (constant_in value) value follows t k temps s h
 
-  selects_path : (labels : List (List Label)) (path : Path) (rest : Args) (ty : Option Ty) → PathFormed (grounded c top room names) Open path →
-      gives_hooked facts (type_at path) ≡ false →
-      AimFollows c top room names Open calls path →
-      ((covered : Bool) (how : Use) (site t : ℕ) → TestsFollow c top room names Open covered labels rest ty how site t) →
-      SelectFollows c top room names Open calls labels (ByPath path rest) ty
-  selects_path labels path rest ty f e follows tests node how t u less k temps s h =
-      let covered = is_covered (type_at path) in
-      let w = same_width path in
-      let some = some_width_at path in
-      let n = looked_from path u in
-      let u2 = n + width_at path in
-      let K = L.Label (label End t) ∷ k in
-      let arms = arm_lines types modes covered labels rest ty how t u2 K in
-      let behind = value_tests labels rest u u2 (L.Jump (label Next t) ∷ arms) in
-      let chooses : Value → Does Value = λ x. at_node node Chooses (picked_value covered labels rest x ty here) in
-      let selects : Value → Does Value = λ x. selecting here (type_at path) x chooses in
-      let reads : Location → Does Value = λ l s. then_do (at_path path (carry (fetched l)) s) (onward selects) in
-      after_both (λ aim s. then_do (find aim s) (onward reads)) (onward (handed_on here how node ty)) 12 (omega arith) (omega arith)
-      (follows n (find_lines types path n (L.Look u n ∷ behind)) temps s h)
+  pub field_follows : (node : Node) (ty : Ty) (base : Path) (field : ℕ) → AimFollows c top room names Open base →
+      AimFollows c top room names Open (Field node ty base field)
+  field_follows node ty base field follows t k temps s h =
+      let w = same_width base in
+      after (aim_gain base) (omega arith) (omega arith) (follows (suc t) k temps s h)
+      (λ aim b now aims kept since. answers (PartOf aim field) b now (omega arith) (aim, refl, aims) (kept_wide (omega arith) (omega (arith, w)) kept) since)
+
+  pub element_follows : (node : Node) (ty : Ty) (base : Path) (index : Expr) (constant : Option ℤ) → AimFollows c top room names Open base →
+      ExprFollows c top room names Open index → AimFollows c top room names Open (Element node ty base index constant)
+  element_follows node ty base index constant follows index_follows t k temps s h =
+      let w = same_width base in
+      let u = suc t + width_at base in
+      after (aim_gain base) (omega arith) (omega arith) (follows (suc t) (lines types facts modes index Owned u k) temps s h)
       (λ aim b now aims kept since.
-      after_both reads (onward (handed_on here how node ty)) 12 (omega arith) (omega arith)
-      (find_follows c top room names Open path f n (L.Look u n ∷ behind) now aim aims b (stands_since h since))
-      (λ l d last leads kept2 since2.
-      after_both selects (onward (handed_on here how node ty)) 12 (omega arith) (omega arith)
-      (at_point {p = 0} {q = 0} (carry (fetched l)) path d (λ trail.
-      performs_alone c {lo = u} {hi = suc u} {P = Has u} (λ v. with_value u last v) (fetched l) (with_trail trail d) (omega arith)
-      (λ world. put_same last.values u _) (λ v. kept_value u v (omega arith) (omega arith) (kept_none u (suc u) last))
-      (ap (λ o. using o (λ place. does.gives (scene c last d.world) u (fetched (location_at last place)))) leads.is
-      ∙ ap (λ l. does.gives (scene c last d.world) u (fetched l)) leads.at)))
-      (λ x g m has kept3 since3.
-      subst (λ act. Runs c.fixed (Lands c k t (behind_selector (ByPath path rest) u) temps s.world (Has t)) 12 2 (there c behind m g.world) g.meter
-      (then_do (act g) (onward (handed_on here how node ty)))) (sym (as_it_is here (type_at path) x chooses e))
-      (further {lo' = t} {hi' = u2 + widths rest} (omega arith) (omega (arith, w))
-      (kept_then (kept_wide (omega (arith, less)) (omega (arith, w)) kept) (kept_then (kept_wide (omega (arith, less)) (omega (arith, w)) kept2)
-      (kept_wide (omega (arith, less)) (omega (arith, w, some)) kept3))) (since_then since (since_then since2 since3)) (λ v n p kept. p)
-      (tests covered how node t x u u2 (omega (arith, less)) k arms m (with_trail (Point node Chooses ∷ g.trail) g) has
-      (stands_since h (since_then since (since_then since2 since3))) (λ name which. refl))))))
+      after (aim_gain base) (omega arith) (omega arith) (index_follows Owned u k now b (stands_since h since))
+      (λ z d last comes kept2 since2.
+      answers (ItemOf aim (number_of z)) d last (omega arith)
+      (aim, z, comes, refl, aims_kept c top room names Open base (suc t) aim now last (λ i le less. value_before i less kept2) aims)
+      (kept_then (kept_wide (omega arith) (omega (arith, w)) kept) (kept_wide (omega arith) (omega (arith, w)) kept2)) (since_then since since2)))
 
-  -- ---- the induction
+  pub deref_follows : (ty : Ty) (base : Path) → AimFollows c top room names Open base → AimFollows c top room names Open (Deref ty base)
+  deref_follows ty base follows t k temps s h =
+      let w = same_width base in
+      after (aim_gain base) (omega arith) (omega arith) (follows (suc t) k temps s h)
+      (λ aim b now aims kept since. answers (ObjectOf aim) b now (omega arith) (aim, refl, aims) (kept_wide (omega arith) (omega (arith, w)) kept) since)
 
-  abbrev Plain : Args → Type 0
-  Plain args = are_plain hooked false args ≡ true
+  -- ---- what is looked up is read, or copied from
 
-  mutual
-    pub expr_follows : (e : Expr) → Formed (grounded c top room names) Open e → is_plain_value hooked e ≡ true → ExprFollows c top room names Open e
-    expr_follows (Apply node ty act operands) f plain =
-        let p = and_parts (is_plain_type hooked ty) (are_plain hooked (writes_literals act) operands) plain in
-        apply_follows c top room names Open calls node ty act operands f plain (args_follow (writes_literals act) operands f.1 p.1)
-    expr_follows (Read path) f plain = read_follows c top room names Open calls path f plain (aim_follows path f.1 plain)
-    expr_follows (Early node ty short left right) f plain =
-        let p = and_parts (is_plain_value hooked left) (is_plain_value hooked right)
-        (and_parts (not (hooked ty)) (is_plain_value hooked left && is_plain_value hooked right) plain).1 in
-        early_is c top room names Open calls node ty short left right (expr_follows left f.0 p.0) (expr_follows right f.1 p.1)
-    expr_follows (Choose node ty ByConditions parts) f plain =
-        let p = and_parts (is_plain_type hooked ty) (are_plain hooked false parts) plain in
-        by_conditions node ty parts (choice_follows parts f.2 p.1 ty (f.0, plain_none facts ty p.0) node.number)
-    expr_follows (Choose node ty (ByLabels labels) parts) f plain =
-        let p = and_parts (is_plain_type hooked ty) (are_plain hooked false parts) plain in
-        by_labels node ty labels parts (select_follows parts labels f.1 f.2 p.1 ty (f.0, plain_none facts ty p.0))
+  pub source_follows : (path : Path) → PathFormed (grounded c top room names) Open path → AimFollows c top room names Open path →
+      SourceFollows c top room names Open (Read path)
+  source_follows path f follows read t k temps s h =
+      let w = read_width path in
+      let v = some_width_at path in
+      let g = gains path in
+      let u = suc t in
+      after (aim_gain path) (omega arith) (omega arith) (follows u (find_lines types facts path u k) temps s h)
+      (λ aim b now aims kept since.
+      after 2 (omega arith) (omega (arith, g)) (find_follows c top room names Open path f u k now aim aims b (stands_since h since))
+      (λ l d last looked kept2 since2.
+      at_point (give l) path d
+      (λ trail.
+      answers l (with_trail trail d) last (omega arith)
+      (leads_wide {lo' = u} {hi' = u + width_at path} (omega arith) (omega (arith, w)) looked.leads, omega (arith, w, v))
+      (kept_wide (omega arith) (omega (arith, w)) (kept_then kept kept2)) (since_then since since2))))
 
-    pub aim_follows : (path : Path) → PathFormed (grounded c top room names) Open path → is_plain_path hooked path ≡ true →
-        AimFollows c top room names Open calls path
-    aim_follows (Variable node ty place global) f plain = λ t k temps s h. variable_follows c top room names Open calls node ty place global t k temps s
-    aim_follows (Fresh value) f plain = fresh_follows c top room names Open calls value plain (expr_follows value f plain)
-    aim_follows (Field node ty base field) f plain =
-        field_follows c top room names Open calls node ty base field (aim_follows base f (and_parts (not (hooked ty)) (is_plain_path hooked base) plain).1)
-    aim_follows (Element node ty base index constant) f plain =
-        let p = and_parts (is_plain_path hooked base) (is_plain_value hooked index)
-        (and_parts (not (hooked ty)) (is_plain_path hooked base && is_plain_value hooked index) plain).1 in
-        element_follows c top room names Open calls node ty base index constant (aim_follows base f.0 p.0) (expr_follows index f.1 p.1)
-    aim_follows (Deref ty base) f plain =
-        deref_follows c top room names Open calls ty base (aim_follows base f (and_parts (not (hooked ty)) (is_plain_path hooked base) plain).1)
+  pub not_read : (value : Expr) → is_read value ≡ false → SourceFollows c top room names Open value
+  not_read value e read = absurd (false≢true (sym e ∙ read))
 
-    pub args_follow : (written : Bool) (args : Args) → AllFormed (grounded c top room names) Open args → are_plain hooked written args ≡ true →
-        ArgsFollow c top room names Open calls written args
-    args_follow written NoArg f plain = λ uses lent i t k temps s h.
-        answers [] s temps (omega arith) refl (kept_none t (t + 0) temps) (since_none c.level s.world)
-    args_follow true (ByValue (Apply node ty (Giving (Characters text)) NoArg) rest) f plain =
-        text_follows c top room names Open calls node ty text rest f.0.0 (args_follow true rest f.1 plain)
-    args_follow written (ByValue value rest) f plain =
-        let p = and_parts (is_plain_value hooked value) (are_plain hooked written rest) plain in
-        value_follows c top room names Open calls value rest p.0 (expr_follows value f.0 p.0) (args_follow written rest f.1 p.1)
-    args_follow written (ByPath path rest) f plain =
-        let p = and_parts (is_plain_path hooked path) (are_plain hooked written rest) plain in
-        path_follows c top room names Open calls path rest (aim_follows path f.0 p.0) (args_follow written rest f.1 p.1)
+  -- ---- operations, and what is read
 
-    choice_follows : (parts : Args) → AllFormed (grounded c top room names) Open parts → Plain parts → (ty : Option Ty) → IsPlainIf c ty → (site : ℕ)
-        (how : Use) (t : ℕ) → ChoiceFollows c top room names Open parts ty how site t
-    choice_follows NoArg f plain ty listed site how t = no_choice c top room names Open ty listed how site t
-    choice_follows (ByPath path rest) f plain ty listed site how t = λ u less k temps s h.
-        spares 8 2 (omega arith) (omega arith)
-        (none_follows c top room names Open ty listed how site t (u + widths (ByPath path rest)) (omega (arith, less)) k temps s)
-    choice_follows (ByValue last NoArg) f plain ty listed site how t =
-        let p = and_parts (is_plain_value hooked last) true plain in
-        last_choice c top room names Open last (branch_follows c top room names Open last p.0 (expr_follows last f.0 p.0)) ty listed how site t
-    choice_follows (ByValue condition (ByPath path rest)) f plain ty listed site how t = λ u less k temps s h.
-        spares 8 2 (omega arith) (omega arith)
-        (none_follows c top room names Open ty listed how site t (u + widths (ByValue condition (ByPath path rest))) (omega (arith, less)) k temps s)
-    choice_follows (ByValue condition (ByValue value rest)) f plain ty listed site how t =
-        let p = and_parts (is_plain_value hooked condition) (is_plain_value hooked value && are_plain hooked false rest) plain in
-        let q = and_parts (is_plain_value hooked value) (are_plain hooked false rest) p.1 in
-        a_choice c top room names Open condition value rest (alone_follows c top room names Open condition p.0 (expr_follows condition f.0 p.0))
-        (branch_follows c top room names Open value q.0 (expr_follows value f.1.0 q.0)) ty listed how site t
-        (choice_follows rest f.1.1 q.1 ty listed site how t)
+  pub apply_follows : CallsFollow c names → (node : Node) (ty : Option Ty) (act : Act) (operands : Args) →
+      Formed (grounded c top room names) Open (Apply node ty act operands) → ArgsFollow c top room names Open act operands →
+      ExprFollows c top room names Open (Apply node ty act operands)
+  apply_follows calls node ty act operands f follows how t k temps s h =
+      let u = suc t in
+      let uses = use_of modes act in
+      let held = held_from facts modes operands uses 0 in
+      let to = use_at how node.number in
+      let run = act_line types facts modes t act to ty (types_in operands) (froms facts act operands uses 0 u) ∷ back_line types facts modes t act to ty k in
+      let taken = taken_lines held run in
+      after (length held) (omega arith) (omega arith) (follows uses 0 u (settle_lines types facts operands u taken) temps s h)
+      (λ ready b now r kept since.
+      after (length held + 0) (omega arith) (omega arith)
+      (settle_follows c top room names Open act operands f.1 uses u taken now ready r b (stands_since h since))
+      (λ xs d last takes kept2 since2.
+      let d1 : State = with_trail (Point node.number Done_by ∷ d.trail) d in
+      let h1 = stands_since h (since_then since since2) in
+      further {lo' = t} {hi' = t + width (Apply node ty act operands)} (omega arith) (omega arith)
+      (kept_then (kept_wide (omega arith) (omega arith) kept) (kept_wide (omega arith) (omega arith) kept2)) (since_then since since2) (λ v n p kept. p)
+      (taken_follows c top room names Open held run last (carried here node.number act how ty operands xs) d1
+      (λ g since3.
+      further {lo' = t} {hi' = suc t} (omega arith) (omega arith) (kept_none t (t + width (Apply node ty act operands)) last) since3 (λ v n p kept. p)
+      (act_follows c top room names Open calls act operands node ty f.0 how xs u t k last g takes (stands_since h1 since3))))))
 
-    select_follows : (parts : Args) (labels : List (List Label)) → AllOrdinals labels → AllFormed (grounded c top room names) Open parts → Plain parts →
-        (ty : Option Ty) → IsPlainIf c ty → SelectFollows c top room names Open calls labels parts ty
-    select_follows NoArg labels ordinals f plain ty listed = selects_none labels ty listed
-    select_follows (ByValue selector rest) labels ordinals f plain ty listed =
-        let p = and_parts (is_plain_value hooked selector) (are_plain hooked false rest) plain in
-        selects_value labels selector rest ty (plain_value facts selector p.0) (expr_follows selector f.0 p.0)
-        (λ covered how site t. tests_follow rest labels ordinals f.1 p.1 covered ty listed how site t)
-    select_follows (ByPath path rest) labels ordinals f plain ty listed =
-        let p = and_parts (is_plain_path hooked path) (are_plain hooked false rest) plain in
-        selects_path labels path rest ty f.0 (plain_path facts path p.0) (aim_follows path f.0 p.0)
-        (λ covered how site t. tests_follow rest labels ordinals f.1 p.1 covered ty listed how site t)
-
-    tests_follow : (values : Args) (labels : List (List Label)) → AllOrdinals labels → AllFormed (grounded c top room names) Open values → Plain values →
-        (covered : Bool) (ty : Option Ty) → IsPlainIf c ty → (how : Use) (site t : ℕ) →
-        TestsFollow c top room names Open covered labels values ty how site t
-    tests_follow NoArg labels ordinals f plain covered ty listed how site t = none_fits c top room names Open covered ty listed how site t labels
-    tests_follow (ByPath path rest) labels ordinals f plain covered ty listed how site t =
-        none_by_path c top room names Open covered ty listed how site t labels path rest
-    tests_follow (ByValue value rest) [] ordinals f plain covered ty listed how site t =
-        let p = and_parts (is_plain_value hooked value) (are_plain hooked false rest) plain in
-        otherwise c top room names Open covered ty listed how site t value rest (branch_follows c top room names Open value p.0 (expr_follows value f.0 p.0))
-    tests_follow (ByValue value rest) (these ∷ labels) ordinals f plain covered ty listed how site t =
-        let p = and_parts (is_plain_value hooked value) (are_plain hooked false rest) plain in
-        an_arm c top room names Open covered ty listed how site t these ordinals.0 labels value rest
-        (branch_follows c top room names Open value p.0 (expr_follows value f.0 p.0))
-        (tests_follow rest labels ordinals.1 f.1 p.1 covered ty listed how site t)
+  pub read_follows : (path : Path) → Formed (grounded c top room names) Open (Read path) → AimFollows c top room names Open path →
+      ExprFollows c top room names Open (Read path)
+  read_follows path f follows how t k temps s h =
+      let n = (node_at path).number in
+      let ty = type_at path in
+      let w = read_width path in
+      let g = gains path in
+      let u = suc t in
+      let get = L.Get t u (use_at how n) (if_number types ty) ∷ k in
+      let to = destination here how n in
+      after (aim_gain path) (omega arith) (omega arith) (follows u (find_lines types facts path u get) temps s h)
+      (λ aim b now aims kept since.
+      after 2 (omega arith) (omega (arith, g)) (find_follows c top room names Open path f.1 u get now aim aims b (stands_since h since))
+      (λ l d last looked kept2 since2.
+      at_point (got here how n ty l) path d
+      (λ trail.
+      let x = scene c last d.world in
+      let deed = got_by facts c.fixed.plan to n ty l in
+      further {lo' = t} {hi' = suc t} (omega arith) (omega (arith, w)) (kept_wide (omega arith) (omega (arith, w)) (kept_then kept kept2)) (since_then since since2)
+      (λ v n p kept. p)
+      (performs_alone c (λ v. with_value t last v) deed (with_trail trail d) (omega arith)
+      (answering_all (λ v. Has t v (with_value t last v)) (λ v. put_same last.values t v) deed)
+      (λ v. kept_value t v (omega arith) (omega arith) (kept_none t (suc t) last))
+      (ap (λ o. using o (λ place. does.gives x t (got_by facts c.fixed.plan to n (if_type types (if_number types ty)) (location_at last place)))) looked.leads.is
+      ∙ (ap (λ l. does.gives x t (got_by facts c.fixed.plan to n (if_type types (if_number types ty)) l)) (leads_now looked.leads)
+      ∙ ap (λ ty. does.gives x t (got_by facts c.fixed.plan to n ty l)) (type_is types ty f.0)))))))

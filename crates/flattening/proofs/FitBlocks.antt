@@ -5,6 +5,7 @@ use Rattle.std.specs.Prelude.{nat_eq, if◌then◌else◌, take}
 use Rattle.std.proofs.lemmas.Bool.{eqb-true}
 use Rattle.nim_types.specs.Types.{Ty, Facts}
 use Rattle.nim_types.specs.Types as type
+use Rattle.nim_program.specs.declared.program.Mode.{Mode}
 use Rattle.nim_program.specs.Program.{Expr, Args, NoArg, ByValue, ByPath, Proc, Declared}
 use Rattle.nim_program.specs.Folds.{Seen, lists, total, total_at, totals, each}
 use Rattle.nim_program.specs.Kinds.{kind_of, declared_kind, is_int}
@@ -14,15 +15,15 @@ use Rattle.flat_code.specs.declared.place.FlatPlace.{FlatPlace}
 use Rattle.flat_code.specs.Fits.{Signature, own}
 use Rattle.flattening.specs.Formed.{IsListed}
 use Rattle.flattening.specs.Numbering.{width, selector_from, behind_selector}
-use Rattle.flattening.specs.Places.{expr_places, operand_places, selector_place}
+use Rattle.flattening.specs.Places.{expr_places, part_places, selector_place}
 use Rattle.flattening.proofs.Direct.{is_direct}
 use Rattle.flattening.proofs.FitParts.{never}
 use Rattle.flattening.proofs.FitParts as parts
 use Rattle.flattening.proofs.Numbered.{Numbered, numbered_wide, ◌>>◌, Owns, owns_first, owns_second, owns_later}
 use Rattle.flattening.proofs.Owned as owned
-use Rattle.flattening.proofs.Owned.{locations_from, locations_later, selector_later}
+use Rattle.flattening.proofs.Owned.{selector_later}
 use Rattle.flattening.proofs.Parts.{Each, EachIn, both}
-use Rattle.flattening.proofs.PlaceNumbers.{operand_numbers, selector_number}
+use Rattle.flattening.proofs.PlaceNumbers.{part_numbers, selector_number}
 
 -- ---- what is an int
 
@@ -95,54 +96,52 @@ together_each holds own NoArg h = tt
 together_each holds own (ByValue e rest) h = both holds (total lists own e) (totals lists own rest) h.0 (together_each holds own rest h.1)
 together_each holds own (ByPath path rest) h = both holds (total_at lists own false path) (totals lists own rest) h.0 (together_each holds own rest h.1)
 
-module _ (types : List Ty) (facts : Facts) (procs : List Proc) (globals : List Placed) (sigs : List Signature) (start whole : List FlatPlace) where
+module _ (types : List Ty) (facts : Facts) (modes : (proc position : ℕ) → Mode) (procs : List Proc) (globals : List Placed) (sigs : List Signature)
+    (start whole : List FlatPlace) where
   abbrev pub own_place : ℕ → Option Ty
-  own_place = own (parts.known types facts procs globals sigs start whole) sigs start whole
+  own_place = own (parts.known types facts modes procs globals sigs start whole) sigs start whole
 
   -- a declared place is one of the code, of its type
   pub record Held (d : Declared) : Type 0 where
     pub own : own_place d.number ≡ Some d.of
-    pub named : parts.named types facts procs globals sigs start whole d.number false ≡ Some d.of
+    pub named : parts.named types facts modes procs globals sigs start whole d.number false ≡ Some d.of
 
   abbrev Sees : ℕ → List Placed → Type 0
-  Sees = parts.Sees types facts procs globals sigs start whole
+  Sees = parts.Sees types facts modes procs globals sigs start whole
 
   pub sees_place : (filled : ℕ) (places : List Placed) (d : Declared) → Sees filled places → Held d → Sees filled (places ++ placed d ∷ [])
   sees_place filled places d sees held = record {
-    local = λ n ty e. look_end places (placed d) n ty (parts.named types facts procs globals sigs start whole n false ≡ Some ty) e (sees.local n ty)
-        (λ same is. subst (λ m. parts.named types facts procs globals sigs start whole m false ≡ Some ty) same (held.named ∙ ap Some is));
+    local = λ n ty e. look_end places (placed d) n ty (parts.named types facts modes procs globals sigs start whole n false ≡ Some ty) e (sees.local n ty)
+        (λ same is. subst (λ m. parts.named types facts modes procs globals sigs start whole m false ≡ Some ty) same (held.named ∙ ap Some is));
     global = sees.global;
   }
 
   module _ (filled : ℕ) (places : List Placed) (dest : Option ℕ) where
     abbrev here : Here
-    here = parts.seen types facts procs globals sigs start whole filled places dest
+    here = parts.seen types facts modes procs globals sigs start whole filled places dest
 
     abbrev Stood : Expr → ℕ → Type 0
-    Stood = parts.Stood types facts procs globals sigs start whole filled places dest
-
-    abbrev AllStood : Args → ℕ → Type 0
-    AllStood = parts.AllStood types facts procs globals sigs start whole filled places dest
+    Stood = parts.Stood types facts modes procs globals sigs start whole filled places dest
 
     -- an expression that owns its temporaries
     pub stood : (e : Expr) (t : ℕ) → is_typed here e ≡ true → is_direct facts e ≡ true → Each (IsListed types) (total lists own_types e) →
-        Owns whole (expr_places types e t) t t (t + width e) → Stood e t
+        Owns whole (expr_places types facts modes e t) t t (t + width e) → Stood e t
     stood e t typed direct listed owns =
-        record { typed = typed; direct = direct; listed = listed; owns = owns_later (locations_from e t) (locations_later e t) owns }
+        record { typed = typed; direct = direct; listed = listed; owns = owns_later (suc t) (omega arith) owns }
 
     -- the selector of a `case`, before other places
     pub selector_owned : (selector : Args) (u v : ℕ) (more : List FlatPlace) → Numbered (behind_selector selector u) v more → behind_selector selector u ≤ v →
-        Owns whole (selector_place types selector u ++ (operand_places types selector (selector_from selector u) ++ more)) u u v →
-        owned.ChoiceOwned (parts.known types facts procs globals sigs start whole) whole selector u
+        Owns whole (selector_place types facts modes selector u ++ (part_places types facts modes selector (selector_from selector u) ++ more)) u u v →
+        owned.ChoiceOwned (parts.known types facts modes procs globals sigs start whole) modes whole selector u
         × Owns whole more (behind_selector selector u) (behind_selector selector u) v
     selector_owned selector u v more behind le owns =
         let from = selector_from selector u in
         let end = behind_selector selector u in
         let later = selector_later selector u in
         let joined = subst (λ all. Owns whole all u u v)
-        (sym (append_assoc (selector_place types selector u) (operand_places types selector from) more)) owns in (
+        (sym (append_assoc (selector_place types facts modes selector u) (part_places types facts modes selector from) more)) owns in (
           owns_first end v le behind joined,
           owns_second u end v (omega (arith, later)) (omega (arith, later)) (omega arith)
-              (selector_number types selector u (omega arith) (omega arith)
-              >> numbered_wide (omega (arith, later)) (omega arith) (operand_numbers types selector from)) joined,
+              (selector_number types facts modes selector u (omega arith) (omega arith)
+              >> numbered_wide (omega (arith, later)) (omega arith) (part_numbers types facts modes selector from)) joined,
         )

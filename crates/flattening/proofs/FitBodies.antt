@@ -1,32 +1,39 @@
 -- The places of a body: its parameters and its result come first, and each place in scope is found by its number.
 use Rattle.std.proofs.Common.{◌≡◌, ℕ, suc, ◌+◌, inl, inr, Bool, true, false, List, [], ◌∷◌, ◌++◌, Option, Some, None, refl, sym, ap, ap₂, ◌∙◌, subst}
-use Rattle.std.proofs.Common.{append_assoc}
-use Rattle.std.specs.Prelude.{nat_eq, nat_le, ◌&&◌, if◌then◌else◌, map, length}
+use Rattle.std.proofs.Common.{append_assoc, arith}
+use Rattle.std.specs.Prelude.{nat_eq, nat_le, ◌&&◌, ◌||◌, if◌then◌else◌, map, length}
 use Rattle.std.proofs.lemmas.Bool.{and_parts, and_from, eqb-true, eq-eqb}
 use Rattle.nim_types.specs.Types.{Ty, Facts}
 use Rattle.nim_types.specs.Table.{type_at}
 use Rattle.nim_program.specs.declared.nodes.TheConstants.{MOST_NODES}
-use Rattle.nim_program.specs.Program.{Declared, Param, Body}
+use Rattle.nim_program.specs.declared.program.Mode.{Mode}
+use Rattle.nim_program.specs.declared.program.Mode.TheVariants as M
+use Rattle.nim_program.specs.Program.{Declared, Param, Body, Proc}
 use Rattle.nim_program.specs.Folds.{lists, total_of, own_places, if_declared}
 use Rattle.nim_program.specs.Folds as folds
 use Rattle.nim_program.specs.Numbering as numbering
 use Rattle.nim_program.specs.Scopes.{Placed, placed, look}
 use Rattle.nim_program.specs.Typed.{own_types, param_declared, type_of_place}
+use Rattle.nim_program.specs.Uses.{use_for}
+use Rattle.nim_meaning.specs.Here.{is_hooked}
+use Rattle.nim_meaning.specs.Shapes.{is_lent, is_sink, mode_of, mode_in}
 use Rattle.flat_code.specs.declared.place.PlaceKind.{PlaceKind}
 use Rattle.flat_code.specs.declared.place.PlaceKind.TheVariants as K
 use Rattle.flat_code.specs.declared.place.FlatPlace.{FlatPlace}
 use Rattle.flat_code.specs.Scene.{Known}
-use Rattle.flat_code.specs.Fits.{Taken, is_value, is_location, is_declared, is_own, place_named, place_type, if_type_of, taken_by, given_by, result_at}
+use Rattle.flat_code.specs.Fits.{Taken, Signature, is_lent_by, is_value, is_location, is_declared, is_own, place_named, place_type, if_type_of, taken_by}
+use Rattle.flat_code.specs.Fits.{given_by, result_at}
 use Rattle.flat_code.specs.Fits.{params_at, results_at, and_param, and_number, and_result, or_result}
 use Rattle.flat_code.specs.Fits.{is_var, follow, are_within, same_place}
 use Rattle.flattening.specs.Formed.{IsListed}
 use Rattle.flattening.specs.Numbering.{type_number}
-use Rattle.flattening.specs.Places.{of_declared, own_declared, param_places, result_places, block_places, body_places}
+use Rattle.flattening.specs.Places.{taken_as, kind_of_param, of_declared, own_declared, param_places, result_places, block_places, body_places}
 use Rattle.flattening.specs.StmtLines.{number_of}
 use Rattle.flattening.proofs.Declared.{is_block, block_own, block_declared, declared_type, Likes, block_like, block_listed, numbers, Member, member_first}
 use Rattle.flattening.proofs.Declared.{member_second}
 use Rattle.flattening.proofs.Declared.{found_by, rise_within}
-use Rattle.flattening.proofs.FitParts.{never, takes_of}
+use Rattle.flattening.proofs.FitParts.{never}
+use Rattle.flattening.proofs.FitParts as parts
 use Rattle.flattening.proofs.Numbered.{named_past, named_behind, Owns}
 use Rattle.flattening.proofs.Parts.{Each, both}
 use Rattle.flattening.proofs.PlaceNumbers.{block_numbers}
@@ -56,10 +63,10 @@ no_number (K.Param mode) n rest h = never h
 no_number K.Result n rest h = never h
 no_number kind n rest h = (refl, refl)
 
-no_param : (kind : PlaceKind) (ty : Ty) (rest : List Taken) → is_other kind ≡ true → and_param kind ty rest ≡ rest
-no_param (K.Param mode) ty rest h = never h
-no_param K.Result ty rest h = never h
-no_param kind ty rest h = refl
+no_param : (facts : Facts) (kind : PlaceKind) (ty : Ty) (rest : List Taken) → is_other kind ≡ true → and_param facts kind ty rest ≡ rest
+no_param facts (K.Param mode) ty rest h = never h
+no_param facts K.Result ty rest h = never h
+no_param facts kind ty rest h = refl
 
 no_result : {A : Type 0} (kind : PlaceKind) (x : A) (rest : Option A) → is_other kind ≡ true → or_result kind x rest ≡ rest
 no_result (K.Param mode) x rest h = never h
@@ -77,7 +84,7 @@ results_none (p ∷ ps) h = (no_number p.kind p.number (results_at ps) h.0).1 �
 module _ (known : Known) where
   takes_none : (ps : List FlatPlace) → Others ps → taken_by known ps ≡ []
   takes_none [] h = refl
-  takes_none (p ∷ ps) h = no_param p.kind (place_type known p) (taken_by known ps) h.0 ∙ takes_none ps h.1
+  takes_none (p ∷ ps) h = no_param known.facts p.kind (place_type known p) (taken_by known ps) h.0 ∙ takes_none ps h.1
 
   gives_none : (ps : List FlatPlace) → Others ps → given_by known ps ≡ None
   gives_none [] h = refl
@@ -99,17 +106,17 @@ not_temporary kind h = (refl, refl)
 abbrev numbers_of : List Declared → List ℕ
 numbers_of ds = map (λ (d : Declared). d.number) ds
 
-module _ (types : List Ty) where
+module _ (types : List Ty) (facts : Facts) (modes : (proc position : ℕ) → Mode) (sinks : List ℕ) where
   pub head_numbers : (params : List Param) (result : Option Declared) (others : List FlatPlace) → Others others →
-      params_at (param_places types params ++ (result_places types result ++ others))
-      ++ results_at (param_places types params ++ (result_places types result ++ others))
+      params_at (param_places types facts modes sinks params ++ (result_places types facts modes result ++ others))
+      ++ results_at (param_places types facts modes sinks params ++ (result_places types facts modes result ++ others))
       ≡ numbers_of (folds.param_places params ++ if_declared result)
   head_numbers [] None others h = ap₂ (λ xs ys. xs ++ ys) (params_none others h) (results_none others h)
   head_numbers [] (Some d) others h = ap₂ (λ xs ys. xs ++ d.number ∷ ys) (params_none others h) (results_none others h)
   head_numbers (p ∷ params) result others h = ap (λ ns. p.place.number ∷ ns) (head_numbers params result others h)
 
   one_result : (params : List Param) (result : Option Declared) (others : List FlatPlace) → Others others →
-      results_at (param_places types params ++ (result_places types result ++ others)) ≡ numbers_of (if_declared result)
+      results_at (param_places types facts modes sinks params ++ (result_places types facts modes result ++ others)) ≡ numbers_of (if_declared result)
   one_result [] None others h = results_none others h
   one_result [] (Some d) others h = ap (λ ns. d.number ∷ ns) (results_none others h)
   one_result (p ∷ params) result others h = one_result params result others h
@@ -118,31 +125,102 @@ module _ (types : List Ty) where
   at_most_one None = refl
   at_most_one (Some d) = refl
 
-  module _ (facts : Facts) where
-    abbrev known : Known
-    known = record { types = types; facts = facts }
+  abbrev known : Known
+  known = record { types = types; facts = facts }
 
-    abbrev Listed : List Declared → Type 0
-    Listed = Each (λ (d : Declared). IsListed types d.of)
+  abbrev Listed : List Declared → Type 0
+  Listed = Each (λ (d : Declared). IsListed types d.of)
 
-    pub takes : (params : List Param) (result : Option Declared) (others : List FlatPlace) → Others others → Listed (param_declared params) →
-        taken_by known (param_places types params ++ (result_places types result ++ others)) ≡ takes_of params
-    takes [] None others h listed = takes_none known others h
-    takes [] (Some d) others h listed = takes_none known others h
-    takes (p ∷ params) result others h listed =
-        ap₂ (λ ty rest. record { by_location = is_var p.mode; of = ty } ∷ rest) listed.0 (takes params result others h listed.1)
+  -- what parameters take, under the plan
+  abbrev mode_at : Param → Mode
+  mode_at p = taken_as p.mode (mode_of sinks p)
 
-    pub gives : (params : List Param) (result : Option Declared) (others : List FlatPlace) → Others others → Listed (if_declared result) →
-        given_by known (param_places types params ++ (result_places types result ++ others)) ≡ type_of_place result
-    gives [] None others h listed = gives_none known others h
-    gives [] (Some d) others h listed = ap Some listed.0
-    gives (p ∷ params) result others h listed = gives params result others h listed
+  abbrev pub taken_of : Param → Taken
+  taken_of p = record {
+    by_location = is_var (mode_at p) || is_lent_by (mode_at p) (is_hooked facts p.place.of);
+    written = is_var (mode_at p);
+    of = p.place.of;
+  }
 
-    pub returns : (params : List Param) (result : Option Declared) (others : List FlatPlace) → Others others →
-        same_place (number_of result) (result_at known (param_places types params ++ (result_places types result ++ others))) ≡ true
-    returns [] None others h = ap (same_place None) (result_none known others h)
-    returns [] (Some d) others h = eq-eqb d.number d.number refl
-    returns (p ∷ params) result others h = returns params result others h
+  abbrev pub takes_of : List Param → List Taken
+  takes_of [] = []
+  takes_of (p ∷ params) = taken_of p ∷ takes_of params
+
+  pub takes : (params : List Param) (result : Option Declared) (others : List FlatPlace) → Others others → Listed (param_declared params) →
+      taken_by known (param_places types facts modes sinks params ++ (result_places types facts modes result ++ others)) ≡ takes_of params
+  takes [] None others h listed = takes_none known others h
+  takes [] (Some d) others h listed = takes_none known others h
+  takes (p ∷ params) result others h listed =
+      ap₂
+      (λ ty rest. record { by_location = is_var (mode_at p) || is_lent_by (mode_at p) (is_hooked facts ty); written = is_var (mode_at p); of = ty } ∷ rest)
+      listed.0 (takes params result others h listed.1)
+
+  pub gives : (params : List Param) (result : Option Declared) (others : List FlatPlace) → Others others → Listed (if_declared result) →
+      given_by known (param_places types facts modes sinks params ++ (result_places types facts modes result ++ others)) ≡ type_of_place result
+  gives [] None others h listed = gives_none known others h
+  gives [] (Some d) others h listed = ap Some listed.0
+  gives (p ∷ params) result others h listed = gives params result others h listed
+
+  pub returns : (params : List Param) (result : Option Declared) (others : List FlatPlace) → Others others →
+      same_place (number_of result) (result_at known (param_places types facts modes sinks params ++ (result_places types facts modes result ++ others))) ≡ true
+  returns [] None others h = ap (same_place None) (result_none known others h)
+  returns [] (Some d) others h = eq-eqb d.number d.number refl
+  returns (p ∷ params) result others h = returns params result others h
+
+  -- ---- arguments go by the modes of parameters
+
+  none_lent : (hooked : Bool) → false ≡ hooked && false
+  none_lent true = refl
+  none_lent false = refl
+
+  all_lent : (hooked : Bool) → hooked ≡ hooked && true
+  all_lent true = refl
+  all_lent false = refl
+
+  by_value : (declared : Mode) (sink hooked : Bool) → is_var declared ≡ false →
+      is_var (taken_as declared (if sink then M.Sink else declared)) || is_lent_by (taken_as declared (if sink then M.Sink else declared)) hooked
+      ≡ hooked && is_lent (use_for (if sink then M.Sink else declared))
+  by_value M.Plain true hooked h = none_lent hooked
+  by_value M.Plain false hooked h = all_lent hooked
+  by_value M.Sink true hooked h = none_lent hooked
+  by_value M.Sink false hooked h = none_lent hooked
+  by_value M.Var sink hooked h = never (sym h)
+
+  unwritten : (declared : Mode) (sink : Bool) → is_var declared ≡ false → is_var (taken_as declared (if sink then M.Sink else declared)) ≡ false
+  unwritten M.Plain true h = refl
+  unwritten M.Plain false h = refl
+  unwritten M.Sink true h = refl
+  unwritten M.Sink false h = refl
+  unwritten M.Var sink h = never (sym h)
+
+  by_path : (declared planned : Mode) (hooked : Bool) → is_var declared ≡ true →
+      is_var (taken_as declared planned) || is_lent_by (taken_as declared planned) hooked ≡ true
+  by_path M.Plain planned hooked h = never h
+  by_path M.Sink planned hooked h = never h
+  by_path M.Var planned hooked h = refl
+
+  module _ (procs : List Proc) (globals : List Placed) (sigs : List Signature) (start whole : List FlatPlace) where
+    is_taken : (p : Param) → parts.IsTaken types facts modes procs globals sigs start whole (mode_of sinks p) p (taken_of p)
+    is_taken p = record {
+      of = refl;
+      by_path = λ h. by_path p.mode (mode_of sinks p) (is_hooked facts p.place.of) h;
+      by_value = λ h. by_value p.mode (is_sink sinks p.place.number) (is_hooked facts p.place.of) h;
+      kept = λ h. unwritten p.mode (is_sink sinks p.place.number) h;
+    }
+
+    pub are_taken : (proc i : ℕ) (params : List Param) → ((j : ℕ) → modes proc (j + i) ≡ mode_in sinks params j) →
+        parts.AreTaken types facts modes procs globals sigs start whole proc i params (takes_of params)
+    are_taken proc i [] same = tt
+    are_taken proc i (p ∷ params) same = (
+      subst (λ mode. parts.IsTaken types facts modes procs globals sigs start whole mode p (taken_of p)) (sym (ap (modes proc) at_first ∙ same 0)) (is_taken p),
+      are_taken proc (suc i) params (λ j. ap (modes proc) (next j) ∙ same (suc j)),
+    )
+      where
+        at_first : i ≡ 0 + i
+        at_first = omega arith
+
+        next : (j : ℕ) → j + suc i ≡ suc j + i
+        next j = omega arith
 
 -- numbers one after another
 pub followed : (from : ℕ) (ns : List ℕ) → numbering.follow from ns ≡ true → follow from ns ≡ true
@@ -153,30 +231,31 @@ followed from (n ∷ ns) h =
 
 -- ---- a body
 
-module _ (types : List Ty) (facts : Facts) (globals : List Declared) (params : List Param) (body : Body) where
+module _ (types : List Ty) (facts : Facts) (modes : (proc position : ℕ) → Mode) (sinks : List ℕ) (globals : List Declared) (params : List Param)
+    (body : Body) where
   abbrev known' : Known
   known' = record { types = types; facts = facts }
 
   abbrev pub declared : List FlatPlace
-  declared = total_of lists (own_declared types globals) body.stmts
+  declared = total_of lists (own_declared types facts modes globals) body.stmts
 
   abbrev pub temporaries : List FlatPlace
-  temporaries = block_places types body.stmts 0
+  temporaries = block_places types facts modes body.stmts 0
 
   abbrev pub whole : List FlatPlace
-  whole = body_places types globals params body
+  whole = body_places types facts modes sinks globals params body
 
   -- all that is declared
   abbrev pub front : List FlatPlace
-  front = param_places types params ++ (result_places types body.result ++ declared)
+  front = param_places types facts modes sinks params ++ (result_places types facts modes body.result ++ declared)
 
   pub split : front ++ temporaries ≡ whole
   split =
-      append_assoc (param_places types params) (result_places types body.result ++ declared) temporaries
-      ∙ ap (λ rest. param_places types params ++ rest) (append_assoc (result_places types body.result) declared temporaries)
+      append_assoc (param_places types facts modes sinks params) (result_places types facts modes body.result ++ declared) temporaries
+      ∙ ap (λ rest. param_places types facts modes sinks params ++ rest) (append_assoc (result_places types facts modes body.result) declared temporaries)
 
   pub undeclared : Each (λ (p : FlatPlace). is_declared p.kind ≡ false) temporaries
-  undeclared = (block_numbers types body.stmts 0).undeclared
+  undeclared = (block_numbers types facts modes body.stmts 0).undeclared
 
   others_of : (holds : FlatPlace → Type 0) → ((p : FlatPlace) → holds p → is_other p.kind ≡ true) → (ps : List FlatPlace) → Each holds ps → Others ps
   others_of holds to [] h = tt
@@ -189,7 +268,7 @@ module _ (types : List Ty) (facts : Facts) (globals : List Declared) (params : L
   like_blocks (p ∷ ps) (d ∷ ds) h = (h.0.block, like_blocks ps ds h.1)
 
   blocks : Each (λ (p : FlatPlace). is_block p.kind ≡ true) declared
-  blocks = like_blocks declared (total_of lists own_places body.stmts) (block_like types globals body.stmts)
+  blocks = like_blocks declared (total_of lists own_places body.stmts) (block_like types facts modes globals body.stmts)
 
   pub others : Others (declared ++ temporaries)
   others = both (λ (p : FlatPlace). is_other p.kind ≡ true) declared temporaries
@@ -200,11 +279,12 @@ module _ (types : List Ty) (facts : Facts) (globals : List Declared) (params : L
   of_blocks [] h = tt
   of_blocks (p ∷ ps) h = (block_declared p.kind h.0, of_blocks ps h.1)
 
-  of_result : (result : Option Declared) → Each (λ (p : FlatPlace). is_declared p.kind ≡ true) (result_places types result ++ declared)
+  of_result : (result : Option Declared) → Each (λ (p : FlatPlace). is_declared p.kind ≡ true) (result_places types facts modes result ++ declared)
   of_result None = of_blocks declared blocks
   of_result (Some d) = (refl, of_blocks declared blocks)
 
-  of_params : (ps : List Param) → Each (λ (p : FlatPlace). is_declared p.kind ≡ true) (param_places types ps ++ (result_places types body.result ++ declared))
+  of_params : (ps : List Param) → Each (λ (p : FlatPlace). is_declared p.kind ≡ true)
+      (param_places types facts modes sinks ps ++ (result_places types facts modes body.result ++ declared))
   of_params [] = of_result body.result
   of_params (p ∷ ps) = (refl, of_params ps)
 
@@ -234,14 +314,14 @@ module _ (types : List Ty) (facts : Facts) (globals : List Declared) (params : L
   like_numbers (p ∷ ps) (d ∷ ds) h = ap₂ (λ n ns. n ∷ ns) h.0.number (like_numbers ps ds h.1)
 
   same_numbers : numbers declared ≡ numbers_of (total_of lists own_places body.stmts)
-  same_numbers = like_numbers declared (total_of lists own_places body.stmts) (block_like types globals body.stmts)
+  same_numbers = like_numbers declared (total_of lists own_places body.stmts) (block_like types facts modes globals body.stmts)
 
   result_numbers : (result : Option Declared) →
-      numbers (result_places types result ++ declared) ≡ numbers_of (if_declared result ++ folds.block_places body.stmts)
+      numbers (result_places types facts modes result ++ declared) ≡ numbers_of (if_declared result ++ folds.block_places body.stmts)
   result_numbers None = same_numbers
   result_numbers (Some d) = ap (λ ns. d.number ∷ ns) same_numbers
 
-  front_numbers : (ps : List Param) → numbers (param_places types ps ++ (result_places types body.result ++ declared))
+  front_numbers : (ps : List Param) → numbers (param_places types facts modes sinks ps ++ (result_places types facts modes body.result ++ declared))
       ≡ numbers_of (folds.param_places ps ++ (if_declared body.result ++ folds.block_places body.stmts))
   front_numbers [] = result_numbers body.result
   front_numbers (p ∷ ps) = ap (λ ns. p.place.number ∷ ns) (front_numbers ps)
@@ -260,9 +340,10 @@ module _ (types : List Ty) (facts : Facts) (globals : List Declared) (params : L
         && (follow body.first (params_at whole ++ results_at whole) && are_within body.first (body.first + body.places) whole) ≡ true
     ordered =
         and_from _ _
-        (ap (λ ns. nat_le (length ns) 1) (one_result types params body.result (declared ++ temporaries) others) ∙ at_most_one types body.result)
+        (ap (λ ns. nat_le (length ns) 1) (one_result types facts modes sinks params body.result (declared ++ temporaries) others)
+        ∙ at_most_one types facts modes sinks body.result)
         (and_from _ _
-        (ap (follow body.first) (head_numbers types params body.result (declared ++ temporaries) others)
+        (ap (follow body.first) (head_numbers types facts modes sinks params body.result (declared ++ temporaries) others)
         ∙ followed body.first (numbers_of (folds.param_places params ++ if_declared body.result)) two.0)
         (ap (are_within body.first (body.first + body.places)) (sym split)
         ∙ rise_within body.first (body.first + body.places) front temporaries (of_params params) undeclared rise))
@@ -303,39 +384,41 @@ module _ (types : List Ty) (facts : Facts) (globals : List Declared) (params : L
 
     pub in_blocks : (p : FlatPlace) → Member p declared → Member p front
     in_blocks p m =
-        member_second p (param_places types params) (result_places types body.result ++ declared)
-        (member_second p (result_places types body.result) declared m)
+        member_second p (param_places types facts modes sinks params) (result_places types facts modes body.result ++ declared)
+        (member_second p (result_places types facts modes body.result) declared m)
 
     pub held : Each (IsListed types) (total_of lists own_types body.stmts) →
         Each (λ (d : Declared). OwnPlace d × Named d) (total_of lists own_places body.stmts)
     held listed =
-        likes_held declared (total_of lists own_places body.stmts) (block_like types globals body.stmts) (block_listed types body.stmts listed) in_blocks
+        likes_held declared (total_of lists own_places body.stmts) (block_like types facts modes globals body.stmts) (block_listed types body.stmts listed)
+        in_blocks
 
     -- the result
     result_at_front : (result : Option Declared) (d : Declared) → result ≡ Some d →
-        Member (of_declared types K.Result d) (result_places types result ++ declared)
+        Member (of_declared types facts modes K.Result d) (result_places types facts modes result ++ declared)
     result_at_front None d e = none e
       where
         none : {A : Type 0} → None ≡ Some d → A
         none e = cc
-    result_at_front (Some c) d e = inl (ap (of_declared types K.Result) (one e))
+    result_at_front (Some c) d e = inl (ap (of_declared types facts modes K.Result) (one e))
       where
         one : Some c ≡ Some d → d ≡ c
         one e = cc
 
     pub result_found : (d : Declared) → body.result ≡ Some d → IsListed types d.of → OwnPlace d × Named d
     result_found d e listed =
-        let m = member_second (of_declared types K.Result d) (param_places types params) (result_places types body.result ++ declared)
+        let m = member_second (of_declared types facts modes K.Result d) (param_places types facts modes sinks params)
+        (result_places types facts modes body.result ++ declared)
         (result_at_front body.result d e) in (
-          type_found is_own (of_declared types K.Result d) d m refl refl refl refl listed,
-          type_found is_declared (of_declared types K.Result d) d m refl refl refl refl listed,
+          type_found is_own (of_declared types facts modes K.Result d) d m refl refl refl refl listed,
+          type_found is_declared (of_declared types facts modes K.Result d) d m refl refl refl refl listed,
         )
 
     params_found : (ps : List Param) → Each (λ (d : Declared). IsListed types d.of) (param_declared ps) →
-        ((p : FlatPlace) → Member p (param_places types ps) → Member p front) → Each Named (param_declared ps)
+        ((p : FlatPlace) → Member p (param_places types facts modes sinks ps) → Member p front) → Each Named (param_declared ps)
     params_found [] listed in_front = tt
     params_found (p ∷ ps) listed in_front = (
-      type_found is_declared (of_declared types (K.Param p.mode) p.place) p.place (in_front _ (inl refl)) refl refl refl refl listed.0,
+      type_found is_declared (of_declared types facts modes (kind_of_param sinks p) p.place) p.place (in_front _ (inl refl)) refl refl refl refl listed.0,
       params_found ps listed.1 (λ q k. in_front q (inr k)),
     )
 
@@ -349,7 +432,8 @@ module _ (types : List Ty) (facts : Facts) (globals : List Declared) (params : L
         Each (λ (d : Declared). IsListed types d.of) (if_declared body.result) →
         Each Named (param_declared params ++ if_declared body.result)
     head_found listed given = both Named (param_declared params) (if_declared body.result)
-        (params_found params listed (λ p m. member_first p (param_places types params) (result_places types body.result ++ declared) m))
+        (params_found params listed (λ p m. member_first p (param_places types facts modes sinks params)
+        (result_places types facts modes body.result ++ declared) m))
         (if_found body.result refl given)
 
 -- places in scope, by what holds of each

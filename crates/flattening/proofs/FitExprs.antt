@@ -1,6 +1,6 @@
 -- The lines of expressions fit.
 use Rattle.std.proofs.Common.{◌≡◌, ℕ, suc, ◌+◌, Bool, true, false, List, [], ◌∷◌, Option, Some, None, refl, ap, ap₂, ◌∙◌}
-use Rattle.std.specs.Prelude.{◌&&◌}
+use Rattle.std.specs.Prelude.{◌&&◌, not}
 use Rattle.std.proofs.lemmas.Bool.{and_parts, and_from}
 use Rattle.nim_types.specs.Types.{Ty, Facts}
 use Rattle.nim_program.specs.declared.operation.Short.{Short}
@@ -9,16 +9,20 @@ use Rattle.nim_program.specs.declared.operation.Use.{Use}
 use Rattle.nim_program.specs.declared.operation.Use.TheVariants.{Owned, Looked}
 use Rattle.nim_program.specs.declared.program.Mode.{Mode}
 use Rattle.nim_program.specs.Ints.{fits as is_int_value}
-use Rattle.nim_program.specs.Program.{Literal, Label, Ordinals, Exactly, ByConditions, ByLabels, Expr, Apply, Read, Early, Choose}
+use Rattle.nim_program.specs.Program.{Act, Building, Literal, Label, Ordinals, Exactly, ByConditions, ByLabels, Expr, Apply, Read, Early, Choose}
 use Rattle.nim_program.specs.Program.{Path, Variable, Fresh, Field, Element, Deref, Args, NoArg, ByValue, ByPath, Proc, type_of, type_at, types_in}
-use Rattle.nim_program.specs.Program.{constant_in}
+use Rattle.nim_program.specs.Program.{constant_in, node_of, node_at}
 use Rattle.nim_program.specs.Folds.{if_constant}
-use Rattle.nim_program.specs.Kinds.{TypeKind, kind_of, kind_if, is_bool, is_ordinal, is_selected, is_of, same_value}
+use Rattle.nim_program.specs.Kinds.{TypeKind, kind_of, kind_if, is_bool, is_ordinal, is_text, is_selected, is_of, is_there, same_value}
 use Rattle.nim_program.specs.Fitting.{early_fits, label_fits, labels_fit, has_label, are_labels, are_enough, conditions_fit, values_fit, chooser_fits}
 use Rattle.nim_program.specs.Scopes.{Placed, Here}
 use Rattle.nim_program.specs.Typed.{are_typed, act_fits, are_placed, is_selector, choice_is_placed}
 use Rattle.nim_program.specs.Uses.{use_of}
+use Rattle.nim_meaning.specs.Here.{gives_hooked}
 use Rattle.nim_meaning.specs.Shapes.{is_covered, is_last_value}
+use Rattle.nim_meaning.specs.Waiting.{waiting, held_from, held_if}
+use Rattle.nim_program.specs.declared.expr.Label.TheVariants as C
+use Rattle.flat_code.specs.declared.line.UseAt.{UseAt}
 use Rattle.flat_code.specs.declared.line.Line.{Line}
 use Rattle.flat_code.specs.declared.line.Line.TheVariants as L
 use Rattle.flat_code.specs.declared.place.FlatPlace.{FlatPlace}
@@ -28,46 +32,50 @@ use Rattle.flattening.specs.declared.numbers.Purpose.TheVariants.{End, Next, Arm
 use Rattle.flattening.specs.Formed.{IfListed}
 use Rattle.flattening.specs.Numbering.{if_number, width, width_at, arm_count, looked_from, label}
 use Rattle.flattening.specs.ExprLines.{find_lines, label_tests, value_tests, arm_label, none_fits, handed_on, early_lines}
-use Rattle.flattening.specs.ExprLines.{lines, aim_lines, ready_lines, choice_lines, arm_lines}
+use Rattle.flattening.specs.ExprLines.{lines, aim_lines, copied_lines, ready_lines, choice_lines, arm_lines, branch_use, branch_ends, value_ends}
+use Rattle.flattening.specs.ExprLines.{use_at, has_hooks, is_copied, is_lent_at, waits_at}
 use Rattle.flattening.proofs.Acting.{type_is}
 use Rattle.flattening.proofs.Direct.{are_direct}
-use Rattle.flattening.proofs.Fit.{Among, Fit, fitting, fit_none, fit_line, ◌>>◌, fit_if}
+use Rattle.flattening.proofs.Fit.{Among, Fit, fitting, fit_none, fit_line, ◌>>◌, fit_if, fit_by, fit_taken, fit_ends}
 use Rattle.flattening.proofs.FitParts.{value_turned, never, of_same, itself, both_are}
 use Rattle.flattening.proofs.FitParts as parts
 use Rattle.flattening.proofs.FitPaths as paths
 use Rattle.flattening.proofs.FitActs as acts
 use Rattle.flattening.proofs.Listed.{the_bool}
 
-module _ (types : List Ty) (facts : Facts) (procs : List Proc) (globals : List Placed) (sigs : List Signature) (start whole : List FlatPlace)
-    (modes : (proc position : ℕ) → Mode)
-    (grounds : parts.Grounds types facts procs globals sigs start whole)
-    (filled : ℕ) (places : List Placed) (dest : Option ℕ) (sees : parts.Sees types facts procs globals sigs start whole filled places) where
+module _ (types : List Ty) (facts : Facts) (modes : (proc position : ℕ) → Mode) (procs : List Proc) (globals : List Placed) (sigs : List Signature)
+    (start whole : List FlatPlace)
+    (grounds : parts.Grounds types facts modes procs globals sigs start whole)
+    (filled : ℕ) (places : List Placed) (dest : Option ℕ) (sees : parts.Sees types facts modes procs globals sigs start whole filled places) where
   abbrev known : Known
-  known = parts.known types facts procs globals sigs start whole
+  known = parts.known types facts modes procs globals sigs start whole
 
   abbrev around : Among
-  around = parts.around types facts procs globals sigs start whole
+  around = parts.around types facts modes procs globals sigs start whole
 
   abbrev here : Here
-  here = parts.seen types facts procs globals sigs start whole filled places dest
+  here = parts.seen types facts modes procs globals sigs start whole filled places dest
 
   abbrev value : ℕ → Option Ty
-  value = parts.value types facts procs globals sigs start whole
+  value = parts.value types facts modes procs globals sigs start whole
 
   abbrev Stood : Expr → ℕ → Type 0
-  Stood = parts.Stood types facts procs globals sigs start whole filled places dest
+  Stood = parts.Stood types facts modes procs globals sigs start whole filled places dest
 
   abbrev PathStood : Bool → Path → ℕ → Type 0
-  PathStood = parts.PathStood types facts procs globals sigs start whole filled places dest
+  PathStood = parts.PathStood types facts modes procs globals sigs start whole filled places dest
 
-  abbrev AllStood : Args → ℕ → Type 0
-  AllStood = parts.AllStood types facts procs globals sigs start whole filled places dest
+  abbrev AllStood : Act → (uses : (position : ℕ) → Use) → (position : ℕ) → Args → (t : ℕ) → Type 0
+  AllStood = parts.AllStood types facts modes procs globals sigs start whole filled places dest
+
+  abbrev PartsStood : (position : ℕ) → Args → (t : ℕ) → Type 0
+  PartsStood = parts.PartsStood types facts modes procs globals sigs start whole filled places dest
 
   value_is : (e : Expr) (t : ℕ) → Stood e t → value t ≡ type_of e
-  value_is = parts.value_is types facts procs globals sigs start whole filled places dest
+  value_is = parts.value_is types facts modes procs globals sigs start whole filled places dest
 
-  find_fits : (read : Bool) (path : Path) (t : ℕ) → PathStood read path t → Fit around (find_lines types path t)
-  find_fits = paths.find_fits types facts procs globals sigs start whole grounds filled places dest sees
+  find_fits : (read : Bool) (path : Path) (t : ℕ) → PathStood read path t → Fit around (find_lines types facts path t)
+  find_fits = paths.find_fits types facts modes procs globals sigs start whole grounds filled places dest sees
 
   -- ---- lines of choices
 
@@ -75,11 +83,11 @@ module _ (types : List Ty) (facts : Facts) (procs : List Proc) (globals : List P
   bool_at t ty e h = ap (λ o. is_bool (kind_if facts o)) e ∙ h
 
   -- what gives no value starts at nothing
-  none_right : (t : ℕ) (ty : Option Ty) (how : Use) → IfListed types ty → value t ≡ ty → fitting around (none_fits types modes t ty how) ≡ true
+  none_right : (t : ℕ) (ty : Option Ty) (how : UseAt) → IfListed types ty → value t ≡ ty → fitting around (none_fits types facts modes t ty how) ≡ true
   none_right t ty how listed is = both_are _ _ ty is (type_is types ty listed)
 
-  handed_right : (t from : ℕ) (ty passed : Option Ty) (how : Use) → IfListed types ty → value t ≡ ty → value from ≡ passed → same_value passed ty ≡ true →
-      fitting around (handed_on types modes t from how ty) ≡ true
+  handed_right : (t from : ℕ) (ty passed : Option Ty) (how : UseAt) → IfListed types ty → value t ≡ ty → value from ≡ passed → same_value passed ty ≡ true →
+      fitting around (handed_on types facts modes t from how ty) ≡ true
   handed_right t from None passed how listed is from_is same =
       and_from _ _ (ap₂ same_value is from_is ∙ value_turned passed _ same) (ap (needs_no_type facts) is)
   handed_right t from (Some ty) passed how listed is from_is same =
@@ -91,8 +99,11 @@ module _ (types : List Ty) (facts : Facts) (procs : List Proc) (globals : List P
   tests_fit k [] s arm e h = fit_none
   tests_fit k (Ordinals low high ∷ labels) s arm e h =
       let q = and_parts (label_fits k (Ordinals low high)) (labels_fit k labels) h in
-      fit_line (L.Fits s low high arm) (ap (λ j. is_ordinal j && (is_int_value low && is_int_value high)) e ∙ q.0) >> tests_fit k labels s arm e q.1
-  tests_fit k (Exactly text ∷ labels) s arm e h = tests_fit k labels s arm e (and_parts (label_fits k (Exactly text)) (labels_fit k labels) h).1
+      fit_line (L.Fits s (C.Ordinals low high) arm) (ap (λ j. is_ordinal j && (is_int_value low && is_int_value high)) e ∙ q.0)
+      >> tests_fit k labels s arm e q.1
+  tests_fit k (Exactly text ∷ labels) s arm e h =
+      let q = and_parts (label_fits k (Exactly text)) (labels_fit k labels) h in
+      fit_line (L.Fits s (C.Text text) arm) (ap is_text e ∙ q.0) >> tests_fit k labels s arm e q.1
 
   all_tests_fit : (k : TypeKind) (labels : List (List Label)) (values : Args) (s t : ℕ) → kind_if facts (value s) ≡ k → are_labels k labels ≡ true →
       Fit around (value_tests labels values s t)
@@ -108,14 +119,14 @@ module _ (types : List Ty) (facts : Facts) (procs : List Proc) (globals : List P
   arm_fits false other arm = fit_line (L.Label arm) refl
 
   early_right : (short : Short) (t s : ℕ) (ty : Ty) → value t ≡ Some ty → value s ≡ Some ty → is_bool (kind_of facts ty) ≡ true →
-      Fit around (early_lines types modes short t s)
+      Fit around (early_lines types facts modes short t s)
   early_right And t s ty e f h = fit_line (L.Truth t false) (bool_at t (Some ty) e h) >> fit_line (L.Unless s (label End t)) (bool_at s (Some ty) f h)
   early_right Or t s ty e f h =
       fit_line (L.Truth t true) (bool_at t (Some ty) e h)
       >> (fit_line (L.Unless s (label Next t)) (bool_at s (Some ty) f h) >> (fit_line (L.Jump (label End t)) refl >> fit_line (L.Label (label Next t)) refl))
 
   -- the value of a bool is handed on without its type
-  bool_passes : (t from : ℕ) (ty : Ty) (how : Use) → value t ≡ Some ty → value from ≡ Some ty → is_bool (kind_of facts ty) ≡ true →
+  bool_passes : (t from : ℕ) (ty : Ty) (how : UseAt) → value t ≡ Some ty → value from ≡ Some ty → is_bool (kind_of facts ty) ≡ true →
       fitting around (L.Pass t from how None) ≡ true
   bool_passes t from ty how e f h =
       and_from _ _ (ap₂ same_value e f ∙ itself (Some ty)) (ap (needs_no_type facts) (e ∙ ap Some (the_bool facts ty h)))
@@ -127,13 +138,25 @@ module _ (types : List Ty) (facts : Facts) (procs : List Proc) (globals : List P
   last_value enough value ty (ByValue e rest) h = never h
   last_value enough value ty (ByPath path rest) h = never h
 
+  -- what ends behind the value of a branch
+  branch_then : {F : List Line → List Line} (e : Expr) → Fit around F → Fit around (λ k. F (branch_ends types facts modes e k))
+  branch_then e fit = fit >> (fit_ends types (waiting facts modes e Owned) >> fit_taken (held_if (has_hooks facts e) (node_of e).number []))
+
   -- ---- expressions
 
-  abbrev first_stood : (e : Expr) (rest : Args) (t : ℕ) → AllStood (ByValue e rest) t → Stood e t
-  first_stood = parts.first_stood types facts procs globals sigs start whole filled places dest
+  -- of parts from a position on
+  first_stood : (i : ℕ) (e : Expr) (rest : Args) (t : ℕ) → PartsStood i (ByValue e rest) t → Stood e t
+  first_stood i = parts.first_stood types facts modes procs globals sigs start whole filled places dest (Building []) (λ j. Owned) i
 
-  abbrev rest_stood : (e : Expr) (rest : Args) (t : ℕ) → AllStood (ByValue e rest) t → AllStood rest (t + width e)
-  rest_stood = parts.rest_stood types facts procs globals sigs start whole filled places dest
+  rest_stood : (i : ℕ) (e : Expr) (rest : Args) (t : ℕ) → PartsStood i (ByValue e rest) t → PartsStood (suc i) rest (t + width e)
+  rest_stood i = parts.rest_stood types facts modes procs globals sigs start whole filled places dest (Building []) (λ j. Owned) i
+
+  first_path : (path : Path) (rest : Args) (t : ℕ) → PartsStood 0 (ByPath path rest) t → PathStood false path t
+  first_path = parts.first_path types facts modes procs globals sigs start whole filled places dest (Building []) (λ j. Owned) 0
+
+  hooked_there : (ty : Option Ty) → gives_hooked facts ty ≡ true → is_there ty ≡ true
+  hooked_there None h = never h
+  hooked_there (Some ty) h = refl
 
   -- what is done for a value that a path begins with, which isn't a constant
   fit_begun : {F : List Line → List Line} (constant : Option Literal) → (constant ≡ None → Fit around F) → Fit around (λ k. if_constant constant k (F k))
@@ -141,29 +164,31 @@ module _ (types : List Ty) (facts : Facts) (procs : List Proc) (globals : List P
   fit_begun (Some literal) fit = fit_none
 
   mutual
-    pub expr_fits : (e : Expr) (how : Use) (t : ℕ) → Stood e t → Fit around (lines types modes e how t)
+    pub expr_fits : (e : Expr) (how : Use) (t : ℕ) → Stood e t → Fit around (lines types facts modes e how t)
     expr_fits (Apply node ty act operands) how t e =
-        let all = parts.operands_stood types facts procs globals sigs start whole filled places dest node ty act operands t e in
+        let all = parts.operands_stood types facts modes procs globals sigs start whole filled places dest node ty act operands t e in
         let is = value_is (Apply node ty act operands) t e in
-        let listed = parts.value_listed types facts procs globals sigs start whole (Apply node ty act operands) e.direct e.listed in
-        ready_fits operands (use_of modes act) 0 (suc t) all
-        >> (paths.settle_fits types facts procs globals sigs start whole grounds filled places dest sees operands (suc t) all
-        >> fit_line _ (acts.act_right types facts procs globals sigs start whole modes grounds filled places dest sees t act how ty operands
-        (are_direct facts operands) e.direct (and_parts (act_fits here ty act operands) (are_typed here operands) e.typed).0 listed
-        (parts.all_listed types facts procs globals sigs start whole operands all.direct all.listed) is all))
+        let listed = parts.value_listed types facts modes procs globals sigs start whole (Apply node ty act operands) e.listed in
+        ready_fits act operands (use_of modes act) 0 (suc t) all
+        >> (paths.settle_fits types facts modes procs globals sigs start whole grounds filled places dest sees act (use_of modes act) 0 operands (suc t) all
+        >> (fit_taken (held_from facts modes operands (use_of modes act) 0)
+        >> (fit_line _ (acts.act_right types facts modes procs globals sigs start whole grounds filled places dest sees t act (use_at how node.number)
+        ty operands (are_direct facts operands) e.direct (and_parts (act_fits here ty act operands) (are_typed here operands) e.typed).0 listed
+        (parts.all_listed types facts modes procs globals sigs start whole operands all.listed) is all)
+        >> acts.back_fits types facts modes procs globals sigs start whole grounds filled places dest sees t act (use_at how node.number) ty is)))
     expr_fits (Read path) how t e =
-        let p = parts.read_stood types facts procs globals sigs start whole filled places dest path t e in
-        let l = parts.leads types facts procs globals sigs start whole filled places dest true path t p in
+        let p = parts.read_stood types facts modes procs globals sigs start whole filled places dest path t e in
+        let l = parts.leads types facts modes procs globals sigs start whole filled places dest true path (suc t) p in
         let is = value_is (Read path) t e in
-        let listed = parts.value_listed types facts procs globals sigs start whole (Read path) e.direct e.listed in
-        let some = parts.path_typed types facts procs globals sigs start whole filled places dest true path t p in
-        aim_fits true path t p
-        >> (find_fits true path t p
-        >> fit_line (L.Get t t how _ (if_number types (type_at path)))
+        let listed = parts.value_listed types facts modes procs globals sigs start whole (Read path) e.listed in
+        let some = parts.path_typed types facts modes procs globals sigs start whole filled places dest true path (suc t) p in
+        aim_fits true path (suc t) p
+        >> (find_fits true path (suc t) p
+        >> fit_line (L.Get t (suc t) (use_at how (node_at path).number) (if_number types (type_at path)))
         (and_from _ _ (parts.both_some _ _ (type_at path) some is (type_is types (type_at path) listed)) (parts.both_some _ _ (type_at path) some is l.type)))
     expr_fits (Early node ty short left right) how t e =
-        let l = parts.left_stood types facts procs globals sigs start whole filled places dest node ty short left right t e in
-        let r = parts.right_stood types facts procs globals sigs start whole filled places dest node ty short left right t e in
+        let l = parts.left_stood types facts modes procs globals sigs start whole filled places dest node ty short left right t e in
+        let r = parts.right_stood types facts modes procs globals sigs start whole filled places dest node ty short left right t e in
         let q = and_parts (early_fits facts ty (type_of left) (type_of right)) _ e.typed in
         let b = and_parts (is_bool (kind_of facts ty)) _ q.0 in
         let c = and_parts (is_of (type_of left) (Some ty)) (is_of (type_of right) (Some ty)) b.1 in
@@ -173,117 +198,150 @@ module _ (types : List Ty) (facts : Facts) (procs : List Proc) (globals : List P
         expr_fits left Owned (suc t) l
         >> (early_right short t (suc t) ty is left_is b.0
         >> (expr_fits right Owned (suc t + width left) r
-        >> (fit_line (L.Pass t (suc t + width left) how None) (bool_passes t (suc t + width left) ty how is right_is b.0)
+        >> (fit_line (L.Pass t (suc t + width left) (use_at how node.number) None)
+        (bool_passes t (suc t + width left) ty (use_at how node.number) is right_is b.0)
         >> fit_line (L.Label (label End t)) refl)))
     expr_fits (Choose node ty ByConditions parts') how t e =
-        let all = parts.conditions_stood types facts procs globals sigs start whole filled places dest node ty parts' t e in
+        let all = parts.conditions_stood types facts modes procs globals sigs start whole filled places dest node ty parts' t e in
         let q = and_parts (chooser_fits facts ty ByConditions (types_in parts')) (choice_is_placed ByConditions parts')
         (and_parts _ (are_typed here parts') e.typed).0 in
-        let listed = parts.value_listed types facts procs globals sigs start whole (Choose node ty ByConditions parts') e.direct e.listed in
-        choice_fits parts' ty how t (suc t) listed (value_is (Choose node ty ByConditions parts') t e) q.0 q.1 all >> fit_line (L.Label (label End t)) refl
+        let listed = parts.value_listed types facts modes procs globals sigs start whole (Choose node ty ByConditions parts') e.listed in
+        choice_fits 0 parts' ty (use_at how node.number) t (suc t) listed (value_is (Choose node ty ByConditions parts') t e) q.0 q.1 all >> fit_line
+        (L.Label (label End t)) refl
     expr_fits (Choose node ty (ByLabels labels) NoArg) how t e =
         never (and_parts false (choice_is_placed (ByLabels labels) NoArg) (and_parts _ true e.typed).0).0
     expr_fits (Choose node ty (ByLabels labels) (ByValue selector rest)) how t e =
         let u = suc t + arm_count (ByLabels labels) in
-        let all = parts.selected_stood types facts procs globals sigs start whole filled places dest node ty labels (ByValue selector rest) t e in
+        let all = parts.selected_stood types facts modes procs globals sigs start whole filled places dest node ty labels (ByValue selector rest) t e in
         let q = and_parts (chooser_fits facts ty (ByLabels labels) (type_of selector ∷ types_in rest))
         (choice_is_placed (ByLabels labels) (ByValue selector rest))
         (and_parts _ (are_typed here (ByValue selector rest)) e.typed).0 in
         let k = kind_if facts (type_of selector) in
         let h = and_parts (is_selected k && are_labels k labels) (values_fit facts ty (are_enough k ty labels) labels (types_in rest)) q.0 in
-        let listed = parts.value_listed types facts procs globals sigs start whole
-        (Choose node ty (ByLabels labels) (ByValue selector rest)) e.direct e.listed in
-        let s = first_stood selector rest u all in
+        let listed = parts.value_listed types facts modes procs globals sigs start whole
+        (Choose node ty (ByLabels labels) (ByValue selector rest)) e.listed in
+        let s = first_stood 0 selector rest u all in
         let is = value_is selector u s in
         expr_fits selector Looked u s
         >> (all_tests_fit k labels rest u (u + width selector) (ap (kind_if facts) is) (and_parts (is_selected k) (are_labels k labels) h.0).1
         >> (fit_line (L.Jump (label Next t)) refl
-        >> (arms_fit (are_enough k ty labels) (is_covered (type_of selector)) labels rest ty how t (u + width selector) listed
+        >> (arms_fit (are_enough k ty labels) (is_covered (type_of selector)) 1 labels rest ty (use_at how node.number) t (u + width selector) listed
         (value_is (Choose node ty (ByLabels labels) (ByValue selector rest)) t e) h.1
-        (and_parts (is_selector (ByValue selector rest)) (are_placed 0 rest) q.1).1 (rest_stood selector rest u all)
+        (and_parts (is_selector (ByValue selector rest)) (are_placed 0 rest) q.1).1 (rest_stood 0 selector rest u all)
         >> fit_line (L.Label (label End t)) refl)))
     expr_fits (Choose node ty (ByLabels labels) (ByPath path rest)) how t e =
         let u = suc t + arm_count (ByLabels labels) in
         let from = looked_from path u in
-        let all = parts.selected_stood types facts procs globals sigs start whole filled places dest node ty labels (ByPath path rest) t e in
+        let all = parts.selected_stood types facts modes procs globals sigs start whole filled places dest node ty labels (ByPath path rest) t e in
         let q = and_parts (chooser_fits facts ty (ByLabels labels) (type_at path ∷ types_in rest)) (choice_is_placed (ByLabels labels) (ByPath path rest))
         (and_parts _ (are_typed here (ByPath path rest)) e.typed).0 in
         let k = kind_if facts (type_at path) in
         let h = and_parts (is_selected k && are_labels k labels) (values_fit facts ty (are_enough k ty labels) labels (types_in rest)) q.0 in
-        let listed = parts.value_listed types facts procs globals sigs start whole (Choose node ty (ByLabels labels) (ByPath path rest)) e.direct e.listed in
-        let p = parts.first_path types facts procs globals sigs start whole filled places dest path rest from all in
-        let l = parts.leads types facts procs globals sigs start whole filled places dest false path from p in
-        let is = parts.selector_is types facts procs globals sigs start whole filled places dest path rest u
-        (parts.choice_stands types facts procs globals sigs start whole filled places dest node ty labels (ByPath path rest) t e) all in
-        let some = parts.path_typed types facts procs globals sigs start whole filled places dest false path from p in
+        let listed = parts.value_listed types facts modes procs globals sigs start whole (Choose node ty (ByLabels labels) (ByPath path rest)) e.listed in
+        let p = first_path path rest from all in
+        let l = parts.leads types facts modes procs globals sigs start whole filled places dest false path from p in
+        let is = parts.selector_is types facts modes procs globals sigs start whole filled places dest path rest u
+        (parts.choice_stands types facts modes procs globals sigs start whole filled places dest node ty labels (ByPath path rest) t e) all in
+        let some = parts.path_typed types facts modes procs globals sigs start whole filled places dest false path from p in
         aim_fits false path from p
         >> (find_fits false path from p
         >> (fit_line (L.Look u from) (parts.both_some _ _ (type_at path) some is l.type)
         >> (all_tests_fit k labels rest u (from + width_at path) (ap (kind_if facts) is) (and_parts (is_selected k) (are_labels k labels) h.0).1
         >> (fit_line (L.Jump (label Next t)) refl
-        >> (arms_fit (are_enough k ty labels) (is_covered (type_at path)) labels rest ty how t (from + width_at path) listed
+        >> (arms_fit (are_enough k ty labels) (is_covered (type_at path)) 1 labels rest ty (use_at how node.number) t (from + width_at path) listed
         (value_is (Choose node ty (ByLabels labels) (ByPath path rest)) t e) h.1 (and_parts (is_selector (ByPath path rest)) (are_placed 0 rest) q.1).1
-        (parts.behind_path types facts procs globals sigs start whole filled places dest path rest from all)
+        (parts.behind_path types facts modes procs globals sigs start whole filled places dest (Building []) (λ j. Owned) 0 path rest from all)
         >> fit_line (L.Label (label End t)) refl)))))
 
-    pub aim_fits : (read : Bool) (path : Path) (t : ℕ) → PathStood read path t → Fit around (aim_lines types modes path t)
+    pub aim_fits : (read : Bool) (path : Path) (t : ℕ) → PathStood read path t → Fit around (aim_lines types facts modes path t)
     aim_fits read (Variable node ty place global) t p = fit_none
     aim_fits read (Fresh v) t p =
         fit_begun (constant_in v)
-        (λ none. expr_fits v Looked (suc t) (parts.fresh_stood types facts procs globals sigs start whole filled places dest read v t none p))
+        (λ none. expr_fits v Looked (suc t) (parts.fresh_stood types facts modes procs globals sigs start whole filled places dest read v t none p))
     aim_fits read (Field node ty base field) t p =
-        aim_fits false base (suc t) (parts.base_stood types facts procs globals sigs start whole filled places dest read node ty base field t p)
+        aim_fits false base (suc t) (parts.base_stood types facts modes procs globals sigs start whole filled places dest read node ty base field t p)
     aim_fits read (Element node ty base index constant) t p =
-        let b = parts.row_stood types facts procs globals sigs start whole filled places dest read node ty base index constant t p in
+        let b = parts.row_stood types facts modes procs globals sigs start whole filled places dest read node ty base index constant t p in
         aim_fits false base (suc t) b.0 >> expr_fits index Owned (suc t + width_at base) b.1
-    aim_fits read (Deref ty base) t p = never p.direct
+    aim_fits read (Deref ty base) t p = aim_fits false base (suc t)
+        (parts.object_stood types facts modes procs globals sigs start whole filled places dest read ty base t p)
 
-    pub ready_fits : (args : Args) (uses : ℕ → Use) (i t : ℕ) → AllStood args t → Fit around (ready_lines types modes args uses i t)
-    ready_fits NoArg uses i t all = fit_none
-    ready_fits (ByValue e rest) uses i t all =
-        expr_fits e (uses i) t (first_stood e rest t all) >> ready_fits rest uses (suc i) (t + width e) (rest_stood e rest t all)
-    ready_fits (ByPath path rest) uses i t all =
-        aim_fits false path t (parts.first_path types facts procs globals sigs start whole filled places dest path rest t all)
-        >> ready_fits rest uses (suc i) (t + width_at path) (parts.behind_path types facts procs globals sigs start whole filled places dest path rest t all)
+    -- where a place copies from
+    pub copied_fits : (e : Expr) (t : ℕ) → Stood e t → Fit around (copied_lines types facts modes e t)
+    copied_fits (Read path) t e =
+        let p = parts.read_stood types facts modes procs globals sigs start whole filled places dest path t e in aim_fits true path (suc t) p >> find_fits true
+        path (suc t) p
+    copied_fits (Apply node ty act operands) t e = fit_none
+    copied_fits (Early node ty short left right) t e = fit_none
+    copied_fits (Choose node ty chooser parts) t e = fit_none
 
-    choice_fits : (args : Args) (ty : Option Ty) (how : Use) (t u : ℕ) → IfListed types ty → value t ≡ ty → conditions_fit facts ty (types_in args) ≡ true →
-        are_placed 0 args ≡ true → AllStood args u → Fit around (choice_lines types modes args ty how t u)
-    choice_fits NoArg ty how t u listed is h placed all = never h
-    choice_fits (ByPath path rest) ty how t u listed is h placed all = never placed
-    choice_fits (ByValue last NoArg) ty how t u listed is h placed all =
-        let s = first_stood last NoArg u all in
-        expr_fits last Owned u s >> fit_line _ (handed_right t u ty (type_of last) how listed is (value_is last u s) h)
-    choice_fits (ByValue condition (ByPath path rest)) ty how t u listed is h placed all = never placed
-    choice_fits (ByValue condition (ByValue v rest)) ty how t u listed is h placed all =
+    pub ready_fits : (act : Act) (args : Args) (uses : ℕ → Use) (i t : ℕ) → AllStood act uses i args t →
+        Fit around (ready_lines types facts modes act args uses i t)
+    ready_fits act NoArg uses i t all = fit_none
+    ready_fits act (ByValue e rest) uses i t all =
+        let s = parts.first_stood types facts modes procs globals sigs start whole filled places dest act uses i e rest t all in
+        let behind = ready_fits act rest uses (suc i) (t + width e)
+        (parts.rest_stood types facts modes procs globals sigs start whole filled places dest act uses i e rest t all) in
+        fit_if (is_copied facts (uses i) e) (copied_fits e t s >> behind)
+        (expr_fits e (uses i) t s
+        >> (fit_by (is_lent_at facts act (uses i) e)
+        (λ lent. fit_line (L.Fresh t t (waits_at facts e))
+        (let l = parts.lent_leads types facts modes procs globals sigs start whole filled places dest act uses i e rest t lent all in
+        and_from _ _ (parts.both_some _ _ (type_of e) (hooked_there (type_of e) (and_parts (has_hooks facts e) _ lent).0) l.0 (value_is e t s)) (ap not l.1)))
+        (λ not_lent. fit_none)
+        >> behind))
+    ready_fits act (ByPath path rest) uses i t all =
+        aim_fits false path t (parts.first_path types facts modes procs globals sigs start whole filled places dest act uses i path rest t all)
+        >> ready_fits act rest uses (suc i) (t + width_at path)
+        (parts.behind_path types facts modes procs globals sigs start whole filled places dest act uses i path rest t all)
+
+    choice_fits : (i : ℕ) (args : Args) (ty : Option Ty) (how : UseAt) (t u : ℕ) → IfListed types ty → value t ≡ ty →
+        conditions_fit facts ty (types_in args) ≡ true → are_placed 0 args ≡ true → PartsStood i args u →
+        Fit around (choice_lines types facts modes args ty how t u)
+    choice_fits i NoArg ty how t u listed is h placed all = never h
+    choice_fits i (ByPath path rest) ty how t u listed is h placed all = never placed
+    choice_fits i (ByValue last NoArg) ty how t u listed is h placed all =
+        let s = first_stood i last NoArg u all in
+        branch_then last (expr_fits last (branch_use types facts modes last) u s) >> fit_line _
+        (handed_right t u ty (type_of last) how listed is (value_is last u s) h)
+    choice_fits i (ByValue condition (ByPath path rest)) ty how t u listed is h placed all = never placed
+    choice_fits i (ByValue condition (ByValue v rest)) ty how t u listed is h placed all =
         let q = and_parts (is_bool (kind_if facts (type_of condition)) && same_value (type_of v) ty) (conditions_fit facts ty (types_in rest)) h in
         let b = and_parts (is_bool (kind_if facts (type_of condition))) (same_value (type_of v) ty) q.0 in
-        let s = first_stood condition (ByValue v rest) u all in
-        let behind = rest_stood condition (ByValue v rest) u all in
-        let r = first_stood v rest (u + width condition) behind in
+        let s = first_stood i condition (ByValue v rest) u all in
+        let behind = rest_stood i condition (ByValue v rest) u all in
+        let r = first_stood (suc i) v rest (u + width condition) behind in
         expr_fits condition Owned u s
+        >> (fit_ends types (waiting facts modes condition Owned)
         >> (fit_line (L.Unless u (label Arm u)) (bool_at u (type_of condition) (value_is condition u s) b.0)
-        >> (expr_fits v Owned (u + width condition) r
+        >> (branch_then v (expr_fits v (branch_use types facts modes v) (u + width condition) r)
         >> (fit_line _ (handed_right t (u + width condition) ty (type_of v) how listed is (value_is v (u + width condition) r) b.1)
         >> (fit_line (L.Jump (label End t)) refl
         >> (fit_line (L.Label (label Arm u)) refl
-        >> choice_fits rest ty how t (u + width condition + width v) listed is q.1 placed (rest_stood v rest (u + width condition) behind))))))
+        >> choice_fits (suc (suc i)) rest ty how t (u + width condition + width v) listed is q.1 placed
+        (rest_stood (suc i) v rest (u + width condition) behind)))))))
 
-    arms_fit : (enough covered : Bool) (labels : List (List Label)) (args : Args) (ty : Option Ty) (how : Use) (t u : ℕ) → IfListed types ty → value t ≡ ty →
-        values_fit facts ty enough labels (types_in args) ≡ true → are_placed 0 args ≡ true → AllStood args u →
-        Fit around (arm_lines types modes covered labels args ty how t u)
-    arms_fit enough covered labels NoArg ty how t u listed is h placed all = fit_line (L.Label (label Next t)) refl
-        >> fit_line _ (none_right t ty how listed is)
-    arms_fit enough covered labels (ByPath path rest) ty how t u listed is h placed all = never placed
-    arms_fit enough covered [] (ByValue v rest) ty how t u listed is h placed all =
-        let s = first_stood v rest u all in
+    arms_fit : (enough covered : Bool) (i : ℕ) (labels : List (List Label)) (args : Args) (ty : Option Ty) (how : UseAt) (t u : ℕ) → IfListed types ty →
+        value t ≡ ty → values_fit facts ty enough labels (types_in args) ≡ true → are_placed 0 args ≡ true → PartsStood i args u →
+        Fit around (arm_lines types facts modes covered labels args ty how t u)
+    arms_fit enough covered i labels NoArg ty how t u listed is h placed all =
+        fit_line (L.Label (label Next t)) refl >> fit_line _ (none_right t ty how listed is)
+    arms_fit enough covered i labels (ByPath path rest) ty how t u listed is h placed all = never placed
+    arms_fit enough covered i [] (ByValue v rest) ty how t u listed is h placed all =
+        let s = first_stood i v rest u all in
         fit_line (L.Label (label Next t)) refl
-        >> (expr_fits v Owned u s >> fit_line _ (handed_right t u ty (type_of v) how listed is (value_is v u s) (last_value enough (type_of v) ty rest h)))
-    arms_fit enough covered (these ∷ labels) (ByValue v rest) ty how t u listed is h placed all =
+        >> (branch_then v (expr_fits v (branch_use types facts modes v) u s) >> fit_line _
+        (handed_right t u ty (type_of v) how listed is (value_is v u s) (last_value enough (type_of v) ty rest h)))
+    arms_fit enough covered i (these ∷ labels) (ByValue v rest) ty how t u listed is h placed all =
         let q = and_parts (same_value (type_of v) ty) (values_fit facts ty enough labels (types_in rest)) h in
-        let s = first_stood v rest u all in
+        let s = first_stood i v rest u all in
         arm_fits (covered && is_last_value rest) (label Next t) (label Arm u)
-        >> (expr_fits v Owned u s
+        >> (branch_then v (expr_fits v (branch_use types facts modes v) u s)
         >> (fit_line _ (handed_right t u ty (type_of v) how listed is (value_is v u s) q.0)
         >> fit_if (covered && is_last_value rest) fit_none
         (fit_line (L.Jump (label End t)) refl
-        >> arms_fit enough covered labels rest ty how t (u + width v) listed is q.1 placed (rest_stood v rest u all))))
+        >> arms_fit enough covered (suc i) labels rest ty how t (u + width v) listed is q.1 placed (rest_stood i v rest u all))))
+
+  -- what ends behind a value
+  pub value_ends_fit : (e : Expr) (how : Use) → Fit around (value_ends types facts modes e how)
+  value_ends_fit e how = fit_ends types (waiting facts modes e how)

@@ -6,6 +6,9 @@ use Rattle.nim_types.specs.Types.{Ty, Facts}
 use Rattle.nim_types.proofs.ForCallers.{same_sound, same_refl}
 use Rattle.nim_program.specs.declared.expr.Node.{Node}
 use Rattle.nim_program.specs.declared.operation.Short.{Short}
+use Rattle.nim_program.specs.declared.operation.Use.{Use}
+use Rattle.nim_program.specs.declared.operation.Use.TheVariants as U
+use Rattle.nim_program.specs.declared.program.Mode.{Mode}
 use Rattle.nim_program.specs.Program.{Literal, Act, Doing, Building, Giving, Calling, Label, ByConditions, ByLabels, Expr, Apply, Read, Early, Choose}
 use Rattle.nim_program.specs.Program.{Path, Variable, Fresh, Field, Element, Deref}
 use Rattle.nim_program.specs.Program.{Args, NoArg, ByValue, ByPath, Param, Body, Proc, type_of, type_at, types_in, node_of, node_at, constant_in}
@@ -14,23 +17,26 @@ use Rattle.nim_program.specs.Kinds.{is_of, same_value, is_there, is_constant}
 use Rattle.nim_program.specs.Scopes.{Placed, Here, look}
 use Rattle.nim_program.specs.Program.{is_written}
 use Rattle.nim_program.specs.Typed.{own_types, type_if, act_types, is_typed, is_typed_path, are_typed, is_whole, is_read, is_fresh, act_fits}
-use Rattle.nim_meaning.specs.Here.{is_hooked}
+use Rattle.nim_program.specs.Uses.{use_for, use_of}
+use Rattle.nim_meaning.specs.Here.{is_hooked, gives_hooked}
+use Rattle.nim_meaning.specs.Shapes.{is_lent, is_given}
 use Rattle.nim_meaning.specs.Values.{literal_value}
 use Rattle.flat_code.specs.declared.place.FlatPlace.{FlatPlace}
 use Rattle.flat_code.specs.Fits.{Taken, Signature, is_var, any_place}
 use Rattle.flat_code.specs.Scene.{Known}
 use Rattle.flat_code.specs.Shapes.{shape_of, has_shape}
+use Rattle.flattening.specs.ExprLines.{has_hooks, is_copied, is_lent_at}
 use Rattle.flattening.specs.Formed.{IsListed, IfListed, AreListed}
 use Rattle.flattening.specs.Numbering.{width, width_at, widths, arm_count, looked_from, selector_from}
-use Rattle.flattening.specs.Places.{temporary, path_places, operand_places, selector_place}
+use Rattle.flattening.specs.Places.{temporary, path_places, operand_places, part_places, selector_place}
 use Rattle.flattening.proofs.Direct.{is_text, of_act, is_direct, is_direct_path, are_direct}
 use Rattle.flattening.proofs.Fit.{Among}
 use Rattle.flattening.proofs.Numbered.{Owns, owns_first, owns_second, owns_later}
 use Rattle.flattening.proofs.Owned as owned
-use Rattle.flattening.proofs.Owned.{kind_by, locations_from, locations_later}
+use Rattle.flattening.proofs.Owned.{kind_by}
 use Rattle.flattening.proofs.Parts.{Each, apart}
-use Rattle.flattening.proofs.PlaceNumbers.{expr_numbers, operand_numbers}
-use Rattle.flattening.proofs.Widths.{same_width, some_width_at}
+use Rattle.flattening.proofs.PlaceNumbers.{expr_numbers, operand_numbers, part_numbers}
+use Rattle.flattening.proofs.Widths.{same_width, read_width, some_width_at}
 
 pub never : {A : Type 0} → false ≡ true → A
 never e = absurd (both_ways false refl e)
@@ -73,14 +79,10 @@ both_some a b ty h e f = ap₂ is_of e f ∙ some_is ty h
 pub path_width : (path : Path) → widths (ByPath path NoArg) ≡ width_at path
 path_width path = let w = same_width path in omega (arith, w)
 
--- what parameters take
-abbrev pub takes_of : List Param → List Taken
-takes_of [] = []
-takes_of (p ∷ params) = record { by_location = is_var p.mode; of = p.place.of } ∷ takes_of params
-
 -- ---- what is known around: types, procedures, globals, and the flat places of the start code and of the body
 
-module _ (types : List Ty) (facts : Facts) (procs : List Proc) (globals : List Placed) (sigs : List Signature) (start whole : List FlatPlace) where
+module _ (types : List Ty) (facts : Facts) (modes : (proc position : ℕ) → Mode) (procs : List Proc) (globals : List Placed) (sigs : List Signature)
+    (start whole : List FlatPlace) where
   abbrev pub known : Known
   known = record { types = types; facts = facts }
 
@@ -88,30 +90,49 @@ module _ (types : List Ty) (facts : Facts) (procs : List Proc) (globals : List P
   around = record { known = known; procs = sigs; globals = start; places = whole }
 
   abbrev pub value : ℕ → Option Ty
-  value = owned.value known whole
+  value = owned.value known modes whole
 
   abbrev pub led : ℕ → Option Ty
-  led = owned.led known whole
+  led = owned.led known modes whole
 
   abbrev pub may_write : ℕ → Bool
-  may_write = owned.may_write known whole
+  may_write = owned.may_write known modes whole
 
   abbrev pub named : ℕ → (global : Bool) → Option Ty
   named = any_place known sigs start whole
 
   abbrev pub Owned : Expr → (t : ℕ) → Type 0
-  Owned = owned.Owned known whole
+  Owned = owned.Owned known modes whole
 
   abbrev pub PathOwned : Path → (t : ℕ) → Type 0
-  PathOwned = owned.PathOwned known whole
+  PathOwned = owned.PathOwned known modes whole
 
-  abbrev pub AllOwned : Args → (t : ℕ) → Type 0
-  AllOwned = owned.AllOwned known whole
+  abbrev pub AllOwned : Act → Args → (uses : (position : ℕ) → Use) → (position t : ℕ) → Type 0
+  AllOwned = owned.AllOwned known modes whole
 
-  -- a call takes and gives what its procedure says, and constants are values of their types
+  -- An argument for a parameter goes by the parameter's mode at the call: one for a `var` parameter is a path, and of the others those are locations that
+  -- are lent.
+  pub record IsTaken (at_call : Mode) (p : Param) (taken : Taken) : Type 0 where
+    pub of : taken.of ≡ p.place.of
+    pub by_path : is_var p.mode ≡ true → taken.by_location ≡ true
+    pub by_value : is_var p.mode ≡ false → taken.by_location ≡ is_hooked facts p.place.of && is_lent (use_for at_call)
+    pub kept : is_var p.mode ≡ false → taken.written ≡ false
+
+  abbrev pub AreTaken : (proc position : ℕ) → List Param → List Taken → Type 0
+  AreTaken proc i [] [] = Unit {0}
+  AreTaken proc i (p ∷ params) (taken ∷ rest) = IsTaken (modes proc i) p taken × AreTaken proc (suc i) params rest
+  AreTaken proc i params rest = ⊥
+
+  -- a call takes and gives what its procedure says
+  pub record Signed (proc : ℕ) (p : Proc) : Type 0 where
+    pub signature : Signature
+    pub is : slice_get sigs proc ≡ Some signature
+    pub gives : signature.gives ≡ p.gives
+    pub takes : AreTaken proc 0 p.params signature.takes
+
+  -- and constants are values of their types
   pub record Grounds : Type 0 where
-    pub calls : (n : ℕ) (p : Proc) (body : Body) → slice_get procs n ≡ Some p → p.body ≡ Some body →
-        slice_get sigs n ≡ Some (record { takes = takes_of p.params; gives = p.gives })
+    pub calls : (n : ℕ) (p : Proc) (body : Body) → slice_get procs n ≡ Some p → p.body ≡ Some body → Signed n p
     pub constants : (ty : Ty) (literal : Literal) → IsListed types ty → is_text literal || not (is_hooked facts ty) ≡ true →
         is_constant facts ty literal ≡ true → has_shape (literal_value literal) (shape_of facts ty) ≡ true
 
@@ -146,30 +167,26 @@ module _ (types : List Ty) (facts : Facts) (procs : List Proc) (globals : List P
   begun_listed (Some literal) read value none h = absurd cc
 
   mutual
-    pub value_listed : (e : Expr) → is_direct facts e ≡ true → Listed (total lists own_types e) → IfListed types (type_of e)
-    value_listed (Apply node ty act operands) d h = type_listed ty (act_types act) (apart (IsListed types) (type_if ty ++ act_types act) _ h).0
-    value_listed (Read path) d h = path_listed true path d h
-    value_listed (Early node ty short a b) d h = h.0
-    value_listed (Choose node ty chooser parts) d h = type_listed ty [] (apart (IsListed types) (type_if ty ++ []) _ h).0
+    pub value_listed : (e : Expr) → Listed (total lists own_types e) → IfListed types (type_of e)
+    value_listed (Apply node ty act operands) h = type_listed ty (act_types act) (apart (IsListed types) (type_if ty ++ act_types act) _ h).0
+    value_listed (Read path) h = path_listed true path h
+    value_listed (Early node ty short a b) h = h.0
+    value_listed (Choose node ty chooser parts) h = type_listed ty [] (apart (IsListed types) (type_if ty ++ []) _ h).0
 
-    pub path_listed : (read : Bool) (path : Path) → is_direct_path facts path ≡ true → Listed (total_at lists own_types read path) →
+    pub path_listed : (read : Bool) (path : Path) → Listed (total_at lists own_types read path) →
         IfListed types (type_at path)
-    path_listed read (Variable node ty place global) d h = h.0
-    path_listed read (Fresh value) d h = begun_typed (constant_in value) read value h
-    path_listed read (Field node ty base field) d h = h.0
-    path_listed read (Element node ty base index constant) d h = h.0
-    path_listed read (Deref ty base) d h = never d
+    path_listed read (Variable node ty place global) h = h.0
+    path_listed read (Fresh value) h = begun_typed (constant_in value) read value h
+    path_listed read (Field node ty base field) h = h.0
+    path_listed read (Element node ty base index constant) h = h.0
+    path_listed read (Deref ty base) h = h.0
 
-  pub all_listed : (args : Args) → are_direct facts args ≡ true → Listed (totals lists own_types args) → AreListed types (types_in args)
-  all_listed NoArg d h = tt
-  all_listed (ByValue e rest) d h =
-      let q = and_parts (is_direct facts e) (are_direct facts rest) d in
-      let l = apart (IsListed types) (total lists own_types e) (totals lists own_types rest) h in
-      (value_listed e q.0 l.0, all_listed rest q.1 l.1)
-  all_listed (ByPath path rest) d h =
-      let q = and_parts (is_direct_path facts path) (are_direct facts rest) d in
-      let l = apart (IsListed types) (total_at lists own_types false path) (totals lists own_types rest) h in
-      (path_listed false path q.0 l.0, all_listed rest q.1 l.1)
+  pub all_listed : (args : Args) → Listed (totals lists own_types args) → AreListed types (types_in args)
+  all_listed NoArg h = tt
+  all_listed (ByValue e rest) h =
+      let l = apart (IsListed types) (total lists own_types e) (totals lists own_types rest) h in (value_listed e l.0, all_listed rest l.1)
+  all_listed (ByPath path rest) h =
+      let l = apart (IsListed types) (total_at lists own_types false path) (totals lists own_types rest) h in (path_listed false path l.0, all_listed rest l.1)
 
   module _ (filled : ℕ) (places : List Placed) (dest : Option ℕ) where
     abbrev here : Here
@@ -188,52 +205,59 @@ module _ (types : List Ty) (facts : Facts) (procs : List Proc) (globals : List P
       pub listed : Listed (total_at lists own_types read path)
       pub owns : PathOwned path t
 
-    pub record AllStood (args : Args) (t : ℕ) : Type 0 where
+    -- operands of something, from a position on
+    pub record AllStood (act : Act) (uses : (position : ℕ) → Use) (i : ℕ) (args : Args) (t : ℕ) : Type 0 where
       pub typed : are_typed here args ≡ true
       pub direct : are_direct facts args ≡ true
       pub listed : Listed (totals lists own_types args)
-      pub owns : AllOwned args t
+      pub owns : AllOwned act args uses i t
+
+    -- parts of which none is lent
+    abbrev pub PartsStood : (i : ℕ) → Args → (t : ℕ) → Type 0
+    PartsStood i args t = AllStood (Building []) (λ j. U.Owned) i args t
 
     -- ---- parts of parts
 
-    pub first_stood : (e : Expr) (rest : Args) (t : ℕ) → AllStood (ByValue e rest) t → Stood e t
-    first_stood e rest t all = record {
-      typed = (and_parts (is_typed here e) (are_typed here rest) all.typed).0;
-      direct = (and_parts (is_direct facts e) (are_direct facts rest) all.direct).0;
-      listed = (apart (IsListed types) (total lists own_types e) (totals lists own_types rest) all.listed).0;
-      owns = owned.first_owned known whole e rest t all.owns;
-    }
+    module _ (act : Act) (uses : (position : ℕ) → Use) (i : ℕ) where
+      pub first_stood : (e : Expr) (rest : Args) (t : ℕ) → AllStood act uses i (ByValue e rest) t → Stood e t
+      first_stood e rest t all = record {
+        typed = (and_parts (is_typed here e) (are_typed here rest) all.typed).0;
+        direct = (and_parts (is_direct facts e) (are_direct facts rest) all.direct).0;
+        listed = (apart (IsListed types) (total lists own_types e) (totals lists own_types rest) all.listed).0;
+        owns = owned.first_owned known modes whole act uses i e rest t all.owns;
+      }
 
-    pub rest_stood : (e : Expr) (rest : Args) (t : ℕ) → AllStood (ByValue e rest) t → AllStood rest (t + width e)
-    rest_stood e rest t all = record {
-      typed = (and_parts (is_typed here e) (are_typed here rest) all.typed).1;
-      direct = (and_parts (is_direct facts e) (are_direct facts rest) all.direct).1;
-      listed = (apart (IsListed types) (total lists own_types e) (totals lists own_types rest) all.listed).1;
-      owns = owned.behind_owned known whole e rest t all.owns;
-    }
+      pub rest_stood : (e : Expr) (rest : Args) (t : ℕ) → AllStood act uses i (ByValue e rest) t → AllStood act uses (suc i) rest (t + width e)
+      rest_stood e rest t all = record {
+        typed = (and_parts (is_typed here e) (are_typed here rest) all.typed).1;
+        direct = (and_parts (is_direct facts e) (are_direct facts rest) all.direct).1;
+        listed = (apart (IsListed types) (total lists own_types e) (totals lists own_types rest) all.listed).1;
+        owns = owned.behind_owned known modes whole act uses i e rest t all.owns;
+      }
 
-    pub first_path : (path : Path) (rest : Args) (t : ℕ) → AllStood (ByPath path rest) t → PathStood false path t
-    first_path path rest t all = record {
-      typed = (and_parts (is_whole facts path) (is_typed_path here path) (and_parts _ (are_typed here rest) all.typed).0).1;
-      direct = (and_parts (is_direct_path facts path) (are_direct facts rest) all.direct).0;
-      listed = (apart (IsListed types) (total_at lists own_types false path) (totals lists own_types rest) all.listed).0;
-      owns = owned.first_path_owned known whole path rest t all.owns;
-    }
+      pub first_path : (path : Path) (rest : Args) (t : ℕ) → AllStood act uses i (ByPath path rest) t → PathStood false path t
+      first_path path rest t all = record {
+        typed = (and_parts (is_whole facts path) (is_typed_path here path) (and_parts _ (are_typed here rest) all.typed).0).1;
+        direct = (and_parts (is_direct_path facts path) (are_direct facts rest) all.direct).0;
+        listed = (apart (IsListed types) (total_at lists own_types false path) (totals lists own_types rest) all.listed).0;
+        owns = owned.first_path_owned known modes whole act uses i path rest t all.owns;
+      }
 
-    pub behind_path : (path : Path) (rest : Args) (t : ℕ) → AllStood (ByPath path rest) t → AllStood rest (t + width_at path)
-    behind_path path rest t all = record {
-      typed = (and_parts (is_whole facts path && is_typed_path here path) (are_typed here rest) all.typed).1;
-      direct = (and_parts (is_direct_path facts path) (are_direct facts rest) all.direct).1;
-      listed = (apart (IsListed types) (total_at lists own_types false path) (totals lists own_types rest) all.listed).1;
-      owns = owned.behind_path_owned known whole path rest t all.owns;
-    }
+      pub behind_path : (path : Path) (rest : Args) (t : ℕ) → AllStood act uses i (ByPath path rest) t →
+          AllStood act uses (suc i) rest (t + width_at path)
+      behind_path path rest t all = record {
+        typed = (and_parts (is_whole facts path && is_typed_path here path) (are_typed here rest) all.typed).1;
+        direct = (and_parts (is_direct_path facts path) (are_direct facts rest) all.direct).1;
+        listed = (apart (IsListed types) (total_at lists own_types false path) (totals lists own_types rest) all.listed).1;
+        owns = owned.behind_path_owned known modes whole act uses i path rest t all.owns;
+      }
 
-    pub read_stood : (path : Path) (t : ℕ) → Stood (Read path) t → PathStood true path t
+    pub read_stood : (path : Path) (t : ℕ) → Stood (Read path) t → PathStood true path (suc t)
     read_stood path t e = record {
       typed = (and_parts (is_read facts path) (is_typed_path here path) e.typed).1;
       direct = e.direct;
       listed = e.listed;
-      owns = owned.read_owned known whole path t e.owns;
+      owns = owned.read_owned known modes whole path t e.owns;
     }
 
     pub fresh_stood : (read : Bool) (e : Expr) (t : ℕ) → constant_in e ≡ None → PathStood read (Fresh e) t → Stood e (suc t)
@@ -243,7 +267,7 @@ module _ (types : List Ty) (facts : Facts) (procs : List Proc) (globals : List P
           typed = h.1;
           direct = p.direct;
           listed = begun_listed (constant_in e) read e none p.listed;
-          owns = owned.fresh_owned known whole e t none p.owns;
+          owns = owned.fresh_owned known modes whole e t none p.owns;
         }
 
     pub base_stood : (read : Bool) (node : Node) (ty : Ty) (base : Path) (field t : ℕ) → PathStood read (Field node ty base field) t →
@@ -252,7 +276,7 @@ module _ (types : List Ty) (facts : Facts) (procs : List Proc) (globals : List P
       typed = (and_parts _ (is_typed_path here base) p.typed).1;
       direct = p.direct;
       listed = p.listed.1;
-      owns = owned.base_owned known whole node ty base field t p.owns;
+      owns = owned.base_owned known modes whole node ty base field t p.owns;
     }
 
     pub row_stood : (read : Bool) (node : Node) (ty : Ty) (base : Path) (index : Expr) (constant : Option ℤ) (t : ℕ) →
@@ -261,10 +285,18 @@ module _ (types : List Ty) (facts : Facts) (procs : List Proc) (globals : List P
         let h = and_parts (is_typed_path here base) (is_typed here index) (and_parts _ _ p.typed).1 in
         let d = and_parts (is_direct_path facts base) (is_direct facts index) p.direct in
         let l = apart (IsListed types) (total_at lists own_types false base) (total lists own_types index) p.listed.1 in
-        let o = owned.row_owned known whole node ty base index constant t p.owns in (
+        let o = owned.row_owned known modes whole node ty base index constant t p.owns in (
           record { typed = h.0; direct = d.0; listed = l.0; owns = o.0 },
           record { typed = h.1; direct = d.1; listed = l.1; owns = o.1 },
         )
+
+    pub object_stood : (read : Bool) (ty : Ty) (base : Path) (t : ℕ) → PathStood read (Deref ty base) t → PathStood false base (suc t)
+    object_stood read ty base t p = record {
+      typed = (and_parts _ (is_typed_path here base) p.typed).1;
+      direct = p.direct;
+      listed = p.listed.1;
+      owns = owned.object_owned known modes whole ty base t p.owns;
+    }
 
     -- operands of what is done with them
     direct_operands : (ty : Option Ty) (act : Act) (operands : Args) → act_fits here ty act operands ≡ true →
@@ -278,14 +310,16 @@ module _ (types : List Ty) (facts : Facts) (procs : List Proc) (globals : List P
     direct_operands ty (Calling proc []) operands h d = d
     direct_operands ty (Calling proc (first ∷ more)) operands h d = never d
 
-    pub operands_stood : (node : Node) (ty : Option Ty) (act : Act) (operands : Args) (t : ℕ) → Stood (Apply node ty act operands) t → AllStood operands (suc t)
+    pub operands_stood : (node : Node) (ty : Option Ty) (act : Act) (operands : Args) (t : ℕ) → Stood (Apply node ty act operands) t →
+        AllStood act (use_of modes act) 0 operands (suc t)
     operands_stood node ty act operands t e =
         let h = and_parts (act_fits here ty act operands) (are_typed here operands) e.typed in
         record {
           typed = h.1;
           direct = direct_operands ty act operands h.0 e.direct;
           listed = (apart (IsListed types) (type_if ty ++ act_types act) (totals lists own_types operands) e.listed).1;
-          owns = owned.behind_node known whole node ty t (suc t + widths operands) (operand_places types operands (suc t)) (omega arith) (omega arith) e.owns;
+          owns = owned.behind_node known modes whole node ty t (suc t + widths operands)
+              (operand_places types facts modes act operands (use_of modes act) 0 (suc t)) (omega arith) (omega arith) e.owns;
         }
 
     pub left_stood : (node : Node) (ty : Ty) (short : Short) (left right : Expr) (t : ℕ) → Stood (Early node ty short left right) t → Stood left (suc t)
@@ -293,9 +327,9 @@ module _ (types : List Ty) (facts : Facts) (procs : List Proc) (globals : List P
       typed = (and_parts (is_typed here left) (is_typed here right) (and_parts _ _ e.typed).1).0;
       direct = (and_parts (is_direct facts left) (is_direct facts right) e.direct).0;
       listed = (apart (IsListed types) (total lists own_types left) (total lists own_types right) e.listed.1).0;
-      owns = owns_later (locations_from left (suc t)) (locations_later left (suc t))
-          (owns_first (suc t + width left) (suc t + width left + width right) (omega arith) (expr_numbers types right (suc t + width left))
-          (owned.behind_node known whole node (Some ty) t (suc t + width left + width right) _ (omega arith) (omega arith) e.owns));
+      owns = owns_later (suc (suc t)) (omega arith)
+          (owns_first (suc t + width left) (suc t + width left + width right) (omega arith) (expr_numbers types facts modes right (suc t + width left))
+          (owned.behind_node known modes whole node (Some ty) t (suc t + width left + width right) _ (omega arith) (omega arith) e.owns));
     }
 
     pub right_stood : (node : Node) (ty : Ty) (short : Short) (left right : Expr) (t : ℕ) → Stood (Early node ty short left right) t →
@@ -304,31 +338,35 @@ module _ (types : List Ty) (facts : Facts) (procs : List Proc) (globals : List P
       typed = (and_parts (is_typed here left) (is_typed here right) (and_parts _ _ e.typed).1).1;
       direct = (and_parts (is_direct facts left) (is_direct facts right) e.direct).1;
       listed = (apart (IsListed types) (total lists own_types left) (total lists own_types right) e.listed.1).1;
-      owns = owns_later (locations_from right (suc t + width left)) (locations_later right (suc t + width left))
+      owns = owns_later (suc (suc t + width left)) (omega arith)
           (owns_second (suc t) (suc t + width left) (suc t + width left + width right) (omega arith) (omega arith) (omega arith)
-          (expr_numbers types left (suc t))
-          (owned.behind_node known whole node (Some ty) t (suc t + width left + width right) _ (omega arith) (omega arith) e.owns));
+          (expr_numbers types facts modes left (suc t))
+          (owned.behind_node known modes whole node (Some ty) t (suc t + width left + width right) _ (omega arith) (omega arith) e.owns));
     }
 
     -- the parts of a choice
     pub chosen_listed : (ty : Option Ty) (parts : Args) → Listed ((type_if ty ++ []) ++ totals lists own_types parts) → Listed (totals lists own_types parts)
     chosen_listed ty parts h = (apart (IsListed types) (type_if ty ++ []) (totals lists own_types parts) h).1
 
-    pub conditions_stood : (node : Node) (ty : Option Ty) (parts : Args) (t : ℕ) → Stood (Choose node ty ByConditions parts) t → AllStood parts (suc t)
+    pub conditions_stood : (node : Node) (ty : Option Ty) (parts : Args) (t : ℕ) → Stood (Choose node ty ByConditions parts) t → PartsStood 0 parts (suc t)
     conditions_stood node ty parts t e = record {
       typed = (and_parts _ (are_typed here parts) e.typed).1;
       direct = e.direct;
       listed = chosen_listed ty parts e.listed;
-      owns = owned.behind_node known whole node ty t (suc t + widths parts) (operand_places types parts (suc t)) (omega arith) (omega arith) e.owns;
+      owns = owned.parts_as_operands known modes whole parts 0 (suc t)
+          (owned.behind_node known modes whole node ty t (suc t + widths parts) (part_places types facts modes parts (suc t)) (omega arith) (omega arith)
+          e.owns);
     }
 
     pub selected_stood : (node : Node) (ty : Option Ty) (labels : List (List Label)) (parts : Args) (t : ℕ) →
-        Stood (Choose node ty (ByLabels labels) parts) t → AllStood parts (selector_from parts (suc t + arm_count (ByLabels labels)))
+        Stood (Choose node ty (ByLabels labels) parts) t → PartsStood 0 parts (selector_from parts (suc t + arm_count (ByLabels labels)))
     selected_stood node ty labels parts t e = record {
       typed = (and_parts _ (are_typed here parts) e.typed).1;
       direct = e.direct;
       listed = chosen_listed ty parts e.listed;
-      owns = owned.parts_owned known whole parts (suc t + arm_count (ByLabels labels)) (owned.choice_owned known whole node ty labels parts t e.owns);
+      owns = owned.parts_as_operands known modes whole parts 0 (selector_from parts (suc t + arm_count (ByLabels labels)))
+          (owned.parts_owned known modes whole parts (suc t + arm_count (ByLabels labels))
+          (owned.choice_owned known modes whole node ty labels parts t e.owns));
     }
 
     -- ---- the types of temporaries
@@ -343,57 +381,83 @@ module _ (types : List Ty) (facts : Facts) (procs : List Proc) (globals : List P
 
     pub value_is : (e : Expr) (t : ℕ) → Stood e t → value t ≡ type_of e
     value_is (Apply node ty act operands) t e =
-        owned.value_found known whole node ty t (operand_places types operands (suc t)) (omega arith)
-        (value_listed (Apply node ty act operands) e.direct e.listed)
-        ((operand_numbers types operands (suc t)).values t (λ le. absurd (omega (arith, le)))) e.owns
+        owned.value_found known modes whole node ty t (operand_places types facts modes act operands (use_of modes act) 0 (suc t)) (omega arith)
+        (value_listed (Apply node ty act operands) e.listed)
+        ((operand_numbers types facts modes act operands (use_of modes act) 0 (suc t)).values t (λ le. absurd (omega (arith, le)))) e.owns
     value_is (Read path) t e =
         let p = read_stood path t e in
-        let w = some_width_at path in
-        owned.there_found known whole (node_at path) (type_at path) t (path_places types path t) (omega (arith, w))
-        (path_listed true path e.direct e.listed) (path_typed true path t p) e.owns
-    value_is (Early node ty short left right) t e = owned.value_there known whole node ty t _ (omega arith) e.listed.0 e.owns
+        let w = read_width path in
+        owned.there_found known modes whole (node_at path) (type_at path) t (path_places types facts modes path (suc t)) (omega (arith, w))
+        (path_listed true path e.listed) (path_typed true path (suc t) p) e.owns
+    value_is (Early node ty short left right) t e = owned.value_there known modes whole node ty t _ (omega arith) e.listed.0 e.owns
     value_is (Choose node ty ByConditions parts) t e =
-        owned.value_found known whole node ty t (operand_places types parts (suc t)) (omega arith)
-        (value_listed (Choose node ty ByConditions parts) e.direct e.listed)
-        ((operand_numbers types parts (suc t)).values t (λ le. absurd (omega (arith, le)))) e.owns
+        owned.value_found known modes whole node ty t (part_places types facts modes parts (suc t)) (omega arith)
+        (value_listed (Choose node ty ByConditions parts) e.listed)
+        ((part_numbers types facts modes parts (suc t)).values t (λ le. absurd (omega (arith, le)))) e.owns
     value_is (Choose node ty (ByLabels labels) parts) t e =
         let s = suc t + arm_count (ByLabels labels) in
-        owned.value_found known whole node ty t (selector_place types parts s ++ operand_places types parts (selector_from parts s)) (omega arith)
-        (value_listed (Choose node ty (ByLabels labels) parts) e.direct e.listed) (owned.none_at_choice known whole parts t s (omega arith)) e.owns
+        owned.value_found known modes whole node ty t
+        (selector_place types facts modes parts s ++ part_places types facts modes parts (selector_from parts s)) (omega arith)
+        (value_listed (Choose node ty (ByLabels labels) parts) e.listed) (owned.none_at_choice known modes whole parts t s (omega arith)) e.owns
 
     -- the value of a selector that is read in place
-    pub selector_is : (path : Path) (rest : Args) (s : ℕ) → owned.ChoiceOwned known whole (ByPath path rest) s →
-        AllStood (ByPath path rest) (looked_from path s) →
+    pub selector_is : (path : Path) (rest : Args) (s : ℕ) → owned.ChoiceOwned known modes whole (ByPath path rest) s →
+        PartsStood 0 (ByPath path rest) (looked_from path s) →
         value s ≡ type_at path
     selector_is path rest s owns all =
-        let p = first_path path rest (looked_from path s) all in
-        owned.selector_found known whole path rest s (path_listed false path p.direct p.listed) (path_typed false path (looked_from path s) p) owns
+        let p = first_path (Building []) (λ j. U.Owned) 0 path rest (looked_from path s) all in
+        owned.selector_found known modes whole path rest s (path_listed false path p.listed) (path_typed false path (looked_from path s) p) owns
 
     pub choice_stands : (node : Node) (ty : Option Ty) (labels : List (List Label)) (parts : Args) (t : ℕ) →
-        Stood (Choose node ty (ByLabels labels) parts) t → owned.ChoiceOwned known whole parts (suc t + arm_count (ByLabels labels))
-    choice_stands node ty labels parts t e = owned.choice_owned known whole node ty labels parts t e.owns
+        Stood (Choose node ty (ByLabels labels) parts) t → owned.ChoiceOwned known modes whole parts (suc t + arm_count (ByLabels labels))
+    choice_stands node ty labels parts t e = owned.choice_owned known modes whole node ty labels parts t e.owns
 
     pub record Leads (path : Path) (t : ℕ) : Type 0 where
       pub type : led t ≡ type_at path
       pub writes : may_write t ≡ is_written path
 
     fresh_leads : {v hi : ℕ} (value : Expr) (ty : Option Ty) (t : ℕ) (rest : List FlatPlace) → t ≤ suc t → is_there ty ≡ true → IfListed types ty → t + 1 ≤ hi →
-        Owns whole (temporary types (node_of value) ty (kind_by false) t ++ rest) v t hi → (led t ≡ ty) × (may_write t ≡ false)
+        Owns whole (temporary types facts modes (node_of value) ty (kind_by false) t ++ rest) v t hi → (led t ≡ ty) × (may_write t ≡ false)
     fresh_leads value None t rest le h listed less owns = never h
-    fresh_leads value (Some ty) t rest le h listed less owns = owned.led_found known whole false (node_of value) ty t rest (omega (arith, less)) listed owns
+    fresh_leads value (Some ty) t rest le h listed less owns =
+        owned.led_found known modes whole false (node_of value) ty t rest (omega (arith, less)) listed owns
 
     pub leads : (read : Bool) (path : Path) (t : ℕ) → PathStood read path t → Leads path t
     leads read (Variable node ty place global) t p =
-        let l = owned.led_found known whole true node ty t [] (omega arith) p.listed.0 p.owns in record { type = l.0; writes = l.1 }
+        let l = owned.led_found known modes whole true node ty t [] (omega arith) p.listed.0 p.owns in record { type = l.0; writes = l.1 }
     leads read (Fresh value) t p =
         let h = and_parts (is_fresh value && is_there (type_of value)) (is_typed here value) p.typed in
         let w = some_width_at (Fresh value) in
         let l = fresh_leads value (type_of value) t _ (omega arith) (and_parts (is_fresh value) (is_there (type_of value)) h.0).1
-        (path_listed read (Fresh value) p.direct p.listed) (omega (arith, w)) p.owns in
+        (path_listed read (Fresh value) p.listed) (omega (arith, w)) p.owns in
         record { type = l.0; writes = l.1 }
     leads read (Field node ty base field) t p =
-        let l = owned.led_found known whole (is_written base) node ty t (path_places types base (suc t)) (omega arith) p.listed.0 p.owns in
+        let l = owned.led_found known modes whole (is_written base) node ty t (path_places types facts modes base (suc t)) (omega arith) p.listed.0 p.owns in
         record { type = l.0; writes = l.1 }
     leads read (Element node ty base index constant) t p =
-        let l = owned.led_found known whole (is_written base) node ty t _ (omega arith) p.listed.0 p.owns in record { type = l.0; writes = l.1 }
-    leads read (Deref ty base) t p = never p.direct
+        let l = owned.led_found known modes whole (is_written base) node ty t _ (omega arith) p.listed.0 p.owns in record { type = l.0; writes = l.1 }
+    leads read (Deref ty base) t p =
+        let l = owned.led_found known modes whole true (node_at base) ty t (path_places types facts modes base (suc t)) (omega arith) p.listed.0 p.owns in
+        record { type = l.0; writes = l.1 }
+
+    -- ---- what is lent, and what a place copies
+
+    -- nothing else is copied
+    no_path : {A : Type 0} (e : Expr) (how : Use) → has_hooks facts e && (is_given how && false) ≡ true → A
+    no_path e how c = never (and_parts (is_given how) false (and_parts (has_hooks facts e) (is_given how && false) c).1).1
+
+    some_hooked : (ty : Option Ty) → gives_hooked facts ty ≡ true → is_there ty ≡ true
+    some_hooked None h = never h
+    some_hooked (Some ty) h = refl
+
+    pub lent_leads : (act : Act) (uses : (position : ℕ) → Use) (i : ℕ) (e : Expr) (rest : Args) (t : ℕ) → is_lent_at facts act (uses i) e ≡ true →
+        AllStood act uses i (ByValue e rest) t → (led t ≡ type_of e) × (may_write t ≡ false)
+    lent_leads act uses i e rest t lent all =
+        owned.lent_found known modes whole act uses i e rest t lent (some_hooked (type_of e) (and_parts (has_hooks facts e) _ lent).0)
+        (value_listed e (first_stood act uses i e rest t all).listed) all.owns
+
+    pub copied_leads : (how : Use) (e : Expr) (t : ℕ) → is_copied facts how e ≡ true → Stood e t → led (suc t) ≡ type_of e
+    copied_leads how (Read path) t c e = (leads true path (suc t) (read_stood path t e)).type
+    copied_leads how (Apply node ty act operands) t c e = no_path (Apply node ty act operands) how c
+    copied_leads how (Early node ty short left right) t c e = no_path (Early node ty short left right) how c
+    copied_leads how (Choose node ty chooser parts) t c e = no_path (Choose node ty chooser parts) how c

@@ -23,9 +23,10 @@ use Rattle.nim_program.specs.Typed.{own_types, param_declared, body_types, type_
 use Rattle.nim_program.specs.Typed.{is_typed_proc}
 use Rattle.nim_program.specs.Typed.{are_typed_procs, is_typed_start, IsTyped, procedure, module_code, is_typed_stmt, is_typed_code, is_empty, are_typed}
 use Rattle.nim_program.specs.Typed.{starts, is_next}
-use Rattle.nim_meaning.specs.LeftOut.{left_out_in_stmt, left_out_in_block, left_out_in_head, left_out_in_body, left_out_in_proc, left_out_in_procs}
+use Rattle.nim_meaning.specs.LeftOut.{left_out_in_block, left_out_in_head, left_out_in_body, left_out_in_proc, left_out_in_procs}
 use Rattle.nim_meaning.specs.LeftOut.{first_of, IsPlain}
 use Rattle.nim_meaning.specs.Here.{is_hooked}
+use Rattle.nim_meaning.specs.Shapes.{mode_in, modes_in}
 use Rattle.nim_meaning.specs.Values.{literal_value}
 use Rattle.flat_code.specs.declared.code.CodeProc.{CodeProc}
 use Rattle.flat_code.specs.declared.line.Line.{Line}
@@ -44,15 +45,14 @@ use Rattle.flattening.specs.Formed.{IsListed}
 use Rattle.flattening.specs.Given.{flat_body, flat_proc, flat_procs}
 use Rattle.flattening.specs.Numbering.{type_number, width_in, width_of}
 use Rattle.flattening.specs.Places.{block_places, body_places}
-use Rattle.flattening.specs.StmtLines.{number_of, outermost, returned, lines_of, body_lines}
-use Rattle.flattening.proofs.Bodies.{puts_no_loop}
+use Rattle.flattening.specs.StmtLines.{Exits, in_scope, number_of, outermost, returned, param_ends, lines_of, body_lines}
 use Rattle.flattening.proofs.DeclaredGlobals.{BodyListed, body_listed, Found, globals_in}
-use Rattle.flattening.proofs.Direct.{is_text}
+use Rattle.flattening.proofs.Direct.{is_text, is_direct_stmt, is_direct_block, direct_block}
 use Rattle.flattening.proofs.Fit.{Fit, fit_none, fit_line, ◌>>◌}
 use Rattle.flattening.proofs.FitBlocks as blocks
 use Rattle.flattening.proofs.FitBodies as bodies
 use Rattle.flattening.proofs.FitBodies.{look_each, each_placed}
-use Rattle.flattening.proofs.FitParts.{never, value_same, takes_of}
+use Rattle.flattening.proofs.FitParts.{never, value_same}
 use Rattle.flattening.proofs.FitParts as parts
 use Rattle.flattening.proofs.FitTests as standing
 use Rattle.flattening.proofs.FitLoops as loops
@@ -62,7 +62,7 @@ use Rattle.flattening.proofs.PlaceNumbers.{stmt_numbers, block_numbers}
 use Rattle.flattening.proofs.Parts.{Each, apart}
 use Rattle.flattening.proofs.Plain.{neither, none_earlier}
 use Rattle.flattening.proofs.Puts as puts
-use Rattle.flattening.proofs.PutsParts.{puts_stmts}
+use Rattle.flattening.proofs.Weights.{plain_same}
 
 pub none_mapped : (o : Option Node) → option_map (λ (node : Node). node.at) o ≡ None → o ≡ None
 none_mapped None e = refl
@@ -89,10 +89,6 @@ start_end (y ∷ z ∷ xs) x = start_end (z ∷ xs) x
 map_twice : {A B C : Type 0} (g : B → C) (f : A → B) (xs : List A) → map g (map f xs) ≡ map (λ x. g (f x)) xs
 map_twice g f [] = refl
 map_twice g f (x ∷ xs) = ap (λ ys. g (f x) ∷ ys) (map_twice g f xs)
-
-pub map_same : (lines : List Line) → map flat_plain lines ≡ lines
-map_same [] = refl
-map_same (l ∷ lines) = ap (λ ls. l ∷ ls) (map_same lines)
 
 get_map : {A B : Type 0} (f : A → B) (xs : List A) (n : ℕ) (x : A) → slice_get xs n ≡ Some x → slice_get (map f xs) n ≡ Some (f x)
 get_map f [] n x e = nothing e
@@ -150,64 +146,93 @@ module _ (program : Program) (plan : Plan) where
   sigs = map sig_of program.procs
 
   abbrev start : List FlatPlace
-  start = body_places types program.globals [] program.start
+  start = body_places types facts modes plan.sinks program.globals [] program.start
 
   -- ---- bodies
 
+  body_direct : (params : List Param) (body : Body) → left_out_in_body facts params body ≡ None → is_direct_block facts body.stmts ≡ true
+  body_direct params body p =
+      direct_block facts body.stmts
+      (neither (left_out_in_head facts (first_of body.stmts) (param_declared params ++ if_declared body.result)) (left_out_in_block facts body.stmts) p).1
+
   abbrev whole_of : List Param → Body → List FlatPlace
-  whole_of params body = body_places types program.globals params body
+  whole_of params body = body_places types facts modes plan.sinks program.globals params body
 
   held_all : (whole : List FlatPlace) (ds : List Declared) →
       Each (λ (d : Declared). (if_type_of known (place_named is_own whole d.number) ≡ Some d.of) ×
       (if_type_of known (place_named is_declared whole d.number) ≡ Some d.of)) ds →
-      Each (blocks.Held types facts program.procs globals sigs start whole) ds
+      Each (blocks.Held types facts modes program.procs globals sigs start whole) ds
   held_all whole [] h = tt
   held_all whole (d ∷ ds) h = (record { own = h.0.0; named = h.0.1 }, held_all whole ds h.1)
 
-  module _ (grounds : (whole : List FlatPlace) → parts.Grounds types facts program.procs globals sigs start whole) (found : Each (Found program) globals) where
-    module _ (params : List Param) (body : Body) (numbered : is_numbered params body ≡ true) (listed : BodyListed program params body) where
+  module _ (grounds : (whole : List FlatPlace) → parts.Grounds types facts modes program.procs globals sigs start whole)
+      (found : Each (Found program plan) globals) where
+    module _ (params : List Param) (body : Body) (numbered : is_numbered params body ≡ true) (listed : BodyListed program plan params body) where
       abbrev whole : List FlatPlace
       whole = whole_of params body
 
       abbrev head : List Placed
       head = map placed (param_declared params ++ if_declared body.result)
 
-      sees : (filled : ℕ) → parts.Sees types facts program.procs globals sigs start whole filled head
+      sees : (filled : ℕ) → parts.Sees types facts modes program.procs globals sigs start whole filled head
       sees filled = record {
         local = λ n ty e. look_each (λ m. if_type_of known (place_named is_declared whole m)) head n ty
             (each_placed (λ m. if_type_of known (place_named is_declared whole m)) (param_declared params ++ if_declared body.result)
-            (bodies.head_found types facts program.globals params body numbered listed.taken listed.given)) e;
+            (bodies.head_found types facts modes plan.sinks program.globals params body numbered listed.taken listed.given)) e;
         global = λ n ty e. look_each (λ m. if_type_of known (place_named is_global start m)) globals n ty found (blocks.look_taken filled globals n ty e);
       }
 
-      held : Each (blocks.Held types facts program.procs globals sigs start whole) (total_of lists own_places body.stmts)
-      held = held_all whole (total_of lists own_places body.stmts) (bodies.held types facts program.globals params body numbered listed.stmts)
+      held : Each (blocks.Held types facts modes program.procs globals sigs start whole) (total_of lists own_places body.stmts)
+      held = held_all whole (total_of lists own_places body.stmts) (bodies.held types facts modes plan.sinks program.globals params body numbered listed.stmts)
 
-      exits_fit : standing.ExitsFit types facts program.procs globals sigs start whole modes body.result (grounds whole) (outermost body.result)
+      abbrev pub exits : Exits
+      exits = outermost (λ k. param_ends types facts params (returned body.result k))
+
+      abbrev Named : Declared → Type 0
+      Named d = if_type_of known (place_named is_declared whole d.number) ≡ Some d.of
+
+      ends_fit : (ps : List Param) → Each (λ (d : Declared). IsListed types d.of) (param_declared ps) → Each Named (param_declared ps) →
+          Fit (parts.around types facts modes program.procs globals sigs start whole) (param_ends types facts ps)
+      ends_fit [] l d = fit_none
+      ends_fit (p ∷ ps) l d =
+          ends_fit ps l.1 d.1
+          >> standing.place_end_fits types facts modes program.procs globals sigs start whole body.result (grounds whole) p.place l.0 d.0
+
+      params_end : Fit (parts.around types facts modes program.procs globals sigs start whole) (param_ends types facts params)
+      params_end =
+          ends_fit params listed.taken
+          (apart Named (param_declared params) (if_declared body.result)
+          (bodies.head_found types facts modes plan.sinks program.globals params body numbered listed.taken listed.given)).0
+
+      exits_fit : standing.ExitsFit types facts modes program.procs globals sigs start whole body.result (grounds whole) exits
       exits_fit = record {
         breaks = fit_none;
         continues = fit_none;
-        returns = fit_line (L.Return (number_of body.result))
-            (bodies.returns types facts params body.result _ (bodies.others types facts program.globals params body));
+        returns = params_end
+            >> fit_line (L.Return (number_of body.result))
+            (bodies.returns types facts modes plan.sinks params body.result _ (bodies.others types facts modes plan.sinks program.globals params body));
       }
 
       -- a body whose lines fit
-      pub body_right : (hook : Option HookOf) → Fit (parts.around types facts program.procs globals sigs start whole)
-          (lines_of types modes body.result body.stmts (outermost body.result) 0) →
+      pub body_right : (hook : Option HookOf) → Fit (parts.around types facts modes program.procs globals sigs start whole)
+          (lines_of types facts modes body.result body.stmts exits 0) →
           proc_fits flat_plain known sigs start (flat_body program plan hook params body) ≡ true
       body_right hook fit =
+          let last = returned body.result [] in
+          let lines = body_lines types facts modes params body in
           and_from _ _
-          (some_for whole (body_lines types modes body) ((puts_stmts types modes body.result body.stmts (outermost body.result) 0
-          (puts_no_loop body.result)).some
-          (returned body.result []) refl))
-          (and_from _ _ (bodies.ordered types facts program.globals params body numbered)
-          (ap (all_fit known sigs start whole) (map_same (body_lines types modes body))
-          ∙ fit.all (returned body.result []) (exits_fit.returns.all [] refl)))
+          (some_for whole lines (fit.some (param_ends types facts params last) (params_end.some last refl)))
+          (and_from _ _ (bodies.ordered types facts modes plan.sinks program.globals params body numbered)
+          (ap (all_fit known sigs start whole) (plain_same lines) ∙ fit.all (param_ends types facts params last) (exits_fit.returns.all [] refl)))
 
   -- ---- procedures by number
 
-  module _ (typed : are_typed_procs program program.procs ≡ true) (numbered : are_numbered program.procs ≡ true)
-      (plain : left_out_in_procs facts program.procs ≡ None) where
+  mode_found : (procs : List Proc) (n : ℕ) (p : Proc) → slice_get procs n ≡ Some p → (j : ℕ) → modes_in plan.sinks procs n j ≡ mode_in plan.sinks p.params j
+  mode_found [] n p is j = nothing is
+  mode_found (q ∷ procs) zero p is j = ap (λ (r : Proc). mode_in plan.sinks r.params j) (one is)
+  mode_found (q ∷ procs) (suc n) p is j = mode_found procs n p is j
+
+  module _ (typed : are_typed_procs program program.procs ≡ true) where
     at_proc : (procs : List Proc) (n : ℕ) (proc : Proc) → slice_get procs n ≡ Some proc → are_typed_procs program procs ≡ true →
         is_typed_proc program proc ≡ true
     at_proc [] n proc is h = nothing is
@@ -222,37 +247,53 @@ module _ (program : Program) (plan : Plan) where
 
     -- what it takes and gives
     signed : (p : Proc) (body : Body) → p.body ≡ Some body → is_typed_proc program p ≡ true →
-        sig_of p ≡ record { takes = takes_of p.params; gives = p.gives }
+        sig_of p ≡ record { takes = bodies.takes_of types facts modes plan.sinks p.params; gives = p.gives }
     signed p body e h =
         let t = typed_body p body e h in
         let q = and_parts (are_among_types types (body_types p.params body) && _) _ t in
         let r = and_parts (are_among_types types (body_types p.params body)) _ q.0 in
         let s = (and_parts (are_held facts (param_declared p.params ++ if_declared body.result)) (same_value (type_of_place body.result) p.gives)
         (and_parts _ (nat_eq (before program body.first) (before program (body.first + body.places))) r.1).0).1 in
-        let l = body_listed program p.params body r.0 in
+        let l = body_listed program plan p.params body r.0 in
         ap (λ b. signature_of known (flat_proc program plan p.hook p.params b).places) e
         ∙ ap₂ (λ takes gives. record { takes = takes; gives = gives })
-        (bodies.takes types facts p.params body.result _ (bodies.others types facts program.globals p.params body) l.taken)
-        (bodies.gives types facts p.params body.result _ (bodies.others types facts program.globals p.params body) l.given
+        (bodies.takes types facts modes plan.sinks p.params body.result _ (bodies.others types facts modes plan.sinks program.globals p.params body) l.taken)
+        (bodies.gives types facts modes plan.sinks p.params body.result _ (bodies.others types facts modes plan.sinks program.globals p.params body) l.given
         ∙ value_same (type_of_place body.result) p.gives s)
+
+  -- a call
+  called : are_typed_procs program program.procs ≡ true → (whole : List FlatPlace) (n : ℕ) (p : Proc) (body : Body) → slice_get program.procs n ≡ Some p →
+      p.body ≡ Some body → parts.Signed types facts modes program.procs globals sigs start whole n p
+  called typed whole n p body is has = record {
+    signature = record { takes = bodies.takes_of types facts modes plan.sinks p.params; gives = p.gives };
+    is = get_map sig_of program.procs n p is ∙ ap Some (signed typed p body has (at_proc typed program.procs n p is typed));
+    gives = refl;
+    takes = bodies.are_taken types facts modes plan.sinks program.procs globals sigs start whole n 0 p.params
+        (λ j. ap (modes n) (behind_none j) ∙ mode_found program.procs n p is j);
+  }
+    where
+      behind_none : (j : ℕ) → j + 0 ≡ j
+      behind_none j = omega arith
 
   -- the result of a body gets what it gives
   result_right : (whole : List FlatPlace) (result : Option Declared) (gives : Option Ty) → same_value (type_of_place result) gives ≡ true →
       ((d : Declared) → result ≡ Some d → if_type_of known (place_named is_own whole d.number) ≡ Some d.of) →
-      (grounds : parts.Grounds types facts program.procs globals sigs start whole) →
-      standing.ResultFits types facts program.procs globals sigs start whole modes result grounds result gives
-  result_right places None gives h own grounds = sym (value_same None gives h)
-  result_right places (Some d) gives h own grounds = (own d refl, sym (value_same (Some d.of) gives h))
+      Each (λ (d : Declared). IsListed types d.of) (if_declared result) →
+      (grounds : parts.Grounds types facts modes program.procs globals sigs start whole) →
+      standing.ResultFits types facts modes program.procs globals sigs start whole result grounds result gives
+  result_right places None gives h own listed grounds = sym (value_same None gives h)
+  result_right places (Some d) gives h own listed grounds = (own d refl, sym (value_same (Some d.of) gives h), listed.0)
 
   result_listed : (result : Option Declared) (d : Declared) → result ≡ Some d → Each (λ (d : Declared). IsListed types d.of) (if_declared result) →
       IsListed types d.of
   result_listed None d e h = nothing e
   result_listed (Some c) d e h = subst (λ (c : Declared). IsListed types c.of) (one e) h.0
 
-  module _ (grounds : (whole : List FlatPlace) → parts.Grounds types facts program.procs globals sigs start whole) (found : Each (Found program) globals) where
+  module _ (grounds : (whole : List FlatPlace) → parts.Grounds types facts modes program.procs globals sigs start whole)
+      (found : Each (Found program plan) globals) where
     -- a procedure
     body_fits : (hook : Option HookOf) (dest : Option ℕ) (params : List Param) (gives : Option Ty) (body : Body) →
-        is_typed_body program dest params gives body ≡ true → is_numbered params body ≡ true → left_out_in_body facts params body ≡ None →
+        is_typed_body program dest params gives body ≡ true → is_numbered params body ≡ true → is_direct_block facts body.stmts ≡ true →
         proc_fits flat_plain known sigs start (flat_body program plan hook params body) ≡ true
     body_fits hook dest params gives body h numbered p =
         let q = and_parts (are_among_types types (body_types params body) && _) _ h in
@@ -260,22 +301,22 @@ module _ (program : Program) (plan : Plan) where
         let s = (and_parts (are_held facts (param_declared params ++ if_declared body.result)) (same_value (type_of_place body.result) gives)
         (and_parts _ (nat_eq (before program body.first) (before program (body.first + body.places))) r.1).0).1 in
         let b = (and_parts (not (is_empty body.stmts)) _ q.1).1 in
-        let l = body_listed program params body r.0 in
+        let l = body_listed program plan params body r.0 in
         let whole = whole_of params body in
         body_right grounds found params body numbered l hook
-        (stmts.block_fits types facts program.procs globals sigs start whole modes body.result (grounds whole) (before program body.first)
-        (map placed (param_declared params ++ if_declared body.result)) dest (procedure gives) body.stmts (outermost body.result) 0
+        (stmts.block_fits types facts modes program.procs globals sigs start whole body.result (grounds whole) (before program body.first)
+        (map placed (param_declared params ++ if_declared body.result)) dest (procedure gives) body.stmts (exits grounds found params body numbered l) 0
         (sees grounds found params body numbered l (before program body.first))
         (result_right whole body.result gives s
-        (λ d e. (bodies.result_found types facts program.globals params body numbered d e (result_listed body.result d e l.given)).0) (grounds whole))
+        (λ d e. (bodies.result_found types facts modes plan.sinks program.globals params body numbered d e (result_listed body.result d e l.given)).0) l.given
+        (grounds whole))
         (exits_fit grounds found params body numbered l)
         (record {
           typed = b;
-          plain = (neither (left_out_in_head facts (first_of body.stmts) (param_declared params ++ if_declared body.result))
-              (left_out_in_block facts body.stmts) p).1;
+          direct = p;
           listed = l.stmts;
           held = held grounds found params body numbered l;
-          owns = bodies.owned types facts program.globals params body (0 + width_of body.stmts);
+          owns = bodies.owned types facts modes plan.sinks program.globals params body (0 + width_of body.stmts);
         }))
 
     procs_fit : (procs : List Proc) → are_typed_procs program procs ≡ true → are_numbered procs ≡ true → left_out_in_procs facts procs ≡ None →
@@ -291,52 +332,62 @@ module _ (program : Program) (plan : Plan) where
         of_body : (body : Option Body) → is_typed_if program (dest_of q.hook q.params) q.params q.gives body ≡ true → is_numbered_if q.params body ≡ true →
             left_out_in_proc facts q.params body ≡ None → proc_fits flat_plain known sigs start (flat_proc program plan q.hook q.params body) ≡ true
         of_body None h k p = refl
-        of_body (Some body) h k p = body_fits q.hook (dest_of q.hook q.params) q.params q.gives body h k p
+        of_body (Some body) h k p =
+            body_fits q.hook (dest_of q.hook q.params) q.params q.gives body h k (body_direct q.params body p)
 
     -- ---- the code of modules
 
-    module _ (numbered : is_numbered [] program.start ≡ true) (listed : BodyListed program [] program.start) where
+    module _ (numbered : is_numbered [] program.start ≡ true) (listed : BodyListed program plan [] program.start) where
       abbrev result : Option Declared
       result = program.start.result
 
       abbrev first_places : List Placed
       first_places = map placed (if_declared result)
 
-      code_lines : (filled : ℕ) (b : Stmts) (t : ℕ) →
-          standing.ResultFits types facts program.procs globals sigs start start modes result (grounds start) result None →
-          is_typed_code (parts.seen types facts program.procs globals sigs start start filled first_places None) b ≡ true → left_out_in_block facts b ≡ None →
-          Each (IsListed types) (total_of lists own_types b) →
-          Each (blocks.Held types facts program.procs globals sigs start start) (total_of lists own_places b) →
-          Owns start (block_places types b t) t t (t + width_of b) →
-          Fit (parts.around types facts program.procs globals sigs start start) (lines_of types modes result b (outermost result) t)
-      code_lines filled Empty t gives h p l d owns = fit_none
-      code_lines filled (Then first rest) t gives h p l d owns =
-          let seen = parts.seen types facts program.procs globals sigs start start filled first_places None in
+      abbrev ExitsFit : Exits → Type 0
+      ExitsFit = standing.ExitsFit types facts modes program.procs globals sigs start start result (grounds start)
+
+      abbrev Held : Declared → Type 0
+      Held = blocks.Held types facts modes program.procs globals sigs start start
+
+      code_lines : (filled : ℕ) (b : Stmts) (exits : Exits) (t : ℕ) →
+          standing.ResultFits types facts modes program.procs globals sigs start start result (grounds start) result None → ExitsFit exits →
+          is_typed_code (parts.seen types facts modes program.procs globals sigs start start filled first_places None) b ≡ true →
+          is_direct_block facts b ≡ true → Each (IsListed types) (total_of lists own_types b) → Each Held (total_of lists own_places b) →
+          Owns start (block_places types facts modes b t) t t (t + width_of b) →
+          Fit (parts.around types facts modes program.procs globals sigs start start) (lines_of types facts modes result b exits t)
+      code_lines filled Empty exits t gives fit h p l d owns = fit_none
+      code_lines filled (Then first rest) exits t gives fit h p l d owns =
+          let seen = parts.seen types facts modes program.procs globals sigs start start filled first_places None in
           let q = and_parts (is_typed_stmt seen module_code first) (is_typed_code seen rest) h in
-          let r = neither (left_out_in_stmt facts first) (left_out_in_block facts rest) p in
+          let r = and_parts (is_direct_stmt facts first) (is_direct_block facts rest) p in
           let m = apart (IsListed types) (total_in lists own_types first) (total_of lists own_types rest) l in
-          let e = apart (blocks.Held types facts program.procs globals sigs start start) (total_in lists own_places first) (total_of lists own_places rest) d in
-          stmts.stmt_fits types facts program.procs globals sigs start start modes result (grounds start) filled first_places None module_code first
-          (outermost result) t (sees grounds found [] program.start numbered listed filled) gives (exits_fit grounds found [] program.start numbered listed)
+          let e = apart Held (total_in lists own_places first) (total_of lists own_places rest) d in
+          stmts.stmt_fits types facts modes program.procs globals sigs start start result (grounds start) filled first_places None module_code first
+          exits t (sees grounds found [] program.start numbered listed filled) gives fit
           (record {
             typed = q.0;
-            plain = r.0;
+            direct = r.0;
             listed = m.0;
             held = e.0;
-            owns = owns_first (t + width_in first) (t + width_in first + width_of rest) (omega arith) (block_numbers types rest (t + width_in first)) owns;
+            owns = owns_first (t + width_in first) (t + width_in first + width_of rest) (omega arith)
+                (block_numbers types facts modes rest (t + width_in first)) owns;
           })
-          >> code_lines filled rest (t + width_in first) gives q.1 r.1 m.1 e.1
-          (owns_second t (t + width_in first) (t + width_in first + width_of rest) (omega arith) (omega arith) (omega arith) (stmt_numbers types first t) owns)
-      code_lines filled (Declare node place cursor value rest) t gives h p l d owns =
-          let seen = parts.seen types facts program.procs globals sigs start start filled first_places None in
+          >> code_lines filled rest exits (t + width_in first) gives fit q.1 r.1 m.1 e.1
+          (owns_second t (t + width_in first) (t + width_in first + width_of rest) (omega arith) (omega arith) (omega arith)
+          (stmt_numbers types facts modes first t) owns)
+      code_lines filled (Declare node place cursor value rest) exits t gives fit h p l d owns =
+          let seen = parts.seen types facts modes program.procs globals sigs start start filled first_places None in
           let q = and_parts (is_next (slice_get globals filled) (placed place) && (starts facts place.of value && are_typed seen value)) _ h in
           let r = and_parts (is_next (slice_get globals filled) (placed place)) (starts facts place.of value && are_typed seen value) q.0 in
-          let k = loops.declared_known types facts program.procs globals sigs start start modes result (grounds start) filled first_places None
+          let k = loops.declared_known types facts modes program.procs globals sigs start start result (grounds start) filled first_places None
           node place cursor value rest t (sees grounds found [] program.start numbered listed filled) r.1 p l d owns in
-          loops.declared_fits types facts program.procs globals sigs start start modes result (grounds start) filled first_places None
-          (sees grounds found [] program.start numbered listed filled) node place cursor value rest (outermost result) t k
-          (λ u o. code_lines (suc filled) rest u gives q.1 k.rest_plain k.rest_listed k.rest_held o)
-      code_lines filled (Defer node last rest) t gives h p l d owns = never h
+          loops.declared_fits types facts modes program.procs globals sigs start start result (grounds start) filled first_places None
+          (sees grounds found [] program.start numbered listed filled) node place cursor value rest exits t k
+          (λ u o. code_lines (suc filled) rest (in_scope types facts modes result place exits) u gives
+          (standing.scope_fits types facts modes program.procs globals sigs start start result (grounds start) place exits k.place_listed k.place_held fit)
+          q.1 k.rest_direct k.rest_listed k.rest_held o)
+      code_lines filled (Defer node last rest) exits t gives fit h p l d owns = never h
 
   -- ---- constants
 
@@ -382,22 +433,22 @@ module _ (program : Program) (plan : Plan) where
       let p = none_earlier (left_out_in_procs facts program.procs) (left_out_in_body facts [] program.start) (none_mapped _ plain) in
       let s = and_parts (are_among_types types (body_types [] program.start) && not (is_there (type_of_place program.start.result))) _ t.1 in
       let a = and_parts (are_among_types types (body_types [] program.start)) (not (is_there (type_of_place program.start.result))) s.0 in
-      let l = body_listed program [] program.start a.0 in
+      let l = body_listed program plan [] program.start a.0 in
       let none = start_right program.start.result a.1 in
-      let grounds : (whole : List FlatPlace) → parts.Grounds types facts program.procs globals sigs start whole = λ whole. record {
-        calls = λ n q body is has.
-            get_map sig_of program.procs n q is ∙ ap Some (signed t.0 k.0 p.0 q body has (at_proc t.0 k.0 p.0 program.procs n q is t.0));
+      let grounds : (whole : List FlatPlace) → parts.Grounds types facts modes program.procs globals sigs start whole = λ whole. record {
+        calls = called t.0 whole;
         constants = constants typed sorted;
       } in
-      let found = globals_in program typed numbered in
+      let found = globals_in program plan typed numbered in
       let first = flat_body program plan None [] program.start in
       let begins = body_right grounds found [] program.start k.1 l None
-      (code_lines grounds found k.1 l 0 program.start.stmts 0
+      (code_lines grounds found k.1 l 0 program.start.stmts (exits grounds found [] program.start k.1 l) 0
       (result_right start program.start.result None (ap (λ o. same_value (type_of_place o) None) none)
-      (λ d e. (bodies.result_found types facts program.globals [] program.start k.1 d e (result_listed program.start.result d e l.given)).0) (grounds start))
-      s.1 (neither (left_out_in_head facts (first_of program.start.stmts) (if_declared program.start.result))
-      (left_out_in_block facts program.start.stmts) p.1).1
-      l.stmts (held grounds found [] program.start k.1 l) (bodies.owned types facts program.globals [] program.start (0 + width_of program.start.stmts))) in
+      (λ d e. (bodies.result_found types facts modes plan.sinks program.globals [] program.start k.1 d e
+      (result_listed program.start.result d e l.given)).0) l.given
+      (grounds start)) (exits_fit grounds found [] program.start k.1 l) s.1 (body_direct [] program.start p.1)
+      l.stmts (held grounds found [] program.start k.1 l)
+      (bodies.owned types facts modes plan.sinks program.globals [] program.start (0 + width_of program.start.stmts))) in
       let procs = procs_fit grounds found program.procs t.0 k.0 p.0 (first ∷ []) (and_from _ _ begins refl) in
       let places : start_places (flat_procs program plan) ≡ start = start_end (map proc_of program.procs) first in
       let signed_all : signatures flat_plain known (before_last (flat_procs program plan)) ≡ sigs =
@@ -406,5 +457,6 @@ module _ (program : Program) (plan : Plan) where
       and_from _ _
       (ap (λ ps. are_none (params_at ps ++ results_at ps)) places
       ∙ start_none program.start.result none
-      (bodies.head_numbers types [] program.start.result _ (bodies.others types facts program.globals [] program.start)))
+      (bodies.head_numbers types facts modes plan.sinks [] program.start.result _
+      (bodies.others types facts modes plan.sinks program.globals [] program.start)))
       (ap₂ (λ signed ps. each_fits flat_plain known signed ps (flat_procs program plan)) signed_all places ∙ procs)

@@ -43,12 +43,14 @@ many_results facts (Some place) = refl
 
 pub stands_called : (c : Spot) (facts : Facts) (body : Body) (slots : List Slot) (params : ℕ) (named : ℕ → Type 0) (old : World) → length slots ≡ params →
     length old.frames ≡ c.level → ((place : ℕ) → named place → (is_there (slot_at old 0 place) ≡ true) × (0 < length old.frames)) →
+    ((place : Declared) → c.result ≡ Some place → AtFirst params named body false place.number) →
     Stands c (λ place. place - body.first < body.places) (AtFirst params named body) (with_frame old (frame_of facts body slots))
-stands_called c facts body slots params named old many framed given = record {
+stands_called c facts body slots params named old many framed given result = record {
   framed = let e = length-append old.frames (frame_of facts body slots ∷ []) in omega (arith, e, framed);
   open_is = open_is;
   room_is = λ place is. subst (λ (o : Option Frame). is_there (slice_get (frame_in o).slots (place - (frame_in o).first)) ≡ true) (sym found)
       (filled_there all (body.places - length all) (place - body.first) (omega (arith, is)));
+  result_is = λ place e. open_is false place.number (result place e);
 }
   where
     all : List Slot

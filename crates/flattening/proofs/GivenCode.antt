@@ -7,6 +7,7 @@ use Rattle.nim_types.specs.Types.{Ty, Facts}
 use Rattle.nim_types.specs.Table.{type_at}
 use Rattle.nim_plan.specs.declared.plan.Plan.{Plan}
 use Rattle.nim_program.specs.declared.program.HookOf.{HookOf}
+use Rattle.nim_program.specs.declared.program.Mode.{Mode}
 use Rattle.nim_program.specs.declared.program.Body.{Body as RustBody}
 use Rattle.nim_program.specs.declared.program.Proc.{Proc as RustProc}
 use Rattle.nim_program.specs.declared.program.Program.{Program as RustProgram}
@@ -29,31 +30,34 @@ module _ (ts : List Ty) (facts : Facts) (p : RustProgram) (plan : Plan) where
   abbrev program : Program
   program = program_under ts facts p
 
+  abbrev modes : (proc position : ℕ) → Mode
+  modes = modes_of program plan
+
   result_found : (result : Option PlaceDecl) (place : Declared) → option_map (declared_of ts) result ≡ Some place →
       type_at ts (type_number ts place.of) ≡ place.of
   result_found None place e = absurd cc
   result_found (Some d) place e = let h : declared_of ts d ≡ place = cc in listed ts place.of d.ty (sym (ap (λ x. x.of) h))
 
   body_is : (hook : Option HookOf) (params : List Param) (body : RustBody) →
-      proc_of (known_of program) (flat_body program plan hook params (body_of ts body)) ≡ code_of_body program plan hook (body_of ts body)
+      proc_of (known_of program) (flat_body program plan hook params (body_of ts body)) ≡ code_of_body program plan hook params (body_of ts body)
   body_is hook params body =
       ap (λ result. record {
         first = body.first;
         span = body.places;
         result = result;
         hook = hook;
-        lines = body_lines ts (modes_of program plan) (body_of ts body);
-      }) (result_is (known_of program) program.globals params (body_of ts body) (result_found body.result))
+        lines = body_lines ts facts (modes_of program plan) params (body_of ts body);
+      }) (result_is (known_of program) (modes_of program plan) plan.sinks program.globals params (body_of ts body) (result_found body.result))
 
   proc_is : (hook : Option HookOf) (params : List Param) (body : Option RustBody) →
       proc_of (known_of program) (flat_proc program plan hook params (option_map (body_of ts) body))
-      ≡ code_of_proc program plan hook (option_map (body_of ts) body)
+      ≡ code_of_proc program plan hook params (option_map (body_of ts) body)
   proc_is hook params None = refl
   proc_is hook params (Some body) = body_is hook params body
 
   each_is : (ps : List RustProc) →
       map (proc_of (known_of program)) (map (λ (proc : trees.Proc). flat_proc program plan proc.hook proc.params proc.body) (map (tree_of ts) ps))
-      ≡ map (λ (proc : trees.Proc). code_of_proc program plan proc.hook proc.body) (map (tree_of ts) ps)
+      ≡ map (λ (proc : trees.Proc). code_of_proc program plan proc.hook proc.params proc.body) (map (tree_of ts) ps)
   each_is [] = refl
   each_is (first ∷ rest) = ap₂ (λ x xs. x ∷ xs) (proc_is first.hook (map (param_of ts) first.params) first.body) (each_is rest)
 
@@ -66,37 +70,40 @@ module _ (ts : List Ty) (facts : Facts) (p : RustProgram) (plan : Plan) where
   -- ---- places where the numbers of globals are marked
 
   module _ (globals : ℕ → Bool) (same : (n : ℕ) → globals n ≡ is_global program.globals n) where
-    places_are : (params : List Param) (body : Body) → listed_body ts globals params body ≡ body_places ts program.globals params body
+    places_are : (params : List Param) (body : Body) → listed_body ts facts modes plan.sinks globals params body
+        ≡ body_places ts facts modes plan.sinks program.globals params body
     places_are params body =
-        ap (λ declared. param_places ts params ++ (result_places ts body.result ++ (declared ++ block_places ts body.stmts 0)))
-        (ap (λ g. declared_in ts g body.stmts) (fun_ext same) ∙ sym (declares ts program.globals body.stmts))
+        ap (λ declared.
+        param_places ts facts modes plan.sinks params
+        ++ (result_places ts facts modes body.result ++ (declared ++ block_places ts facts modes body.stmts 0)))
+        (ap (λ g. declared_in ts facts modes g body.stmts) (fun_ext same) ∙ sym (declares ts facts modes program.globals body.stmts))
 
     pub body_given : (hook : Option HookOf) (params : List Param) (body : Body) →
-        code_body ts (modes_of program plan) globals hook params body ≡ flat_body program plan hook params body
+        code_body ts facts modes plan.sinks globals hook params body ≡ flat_body program plan hook params body
     body_given hook params body =
         ap (λ places. record {
           first = body.first;
           span = body.places;
           places = places;
-          lines = body_lines ts (modes_of program plan) body;
+          lines = body_lines ts facts modes params body;
           hook = hook;
         }) (places_are params body)
 
     proc_given : (hook : Option HookOf) (params : List Param) (body : Option Body) →
-        code_proc ts (modes_of program plan) globals hook params body ≡ flat_proc program plan hook params body
+        code_proc ts facts modes plan.sinks globals hook params body ≡ flat_proc program plan hook params body
     proc_given hook params None = refl
     proc_given hook params (Some body) = body_given hook params body
 
     each_given : (ps : List RustProc) →
-        map (λ (proc : RustProc). code_proc ts (modes_of program plan) globals proc.hook (map (param_of ts) proc.params) (option_map (body_of ts) proc.body)) ps
+        map (λ (proc : RustProc). code_proc ts facts modes plan.sinks globals proc.hook (map (param_of ts) proc.params) (option_map (body_of ts) proc.body)) ps
         ≡ map (λ (proc : trees.Proc). flat_proc program plan proc.hook proc.params proc.body) (map (tree_of ts) ps)
     each_given [] = refl
     each_given (first ∷ rest) = ap₂ (λ x xs. x ∷ xs) (proc_given first.hook (map (param_of ts) first.params) (option_map (body_of ts) first.body))
         (each_given rest)
 
     pub all_given :
-        map (λ (proc : RustProc). code_proc ts (modes_of program plan) globals proc.hook (map (param_of ts) proc.params) (option_map (body_of ts) proc.body))
+        map (λ (proc : RustProc). code_proc ts facts modes plan.sinks globals proc.hook (map (param_of ts) proc.params) (option_map (body_of ts) proc.body))
         p.procs.items
-        ++ code_body ts (modes_of program plan) globals None [] program.start ∷ []
+        ++ code_body ts facts modes plan.sinks globals None [] program.start ∷ []
         ≡ flat_procs program plan
     all_given = ap₂ (λ xs x. xs ++ x ∷ []) (each_given p.procs.items) (body_given None [] program.start)

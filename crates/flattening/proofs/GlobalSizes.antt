@@ -2,7 +2,9 @@
 use Rattle.std.proofs.Common.{◌≡◌, ℕ, suc, ◌+◌, ◌≤◌, ◌<◌, Bool, true, false, List, [], ◌∷◌, ◌++◌, Option, Some, None, refl, sym, ap, arith}
 use Rattle.std.specs.Prelude.{nat_eq, nat_le, ◌&&◌, ◌||◌, if◌then◌else◌, map}
 use Rattle.std.proofs.lemmas.Bool.{and_parts, and_from, eqb-true, eq-eqb, leb-true}
-use Rattle.nim_types.specs.Types.{Ty}
+use Rattle.nim_types.specs.Types.{Ty, Facts}
+use Rattle.nim_plan.specs.declared.plan.Plan.{Plan}
+use Rattle.nim_program.specs.declared.program.Mode.{Mode}
 use Rattle.nim_types.specs.Table.{type_at}
 use Rattle.nim_program.specs.Program.{Declared, Stmts, Program}
 use Rattle.nim_program.specs.Folds.{Part, Declaring, Handling, lists, total_of}
@@ -17,7 +19,7 @@ use Rattle.flat_code.specs.declared.place.PlaceKind.TheVariants as K
 use Rattle.flat_code.specs.Fits.{is_global, is_declared, place_named, place_type, type_by_kind, if_type_of}
 use Rattle.flat_code.specs.Scene.{Known}
 use Rattle.flat_code.specs.Sizes.{global_bytes, globals_bytes}
-use Rattle.flattening.specs.Flattened.{known_of}
+use Rattle.flattening.specs.Flattened.{known_of, modes_of}
 use Rattle.flattening.specs.Places.{kind_of_declared, all_declared, own_declared, result_places, body_places}
 use Rattle.flattening.proofs.Declared.{numbers}
 use Rattle.flattening.proofs.DeclaredGlobals.{Found, globals_in}
@@ -30,7 +32,7 @@ use Rattle.flattening.proofs.Parts.{Each, both}
 abbrev pub IsAmong : List Declared → FlatPlace → Type 0
 IsAmong globals p = is_global p.kind ≡ true → is_global_number globals p.number ≡ true
 
-module _ (types : List Ty) (globals : List Declared) where
+module _ (types : List Ty) (facts : Facts) (modes : (proc position : ℕ) → Mode) (globals : List Declared) where
   kind_told : (part : Part) (d : Declared) → is_global (kind_of_declared globals part d) ≡ true → is_global_number globals d.number ≡ true
   kind_told (Declaring cursor) d h = by (is_global_number globals d.number) refl cursor h
     where
@@ -43,12 +45,12 @@ module _ (types : List Ty) (globals : List Declared) where
   kind_told part d h = never h
 
   all_told : (kind : Declared → PlaceKind) → ((d : Declared) → is_global (kind d) ≡ true → is_global_number globals d.number ≡ true) → (ds : List Declared) →
-      Each (IsAmong globals) (all_declared types kind ds)
+      Each (IsAmong globals) (all_declared types facts modes kind ds)
   all_told kind told [] = tt
   all_told kind told (d ∷ ds) = (told d, all_told kind told ds)
 
-  pub block_told : (b : Stmts) → Each (IsAmong globals) (total_of lists (own_declared types globals) b)
-  block_told b = kept_of lists (own_declared types globals) (Each (IsAmong globals)) (record {
+  pub block_told : (b : Stmts) → Each (IsAmong globals) (total_of lists (own_declared types facts modes globals) b)
+  block_told b = kept_of lists (own_declared types facts modes globals) (Each (IsAmong globals)) (record {
     none = tt;
     plus = λ ps qs h k. both (IsAmong globals) ps qs h k;
     own = λ seen. all_told (kind_of_declared globals seen.part) (kind_told seen.part) seen.places;
@@ -171,35 +173,38 @@ module _ (known : Known) where
 
 -- ---- of a program
 
-module _ (program : Program) (typed : IsTyped program) (numbered : numbering.is_numbered_program program ≡ true) where
+module _ (program : Program) (plan : Plan) (typed : IsTyped program) (numbered : numbering.is_numbered_program program ≡ true) where
+  abbrev modes : (proc position : ℕ) → Mode
+  modes = modes_of program plan
+
   abbrev known : Known
   known = known_of program
 
   abbrev start : List FlatPlace
-  start = body_places program.types program.globals [] program.start
+  start = body_places program.types program.facts modes plan.sinks program.globals [] program.start
 
   start_numbered : numbering.is_numbered [] program.start ≡ true
   start_numbered = (and_parts (numbering.are_numbered program.procs) (numbering.is_numbered [] program.start) numbered).1
 
   abbrev front : List FlatPlace
-  front = bodies.front program.types program.facts program.globals [] program.start
+  front = bodies.front program.types program.facts modes plan.sinks program.globals [] program.start
 
   abbrev temporaries : List FlatPlace
-  temporaries = bodies.temporaries program.types program.facts program.globals [] program.start
+  temporaries = bodies.temporaries program.types program.facts modes plan.sinks program.globals [] program.start
 
   result_told : (result : Option Declared) (others : List FlatPlace) → Each (IsAmong program.globals) others →
-      Each (IsAmong program.globals) (result_places program.types result ++ others)
+      Each (IsAmong program.globals) (result_places program.types program.facts modes result ++ others)
   result_told None others h = h
   result_told (Some d) others h = ((λ e. never e), h)
 
   -- by its number each global has its type
-  numbers_most : (gs : List Declared) → Each (Found program) (map placed gs) → all_named known gs front ≤ globals_size program.facts gs
+  numbers_most : (gs : List Declared) → Each (Found program plan) (map placed gs) → all_named known gs front ≤ globals_size program.facts gs
   numbers_most [] found = omega arith
   numbers_most (g ∷ gs) found =
       let named = named_most known g.number program.start.first (program.start.first + program.start.places) front temporaries
-      (bodies.rise program.types program.facts program.globals [] program.start start_numbered) in
+      (bodies.rise program.types program.facts modes plan.sinks program.globals [] program.start start_numbered) in
       let whole = ap (λ ps. found_bytes known (if_type_of known (place_named is_global ps g.number)))
-      (bodies.split program.types program.facts program.globals [] program.start) in
+      (bodies.split program.types program.facts modes plan.sinks program.globals [] program.start) in
       let is = ap (found_bytes known) found.0 in
       let rest = numbers_most gs found.1 in
       omega (arith, named, whole, is, rest)
@@ -207,9 +212,9 @@ module _ (program : Program) (typed : IsTyped program) (numbered : numbering.is_
   pub globals_most : globals_bytes known start ≤ globals_size program.facts program.globals
   globals_most =
       let all = all_most known program.globals front
-      (result_told program.start.result _ (block_told program.types program.globals program.start.stmts)) in
-      let most = numbers_most program.globals (globals_in program typed numbered) in
+      (result_told program.start.result _ (block_told program.types program.facts modes program.globals program.start.stmts)) in
+      let most = numbers_most program.globals (globals_in program plan typed numbered) in
       let two = bytes_both known front temporaries in
-      let none = no_globals known temporaries (bodies.undeclared program.types program.facts program.globals [] program.start) in
-      let whole = ap (globals_bytes known) (bodies.split program.types program.facts program.globals [] program.start) in
+      let none = no_globals known temporaries (bodies.undeclared program.types program.facts modes plan.sinks program.globals [] program.start) in
+      let whole = ap (globals_bytes known) (bodies.split program.types program.facts modes plan.sinks program.globals [] program.start) in
       omega (arith, all, most, two, none, whole)

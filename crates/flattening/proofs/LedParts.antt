@@ -1,13 +1,16 @@
 -- The lines of programs lead somewhere.
-use Rattle.std.proofs.Common.{◌≡◌, ℕ, ◌+◌, ◌⊎◌, inl, inr, true, List, [], ◌∷◌, ◌++◌, Option, Some, None, refl, arith}
-use Rattle.std.specs.Prelude.{map}
+use Rattle.std.proofs.Common.{◌≡◌, ℕ, ◌⊎◌, inl, inr, Bool, true, false, List, [], ◌∷◌, ◌++◌, Option, Some, None, refl, arith}
+use Rattle.std.specs.Prelude.{map, if◌then◌else◌}
 use Rattle.std.proofs.lemmas.Bool.{and_from}
-use Rattle.nim_types.specs.Types.{Ty}
+use Rattle.nim_types.specs.Types.{Ty, Facts}
 use Rattle.nim_plan.specs.declared.plan.Plan.{Plan}
 use Rattle.nim_program.specs.declared.program.HookOf.{HookOf}
 use Rattle.nim_program.specs.declared.program.Mode.{Mode}
-use Rattle.nim_program.specs.Program.{Param, Body, Proc, Program}
+use Rattle.nim_program.specs.declared.stmt.Leaving.TheVariants.{Break, Continue, Return}
+use Rattle.nim_program.specs.Program.{Declared, Param, Body, Proc, Program}
+use Rattle.nim_meaning.specs.Here.{is_hooked}
 use Rattle.flat_code.specs.declared.code.CodeProc.{CodeProc}
+use Rattle.flat_code.specs.declared.line.Owning.TheVariants as W
 use Rattle.flat_code.specs.declared.line.Line.{Line}
 use Rattle.flat_code.specs.declared.line.Line.TheVariants as L
 use Rattle.flat_code.specs.Codes.{flat_plain, proc_of, procs_of}
@@ -15,11 +18,12 @@ use Rattle.flat_code.specs.Scene.{Known}
 use Rattle.flat_code.specs.Whole.{label_in, target, back_to, stands, all_lead, are_whole}
 use Rattle.flattening.specs.Flattened.{modes_of}
 use Rattle.flattening.specs.Given.{flat_body, flat_proc, flat_of}
-use Rattle.flattening.specs.StmtLines.{outermost, returned, number_of, body_lines}
-use Rattle.flattening.proofs.Costs.{In, Costs, Kept, no_rules}
+use Rattle.flattening.specs.Numbering.{type_number}
+use Rattle.flattening.specs.StmtLines.{place_end, param_ends, outermost, returned, number_of, body_lines}
+use Rattle.flattening.proofs.Costs.{In, Costs, Kept, Rules, no_rules}
 use Rattle.flattening.proofs.CostExprs.{find}
-use Rattle.flattening.proofs.CostStmts.{Twice, block}
-use Rattle.flattening.proofs.Led.{Found, past, here, Led, led_none, led_more, over, ◌>>◌, a_line, silent, ended, begun}
+use Rattle.flattening.proofs.CostStmts.{Twice, ExitsPaid, block}
+use Rattle.flattening.proofs.Led.{Found, here, Led, led_none, led_more, over, ◌>>◌, a_line, silent, ended, begun}
 use Rattle.flattening.proofs.NameCosts.{name_costs}
 
 in_front : (n : ℕ) (more names : List ℕ) → In n more → In n (more ++ names)
@@ -49,10 +53,10 @@ record Labels : Type 0 where
   after : List ℕ
   above : List ℕ
 
-module _ (types : List Ty) (modes : (proc position : ℕ) → Mode) (whole : List Line) where
+module _ (types : List Ty) (facts : Facts) (modes : (proc position : ℕ) → Mode) (whole : List Line) where
   -- nothing is counted
-  costs : Costs types modes
-  costs = name_costs types modes 0 (λ t. 0) (λ t. 0) (λ t. omega arith) (λ t. omega arith)
+  costs : Costs types facts modes
+  costs = name_costs types facts modes 0 (λ t. 0) (λ t. 0) (λ t. omega arith) (λ t. omega arith)
 
   abbrev E : Labels → (List Line → List Line) → Type 0
   E z front = Led whole (λ n. In n z.after) (λ n. In n z.above) front
@@ -65,7 +69,7 @@ module _ (types : List Ty) (modes : (proc position : ℕ) → Mode) (whole : Lis
       a_line whole (λ n. In n z.after) (λ n. In n z.above) l (λ k found. stands_if k (target l) (λ n e. found n (to n e)))
       (λ before. stands_if whole (back_to l) (λ n e. before n (from n e)))
 
-  kept : Kept types modes costs
+  kept : Kept types facts modes costs
   unfolding costs name_costs
   kept = record {
     ground = record {
@@ -109,31 +113,63 @@ module _ (types : List Ty) (modes : (proc position : ℕ) → Mode) (whole : Lis
         (λ n i k. h n i k);
   }
 
-  twice : Twice types modes costs kept
+  twice : Twice types facts modes costs kept
   unfolding costs name_costs kept
   twice = λ z path t r a F go.
-      record { paid = (go z ((λ n i. i), (λ n i. i)) 0 (λ z' u. record { paid = (find types modes costs kept z' path t).paid })).paid }
+      record { paid = (go z ((λ n i. i), (λ n i. i)) 0 (λ z' u. record { paid = (find types facts modes costs kept z' path t).paid })).paid }
+
+  rules : Rules kept.ground.Stray
+  unfolding kept
+  rules = no_rules (Unit {0}) tt
 
 -- ---- a program
 
-body_leads : (types : List Ty) (modes : (proc position : ℕ) → Mode) (body : Body) →
-    all_lead label_in flat_plain (body_lines types modes body) (body_lines types modes body) ≡ true
-unfolding kept
-body_leads types modes body =
-    let whole = body_lines types modes body in
-    let outside : Labels = record { after = []; above = [] } in
-    (block types modes (costs types modes whole) (kept types modes whole) (no_rules (Unit {0}) tt) (twice types modes whole) body.result body.stmts
-    (outermost body.result) 0 tt outside (record {
-      breaks = λ z u. record { paid = led_none whole (λ n. In n z.after) (λ n. In n z.above) };
-      continues = λ z u. record { paid = led_none whole (λ n. In n z.after) (λ n. In n z.above) };
-      returns = λ z u. record { paid = quiet types modes whole z (L.Return (number_of body.result)) refl refl refl };
-    })).paid.all (returned body.result []) refl (λ n h. absurd h) (λ n h. absurd h) (λ n h. h) refl
+module _ (types : List Ty) (facts : Facts) (modes : (proc position : ℕ) → Mode) (params : List Param) (body : Body) where
+  abbrev whole : List Line
+  whole = body_lines types facts modes params body
+
+  abbrev outside : Labels
+  outside = record { after = []; above = [] }
+
+  place_led : (z : Labels) (place : Declared) → E types facts modes whole z (place_end types facts place)
+  place_led z place = at (is_hooked facts place.of)
+    where
+      at : (b : Bool) → E types facts modes whole z (λ k. if b then L.Own (W.PlaceEnds place.number (type_number types place.of)) [] ∷ k else k)
+      at true = quiet types facts modes whole z (L.Own (W.PlaceEnds place.number (type_number types place.of)) []) refl refl refl
+      at false = led_none whole (λ n. In n z.after) (λ n. In n z.above)
+
+  params_led : (z : Labels) (some : List Param) → E types facts modes whole z (param_ends types facts some)
+  params_led z [] = led_none whole (λ n. In n z.after) (λ n. In n z.above)
+  params_led z (param ∷ some) = params_led z some >> place_led z param.place
+
+  back_led : (z : Labels) → E types facts modes whole z (λ k. param_ends types facts params (returned body.result k))
+  back_led z = params_led z params >> quiet types facts modes whole z (L.Return (number_of body.result)) refl refl refl
+
+  around : (costs types facts modes whole).Ways
+  unfolding costs name_costs
+  around = tt
+
+  ways_led : (z : (kept types facts modes whole).ground.World) →
+      ExitsPaid types facts modes (costs types facts modes whole) (kept types facts modes whole) (rules types facts modes whole)
+      (twice types facts modes whole) z (outermost (λ k. param_ends types facts params (returned body.result k))) around
+  unfolding costs name_costs kept
+  ways_led z Break y u = record { paid = led_none whole (λ n. In n y.after) (λ n. In n y.above) }
+  ways_led z Continue y u = record { paid = led_none whole (λ n. In n y.after) (λ n. In n y.above) }
+  ways_led z Return y u = record { paid = back_led y }
+
+  body_leads : all_lead label_in flat_plain whole whole ≡ true
+  unfolding costs name_costs kept rules
+  body_leads =
+      let inner = (block types facts modes (costs types facts modes whole) (kept types facts modes whole) (rules types facts modes whole)
+      (twice types facts modes whole) body.result body.stmts (outermost (λ k. param_ends types facts params (returned body.result k))) around 0 tt outside
+      (ways_led outside)).paid in
+      (inner >> params_led outside params).all (returned body.result []) refl (λ n h. absurd h) (λ n h. absurd h) (λ n h. h) refl
 
 module _ (program : Program) (plan : Plan) (known : Known) where
   proc_leads : (hook : Option HookOf) (params : List Param) (body : Option Body) →
       all_lead label_in flat_plain (flat_proc program plan hook params body).lines (flat_proc program plan hook params body).lines ≡ true
   proc_leads hook params None = refl
-  proc_leads hook params (Some body) = body_leads program.types (modes_of program plan) body
+  proc_leads hook params (Some body) = body_leads program.types program.facts (modes_of program plan) params body
 
   all_whole : (procs : List Proc) (more : List (CodeProc Line)) → are_whole label_in flat_plain (map (proc_of known) more) ≡ true →
       are_whole label_in flat_plain (map (proc_of known) (map (λ (p : Proc). flat_proc program plan p.hook p.params p.body) procs ++ more)) ≡ true
@@ -143,4 +179,4 @@ module _ (program : Program) (plan : Plan) (known : Known) where
   pub code_whole : are_whole (λ line. label_in (flat_plain line)) flat_plain (procs_of known (flat_of program plan)) ≡ true
   code_whole =
       all_whole program.procs (flat_body program plan None [] program.start ∷ [])
-      (and_from _ _ (body_leads program.types (modes_of program plan) program.start) refl)
+      (and_from _ _ (body_leads program.types program.facts (modes_of program plan) [] program.start) refl)

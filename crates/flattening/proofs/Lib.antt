@@ -43,6 +43,8 @@ mod Counts
 mod TypeNumbers
 mod Behind
 mod ExprPuts
+mod WaitPuts
+mod BlockPuts
 mod StmtPuts
 mod PlacePuts
 mod Declaring
@@ -88,6 +90,24 @@ mod CoversExprs
 mod CoversStmts
 mod PlainBodies
 mod PlainPrograms
+mod Unlent
 mod Led
 mod LedParts
+mod EachTurns
+mod Elements
+mod Endings
+mod Filling
+mod Lending
+mod Opened
+mod Operands
+mod PutsLines
+mod PutsStmts
+mod Scopes
+mod Shaped
+mod WaysOut
+mod Whole
 pub mod ForCallers
+mod LentPlaces
+mod Ordinals
+mod SimpleWaits
+mod SimplePrograms

@@ -79,7 +79,7 @@ module _ (program : Program) (plan : Plan) (typed : IsTyped program) (sorted : A
       let q = and_parts (is_resource (kind_of facts ty)) (not (is_there gives) && params_fit hook.kind ty params) h in
       let k = and_parts (not (is_there gives)) (params_fit hook.kind ty params) q.1 in
       let s = and_parts (are_among_types types (body_types params body) && _) _ t in
-      let l = body_listed program params body (and_parts (are_among_types types (body_types params body)) _ s.0).0 in
+      let l = body_listed program plan params body (and_parts (are_among_types types (body_types params body)) _ s.0).0 in
       let o = neither (left_out_in_head facts (first_of body.stmts) (map (λ (p : Param). p.place) params ++ if_declared body.result))
       (left_out_in_block facts body.stmts) out in
       hook_out hook.kind ty params (if_declared body.result) (first_of body.stmts) k.1 o.0 l.taken q.0

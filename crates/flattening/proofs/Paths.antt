@@ -1,67 +1,79 @@
 -- Flat code looks up paths, line by line as the meaning does it step by step.
-use Rattle.std.proofs.Common.{◌≡◌, ℕ, suc, ◌+◌, ◌<◌, ◌≤◌, Bool, List, [], ◌∷◌, Option, Some, None, refl, sym, ap, ◌∙◌, subst, arith}
-use Rattle.std.specs.Prelude.{unsigned_abs, option_map, length}
-use Rattle.nim_types.specs.Types.{Ty}
-use Rattle.nim_program.specs.Program.{Literal, Expr, type_of, constant_in, Path, Variable, Fresh, Field, Element, Deref, Args, NoArg, ByValue, ByPath}
+use Rattle.std.proofs.Common.{◌≡◌, ℕ, ℤ, suc, ◌+◌, ◌<◌, ◌≤◌, Bool, true, false, List, [], ◌∷◌, length, Option, Some, None, refl, sym, ap, ◌∙◌, subst, arith}
+use Rattle.std.specs.Prelude.{unsigned_abs, if◌then◌else◌}
+use Rattle.nim_types.specs.Types.{Ty, Facts}
+use Rattle.nim_program.specs.Program.{Literal, Expr, type_of, node_of, constant_in, Path, Variable, Fresh, Field, Element, Deref}
 use Rattle.nim_program.specs.Folds.{if_constant}
-use Rattle.nim_meaning.specs.Values.{Value, Made, literal_value, Number, Parts, Handle, Fixed, Ref, Resource, Gone}
-use Rattle.nim_meaning.specs.Values.{Vacant, number_of, length_of, Standing, Location, deeper, Operand, Given, At as AtPlace}
-use Rattle.nim_meaning.specs.State.{State, load}
-use Rattle.nim_meaning.specs.Acts.{branch as choose}
-use Rattle.nim_meaning.specs.Deeds.{Gives, Looks, give, branch, stop}
-use Rattle.nim_meaning.specs.Places.{place_at, item_of, rooted, to_part, to_item, to_object, made, root_of}
-use Rattle.nim_meaning.specs.Aims.{Aim, Root, Value_of, PartOf, ItemOf, ObjectOf, find, Ready, Evaluated, Aimed, settle}
 use Rattle.nim_program.specs.Traps.{IndexOutOfBounds}
 use Rattle.nim_program.specs.Ints.{inside}
+use Rattle.nim_meaning.specs.Values.{Value, Made, literal_value, Number, Parts, Handle, Fixed, Ref, Resource, Gone}
+use Rattle.nim_meaning.specs.Values.{Vacant, number_of, length_of, Standing, Waiting, Location, deeper, at_base}
+use Rattle.nim_meaning.specs.State.{State, World, load}
+use Rattle.nim_meaning.specs.Acts.{branch as choose}
+use Rattle.nim_meaning.specs.Here.{gives_hooked}
+use Rattle.nim_meaning.specs.Deeds.{Gives, Looks, give, branch, stop}
+use Rattle.nim_meaning.specs.Places.{place_at, item_of, rooted, to_part, to_item, to_object, made, root_of}
+use Rattle.nim_meaning.specs.Aims.{Aim, Root, Value_of, PartOf, ItemOf, ObjectOf, fresh_root, find}
 use Rattle.flat_code.specs.declared.line.Line.{Line}
 use Rattle.flat_code.specs.declared.line.Line.TheVariants as L
-use Rattle.flat_code.specs.Scene.{Where, Located, Within, Temps, with_place, location_at, led, Did, Fails}
-use Rattle.flat_code.specs.Lines.{using, using_all, using_number, level_at}
+use Rattle.flat_code.specs.Scene.{Where, Located, Within, Temps, with_place, location_at, led, Fails}
+use Rattle.flat_code.specs.Lines.{using, using_number, level_at, fresh_at}
 use Rattle.flat_code.specs.Lines as does
-use Rattle.flattening.specs.Numbering.{width, width_at, widths}
-use Rattle.flattening.specs.ExprLines.{froms, begin_line, find_lines, settle_lines}
-use Rattle.flattening.specs.Formed.{Scope, PathFormed, AllFormed, count}
+use Rattle.flattening.specs.Numbering.{width, width_at}
+use Rattle.flattening.specs.ExprLines.{begin_line, find_lines}
+use Rattle.flattening.specs.Formed.{Scope, PathFormed}
 use Rattle.flattening.proofs.Runs.{Runs}
-use Rattle.flattening.proofs.Worlds.{since_none, since_then}
-use Rattle.flattening.proofs.Openings.{keeps_to_item, keeps_to_object}
-use Rattle.flattening.proofs.Temps.{kept_none, kept_then, kept_wide, kept_place, put_same, place_before}
-use Rattle.flattening.proofs.Spots.{Spot, there, scene, Lands, after, answers, further, performs_alone, performs_ticked}
+use Rattle.flattening.proofs.Openings.{Answering, answering_all}
+use Rattle.flattening.proofs.Temps.{kept_none, kept_wide, kept_place, put_same}
+use Rattle.flattening.proofs.Spots.{Spot, there, scene, Lands, after, further, performs_alone, performs_ticked}
 use Rattle.flattening.proofs.Standing.{grounded, Stands, stands_since}
 use Rattle.flattening.proofs.Literals.{pieces_value}
 use Rattle.flattening.proofs.Widths.{same_width, fresh_width, some_width, some_width_at}
 
 -- ---- where a temporary leads
 
-pub record Leads (t : ℕ) (temps : Temps) (location : Location) (now : Temps) : Type 0 where
+-- Temporary t leads to a location, as long as the values of its part, which are those of the numbers from lo to below hi, stay.
+pub record Leads (lo hi t : ℕ) (location : Location) (now : Temps) : Type 0 where
   pub place : Where
   pub is : now.places t ≡ Some place
-  pub at : location_at now place ≡ location
-  -- looking up sets no value
+  pub at : (later : Temps) → ((i : ℕ) → lo ≤ i → i < hi → later.values i ≡ now.values i) → location_at later place ≡ location
+
+-- now
+pub leads_now : {lo hi t : ℕ} {location : Location} {now : Temps} (l : Leads lo hi t location now) → location_at now l.place ≡ location
+leads_now {now = now} l = l.at now (λ i le less. refl)
+
+-- and later, where its temporary and its values are as they were
+pub leads_later : {lo hi t : ℕ} {location : Location} {now : Temps} (later : Temps) → later.places t ≡ now.places t →
+    ((i : ℕ) → lo ≤ i → i < hi → later.values i ≡ now.values i) → Leads lo hi t location now → Leads lo hi t location later
+leads_later later there same l =
+    record { place = l.place; is = there ∙ l.is; at = λ last h. l.at last (λ i le less. h i le less ∙ same i le less) }
+
+-- as part of more
+pub leads_wide : {lo hi lo' hi' t : ℕ} {location : Location} {now : Temps} → lo ≤ lo' → hi' ≤ hi → Leads lo' hi' t location now → Leads lo hi t location now
+leads_wide low high l =
+    record { place = l.place; is = l.is; at = λ later h. l.at later (λ i le less. h i (omega (arith, low, le)) (omega (arith, high, less))) }
+
+-- looking up sets no value
+pub record Looked (lo hi t : ℕ) (temps : Temps) (location : Location) (now : Temps) : Type 0 where
+  pub leads : Leads lo hi t location now
   pub values : (i : ℕ) → now.values i ≡ temps.values i
 
-same_location : (old now : Temps) (place : Where) → ((i : ℕ) → now.values i ≡ old.values i) → location_at now place ≡ location_at old place
-same_location old now (Located l) same = refl
-same_location old now (Within u path) same = ap (λ v. location_at (record old { values = λ i. v }) (Within u path)) (same u)
+looked_from : {lo hi t : ℕ} {temps mid : Temps} {location : Location} {now : Temps} → ((i : ℕ) → mid.values i ≡ temps.values i) →
+    Looked lo hi t mid location now → Looked lo hi t temps location now
+looked_from same l = record { leads = l.leads; values = λ i. l.values i ∙ same i }
 
-pub leads_kept : {t : ℕ} {temps mid : Temps} {location : Location} (now : Temps) → ((i : ℕ) → now.values i ≡ mid.values i) →
-    now.places t ≡ mid.places t → Leads t temps location mid → Leads t temps location now
-leads_kept {t} {temps} {mid} {location} now same there leads = record {
-  place = leads.place;
-  is = there ∙ leads.is;
-  at = same_location mid now leads.place same ∙ leads.at;
-  values = λ i. same i ∙ leads.values i;
+located : (lo hi t : ℕ) (temps : Temps) (location : Location) → Looked lo hi t temps location (with_place t temps (Located location))
+located lo hi t temps location = record {
+  leads = record { place = Located location; is = put_same temps.places t (Located location); at = λ later h. refl };
+  values = λ i. refl;
 }
-
-pub leads_from : {t : ℕ} {temps mid : Temps} {location : Location} {now : Temps} → ((i : ℕ) → mid.values i ≡ temps.values i) → Leads t mid location now →
-    Leads t temps location now
-leads_from same leads = record { place = leads.place; is = leads.is; at = leads.at; values = λ i. leads.values i ∙ same i }
 
 led_part : (now : Temps) (place : Where) (location : Location) (i : ℕ) → location_at now place ≡ location →
     location_at now (led place (deeper location i)) ≡ deeper location i
 led_part now (Located l) location i e = refl
 led_part now (Within u path) location i e = subst (λ l. location_at now (led (Within u path) (deeper l i)) ≡ deeper l i) e refl
 
-led_item : (now : Temps) (place : Where) (location : Location) (i : ℕ) → location_at now place ≡ location → (v : Value) →
+pub led_item : (now : Temps) (place : Where) (location : Location) (i : ℕ) → location_at now place ≡ location → (v : Value) →
     location_at now (led place (item_of v location i)) ≡ item_of v location i
 led_item now (Located l) location i e (Handle n (Some k)) = refl
 led_item now (Within u path) location i e (Handle n (Some k)) = refl
@@ -73,45 +85,6 @@ led_item now place location i e (Ref object) = led_part now place location i e
 led_item now place location i e (Resource all identity) = led_part now place location i e
 led_item now place location i e (Gone v final) = led_part now place location i e
 led_item now place location i e Vacant = led_part now place location i e
-
--- ---- what a path needs before it is looked up
-
--- what a path begins with that no name has: a constant where it stands, or the value in the next temporary
-abbrev pub Begins : Option Literal → (t : ℕ) → Aim → Temps → Type 0
-Begins None t aim temps = (v : Value) × (temps.values (suc t) ≡ Some v) × (aim ≡ Value_of v)
-Begins (Some literal) t aim temps = aim ≡ Root (Made (literal_value literal))
-
-abbrev pub Aims : Spot → Path → (t : ℕ) → Aim → Temps → Type 0
-Aims c (Variable node ty place global) t aim temps = aim ≡ Root (Standing (level_at global c.level) place)
-Aims c (Fresh value) t aim temps = Begins (constant_in value) t aim temps
-Aims c (Field node ty base field) t aim temps = (a : Aim) × (aim ≡ PartOf a field) × Aims c base (suc t) a temps
-Aims c (Element node ty base index constant) t aim temps =
-    (a : Aim) × (v : Value) × (temps.values (suc t + width_at base) ≡ Some v) × (aim ≡ ItemOf a (number_of v)) × Aims c base (suc t) a temps
-Aims c (Deref ty base) t aim temps = (a : Aim) × (aim ≡ ObjectOf a) × Aims c base (suc t) a temps
-
-begins_kept : (constant : Option Literal) (value : Expr) (t : ℕ) (aim : Aim) (temps now : Temps) →
-    ((i : ℕ) → t ≤ i → i < t + fresh_width constant value → now.values i ≡ temps.values i) → Begins constant t aim temps → Begins constant t aim now
-begins_kept None value t aim temps now h a = let w = some_width value in (a.0, h (suc t) (omega arith) (omega (arith, w)) ∙ a.1, a.2)
-begins_kept (Some literal) value t aim temps now h a = a
-
-pub aims_kept : (c : Spot) (path : Path) (t : ℕ) (aim : Aim) (temps now : Temps) →
-    ((i : ℕ) → t ≤ i → i < t + width_at path → now.values i ≡ temps.values i) → Aims c path t aim temps → Aims c path t aim now
-aims_kept c (Variable node ty place global) t aim temps now h a = a
-aims_kept c (Fresh value) t aim temps now h a = begins_kept (constant_in value) value t aim temps now h a
-aims_kept c (Field node ty base field) t aim temps now h a =
-    let w = same_width base in
-    (a.0, a.1, aims_kept c base (suc t) a.0 temps now (λ i le less. h i (omega (arith, le)) (omega (arith, less, w))) a.2)
-aims_kept c (Element node ty base index constant) t aim temps now h a =
-    let w = same_width base in let u = some_width index in (
-      a.0,
-      a.1,
-      h (suc t + width_at base) (omega arith) (omega (arith, w, u)) ∙ a.2,
-      a.3,
-      aims_kept c base (suc t) a.0 temps now (λ i le less. h i (omega (arith, le)) (omega (arith, less, w))) a.4,
-    )
-aims_kept c (Deref ty base) t aim temps now h a =
-    let w = same_width base in
-    (a.0, a.1, aims_kept c base (suc t) a.0 temps now (λ i le less. h i (omega (arith, le)) (omega (arith, less, w))) a.2)
 
 -- what the work of a path pays for, that begins at a name or a constant, and at a fresh value
 abbrev pub find_gain : Path → ℕ
@@ -139,51 +112,127 @@ gains (Field node ty base field) = gains base
 gains (Element node ty base index constant) = gains base
 gains (Deref ty base) = gains base
 
--- ---- looking up
-
 module _ (c : Spot) (top : Bool) (room : ℕ → Type 0) (names : (proc place : ℕ) → Type 0) (Open : Scope) where
   abbrev types : List Ty
   types = c.fixed.program.types
 
-  begin_follows : (constant : Option Literal) (value : Expr) (t : ℕ) (k : List Line) (temps : Temps) (aim : Aim) → Begins constant t aim temps →
+  abbrev facts : Facts
+  facts = c.fixed.program.facts
+
+  -- ---- what a path needs before it is looked up
+
+  -- what a path begins with that no name has: a constant where it stands; a value in the next temporary, which is the aim or waits at its node
+  abbrev pub Begins : Option Literal → Expr → (t : ℕ) → Aim → Temps → Type 0
+  Begins None value t aim now =
+      (v : Value) × (now.values (suc t) ≡ Some v) × (aim ≡ fresh_root (gives_hooked facts (type_of value)) c.level (node_of value).number v)
+  Begins (Some literal) value t aim now = aim ≡ Root (Made (literal_value literal))
+
+  abbrev pub Aims : Path → (t : ℕ) → Aim → Temps → Type 0
+  Aims (Variable node ty place global) t aim now = aim ≡ Root (Standing (level_at global c.level) place)
+  Aims (Fresh value) t aim now = Begins (constant_in value) value t aim now
+  Aims (Field node ty base field) t aim now = (a : Aim) × (aim ≡ PartOf a field) × Aims base (suc t) a now
+  Aims (Element node ty base index constant) t aim now =
+      (a : Aim) × (v : Value) × (now.values (suc t + width_at base) ≡ Some v) × (aim ≡ ItemOf a (number_of v)) × Aims base (suc t) a now
+  Aims (Deref ty base) t aim now = (a : Aim) × (aim ≡ ObjectOf a) × Aims base (suc t) a now
+
+  begins_kept : (constant : Option Literal) (value : Expr) (t : ℕ) (aim : Aim) (temps now : Temps) →
+      ((i : ℕ) → t ≤ i → i < t + fresh_width constant value → now.values i ≡ temps.values i) → Begins constant value t aim temps →
+      Begins constant value t aim now
+  begins_kept None value t aim temps now h a = let w = some_width value in (a.0, h (suc t) (omega arith) (omega (arith, w)) ∙ a.1, a.2)
+  begins_kept (Some literal) value t aim temps now h a = a
+
+  pub aims_kept : (path : Path) (t : ℕ) (aim : Aim) (temps now : Temps) →
+      ((i : ℕ) → t ≤ i → i < t + width_at path → now.values i ≡ temps.values i) → Aims path t aim temps → Aims path t aim now
+  aims_kept (Variable node ty place global) t aim temps now h a = a
+  aims_kept (Fresh value) t aim temps now h a = begins_kept (constant_in value) value t aim temps now h a
+  aims_kept (Field node ty base field) t aim temps now h a =
+      let w = same_width base in
+      (a.0, a.1, aims_kept base (suc t) a.0 temps now (λ i le less. h i (omega (arith, le)) (omega (arith, less, w))) a.2)
+  aims_kept (Element node ty base index constant) t aim temps now h a =
+      let w = same_width base in let u = some_width index in (
+        a.0,
+        a.1,
+        h (suc t + width_at base) (omega arith) (omega (arith, w, u)) ∙ a.2,
+        a.3,
+        aims_kept base (suc t) a.0 temps now (λ i le less. h i (omega (arith, le)) (omega (arith, less, w))) a.4,
+      )
+  aims_kept (Deref ty base) t aim temps now h a =
+      let w = same_width base in
+      (a.0, a.1, aims_kept base (suc t) a.0 temps now (λ i le less. h i (omega (arith, le)) (omega (arith, less, w))) a.2)
+
+  -- ---- looking up
+
+  abbrev pub FindFollows : (gain : ℕ) → Path → Type 0
+  FindFollows gain path = (t : ℕ) (k : List Line) (temps : Temps) (aim : Aim) → Aims path t aim temps → (s : State) → Stands c room Open s.world →
+      Runs c.fixed (Lands c k t (t + width_at path) temps s.world (Looked t (t + width_at path) t temps)) 0 gain
+      (there c (find_lines types facts path t k) temps s.world) s.meter (find aim s)
+
+  -- where a value is that waits, or that nobody owns
+  value_begins : (value : Expr) (hooked : Bool) (t hi : ℕ) (k : List Line) (temps : Temps) (v : Value) → suc t < hi → temps.values (suc t) ≡ Some v →
       (s : State) →
-      Runs c.fixed (Lands c k t (t + fresh_width constant value) temps s.world (Leads t temps)) 0 (if_constant constant 2 0)
-      (there c (begin_line types constant (type_of value) t ∷ k) temps s.world) s.meter (find aim s)
-  begin_follows None value t k temps aim a s =
-      let v = a.0 in
+      Runs c.fixed (Lands c k t hi temps s.world (Looked t hi t temps)) 0 0
+      (there c (L.Fresh t (suc t) (if hooked then Some (node_of value).number else None) ∷ k) temps s.world) s.meter
+      (find (fresh_root hooked c.level (node_of value).number v) s)
+  value_begins value false t hi k temps v less has s =
       let u = suc t in
-      let hi = t + fresh_width None value in
-      let w = some_width value in
-      subst (λ x. Runs c.fixed (Lands c k t hi temps s.world (Leads t temps)) 0 0 (there c (L.Fresh t u ∷ k) temps s.world) s.meter (find x s)) (sym a.2)
-      (performs_alone c (λ l. with_place t temps (led (Within u []) l)) (made v) s (omega arith)
+      performs_alone c (λ l. with_place t temps (led (Within u []) l)) (made v) s (omega arith)
       (record {
-        place = Within u [];
-        is = put_same temps.places t (Within u []);
-        at = ap (λ o. location_at (record temps { values = λ i. o }) (Within u [])) a.1;
+        leads = record {
+          place = Within u [];
+          is = put_same temps.places t (Within u []);
+          at = λ later h. ap (λ o. location_at (record later { values = λ i. o }) (Within u [])) (h u (omega arith) (omega (arith, less)) ∙ has);
+        };
         values = λ i. refl;
       })
-      (λ l. kept_place t (led (Within u []) l) (omega arith) (omega (arith, w)) (kept_none t hi temps))
-      (ap (λ o. using o (λ v. does.leads (scene c temps s.world) t (Within u []) (made v))) a.1))
+      (λ l. kept_place t (led (Within u []) l) (omega arith) (omega (arith, less)) (kept_none t hi temps))
+      (ap (λ o. using o (λ v. does.leads (scene c temps s.world) t (Within u []) (made v))) has)
+  value_begins value true t hi k temps v less has s =
+      let u = suc t in
+      let l = at_base (Waiting c.level (node_of value).number) in
+      performs_alone c (λ l. with_place t temps (led (Within u []) l)) (give l) s (omega arith) (located t hi t temps l)
+      (λ l. kept_place t (led (Within u []) l) (omega arith) (omega (arith, less)) (kept_none t hi temps))
+      (ap (λ o. using o (λ v. does.leads (scene c temps s.world) t (Within u []) (fresh_at (Some (node_of value).number) c.level v))) has)
+
+  begin_follows : (constant : Option Literal) (value : Expr) (t : ℕ) (k : List Line) (temps : Temps) (aim : Aim) → Begins constant value t aim temps →
+      (s : State) →
+      Runs c.fixed (Lands c k t (t + fresh_width constant value) temps s.world (Looked t (t + fresh_width constant value) t temps)) 0 (if_constant constant 2 0)
+      (there c (begin_line types facts constant value t ∷ k) temps s.world) s.meter (find aim s)
+  begin_follows None value t k temps aim a s =
+      let hi = t + fresh_width None value in
+      let w = some_width value in
+      let b = gives_hooked facts (type_of value) in
+      subst (λ x. Runs c.fixed (Lands c k t hi temps s.world (Looked t hi t temps)) 0 0
+      (there c (L.Fresh t (suc t) (if b then Some (node_of value).number else None) ∷ k) temps s.world) s.meter (find x s)) (sym a.2)
+      (value_begins value b t hi k temps a.0 (omega (arith, w)) a.1 s)
   begin_follows (Some literal) value t k temps aim a s =
       let v = literal_value literal in
-      subst (λ x. Runs c.fixed (Lands c k t (t + 1) temps s.world (Leads t temps)) 0 2
-      (there c (begin_line types (Some literal) (type_of value) t ∷ k) temps s.world) s.meter (find x s)) (sym a)
+      subst (λ x. Runs c.fixed (Lands c k t (t + 1) temps s.world (Looked t (t + 1) t temps)) 0 2
+      (there c (begin_line types facts (Some literal) value t ∷ k) temps s.world) s.meter (find x s)) (sym a)
       (performs_ticked c (λ l. with_place t temps (Located l)) (Looks (λ world. Gives (root_of (Made v) world))) s (omega arith)
-      (λ world. record { place = Located (root_of (Made v) world); is = put_same temps.places t _; at = refl; values = λ i. refl })
+      (λ world. located t (t + 1) t temps (root_of (Made v) world))
       (λ l. kept_place t (Located l) (omega arith) (omega arith) (kept_none t (t + 1) temps))
       (ap (λ v. does.leads (scene c temps s.world) t (Located (place_at 0 0)) (rooted (Made v))) (pieces_value literal)))
 
-  pub find_follows : (path : Path) → PathFormed (grounded c top room names) Open path → (t : ℕ) (k : List Line) (temps : Temps) (aim : Aim) →
-      Aims c path t aim temps → (s : State) → Stands c room Open s.world →
-      Runs c.fixed (Lands c k t (t + width_at path) temps s.world (Leads t temps)) 0 (find_gain path)
-      (there c (find_lines types path t k) temps s.world) s.meter
-      (find aim s)
+  object_answers : (Q : Location → Type 0) → ((l : Location) → Q l) → (l : Location) → Answering Q (to_object l)
+  object_answers Q q l = answering_all Q q (to_object l)
+
+  item_answers : (Q : Location → Type 0) (location : Location) (z : ℤ) → ((v : Value) → Q (item_of v location (unsigned_abs z))) →
+      Answering Q (Looks (λ world. branch (inside z (length_of (load world location))) (give (item_of (load world location) location (unsigned_abs z)))
+      (stop IndexOutOfBounds)))
+  item_answers Q location z q =
+      λ world. inside_or (inside z (length_of (load world location))) (item_of (load world location) location (unsigned_abs z)) (q (load world location))
+    where
+      inside_or : (b : Bool) (item : Location) → Q item → Answering Q (branch b (give item) (stop IndexOutOfBounds))
+      inside_or true item q = q
+      inside_or false item q = tt
+
+  pub find_follows : (path : Path) → PathFormed (grounded c top room names) Open path → FindFollows (find_gain path) path
   find_follows (Variable node ty place global) f t k temps aim a s h =
       let level = level_at global c.level in
-      subst (λ x. Runs c.fixed (Lands c k t (t + 1) temps s.world (Leads t temps)) 0 2 (there c (L.Root t place global ∷ k) temps s.world) s.meter
+      subst (λ x. Runs c.fixed (Lands c k t (t + 1) temps s.world (Looked t (t + 1) t temps)) 0 2 (there c (L.Root t place global ∷ k) temps s.world) s.meter
       (find x s)) (sym a)
       (performs_ticked c (λ l. with_place t temps (Located l)) (Looks (λ world. Gives (root_of (Standing level place) world))) s (omega arith)
-      (λ world. record { place = Located (root_of (Standing level place) world); is = put_same temps.places t _; at = refl; values = λ i. refl })
+      (λ world. located t (t + 1) t temps (root_of (Standing level place) world))
       (λ l. kept_place t (Located l) (omega arith) (omega arith) (kept_none t (t + 1) temps))
       (ap (λ b. choose b (does.leads (scene c temps s.world) t (Located (place_at 0 0)) (rooted (Standing level place))) Fails) (h.open_is global place f)))
   find_follows (Fresh value) f t k temps aim a s h = begin_follows (constant_in value) value t k temps aim a s
@@ -191,157 +240,70 @@ module _ (c : Spot) (top : Bool) (room : ℕ → Type 0) (names : (proc place : 
       let hi = t + width_at (Field node ty base field) in
       let w = same_width base in
       let more = L.Part t (suc t) field ∷ k in
-      subst (λ x. Runs c.fixed (Lands c k t hi temps s.world (Leads t temps)) 0 (find_gain base)
-      (there c (find_lines types base (suc t) more) temps s.world) s.meter (find x s))
-      (sym a.1)
+      subst (λ x. Runs c.fixed (Lands c k t hi temps s.world (Looked t hi t temps)) 0 (find_gain base)
+      (there c (find_lines types facts base (suc t) more) temps s.world) s.meter (find x s)) (sym a.1)
       (after (find_gain base) (omega arith) (omega arith) (find_follows base f (suc t) more temps a.0 a.2 s h)
-      (λ l b now leads kept since.
+      (λ l b now looked kept since.
       let x = scene c now b.world in
+      let place = looked.leads.place in
       further {lo' = t} {hi' = hi} (omega arith) (omega arith) (kept_wide (omega arith) (omega (arith, w)) kept) since
-      (λ l last p k. leads_from {mid = now} leads.values p)
-      (performs_ticked c (λ l. with_place t now (led leads.place l)) (give (deeper l field)) b (omega arith)
+      (λ l last p k. looked_from {mid = now} looked.values p)
+      (performs_ticked c (λ l. with_place t now (led place l)) (give (deeper l field)) b (omega arith)
       (record {
-        place = led leads.place (deeper l field);
-        is = put_same now.places t _;
-        at = led_part now leads.place l field leads.at;
+        leads = record {
+          place = led place (deeper l field);
+          is = put_same now.places t _;
+          at = λ later same. led_part later place l field (looked.leads.at later (λ i le less. same i (omega (arith, le)) (omega (arith, less, w))));
+        };
         values = λ i. refl;
       })
-      (λ l. kept_place t (led leads.place l) (omega arith) (omega arith) (kept_none t hi now))
-      (ap (λ o. using o (λ place. does.leads x t place (to_part (location_at now place) field))) leads.is
-      ∙ ap (λ l. does.leads x t leads.place (to_part l field)) leads.at))))
+      (λ l. kept_place t (led place l) (omega arith) (omega arith) (kept_none t hi now))
+      (ap (λ o. using o (λ place. does.leads x t place (to_part (location_at now place) field))) looked.leads.is
+      ∙ ap (λ l. does.leads x t place (to_part l field)) (leads_now looked.leads)))))
   find_follows (Element node ty base index constant) f t k temps aim a s h =
       let hi = t + width_at (Element node ty base index constant) in
       let u = suc t + width_at base in
       let w = same_width base in
       let v = a.1 in
       let more = L.Item t (suc t) u ∷ k in
-      subst (λ x. Runs c.fixed (Lands c k t hi temps s.world (Leads t temps)) 0 (find_gain base)
-      (there c (find_lines types base (suc t) more) temps s.world) s.meter (find x s))
-      (sym a.3)
+      subst (λ x. Runs c.fixed (Lands c k t hi temps s.world (Looked t hi t temps)) 0 (find_gain base)
+      (there c (find_lines types facts base (suc t) more) temps s.world) s.meter (find x s)) (sym a.3)
       (after (find_gain base) (omega arith) (omega arith) (find_follows base f.0 (suc t) more temps a.0 a.4 s h)
-      (λ l b now leads kept since.
+      (λ l b now looked kept since.
       let x = scene c now b.world in
       let z = number_of v in
+      let place = looked.leads.place in
       further {lo' = t} {hi' = hi} (omega arith) (omega arith) (kept_wide (omega arith) (omega (arith, w)) kept) since
-      (λ l last p k. leads_from {mid = now} leads.values p)
-      (performs_ticked c (λ l. with_place t now (led leads.place l))
+      (λ l last p k. looked_from {mid = now} looked.values p)
+      (performs_ticked c (λ l. with_place t now (led place l))
       (Looks (λ world. branch (inside z (length_of (load world l))) (give (item_of (load world l) l (unsigned_abs z))) (stop IndexOutOfBounds))) b
       (omega arith)
-      (keeps_to_item (λ l. Leads t now l (with_place t now (led leads.place l))) l z (λ v. record {
-        place = led leads.place (item_of v l (unsigned_abs z));
-        is = put_same now.places t _;
-        at = led_item now leads.place l (unsigned_abs z) leads.at v;
+      (item_answers (λ l. Looked t hi t now l (with_place t now (led place l))) l z (λ v. record {
+        leads = record {
+          place = led place (item_of v l (unsigned_abs z));
+          is = put_same now.places t _;
+          at = λ later same.
+              led_item later place l (unsigned_abs z) (looked.leads.at later (λ i le less. same i (omega (arith, le)) (omega (arith, less, w)))) v;
+        };
         values = λ i. refl;
       }))
-      (λ l. kept_place t (led leads.place l) (omega arith) (omega arith) (kept_none t hi now))
-      (ap (λ o. using o (λ place. using_number now u (λ z. does.leads x t place (to_item (location_at now place) z)))) leads.is
-      ∙ (ap (λ l. using_number now u (λ z. does.leads x t leads.place (to_item l z))) leads.at
-      ∙ ap (λ o. using o (λ v. does.leads x t leads.place (to_item l (number_of v)))) (leads.values u ∙ a.2))))))
+      (λ l. kept_place t (led place l) (omega arith) (omega arith) (kept_none t hi now))
+      (ap (λ o. using o (λ place. using_number now u (λ z. does.leads x t place (to_item (location_at now place) z)))) looked.leads.is
+      ∙ (ap (λ l. using_number now u (λ z. does.leads x t place (to_item l z))) (leads_now looked.leads)
+      ∙ ap (λ o. using o (λ v. does.leads x t place (to_item l (number_of v)))) (looked.values u ∙ a.2))))))
   find_follows (Deref ty base) f t k temps aim a s h =
       let hi = t + width_at (Deref ty base) in
       let w = same_width base in
       let more = L.Object t (suc t) ∷ k in
-      subst (λ x. Runs c.fixed (Lands c k t hi temps s.world (Leads t temps)) 0 (find_gain base)
-      (there c (find_lines types base (suc t) more) temps s.world) s.meter (find x s))
-      (sym a.1)
+      subst (λ x. Runs c.fixed (Lands c k t hi temps s.world (Looked t hi t temps)) 0 (find_gain base)
+      (there c (find_lines types facts base (suc t) more) temps s.world) s.meter (find x s)) (sym a.1)
       (after (find_gain base) (omega arith) (omega arith) (find_follows base f (suc t) more temps a.0 a.2 s h)
-      (λ l b now leads kept since.
+      (λ l b now looked kept since.
       let x = scene c now b.world in
       further {lo' = t} {hi' = hi} (omega arith) (omega arith) (kept_wide (omega arith) (omega (arith, w)) kept) since
-      (λ l last p k. leads_from {mid = now} leads.values p)
+      (λ l last p k. looked_from {mid = now} looked.values p)
       (performs_alone c (λ l. with_place t now (Located l)) (to_object l) b (omega arith)
-      (keeps_to_object (λ l. Leads t now l (with_place t now (Located l)))
-      (λ l. record { place = Located l; is = put_same now.places t (Located l); at = refl; values = λ i. refl }) l)
+      (object_answers (λ l. Looked t hi t now l (with_place t now (Located l))) (λ l. located t hi t now l) l)
       (λ l. kept_place t (Located l) (omega arith) (omega arith) (kept_none t hi now))
-      (ap (λ o. using o (λ place. does.leads x t (Located (location_at now place)) (to_object (location_at now place)))) leads.is
-      ∙ ap (λ l. does.leads x t (Located l) (to_object l)) leads.at))))
-
-  -- ---- the places of operands
-
-  abbrev pub Readies : Args → (t : ℕ) → List Ready → Temps → Type 0
-  Readies NoArg t ready temps = ready ≡ []
-  Readies (ByValue value rest) t ready temps =
-      (v : Value) × (r : List Ready) × (ready ≡ Evaluated (Given v) ∷ r) × (temps.values t ≡ Some v) × Readies rest (t + width value) r temps
-  Readies (ByPath path rest) t ready temps =
-      (aim : Aim) × (r : List Ready) × (ready ≡ Aimed aim ∷ r) × Aims c path t aim temps × Readies rest (t + width_at path) r temps
-
-  pub readies_kept : (args : Args) (t : ℕ) (ready : List Ready) (temps now : Temps) →
-      ((i : ℕ) → t ≤ i → i < t + widths args → now.values i ≡ temps.values i) →
-      Readies args t ready temps → Readies args t ready now
-  readies_kept NoArg t ready temps now h r = r
-  readies_kept (ByValue value rest) t ready temps now h r =
-      let w = some_width value in (
-        r.0,
-        r.1,
-        r.2,
-        h t (omega arith) (omega (arith, w)) ∙ r.3,
-        readies_kept rest (t + width value) r.1 temps now (λ i le less. h i (omega (arith, le)) (omega (arith, less))) r.4,
-      )
-  readies_kept (ByPath path rest) t ready temps now h r =
-      let w = same_width path in (
-        r.0,
-        r.1,
-        r.2,
-        aims_kept c path t r.0 temps now (λ i le less. h i le (omega (arith, less, w))) r.3,
-        readies_kept rest (t + width_at path) r.1 temps now (λ i le less. h i (omega (arith, le)) (omega (arith, less, w))) r.4,
-      )
-
-  -- what a line takes from temporaries
-  pub record Takes (args : Args) (t : ℕ) (temps : Temps) (xs : List Operand) (now : Temps) : Type 0 where
-    pub fetched : (go : List Operand → Did) → using_all now (froms args t) go ≡ go xs
-    pub many : length xs ≡ count args
-    pub values : (i : ℕ) → now.values i ≡ temps.values i
-
-  abbrev PathsFormed : Args → Type 0
-  PathsFormed args = AllFormed (grounded c top room names) Open args
-
-  pub settle_follows : (args : Args) → PathsFormed args → (t : ℕ) (k : List Line) (temps : Temps) (ready : List Ready) → Readies args t ready temps →
-      (s : State) → Stands c room Open s.world →
-      Runs c.fixed (Lands c k t (t + widths args) temps s.world (Takes args t temps)) 0 0 (there c (settle_lines types args t k) temps s.world) s.meter
-      (settle ready s)
-  settle_follows NoArg f t k temps ready r s h =
-      subst (λ x. Runs c.fixed (Lands c k t (t + 0) temps s.world (Takes NoArg t temps)) 0 0 (there c k temps s.world) s.meter (settle x s)) (sym r)
-      (answers [] s temps (omega arith) (record { fetched = λ go. refl; many = refl; values = λ i. refl }) (kept_none t (t + 0) temps)
-      (since_none c.level s.world))
-  settle_follows (ByValue value rest) f t k temps ready r s h =
-      let u = t + width value in
-      let hi = t + widths (ByValue value rest) in
-      subst (λ x. Runs c.fixed (Lands c k t hi temps s.world (Takes (ByValue value rest) t temps)) 0 0
-      (there c (settle_lines types rest u k) temps s.world) s.meter (settle x s))
-      (sym r.2)
-      (after 0 (omega arith) (omega arith) (settle_follows rest f.1 u k temps r.1 r.4 s h)
-      (λ xs b now takes kept since.
-      answers (Given r.0 ∷ xs) b now (omega arith)
-      (record {
-        fetched = λ go.
-            ap (λ o. using (option_map Given o) (λ x. using_all now (froms rest u) (λ xs. go (x ∷ xs)))) (takes.values t ∙ r.3)
-            ∙ takes.fetched (λ xs. go (Given r.0 ∷ xs));
-        many = ap (λ n. suc n) takes.many;
-        values = takes.values;
-      })
-      (kept_wide (omega arith) (omega arith) kept) since))
-  settle_follows (ByPath path rest) f t k temps ready r s h =
-      let u = t + width_at path in
-      let hi = t + widths (ByPath path rest) in
-      let w = same_width path in
-      let v = some_width_at path in
-      let more = settle_lines types rest u k in
-      subst (λ x. Runs c.fixed (Lands c k t hi temps s.world (Takes (ByPath path rest) t temps)) 0 0
-      (there c (find_lines types path t more) temps s.world) s.meter
-      (settle x s))
-      (sym r.2)
-      (after 0 (omega arith) (omega arith) (find_follows path f.0 t more temps r.0 r.3 s h)
-      (λ l b now leads kept since.
-      after 0 (omega arith) (omega arith) (settle_follows rest f.1 u k now r.1 (readies_kept rest u r.1 temps now (λ i le less. leads.values i) r.4) b
-      (stands_since h since))
-      (λ xs d last takes kept2 since2.
-      let last_leads = leads_kept last takes.values (place_before t (omega (arith, v)) kept2) leads in
-      answers (AtPlace l ∷ xs) d last (omega arith)
-      (record {
-        fetched = λ go.
-            ap (λ o. using (option_map (λ place. AtPlace (location_at last place)) o) (λ x. using_all last (froms rest u) (λ xs. go (x ∷ xs)))) last_leads.is
-            ∙ (ap (λ l. using_all last (froms rest u) (λ xs. go (AtPlace l ∷ xs))) last_leads.at ∙ takes.fetched (λ xs. go (AtPlace l ∷ xs)));
-        many = ap (λ n. suc n) takes.many;
-        values = λ i. takes.values i ∙ leads.values i;
-      })
-      (kept_then (kept_wide (omega arith) (omega (arith, w)) kept) (kept_wide (omega arith) (omega (arith, w)) kept2)) (since_then since since2))))
+      (ap (λ o. using o (λ place. does.leads x t (Located (location_at now place)) (to_object (location_at now place)))) looked.leads.is
+      ∙ ap (λ l. does.leads x t (Located l) (to_object l)) (leads_now looked.leads)))))

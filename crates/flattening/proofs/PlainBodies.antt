@@ -13,13 +13,15 @@ use Rattle.nim_program.specs.Program.{Stmts, Empty, Then, Declare, Defer, Blocks
 use Rattle.nim_program.specs.Sizes.{type_bytes, own_bytes, is_global, params_sum, if_place_bytes}
 use Rattle.nim_program.specs.Typed.{param_declared}
 use Rattle.nim_program.proofs.ForCallers.{sum_of_blocks, in_turn_sum}
+use Rattle.nim_meaning.specs.Here.{is_hooked}
+use Rattle.nim_meaning.specs.Shapes.{mode_of}
 use Rattle.flat_code.specs.declared.line.Line.{Line}
 use Rattle.flat_code.specs.declared.place.FlatPlace.{FlatPlace}
 use Rattle.flat_code.specs.declared.place.PlaceKind.{PlaceKind}
 use Rattle.flat_code.specs.declared.place.PlaceKind.TheVariants as K
-use Rattle.flat_code.specs.Sizes.{kind_bytes, places_bytes}
+use Rattle.flat_code.specs.Sizes.{kind_bytes, lent_bytes, places_bytes}
 use Rattle.flattening.specs.PlaceViews.{kind_declared, declared_by, declared_in, declared_in_blocks}
-use Rattle.flattening.specs.Places.{of_declared, param_places, result_places}
+use Rattle.flattening.specs.Places.{taken_as, kind_of_param, of_declared, param_places, result_places}
 use Rattle.flattening.specs.Numbering.{type_number}
 use Rattle.flat_code.specs.PlainCode.{ArePlainPlaces, is_param, params_among, no_params, params_lead, is_handed, handed_among, none_handed, handed_lead}
 use Rattle.flattening.proofs.FitBodies as bodies
@@ -27,7 +29,7 @@ use Rattle.flattening.proofs.Parts.{Each as EachOf}
 use Rattle.flattening.proofs.Simple.{IsFine, IsSimpleStmt, AreSimpleStmts, AreSimpleBlocks}
 use Rattle.flattening.proofs.Covers.{known, bytes_least, bytes_both, plain_both, place_plain, value_bytes as bytes_same}
 
-module _ (types : List Ty) (facts : Facts) (globals : List Declared) where
+module _ (types : List Ty) (facts : Facts) (modes : (proc position : ℕ) → Mode) (sinks : List ℕ) (globals : List Declared) where
   abbrev Right : List Line → List FlatPlace → Type 0
   Right k places = ArePlainPlaces (known types facts) k places
 
@@ -64,16 +66,22 @@ module _ (types : List Ty) (facts : Facts) (globals : List Declared) where
   none_small : (most : ℕ) → Small [] most
   none_small most = (λ k. tt, omega arith)
 
+  -- nothing is lent that has no hooks
+  unlent : (kind : PlaceKind) (v : ℕ) → lent_bytes kind false v ≡ kind_bytes kind v
+  unlent (K.Param Plain) v = refl
+  unlent kind v = refl
+
   one_small : (kind : PlaceKind) (d : Declared) (rest : List FlatPlace) (m n most : ℕ) → IsFine types facts d.of → kind_bytes kind (type_bytes facts d.of) ≡ m →
-      Small rest n → m + n ≤ most → Small (of_declared types kind d ∷ rest) most
+      Small rest n → m + n ≤ most → Small (of_declared types facts modes kind d ∷ rest) most
   one_small kind d rest m n most f e q le =
-      let i : kind_bytes kind (type_bytes facts (type_by_number types (type_number types d.of))) ≡ m
-      = ap (kind_bytes kind) (bytes_same types facts d.of f.0) ∙ e in
+      let v = type_bytes facts (type_by_number types (type_number types d.of)) in
+      let i : lent_bytes kind (is_hooked facts d.of) v ≡ m
+      = ap (λ b. lent_bytes kind b v) f.1 ∙ unlent kind v ∙ ap (kind_bytes kind) (bytes_same types facts d.of f.0) ∙ e in
       let j = q.1 in
-      (λ k. (place_plain types facts k d.number (record { number = 0; at = d.at }) kind d.of f, q.0 k), omega (arith, i, j, le))
+      (λ k. (place_plain types facts modes k d.number (record { number = 0; at = d.at }) kind d.of f, q.0 k), omega (arith, i, j, le))
 
   mutual
-    stmt_small : (s : Stmt) → IsSimpleStmt types facts s → Small (declared_by types (is_global globals) s) (WS s)
+    stmt_small : (s : Stmt) → IsSimpleStmt types facts s → Small (declared_by types facts modes (is_global globals) s) (WS s)
     stmt_small (Do value) s = none_small _
     stmt_small (Idle node parts) s = none_small _
     stmt_small (Give node back value) s = none_small _
@@ -85,29 +93,32 @@ module _ (types : List Ty) (facts : Facts) (globals : List Declared) where
         (h.0, omega (arith, i, j))
     stmt_small (Loop node While head body) s = let h = block_small body s.4 in let i = h.1 in (h.0, omega (arith, i))
     stmt_small (Loop node (Count variable inclusive) head body) s =
-        one_small K.ForVar variable (declared_in types (is_global globals) body) (type_bytes facts variable.of) (WB body) _ s.2 refl (block_small body s.4)
+        one_small K.ForVar variable (declared_in types facts modes (is_global globals) body) (type_bytes facts variable.of) (WB body) _ s.2 refl
+        (block_small body s.4)
         (omega arith)
     stmt_small (Loop node (Each variable) head body) s =
-        one_small K.ForVar variable (declared_in types (is_global globals) body) (type_bytes facts variable.of) (WB body) _ s.2 refl (block_small body s.4)
+        one_small K.ForVar variable (declared_in types facts modes (is_global globals) body) (type_bytes facts variable.of) (WB body) _ s.2 refl
+        (block_small body s.4)
         (omega arith)
     stmt_small (Raise node exception message) s = absurd s
     stmt_small (Try node body handlers last) s = absurd s
 
-    pub block_small : (b : Stmts) → AreSimpleStmts types facts b → Small (declared_in types (is_global globals) b) (WB b)
+    pub block_small : (b : Stmts) → AreSimpleStmts types facts b → Small (declared_in types facts modes (is_global globals) b) (WB b)
     block_small Empty s = none_small _
     block_small (Then first rest) s =
-        both_small (declared_by types (is_global globals) first) (declared_in types (is_global globals) rest) (WS first) (WB rest) _
+        both_small (declared_by types facts modes (is_global globals) first) (declared_in types facts modes (is_global globals) rest) (WS first) (WB rest) _
         (stmt_small first s.0) (block_small rest s.1) (omega arith)
     block_small (Declare node d cursor value rest) s =
-        one_small (kind_declared (is_global globals) d.number cursor) d (declared_in types (is_global globals) rest)
+        one_small (kind_declared (is_global globals) d.number cursor) d (declared_in types facts modes (is_global globals) rest)
         (if is_global globals d.number then 0 else type_bytes facts d.of) (WB rest) _ s.0
         (global_bytes (is_global globals d.number) cursor (type_bytes facts d.of)) (block_small rest s.2) (omega arith)
     block_small (Defer node last rest) s = absurd s
 
-    blocks_small : (blocks : Blocks) → AreSimpleBlocks types facts blocks → Small (declared_in_blocks types (is_global globals) blocks) (WBs blocks)
+    blocks_small : (blocks : Blocks) → AreSimpleBlocks types facts blocks → Small (declared_in_blocks types facts modes (is_global globals) blocks) (WBs blocks)
     blocks_small (Otherwise b) s = block_small b s
     blocks_small (Block first rest) s =
-        both_small (declared_in types (is_global globals) first) (declared_in_blocks types (is_global globals) rest) (WB first) (WBs rest) _
+        both_small (declared_in types facts modes (is_global globals) first) (declared_in_blocks types facts modes (is_global globals) rest) (WB first)
+        (WBs rest) _
         (block_small first s.0) (blocks_small rest s.1) (omega arith)
 
   -- ---- parameters and the result
@@ -118,15 +129,17 @@ module _ (types : List Ty) (facts : Facts) (globals : List Declared) where
   mode_bytes Var n l = l
 
   pub params_small : (params : List Param) → EachOf (λ (d : Declared). IsFine types facts d.of) (param_declared params) →
-      Small (param_places types params) (params_sum facts params)
+      Small (param_places types facts modes sinks params) (params_sum facts params)
   params_small [] f = none_small _
   params_small (p ∷ params) f =
-      let l = mode_bytes p.mode (type_bytes facts p.place.of) (bytes_least facts p.place.of) in
-      one_small (K.Param p.mode) p.place (param_places types params) (kind_bytes (K.Param p.mode) (type_bytes facts p.place.of)) (params_sum facts params) _
+      let mode = taken_as p.mode (mode_of sinks p) in
+      let l = mode_bytes mode (type_bytes facts p.place.of) (bytes_least facts p.place.of) in
+      one_small (K.Param mode) p.place (param_places types facts modes sinks params) (kind_bytes (K.Param mode) (type_bytes facts p.place.of))
+      (params_sum facts params) _
       f.0 refl (params_small params f.1) (omega (arith, l))
 
   pub result_small : (result : Option Declared) → EachOf (λ (d : Declared). IsFine types facts d.of) (if_declared result) →
-      Small (result_places types result) (if_place_bytes facts result)
+      Small (result_places types facts modes result) (if_place_bytes facts result)
   result_small None f = none_small _
   result_small (Some d) f = one_small K.Result d [] (type_bytes facts d.of) 0 _ f.0 refl (none_small 0) (omega arith)
 
@@ -149,7 +162,7 @@ module _ (types : List Ty) (facts : Facts) (globals : List Declared) where
       other K.Within e = refl
       other K.Counter e = refl
 
-  pub result_none : (result : Option Declared) (ps : List FlatPlace) → no_params ps ≡ true → no_params (result_places types result ++ ps) ≡ true
+  pub result_none : (result : Option Declared) (ps : List FlatPlace) → no_params ps ≡ true → no_params (result_places types facts modes result ++ ps) ≡ true
   result_none None ps h = h
   result_none (Some d) ps h = h
 
@@ -170,14 +183,14 @@ module _ (types : List Ty) (facts : Facts) (globals : List Declared) where
       at true e rest = absurd (both_ways false refl e)
       at false e rest = rest e
 
-  pub params_first : (params : List Param) (ps : List FlatPlace) → no_params ps ≡ true → params_lead (param_places types params ++ ps) ≡ true
+  pub params_first : (params : List Param) (ps : List FlatPlace) → no_params ps ≡ true → params_lead (param_places types facts modes sinks params ++ ps) ≡ true
   params_first [] ps h = lead_none ps h
   params_first (p ∷ params) ps h = params_first params ps h
 
   pub params_are : (params : List Param) (ps : List FlatPlace) → no_params ps ≡ true →
-      params_among (param_places types params ++ ps) ≡ param_places types params
+      params_among (param_places types facts modes sinks params ++ ps) ≡ param_places types facts modes sinks params
   params_are [] ps h = among_none ps h
-  params_are (p ∷ params) ps h = ap (λ qs. of_declared types (K.Param p.mode) p.place ∷ qs) (params_are params ps h)
+  params_are (p ∷ params) ps h = ap (λ qs. of_declared types facts modes (kind_of_param sinks p) p.place ∷ qs) (params_are params ps h)
 
   -- ---- which a call hands on and back
 
@@ -216,13 +229,14 @@ module _ (types : List Ty) (facts : Facts) (globals : List Declared) where
       at false e rest = rest e
 
   pub handed_first : (params : List Param) (result : Option Declared) (ps : List FlatPlace) → none_handed ps ≡ true →
-      handed_lead (param_places types params ++ (result_places types result ++ ps)) ≡ true
+      handed_lead (param_places types facts modes sinks params ++ (result_places types facts modes result ++ ps)) ≡ true
   handed_first [] None ps h = none_lead ps h
   handed_first [] (Some d) ps h = none_lead ps h
   handed_first (p ∷ params) result ps h = handed_first params result ps h
 
   pub handed_are : (params : List Param) (result : Option Declared) (ps : List FlatPlace) → none_handed ps ≡ true →
-      handed_among (param_places types params ++ (result_places types result ++ ps)) ≡ param_places types params ++ result_places types result
+      handed_among (param_places types facts modes sinks params ++ (result_places types facts modes result ++ ps))
+      ≡ param_places types facts modes sinks params ++ result_places types facts modes result
   handed_are [] None ps h = none_among ps h
-  handed_are [] (Some d) ps h = ap (λ qs. of_declared types K.Result d ∷ qs) (none_among ps h)
-  handed_are (p ∷ params) result ps h = ap (λ qs. of_declared types (K.Param p.mode) p.place ∷ qs) (handed_are params result ps h)
+  handed_are [] (Some d) ps h = ap (λ qs. of_declared types facts modes K.Result d ∷ qs) (none_among ps h)
+  handed_are (p ∷ params) result ps h = ap (λ qs. of_declared types facts modes (kind_of_param sinks p) p.place ∷ qs) (handed_are params result ps h)

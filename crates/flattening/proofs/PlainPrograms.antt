@@ -7,6 +7,7 @@ use Rattle.nim_types.specs.Types.{Ty, Facts}
 use Rattle.nim_plan.specs.declared.plan.Plan.{Plan}
 use Rattle.nim_program.specs.declared.expr.Node.{Node}
 use Rattle.nim_program.specs.declared.program.HookOf.{HookOf}
+use Rattle.nim_program.specs.declared.program.Mode.{Mode}
 use Rattle.nim_program.specs.Folds.{lists, total_of, if_declared}
 use Rattle.nim_program.specs.Kinds.{is_among_types, is_there, are_among_types, are_declared}
 use Rattle.nim_program.specs.Numbering.{is_numbered, is_numbered_if, are_numbered, is_numbered_program}
@@ -20,7 +21,9 @@ use Rattle.nim_meaning.specs.Here.{is_hooked}
 use Rattle.nim_meaning.specs.LeftOut.{◌or_then◌, out_if, left_out_in_head, left_out_in_block, left_out_in_body, left_out_in_proc, left_out_in_procs, first_of}
 use Rattle.nim_meaning.specs.LeftOut.{IsPlain}
 use Rattle.flat_code.specs.declared.code.CodeProc.{CodeProc}
+use Rattle.flat_code.specs.declared.line.Owning.TheVariants as W
 use Rattle.flat_code.specs.declared.line.Line.{Line}
+use Rattle.flat_code.specs.declared.line.Line.TheVariants as L
 use Rattle.flat_code.specs.declared.place.FlatPlace.{FlatPlace}
 use Rattle.flat_code.specs.declared.place.PlaceKind.{PlaceKind}
 use Rattle.flat_code.specs.declared.place.PlaceKind.TheVariants as K
@@ -30,10 +33,12 @@ use Rattle.flat_code.proofs.ForCallers.{AreSorted}
 use Rattle.flattening.specs.Flattened.{known_of, modes_of}
 use Rattle.flattening.specs.Given.{flat_body, flat_proc, flat_procs}
 use Rattle.flattening.specs.Places.{param_places, result_places, own_declared, block_places, body_places}
-use Rattle.flat_code.specs.PlainCode.{ArePlainPlaces, no_globals, is_none, IsPlainProc, ArePlainProcs}
+use Rattle.flat_code.specs.PlainCode.{ArePlainPlaces, ReadPlain, no_globals, is_none, IsPlainProc, ArePlainProcs}
 use Rattle.flattening.specs.BodySums.{sum_if, SumsWithin}
-use Rattle.flattening.specs.StmtLines.{outermost, returned, body_lines}
-use Rattle.flattening.proofs.AlikeLines.{none_mapped, among_all, proc_simple, start_simple}
+use Rattle.flattening.specs.Numbering.{type_number}
+use Rattle.flattening.specs.StmtLines.{outermost, returned, param_ends, body_lines}
+use Rattle.flattening.proofs.SimplePrograms.{among_all, proc_simple, start_simple}
+use Rattle.flattening.proofs.FitPrograms.{none_mapped}
 use Rattle.flattening.proofs.Covers.{bytes_both, plain_both}
 use Rattle.flattening.proofs.CoversStmts.{block, ends}
 use Rattle.flattening.proofs.Declaring.{declares}
@@ -102,14 +107,16 @@ some_between n a b low high (d ∷ ds) h = at (nat_eq d.number n) refl (nat_lt d
     at false e false x true f h more rest = omega (arith, more)
     at false e false x false f h more rest = rest h
 
-params_no_globals : (types : List Ty) (params : List Param) (ps : List FlatPlace) → no_globals ps ≡ true → no_globals (param_places types params ++ ps) ≡ true
-params_no_globals types [] ps h = h
-params_no_globals types (p ∷ params) ps h = params_no_globals types params ps h
+module _ (types : List Ty) (facts : Facts) (modes : (proc position : ℕ) → Mode) (sinks : List ℕ) where
+  params_no_globals : (params : List Param) (ps : List FlatPlace) → no_globals ps ≡ true →
+      no_globals (param_places types facts modes sinks params ++ ps) ≡ true
+  params_no_globals [] ps h = h
+  params_no_globals (p ∷ params) ps h = params_no_globals params ps h
 
-result_no_globals : (types : List Ty) (result : Option Declared) (ps : List FlatPlace) → no_globals ps ≡ true →
-    no_globals (result_places types result ++ ps) ≡ true
-result_no_globals types None ps h = h
-result_no_globals types (Some d) ps h = h
+  result_no_globals : (result : Option Declared) (ps : List FlatPlace) → no_globals ps ≡ true →
+      no_globals (result_places types facts modes result ++ ps) ≡ true
+  result_no_globals None ps h = h
+  result_no_globals (Some d) ps h = h
 
 temporaries_no_globals : (ps : List FlatPlace) → Each (λ (p : FlatPlace). is_declared p.kind ≡ false) ps → no_globals ps ≡ true
 temporaries_no_globals [] h = refl
@@ -165,6 +172,14 @@ fine_of types facts number (d ∷ ds) p h =
     let q = neither (out_if (is_hooked facts d.of) node) (left_out_in_head facts number ds) p in
     ((h.0, kept (is_hooked facts d.of) node q.0), fine_of types facts number ds q.1 h.1)
 
+-- parameters without hooks have nothing to end
+ends_none : (types : List Ty) (facts : Facts) (params : List Param) → Each (λ (d : Declared). IsFine types facts d.of) (param_declared params) →
+    (k : List Line) → param_ends types facts params k ≡ k
+ends_none types facts [] f k = refl
+ends_none types facts (p ∷ params) f k =
+    ap (λ b. param_ends types facts params (if b then L.Own (W.PlaceEnds p.place.number (type_number types p.place.of)) [] ∷ k else k)) f.0.1
+    ∙ ends_none types facts params f.1 k
+
 module _ (program : Program) (plan : Plan) where
   abbrev types : List Ty
   types = program.types
@@ -172,69 +187,79 @@ module _ (program : Program) (plan : Plan) where
   abbrev facts : Facts
   facts = program.facts
 
+  abbrev modes : (proc position : ℕ) → Mode
+  modes = modes_of program plan
+
   body_plain : (most : ℕ) (start : Bool) (hook : Option HookOf) (params : List Param) (body : Body) → AreSimpleStmts types facts body.stmts →
       Each (λ (d : Declared). IsFine types facts d.of) (param_declared params) → Each (λ (d : Declared). IsFine types facts d.of) (if_declared body.result) →
       is_numbered params body ≡ true → (start ≡ false → before program body.first ≡ before program (body.first + body.places)) →
       body_sum facts program.globals params body ≤ most → IsPlainProc (known_of program) most start (flat_body program plan hook params body)
   body_plain most start hook params body s taken given numbered same sum =
-      let modes = modes_of program plan in
-      let lines : List Line = body_lines types modes body in
-      let covers = block types modes facts program.globals body.result body.stmts (outermost body.result) 0 s
-      (ends types modes facts program.globals body.result) in
-      let temps = block_places types body.stmts 0 in
-      let declared = total_of lists (own_declared types program.globals) body.stmts in
-      let small = block_small types facts program.globals body.stmts s in
-      let e = declares types program.globals body.stmts in
-      let ps = params_small types facts program.globals params taken in
-      let rs = result_small types facts program.globals body.result given in
-      let others = result_none types facts program.globals body.result (declared ++ temps)
-      (others_none types facts program.globals (declared ++ temps) (bodies.others types facts program.globals params body)) in
-      let are = params_are types facts program.globals params (result_places types body.result ++ (declared ++ temps)) others in
-      let b0 = bytes_both types facts (param_places types params) (result_places types body.result ++ (declared ++ temps)) in
-      let b1 = bytes_both types facts (result_places types body.result) (declared ++ temps) in
+      let lines : List Line = body_lines types facts modes params body in
+      let last = param_ends types facts params (returned body.result []) in
+      let covers = block types facts modes program.globals body.result body.stmts
+      (outermost (λ k. param_ends types facts params (returned body.result k))) 0 s (ends types facts modes program.globals body.result params taken) in
+      let temps = block_places types facts modes body.stmts 0 in
+      let declared = total_of lists (own_declared types facts modes program.globals) body.stmts in
+      let small = block_small types facts modes plan.sinks program.globals body.stmts s in
+      let e = declares types facts modes program.globals body.stmts in
+      let ps = params_small types facts modes plan.sinks program.globals params taken in
+      let rs = result_small types facts modes plan.sinks program.globals body.result given in
+      let mine = param_places types facts modes plan.sinks params in
+      let back = result_places types facts modes body.result in
+      let free = bodies.others types facts modes plan.sinks program.globals params body in
+      let others = result_none types facts modes plan.sinks program.globals body.result (declared ++ temps)
+      (others_none types facts modes plan.sinks program.globals (declared ++ temps) free) in
+      let are = params_are types facts modes plan.sinks program.globals params (back ++ (declared ++ temps)) others in
+      let b0 = bytes_both types facts mine (back ++ (declared ++ temps)) in
+      let b1 = bytes_both types facts back (declared ++ temps) in
       let b2 = bytes_both types facts declared temps in
       let b3 : places_bytes (known_of program) declared ≡ places_bytes (known_of program) _ = ap (places_bytes (known_of program)) e in
       let b4 = ap (places_bytes (known_of program)) are in
-      let apart_others = others_apart types facts program.globals (declared ++ temps) (bodies.others types facts program.globals params body) in
-      let handed_over = handed_are types facts program.globals params body.result (declared ++ temps) apart_others in
-      let b6 = bytes_both types facts (param_places types params) (result_places types body.result) in
+      let apart_others = others_apart types facts modes plan.sinks program.globals (declared ++ temps) free in
+      let handed_over = handed_are types facts modes plan.sinks program.globals params body.result (declared ++ temps) apart_others in
+      let b6 = bytes_both types facts mine back in
       let p1 = ps.1 in
       let r1 = rs.1 in
       let d1 = small.1 in
       let t1 = covers.bytes in
       record {
-        places = plain_both types facts lines (param_places types params) (result_places types body.result ++ (declared ++ temps)) (ps.0 lines)
-            (plain_both types facts lines (result_places types body.result) (declared ++ temps) (rs.0 lines)
+        places = plain_both types facts lines mine (back ++ (declared ++ temps)) (ps.0 lines)
+            (plain_both types facts lines back (declared ++ temps) (rs.0 lines)
             (plain_both types facts lines declared temps (subst (λ qs. ArePlainPlaces (known_of program) lines qs) (sym e) (small.0 lines))
-            (covers.right (returned body.result []))));
-        lines = covers.reads (returned body.result []) (tt, tt);
-        lead = params_first types facts program.globals params (result_places types body.result ++ (declared ++ temps)) others;
+            (covers.right last)));
+        lines = covers.reads last (subst (ReadPlain (known_of program)) (sym (ends_none types facts params taken (returned body.result []))) (tt, tt));
+        lead = params_first types facts modes plan.sinks program.globals params (back ++ (declared ++ temps)) others;
         globals = λ n. no_globals_of params body numbered (same n);
         params_bytes = omega (arith, b4, p1, sum);
-        handed = handed_first types facts program.globals params body.result (declared ++ temps) apart_others;
+        handed = handed_first types facts modes plan.sinks program.globals params body.result (declared ++ temps) apart_others;
         handed_bytes = (let b5 = ap (places_bytes (known_of program)) handed_over in omega (arith, b5, b6, p1, r1, sum));
         bytes = omega (arith, b0, b1, b2, b3, p1, r1, d1, t1, sum);
       }
     where
       no_globals_of : (params : List Param) (body : Body) → is_numbered params body ≡ true →
-          before program body.first ≡ before program (body.first + body.places) → no_globals (body_places types program.globals params body) ≡ true
+          before program body.first ≡ before program (body.first + body.places) →
+          no_globals (body_places types facts modes plan.sinks program.globals params body) ≡ true
       no_globals_of params body numbered same =
-          let declared = total_of lists (own_declared types program.globals) body.stmts in
-          let temps = block_places types body.stmts 0 in
-          let whole = body_places types program.globals params body in
+          let declared = total_of lists (own_declared types facts modes program.globals) body.stmts in
+          let temps = block_places types facts modes body.stmts 0 in
+          let whole = body_places types facts modes plan.sinks program.globals params body in
           let holds : FlatPlace → Type 0 = λ p. is_declared p.kind ≡ true → (body.first ≤ p.number) × (p.number < body.first + body.places) in
           let order = and_parts (follow body.first (params_at whole ++ results_at whole)) (are_within body.first (body.first + body.places) whole)
           (and_parts (nat_le (length (results_at whole)) 1)
           (follow body.first (params_at whole ++ results_at whole) && are_within body.first (body.first + body.places) whole)
-          (bodies.ordered types facts program.globals params body numbered)).1 in
+          (bodies.ordered types facts modes plan.sinks program.globals params body numbered)).1 in
           let all = within_each body.first (body.first + body.places) whole order.1 in
-          let behind = apart holds (param_places types params) (result_places types body.result ++ (declared ++ temps)) all in
-          let later = apart holds (result_places types body.result) (declared ++ temps) behind.1 in
-          let mine = apart holds declared temps later.1 in
-          params_no_globals types params (result_places types body.result ++ (declared ++ temps)) (result_no_globals types body.result (declared ++ temps)
+          let mine = param_places types facts modes plan.sinks params in
+          let back = result_places types facts modes body.result in
+          let behind = apart holds mine (back ++ (declared ++ temps)) all in
+          let later = apart holds back (declared ++ temps) behind.1 in
+          let own = apart holds declared temps later.1 in
+          params_no_globals types facts modes plan.sinks params (back ++ (declared ++ temps))
+          (result_no_globals types facts modes plan.sinks body.result (declared ++ temps)
           (declared_no_globals program.globals body.first (body.first + body.places) declared temps same
-          (block_told types program.globals body.stmts) mine.0
-          (temporaries_no_globals temps (block_numbers types body.stmts 0).undeclared)))
+          (block_told types facts modes program.globals body.stmts) own.0
+          (temporaries_no_globals temps (block_numbers types facts modes body.stmts 0).undeclared)))
 
   module _ (typed : IsTyped program) (sorted : AreSorted facts) (most : ℕ) where
     -- types of a head's places
@@ -246,7 +271,7 @@ module _ (program : Program) (plan : Plan) where
         (place_types (if_declared body.result) ++ total_of lists own_types body.stmts) (among_all types (body_types params body) h) in
         (q.0, (apart (λ (t : Ty). is_among_types types t ≡ true) (place_types (if_declared body.result)) (total_of lists own_types body.stmts) q.1).0)
 
-    head_fine : (params : List Param) (body : Body) → are_among_types types (body_types params body) ≡ true → left_out_in_body facts params body ≡ None →
+    pub head_fine : (params : List Param) (body : Body) → are_among_types types (body_types params body) ≡ true → left_out_in_body facts params body ≡ None →
         Each (λ (d : Declared). IsFine types facts d.of) (param_declared params) × Each (λ (d : Declared). IsFine types facts d.of) (if_declared body.result)
     head_fine params body h p =
         let a = head_among params body h in

@@ -1,7 +1,6 @@
 -- Flat code of a program follows the program: from this it agrees with it, keeps pace, and shows exactly as much by units.
 use Rattle.std.proofs.Common.{◌≡◌, ◌≢◌, ℕ, zero, suc, ◌+◌, ◌*◌, ◌≤◌, ◌⊎◌, inl, inr, true}
 use Rattle.std.proofs.Common.{List, [], ◌∷◌, ◌++◌, map, None, refl, sym, ap, ◌∙◌, subst, arith, append-nil}
-use Rattle.std.proofs.lemmas.Bool.{and_parts}
 use Rattle.arc_base.specs.Event.{Event}
 use Rattle.arc_base.specs.Behaviour.{Behaviour, Seen, Ended, Wrong, Agrees, Sound}
 use Rattle.arc_base.specs.Pace.{Paced}
@@ -15,8 +14,6 @@ use Rattle.nim_program.specs.Sizes.{body_sum}
 use Rattle.nim_meaning.specs.Values.{nothing}
 use Rattle.nim_meaning.specs.State.{World, State, Frame, live, world_of}
 use Rattle.nim_meaning.specs.Acts.{Broke, Continued, Returned, Raised, Outcome, On, Out, worked}
-use Rattle.nim_meaning.specs.Here.{is_hooked}
-use Rattle.nim_meaning.specs.Runs.{is_plain_place, is_plain_block, is_plain_body, are_plain_procs}
 use Rattle.nim_meaning.specs.Meaning.{frame_of, at_first, reported, goes_through, meaning}
 use Rattle.flat_code.specs.declared.line.Line.{Line}
 use Rattle.flat_code.specs.declared.line.Line.TheVariants as L
@@ -30,7 +27,7 @@ use Rattle.flattening.proofs.Runs.{Fixed, M, step, by_units, ahead, Stops, stops
 use Rattle.flattening.proofs.Spots.{Spot, there, does_at, spent, stepped}
 use Rattle.flattening.proofs.Standing.{Stands}
 use Rattle.flattening.proofs.Frames.{stands_called}
-use Rattle.flattening.proofs.Bodies.{spot_of, ReturnsAt, Back, room_of, body_follows}
+use Rattle.flattening.proofs.Bodies.{spot_of, result_among, ReturnsAt, Back, room_of, body_follows}
 use Rattle.flattening.proofs.Calls.{code_at, calls_follow}
 use Rattle.flattening.proofs.Units.{is_run}
 
@@ -42,7 +39,7 @@ ahead_is : (n k : ℕ) → ahead n k ≡ n + k
 ahead_is zero k = omega arith
 ahead_is (suc n) k = let e = ahead_is n k in omega (arith, e)
 
-back_at : (c : Spot) (old : World) (flow : Outcome (Unit {0})) (b : State) (m : M) → Back c old flow b m → ReturnsAt c old b.world m
+back_at : (c : Spot) (old : World) (flow : Outcome (Unit {0})) (b : State) (m : M) → Back c [] old flow b m → ReturnsAt c [] old b.world m
 back_at c old (On done) b m g = g
 back_at c old (Out (Broke by)) b m g = g
 back_at c old (Out (Continued by)) b m g = g
@@ -57,7 +54,7 @@ module _ (program : Program) (plan : Plan) (formed : IsFormed program) (heap : �
   start = program.start
 
   abbrev c : Spot
-  c = spot_of x start 0 ACTIVE_CALLS []
+  c = spot_of x [] start 0 ACTIVE_CALLS []
 
   abbrev first_frame : Frame
   first_frame = frame_of program.facts start []
@@ -74,14 +71,14 @@ module _ (program : Program) (plan : Plan) (formed : IsFormed program) (heap : �
         now = beginning p 0 ACTIVE_CALLS;
         waiting = [];
         world = world_of (running.frame_of p [] ∷ []) heap input;
-      }) (last_behind running.no_proc (map (code_at program plan) program.procs) (code_of_body program plan None start))
+      }) (last_behind running.no_proc (map (code_at program plan) program.procs) (code_of_body program plan None [] start))
 
   -- ---- the start code comes to its end
 
   abbrev Ends : Outcome (Unit {0}) → State → M → Type 0
   Ends flow b m = Stops x 1 m b.meter (Ended 0 (live b.world)) b.meter
 
-  ends : (old : World) (b : State) (m : M) → ReturnsAt c old b.world m → Stops x 1 m b.meter (Ended 0 (live b.world)) b.meter
+  ends : (old : World) (b : State) (m : M) → ReturnsAt c [] old b.world m → Stops x 1 m b.meter (Ended 0 (live b.world)) b.meter
   ends old b m g =
       let l = L.Return (number_of start.result) in
       let is : does_at c g.now b.world l ≡ Returns nothing 1 = ap (λ result. does_at c g.now b.world (L.Return (number_of result))) formed.gives in
@@ -90,12 +87,7 @@ module _ (program : Program) (plan : Plan) (formed : IsFormed program) (heap : �
 
   stands : Stands c (room_of start) (AtFirst 0 (λ place. ⊥) start) first_world
   stands = stands_called c program.facts start [] 0 (λ place. ⊥) (world_of [] heap input) refl refl (λ place is. absurd is)
-
-  -- the start code has no hooks
-  plain : is_plain_block (is_hooked program.facts) start.stmts ≡ true
-  plain =
-      let h = and_parts (are_plain_procs (is_hooked program.facts) program.procs) (is_plain_body (is_hooked program.facts) start) formed.no_hooks in
-      (and_parts (is_plain_place (is_hooked program.facts) start.result) (is_plain_block (is_hooked program.facts) start.stmts) h.1).1
+      (result_among program.types (AtFirst 0 (λ place. ⊥) start) start.result formed.start.0)
 
   follows : (n : ℕ) → Runs x Ends 12 12 (flat_start program plan heap input) (begun n) (goes_through program plan (at_first program heap input n))
   follows n =
@@ -104,8 +96,8 @@ module _ (program : Program) (plan : Plan) (formed : IsFormed program) (heap : �
       subst (λ m. Runs x Ends 12 12 m (begun n) (goes_through program plan s)) (sym start_is)
       (pays 12 cost (omega arith)
       (follows_on 12 reported (omega arith) (omega arith)
-      (body_follows x start 0 ACTIVE_CALLS [] true (named_in formed.names) 0 (λ place. ⊥) (calls_follow x formed ACTIVE_CALLS 0 c.whole [] start.result)
-      (λ e. refl) formed.start plain
+      (body_follows x [] start 0 ACTIVE_CALLS [] true (named_in formed.names) 0 (λ place. ⊥)
+      (calls_follow x formed ACTIVE_CALLS 0 c.whole [] start.result) (λ e. refl) formed.start
       (worked cost s) stands)
       (λ flow b m falls g. lands flow b (omega arith) (ends first_world b m (back_at c first_world flow b m g)))))
 

@@ -12,7 +12,7 @@ use Rattle.nim_program.specs.Sizes.{type_bytes}
 use Rattle.nim_program.specs.Typed.{is_fresh, is_located, behind_first}
 use Rattle.nim_meaning.specs.Here.{is_hooked}
 use Rattle.nim_meaning.specs.LeftOut.{any_hooked, writes_literals}
-use Rattle.flattening.specs.Formed.{HasSelector, HeadFits}
+use Rattle.flattening.specs.Formed.{AllOf, HasSelector, HeadFits}
 
 pub never : {A : Type 0} → false ≡ true → A
 never e = absurd (both_ways false refl e)
@@ -80,11 +80,11 @@ module _ (types : List Ty) (facts : Facts) where
   -- what chooses among values, and among blocks
   abbrev pub ChoosesBy : Chooser → Args → Type 0
   ChoosesBy ByConditions parts = AllValues parts
-  ChoosesBy (ByLabels labels) parts = AllValues (behind_first parts) × SmallFirst parts × LabelsFit labels (behind_first parts)
+  ChoosesBy (ByLabels labels) parts = AllValues (behind_first parts) × SmallFirst parts × LabelsFit labels (behind_first parts) × AllOf false labels
 
   abbrev pub SelectsBy : Chooser → Args → Blocks → Type 0
   SelectsBy ByConditions tests blocks = Unit {0}
-  SelectsBy (ByLabels labels) tests blocks = Alone tests × SmallFirst tests × LabelledBlocks labels blocks
+  SelectsBy (ByLabels labels) tests blocks = Alone tests × SmallFirst tests × LabelledBlocks labels blocks × AllOf false labels
 
   abbrev pub IsAmong : Ty → Type 0
   IsAmong ty = is_among_types types ty ≡ true

@@ -28,8 +28,9 @@ use Rattle.nim_meaning.specs.Values.{Fixed}
 use Rattle.flat_code.specs.Shapes as shape
 use Rattle.flat_code.specs.Shapes.{Shape, shape_of, has_shape}
 use Rattle.flat_code.proofs.ForCallers.{AreSorted, is_free, free_of, text_shape}
-use Rattle.flattening.specs.Formed.{HasSelector, HeadFits}
+use Rattle.flattening.specs.Formed.{AllOf, HasSelector, HeadFits}
 use Rattle.flattening.proofs.Listed.{the_bool}
+use Rattle.flattening.proofs.Ordinals.{all_ordinals}
 use Rattle.flattening.proofs.Parts.{Each, EachIn, apart, both, taking_turns}
 use Rattle.flattening.proofs.Plain.{found, kept, neither, none_earlier}
 use Rattle.flattening.proofs.Simple.{never, act_text, is_literal, CountsFrom, IfFine, IfAmong, Reads, IsSimple, IsOperand, IsSimplePath, AreSimple, LoopFine}
@@ -184,17 +185,26 @@ module _ (types : List Ty) (facts : Facts) (forms : (ty : Ty) → is_among_types
   small_path (Some ty) h = small_type facts sorted ty h
 
   selects_by : (chooser : Chooser) (tests : Args) (blocks : Blocks) → chooses facts chooser tests blocks ≡ true →
-      SelectsBy types facts chooser tests blocks
-  selects_by ByConditions tests blocks h = tt
-  selects_by (ByLabels labels) tests blocks h =
+      first_hooked facts (types_in tests) ≡ false → SelectsBy types facts chooser tests blocks
+  selects_by ByConditions tests blocks h u = tt
+  selects_by (ByLabels labels) tests blocks h u =
       let k = selector_kind facts tests in
       let q = and_parts (is_selector tests) (labels_select k labels blocks) h in
       let l = q.1 in
       let b = and_parts (is_selected k && are_labels k labels) (are_blocks labels blocks)
       (and_parts ((is_selected k && are_labels k labels) && are_blocks labels blocks) _ l).0 in
-      let s = (and_parts (is_selected k) (are_labels k labels) b.0).0 in
-      (one_selector facts tests s, small_selector tests q.0 s, labelled labels blocks b.1)
+      let s = and_parts (is_selected k) (are_labels k labels) b.0 in
+      (one_selector facts tests s.0, small_selector tests q.0 s.0, labelled labels blocks b.1, ordinals tests s.1 u)
     where
+      ordinals : (tests : Args) → are_labels (selector_kind facts tests) labels ≡ true → first_hooked facts (types_in tests) ≡ false → AllOf false labels
+      ordinals (ByValue value NoArg) l u = all_ordinals facts (type_of value) u labels l
+      ordinals (ByPath path NoArg) l u = all_ordinals facts (type_at path) u labels l
+      ordinals NoArg l u = all_ordinals facts None refl labels l
+      ordinals (ByValue value (ByValue other rest)) l u = all_ordinals facts None refl labels l
+      ordinals (ByValue value (ByPath path rest)) l u = all_ordinals facts None refl labels l
+      ordinals (ByPath path (ByValue value rest)) l u = all_ordinals facts None refl labels l
+      ordinals (ByPath path (ByPath other rest)) l u = all_ordinals facts None refl labels l
+
       small_selector : (tests : Args) → is_selector tests ≡ true → is_selected (selector_kind facts tests) ≡ true → SmallFirst types facts tests
       small_selector NoArg i s = tt
       small_selector (ByValue value rest) i s = tt
@@ -318,13 +328,23 @@ module _ (types : List Ty) (facts : Facts) (forms : (ty : Ty) → is_among_types
     behind_labels ty labels (ByValue value rest) h a = labels_fit facts ty _ labels rest (and_parts _ _ h).1 a
     behind_labels ty labels (ByPath path rest) h a = labels_fit facts ty _ labels rest (and_parts _ _ h).1 a
 
+    ordinals : (ty : Option Ty) (labels : List (List P.Label)) (parts : Args) → chooser_fits facts ty (ByLabels labels) (types_in parts) ≡ true →
+        first_hooked facts (types_in parts) ≡ false → AllOf false labels
+    ordinals ty labels NoArg h u = never h
+    ordinals ty labels (ByValue value rest) h u =
+        all_ordinals facts (type_of value) u labels
+        (and_parts (is_selected (kind_if facts (type_of value))) (are_labels (kind_if facts (type_of value)) labels) (and_parts _ _ h).0).1
+    ordinals ty labels (ByPath path rest) h u =
+        all_ordinals facts (type_at path) u labels
+        (and_parts (is_selected (kind_if facts (type_at path))) (are_labels (kind_if facts (type_at path)) labels) (and_parts _ _ h).0).1
+
     chooses_by : (ty : Option Ty) (chooser : Chooser) (parts : Args) → chooser_fits facts ty chooser (types_in parts) ≡ true →
-        choice_is_placed chooser parts ≡ true → ChoosesBy types facts chooser parts
-    chooses_by ty ByConditions parts h c = all_values parts c
-    chooses_by ty (ByLabels labels) parts h c =
+        choice_is_placed chooser parts ≡ true → first_hooked facts (types_in parts) ≡ false → ChoosesBy types facts chooser parts
+    chooses_by ty ByConditions parts h c u = all_values parts c
+    chooses_by ty (ByLabels labels) parts h c u =
         let q = and_parts (is_selector parts) (are_placed 0 (behind_first parts)) c in
         let a = all_values (behind_first parts) q.1 in
-        (a, small_first ty labels parts h q.0, behind_labels ty labels parts h a)
+        (a, small_first ty labels parts h q.0, behind_labels ty labels parts h a, ordinals ty labels parts h u)
 
     -- ---- expressions
 
@@ -363,7 +383,11 @@ module _ (types : List Ty) (facts : Facts) (forms : (ty : Ty) → is_among_types
           let q = neither (out_if (gives_hooked facts ty || first_hooked facts (types_in parts)) node) (left_out_in_args facts false parts) p in
           let k = apart (λ (t : Ty). is_among_types types t ≡ true) (type_if ty ++ []) (totals lists own_types parts) l in
           let c = and_parts (chooser_fits facts ty chooser (types_in parts)) (choice_is_placed chooser parts) t.0 in
-          (fine ty (unhooked (P.Choose node ty chooser parts) h p) (if_among ty [] k.0), simples false parts t.1 q.1 k.1, chooses_by ty chooser parts c.0 c.1)
+          let u = or_parts (gives_hooked facts ty) (first_hooked facts (types_in parts)) (kept _ node q.0) in (
+            fine ty (unhooked (P.Choose node ty chooser parts) h p) (if_among ty [] k.0),
+            simples false parts t.1 q.1 k.1,
+            chooses_by ty chooser parts c.0 c.1 u.1,
+          )
 
       pub simple_path : (read : Bool) (path : Path) → is_typed_path here path ≡ true → left_out_in_path facts path ≡ None →
           Among (total_at lists own_types read path) → IsSimplePath types facts path
@@ -449,13 +473,13 @@ module _ (types : List Ty) (facts : Facts) (forms : (ty : Ty) → is_among_types
       stmt_simple places around (P.Select node chooser tests blocks) h p l =
           let t = and_parts (chooses facts chooser tests blocks && are_typed (at places) tests) (are_typed_blocks (at places) around blocks) h in
           let u = and_parts (chooses facts chooser tests blocks) (are_typed (at places) tests) t.0 in
-          let q = none_earlier (left_out_in_args facts false tests) (left_out_in_blocks facts blocks)
-          (neither (out_if (first_hooked facts (types_in tests)) node) _ p).1 in
+          let r = neither (out_if (first_hooked facts (types_in tests)) node) _ p in
+          let q = none_earlier (left_out_in_args facts false tests) (left_out_in_blocks facts blocks) r.1 in
           let k = taking_turns (λ (t : Ty). is_among_types types t ≡ true) (each lists own_types tests) (each_block lists own_types blocks) l in (
             has_selector facts chooser tests blocks u.0,
             simples filled places dest false tests u.1 q.0 (of_each tests k.0),
             blocks_simple places around blocks t.1 q.1 k.1,
-            selects_by chooser tests blocks u.0,
+            selects_by chooser tests blocks u.0 (kept _ node r.0),
           )
       stmt_simple places around (P.Loop node kind head body) h p l =
           let t = and_parts (head_fits facts kind head && are_typed (at places) head) _ h in

@@ -22,7 +22,7 @@ use Rattle.flattening.proofs.Runs.{Fixed, M, did, procs, step, spends_at, Runs, 
 use Rattle.flattening.proofs.Runs.{Walks, line, line_spending, line_ends, behind, lands, follows_on, spends, pays}
 use Rattle.flattening.proofs.Deeds.{from, performed, answer_map, mapped, behind_none}
 use Rattle.flattening.proofs.Worlds.{Since, since_then}
-use Rattle.flattening.proofs.Openings.{KeepsOpen, SinceDone, since_done}
+use Rattle.flattening.proofs.Openings.{Answering, SinceDone, since_done, answering_all}
 use Rattle.flattening.proofs.Temps.{Kept, kept_then, kept_wide}
 
 -- What stays as it is while a call runs: all lines of its procedure, its level, how many more calls may be active, who waits, and the place of
@@ -199,10 +199,10 @@ module _ (c : Spot) where
       line [] n (spent l k temps world _ is) (stepped l k temps world _ is) (append-nil a.out) refl (omega arith)
 
   -- one that goes on at a label behind
-  pub walks_leap : {l : Line} {k k' : List Line} {temps : Temps} {world : World} (name : ℕ) (a : Meter Event) → does_at c temps world l ≡ Leaps name →
-      from_label label_in name k ≡ Some k' → Walks c.fixed 1 0 (there c (l ∷ k) temps world) a (there c k' temps world) a
-  walks_leap {l} {k} {k'} {temps} {world} name a is found =
-      line [] 1 (spent l k temps world _ is) (stepped l k temps world _ is ∙ ap (jumped (there c (l ∷ k) temps world) temps) found) (append-nil a.out) refl
+  pub walks_leap : {l : Line} {k k' : List Line} {temps : Temps} {world : World} (name n : ℕ) (a : Meter Event) → does_at c temps world l ≡ Leaps name n →
+      from_label label_in name k ≡ Some k' → Walks c.fixed n 0 (there c (l ∷ k) temps world) a (there c k' temps world) a
+  walks_leap {l} {k} {k'} {temps} {world} name n a is found =
+      line [] n (spent l k temps world _ is) (stepped l k temps world _ is ∙ ap (jumped (there c (l ∷ k) temps world) temps n) found) (append-nil a.out) refl
       (omega arith)
 
   -- with work alone that the meaning knows
@@ -212,9 +212,9 @@ module _ (c : Spot) where
   goes {a = a} p n le is f = behind (omega (arith, le)) (walks_line n a is) f
 
   pub leaps : {A : Type 0} {Good : A → State → M → Type 0} {l : Line} {k k' : List Line} {temps : Temps} {world : World} {have q : ℕ}
-      {a : Meter Event} {r : Res State A} (p name : ℕ) → 1 + p ≤ have → does_at c temps world l ≡ Leaps name → from_label label_in name k ≡ Some k' →
+      {a : Meter Event} {r : Res State A} (p name n : ℕ) → n + p ≤ have → does_at c temps world l ≡ Leaps name n → from_label label_in name k ≡ Some k' →
       Runs c.fixed Good p q (there c k' temps world) a r → Runs c.fixed Good have q (there c (l ∷ k) temps world) a r
-  leaps {a = a} p name le is found f = behind (omega (arith, le)) (walks_leap name a is found) f
+  leaps {a = a} p name n le is found f = behind (omega (arith, le)) (walks_leap name n a is found) f
 
   -- ---- turns, each of which spends a unit, and pays for what was done before
 
@@ -242,12 +242,12 @@ module _ (c : Spot) where
   turns {A} {Good} {l} {k} {k'} {temps} {temps'} {have} {q} {r} p name s le is found f =
       spends s (spent l k temps s.world _ is)
       (λ n e. turned s n e (spent l k temps s.world _ is)
-      (stepped l k temps s.world _ is ∙ ap (jumped (there c (l ∷ k) temps s.world) temps') found) le (f n e))
+      (stepped l k temps s.world _ is ∙ ap (jumped (there c (l ∷ k) temps s.world) temps' 1) found) le (f n e))
 
   -- ---- one that does a deed of the meaning, and has some work beside it
 
   pub performs : {A : Type 0} {l : Line} {k : List Line} {temps : Temps} {lo hi : ℕ} {P : A → Temps → Type 0} {p q : ℕ} (given : A → Temps) (deed : Deed A)
-      (s : State) (n : ℕ) → n + q ≤ p → KeepsOpen (λ v. P v (given v)) deed → ((v : A) → Kept lo hi temps (given v)) →
+      (s : State) (n : ℕ) → n + q ≤ p → Answering (λ v. P v (given v)) deed → ((v : A) → Kept lo hi temps (given v)) →
       does_at c temps s.world l ≡ Passes (later_done [] n (perform (deed >>= (λ v. give (given v))) s.world)) →
       Runs c.fixed (Lands c k lo hi temps s.world P) p q (there c (l ∷ k) temps s.world) s.meter (carry deed s)
   performs {A} {l} {k} {temps} {lo} {hi} {P} {p} {q} given deed s n le opens kept is =
@@ -273,7 +273,7 @@ module _ (c : Spot) where
   -- one that does a deed and nothing beside it
   pub performs_alone : {A : Type 0} {l : Line} {k : List Line} {temps : Temps} {lo hi : ℕ} {P : A → Temps → Type 0} {p q : ℕ} (given : A → Temps)
       (deed : Deed A)
-      (s : State) → q ≤ p → KeepsOpen (λ v. P v (given v)) deed → ((v : A) → Kept lo hi temps (given v)) →
+      (s : State) → q ≤ p → Answering (λ v. P v (given v)) deed → ((v : A) → Kept lo hi temps (given v)) →
       does_at c temps s.world l ≡ Passes (perform (deed >>= (λ v. give (given v))) s.world) →
       Runs c.fixed (Lands c k lo hi temps s.world P) p q (there c (l ∷ k) temps s.world) s.meter (carry deed s)
   performs_alone given deed s le opens kept is =
@@ -282,7 +282,7 @@ module _ (c : Spot) where
   -- one whose first work is the line's own
   pub performs_ticked : {A : Type 0} {l : Line} {k : List Line} {temps : Temps} {lo hi : ℕ} {P : A → Temps → Type 0} {p q : ℕ} (given : A → Temps)
       (deed : Deed A)
-      (s : State) → q ≤ p + 11 → KeepsOpen (λ v. P v (given v)) deed → ((v : A) → Kept lo hi temps (given v)) →
+      (s : State) → q ≤ p + 11 → Answering (λ v. P v (given v)) deed → ((v : A) → Kept lo hi temps (given v)) →
       does_at c temps s.world l ≡ Passes (perform (Works 1 deed >>= (λ v. give (given v))) s.world) →
       Runs c.fixed (Lands c k lo hi temps s.world P) p q (there c (l ∷ k) temps s.world) s.meter (carry (Works 1 deed) s)
   performs_ticked {A} {l} {k} {temps} {lo} {hi} {P} {p} {q} given deed s le opens kept is =

@@ -1,12 +1,14 @@
 -- The texts in flat code are those of its program: each constant stands in one line, or, where a `for` is over it, in two.
 use Rattle.std.proofs.Common.{◌≡◌, ℕ, suc, ◌+◌, ◌*◌, ◌≤◌, ◌∙◌, true, false, List, [], ◌∷◌, ◌++◌, Option, Some, None, refl, ap, arith}
 use Rattle.std.specs.Prelude.{map}
-use Rattle.nim_types.specs.Types.{Ty}
+use Rattle.nim_types.specs.Types.{Ty, Facts}
 use Rattle.nim_plan.specs.declared.plan.Plan.{Plan}
-use Rattle.nim_program.specs.declared.operation.Use.{Use}
+use Rattle.nim_program.specs.Uses.{use_of}
+use Rattle.flat_code.specs.declared.line.UseAt.{UseAt}
+use Rattle.flat_code.specs.declared.line.Line.TheVariants as L
 use Rattle.nim_program.specs.declared.program.HookOf.{HookOf}
 use Rattle.nim_program.specs.declared.program.Mode.{Mode}
-use Rattle.nim_program.specs.Program.{Literal, Label}
+use Rattle.nim_program.specs.Program.{Literal, Label, Ordinals, Exactly}
 use Rattle.nim_program.specs.Program.{Act, Doing, Building, Giving, Calling, ByConditions, ByLabels, Args, types_in}
 use Rattle.nim_program.specs.Program.{Stmts, Param, Body, Proc, Program}
 use Rattle.nim_program.specs.Folds.{Named, Standing, Begun, ToField, ToElement, ToObject}
@@ -16,14 +18,15 @@ use Rattle.flat_code.specs.declared.code.CodeProc.{CodeProc}
 use Rattle.flat_code.specs.declared.line.Line.{Line}
 use Rattle.flat_code.specs.Codes.{flat_plain}
 use Rattle.flat_code.specs.Sizes.{texts_in, lines_texts, summed, code_texts}
-use Rattle.flattening.specs.Counted.{times, built_texts, standing_texts, part_texts, own_times, body_times, program_times}
-use Rattle.flattening.proofs.Amounts.{act_counted, labels_counted, branches_counted, part_counted, own_counted, block_counted}
-use Rattle.flattening.specs.ExprLines.{none_fits, froms, act_line}
+use Rattle.flattening.specs.Counted.{times, label_texts, these_texts, branch_texts, built_texts, standing_texts, part_texts, own_times, body_times}
+use Rattle.flattening.specs.Counted.{program_times}
+use Rattle.flattening.proofs.Amounts.{act_counted, labels_counted, branches_counted, part_counted, own_counted, block_counted, no_pairs}
+use Rattle.flattening.specs.ExprLines.{none_fits, froms, act_line, written_label}
 use Rattle.flattening.specs.Flattened.{modes_of}
 use Rattle.flattening.specs.Given.{flat_body, flat_proc, flat_procs}
-use Rattle.flattening.specs.StmtLines.{returned, body_lines}
-use Rattle.flattening.proofs.FitPrograms.{map_same}
+use Rattle.flattening.specs.StmtLines.{body_lines}
 use Rattle.flattening.proofs.Measures.{reserved, Bounds, body_spare}
+use Rattle.flattening.proofs.Weights.{plain_same}
 
 module _ (text : List ℕ) where
   -- of a constant that is built, and of one that is read where it stands, whose path a `for` looks up at two places
@@ -32,6 +35,9 @@ module _ (text : List ℕ) where
 
   abbrev standing : Literal → ℕ
   standing literal = 2 * times text (standing_texts literal)
+
+  abbrev said : Label → ℕ
+  said label = times text (label_texts label)
 
   abbrev times_in : Line → ℕ
   times_in line = times text (texts_in line)
@@ -46,25 +52,29 @@ module _ (text : List ℕ) where
 
   -- ---- what is counted where parts take nothing is twice what stands in them at most
 
-  no_labels : (labels : List Label) → labels_counted 0 built standing labels ≡ 0
-  no_labels [] = refl
-  no_labels (label ∷ labels) = let h = no_labels labels in omega (arith, h)
+  said_by : (labels : List Label) → labels_counted 0 built standing said labels ≡ times text (these_texts labels)
+  said_by [] = refl
+  said_by (label ∷ labels) = let h = said_by labels in let i = times_both (label_texts label) (these_texts labels) in omega (arith, h, i)
 
-  no_branches : (labels : List (List Label)) → branches_counted 0 built standing labels ≡ 0
-  no_branches [] = refl
-  no_branches (labels ∷ rest) = let h = no_labels labels in let i = no_branches rest in omega (arith, h, i)
+  branches_said : (labels : List (List Label)) → branches_counted 0 built standing said labels ≡ times text (branch_texts labels)
+  branches_said [] = refl
+  branches_said (labels ∷ rest) =
+      let h = said_by labels in
+      let i = branches_said rest in
+      let j = times_both (these_texts labels) (branch_texts rest) in
+      omega (arith, h, i, j)
 
   abbrev Within : ℕ → ℕ → Type 0
   Within x y = x ≤ 2 * y
 
-  part_within : (part : Part) → Within (part_counted 0 built standing part) (times text (part_texts part))
+  part_within : (part : Part) → Within (part_counted 0 built standing said part) (times text (part_texts part))
   part_within (Acting (Giving literal)) = omega arith
   part_within (Acting (Doing operation)) = omega arith
   part_within (Acting (Building fields)) = omega arith
   part_within (Acting (Calling proc of)) = omega arith
   part_within (Stopping short) = omega arith
   part_within (Choosing ByConditions looked) = omega arith
-  part_within (Choosing (ByLabels labels) looked) = let h = no_branches labels in omega (arith, h)
+  part_within (Choosing (ByLabels labels) looked) = let h = branches_said labels in omega (arith, h)
   part_within (Leading read written (Named place global)) = omega arith
   part_within (Leading read written (Standing literal)) = omega arith
   part_within (Leading read written Begun) = omega arith
@@ -77,8 +87,8 @@ module _ (text : List ℕ) where
   part_within (Looping kind false) = omega arith
   part_within Handling = omega arith
 
-  block_within : (block : Stmts) → Within (block_counted 0 built standing block) (total_of numbers (own_times text) block)
-  block_within block = related_of numbers numbers (own_counted 0 built standing) (own_times text) Within (record {
+  block_within : (block : Stmts) → Within (block_counted 0 built standing said block) (total_of numbers (own_times text) block)
+  block_within block = related_of numbers numbers (own_counted 0 built standing said) (own_times text) Within (record {
     none = omega arith;
     plus = λ x y u v h g. omega (arith, h, g);
     own = λ seen. part_within seen.part;
@@ -86,10 +96,10 @@ module _ (text : List ℕ) where
 
   -- ---- lines
 
-  module _ (types : List Ty) (modes : (proc position : ℕ) → Mode) where
-    act_most : (t : ℕ) (act : Act) (how : Use) (ty : Option Ty) (operands : Args) →
-        times_in (act_line types modes t act how ty (types_in operands) (froms operands (suc t))) + 0
-        ≤ act_counted 0 built standing act + reserved 0 operands
+  module _ (types : List Ty) (facts : Facts) (modes : (proc position : ℕ) → Mode) where
+    act_most : (t : ℕ) (act : Act) (how : UseAt) (ty : Option Ty) (operands : Args) →
+        times_in (act_line types facts modes t act how ty (types_in operands) (froms facts act operands (use_of modes act) 0 (suc t))) + 0 + 0 + 0 + 0
+        ≤ act_counted 0 built standing said act + reserved 0 operands
     act_most t (Doing operation) how ty operands = omega arith
     act_most t (Building fields) how None operands = omega arith
     act_most t (Building fields) how (Some ty) operands = omega arith
@@ -97,50 +107,69 @@ module _ (text : List ℕ) where
     act_most t (Giving literal) how (Some ty) operands = omega arith
     act_most t (Calling proc of) how ty operands = omega arith
 
-    none_most : (t : ℕ) (how : Use) (ty : Option Ty) → times_in (none_fits types modes t ty how) ≡ 0
+    none_most : (t : ℕ) (how : UseAt) (ty : Option Ty) → times_in (none_fits types facts modes t ty how) ≡ 0
     none_most t how None = refl
     none_most t how (Some ty) = refl
 
-    text_bounds : Bounds types modes times_in 0 built standing 0 0 0
+    label_most : (s arm : ℕ) (these : Label) → times_in (L.Fits s (written_label these) arm) ≤ 0 + said these
+    label_most s arm (Ordinals low high) = omega arith
+    label_most s arm (Exactly written) = omega arith
+
+    text_bounds : Bounds types facts modes times_in 0 built standing said 0 0 0 0 0 0 0 0
     text_bounds = record {
+      reserves = omega arith;
       act = act_most;
+      waits = λ node from. omega arith;
+      takes = λ node. omega arith;
+      ends = λ node ty. omega arith;
+      place_ends = λ place ty. omega arith;
+      lends = λ t from node. omega arith;
       root = λ t place global. omega arith;
+      fresh = omega arith;
       in_place = λ t ty literal. omega arith;
-      fresh = λ t. omega arith;
       field = λ t field. omega arith;
-      item = λ t index. omega arith;
+      item = λ t at index. omega arith;
       object = λ t. omega arith;
-      got = λ t site how ty. omega arith;
-      looked = λ t. omega arith;
+      got = λ t from how ty. omega arith;
+      looked = λ s t. omega arith;
       both = λ t s from l how. omega arith;
       either = λ t s from l next how. omega arith;
       handed = λ t from how ty. omega arith;
       condition = λ t u from l arm how ty. omega arith;
       chosen = λ t l next how ty. let h = none_most t how ty in omega (arith, h);
-      test = λ s arm low high. omega arith;
+      test = λ s arm these. label_most s arm these;
       branch = λ other arm l. omega arith;
       given = λ place from. omega arith;
+      gets = λ place ty from. omega arith;
+      left = omega arith;
       leaving = λ l. omega arith;
       returning = λ place. omega arith;
       block = λ u arm l. omega arith;
       selected = λ t next l. omega arith;
       while = λ t u turn next l. omega arith;
       count = λ counter last place turn next l inclusive. omega arith;
-      elements = λ t counter last at place turn next arm l. omega arith;
+      elements = λ counter last at back next arm l. omega arith;
+      element = λ t at counter place. omega arith;
+      copies = λ t at counter place ty from. omega arith;
+      stands = λ t at counter place from. omega arith;
       blank = λ place ty. omega arith;
       filled = λ place from. omega arith;
+      copied = λ place ty from. omega arith;
+      kept = omega arith;
     }
 
   module _ (program : Program) (plan : Plan) where
     body_most : (hook : Option HookOf) (params : List Param) (body : Body) →
         times text (lines_texts (map flat_plain (flat_body program plan hook params body).lines)) ≤ 2 * body_times text body
     body_most hook params body =
-        let lines = body_lines program.types (modes_of program plan) body in
-        let s = (body_spare program.types (modes_of program plan) times_in 0 built standing 0 0 0
-        (text_bounds program.types (modes_of program plan)) body.result body.stmts).all (returned body.result []) in
-        let e = ap (λ ls. times text (lines_texts ls)) (map_same lines) ∙ in_lines lines in
+        let modes = modes_of program plan in
+        let lines = body_lines program.types program.facts modes params body in
+        let s = body_spare program.types program.facts modes times_in 0 built standing said 0 0 0 0 0 0 0 0
+        (text_bounds program.types program.facts modes) params body.result body.stmts in
+        let e = ap (λ ls. times text (lines_texts ls)) (plain_same lines) ∙ in_lines lines in
         let i = block_within body.stmts in
-        omega (arith, s, e, i)
+        let n = no_pairs program.facts modes params body in
+        omega (arith, s, e, i, n)
 
     procs_most : (procs : List Proc) (more : List (CodeProc Line)) →
         times text (code_texts flat_plain (map (λ (p : Proc). flat_proc program plan p.hook p.params p.body) procs ++ more))

@@ -4,8 +4,9 @@ use Rattle.std.proofs.lemmas.Bool.{ne_eqb}
 use Rattle.std.specs.Prelude.{if◌then◌else◌}
 use Rattle.nim_types.specs.Types.{Ty, int, same}
 use Rattle.nim_types.specs.declared.types.TypeDef.{TypeDef}
-use Rattle.nim_types.specs.Table.{type_at, types_in, meant, IsTable}
+use Rattle.nim_types.specs.Table.{type_at, types_in, facts_in, meant, IsTable}
 use Rattle.nim_types.proofs.ForCallers.{count, interned, same_refl, at_entry}
+use Rattle.nim_meaning.specs.Here.{is_hooked}
 use Rattle.nim_meaning.specs.Shapes.{is_covered}
 use Rattle.flattening.specs.Numbering.{type_number}
 
@@ -43,6 +44,12 @@ pub number_beyond : (ds : List TypeDef) (i : ℕ) → length ds ≤ i →
 number_beyond ds i l =
     let same_length = count ds in
     ap (type_number (types_in ds)) (beyond (types_in ds) i (omega (arith, l, same_length)))
+
+-- of which nothing has hooks
+pub unhooked_beyond : (ds : List TypeDef) (i : ℕ) → length ds ≤ i → is_hooked (facts_in ds) (type_at (types_in ds) i) ≡ false
+unhooked_beyond ds i l =
+    let same_length = count ds in
+    ap (is_hooked (facts_in ds)) (beyond (types_in ds) i (omega (arith, l, same_length)))
 
 -- ---- what labels cover
 

@@ -6,7 +6,7 @@ use Rattle.std.proofs.lemmas.List.{length-set, length-take-le}
 use Rattle.nim_meaning.specs.Heap.{Block, block_at}
 use Rattle.nim_meaning.specs.Values.{Value, Base, Standing, Waiting, InBlock, InHand, InException, Made, Slot, Holds}
 use Rattle.nim_meaning.specs.State.{Temporary, Frame, World, no_frame, frame_in, frame_at, joined, slot_at, with_temporaries, stored, with_frame, down_to}
-use Rattle.nim_meaning.specs.Deeds.{Change, Stores, Opens, Closes, Waits, Leaves, Pushes, Pops, Reads, Refills, Frees, freed, changed}
+use Rattle.nim_meaning.specs.Deeds.{Change, Stores, Opens, Waits, Leaves, Pushes, Pops, Reads, Refills, Frees, freed, changed}
 use Rattle.flat_code.specs.Lines.{is_there}
 
 -- ---- the slots of a frame
@@ -89,19 +89,6 @@ still_there {level} {a} {b} l n le s h =
 
 -- ---- changes
 
--- one that closes no place
-abbrev pub Opening : Change → Type 0
-Opening (Stores location v) = Unit {0}
-Opening (Opens level place slot) = Unit {0}
-Opening (Closes level place) = ⊥
-Opening (Waits level node slot) = Unit {0}
-Opening (Leaves level node) = Unit {0}
-Opening (Pushes v) = Unit {0}
-Opening Pops = Unit {0}
-Opening (Reads n) = Unit {0}
-Opening (Refills k contents) = Unit {0}
-Opening (Frees k) = Unit {0}
-
 since_framed : (level : ℕ) (world : World) (frames : List Frame) → length frames ≡ length world.frames →
     ((l : ℕ) → Grows (frame_at world l) (frame_in (slice_get frames l))) → Since level world (record world { frames = frames })
 since_framed level world frames same h = record { frames = same; grows = λ l le. h l }
@@ -133,17 +120,16 @@ since_freed : (level : ℕ) (world : World) (k : ℕ) (block : Option Block) →
 since_freed level world k None = since_none level world
 since_freed level world k (Some block) = record { frames = refl; grows = λ l le. grows_same (frame_at world l) }
 
-pub since_changed : (level : ℕ) (c : Change) (world : World) → Opening c → Since level world (changed c world)
-since_changed level (Stores location v) world h = since_stored level world location.base _
-since_changed level (Opens at n slot) world h = since_slot level world at n slot
-since_changed level (Closes at n) world h = absurd h
-since_changed level (Waits at node slot) world h = since_waiting level world at _
-since_changed level (Leaves at node) world h = since_waiting level world at _
-since_changed level (Pushes v) world h = record { frames = refl; grows = λ l le. grows_same (frame_at world l) }
-since_changed level Pops world h = record { frames = refl; grows = λ l le. grows_same (frame_at world l) }
-since_changed level (Reads n) world h = record { frames = refl; grows = λ l le. grows_same (frame_at world l) }
-since_changed level (Refills k contents) world h = record { frames = refl; grows = λ l le. grows_same (frame_at world l) }
-since_changed level (Frees k) world h = since_freed level world k (block_at world.heap k)
+pub since_changed : (level : ℕ) (c : Change) (world : World) → Since level world (changed c world)
+since_changed level (Stores location v) world = since_stored level world location.base _
+since_changed level (Opens at n slot) world = since_slot level world at n slot
+since_changed level (Waits at node slot) world = since_waiting level world at _
+since_changed level (Leaves at node) world = since_waiting level world at _
+since_changed level (Pushes v) world = record { frames = refl; grows = λ l le. grows_same (frame_at world l) }
+since_changed level Pops world = record { frames = refl; grows = λ l le. grows_same (frame_at world l) }
+since_changed level (Reads n) world = record { frames = refl; grows = λ l le. grows_same (frame_at world l) }
+since_changed level (Refills k contents) world = record { frames = refl; grows = λ l le. grows_same (frame_at world l) }
+since_changed level (Frees k) world = since_freed level world k (block_at world.heap k)
 
 -- a place is open behind that
 pub is_opened : (world : World) (level n : ℕ) (slot : Slot) → is_there (slot_for world level n) ≡ true → level < length world.frames →

@@ -5,7 +5,7 @@ use Rattle.arc_base.specs.Behaviour.{Behaviour, Seen}
 use Rattle.nim_plan.specs.declared.plan.Plan.{Plan}
 use Rattle.nim_program.specs.declared.program.Mode.{Mode}
 use Rattle.nim_program.specs.declared.program.HookOf.{HookOf}
-use Rattle.nim_program.specs.Program.{Body, Program}
+use Rattle.nim_program.specs.Program.{Param, Body, Program}
 use Rattle.nim_program.specs.Program as trees
 use Rattle.nim_meaning.specs.Shapes.{modes_in}
 use Rattle.nim_meaning.specs.Meaning.{result_slots, meaning}
@@ -23,23 +23,23 @@ known_of program = record { types = program.types; facts = program.facts }
 abbrev pub modes_of : Program → Plan → (proc position : ℕ) → Mode
 modes_of program plan = modes_in plan.sinks program.procs
 
-abbrev pub code_of_body : Program → Plan → Option HookOf → Body → Proc Line
-code_of_body program plan hook body = record {
+abbrev pub code_of_body : Program → Plan → Option HookOf → List Param → Body → Proc Line
+code_of_body program plan hook params body = record {
   first = body.first;
   span = body.places;
   result = result_slots program.facts body.result;
   hook = hook;
-  lines = body_lines program.types (modes_of program plan) body;
+  lines = body_lines program.types program.facts (modes_of program plan) params body;
 }
 
-abbrev pub code_of_proc : Program → Plan → Option HookOf → Option Body → Proc Line
-code_of_proc program plan hook None = record { first = 0; span = 0; result = []; hook = hook; lines = [] }
-code_of_proc program plan hook (Some body) = code_of_body program plan hook body
+abbrev pub code_of_proc : Program → Plan → Option HookOf → List Param → Option Body → Proc Line
+code_of_proc program plan hook params None = record { first = 0; span = 0; result = []; hook = hook; lines = [] }
+code_of_proc program plan hook params (Some body) = code_of_body program plan hook params body
 
 -- the procedures by number, and the start code as the last one
 abbrev pub code_of : Program → Plan → List (Proc Line)
 code_of program plan =
-    map (λ (proc : trees.Proc). code_of_proc program plan proc.hook proc.body) program.procs ++ code_of_body program plan None program.start ∷ []
+    map (λ (proc : trees.Proc). code_of_proc program plan proc.hook proc.params proc.body) program.procs ++ code_of_body program plan None [] program.start ∷ []
 
 -- before its first line
 abbrev pub flat_start : Program → Plan → (heap : ℕ) → (input : List ℕ) → Machine Line

@@ -1,7 +1,7 @@
 -- Programs whose flat code does what they mean: types are those of the table, places are open where they are named, loops have the heads of their
--- kinds, each way out leads somewhere, and no value has anything to do when it is copied or destroyed.
+-- kinds, and each way out leads somewhere.
 use Rattle.std.specs.Prelude.{◌≡◌, ℕ, suc, ◌+◌, ◌-◌, ◌<◌, ◌⊎◌, Bool, true, false, List, [], ◌∷◌, length, Option, Some, None, slice_get}
-use Rattle.nim_types.specs.Types.{Ty}
+use Rattle.nim_types.specs.Types.{Ty, Facts}
 use Rattle.nim_types.specs.Table.{type_at as type_by_number}
 use Rattle.nim_program.specs.declared.stmt.Leaving.{Leaving}
 use Rattle.nim_program.specs.declared.stmt.Leaving.TheVariants.{Break, Continue, Return}
@@ -10,12 +10,14 @@ use Rattle.nim_program.specs.Program.{Early, Choose}
 use Rattle.nim_program.specs.Program.{Path, Variable, Fresh, Field, Element, Deref, Args, NoArg, ByValue, ByPath, Declared, Kind, While, Count, Each}
 use Rattle.nim_program.specs.Program.{Stmt, Do, Idle, Give, Leave, Select, Loop, Raise, Try, Stmts, Empty, Then, Declare, Defer, Blocks, Otherwise, Block}
 use Rattle.nim_program.specs.Program.{type_at, types_in, Param, Body, Proc, Program}
-use Rattle.nim_meaning.specs.Runs.{has_no_hooks}
+use Rattle.nim_meaning.specs.Here.{gives_hooked}
+use Rattle.nim_meaning.specs.Shapes.{selector_type}
 use Rattle.flattening.specs.Numbering.{type_number}
 
 -- What is known around a part of a body: the types of the table; whether it is the start code, whose places are the globals; which numbers the places of the
 -- call's frame have; and of each procedure how many arguments it takes, and which globals it may name.
 pub record Ground : Type 1 where
+  pub facts : Facts
   pub types : List Ty
   pub top : Bool
   pub room : ℕ → Type 0
@@ -57,23 +59,24 @@ ActFormed g Open ty (Doing operation) operands = IfListed g.types ty × AreListe
 ActFormed g Open ty (Building fields) operands = HasListed g.types ty
 ActFormed g Open ty (Giving literal) operands = HasListed g.types ty
 ActFormed g Open ty (Calling proc types) operands =
-    (count operands ≡ g.takes proc) × ((place : ℕ) → g.names proc place → Open true place)
+    IfListed g.types ty × (count operands ≡ g.takes proc) × ((place : ℕ) → g.names proc place → Open true place)
 
 -- ---- labels
 
--- flat code has no tests for texts yet
-abbrev pub AreOrdinals : List Label → Type 0
-AreOrdinals [] = Unit {0}
-AreOrdinals (Ordinals low high ∷ labels) = AreOrdinals labels
-AreOrdinals (Exactly text ∷ labels) = ⊥
+-- of a selector that is a text, or has no hooks
+abbrev pub AreOf : (texts : Bool) → List Label → Type 0
+AreOf texts [] = Unit {0}
+AreOf false (Ordinals low high ∷ labels) = AreOf false labels
+AreOf true (Exactly text ∷ labels) = AreOf true labels
+AreOf texts (label ∷ labels) = ⊥
 
-abbrev pub AllOrdinals : List (List Label) → Type 0
-AllOrdinals [] = Unit {0}
-AllOrdinals (these ∷ labels) = AreOrdinals these × AllOrdinals labels
+abbrev pub AllOf : (texts : Bool) → List (List Label) → Type 0
+AllOf texts [] = Unit {0}
+AllOf texts (these ∷ labels) = AreOf texts these × AllOf texts labels
 
-abbrev pub HasOrdinals : Chooser → Type 0
-HasOrdinals ByConditions = Unit {0}
-HasOrdinals (ByLabels labels) = AllOrdinals labels
+abbrev pub LabelsFit : Facts → Chooser → Args → Type 0
+LabelsFit facts ByConditions parts = Unit {0}
+LabelsFit facts (ByLabels labels) parts = AllOf (gives_hooked facts (selector_type parts)) labels
 
 -- ---- expressions
 
@@ -83,7 +86,7 @@ module _ (g : Ground) (Open : Scope) where
     Formed (Apply node ty act operands) = ActFormed g Open ty act operands × AllFormed operands
     Formed (Read path) = IfListed g.types (type_at path) × PathFormed path
     Formed (Early node ty short left right) = Formed left × Formed right
-    Formed (Choose node ty chooser parts) = IfListed g.types ty × HasOrdinals chooser × AllFormed parts
+    Formed (Choose node ty chooser parts) = IfListed g.types ty × LabelsFit g.facts chooser parts × AllFormed parts
 
     pub PathFormed : Path → Type 0
     PathFormed (Variable node ty place global) = Open global place
@@ -127,8 +130,8 @@ HeadFits kind head = ⊥
 -- its place, and what is open in its body
 abbrev pub HasRoom : Ground → Kind → Type 0
 HasRoom g While = Unit {0}
-HasRoom g (Count place inclusive) = g.room place.number
-HasRoom g (Each place) = g.room place.number
+HasRoom g (Count place inclusive) = IsListed g.types place.of × g.room place.number
+HasRoom g (Each place) = IsListed g.types place.of × g.room place.number
 
 abbrev pub InLoop : Ground → Scope → Kind → Scope
 InLoop g Open While = Open
@@ -143,7 +146,7 @@ module _ (g : Ground) where
     StmtFormed inside Open (Give node back value) = Formed g Open value
     StmtFormed inside Open (Leave node leaving parts) = MayLeave inside leaving
     StmtFormed inside Open (Select node chooser tests blocks) =
-        HasSelector chooser tests × HasOrdinals chooser × AllFormed g Open tests × BlocksFormed inside Open blocks
+        HasSelector chooser tests × LabelsFit g.facts chooser tests × AllFormed g Open tests × BlocksFormed inside Open blocks
     StmtFormed inside Open (Loop node kind head body) =
         HeadFits kind head × AllFormed g Open head × HasRoom g kind × BlockFormed true (InLoop g Open kind) body
     StmtFormed inside Open (Raise node exception message) = Unit {0}
@@ -155,7 +158,7 @@ module _ (g : Ground) where
     BlockFormed inside Open (Declare node place cursor NoArg rest) =
         IsListed g.types place.of × g.room place.number × BlockFormed inside (With g Open place.number) rest
     BlockFormed inside Open (Declare node place cursor (ByValue value more) rest) =
-        Formed g Open value × g.room place.number × BlockFormed inside (With g Open place.number) rest
+        Formed g Open value × IsListed g.types place.of × g.room place.number × BlockFormed inside (With g Open place.number) rest
     BlockFormed inside Open (Declare node place cursor (ByPath path more) rest) = Unit {0}
     BlockFormed inside Open (Defer node last rest) = Unit {0}
 
@@ -178,6 +181,7 @@ results (Some place) = 1
 
 abbrev pub ground_of : Program → (names : (proc place : ℕ) → Type 0) → (top : Bool) → Body → Ground
 ground_of program names top body = record {
+  facts = program.facts;
   types = program.types;
   top = top;
   room = λ place. place - body.first < body.places;
@@ -190,12 +194,16 @@ abbrev pub AtFirst : (params : ℕ) → (named : ℕ → Type 0) → Body → Sc
 AtFirst params named body false place = place - body.first < params + results body.result
 AtFirst params named body true place = named place
 
-abbrev pub ResultFormed : Scope → Option Declared → Type 0
-ResultFormed Open None = Unit {0}
-ResultFormed Open (Some place) = Open false place.number
+abbrev pub ResultFormed : List Ty → Scope → Option Declared → Type 0
+ResultFormed types Open None = Unit {0}
+ResultFormed types Open (Some place) = Open false place.number × IsListed types place.of
 
-abbrev pub BodyFormed : Ground → Scope → Body → Type 0
-BodyFormed g Open body = ResultFormed Open body.result × BlockFormed g false Open body.stmts
+abbrev pub ParamsFormed : List Ty → Scope → List Param → Type 0
+ParamsFormed types Open [] = Unit {0}
+ParamsFormed types Open (param ∷ params) = (Open false param.place.number × IsListed types param.place.of) × ParamsFormed types Open params
+
+abbrev pub BodyFormed : Ground → Scope → List Param → Body → Type 0
+BodyFormed g Open params body = ResultFormed g.types Open body.result × ParamsFormed g.types Open params × BlockFormed g false Open body.stmts
 
 abbrev pub IsAmong : ℕ → List ℕ → Type 0
 IsAmong n [] = ⊥
@@ -208,9 +216,7 @@ named_in names proc place = IsAmong place (names proc)
 pub record IsFormed (program : Program) : Type 0 where
   pub names : (proc : ℕ) → List ℕ
   pub procs : (n : ℕ) (proc : Proc) (body : Body) → slice_get program.procs n ≡ Some proc → proc.body ≡ Some body →
-      BodyFormed (ground_of program (named_in names) false body) (AtFirst (length proc.params) (named_in names n) body) body
-  pub start : BodyFormed (ground_of program (named_in names) true program.start) (AtFirst 0 (λ place. ⊥) program.start) program.start
+      BodyFormed (ground_of program (named_in names) false body) (AtFirst (length proc.params) (named_in names n) body) proc.params body
+  pub start : BodyFormed (ground_of program (named_in names) true program.start) (AtFirst 0 (λ place. ⊥) program.start) [] program.start
   -- the start code has no result
   pub gives : program.start.result ≡ None
-  -- flat code has no lines yet for values that are copied or destroyed
-  pub no_hooks : has_no_hooks program ≡ true

@@ -16,8 +16,8 @@ module _ (program : Program) (plan : Plan) where
   flat_body hook params body = record {
     first = body.first;
     span = body.places;
-    places = body_places program.types program.globals params body;
-    lines = body_lines program.types (modes_of program plan) body;
+    places = body_places program.types program.facts (modes_of program plan) plan.sinks program.globals params body;
+    lines = body_lines program.types program.facts (modes_of program plan) params body;
     hook = hook;
   }
 

@@ -7,8 +7,11 @@ pub mod Given
 pub mod Counted
 pub mod Formed
 pub mod Examples
+pub mod Hooks
 pub mod Written
 pub mod Views
+pub mod StmtViews
 pub mod PlaceViews
 pub mod Forms
 pub mod BodySums
+pub mod Lent

@@ -1,8 +1,8 @@
 -- The numbers of flat code: of types, of temporaries and of labels.
-use Rattle.std.specs.Prelude.{ℕ, zero, suc, ◌+◌, ◌*◌, true, if◌then◌else◌, List, [], ◌∷◌, length, Option, Some, None}
+use Rattle.std.specs.Prelude.{ℕ, zero, suc, ◌+◌, ◌*◌, Bool, true, false, if◌then◌else◌, List, [], ◌∷◌, length, Option, Some, None}
 use Rattle.nim_types.specs.Types.{Ty, same}
 use Rattle.nim_program.specs.Program.{Chooser, ByConditions, ByLabels, Expr, Path, Args, ByPath, type_at, Kind, While, Count, Each, Stmt, Stmts}
-use Rattle.nim_program.specs.Folds.{Part, Choosing, Looping, Seen, numbers, total, total_at, totals, total_in, total_of}
+use Rattle.nim_program.specs.Folds.{Part, Leading, Choosing, Looping, Seen, numbers, total, total_at, totals, total_in, total_of}
 use Rattle.flattening.specs.declared.numbers.Purpose.{Purpose}
 use Rattle.flattening.specs.declared.numbers.Purpose.TheVariants.{Arm, End, Next, Turn}
 use Rattle.flattening.specs.declared.numbers.TheConstants.{PURPOSES}
@@ -43,7 +43,13 @@ loop_count While = 0
 loop_count (Count variable inclusive) = 0
 loop_count (Each variable) = 2
 
+-- what is read at a path has a number of its own, beside that of where the path leads
+abbrev pub read_count : (read : Bool) → ℕ
+read_count false = 0
+read_count true = 1
+
 abbrev pub part_width : Part → ℕ
+part_width (Leading read written step) = suc (read_count read)
 part_width (Choosing chooser looked) = suc (arm_count chooser + looked_count looked)
 part_width (Looping kind headed) = suc (loop_count kind)
 part_width part = 1
@@ -55,7 +61,7 @@ abbrev pub width : Expr → ℕ
 width = total numbers own_width
 
 abbrev pub width_at : Path → ℕ
-width_at path = total_at numbers own_width true path
+width_at path = total_at numbers own_width false path
 
 abbrev pub widths : Args → ℕ
 widths = totals numbers own_width

@@ -2,10 +2,14 @@
 -- read, and one for where each part of a path leads that is looked up.
 use Rattle.std.specs.Prelude.{ℕ, suc, ◌+◌, true, false, if◌then◌else◌, List, [], ◌∷◌, ◌++◌, Option, Some, None}
 use Rattle.arc_base.specs.declared.place.Place.{Place}
-use Rattle.nim_types.specs.Types.{Ty, int}
+use Rattle.nim_types.specs.Types.{Ty, int, Facts}
 use Rattle.nim_program.specs.declared.expr.Node.{Node}
-use Rattle.nim_program.specs.Program.{ByConditions, ByLabels, Expr, Apply, Read, Early, Choose}
-use Rattle.nim_program.specs.Program.{Path, Variable, Fresh, Field, Element, Deref, Args, NoArg, ByValue, ByPath, type_at, node_at}
+use Rattle.nim_program.specs.declared.operation.Use.{Use}
+use Rattle.nim_program.specs.declared.program.Mode.{Mode}
+use Rattle.nim_program.specs.declared.program.Mode.TheVariants.{Var}
+use Rattle.nim_program.specs.Uses.{use_of}
+use Rattle.nim_program.specs.Program.{Act, ByConditions, ByLabels, Expr, Apply, Read, Early, Choose}
+use Rattle.nim_program.specs.Program.{Path, Variable, Fresh, Field, Element, Deref, Args, NoArg, ByValue, ByPath, type_of, type_at, node_of, node_at}
 use Rattle.nim_program.specs.Program.{Declared, Kind, While, Count, Each, Stmt, Do, Idle, Give, Leave, Select, Loop, Raise, Try}
 use Rattle.nim_program.specs.Program.{Stmts, Empty, Then, Declare, Defer, Blocks, Otherwise, Block, Param, Body}
 use Rattle.nim_program.specs.Program.{is_written, constant_in}
@@ -14,9 +18,20 @@ use Rattle.nim_program.specs.Sizes.{is_global}
 use Rattle.flat_code.specs.declared.place.PlaceKind.{PlaceKind}
 use Rattle.flat_code.specs.declared.place.PlaceKind.TheVariants as K
 use Rattle.flat_code.specs.declared.place.FlatPlace.{FlatPlace}
+use Rattle.nim_meaning.specs.Here.{is_hooked}
+use Rattle.nim_meaning.specs.Shapes.{mode_of}
+use Rattle.flattening.specs.ExprLines.{is_lent_at}
 use Rattle.flattening.specs.Numbering.{type_number, width, width_at, widths, arm_count, selector_from, behind_selector, width_in, width_of}
 
 -- ---- declared places
+
+-- A parameter takes its argument as the plan says, under which so many are `sink`; a `var` parameter is a location, whatever a plan says.
+abbrev pub taken_as : (declared planned : Mode) → Mode
+taken_as Var planned = Var
+taken_as declared planned = planned
+
+abbrev pub kind_of_param : (sinks : List ℕ) → Param → PlaceKind
+kind_of_param sinks param = K.Param (taken_as param.mode (mode_of sinks param))
 
 -- in a body of a program with these globals
 abbrev pub kind_of_declared : List Declared → Part → Declared → PlaceKind
@@ -34,11 +49,10 @@ head_from While t = suc t
 head_from (Count variable inclusive) t = suc t
 head_from (Each variable) t = suc t + 2
 
-module _ (types : List Ty) where
-  -- A type with hooks has places alone that are read where their values stand, so far: nothing is to be done there.
+module _ (types : List Ty) (facts : Facts) (modes : (proc position : ℕ) → Mode) where
   abbrev pub place : (number : ℕ) → (at : Place) → PlaceKind → Ty → FlatPlace
   place number at kind ty =
-      record { number = number; at = at; kind = kind; ty = type_number types ty; hooked = false; resource = false; copies = true }
+      record { number = number; at = at; kind = kind; ty = type_number types ty; hooked = is_hooked facts ty; resource = false; copies = true }
 
   abbrev pub of_declared : PlaceKind → Declared → FlatPlace
   of_declared kind d = place d.number d.at kind d.of
@@ -50,9 +64,9 @@ module _ (types : List Ty) where
   abbrev pub own_declared : List Declared → Seen → List FlatPlace
   own_declared globals seen = all_declared (kind_of_declared globals seen.part) seen.places
 
-  abbrev pub param_places : List Param → List FlatPlace
-  param_places [] = []
-  param_places (param ∷ params) = of_declared (K.Param param.mode) param.place ∷ param_places params
+  abbrev pub param_places : (sinks : List ℕ) → List Param → List FlatPlace
+  param_places sinks [] = []
+  param_places sinks (param ∷ params) = of_declared (kind_of_param sinks param) param.place ∷ param_places sinks params
 
   abbrev pub result_places : Option Declared → List FlatPlace
   result_places None = []
@@ -76,17 +90,20 @@ module _ (types : List Ty) where
   selector_place (ByPath path rest) s = read_place path s
   selector_place parts s = []
 
+  abbrev pub lent_place : Act → Use → Expr → (t : ℕ) → List FlatPlace
+  lent_place act how value t = if is_lent_at facts act how value then temporary (node_of value) (type_of value) K.Within t else []
+
   abbrev mutual
     pub expr_places : Expr → (t : ℕ) → List FlatPlace
-    expr_places (Apply node ty act operands) t = temporary node ty K.Temp t ++ operand_places operands (suc t)
-    expr_places (Read path) t = read_place path t ++ path_places path t
+    expr_places (Apply node ty act operands) t = temporary node ty K.Temp t ++ operand_places act operands (use_of modes act) 0 (suc t)
+    expr_places (Read path) t = read_place path t ++ path_places path (suc t)
     expr_places (Early node ty short left right) t =
         temporary node (Some ty) K.Temp t ++ (expr_places left (suc t) ++ expr_places right (suc t + width left))
-    expr_places (Choose node ty ByConditions parts) t = temporary node ty K.Temp t ++ operand_places parts (suc t)
+    expr_places (Choose node ty ByConditions parts) t = temporary node ty K.Temp t ++ part_places parts (suc t)
     expr_places (Choose node ty (ByLabels labels) parts) t =
         temporary node ty K.Temp t
         ++ (selector_place parts (suc t + arm_count (ByLabels labels))
-        ++ operand_places parts (selector_from parts (suc t + arm_count (ByLabels labels))))
+        ++ part_places parts (selector_from parts (suc t + arm_count (ByLabels labels))))
 
     pub path_places : Path → (t : ℕ) → List FlatPlace
     path_places (Variable node ty place global) t = location (Variable node ty place global) t
@@ -96,18 +113,29 @@ module _ (types : List Ty) where
         location (Element node ty base index constant) t ++ (path_places base (suc t) ++ expr_places index (suc t + width_at base))
     path_places (Deref ty base) t = location (Deref ty base) t ++ path_places base (suc t)
 
-    pub operand_places : Args → (t : ℕ) → List FlatPlace
-    operand_places NoArg t = []
-    operand_places (ByValue value rest) t = expr_places value t ++ operand_places rest (t + width value)
-    operand_places (ByPath path rest) t = path_places path t ++ operand_places rest (t + width_at path)
+    -- operands from a position on; a value that is lent has a location
+    pub operand_places : Act → Args → (uses : (position : ℕ) → Use) → (position t : ℕ) → List FlatPlace
+    operand_places act NoArg uses i t = []
+    operand_places act (ByValue value rest) uses i t =
+        expr_places value t ++ (lent_place act (uses i) value t ++ operand_places act rest uses (suc i) (t + width value))
+    operand_places act (ByPath path rest) uses i t = path_places path t ++ operand_places act rest uses (suc i) (t + width_at path)
+
+    pub part_places : Args → (t : ℕ) → List FlatPlace
+    part_places NoArg t = []
+    part_places (ByValue value rest) t = expr_places value t ++ part_places rest (t + width value)
+    part_places (ByPath path rest) t = path_places path t ++ part_places rest (t + width_at path)
 
   -- ---- temporaries of statements, whose numbers begin with t
 
   -- the element of a turn, its number, and how many there are
-  abbrev pub loop_places : Node → Kind → (t : ℕ) → List FlatPlace
-  loop_places node (Each variable) t =
-      place t node.at K.Temp variable.of ∷ place (suc t) node.at K.Counter int ∷ place (suc (suc t)) node.at K.Counter int ∷ []
-  loop_places node kind t = []
+  abbrev pub element_kind : Declared → Args → PlaceKind
+  element_kind variable (ByPath path rest) = if is_hooked facts variable.of then kind_of_path path else K.Temp
+  element_kind variable head = K.Temp
+
+  abbrev pub loop_places : Node → Kind → Args → (t : ℕ) → List FlatPlace
+  loop_places node (Each variable) head t =
+      place t node.at (element_kind variable head) variable.of ∷ place (suc t) node.at K.Counter int ∷ place (suc (suc t)) node.at K.Counter int ∷ []
+  loop_places node kind head t = []
 
   -- the one value of a declaration
   abbrev pub value_places : Args → (t : ℕ) → List FlatPlace
@@ -128,10 +156,10 @@ module _ (types : List Ty) where
     stmt_places (Select node ByConditions tests blocks) t = branch_places tests blocks (suc t)
     stmt_places (Select node (ByLabels labels) tests blocks) t =
         selector_place tests (suc t + arm_count (ByLabels labels))
-        ++ (operand_places tests (selector_from tests (suc t + arm_count (ByLabels labels)))
+        ++ (part_places tests (selector_from tests (suc t + arm_count (ByLabels labels)))
         ++ arm_places blocks (behind_selector tests (suc t + arm_count (ByLabels labels))))
     stmt_places (Loop node kind head body) t =
-        loop_places node kind t ++ (operand_places head (head_from kind t) ++ block_places body (head_from kind t + widths head))
+        loop_places node kind head t ++ (part_places head (head_from kind t) ++ block_places body (head_from kind t + widths head))
     -- exceptions have no lines yet
     stmt_places (Raise node exception message) t = []
     stmt_places (Try node body handlers last) t = []
@@ -156,7 +184,7 @@ module _ (types : List Ty) where
 
   -- ---- bodies
 
-  abbrev pub body_places : List Declared → List Param → Body → List FlatPlace
-  body_places globals params body =
-      param_places params
+  abbrev pub body_places : (sinks : List ℕ) → (globals : List Declared) → List Param → Body → List FlatPlace
+  body_places sinks globals params body =
+      param_places sinks params
       ++ (result_places body.result ++ (total_of lists (own_declared globals) body.stmts ++ block_places body.stmts 0))

@@ -1,23 +1,25 @@
 // Lines of what is done with operands, and of values.
-ghost use Rattle.std.specs.Prelude.{◌≡◌, ◌∷◌, [], List, IfOk};
-ghost use Rattle.nim_types.specs.Types.{Ty};
+ghost use Rattle.std.specs.Prelude.{◌≡◌, ◌∷◌, [], IfOk};
 ghost use Rattle.nim_types.specs.Table.{type_at};
-ghost use Rattle.nim_program.specs.Program.{types_in, Doing, NoArg};
-ghost use Rattle.nim_program.specs.View.{operand_before, operands_of, if_type, literal_of, path_of};
+ghost use Rattle.nim_program.specs.declared.operation.Use.TheVariants.{Held};
+ghost use Rattle.nim_program.specs.Program.{types_in, Doing, Calling};
+ghost use Rattle.nim_program.specs.View.{operands_of, if_type, literal_of, path_of};
 ghost use Rattle.flat_code.specs.declared.line.Line.{Line};
 ghost use Rattle.flat_code.specs.declared.line.Line.TheVariants as L;
 ghost use Rattle.flat_code.specs.Pieces.{pieces_of};
-ghost use Rattle.flattening.specs.Numbering.{type_number, if_number, all_numbers};
-ghost use Rattle.flattening.specs.ExprLines.{froms, act_line, none_fits, handed_on};
-ghost use Rattle.flattening.specs.Views.{types_of, modes_of, get_line};
+ghost use Rattle.flattening.specs.Numbering.{type_number, if_number};
+ghost use Rattle.flattening.specs.ExprLines.{act_line, back_line, none_fits, handed_on};
+ghost use Rattle.flattening.specs.Views.{types_of, facts_of, modes_of, sources, get_line};
+ghost use Rattle.flattening.specs.declared.around.Uses.TheVariants.{All, Of, OfParams};
 ghost use Rattle.flattening.specs.Written.{IsPut, one};
 
-use crate::around::{Around, if_number, type_number};
+use crate::around::{Around, Uses};
+use crate::known::{gives_hooked, if_number, type_number, waits};
+use crate::operand_lists::{froms, operand_types};
 use crate::pieces::add_pieces;
-use crate::spans::behind_operand;
 use crate::written::Written;
 use arc_base::{Items, Memory};
-use flat_code::{From, Line, Piece};
+use flat_code::{From, Line, Owning, Piece, UseAt};
 use nim_program::{Literal, Operand, Operation, Path, Use};
 use nim_types::TypeId;
 use std::alloc::Global;
@@ -32,80 +34,24 @@ fn put_made(code: &mut Written<Line>, made: Result<Line, Memory>)
     }
 }
 
-fn type_of(operand: &Operand) -> Option<TypeId>
-    ensures { (ts : List Ty) → types_in (operand_before ts operand.now NoArg) ≡ if_type ts result ∷ [] }
-{
-    match operand {
-        Operand::Value(value) => value.ty(),
-        Operand::At(path) => path.ty(),
-    }
-}
-
-fn operand_types(
-    alloc: Global,
-    around: &Around,
-    operands: &Vec<Operand>,
-) -> Result<Items<Option<TypeId>>, Memory>
-    ensures { IfOk result (λ numbers. numbers ≡ all_numbers (types_of around.now)
-        (types_in (operands_of (types_of around.now) operands.now.items))) }
-{
-    let mut numbers = Items::new(alloc);
-    for operand in operands {
-        numbers.push(if_number(around, type_of(operand)))?;
-    }
-    Ok(numbers)
-}
-
-fn from_of(operand: &Operand, t: u32) -> From
-    ensures { (ts : List Ty) → froms (operand_before ts operand.now NoArg) t ≡ result ∷ [] }
-{
-    match operand {
-        Operand::Value(_) => From::Value(t),
-        Operand::At(_) => From::Place(t),
-    }
-}
-
-// Where operands come from, whose numbers begin with t. `Memory` comes too where there are more
-// parts than a source can have.
-fn froms(
-    alloc: Global,
-    around: &Around,
-    operands: &Vec<Operand>,
-    t: u32,
-) -> Result<Items<From>, Memory>
-    ensures { IfOk result (λ all. all
-        ≡ froms (operands_of (types_of around.now) operands.now.items) t) }
-{
-    let mut all = Items::new(alloc);
-    let mut u = t;
-    for operand in operands {
-        all.push(from_of(operand, u))?;
-        let Some(next) = behind_operand(around, u, operand) else {
-            return Err(Memory);
-        };
-        u = next;
-    }
-    Ok(all)
-}
-
 fn operation_line(
     alloc: Global,
     around: &Around,
     t: u32,
     operation: Operation,
-    how: Use,
+    how: UseAt,
     ty: Option<TypeId>,
     operands: &Vec<Operand>,
     u: u32,
 ) -> Result<Line, Memory>
-    ensures { IfOk result (λ line. line ≡ act_line (types_of around.now) (modes_of around.now) t
-        (Doing operation) how (if_type (types_of around.now) ty)
+    ensures { IfOk result (λ line. line ≡ act_line (types_of around.now) (facts_of around.now)
+        (modes_of around.now) t (Doing operation) how (if_type (types_of around.now) ty)
         (types_in (operands_of (types_of around.now) operands.now.items))
-        (froms (operands_of (types_of around.now) operands.now.items) u)) }
+        (sources around.now (Of operation) operands.now.items u)) }
 {
     let ty = if_number(around, ty);
     let of = operand_types(alloc, around, operands)?;
-    let from = froms(alloc, around, operands, u)?;
+    let from = froms(alloc, around, operands, Uses::Of(operation), u)?;
     Ok(Line::Apply {
         to: t,
         operation,
@@ -123,15 +69,15 @@ pub fn put_operation(
     around: &Around,
     t: u32,
     operation: Operation,
-    how: Use,
+    how: UseAt,
     ty: Option<TypeId>,
     operands: &Vec<Operand>,
     u: u32,
 )
-    ensures { IsPut code.old code.new (one (act_line (types_of around.now) (modes_of around.now) t
-        (Doing operation) how (if_type (types_of around.now) ty)
+    ensures { IsPut code.old code.new (one (act_line (types_of around.now) (facts_of around.now)
+        (modes_of around.now) t (Doing operation) how (if_type (types_of around.now) ty)
         (types_in (operands_of (types_of around.now) operands.now.items))
-        (froms (operands_of (types_of around.now) operands.now.items) u))) }
+        (sources around.now (Of operation) operands.now.items u))) }
 {
     let made = operation_line(alloc, around, t, operation, how, ty, operands, u);
     put_made(code, made)
@@ -142,17 +88,17 @@ fn call_line(
     around: &Around,
     t: u32,
     proc: u32,
-    how: Use,
+    how: UseAt,
     ty: Option<TypeId>,
     operands: &Vec<Operand>,
     u: u32,
 ) -> Result<Line, Memory>
     ensures { IfOk result (λ line. line ≡ L.Call t how
         (if_number (types_of around.now) (if_type (types_of around.now) ty)) proc
-        (froms (operands_of (types_of around.now) operands.now.items) u)) }
+        (sources around.now (OfParams proc) operands.now.items u)) }
 {
     let ty = if_number(around, ty);
-    let from = froms(alloc, around, operands, u)?;
+    let from = froms(alloc, around, operands, Uses::OfParams(proc), u)?;
     Ok(Line::Call {
         to: t,
         how,
@@ -162,24 +108,27 @@ fn call_line(
     })
 }
 
-/// A call.
+/// A call, whose value waits, if it does.
 pub fn put_call(
     alloc: Global,
     code: &mut Written<Line>,
     around: &Around,
     t: u32,
     proc: u32,
-    how: Use,
+    how: UseAt,
     ty: Option<TypeId>,
     operands: &Vec<Operand>,
     u: u32,
 )
-    ensures { IsPut code.old code.new (one (L.Call t how
+    ensures { IsPut code.old code.new (λ k. L.Call t how
         (if_number (types_of around.now) (if_type (types_of around.now) ty)) proc
-        (froms (operands_of (types_of around.now) operands.now.items) u))) }
+        (sources around.now (OfParams proc) operands.now.items u)
+        ∷ back_line (types_of around.now) (facts_of around.now) (modes_of around.now) t
+        (Calling proc []) how (if_type (types_of around.now) ty) k) }
 {
     let made = call_line(alloc, around, t, proc, how, ty, operands, u);
-    put_made(code, made)
+    put_made(code, made);
+    put_back(alloc, code, around, t, how, ty)
 }
 
 fn copied(alloc: Global, numbers: &[u32]) -> Result<Items<u32>, Memory>
@@ -197,18 +146,18 @@ fn object_line(
     around: &Around,
     t: u32,
     fields: &Items<u32>,
-    how: Use,
+    how: UseAt,
     ty: TypeId,
     operands: &Vec<Operand>,
     u: u32,
 ) -> Result<Line, Memory>
     ensures { IfOk result (λ line. line ≡ L.Construct t how
         (type_number (types_of around.now) (type_at (types_of around.now) ty)) fields.now
-        (froms (operands_of (types_of around.now) operands.now.items) u)) }
+        (sources around.now (All Held) operands.now.items u)) }
 {
     let ty = type_number(around, ty);
     let fields = copied(alloc, fields.as_slice())?;
-    let from = froms(alloc, around, operands, u)?;
+    let from = froms(alloc, around, operands, Uses::All(Use::Held), u)?;
     Ok(Line::Construct {
         to: t,
         how,
@@ -225,14 +174,14 @@ pub fn put_object(
     around: &Around,
     t: u32,
     fields: &Items<u32>,
-    how: Use,
+    how: UseAt,
     ty: TypeId,
     operands: &Vec<Operand>,
     u: u32,
 )
     ensures { IsPut code.old code.new (one (L.Construct t how
         (type_number (types_of around.now) (type_at (types_of around.now) ty)) fields.now
-        (froms (operands_of (types_of around.now) operands.now.items) u))) }
+        (sources around.now (All Held) operands.now.items u))) }
 {
     let made = object_line(alloc, around, t, fields, how, ty, operands, u);
     put_made(code, made)
@@ -251,7 +200,7 @@ fn constant_line(
     around: &Around,
     t: u32,
     literal: &Literal,
-    how: Use,
+    how: UseAt,
     ty: TypeId,
 ) -> Result<Line, Memory>
     ensures { IfOk result (λ line. line ≡ L.Constant t how
@@ -275,7 +224,7 @@ pub fn put_constant(
     around: &Around,
     t: u32,
     literal: &Literal,
-    how: Use,
+    how: UseAt,
     ty: TypeId,
 )
     ensures { IsPut code.old code.new (one (L.Constant t how
@@ -319,16 +268,16 @@ pub fn put_standing(
     put_made(code, made)
 }
 
-/// The value at a path that is looked up.
-pub fn put_get(code: &mut Written<Line>, around: &Around, path: &Path, how: Use, t: u32)
+/// The value at a path that is looked up to the next temporary.
+pub fn put_get(code: &mut Written<Line>, around: &Around, path: &Path, how: Use, t: u32, from: u32)
     ensures { IsPut code.old code.new
-        (one (get_line (types_of around.now) (path_of (types_of around.now) path.now) how t)) }
+        (one (get_line (types_of around.now) (path_of (types_of around.now) path.now) how t from)) }
 {
+    let node = path.node().number;
     code.put(Line::Get {
         to: t,
-        from: t,
-        how,
-        site: path.node().number,
+        from,
+        how: UseAt { how, node },
         ty: if_number(around, path.ty()),
     })
 }
@@ -339,11 +288,11 @@ pub fn put_handed_on(
     around: &Around,
     t: u32,
     from: u32,
-    how: Use,
+    how: UseAt,
     ty: Option<TypeId>,
 )
-    ensures { IsPut code.old code.new (one (handed_on (types_of around.now) (modes_of around.now)
-        t from how (if_type (types_of around.now) ty))) }
+    ensures { IsPut code.old code.new (one (handed_on (types_of around.now) (facts_of around.now)
+        (modes_of around.now) t from how (if_type (types_of around.now) ty))) }
 {
     code.put(Line::Pass {
         to: t,
@@ -360,10 +309,10 @@ pub fn put_none_fits(
     around: &Around,
     t: u32,
     ty: Option<TypeId>,
-    how: Use,
+    how: UseAt,
 )
-    ensures { IsPut code.old code.new (one (none_fits (types_of around.now) (modes_of around.now)
-        t (if_type (types_of around.now) ty) how)) }
+    ensures { IsPut code.old code.new (one (none_fits (types_of around.now) (facts_of around.now)
+        (modes_of around.now) t (if_type (types_of around.now) ty) how)) }
 {
     code.put(Line::Apply {
         to: t,
@@ -373,4 +322,52 @@ pub fn put_none_fits(
         of: Items::new(alloc),
         from: Items::new(alloc),
     })
+}
+
+/// Something is done with a value that somebody owns.
+pub fn put_own(alloc: Global, code: &mut Written<Line>, what: Owning)
+    ensures { IsPut code.old code.new (one (L.Own what [])) }
+{
+    code.put(Line::Own {
+        what,
+        from: Items::new(alloc),
+    })
+}
+
+fn own_line(alloc: Global, what: Owning, operand: From) -> Result<Line, Memory>
+    ensures { IfOk result (λ line. line ≡ L.Own what (operand ∷ [])) }
+{
+    let mut from = Items::new(alloc);
+    from.push(operand)?;
+    Ok(Line::Own { what, from })
+}
+
+/// The same with an operand.
+pub fn put_own_from(alloc: Global, code: &mut Written<Line>, what: Owning, operand: From)
+    ensures { IsPut code.old code.new (one (L.Own what (operand ∷ []))) }
+{
+    let made = own_line(alloc, what, operand);
+    put_made(code, made)
+}
+
+// The value of a call waits, if it does.
+fn put_back(
+    alloc: Global,
+    code: &mut Written<Line>,
+    around: &Around,
+    t: u32,
+    how: UseAt,
+    ty: Option<TypeId>,
+)
+    ensures { IsPut code.old code.new (back_line (types_of around.now) (facts_of around.now)
+        (modes_of around.now) t (Calling 0 []) how (if_type (types_of around.now) ty)) }
+{
+    if gives_hooked(around, ty) && waits(how.how) {
+        put_own_from(
+            alloc,
+            code,
+            Owning::Waits { node: how.node },
+            From::Value(t),
+        )
+    }
 }

@@ -1,31 +1,28 @@
 // The lines of expressions: one case for each form of the tree.
-ghost use Rattle.std.specs.Prelude.{◌≡◌, ◌&&◌, suc, Bool, Option, option_map};
-ghost use Rattle.nim_program.specs.declared.expr.Expr.{Expr as RustExpr};
-ghost use Rattle.nim_meaning.specs.Shapes.{is_covered, selector_type, is_last_value};
+ghost use Rattle.std.specs.Prelude.{◌≡◌, suc, Bool, option_map};
 ghost use Rattle.nim_program.specs.Program.{Args, NoArg};
-ghost use Rattle.nim_program.specs.View.{expr_of, path_of, operand_before, operands_of, if_type};
-ghost use Rattle.nim_program.specs.View.{choices_of, picks_of, pick_labels, if_value};
+ghost use Rattle.nim_program.specs.View.{expr_of, path_of, operand_before, operands_of, if_type, choices_of, picks_of, pick_labels, if_value};
 ghost use Rattle.flattening.specs.Forms.{IsEarly, IsIf, IsCase};
-ghost use Rattle.flattening.specs.ExprLines.{lines, aim_lines, ready_lines, choice_lines};
-ghost use Rattle.flattening.specs.ExprLines.{arm_lines, value_tests};
+ghost use Rattle.flattening.specs.ExprLines.{lines, aim_lines, copied_lines, ready_lines, choice_lines, arm_lines};
 ghost use Rattle.flattening.specs.StmtLines.{selector_lines};
-ghost use Rattle.flattening.specs.Views.{types_of, modes_of, result_of, uses_of, branch_lines};
-ghost use Rattle.flattening.specs.Views.{fresh_lines};
-ghost use Rattle.flattening.specs.Views.{ArmsLast, other_lines};
+ghost use Rattle.flattening.specs.Views.{types_of, facts_of, modes_of, result_of, uses_of, act_of, branch_lines, fresh_lines, ArmsLast, other_lines};
 ghost use Rattle.flattening.specs.Written.{IsPut, GoesOnAt, ArmsPut};
 
 use crate::acts::{
     put_call, put_constant, put_get, put_handed_on, put_none_fits, put_object, put_operation,
 };
-use crate::around::{Around, Uses, is_covered, is_last, use_at};
-use crate::finds::{add_found, add_settled};
-use crate::marks::{put_arm_label, put_early, put_jump, put_label, put_label_tests, put_unless};
+use crate::around::{Around, Uses};
+use crate::finds::add_found;
+use crate::known::{branch_use, is_copied, is_last, use_at};
+use crate::labels::{may_close, put_value_tests};
+use crate::marks::{put_arm_label, put_early, put_jump, put_label, put_unless};
 use crate::numbers::Purpose;
 use crate::spans::{
     behind_operand, behind_path, behind_picks, behind_selector, behind_value, next, selector_from,
 };
+use crate::waits::{put_branch_ends, put_lent, put_settled, put_value_ends};
 use crate::written::{Arms, Written};
-use flat_code::Line;
+use flat_code::{Line, UseAt};
 use nim_program::{Choice, Expr, Operand, Path, Pick, Use};
 use nim_types::TypeId;
 use std::alloc::Global;
@@ -40,11 +37,15 @@ pub fn add_expr(
     how: Use,
     t: u32,
 )
-    ensures { IsPut code.old code.new (lines (types_of around.now) (modes_of around.now)
-        (expr_of (types_of around.now) expr.now) how t) }
+    ensures { IsPut code.old code.new (lines (types_of around.now) (facts_of around.now)
+        (modes_of around.now) (expr_of (types_of around.now) expr.now) how t) }
 {
     let Some(u) = next(t) else {
         return code.lose();
+    };
+    let at = UseAt {
+        how,
+        node: expr.node().number,
     };
     match expr {
         Expr::Apply {
@@ -54,8 +55,8 @@ pub fn add_expr(
             ..
         } => {
             add_ready(alloc, code, around, operands, Uses::Of(*operation), u);
-            add_settled(alloc, code, around, operands, u);
-            put_operation(alloc, code, around, t, *operation, how, *ty, operands, u)
+            put_settled(alloc, code, around, operands, Uses::Of(*operation), u);
+            put_operation(alloc, code, around, t, *operation, at, *ty, operands, u)
         }
         Expr::Call {
             ty,
@@ -64,8 +65,8 @@ pub fn add_expr(
             ..
         } => {
             add_ready(alloc, code, around, operands, Uses::OfParams(*proc), u);
-            add_settled(alloc, code, around, operands, u);
-            put_call(alloc, code, around, t, *proc, how, *ty, operands, u)
+            put_settled(alloc, code, around, operands, Uses::OfParams(*proc), u);
+            put_call(alloc, code, around, t, *proc, at, *ty, operands, u)
         }
         Expr::Construct {
             ty,
@@ -74,16 +75,14 @@ pub fn add_expr(
             ..
         } => {
             add_ready(alloc, code, around, operands, Uses::All(Use::Held), u);
-            add_settled(alloc, code, around, operands, u);
-            put_object(alloc, code, around, t, fields, how, *ty, operands, u)
+            put_settled(alloc, code, around, operands, Uses::All(Use::Held), u);
+            put_object(alloc, code, around, t, fields, at, *ty, operands, u)
         }
-        Expr::Constant { ty, value, .. } => {
-            put_constant(alloc, code, around, t, value, how, *ty)
-        }
+        Expr::Constant { ty, value, .. } => { put_constant(alloc, code, around, t, value, at, *ty) }
         Expr::Read { path } => {
-            add_aim(alloc, code, around, path, t);
-            add_found(alloc, code, around, path, t);
-            put_get(code, around, path, how, t)
+            add_aim(alloc, code, around, path, u);
+            add_found(alloc, code, around, path, u);
+            put_get(code, around, path, how, t, u)
         }
         Expr::Early { .. } => add_early(alloc, code, around, expr, how, t, u),
         Expr::If { .. } => add_if(alloc, code, around, expr, how, t, u),
@@ -103,11 +102,12 @@ fn add_early(
     u: u32,
 )
     requires { IsEarly expr.now }
-    ensures { u ≡ suc t → IsPut code.old code.new (lines (types_of around.now) (modes_of around.now)
-        (expr_of (types_of around.now) expr.now) how t) }
+    ensures { u ≡ suc t → IsPut code.old code.new (lines (types_of around.now) (facts_of around.now)
+        (modes_of around.now) (expr_of (types_of around.now) expr.now) how t) }
 {
     match expr {
         Expr::Early {
+            node,
             short,
             left,
             right,
@@ -124,7 +124,10 @@ fn add_early(
             code.put(Line::Pass {
                 to: t,
                 from: v,
-                how,
+                how: UseAt {
+                    how,
+                    node: node.number,
+                },
                 ty: None,
             });
             put_label(code, Purpose::End, t)
@@ -145,16 +148,20 @@ fn add_if(
     u: u32,
 )
     requires { IsIf expr.now }
-    ensures { u ≡ suc t → IsPut code.old code.new (lines (types_of around.now) (modes_of around.now)
-        (expr_of (types_of around.now) expr.now) how t) }
+    ensures { u ≡ suc t → IsPut code.old code.new (lines (types_of around.now) (facts_of around.now)
+        (modes_of around.now) (expr_of (types_of around.now) expr.now) how t) }
 {
     match expr {
         Expr::If {
+            node,
             ty,
             branches,
             otherwise,
-            ..
         } => {
+            let how = UseAt {
+                how,
+                node: node.number,
+            };
             let otherwise = &**otherwise;
             let Some(v) = add_choices(alloc, code, around, branches, *ty, how, t, u) else {
                 return;
@@ -178,17 +185,21 @@ fn add_case(
     u: u32,
 )
     requires { IsCase expr.now }
-    ensures { u ≡ suc t → IsPut code.old code.new (lines (types_of around.now) (modes_of around.now)
-        (expr_of (types_of around.now) expr.now) how t) }
+    ensures { u ≡ suc t → IsPut code.old code.new (lines (types_of around.now) (facts_of around.now)
+        (modes_of around.now) (expr_of (types_of around.now) expr.now) how t) }
 {
     match expr {
         Expr::Case {
+            node,
             ty,
             selector,
             branches,
             otherwise,
-            ..
         } => {
+            let how = UseAt {
+                how,
+                node: node.number,
+            };
             let selector = &**selector;
             let Some(s) = behind_picks(u, branches) else {
                 return code.lose();
@@ -197,7 +208,7 @@ fn add_case(
                 return code.lose();
             };
             add_selector(alloc, code, around, selector, s);
-            add_value_tests(code, around, branches, s, v);
+            put_value_tests(alloc, code, around, branches, s, v);
             put_jump(code, Purpose::Next, t);
             let closes = may_close(around, selector, otherwise);
             match add_arms(alloc, code, around, closes, branches, *ty, how, t, v) {
@@ -216,7 +227,8 @@ fn add_case(
 /// Adds what a path needs before it is looked up.
 #[cycle(exprs)]
 pub fn add_aim(alloc: Global, code: &mut Written<Line>, around: &Around, path: &Path, t: u32)
-    ensures { IsPut code.old code.new (aim_lines (types_of around.now) (modes_of around.now)
+    ensures { IsPut code.old code.new (aim_lines (types_of around.now) (facts_of around.now)
+        (modes_of around.now)
         (path_of (types_of around.now) path.now) t) }
 {
     let Some(u) = next(t) else {
@@ -242,12 +254,31 @@ pub fn add_aim(alloc: Global, code: &mut Written<Line>, around: &Around, path: &
 // A value that a path begins with. A constant stands in the data, and nothing is to be done for it.
 #[cycle(exprs)]
 fn add_fresh(alloc: Global, code: &mut Written<Line>, around: &Around, value: &Expr, t: u32)
-    ensures { IsPut code.old code.new (fresh_lines (types_of around.now) (modes_of around.now)
+    ensures { IsPut code.old code.new (fresh_lines (types_of around.now) (facts_of around.now)
+        (modes_of around.now)
         (expr_of (types_of around.now) value.now) t) }
 {
     match value {
         Expr::Constant { .. } => {}
         _ => add_expr(alloc, code, around, value, Use::Looked, t),
+    }
+}
+
+/// Adds where a place copies from.
+#[cycle(exprs)]
+pub fn add_copied(alloc: Global, code: &mut Written<Line>, around: &Around, value: &Expr, t: u32)
+    ensures { IsPut code.old code.new (copied_lines (types_of around.now) (facts_of around.now)
+        (modes_of around.now) (expr_of (types_of around.now) value.now) t) }
+{
+    match value {
+        Expr::Read { path } => match next(t) {
+            None => code.lose(),
+            Some(u) => {
+                add_aim(alloc, code, around, path, u);
+                add_found(alloc, code, around, path, u)
+            }
+        },
+        _ => {}
     }
 }
 
@@ -258,14 +289,22 @@ fn add_operand(
     code: &mut Written<Line>,
     around: &Around,
     operand: &Operand,
+    uses: Uses,
     how: Use,
     t: u32,
 )
-    ensures { IsPut code.old code.new (ready_lines (types_of around.now) (modes_of around.now)
-        (operand_before (types_of around.now) operand.now NoArg) (λ i. how) 0 t) }
+    ensures { IsPut code.old code.new (ready_lines (types_of around.now) (facts_of around.now)
+        (modes_of around.now) (act_of uses) (operand_before (types_of around.now) operand.now NoArg)
+        (λ i. how) 0 t) }
 {
     match operand {
-        Operand::Value(value) => add_expr(alloc, code, around, value, how, t),
+        Operand::Value(value) => {
+            if is_copied(around, how, value) {
+                return add_copied(alloc, code, around, value, t);
+            }
+            add_expr(alloc, code, around, value, how, t);
+            put_lent(code, around, value, uses, how, t)
+        }
         Operand::At(path) => add_aim(alloc, code, around, path, t),
     }
 }
@@ -280,8 +319,8 @@ pub fn add_ready(
     uses: Uses,
     t: u32,
 )
-    ensures { IsPut code.old code.new (ready_lines (types_of around.now) (modes_of around.now)
-        (operands_of (types_of around.now) operands.now.items)
+    ensures { IsPut code.old code.new (ready_lines (types_of around.now) (facts_of around.now)
+        (modes_of around.now) (act_of uses) (operands_of (types_of around.now) operands.now.items)
         (uses_of (modes_of around.now) uses) 0 t) }
 {
     let mut u = t;
@@ -291,7 +330,7 @@ pub fn add_ready(
             return code.lose();
         };
         let how = use_at(around, uses, position);
-        add_operand(alloc, code, around, operand, how, u);
+        add_operand(alloc, code, around, operand, uses, how, u);
         u = following;
         position += 1;
     }
@@ -306,7 +345,8 @@ pub fn add_selector(
     selector: &Operand,
     s: u32,
 )
-    ensures { IsPut code.old code.new (selector_lines (types_of around.now) (modes_of around.now)
+    ensures { IsPut code.old code.new (selector_lines (types_of around.now) (facts_of around.now)
+        (modes_of around.now)
         (result_of around.now) (operand_before (types_of around.now) selector.now NoArg) s) }
 {
     match selector {
@@ -330,15 +370,15 @@ fn add_choices(
     around: &Around,
     branches: &Vec<Choice>,
     ty: Option<TypeId>,
-    how: Use,
+    how: UseAt,
     t: u32,
     first: u32,
 ) -> Option<u32>
     ensures { GoesOnAt result code.old code.new
-        (λ (last : Args) u. choice_lines (types_of around.now) (modes_of around.now) last
-        (if_type (types_of around.now) ty) how t u)
-        (λ (last : Args). choice_lines (types_of around.now) (modes_of around.now)
-        (choices_of (types_of around.now) branches.now.items last)
+        (λ (last : Args) u. choice_lines (types_of around.now) (facts_of around.now)
+        (modes_of around.now) last (if_type (types_of around.now) ty) how t u)
+        (λ (last : Args). choice_lines (types_of around.now) (facts_of around.now)
+        (modes_of around.now) (choices_of (types_of around.now) branches.now.items last)
         (if_type (types_of around.now) ty) how t first) }
 {
     let mut u = first;
@@ -352,6 +392,7 @@ fn add_choices(
             return None;
         };
         add_expr(alloc, code, around, &branch.condition, Use::Owned, u);
+        put_value_ends(alloc, code, around, &branch.condition, Use::Owned);
         put_unless(code, u, Purpose::Arm, u);
         add_handed_on(alloc, code, around, &branch.value, ty, how, t, v);
         put_jump(code, Purpose::End, t);
@@ -369,14 +410,16 @@ fn add_handed_on(
     around: &Around,
     value: &Expr,
     ty: Option<TypeId>,
-    how: Use,
+    how: UseAt,
     t: u32,
     from: u32,
 )
-    ensures { IsPut code.old code.new (branch_lines (types_of around.now) (modes_of around.now)
+    ensures { IsPut code.old code.new (branch_lines (types_of around.now) (facts_of around.now)
+        (modes_of around.now)
         (expr_of (types_of around.now) value.now) (if_type (types_of around.now) ty) how t from) }
 {
-    add_expr(alloc, code, around, value, Use::Owned, from);
+    add_expr(alloc, code, around, value, branch_use(around, value), from);
+    put_branch_ends(alloc, code, around, value);
     put_handed_on(code, around, t, from, how, ty)
 }
 
@@ -389,15 +432,16 @@ fn add_arms(
     closes: bool,
     branches: &Vec<Pick>,
     ty: Option<TypeId>,
-    how: Use,
+    how: UseAt,
     t: u32,
     first: u32,
 ) -> Arms
     ensures { (covered : Bool) → ArmsPut result code.old code.new
         (λ (last : ArmsLast covered closes) u. other_lines (types_of around.now)
-        (modes_of around.now) covered last.0 (if_type (types_of around.now) ty) how t u)
-        (λ (last : ArmsLast covered closes). arm_lines (types_of around.now) (modes_of around.now)
-        covered (pick_labels branches.now.items)
+        (facts_of around.now) (modes_of around.now) covered last.0
+        (if_type (types_of around.now) ty) how t u)
+        (λ (last : ArmsLast covered closes). arm_lines (types_of around.now) (facts_of around.now)
+        (modes_of around.now) covered (pick_labels branches.now.items)
         (picks_of (types_of around.now) branches.now.items last.0)
         (if_type (types_of around.now) ty) how t first) }
 {
@@ -430,12 +474,12 @@ fn add_others(
     around: &Around,
     otherwise: &Option<Box<Expr>>,
     ty: Option<TypeId>,
-    how: Use,
+    how: UseAt,
     t: u32,
     u: u32,
 )
     ensures { (covered : Bool) → IsPut code.old code.new (other_lines (types_of around.now)
-        (modes_of around.now) covered
+        (facts_of around.now) (modes_of around.now) covered
         (if_value (types_of around.now) (option_map (λ e. e.value) otherwise.now))
         (if_type (types_of around.now) ty) how t u) }
 {
@@ -443,50 +487,5 @@ fn add_others(
     match otherwise {
         None => put_none_fits(alloc, code, around, t, ty, how),
         Some(value) => add_handed_on(alloc, code, around, &**value, ty, how, t, u),
-    }
-}
-
-// The tests of the labels of all branches, whose values' numbers begin with t.
-fn add_value_tests(
-    code: &mut Written<Line>,
-    around: &Around,
-    branches: &Vec<Pick>,
-    selector: u32,
-    first: u32,
-)
-    ensures { (otherwise : Option RustExpr) → IsPut code.old code.new (value_tests
-        (pick_labels branches.now.items) (picks_of (types_of around.now) branches.now.items
-        (if_value (types_of around.now) otherwise)) selector first) }
-{
-    let mut u = first;
-    for branch in branches {
-        let Some(following) = behind_value(around, u, &branch.value) else {
-            return code.lose();
-        };
-        put_label_tests(code, &branch.labels, selector, u);
-        u = following;
-    }
-}
-
-/// Whether labels cover the type of a selector, where there is no `else`.
-pub fn covers(around: &Around, selector: &Operand) -> bool
-    ensures { result ≡ is_covered (selector_type (operand_before (types_of around.now)
-        selector.now NoArg)) }
-{
-    match selector {
-        Operand::Value(value) => is_covered(around, value.ty()),
-        Operand::At(path) => is_covered(around, path.ty()),
-    }
-}
-
-// Whether the last branch is for all else: labels cover the type, and nothing follows.
-fn may_close(around: &Around, selector: &Operand, otherwise: &Option<Box<Expr>>) -> bool
-    ensures { result ≡ (is_covered (selector_type (operand_before (types_of around.now)
-        selector.now NoArg)) && is_last_value (if_value (types_of around.now)
-        (option_map (λ e. e.value) otherwise.now))) }
-{
-    match otherwise {
-        None => covers(around, selector),
-        Some(_) => false,
     }
 }

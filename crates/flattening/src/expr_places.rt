@@ -4,25 +4,26 @@ ghost use Rattle.nim_program.specs.Program.{Args, NoArg};
 ghost use Rattle.nim_program.specs.View.{expr_of, path_of, operand_before, operands_of};
 ghost use Rattle.nim_program.specs.View.{choices_of, picks_of, if_value};
 ghost use Rattle.flattening.specs.Forms.{IsEarly, IsCase};
-ghost use Rattle.flattening.specs.Places.{expr_places, path_places, operand_places};
-ghost use Rattle.flattening.specs.Views.{types_of};
+ghost use Rattle.flattening.specs.Places.{expr_places, path_places, operand_places, part_places};
+ghost use Rattle.flattening.specs.Views.{types_of, facts_of, modes_of, uses_of, act_of};
 ghost use Rattle.flattening.specs.PlaceViews.{first_places, fresh_places};
 ghost use Rattle.flattening.specs.Written.{IsPut, GoesOnAt};
 ghost use Rattle.flattening.specs.PlaceViews.{in_front};
 
-use crate::around::Around;
+use crate::around::{Around, Uses};
+use crate::known::use_at;
 use crate::spans::{
     behind_operand, behind_path, behind_picks, behind_selector, behind_value, next, selector_from,
 };
-use crate::temporaries::{put_location, put_read, put_selector, put_temporary};
+use crate::temporaries::{put_lent, put_location, put_read, put_selector, put_temporary};
 use crate::written::Written;
 use flat_code::{FlatPlace, PlaceKind};
-use nim_program::{Choice, Expr, Operand, Path, Pick};
+use nim_program::{Choice, Expr, Operand, Path, Pick, Use};
 
 /// Adds the temporaries of an expression, whose numbers begin with t.
 #[cycle(temporaries)]
 pub fn list_expr(places: &mut Written<FlatPlace>, around: &Around, expr: &Expr, t: u32)
-    ensures { IsPut places.old places.new (in_front (expr_places (types_of around.now)
+    ensures { IsPut places.old places.new (in_front (expr_places (types_of around.now) (facts_of around.now) (modes_of around.now)
         (expr_of (types_of around.now) expr.now) t)) }
 {
     let Some(u) = next(t) else {
@@ -32,20 +33,22 @@ pub fn list_expr(places: &mut Written<FlatPlace>, around: &Around, expr: &Expr, 
         Expr::Apply {
             node,
             ty,
+            operation,
             operands,
             ..
         } => {
             put_temporary(places, around, *node, *ty, PlaceKind::Temp, t);
-            list_operands(places, around, operands, u)
+            list_operands(places, around, operands, Uses::Of(*operation), u)
         }
         Expr::Call {
             node,
             ty,
+            proc,
             operands,
             ..
         } => {
             put_temporary(places, around, *node, *ty, PlaceKind::Temp, t);
-            list_operands(places, around, operands, u)
+            list_operands(places, around, operands, Uses::OfParams(*proc), u)
         }
         Expr::Construct {
             node,
@@ -54,14 +57,14 @@ pub fn list_expr(places: &mut Written<FlatPlace>, around: &Around, expr: &Expr, 
             ..
         } => {
             put_temporary(places, around, *node, Some(*ty), PlaceKind::Temp, t);
-            list_operands(places, around, operands, u)
+            list_operands(places, around, operands, Uses::All(Use::Held), u)
         }
         Expr::Constant { node, ty, .. } => {
             put_temporary(places, around, *node, Some(*ty), PlaceKind::Temp, t)
         }
         Expr::Read { path } => {
             put_read(places, around, path, t);
-            list_path(places, around, path, t)
+            list_path(places, around, path, u)
         }
         Expr::Early { .. } => list_early(places, around, expr, t, u),
         Expr::If {
@@ -70,12 +73,11 @@ pub fn list_expr(places: &mut Written<FlatPlace>, around: &Around, expr: &Expr, 
             branches,
             otherwise,
         } => {
-            let otherwise = &**otherwise;
             put_temporary(places, around, *node, *ty, PlaceKind::Temp, t);
             let Some(v) = list_choices(places, around, branches, u) else {
                 return;
             };
-            list_expr(places, around, otherwise, v)
+            list_expr(places, around, &**otherwise, v)
         }
         Expr::Case { .. } => list_case(places, around, expr, t, u),
     }
@@ -85,7 +87,7 @@ pub fn list_expr(places: &mut Written<FlatPlace>, around: &Around, expr: &Expr, 
 #[cycle(temporaries)]
 fn list_early(places: &mut Written<FlatPlace>, around: &Around, expr: &Expr, t: u32, u: u32)
     requires { IsEarly expr.now }
-    ensures { u ≡ suc t → IsPut places.old places.new (in_front (expr_places (types_of around.now)
+    ensures { u ≡ suc t → IsPut places.old places.new (in_front (expr_places (types_of around.now) (facts_of around.now) (modes_of around.now)
         (expr_of (types_of around.now) expr.now) t)) }
 {
     match expr {
@@ -113,7 +115,7 @@ fn list_early(places: &mut Written<FlatPlace>, around: &Around, expr: &Expr, t: 
 #[cycle(temporaries)]
 fn list_case(places: &mut Written<FlatPlace>, around: &Around, expr: &Expr, t: u32, u: u32)
     requires { IsCase expr.now }
-    ensures { u ≡ suc t → IsPut places.old places.new (in_front (expr_places (types_of around.now)
+    ensures { u ≡ suc t → IsPut places.old places.new (in_front (expr_places (types_of around.now) (facts_of around.now) (modes_of around.now)
         (expr_of (types_of around.now) expr.now) t)) }
 {
     match expr {
@@ -149,7 +151,7 @@ fn list_case(places: &mut Written<FlatPlace>, around: &Around, expr: &Expr, t: u
 // The temporaries of a path that is looked up.
 #[cycle(temporaries)]
 fn list_path(places: &mut Written<FlatPlace>, around: &Around, path: &Path, t: u32)
-    ensures { IsPut places.old places.new (in_front (path_places (types_of around.now)
+    ensures { IsPut places.old places.new (in_front (path_places (types_of around.now) (facts_of around.now) (modes_of around.now)
         (path_of (types_of around.now) path.now) t)) }
 {
     let Some(u) = next(t) else {
@@ -188,7 +190,7 @@ fn list_path(places: &mut Written<FlatPlace>, around: &Around, path: &Path, t: u
 // The temporaries of a value that a path begins with, none of a constant.
 #[cycle(temporaries)]
 fn list_fresh(places: &mut Written<FlatPlace>, around: &Around, value: &Expr, t: u32)
-    ensures { IsPut places.old places.new (in_front (fresh_places (types_of around.now)
+    ensures { IsPut places.old places.new (in_front (fresh_places (types_of around.now) (facts_of around.now) (modes_of around.now)
         (expr_of (types_of around.now) value.now) t)) }
 {
     match value {
@@ -200,7 +202,7 @@ fn list_fresh(places: &mut Written<FlatPlace>, around: &Around, value: &Expr, t:
 /// The temporaries of an operand.
 #[cycle(temporaries)]
 pub fn list_operand(places: &mut Written<FlatPlace>, around: &Around, operand: &Operand, t: u32)
-    ensures { IsPut places.old places.new (in_front (first_places (types_of around.now)
+    ensures { IsPut places.old places.new (in_front (first_places (types_of around.now) (facts_of around.now) (modes_of around.now)
         (operand_before (types_of around.now) operand.now NoArg) t)) }
 {
     match operand {
@@ -209,24 +211,31 @@ pub fn list_operand(places: &mut Written<FlatPlace>, around: &Around, operand: &
     }
 }
 
-/// The temporaries of operands, whose numbers begin with t.
+/// The temporaries of operands, whose numbers begin with t, and where those are that are lent.
 #[cycle(temporaries)]
 pub fn list_operands(
     places: &mut Written<FlatPlace>,
     around: &Around,
     operands: &Vec<Operand>,
+    uses: Uses,
     t: u32,
 )
     ensures { IsPut places.old places.new (in_front (operand_places (types_of around.now)
-        (operands_of (types_of around.now) operands.now.items) t)) }
+        (facts_of around.now) (modes_of around.now) (act_of uses)
+        (operands_of (types_of around.now) operands.now.items)
+        (uses_of (modes_of around.now) uses) 0 t)) }
 {
     let mut u = t;
+    let mut position = 0;
     for operand in operands {
         let Some(following) = behind_operand(around, u, operand) else {
             return places.lose();
         };
+        let how = use_at(around, uses, position);
         list_operand(places, around, operand, u);
+        put_lent(places, around, uses, how, operand, u);
         u = following;
+        position += 1;
     }
 }
 
@@ -239,8 +248,8 @@ fn list_choices(
     t: u32,
 ) -> Option<u32>
     ensures { GoesOnAt result places.old places.new
-        (λ (last : Args) u. in_front (operand_places (types_of around.now) last u))
-        (λ (last : Args). in_front (operand_places (types_of around.now)
+        (λ (last : Args) u. in_front (part_places (types_of around.now) (facts_of around.now) (modes_of around.now) last u))
+        (λ (last : Args). in_front (part_places (types_of around.now) (facts_of around.now) (modes_of around.now)
         (choices_of (types_of around.now) branches.now.items last) t)) }
 {
     let mut u = t;
@@ -269,8 +278,8 @@ fn list_picks(
     t: u32,
 ) -> Option<u32>
     ensures { GoesOnAt result places.old places.new
-        (λ (last : Args) u. in_front (operand_places (types_of around.now) last u))
-        (λ (last : Args). in_front (operand_places (types_of around.now)
+        (λ (last : Args) u. in_front (part_places (types_of around.now) (facts_of around.now) (modes_of around.now) last u))
+        (λ (last : Args). in_front (part_places (types_of around.now) (facts_of around.now) (modes_of around.now)
         (picks_of (types_of around.now) branches.now.items last) t)) }
 {
     let mut u = t;
@@ -293,7 +302,7 @@ fn list_else(
     otherwise: &Option<Box<Expr>>,
     t: u32,
 )
-    ensures { IsPut places.old places.new (in_front (operand_places (types_of around.now)
+    ensures { IsPut places.old places.new (in_front (part_places (types_of around.now) (facts_of around.now) (modes_of around.now)
         (if_value (types_of around.now) (option_map (λ e. e.value) otherwise.now)) t)) }
 {
     match otherwise {

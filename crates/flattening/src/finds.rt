@@ -1,13 +1,15 @@
 // The lines by which paths are looked up.
+ghost use Rattle.std.specs.Prelude.{◌≡◌, if◌then◌else◌, Some, None};
 ghost use Rattle.nim_program.specs.View.{expr_of, path_of, operand_before, operands_of};
-ghost use Rattle.nim_program.specs.Program.{Fresh, NoArg};
-ghost use Rattle.flattening.specs.ExprLines.{find_lines, settle_lines};
+ghost use Rattle.nim_program.specs.Program.{Fresh, NoArg, node_of};
+ghost use Rattle.flattening.specs.ExprLines.{has_hooks, find_lines, settle_lines};
 ghost use Rattle.flattening.specs.StmtLines.{look_up};
-ghost use Rattle.flattening.specs.Views.{types_of, modes_of, result_of};
+ghost use Rattle.flattening.specs.Views.{types_of, facts_of, modes_of, result_of};
 ghost use Rattle.flattening.specs.Written.{IsPut};
 
 use crate::acts::put_standing;
 use crate::around::Around;
+use crate::known::has_hooks;
 use crate::spans::{behind_operand, behind_path, next};
 use crate::written::Written;
 use flat_code::Line;
@@ -18,7 +20,8 @@ use std::alloc::Global;
 #[cycle(finds)]
 pub fn add_found(alloc: Global, code: &mut Written<Line>, around: &Around, path: &Path, t: u32)
     ensures { IsPut code.old code.new
-        (find_lines (types_of around.now) (path_of (types_of around.now) path.now) t) }
+        (find_lines (types_of around.now) (facts_of around.now)
+        (path_of (types_of around.now) path.now) t) }
 {
     match path {
         Path::Variable { place, global, .. } => code.put(Line::Root {
@@ -68,14 +71,30 @@ pub fn add_found(alloc: Global, code: &mut Written<Line>, around: &Around, path:
 // What a path begins with: a constant where it stands, or another value.
 fn put_begun(alloc: Global, code: &mut Written<Line>, around: &Around, value: &Expr, t: u32)
     ensures { IsPut code.old code.new (find_lines (types_of around.now)
-        (Fresh (expr_of (types_of around.now) value.now)) t) }
+        (facts_of around.now) (Fresh (expr_of (types_of around.now) value.now)) t) }
 {
     match value {
         Expr::Constant { ty, value, .. } => put_standing(alloc, code, around, t, value, *ty),
         _ => match next(t) {
             None => code.lose(),
-            Some(from) => code.put(Line::Fresh { to: t, from }),
+            Some(from) => code.put(Line::Fresh {
+                to: t,
+                from,
+                waits: fresh_waits(around, value),
+            }),
         },
+    }
+}
+
+// The node at which a value that a path begins with waits, if it has hooks.
+fn fresh_waits(around: &Around, value: &Expr) -> Option<u32>
+    ensures { result ≡ (if has_hooks (facts_of around.now) (expr_of (types_of around.now) value.now)
+        then Some (node_of (expr_of (types_of around.now) value.now)).number else None) }
+{
+    if has_hooks(around, value) {
+        Some(value.node().number)
+    } else {
+        None
     }
 }
 
@@ -88,7 +107,8 @@ pub fn add_settled(
     t: u32,
 )
     ensures { IsPut code.old code.new
-        (settle_lines (types_of around.now) (operands_of (types_of around.now) operands.now.items) t) }
+        (settle_lines (types_of around.now) (facts_of around.now)
+        (operands_of (types_of around.now) operands.now.items) t) }
 {
     let mut u = t;
     for operand in operands {
@@ -103,7 +123,8 @@ pub fn add_settled(
 // The place of an operand, where it is a place.
 fn add_place(alloc: Global, code: &mut Written<Line>, around: &Around, operand: &Operand, t: u32)
     ensures { IsPut code.old code.new
-        (settle_lines (types_of around.now) (operand_before (types_of around.now) operand.now NoArg) t) }
+        (settle_lines (types_of around.now) (facts_of around.now)
+        (operand_before (types_of around.now) operand.now NoArg) t) }
 {
     match operand {
         Operand::Value(_) => {}
@@ -119,8 +140,8 @@ pub fn add_head_place(
     head: &Vec<Operand>,
     t: u32,
 )
-    ensures { IsPut code.old code.new (look_up (types_of around.now) (modes_of around.now)
-        (result_of around.now) (operands_of (types_of around.now) head.now.items) t) }
+    ensures { IsPut code.old code.new (look_up (types_of around.now) (facts_of around.now)
+        (modes_of around.now) (result_of around.now) (operands_of (types_of around.now) head.now.items) t) }
 {
     match head.first() {
         Some(Operand::At(path)) => add_found(alloc, code, around, path, t),

@@ -1,5 +1,5 @@
 // The laws of flat code.
-ghost use Rattle.std.specs.Prelude.{◌≡◌, ◌≤◌, ◌*◌, ℕ, true, List, codes};
+ghost use Rattle.std.specs.Prelude.{◌≡◌, ◌≤◌, ◌+◌, ◌*◌, ℕ, true, List, codes};
 ghost use Rattle.arc_base.specs.Behaviour.{Agrees, Sound};
 ghost use Rattle.arc_base.specs.Event.{writes};
 ghost use Rattle.arc_base.specs.declared.outside.Stream.TheVariants.{Out};
@@ -19,20 +19,27 @@ ghost use Rattle.flat_code.specs.Scene.{Known, known_in};
 ghost use Rattle.flat_code.specs.Sizes.{code_weight, globals_bytes, code_texts};
 ghost use Rattle.flat_code.specs.Whole.{label_in, are_whole};
 ghost use Rattle.flattening.specs.declared.laws.TheConstants.{FLAT_PACE, NODE_WEIGHT};
+ghost use Rattle.flattening.specs.declared.laws.TheConstants.{PAIR_WEIGHT};
 ghost use Rattle.flat_code.specs.Alike.{AllAlike};
-ghost use Rattle.flattening.specs.Counted.{program_parts, times, program_times};
+ghost use Rattle.flattening.specs.Counted.{program_parts, program_pairs, times};
+ghost use Rattle.flattening.specs.Counted.{program_times};
 ghost use Rattle.flattening.specs.Examples.{counting};
-ghost use Rattle.flattening.specs.Flattened.{known_of, code_of, flat_meaning, flat_by_units, IsExact};
+ghost use Rattle.flattening.specs.Flattened.{known_of, code_of, modes_of};
+ghost use Rattle.flattening.specs.Flattened.{flat_meaning, flat_by_units, IsExact};
 ghost use Rattle.flattening.specs.Formed.{IsFormed};
 ghost use Rattle.flattening.specs.Given.{flat_procs, flat_of};
 ghost use Rattle.flat_code.specs.PlainCode.{ArePlainProcs};
 ghost use Rattle.flattening.specs.BodySums.{SumsWithin};
+ghost use Rattle.flattening.specs.Lent.{NoneLent};
 
 /// Flat code does at most so many times the work of its program's meaning and one more.
 pub const FLAT_PACE: u32 = 12;
 
 /// The most that flat code weighs for each counted part of its program.
-pub const NODE_WEIGHT: u32 = 25;
+pub const NODE_WEIGHT: u32 = 33;
+
+/// And for each pair of an exit and what ends there.
+pub const PAIR_WEIGHT: u32 = 5;
 
 /// The flat code of a program shows what the program means, under each plan, each heap and each
 /// input.
@@ -64,12 +71,13 @@ pub fn fits()
         IsTyped program → IsPlain program → (plan : Plan) → AreNone (hooks_of (flat_of program plan)) }
 {}
 
-/// Flat code weighs no more than the counted parts of its program allow, its globals take no more
-/// bytes than the program's, and each text stands in it twice as often as in the program at most: a
+/// Flat code weighs no more than the counted parts and pairs of its program allow, its globals take
+/// no more bytes than the program's, and each text stands in it twice as often as in the program at most: a
 /// `for` over a constant that is read where it stands looks it up at two places.
 pub fn sizes()
     ensures weight { (program : Program) (plan : Plan) →
-        code_weight flat_plain (flat_procs program plan) ≤ NODE_WEIGHT * program_parts program }
+        code_weight flat_plain (flat_procs program plan) ≤ NODE_WEIGHT * program_parts program
+        + PAIR_WEIGHT * program_pairs (modes_of program plan) program }
     ensures globals { (program : Program) (plan : Plan) → IsTyped program →
         is_numbered_program program ≡ true →
         globals_bytes (known_of program) (start_places (flat_procs program plan))
@@ -82,12 +90,15 @@ pub fn sizes()
 /// temporary are alike, so a label stands once, and a temporary is another name for one place.
 pub fn may_be_lowered()
     ensures alike { (table : List TypeDef) (program : Program) → program.facts ≡ facts_in table →
-        IsTyped program → IsPlain program → (plan : Plan) → AllAlike (flat_procs program plan) }
+        IsTyped program → (plan : Plan) → AllAlike (flat_procs program plan) }
     // Places and lines are plain, and few where the sums of its bodies are small.
     ensures plain { (table : List TypeDef) (program : Program) → program.facts ≡ facts_in table →
         IsTyped program → is_numbered_program program ≡ true → IsPlain program →
         (most : ℕ) → SumsWithin most program program.procs → (plan : Plan) →
         ArePlainProcs (known_of program) most (flat_procs program plan) }
+    // Each parameter has a value of its own.
+    ensures lent { (table : List TypeDef) (program : Program) → program.facts ≡ facts_in table →
+        IsTyped program → IsPlain program → (plan : Plan) → NoneLent (flat_procs program plan) }
 {}
 
 /// A loop that is left, over calls, is such a program, and its flat code counts.

@@ -1,20 +1,18 @@
 // Lines that are labels or lead to labels.
-ghost use Rattle.std.specs.Prelude.{ℕ, List, ◌∷◌, [], map};
-ghost use Rattle.nim_types.specs.Types.{Ty};
+ghost use Rattle.std.specs.Prelude.{ℕ, List};
+ghost use Rattle.nim_types.specs.Types.{Ty, Facts};
 ghost use Rattle.nim_program.specs.declared.program.Mode.{Mode};
 ghost use Rattle.flat_code.specs.declared.line.Line.TheVariants as line;
 ghost use Rattle.flattening.specs.Numbering.{label};
 ghost use Rattle.flattening.specs.Written.{IsPut, one};
-ghost use Rattle.flattening.specs.ExprLines.{arm_label, early_lines, label_tests};
-ghost use Rattle.nim_program.specs.View.{label_of};
+ghost use Rattle.flattening.specs.ExprLines.{arm_label, early_lines};
 ghost use Rattle.flattening.specs.declared.numbers.Purpose.TheVariants.{Arm, End, Next, Turn};
 
 use crate::numbers::Purpose;
 use crate::spans::label;
 use crate::written::Written;
-use arc_base::Items;
 use flat_code::Line;
-use nim_program::{Label, Short};
+use nim_program::Short;
 
 pub fn put_label(code: &mut Written<Line>, purpose: Purpose, t: u32)
     ensures { IsPut code.old code.new (one (line.Label (label purpose t))) }
@@ -103,8 +101,8 @@ pub fn put_arm_label(code: &mut Written<Line>, for_others: bool, t: u32, arm: u3
 
 /// What stands between the operands of an operator that stops early.
 pub fn put_early(code: &mut Written<Line>, short: Short, t: u32, left: u32)
-    ensures { (types : List Ty) (modes : (proc position : ℕ) → Mode) →
-        IsPut code.old code.new (early_lines types modes short t left) }
+    ensures { (types : List Ty) (facts : Facts) (modes : (proc position : ℕ) → Mode) →
+        IsPut code.old code.new (early_lines types facts modes short t left) }
 {
     match short {
         Short::And => {
@@ -120,38 +118,5 @@ pub fn put_early(code: &mut Written<Line>, short: Short, t: u32, left: u32)
             put_jump(code, Purpose::End, t);
             put_label(code, Purpose::Next, t)
         }
-    }
-}
-
-/// The tests of a branch's labels. A text has no line yet.
-pub fn put_label_tests(code: &mut Written<Line>, labels: &Items<Label>, selector: u32, arm: u32)
-    ensures { IsPut code.old code.new
-        (label_tests (map label_of labels.now) selector (label Arm arm)) }
-{
-    match label(Purpose::Arm, arm) {
-        None => code.lose(),
-        Some(to) => put_tests(code, labels.as_slice(), selector, to),
-    }
-}
-
-fn put_tests(code: &mut Written<Line>, labels: &[Label], selector: u32, to: u32)
-    ensures { IsPut code.old code.new (label_tests (map label_of labels.now) selector to) }
-{
-    for label in labels {
-        put_test(code, label, selector, to);
-    }
-}
-
-fn put_test(code: &mut Written<Line>, label: &Label, selector: u32, to: u32)
-    ensures { IsPut code.old code.new (label_tests (label_of label.now ∷ []) selector to) }
-{
-    match label {
-        Label::Ordinals { low, high } => code.put(Line::Fits {
-            from: selector,
-            low: *low,
-            high: *high,
-            to,
-        }),
-        Label::Text(_) => {}
     }
 }

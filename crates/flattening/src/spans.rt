@@ -7,7 +7,7 @@ ghost use Rattle.nim_program.specs.View.{stmt_before, stmts_of};
 ghost use Rattle.nim_program.specs.Program.{Label, ByLabels, NoArg, Empty};
 ghost use Rattle.nim_program.specs.Folds.{Choosing, Looping, numbers, capped, looked_type};
 ghost use Rattle.nim_program.specs.FoldParts.{seen_of, seen_at, seen_first, own_if};
-ghost use Rattle.flattening.specs.Numbering.{looked_count, part_width, own_width, width, width_at};
+ghost use Rattle.flattening.specs.Numbering.{looked_count, read_count, part_width, own_width, width, width_at};
 ghost use Rattle.flattening.specs.Numbering.{widths, width_of, selector_from, behind_selector, label};
 ghost use Rattle.flattening.specs.Views.{types_of, behind, is_defer};
 ghost use Rattle.flattening.specs.declared.spans.TheConstants.{MOST};
@@ -43,8 +43,8 @@ impl<'a> Count for Parts<'a> {
         expr_width(expr)
     }
 
-    fn of_path(&self, path: &Path, _read: bool) -> u32 {
-        path_width(path)
+    fn of_path(&self, path: &Path, read: bool) -> u32 {
+        path_width(path, read)
     }
 
     fn of_stmt(&self, stmt: &Stmt) -> u32 {
@@ -75,12 +75,20 @@ fn expr_width(expr: &Expr) -> u32
     }
 }
 
+// Of the value of a path that is read.
+fn read_count(read: bool) -> u32
+    ensures count { result ≡ read_count read }
+    ensures small { result ≤ 1 }
+{
+    if read { 1 } else { 0 }
+}
+
 // Of a step of a path.
-fn path_width(path: &Path) -> u32
-    ensures { (ts : List Ty) (read : Bool) → result ≡ capped MOST
+fn path_width(path: &Path, read: bool) -> u32
+    ensures { (ts : List Ty) → result ≡ capped MOST
         (own_width (seen_at read (path_of ts path.now))) }
 {
-    1
+    1 + read_count(read)
 }
 
 // Of a statement alone.
@@ -167,7 +175,7 @@ pub fn behind_value(around: &Around, t: u32, value: &Expr) -> Option<u32>
 pub fn behind_path(around: &Around, t: u32, path: &Path) -> Option<u32>
     ensures { IfSome result (λ u. u ≡ t + width_at (path_of (types_of around.now) path.now)) }
 {
-    behind(t, count_path(&Parts { around }, path, true))
+    behind(t, count_path(&Parts { around }, path, false))
 }
 
 /// Behind an operand.

@@ -1,37 +1,61 @@
-// The lines of statements without parts.
-ghost use Rattle.std.specs.Prelude.{List};
+// The lines of statements without parts, and of what is done with one value.
+ghost use Rattle.std.specs.Prelude.{◌≡◌, ◌&&◌, ◌∷◌, [], List, true};
 ghost use Rattle.nim_types.specs.Table.{type_at};
 ghost use Rattle.nim_types.specs.Types.{Ty};
-ghost use Rattle.nim_program.specs.Program.{Stmts};
-ghost use Rattle.nim_program.specs.View.{branch_labels, case_blocks};
+ghost use Rattle.nim_meaning.specs.Shapes.{is_covered, selector_type, is_empty};
+ghost use Rattle.nim_program.specs.Program.{Stmts, NoArg};
+ghost use Rattle.nim_program.specs.View.{branch_labels, case_blocks, declared_of, expr_of};
+ghost use Rattle.nim_program.specs.View.{operand_before, stmts_of};
+ghost use Rattle.flat_code.specs.declared.line.From.TheVariants as F;
 ghost use Rattle.flat_code.specs.declared.line.Line.TheVariants as L;
-ghost use Rattle.flattening.specs.Numbering.{type_number};
-ghost use Rattle.flattening.specs.StmtLines.{block_tests, leaving_by, result_line, back_lines, returned};
-ghost use Rattle.flattening.specs.Views.{types_of, result_of, jump_if, exits_of};
+ghost use Rattle.flat_code.specs.declared.line.Owning.TheVariants as W;
+ghost use Rattle.flattening.specs.declared.numbers.Purpose.TheVariants.{End};
+ghost use Rattle.flattening.specs.Numbering.{type_number, label};
+ghost use Rattle.flattening.specs.StmtLines.{block_tests, gets_line, give_lines, fill_lines, element_lines};
+ghost use Rattle.flattening.specs.Views.{types_of, facts_of, modes_of, result_of, own_lines};
 ghost use Rattle.flattening.specs.Written.{IsPut, one};
 
-use crate::around::{Around, Ways, type_number};
-use crate::marks::put_label_tests;
+use crate::acts::put_own_from;
+use crate::around::Around;
+use crate::expr_code::{add_copied, add_expr};
+use crate::known::{has_hooks, is_copied, is_hooked, type_number};
+use crate::labels::{covers, put_label_tests};
+use crate::marks::put_label;
+use crate::numbers::Purpose;
 use crate::spans::next;
+use crate::waits::put_ends;
 use crate::written::Written;
-use flat_code::Line;
-use nim_program::{CaseBranch, Leaving, PlaceDecl};
+use flat_code::{From, Line, Owning};
+use nim_program::{CaseBranch, Expr, Operand, PlaceDecl, Stmt, Use};
+use std::alloc::Global;
 
-/// Control goes back to the caller.
-pub fn put_return(code: &mut Written<Line>, around: &Around)
-    ensures { IsPut code.old code.new (returned (result_of around.now)) }
+// The place of the result gets a copy of what stands at a location.
+fn put_result_copy(alloc: Global, code: &mut Written<Line>, around: &Around, from: From)
+    ensures { IsPut code.old code.new (gets_line (types_of around.now) (facts_of around.now)
+        (modes_of around.now) (result_of around.now) (result_of around.now) true from) }
 {
-    let result = match around.result {
-        None => None,
-        Some(place) => Some(place.number),
-    };
-    code.put(Line::Return { result })
+    match around.result {
+        None => {}
+        Some(place) => put_own_from(
+            alloc,
+            code,
+            Owning::ResultGets {
+                place: place.number,
+                ty: type_number(around, place.ty),
+            },
+            from,
+        ),
+    }
 }
 
-/// The place of the result gets a value.
-pub fn put_result(code: &mut Written<Line>, around: &Around, from: u32)
-    ensures { IsPut code.old code.new (result_line (result_of around.now) from) }
+// The place of the result gets a value.
+fn put_result(alloc: Global, code: &mut Written<Line>, around: &Around, hooked: bool, from: u32)
+    ensures { IsPut code.old code.new (gets_line (types_of around.now) (facts_of around.now)
+        (modes_of around.now) (result_of around.now) (result_of around.now) hooked (F.Value from)) }
 {
+    if hooked {
+        return put_result_copy(alloc, code, around, From::Value(from));
+    }
     match around.result {
         None => {}
         Some(place) => code.put(Line::Give {
@@ -41,34 +65,21 @@ pub fn put_result(code: &mut Written<Line>, around: &Around, from: u32)
     }
 }
 
-/// Control goes back, where it does.
-pub fn put_back(code: &mut Written<Line>, around: &Around, ways: Ways, back: bool)
-    ensures { IsPut code.old code.new (back_lines (exits_of (result_of around.now) ways) back) }
+/// The result becomes a value, whose numbers begin with t.
+pub fn add_given(alloc: Global, code: &mut Written<Line>, around: &Around, value: &Expr, t: u32)
+    ensures { IsPut code.old code.new (give_lines (types_of around.now) (facts_of around.now)
+        (modes_of around.now) (result_of around.now)
+        (expr_of (types_of around.now) value.now) t) }
 {
-    if back {
-        put_return(code, around)
+    if !is_copied(around, Use::Given, value) {
+        add_expr(alloc, code, around, value, Use::Given, t);
+        return put_result(alloc, code, around, has_hooks(around, value), t);
     }
-}
-
-fn put_jump_if(code: &mut Written<Line>, to: Option<u32>)
-    ensures { IsPut code.old code.new (jump_if to) }
-{
-    match to {
-        None => {}
-        Some(to) => code.put(Line::Jump { to }),
-    }
-}
-
-/// Control leaves.
-pub fn put_leave(code: &mut Written<Line>, around: &Around, ways: Ways, leaving: Leaving)
-    ensures { IsPut code.old code.new
-        (leaving_by (exits_of (result_of around.now) ways) leaving) }
-{
-    match leaving {
-        Leaving::Break => put_jump_if(code, ways.breaks),
-        Leaving::Continue => put_jump_if(code, ways.continues),
-        Leaving::Return => put_return(code, around),
-    }
+    let Some(from) = next(t) else {
+        return code.lose();
+    };
+    add_copied(alloc, code, around, value, t);
+    put_result_copy(alloc, code, around, From::Place(from))
 }
 
 /// A place starts at what its type starts at.
@@ -82,18 +93,91 @@ pub fn put_blank(code: &mut Written<Line>, around: &Around, place: &PlaceDecl)
     })
 }
 
-/// A place gets its first value.
-pub fn put_fill(code: &mut Written<Line>, place: &PlaceDecl, from: u32)
-    ensures { IsPut code.old code.new (one (L.Fill place.now.number from)) }
+// A place is filled with a copy of what stands at a location.
+fn put_copy(alloc: Global, code: &mut Written<Line>, around: &Around, place: &PlaceDecl, from: u32)
+    ensures { IsPut code.old code.new (one (L.Own (W.PlaceCopies place.now.number
+        (type_number (types_of around.now) (type_at (types_of around.now) place.now.ty)))
+        (F.Place from ∷ []))) }
 {
+    let what = Owning::PlaceCopies {
+        place: place.number,
+        ty: type_number(around, place.ty),
+    };
+    put_own_from(alloc, code, what, From::Place(from))
+}
+
+/// A place is filled with a value, whose numbers begin with t.
+pub fn add_filled(
+    alloc: Global,
+    code: &mut Written<Line>,
+    around: &Around,
+    place: &PlaceDecl,
+    value: &Expr,
+    t: u32,
+)
+    ensures { IsPut code.old code.new (fill_lines (types_of around.now) (facts_of around.now)
+        (modes_of around.now) (result_of around.now)
+        (declared_of (types_of around.now) place.now)
+        (expr_of (types_of around.now) value.now) t) }
+{
+    if !is_copied(around, Use::Given, value) {
+        add_expr(alloc, code, around, value, Use::Given, t);
+        return code.put(Line::Fill {
+            place: place.number,
+            from: t,
+        });
+    }
+    let Some(from) = next(t) else {
+        return code.lose();
+    };
+    add_copied(alloc, code, around, value, t);
+    put_copy(alloc, code, around, place, from)
+}
+
+/// The place of a loop gets the element that has a number: a copy of it, or, where the head is a
+/// value of its own, the place stands for it.
+pub fn put_item(
+    alloc: Global,
+    code: &mut Written<Line>,
+    around: &Around,
+    borrows: bool,
+    place: &PlaceDecl,
+    t: u32,
+    head: u32,
+    counter: u32,
+)
+    ensures { IsPut code.old code.new (element_lines (types_of around.now) (facts_of around.now)
+        (modes_of around.now) (result_of around.now) borrows
+        (declared_of (types_of around.now) place.now) t head counter) }
+{
+    if is_hooked(around, place.ty) {
+        code.put(Line::Item {
+            to: t,
+            from: head,
+            index: counter,
+        });
+        if !borrows {
+            return put_copy(alloc, code, around, place, t);
+        }
+        let what = Owning::PlaceStands {
+            place: place.number,
+        };
+        return put_own_from(alloc, code, what, From::Place(t));
+    }
+    code.put(Line::Element {
+        to: t,
+        from: head,
+        index: counter,
+    });
     code.put(Line::Fill {
         place: place.number,
-        from,
+        from: t,
     })
 }
 
 /// The tests of the labels of all branches, whose numbers begin with `first`.
 pub fn put_block_tests(
+    alloc: Global,
     code: &mut Written<Line>,
     branches: &Vec<CaseBranch>,
     selector: u32,
@@ -108,7 +192,26 @@ pub fn put_block_tests(
         let Some(following) = next(arm) else {
             return code.lose();
         };
-        put_label_tests(code, &branch.labels, selector, arm);
+        put_label_tests(alloc, code, &branch.labels, selector, arm);
         arm = following;
     }
+}
+
+/// Whether the last block is for all else: labels cover the type, and no block follows.
+pub fn may_close(around: &Around, selector: &Operand, otherwise: &Vec<Stmt>) -> bool
+    ensures { result ≡ (is_covered (selector_type (operand_before (types_of around.now)
+        selector.now NoArg)) && is_empty (stmts_of (types_of around.now) otherwise.now.items)) }
+{
+    match otherwise.get(0) {
+        None => covers(around, selector),
+        Some(_) => false,
+    }
+}
+
+/// Behind the blocks of a `case`.
+pub fn put_case_end(alloc: Global, code: &mut Written<Line>, t: u32, ends: &[Owning])
+    ensures { IsPut code.old code.new (λ k. L.Label (label End t) ∷ own_lines ends.now k) }
+{
+    put_label(code, Purpose::End, t);
+    put_ends(alloc, code, ends)
 }

@@ -2,31 +2,33 @@
 ghost use Rattle.std.specs.Prelude.{◌≡◌, suc, List, IfSome};
 ghost use Rattle.nim_types.specs.Types.{Ty, int};
 ghost use Rattle.nim_program.specs.Program.{Empty, Stmts};
-ghost use Rattle.nim_program.specs.View.{stmt_before, stmts_of, operands_of, kind_of, if_value};
+ghost use Rattle.nim_program.specs.View.{declared_of, stmt_before, stmts_of, operands_of, kind_of, if_value};
 ghost use Rattle.nim_program.specs.View.{branch_conditions, branch_blocks, case_blocks};
-ghost use Rattle.flattening.specs.Places.{place, head_from, loop_places, value_places, block_places};
+ghost use Rattle.flattening.specs.Places.{place, head_from, element_kind, loop_places, value_places};
+ghost use Rattle.flattening.specs.Places.{block_places};
 ghost use Rattle.flattening.specs.Places.{branch_places, arm_places};
-ghost use Rattle.flattening.specs.Views.{types_of};
+ghost use Rattle.flattening.specs.Views.{types_of, facts_of, modes_of};
 ghost use Rattle.flattening.specs.PlaceViews.{places_of_first, places_of_loop};
 ghost use Rattle.flattening.specs.Written.{IsPut, GoesOnAt, one};
 ghost use Rattle.flattening.specs.PlaceViews.{in_front};
 
-use crate::around::{Around, int_number};
+use crate::around::{Around, Uses};
 use crate::expr_places::{list_expr, list_operand, list_operands};
+use crate::known::{int_number, is_hooked};
 use crate::spans::{
     behind, behind_block, behind_cases, behind_operands, behind_selector, behind_stmt,
     behind_value, is_defer, next, selector_from,
 };
-use crate::temporaries::{put_place, put_selector};
+use crate::temporaries::{kind_of_path, put_place, put_selector};
 use crate::written::Written;
 use flat_code::{FlatPlace, PlaceKind};
-use nim_program::{Branch, CaseBranch, Expr, Kind, Node, Operand, Stmt};
+use nim_program::{Branch, CaseBranch, Expr, Kind, Node, Operand, PlaceDecl, Stmt, Use};
 
 /// Adds the temporaries of a block, whose numbers begin with t. Behind a `defer` nothing has lines
 /// yet.
 #[cycle(block_places)]
 pub fn list_block(places: &mut Written<FlatPlace>, around: &Around, block: &Vec<Stmt>, t: u32)
-    ensures { IsPut places.old places.new (in_front (block_places (types_of around.now)
+    ensures { IsPut places.old places.new (in_front (block_places (types_of around.now) (facts_of around.now) (modes_of around.now)
         (stmts_of (types_of around.now) block.now.items) t)) }
 {
     let mut u = t;
@@ -45,7 +47,7 @@ pub fn list_block(places: &mut Written<FlatPlace>, around: &Around, block: &Vec<
 // The temporaries of a statement.
 #[cycle(block_places)]
 fn list_stmt(places: &mut Written<FlatPlace>, around: &Around, stmt: &Stmt, t: u32)
-    ensures { IsPut places.old places.new (in_front (places_of_first (types_of around.now)
+    ensures { IsPut places.old places.new (in_front (places_of_first (types_of around.now) (facts_of around.now) (modes_of around.now)
         (stmt_before (types_of around.now) stmt.now Empty) t)) }
 {
     let Some(u) = next(t) else {
@@ -93,7 +95,7 @@ fn list_stmt(places: &mut Written<FlatPlace>, around: &Around, stmt: &Stmt, t: u
             head,
             body,
         } => {
-            put_counters(places, around, *node, kind, t);
+            put_counters(places, around, *node, kind, head, t);
             list_loop(places, around, kind, body, head, t)
         }
         Stmt::Idle { .. }
@@ -106,7 +108,7 @@ fn list_stmt(places: &mut Written<FlatPlace>, around: &Around, stmt: &Stmt, t: u
 
 // The temporaries of a value, where there is one.
 fn list_if(places: &mut Written<FlatPlace>, around: &Around, value: &Option<Expr>, t: u32)
-    ensures { IsPut places.old places.new (in_front (value_places (types_of around.now)
+    ensures { IsPut places.old places.new (in_front (value_places (types_of around.now) (facts_of around.now) (modes_of around.now)
         (if_value (types_of around.now) value.now) t)) }
 {
     match value {
@@ -115,10 +117,36 @@ fn list_if(places: &mut Written<FlatPlace>, around: &Around, value: &Option<Expr
     }
 }
 
+// What kind of place holds the element of a turn: its value, or where it stands.
+fn element_kind(around: &Around, variable: &PlaceDecl, head: &Vec<Operand>) -> PlaceKind
+    ensures { result ≡ element_kind (types_of around.now) (facts_of around.now)
+        (modes_of around.now) (declared_of (types_of around.now) variable.now)
+        (operands_of (types_of around.now) head.now.items) }
+{
+    match head.get(0) {
+        Some(Operand::At(path)) => {
+            if is_hooked(around, variable.ty) {
+                kind_of_path(path)
+            } else {
+                PlaceKind::Temp
+            }
+        }
+        _ => PlaceKind::Temp,
+    }
+}
+
 // The element of a turn, its number, and how many there are.
-fn put_counters(places: &mut Written<FlatPlace>, around: &Around, node: Node, kind: &Kind, t: u32)
-    ensures { IsPut places.old places.new (in_front (loop_places (types_of around.now) node
-        (kind_of (types_of around.now) kind.now) t)) }
+fn put_counters(
+    places: &mut Written<FlatPlace>,
+    around: &Around,
+    node: Node,
+    kind: &Kind,
+    head: &Vec<Operand>,
+    t: u32,
+)
+    ensures { IsPut places.old places.new (in_front (loop_places (types_of around.now)
+        (facts_of around.now) (modes_of around.now) node (kind_of (types_of around.now) kind.now)
+        (operands_of (types_of around.now) head.now.items) t)) }
 {
     let Kind::Each { variable } = kind else {
         return;
@@ -129,7 +157,8 @@ fn put_counters(places: &mut Written<FlatPlace>, around: &Around, node: Node, ki
     let Some(length) = next(counter) else {
         return places.lose();
     };
-    put_place(places, around, t, node.at, PlaceKind::Temp, variable.ty);
+    let element = element_kind(around, variable, head);
+    put_place(places, around, t, node.at, element, variable.ty);
     put_counter(places, around, node, counter);
     put_counter(places, around, node, length)
 }
@@ -137,7 +166,7 @@ fn put_counters(places: &mut Written<FlatPlace>, around: &Around, node: Node, ki
 // A number that a loop keeps.
 fn put_counter(places: &mut Written<FlatPlace>, around: &Around, node: Node, t: u32)
     ensures { IsPut places.old places.new
-        (one (place (types_of around.now) t node.at PlaceKind.Counter int)) }
+        (one (place (types_of around.now) (facts_of around.now) (modes_of around.now) t node.at PlaceKind.Counter int)) }
 {
     places.put(FlatPlace {
         number: t,
@@ -169,7 +198,7 @@ fn list_loop(
     head: &Vec<Operand>,
     t: u32,
 )
-    ensures { IsPut places.old places.new (in_front (places_of_loop (types_of around.now)
+    ensures { IsPut places.old places.new (in_front (places_of_loop (types_of around.now) (facts_of around.now) (modes_of around.now)
         (kind_of (types_of around.now) kind.now)
         (operands_of (types_of around.now) head.now.items)
         (stmts_of (types_of around.now) body.now.items) t)) }
@@ -180,7 +209,7 @@ fn list_loop(
     let Some(v) = behind_operands(around, u, head) else {
         return places.lose();
     };
-    list_operands(places, around, head, u);
+    list_operands(places, around, head, Uses::All(Use::Owned), u);
     list_block(places, around, body, v)
 }
 
@@ -193,8 +222,8 @@ fn list_branches(
     t: u32,
 ) -> Option<u32>
     ensures { GoesOnAt result places.old places.new
-        (λ (last : Stmts) u. in_front (block_places (types_of around.now) last u))
-        (λ (last : Stmts). in_front (branch_places (types_of around.now)
+        (λ (last : Stmts) u. in_front (block_places (types_of around.now) (facts_of around.now) (modes_of around.now) last u))
+        (λ (last : Stmts). in_front (branch_places (types_of around.now) (facts_of around.now) (modes_of around.now)
         (branch_conditions (types_of around.now) branches.now.items)
         (branch_blocks (types_of around.now) branches.now.items last) t)) }
 {
@@ -224,8 +253,8 @@ fn list_arms(
     t: u32,
 ) -> Option<u32>
     ensures { GoesOnAt result places.old places.new
-        (λ (last : Stmts) u. in_front (block_places (types_of around.now) last u))
-        (λ (last : Stmts). in_front (arm_places (types_of around.now)
+        (λ (last : Stmts) u. in_front (block_places (types_of around.now) (facts_of around.now) (modes_of around.now) last u))
+        (λ (last : Stmts). in_front (arm_places (types_of around.now) (facts_of around.now) (modes_of around.now)
         (case_blocks (types_of around.now) branches.now.items last) t)) }
 {
     let mut u = t;

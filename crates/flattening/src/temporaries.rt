@@ -7,15 +7,16 @@ ghost use Rattle.nim_program.specs.Program.{NoArg};
 ghost use Rattle.nim_program.specs.View.{path_of, operand_before, if_type};
 ghost use Rattle.flattening.specs.Places.{kind_of_path, place, temporary, read_place, location};
 ghost use Rattle.flattening.specs.Places.{selector_place};
-ghost use Rattle.flattening.specs.Views.{types_of};
-ghost use Rattle.flattening.specs.PlaceViews.{in_front};
+ghost use Rattle.flattening.specs.Views.{types_of, facts_of, modes_of, act_of};
+ghost use Rattle.flattening.specs.PlaceViews.{in_front, lent_first};
 ghost use Rattle.flattening.specs.Written.{IsPut, one};
 
-use crate::around::{Around, type_number};
+use crate::around::{Around, Uses};
+use crate::known::{is_hooked, is_lent_at, type_number};
 use crate::written::Written;
 use arc_base::Place;
 use flat_code::{FlatPlace, PlaceKind};
-use nim_program::{Node, Operand, Path};
+use nim_program::{Node, Operand, Path, Use};
 use nim_types::TypeId;
 
 /// A place.
@@ -27,7 +28,7 @@ pub fn put_place(
     kind: PlaceKind,
     ty: TypeId,
 )
-    ensures { IsPut places.old places.new (one (place (types_of around.now) number at kind
+    ensures { IsPut places.old places.new (one (place (types_of around.now) (facts_of around.now) (modes_of around.now) number at kind
         (type_at (types_of around.now) ty))) }
 {
     places.put(FlatPlace {
@@ -35,7 +36,7 @@ pub fn put_place(
         at,
         kind,
         ty: type_number(around, ty),
-        hooked: false,
+        hooked: is_hooked(around, ty),
         resource: false,
         copies: true,
     })
@@ -50,7 +51,7 @@ pub fn put_temporary(
     kind: PlaceKind,
     t: u32,
 )
-    ensures { IsPut places.old places.new (in_front (temporary (types_of around.now) node
+    ensures { IsPut places.old places.new (in_front (temporary (types_of around.now) (facts_of around.now) (modes_of around.now) node
         (if_type (types_of around.now) ty) kind t)) }
 {
     match ty {
@@ -71,7 +72,8 @@ fn is_written(path: &Path) -> bool
     }
 }
 
-fn kind_of_path(path: &Path) -> PlaceKind
+/// What kind of place it is where a path leads.
+pub fn kind_of_path(path: &Path) -> PlaceKind
     ensures { (ts : List Ty) → result ≡ kind_of_path (path_of ts path.now) }
 {
     if is_written(path) {
@@ -83,7 +85,7 @@ fn kind_of_path(path: &Path) -> PlaceKind
 
 /// The value at a path that is read.
 pub fn put_read(places: &mut Written<FlatPlace>, around: &Around, path: &Path, t: u32)
-    ensures { IsPut places.old places.new (in_front (read_place (types_of around.now)
+    ensures { IsPut places.old places.new (in_front (read_place (types_of around.now) (facts_of around.now) (modes_of around.now)
         (path_of (types_of around.now) path.now) t)) }
 {
     put_temporary(places, around, path.node(), path.ty(), PlaceKind::Temp, t)
@@ -91,7 +93,7 @@ pub fn put_read(places: &mut Written<FlatPlace>, around: &Around, path: &Path, t
 
 /// Where a path leads.
 pub fn put_location(places: &mut Written<FlatPlace>, around: &Around, path: &Path, t: u32)
-    ensures { IsPut places.old places.new (in_front (location (types_of around.now)
+    ensures { IsPut places.old places.new (in_front (location (types_of around.now) (facts_of around.now) (modes_of around.now)
         (path_of (types_of around.now) path.now) t)) }
 {
     put_temporary(
@@ -106,11 +108,41 @@ pub fn put_location(places: &mut Written<FlatPlace>, around: &Around, path: &Pat
 
 /// The value of a selector that is read in place.
 pub fn put_selector(places: &mut Written<FlatPlace>, around: &Around, selector: &Operand, s: u32)
-    ensures { IsPut places.old places.new (in_front (selector_place (types_of around.now)
+    ensures { IsPut places.old places.new (in_front (selector_place (types_of around.now) (facts_of around.now) (modes_of around.now)
         (operand_before (types_of around.now) selector.now NoArg) s)) }
 {
     match selector {
         Operand::Value(_) => {}
         Operand::At(path) => put_read(places, around, path, s),
+    }
+}
+
+/// Where an operand is lent that is a value.
+pub fn put_lent(
+    places: &mut Written<FlatPlace>,
+    around: &Around,
+    uses: Uses,
+    how: Use,
+    operand: &Operand,
+    t: u32,
+)
+    ensures { IsPut places.old places.new (in_front (lent_first (types_of around.now)
+        (facts_of around.now) (modes_of around.now) (act_of uses) how
+        (operand_before (types_of around.now) operand.now NoArg) t)) }
+{
+    match operand {
+        Operand::Value(value) => {
+            if is_lent_at(around, uses, how, value) {
+                put_temporary(
+                    places,
+                    around,
+                    value.node(),
+                    value.ty(),
+                    PlaceKind::Within,
+                    t,
+                )
+            }
+        }
+        Operand::At(_) => {}
     }
 }

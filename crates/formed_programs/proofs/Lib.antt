@@ -2,9 +2,8 @@ mod Parts
 mod Plain
 mod Listed
 mod Seen
-mod Labels
 mod Exprs
 mod Stmts
-mod Unhooked
 mod Programs
 mod Tables
+mod Unhooked

@@ -14,15 +14,11 @@ use Rattle.nim_program.specs.Typed.{own_types, place_types, param_declared, body
 use Rattle.nim_program.specs.Typed.{is_typed_if}
 use Rattle.nim_program.specs.Typed.{hook_fits, is_typed_proc, are_typed_procs, is_typed_start, IsTyped, procedure}
 use Rattle.nim_program.specs.Typed.{is_empty}
-use Rattle.nim_meaning.specs.LeftOut.{left_out_in_head, left_out_in_block, left_out_in_body, left_out_in_proc, left_out_in_procs, first_of}
-use Rattle.nim_meaning.specs.LeftOut.{IsPlain}
-use Rattle.flattening.specs.Formed.{Ground, Scope, AtFirst, BodyFormed, ResultFormed, IsFormed, IsAmong, IsListed, ground_of, named_in, results}
+use Rattle.flattening.specs.Formed.{Ground, Scope, AtFirst, BodyFormed, ResultFormed, ParamsFormed, IsFormed, IsAmong, ground_of, named_in, results}
 use Rattle.formed_programs.proofs.Parts.{Each, apart}
-use Rattle.formed_programs.proofs.Plain.{neither, none_earlier, none_mapped}
-use Rattle.formed_programs.proofs.Listed.{all_listed}
+use Rattle.formed_programs.proofs.Listed.{IsKnown, all_known}
 use Rattle.formed_programs.proofs.Seen.{numbers, named_by, named_by_body, Sees}
 use Rattle.formed_programs.proofs.Stmts.{block_formed, code_formed}
-use Rattle.formed_programs.proofs.Unhooked.{unhooked_program}
 
 never : {A : Type 0} → false ≡ true → A
 never e = absurd (both_ways false refl e)
@@ -81,12 +77,26 @@ module _ (program : Program) where
       let s = (apart (λ d. Within body.first body.places d.number) (param_places params) (if_declared body.result ++ block_places body.stmts) r).1 in
       (apart (λ d. Within body.first body.places d.number) (if_declared body.result) (block_places body.stmts) s).1
 
-  listed_block : (params : List Param) (body : Body) → are_among_types program.types (body_types params body) ≡ true
-      → Each (IsListed program.types) (total_of lists own_types body.stmts)
-  listed_block params body h =
-      let q = apart (IsListed program.types) (place_types (param_declared params))
-      (place_types (if_declared body.result) ++ total_of lists own_types body.stmts) (all_listed program.types (body_types params body) h) in
-      (apart (IsListed program.types) (place_types (if_declared body.result)) (total_of lists own_types body.stmts) q.1).1
+  abbrev Known : List Ty → Type 0
+  Known tys = Each (IsKnown program.types program.facts) tys
+
+  -- of parameters, of the result, and of the statements
+  listed_parts : (params : List Param) (body : Body) → are_declared program.facts program.types ≡ true →
+      are_among_types program.types (body_types params body) ≡ true →
+      Known (place_types (param_declared params)) × Known (place_types (if_declared body.result)) × Known (total_of lists own_types body.stmts)
+  listed_parts params body d h =
+      let q = apart (IsKnown program.types program.facts) (place_types (param_declared params))
+      (place_types (if_declared body.result) ++ total_of lists own_types body.stmts) (all_known program.types program.facts d (body_types params body) h) in
+      let r = apart (IsKnown program.types program.facts) (place_types (if_declared body.result)) (total_of lists own_types body.stmts) q.1 in
+      (q.0, r.0, r.1)
+
+  -- places of the head are open
+  params_formed : (params : List Param) (more : List Declared) (Open : Scope)
+      → ((n : ℕ) → IsAmong n (numbers (map placed (param_declared params ++ more))) → Open false n)
+      → Known (place_types (param_declared params)) → ParamsFormed program.types Open params
+  params_formed [] more Open opened h = tt
+  params_formed (p ∷ params) more Open opened h =
+      ((opened p.place.number (inl refl), h.0.0), params_formed params more Open (λ n is. opened n (inr is)) h.1)
 
   head_open : (params : List Param) (body : Body) (n : ℕ) → is_numbered params body ≡ true
       → IsAmong n (numbers (map placed (param_declared params ++ if_declared body.result))) → n - body.first < length params + results body.result
@@ -98,62 +108,60 @@ module _ (program : Program) where
 
   result_open : (params : List Param) (result : Option Declared) (opened : ℕ → Type 0)
       → ((n : ℕ) → IsAmong n (numbers (map placed (param_declared params ++ if_declared result))) → opened n) → (named : ℕ → Type 0) → (Open : Scope)
-      → ((n : ℕ) → opened n → Open false n) → ResultFormed Open result
-  result_open params None opened all named Open to = tt
-  result_open params (Some d) opened all named Open to = to d.number (all d.number (last params))
+      → ((n : ℕ) → opened n → Open false n) → Known (place_types (if_declared result)) → ResultFormed program.types Open result
+  result_open params None opened all named Open to k = tt
+  result_open params (Some d) opened all named Open to k = (to d.number (all d.number (last params)), k.0.0)
     where
       last : (params : List Param) → IsAmong d.number (numbers (map placed (param_declared params ++ d ∷ [])))
       last [] = inl refl
       last (p ∷ params) = inr (last params)
 
-  body_formed : (n : ℕ) (dest : Option ℕ) (params : List Param) (gives : Option Ty) (body : Body)
+  body_formed : are_declared program.facts program.types ≡ true → (n : ℕ) (dest : Option ℕ) (params : List Param) (gives : Option Ty) (body : Body)
       → names n ≡ named_by_body globals (Some body) → is_typed_body program dest params gives body ≡ true → is_numbered params body ≡ true
-      → left_out_in_body program.facts params body ≡ None
-      → BodyFormed (around false body) (AtFirst (length params) (named_in names n) body) body
-  body_formed n dest params gives body named h k p =
+      → BodyFormed (around false body) (AtFirst (length params) (named_in names n) body) params body
+  body_formed d n dest params gives body named h k =
       let t = and_parts (are_among_types program.types (body_types params body) && _) _ h in
       let l = (and_parts (are_among_types program.types (body_types params body)) _ t.0).0 in
       let b = (and_parts (not (is_empty body.stmts)) _ t.1).1 in
+      let known = listed_parts params body d l in
       let Open : Scope = AtFirst (length params) (named_in names n) body in
       let sees : Sees globals Open (before program body.first) (map placed (param_declared params ++ if_declared body.result)) =
       record { local = λ m is. head_open params body m k is; global = λ m is. subst (λ all. IsAmong m all) (sym named) is } in (
-        result_open params body.result (λ m. Open false m) (λ m is. head_open params body m k is) (named_in names n) Open (λ m o. o),
+        result_open params body.result (λ m. Open false m) (λ m is. head_open params body m k is) (named_in names n) Open (λ m o. o) known.1,
+        params_formed params (if_declared body.result) Open (λ m is. head_open params body m k is) known.0,
         block_formed program.types program.facts program.procs globals false (λ place. place - body.first < body.places) (before program body.first) dest Open
             (map placed (param_declared params ++ if_declared body.result)) sees (procedure gives) body.stmts b
-            (neither (left_out_in_head program.facts (first_of body.stmts) (map (λ param. param.place) params ++ if_declared body.result))
-            (left_out_in_block program.facts body.stmts) p).1
-            (listed_block params body l) (roomy params body k),
+            known.2 (roomy params body k),
       )
 
   -- ---- procedures
 
-  is_body : (n : ℕ) (proc : Proc) (body : Body) → slice_get program.procs n ≡ Some proc → proc.body ≡ Some body → is_typed_proc program proc ≡ true
-      → is_numbered_if proc.params proc.body ≡ true → left_out_in_proc program.facts proc.params proc.body ≡ None
-      → BodyFormed (around false body) (AtFirst (length proc.params) (named_in names n) body) body
-  is_body n proc body is has h k p =
-      body_formed n (dest_of proc.hook proc.params) proc.params proc.gives body
+  is_body : are_declared program.facts program.types ≡ true → (n : ℕ) (proc : Proc) (body : Body) → slice_get program.procs n ≡ Some proc →
+      proc.body ≡ Some body → is_typed_proc program proc ≡ true
+      → is_numbered_if proc.params proc.body ≡ true
+      → BodyFormed (around false body) (AtFirst (length proc.params) (named_in names n) body) proc.params body
+  is_body d n proc body is has h k =
+      body_formed d n (dest_of proc.hook proc.params) proc.params proc.gives body
       (ap (named_by globals) is ∙ ap (named_by_body globals) has)
       (subst (λ b. is_typed_if program (dest_of proc.hook proc.params) proc.params proc.gives b ≡ true) has
       (and_parts (hook_fits program proc.hook proc.params proc.gives proc.body) _ h).1)
       (subst (λ b. is_numbered_if proc.params b ≡ true) has k)
-      (subst (λ b. left_out_in_proc program.facts proc.params b ≡ None) has p)
 
   at_proc : (procs : List Proc) (n : ℕ) (proc : Proc) → slice_get procs n ≡ Some proc → are_typed_procs program procs ≡ true → are_numbered procs ≡ true
-      → left_out_in_procs program.facts procs ≡ None
-      → (is_typed_proc program proc ≡ true) × (is_numbered_if proc.params proc.body ≡ true) × (left_out_in_proc program.facts proc.params proc.body ≡ None)
-  at_proc [] n proc is h k p = absurd (there proc is)
+      → (is_typed_proc program proc ≡ true) × (is_numbered_if proc.params proc.body ≡ true)
+  at_proc [] n proc is h k = absurd (there proc is)
     where
       there : (proc : Proc) → None ≡ Some proc → ⊥
       there proc e = cc
-  at_proc (q ∷ procs) zero proc is h k p =
-      subst (λ q. (is_typed_proc program q ≡ true) × (is_numbered_if q.params q.body ≡ true) × (left_out_in_proc program.facts q.params q.body ≡ None))
+  at_proc (q ∷ procs) zero proc is h k =
+      subst (λ q. (is_typed_proc program q ≡ true) × (is_numbered_if q.params q.body ≡ true))
       (the_same q proc is)
-      ((and_parts (is_typed_proc program q) _ h).0, (and_parts (is_numbered_if q.params q.body) _ k).0, (none_earlier _ _ p).0)
+      ((and_parts (is_typed_proc program q) _ h).0, (and_parts (is_numbered_if q.params q.body) _ k).0)
     where
       the_same : (q proc : Proc) → Some q ≡ Some proc → q ≡ proc
       the_same q proc e = cc
-  at_proc (q ∷ procs) (suc n) proc is h k p =
-      at_proc procs n proc is (and_parts (is_typed_proc program q) _ h).1 (and_parts (is_numbered_if q.params q.body) _ k).1 (none_earlier _ _ p).1
+  at_proc (q ∷ procs) (suc n) proc is h k =
+      at_proc procs n proc is (and_parts (is_typed_proc program q) _ h).1 (and_parts (is_numbered_if q.params q.body) _ k).1
 
   -- ---- the start code
 
@@ -165,7 +173,7 @@ module _ (program : Program) where
   nowhere n None e is = is
   nowhere n (Some d) e is = cc
 
-  start_result : (result : Option Declared) → result ≡ None → (Open : Scope) → ResultFormed Open result
+  start_result : (result : Option Declared) → result ≡ None → (Open : Scope) → ResultFormed program.types Open result
   start_result None e Open = tt
   start_result (Some d) e Open = absurd (there d e)
     where
@@ -176,10 +184,9 @@ module _ (program : Program) where
   none_taken [] n is = is
   none_taken (p ∷ ps) n is = is
 
-  start_formed : is_typed_start program program.start ≡ true → is_numbered [] program.start ≡ true
-      → left_out_in_body program.facts [] program.start ≡ None
-      → BodyFormed (around true program.start) (AtFirst 0 (λ place. ⊥) program.start) program.start
-  start_formed h k p =
+  start_formed : are_declared program.facts program.types ≡ true → is_typed_start program program.start ≡ true → is_numbered [] program.start ≡ true
+      → BodyFormed (around true program.start) (AtFirst 0 (λ place. ⊥) program.start) [] program.start
+  start_formed d h k =
       let body = program.start in
       let t = and_parts (are_among_types program.types (body_types [] body) && _) _ h in
       let l = and_parts (are_among_types program.types (body_types [] body)) _ t.0 in
@@ -188,23 +195,21 @@ module _ (program : Program) where
       let sees : Sees globals Open 0 (map placed (if_declared body.result)) =
       record { local = λ m is. absurd (nowhere m body.result e is); global = λ m is. none_taken globals m is } in (
         start_result body.result e Open,
+        tt,
         code_formed program.types program.facts program.procs globals true (λ place. place - body.first < body.places) refl Open 0
             (map placed (if_declared body.result)) None sees body.stmts t.1
-            (neither (left_out_in_head program.facts (first_of body.stmts) (if_declared body.result)) (left_out_in_block program.facts body.stmts) p).1
-            (listed_block [] body l.0) (roomy [] body k),
+            (listed_parts [] body d l.0).2 (roomy [] body k),
       )
 
-  pub programs_formed : IsTyped program → is_numbered_program program ≡ true → IsPlain program → IsFormed program
-  programs_formed typed numbered plain =
-      let t = and_parts (are_typed_procs program program.procs) (is_typed_start program program.start)
-      (and_parts (are_declared program.facts program.types) _ typed.typed).1 in
+  pub programs_formed : IsTyped program → is_numbered_program program ≡ true → IsFormed program
+  programs_formed typed numbered =
+      let a = and_parts (are_declared program.facts program.types) _ typed.typed in
+      let t = and_parts (are_typed_procs program program.procs) (is_typed_start program program.start) a.1 in
       let k = and_parts (are_numbered program.procs) (is_numbered [] program.start) numbered in
-      let p = none_earlier (left_out_in_procs program.facts program.procs) (left_out_in_body program.facts [] program.start) (none_mapped _ plain) in
       let l = and_parts (are_among_types program.types (body_types [] program.start)) _ (and_parts _ _ t.1).0 in
       record {
         names = names;
-        procs = λ n proc body is has. let a = at_proc program.procs n proc is t.0 k.0 p.0 in is_body n proc body is has a.0 a.1 a.2;
-        start = start_formed t.1 k.1 p.1;
+        procs = λ n proc body is has. let q = at_proc program.procs n proc is t.0 k.0 in is_body a.0 n proc body is has q.0 q.1;
+        start = start_formed a.0 t.1 k.1;
         gives = no_result program.start.result l.1;
-        no_hooks = unhooked_program program typed plain;
       }

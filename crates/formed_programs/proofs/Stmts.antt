@@ -3,30 +3,26 @@ use Rattle.std.proofs.Common.{◌≡◌, ℕ, suc, Bool, true, false, List, [], 
 use Rattle.std.specs.Prelude.{not, nat_eq, ◌&&◌, slice_get}
 use Rattle.std.proofs.lemmas.Bool.{both_ways, and_parts, eqb-true}
 use Rattle.nim_types.specs.Types.{Ty, Facts, same}
-use Rattle.nim_program.specs.declared.expr.Node.{Node}
 use Rattle.nim_program.specs.declared.stmt.Leaving.{Leaving}
 use Rattle.nim_program.specs.declared.stmt.Leaving.TheVariants.{Break, Continue, Return}
 use Rattle.nim_program.specs.Program as P
 use Rattle.nim_program.specs.Program.{Chooser, ByConditions, ByLabels, Args, NoArg, ByValue, ByPath, Declared, Kind, While, Count, Each as EachKind}
-use Rattle.nim_program.specs.Program.{Stmt, Stmts, Blocks, Proc, types_in}
+use Rattle.nim_program.specs.Program.{Stmt, Stmts, Blocks, Proc, type_of, type_at}
 use Rattle.nim_program.specs.Folds.{lists, total, total_at, totals, each, total_in, total_of, each_block, own_places, loop_places}
 use Rattle.nim_program.specs.Scopes.{Placed, placed, Here}
+use Rattle.nim_program.specs.Fitting.{are_labels}
 use Rattle.nim_program.specs.Typed.{own_types, place_types, are_typed, Around, module_code, looping, may_leave, is_empty}
-use Rattle.nim_program.specs.Typed.{chooses, head_fits, with_places, starts, is_typed_stmt, is_typed_block, are_typed_blocks, is_next, is_typed_code}
-use Rattle.nim_meaning.specs.Here.{is_hooked}
-use Rattle.nim_meaning.specs.LeftOut.{out_if, left_out_in_args, left_out_in_stmt, left_out_in_block, left_out_in_blocks, first_hooked}
-use Rattle.flattening.specs.Formed.{Ground, Scope, With, InLoop, HasRoom, HeadFits, HasSelector, MayLeave, StmtFormed, BlockFormed, BlocksFormed, IsListed}
+use Rattle.nim_program.specs.Typed.{is_selector, selector_kind, chooses, head_fits, with_places, starts, is_typed_stmt, is_typed_block, are_typed_blocks}
+use Rattle.nim_program.specs.Typed.{is_next, is_typed_code}
+use Rattle.nim_meaning.specs.Here.{gives_hooked}
+use Rattle.flattening.specs.Formed.{LabelsFit, Ground, Scope, With, InLoop, HasRoom, HeadFits, HasSelector, MayLeave, StmtFormed, BlockFormed, BlocksFormed}
 use Rattle.formed_programs.proofs.Parts.{Each, EachIn, apart, both, taking_turns}
-use Rattle.formed_programs.proofs.Plain.{kept, neither, none_earlier}
-use Rattle.formed_programs.proofs.Labels.{stmt_ordinals}
+use Rattle.formed_programs.proofs.Listed.{IsKnown, labels_are, no_labels}
 use Rattle.formed_programs.proofs.Seen.{Sees, sees_place, sees_global}
-use Rattle.formed_programs.proofs.Exprs.{ground, seen, formed, all_formed}
+use Rattle.formed_programs.proofs.Exprs.{ground, seen, selector_known, formed, all_formed}
 
 never : {A : Type 0} → false ≡ true → A
 never e = absurd (both_ways false refl e)
-
-left : {A : Type 0} {node : Node} → Some node ≡ None → A
-left e = cc
 
 has_selector : (facts : Facts) (chooser : Chooser) (tests : Args) (blocks : Blocks) → chooses facts chooser tests blocks ≡ true → HasSelector chooser tests
 has_selector facts ByConditions tests blocks h = tt
@@ -52,14 +48,17 @@ head facts (EachKind place) NoArg h = never h
 head facts (EachKind place) (ByValue value rest) h = never h
 head facts (EachKind place) (ByPath path rest) h = tt
 
-of_each : (types : List Ty) (tests : Args) → EachIn (IsListed types) (each lists own_types tests) → Each (IsListed types) (totals lists own_types tests)
-of_each types NoArg h = tt
-of_each types (ByValue value rest) h = both (IsListed types) (total lists own_types value) (totals lists own_types rest) h.0 (of_each types rest h.1)
-of_each types (ByPath path rest) h = both (IsListed types) (total_at lists own_types false path) (totals lists own_types rest) h.0 (of_each types rest h.1)
+of_each : (types : List Ty) (facts : Facts) (tests : Args) → EachIn (IsKnown types facts) (each lists own_types tests) →
+    Each (IsKnown types facts) (totals lists own_types tests)
+of_each types facts NoArg h = tt
+of_each types facts (ByValue value rest) h =
+    both (IsKnown types facts) (total lists own_types value) (totals lists own_types rest) h.0 (of_each types facts rest h.1)
+of_each types facts (ByPath path rest) h =
+    both (IsKnown types facts) (total_at lists own_types false path) (totals lists own_types rest) h.0 (of_each types facts rest h.1)
 
 module _ (types : List Ty) (facts : Facts) (procs : List Proc) (globals : List Placed) (top : Bool) (room : ℕ → Type 0) where
   abbrev Listed : List Ty → Type 0
-  Listed tys = Each (IsListed types) tys
+  Listed tys = Each (IsKnown types facts) tys
 
   -- the places have room in the frame
   abbrev pub Roomy : List Declared → Type 0
@@ -68,10 +67,31 @@ module _ (types : List Ty) (facts : Facts) (procs : List Proc) (globals : List P
   abbrev g : Ground
   g = ground types facts procs globals top room
 
-  has_room : (kind : Kind) (rest : List Declared) → Roomy (loop_places kind ++ rest) → HasRoom g kind × Roomy rest
-  has_room While rest h = (tt, h)
-  has_room (Count place inclusive) rest h = h
-  has_room (EachKind place) rest h = h
+  has_room : (kind : Kind) (rest : List Declared) → Roomy (loop_places kind ++ rest) → Roomy (loop_places kind) × Roomy rest
+  has_room kind rest h = apart (λ d. room d.number) (loop_places kind) rest h
+
+  listed_room : (kind : Kind) → Listed (place_types (loop_places kind) ++ []) → Roomy (loop_places kind) → HasRoom g kind
+  listed_room While l r = tt
+  listed_room (Count place inclusive) l r = (l.0.0, r.0)
+  listed_room (EachKind place) l r = (l.0.0, r.0)
+
+  -- the labels of blocks
+  block_labels : (chooser : Chooser) (tests : Args) (blocks : Blocks) → chooses facts chooser tests blocks ≡ true → Listed (totals lists own_types tests) →
+      LabelsFit facts chooser tests
+  block_labels ByConditions tests blocks h l = tt
+  block_labels (ByLabels labels) tests blocks h l = by_kind tests (and_parts _ _ (and_parts _ _ (and_parts _ _ (and_parts (is_selector tests) _ h).1).0).0).1 l
+    where
+      by_kind : (tests : Args) → are_labels (selector_kind facts tests) labels ≡ true → Listed (totals lists own_types tests) →
+          LabelsFit facts (ByLabels labels) tests
+      by_kind NoArg h l = no_labels false labels h
+      by_kind (ByValue value NoArg) h l =
+          labels_are types facts (type_of value) (selector_known types facts procs globals top room (ByValue value NoArg) l) labels h
+      by_kind (ByPath path NoArg) h l =
+          labels_are types facts (type_at path) (selector_known types facts procs globals top room (ByPath path NoArg) l) labels h
+      by_kind (ByValue value (ByValue v rest)) h l = no_labels (gives_hooked facts (type_of value)) labels h
+      by_kind (ByValue value (ByPath p rest)) h l = no_labels (gives_hooked facts (type_of value)) labels h
+      by_kind (ByPath path (ByValue v rest)) h l = no_labels (gives_hooked facts (type_at path)) labels h
+      by_kind (ByPath path (ByPath p rest)) h l = no_labels (gives_hooked facts (type_at path)) labels h
 
   -- what is open in a loop
   in_loop : (Open : Scope) (filled : ℕ) (places : List Placed) (dest : Option ℕ) (kind : Kind) → Sees globals Open filled places
@@ -87,86 +107,79 @@ module _ (types : List Ty) (facts : Facts) (procs : List Proc) (globals : List P
 
     mutual
       pub stmt_formed : (Open : Scope) (places : List Placed) → Sees globals Open filled places → (around : Around) (s : Stmt)
-          → is_typed_stmt (here places) around s ≡ true → left_out_in_stmt facts s ≡ None → Listed (total_in lists own_types s)
+          → is_typed_stmt (here places) around s ≡ true → Listed (total_in lists own_types s)
           → Roomy (total_in lists own_places s) → StmtFormed g around.in_loop Open s
-      stmt_formed Open places sees around (P.Do value) h p l r =
-          formed types facts procs globals top room filled places dest Open sees value (and_parts _ _ h).1 p l
-      stmt_formed Open places sees around (P.Idle node parts) h p l r = tt
-      stmt_formed Open places sees around (P.Give node back value) h p l r =
-          formed types facts procs globals top room filled places dest Open sees value (and_parts _ _ h).1 p l
-      stmt_formed Open places sees around (P.Leave node leaving parts) h p l r = leaves around leaving (and_parts _ _ h).0
-      stmt_formed Open places sees around (P.Select node chooser tests blocks) h p l r =
+      stmt_formed Open places sees around (P.Do value) h l r =
+          formed types facts procs globals top room filled places dest Open sees value (and_parts _ _ h).1 l
+      stmt_formed Open places sees around (P.Idle node parts) h l r = tt
+      stmt_formed Open places sees around (P.Give node back value) h l r =
+          formed types facts procs globals top room filled places dest Open sees value (and_parts _ _ h).1 l
+      stmt_formed Open places sees around (P.Leave node leaving parts) h l r = leaves around leaving (and_parts _ _ h).0
+      stmt_formed Open places sees around (P.Select node chooser tests blocks) h l r =
           let t = and_parts (chooses facts chooser tests blocks && are_typed (here places) tests) (are_typed_blocks (here places) around blocks) h in
           let u = and_parts (chooses facts chooser tests blocks) (are_typed (here places) tests) t.0 in
-          let o = neither (out_if (first_hooked facts (types_in tests)) node) _ p in
-          let q = none_earlier (left_out_in_args facts false tests) (left_out_in_blocks facts blocks) o.1 in
-          let k = taking_turns (IsListed types) (each lists own_types tests) (each_block lists own_types blocks) l in
+          let k = taking_turns (IsKnown types facts) (each lists own_types tests) (each_block lists own_types blocks) l in
           let m = taking_turns (λ d. room d.number) (each lists own_places tests) (each_block lists own_places blocks) r in (
             has_selector facts chooser tests blocks u.0,
-            stmt_ordinals facts chooser tests blocks u.0 (kept _ node o.0),
-            all_formed types facts procs globals top room filled places dest Open sees false tests u.1 q.0 (of_each types tests k.0),
-            blocks_formed Open places sees around blocks t.1 q.1 k.1 m.1,
+            block_labels chooser tests blocks u.0 (of_each types facts tests k.0),
+            all_formed types facts procs globals top room filled places dest Open sees tests u.1 (of_each types facts tests k.0),
+            blocks_formed Open places sees around blocks t.1 k.1 m.1,
           )
-      stmt_formed Open places sees around (P.Loop node kind operands body) h p l r =
+      stmt_formed Open places sees around (P.Loop node kind operands body) h l r =
           let t = and_parts (head_fits facts kind operands && are_typed (here places) operands) _ h in
           let u = and_parts (head_fits facts kind operands) (are_typed (here places) operands) t.0 in
-          let q = neither (left_out_in_args facts false operands) (left_out_in_block facts body) (neither (out_if _ node) _ p).1 in
-          let k = apart (IsListed types) (place_types (loop_places kind) ++ []) _ l in
-          let j = apart (IsListed types) (totals lists own_types operands) (total_of lists own_types body) k.1 in
+          let k = apart (IsKnown types facts) (place_types (loop_places kind) ++ []) _ l in
+          let j = apart (IsKnown types facts) (totals lists own_types operands) (total_of lists own_types body) k.1 in
           let m = has_room kind _ r in
           let n = apart (λ d. room d.number) (totals lists own_places operands) (total_of lists own_places body) m.1 in
           let w = in_loop Open filled places dest kind sees in (
             head facts kind operands u.0,
-            all_formed types facts procs globals top room filled places dest Open sees false operands u.1 q.0 j.0,
-            m.0,
+            all_formed types facts procs globals top room filled places dest Open sees operands u.1 j.0,
+            listed_room kind k.0 m.0,
             block_formed (InLoop g Open kind) w.0 w.2 (looping around) body
-                (subst (λ around_here. is_typed_block around_here (looping around) body ≡ true) w.1 (and_parts (not (is_empty body)) _ t.1).1) q.1 j.1 n.1,
+                (subst (λ around_here. is_typed_block around_here (looping around) body ≡ true) w.1 (and_parts (not (is_empty body)) _ t.1).1) j.1 n.1,
           )
-      stmt_formed Open places sees around (P.Raise node exception message) h p l r = tt
-      stmt_formed Open places sees around (P.Try node body handlers last) h p l r = tt
+      stmt_formed Open places sees around (P.Raise node exception message) h l r = tt
+      stmt_formed Open places sees around (P.Try node body handlers last) h l r = tt
 
       pub block_formed : (Open : Scope) (places : List Placed) → Sees globals Open filled places → (around : Around) (block : Stmts)
-          → is_typed_block (here places) around block ≡ true → left_out_in_block facts block ≡ None → Listed (total_of lists own_types block)
+          → is_typed_block (here places) around block ≡ true → Listed (total_of lists own_types block)
           → Roomy (total_of lists own_places block) → BlockFormed g around.in_loop Open block
-      block_formed Open places sees around P.Empty h p l r = tt
-      block_formed Open places sees around (P.Then first rest) h p l r =
+      block_formed Open places sees around P.Empty h l r = tt
+      block_formed Open places sees around (P.Then first rest) h l r =
           let t = and_parts (is_typed_stmt (here places) around first) (is_typed_block (here places) around rest) h in
-          let q = neither (left_out_in_stmt facts first) (left_out_in_block facts rest) p in
-          let k = apart (IsListed types) (total_in lists own_types first) (total_of lists own_types rest) l in
+          let k = apart (IsKnown types facts) (total_in lists own_types first) (total_of lists own_types rest) l in
           let m = apart (λ d. room d.number) (total_in lists own_places first) (total_of lists own_places rest) r in
-          (stmt_formed Open places sees around first t.0 q.0 k.0 m.0, block_formed Open places sees around rest t.1 q.1 k.1 m.1)
-      block_formed Open places sees around (P.Declare node place cursor NoArg rest) h p l r =
-          let q = (neither (out_if (is_hooked facts place.of) node) _ p).1 in (
-            l.0,
-            r.0,
-            block_formed (With g Open place.number) (places ++ placed place ∷ []) (sees_place globals g Open filled places place sees) around rest
-                (and_parts _ _ h).1 q l.1 r.1,
-          )
-      block_formed Open places sees around (P.Declare node place cursor (ByValue value more) rest) h p l r =
+          (stmt_formed Open places sees around first t.0 k.0 m.0, block_formed Open places sees around rest t.1 k.1 m.1)
+      block_formed Open places sees around (P.Declare node place cursor NoArg rest) h l r = (
+        l.0.0,
+        r.0,
+        block_formed (With g Open place.number) (places ++ placed place ∷ []) (sees_place globals g Open filled places place sees) around rest
+            (and_parts _ _ h).1 l.1 r.1,
+      )
+      block_formed Open places sees around (P.Declare node place cursor (ByValue value more) rest) h l r =
           let t = and_parts (starts facts place.of (ByValue value more) && are_typed (here places) (ByValue value more)) _ h in
-          let q = neither (left_out_in_args facts false (ByValue value more)) (left_out_in_block facts rest)
-          (neither (out_if (is_hooked facts place.of) node) _ p).1 in
-          let k = apart (IsListed types) (totals lists own_types (ByValue value more)) (total_of lists own_types rest) l.1 in
+          let k = apart (IsKnown types facts) (totals lists own_types (ByValue value more)) (total_of lists own_types rest) l.1 in
           let m = apart (λ d. room d.number) (totals lists own_places (ByValue value more)) (total_of lists own_places rest) r.1 in
-          let f = all_formed types facts procs globals top room filled places dest Open sees false (ByValue value more) (and_parts _ _ t.0).1 q.0 k.0 in (
+          let f = all_formed types facts procs globals top room filled places dest Open sees (ByValue value more) (and_parts _ _ t.0).1 k.0 in (
             f.0,
+            l.0.0,
             r.0,
-            block_formed (With g Open place.number) (places ++ placed place ∷ []) (sees_place globals g Open filled places place sees) around rest t.1 q.1 k.1
+            block_formed (With g Open place.number) (places ++ placed place ∷ []) (sees_place globals g Open filled places place sees) around rest t.1 k.1
                 m.1,
           )
-      block_formed Open places sees around (P.Declare node place cursor (ByPath path more) rest) h p l r = tt
-      block_formed Open places sees around (P.Defer node last rest) h p l r = tt
+      block_formed Open places sees around (P.Declare node place cursor (ByPath path more) rest) h l r = tt
+      block_formed Open places sees around (P.Defer node last rest) h l r = tt
 
       blocks_formed : (Open : Scope) (places : List Placed) → Sees globals Open filled places → (around : Around) (blocks : Blocks)
-          → are_typed_blocks (here places) around blocks ≡ true → left_out_in_blocks facts blocks ≡ None
-          → EachIn (IsListed types) (each_block lists own_types blocks)
+          → are_typed_blocks (here places) around blocks ≡ true
+          → EachIn (IsKnown types facts) (each_block lists own_types blocks)
           → EachIn (λ d. room d.number) (each_block lists own_places blocks) → BlocksFormed g around.in_loop Open blocks
-      blocks_formed Open places sees around (P.Otherwise block) h p l r = block_formed Open places sees around block h p l.0 r.0
-      blocks_formed Open places sees around (P.Block first rest) h p l r =
-          let t = and_parts (not (is_empty first) && is_typed_block (here places) around first) (are_typed_blocks (here places) around rest) h in
-          let q = neither (left_out_in_block facts first) (left_out_in_blocks facts rest) p in (
-            block_formed Open places sees around first (and_parts _ _ t.0).1 q.0 l.0 r.0,
-            blocks_formed Open places sees around rest t.1 q.1 l.1 r.1,
+      blocks_formed Open places sees around (P.Otherwise block) h l r = block_formed Open places sees around block h l.0 r.0
+      blocks_formed Open places sees around (P.Block first rest) h l r =
+          let t = and_parts (not (is_empty first) && is_typed_block (here places) around first) (are_typed_blocks (here places) around rest) h in (
+            block_formed Open places sees around first (and_parts _ _ t.0).1 l.0 r.0,
+            blocks_formed Open places sees around rest t.1 l.1 r.1,
           )
 
   -- ---- the code of modules
@@ -176,38 +189,36 @@ module _ (types : List Ty) (facts : Facts) (procs : List Proc) (globals : List P
   next_global (Some p) d h = (p, refl, eqb-true p.number d.number (and_parts (nat_eq p.number d.number) (same p.of d.of) h).0)
 
   pub code_formed : top ≡ true → (Open : Scope) (filled : ℕ) (places : List Placed) (dest : Option ℕ) → Sees globals Open filled places → (code : Stmts)
-      → is_typed_code (seen types facts procs globals top room filled places dest) code ≡ true → left_out_in_block facts code ≡ None
+      → is_typed_code (seen types facts procs globals top room filled places dest) code ≡ true
       → Listed (total_of lists own_types code) → Roomy (total_of lists own_places code) → BlockFormed g false Open code
-  code_formed is Open filled places dest sees P.Empty h p l r = tt
-  code_formed is Open filled places dest sees (P.Then first rest) h p l r =
+  code_formed is Open filled places dest sees P.Empty h l r = tt
+  code_formed is Open filled places dest sees (P.Then first rest) h l r =
       let t = and_parts (is_typed_stmt (seen types facts procs globals top room filled places dest) module_code first) _ h in
-      let q = neither (left_out_in_stmt facts first) (left_out_in_block facts rest) p in
-      let k = apart (IsListed types) (total_in lists own_types first) (total_of lists own_types rest) l in
+      let k = apart (IsKnown types facts) (total_in lists own_types first) (total_of lists own_types rest) l in
       let m = apart (λ d. room d.number) (total_in lists own_places first) (total_of lists own_places rest) r in (
-        stmt_formed filled dest Open places sees module_code first t.0 q.0 k.0 m.0,
-        code_formed is Open filled places dest sees rest t.1 q.1 k.1 m.1,
+        stmt_formed filled dest Open places sees module_code first t.0 k.0 m.0,
+        code_formed is Open filled places dest sees rest t.1 k.1 m.1,
       )
-  code_formed is Open filled places dest sees (P.Declare node place cursor NoArg rest) h p l r =
+  code_formed is Open filled places dest sees (P.Declare node place cursor NoArg rest) h l r =
       let t = and_parts (is_next (slice_get globals filled) (placed place) && _) _ h in
       let n = next_global (slice_get globals filled) (placed place) (and_parts _ _ t.0).0 in (
-        l.0,
+        l.0.0,
         r.0,
         code_formed is (With g Open place.number) (suc filled) places dest (sees_global globals g Open filled places place n.0 is n.1 n.2 sees) rest t.1
-            (neither (out_if (is_hooked facts place.of) node) _ p).1 l.1 r.1,
+            l.1 r.1,
       )
-  code_formed is Open filled places dest sees (P.Declare node place cursor (ByValue value more) rest) h p l r =
+  code_formed is Open filled places dest sees (P.Declare node place cursor (ByValue value more) rest) h l r =
       let t = and_parts (is_next (slice_get globals filled) (placed place) && _) _ h in
       let u = and_parts (is_next (slice_get globals filled) (placed place)) _ t.0 in
       let n = next_global (slice_get globals filled) (placed place) u.0 in
-      let q = neither (left_out_in_args facts false (ByValue value more)) (left_out_in_block facts rest)
-      (neither (out_if (is_hooked facts place.of) node) _ p).1 in
-      let k = apart (IsListed types) (totals lists own_types (ByValue value more)) (total_of lists own_types rest) l.1 in
+      let k = apart (IsKnown types facts) (totals lists own_types (ByValue value more)) (total_of lists own_types rest) l.1 in
       let m = apart (λ d. room d.number) (totals lists own_places (ByValue value more)) (total_of lists own_places rest) r.1 in
-      let f = all_formed types facts procs globals top room filled places dest Open sees false (ByValue value more) (and_parts _ _ u.1).1 q.0 k.0 in (
+      let f = all_formed types facts procs globals top room filled places dest Open sees (ByValue value more) (and_parts _ _ u.1).1 k.0 in (
         f.0,
+        l.0.0,
         r.0,
         code_formed is (With g Open place.number) (suc filled) places dest (sees_global globals g Open filled places place n.0 is n.1 n.2 sees) rest t.1
-            q.1 k.1 m.1,
+            k.1 m.1,
       )
-  code_formed is Open filled places dest sees (P.Declare node place cursor (ByPath path more) rest) h p l r = tt
-  code_formed is Open filled places dest sees (P.Defer node last rest) h p l r = never h
+  code_formed is Open filled places dest sees (P.Declare node place cursor (ByPath path more) rest) h l r = tt
+  code_formed is Open filled places dest sees (P.Defer node last rest) h l r = never h

@@ -210,8 +210,7 @@ module _ (program : Program) where
   body_plain : (dest : Option ℕ) (params : List Param) (gives : Option Ty) (body : Body) → is_typed_body program dest params gives body ≡ true
       → left_out_in_body program.facts params body ≡ None → (are_plain_params all params ≡ true) × (is_plain_body all body ≡ true)
   body_plain dest params gives body h p =
-      let t = and_parts _ (not (is_empty body.stmts)
-      && is_typed_block (in_body program (before program body.first) dest params body) (procedure gives) body.stmts)
+      let t = and_parts _ (not (is_empty body.stmts) && is_typed_block (in_body program (before program body.first) dest params body) (procedure gives) body.stmts)
       h in
       let q = neither (left_out_in_head program.facts (first_of body.stmts) (map (λ (param : Param). param.place) params ++ if_declared body.result))
       (left_out_in_block program.facts body.stmts) p in

@@ -10,11 +10,11 @@ ghost use Rattle.nim_meaning.specs.LeftOut.{IsPlain};
 ghost use Rattle.nim_meaning.specs.Runs.{has_no_hooks};
 ghost use Rattle.flattening.specs.Formed.{IsFormed};
 
-/// A typed program, numbered in order of text, of which nothing is left out, is one whose flat code
-/// does what it means.
+/// A typed program, numbered in order of text, is one whose flat code does what it means, whatever
+/// its types are.
 pub fn formed()
     ensures { (program : Program) → IsTyped program → is_numbered_program program ≡ true →
-        IsPlain program → IsFormed program }
+        IsFormed program }
 {}
 
 /// The types of a typed program's table have forms: none contains itself.

@@ -11,7 +11,6 @@ use Rattle.flat_code.specs.declared.block.BlockLine.TheVariants.{Plain}
 use Rattle.flat_code.specs.Scene.{known_in}
 use Rattle.flat_code.specs.Codes.{each_line, by_lines, owned_plain, owned_label, owned_does, owned_meaning, block_plain, block_label, block_does, block_meaning}
 use Rattle.flat_code.proofs.ForCallers.{same_agrees, same_pace, runs_by_lines, form_by_lines}
-use Rattle.flat_code.proofs.ForCallers.{same as alike}
 use Rattle.goto_exceptions.specs.Branches.{IsBranched}
 
 pub same : (table : List TypeDef) (owned : Code OwnedLine) (heap : ℕ) (input : List ℕ) (n : ℕ) →
@@ -32,6 +31,6 @@ branched owned procs e itself steady = subst (λ ps. IsBranched owned (blocks_wi
       (same table owned heap input) (itself (owned_meaning table owned heap input) (steady table owned heap input) sound);
   paced = λ table heap input sound.
       same_pace (block_meaning table (by_lines Plain owned) heap input) (owned_meaning table owned heap input) (same table owned heap input);
-  form = form_by_lines Plain owned_plain block_plain (λ line. alike) owned;
+  form = form_by_lines Plain owned_plain block_plain (λ line. refl) owned;
   each = refl;
 })

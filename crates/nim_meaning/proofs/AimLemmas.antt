@@ -93,8 +93,8 @@ module _ (here : Here) where
   some_operands (T.ByValue value rest) =
       let more = some_operands rest in
       record {
-        ready = Evaluated (operand_for false Owned here.level 0 nothing) ∷ more.ready;
-        lead = value_leads false Owned 0 nothing more.lead;
+        ready = Evaluated (operand_for false here.level 0 nothing) ∷ more.ready;
+        lead = value_leads false 0 nothing more.lead;
       }
   some_operands (T.ByPath path rest) =
       let it = some_aim path in
@@ -105,13 +105,13 @@ module _ (here : Here) where
 
   pub head_looks : (head : Args) {ready : List Ready} → AllLead here (paths_in head) ready → LooksFor here (acts.looked_up head []) (ready_aim ready)
   head_looks T.NoArg none_leads = at_value
-  head_looks (T.ByValue value rest) (value_leads hook how n v h) = at_value
+  head_looks (T.ByValue value rest) (value_leads lent n v h) = at_value
   head_looks (T.ByPath path rest) (path_leads l h) = along l
 
   pub element_looks : (head : Args) (index : ℤ) {ready : List Ready} → AllLead here (paths_in head) ready →
       LooksFor here (acts.looked_up head (Index None ∷ [])) (ItemOf (ready_aim ready) index)
   element_looks T.NoArg index none_leads = in_value
-  element_looks (T.ByValue value rest) index (value_leads hook how n v h) = in_value
+  element_looks (T.ByValue value rest) index (value_leads lent n v h) = in_value
   element_looks (T.ByPath path rest) index (path_leads {aim = aim} l h) = along (lead_element path None index aim l)
 
 -- ---- what an operation works on

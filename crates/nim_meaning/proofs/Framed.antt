@@ -4,7 +4,7 @@ use Rattle.std.proofs.lemmas.List.{length-set, length-take-le}
 use Rattle.nim_meaning.specs.Values.{Value, Base, Standing, Waiting}
 use Rattle.nim_meaning.specs.Heap.{Block, block_at}
 use Rattle.nim_meaning.specs.State.{World, stored}
-use Rattle.nim_meaning.specs.Deeds.{Change, Stores, Opens, Closes, Waits, Leaves, Pushes, Pops, Reads, Refills, Frees, freed, changed}
+use Rattle.nim_meaning.specs.Deeds.{Change, Stores, Opens, Waits, Leaves, Pushes, Pops, Reads, Refills, Frees, freed, changed}
 use Rattle.nim_meaning.specs.Kept.{Framed}
 use Rattle.nim_meaning.proofs.KeepParts.{Invariant}
 
@@ -20,7 +20,6 @@ framed_freed at world k (Some block) h = h
 framed_changed : (at : ℕ) (c : Change) (world : World) → Framed at world → Framed at (changed c world)
 framed_changed at (Stores location v) world h = framed_stored at world location.base _ h
 framed_changed at (Opens level place slot) world h = length-set world.frames level _ ∙ h
-framed_changed at (Closes level place) world h = length-set world.frames level _ ∙ h
 framed_changed at (Waits level node slot) world h = length-set world.frames level _ ∙ h
 framed_changed at (Leaves level node) world h = length-set world.frames level _ ∙ h
 framed_changed at (Pushes v) world h = h

@@ -5,7 +5,7 @@ use Rattle.std.proofs.lemmas.Bool.{leb-true, both_ways}
 use Rattle.nim_meaning.specs.Values.{Value, Base, InBlock}
 use Rattle.nim_meaning.specs.Heap.{Contents, Block, Class, Heap, demand, at_class, one_more, one_less, taken, has_room, given, without, block_at, with_contents}
 use Rattle.nim_meaning.specs.State.{OfBlock, Took, Gave, Born, Ended, Happening, World, with_value_in, new_contents, stored}
-use Rattle.nim_meaning.specs.Deeds.{Change, Stores, Opens, Closes, Waits, Leaves, Pushes, Pops, Reads, Refills, Frees, size_of, freed, changed}
+use Rattle.nim_meaning.specs.Deeds.{Change, Stores, Opens, Waits, Leaves, Pushes, Pops, Reads, Refills, Frees, size_of, freed, changed}
 use Rattle.nim_meaning.proofs.KeepParts.{Invariant}
 
 -- what is said of a heap and its history, and kept
@@ -35,7 +35,6 @@ module _ (H : Heap → List Happening → Type 0) (inv : HeapInvariant H) where
   changed_kept : (c : Change) (world : World) → InHeap world → InHeap (changed c world)
   changed_kept (Stores location v) world h = stored_kept world location.base _ h
   changed_kept (Opens level place slot) world h = h
-  changed_kept (Closes level place) world h = h
   changed_kept (Waits level node slot) world h = h
   changed_kept (Leaves level node) world h = h
   changed_kept (Pushes v) world h = h

@@ -117,9 +117,9 @@ module _ (K : World → Type 0) (I : ℕ → World → Type 0) (inv : Invariant 
     handed_back : (flow : Outcome (Unit {0})) → Keeps K (I (suc level)) (handed params (last_of body.stmts) here flow) (λ x. I level)
     handed_back flow =
         let exit = exit_of (last_of body.stmts) flow in
-        keeps_looks K (I (suc level)) (λ x. I level) _
-        (λ world. keeps_past K (I (suc level)) (I (suc level)) (λ x. I level) (params_end here params exit) _ (params_stay (suc level) here params exit)
-        (keeps_past K (I (suc level)) (I level) (λ x. I level) (change (down_to (suc level))) _
+        keeps_past K (I (suc level)) (I (suc level)) (λ x. I level) (params_end here params exit) _ (params_stay (suc level) here params exit)
+        (keeps_looks K (I (suc level)) (λ x. I level) _
+        (λ world. keeps_past K (I (suc level)) (I level) (λ x. I level) (change (down_to (suc level))) _
         (keeps_on K (I (suc level)) (I level) (down_to (suc level)) (inv.leaves level))
         (keeps_costs K (I level) (λ x. I level) _ _ (handing_stays level flow _))))
 

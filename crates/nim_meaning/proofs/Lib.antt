@@ -1,4 +1,3 @@
-pub mod ForCallers
 mod ArrowLemmas
 mod ScopeLemmas
 mod DeedLemmas

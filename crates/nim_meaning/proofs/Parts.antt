@@ -28,10 +28,10 @@ use Rattle.nim_meaning.specs.Acts.{Broke, Continued, Returned, Raised, Outcome, 
 use Rattle.nim_meaning.specs.Acts.{write, end, stop}
 use Rattle.nim_meaning.specs.Acts.{left_as, looks, change, passing, leaving_scope, again, no_more, loop}
 use Rattle.nim_meaning.specs.Deeds.{Change, Opens, Leaves, changed, with_block, Deed, Gives, Ends, Errs, Works, Says, Looks, Changes, Takes, carry}
-use Rattle.nim_meaning.specs.Here.{Here, is_hooked, gives_hooked, any_hooked, form_for}
+use Rattle.nim_meaning.specs.Here.{Here, is_hooked, gives_hooked, form_for}
 use Rattle.nim_meaning.specs.Lifted.{assigned, assigns, temporary_ends}
 use Rattle.nim_meaning.specs.Waiting.{Wait, waiting_first, held_from}
-use Rattle.nim_meaning.specs.Places.{place_at, rooted, made, to_part, to_item, to_object, Destination, made_by, fetched, put}
+use Rattle.nim_meaning.specs.Places.{place_at, rooted, made, to_part, to_item, to_object, Destination, kept_if, fetched, put}
 use Rattle.nim_meaning.specs.Shapes.{has_node, selector_type, is_covered, is_last_value, is_last_block}
 use Rattle.nim_meaning.specs.Meaning.{at_node, at_path, all_end, ended, waits_of, waits_in, ended_value, branch_by, branch_value, destination, row, taking_up}
 use Rattle.nim_meaning.specs.Aims.{Aim, Root, Value_of, Waits_at, PartOf, ItemOf, ObjectOf, find, Ready, Evaluated, Aimed, settle, handed_over}
@@ -43,7 +43,7 @@ use Rattle.nim_meaning.specs.Meaning.{count_turn, still, element_at, each_turn, 
 use Rattle.nim_meaning.specs.Meaning.{test_of, selector_of, loop_over, exec, exec_all, first_block, picked_block}
 use Rattle.nim_meaning.proofs.DeedErrs.{ErrsIf}
 use Rattle.nim_meaning.proofs.LiftedRows.{errs_copies, errs_assigned, errs_assigns, errs_temporary}
-use Rattle.nim_meaning.proofs.Rows.{errs_to_item, errs_to_object, errs_taken, errs_made, errs_row, errs_handed, errs_place_ends}
+use Rattle.nim_meaning.proofs.Rows.{errs_to_item, errs_to_object, errs_taken, errs_kept_if, errs_row, errs_handed, errs_place_ends}
 
 -- What may be said of what a part of a program does, and of a turn of a loop; and what is known where the plan has made the run wrong.
 pub record Said : Type 1 where
@@ -132,8 +132,8 @@ module _ (P : Said) (closed : Closed P) where
   fetches location = carries (fetched location) (λ world. tt)
 
   -- the value that a call gave
-  makes : (here : Here) (to : Destination) (ty : Option Ty) (v : Value) → P.of (carry (made_by (gives_hooked here.facts ty) to v))
-  makes here to ty v = carries (made_by (gives_hooked here.facts ty) to v) (errs_made P.errs (gives_hooked here.facts ty) to v)
+  makes : (here : Here) (to : Destination) (ty : Option Ty) (v : Value) → P.of (carry (kept_if (gives_hooked here.facts ty) to v))
+  makes here to ty v = carries (kept_if (gives_hooked here.facts ty) to v) (errs_kept_if P.errs (gives_hooked here.facts ty) to v)
 
   pub rows : (here : Here) (act : Act) (to : Destination) (ty : Option Ty) (of : List (Option Ty)) (xs : List Operand) →
       P.of (carry (row here.facts act to ty of xs))
@@ -250,12 +250,12 @@ module _ (P : Said) (closed : Closed P) where
   -- ---- expressions and statements, from where all calls have it
 
   module _ (here : Here) (call : (proc : ℕ) (slots : List Slot) → P.of (here.calls proc slots)) where
-    pub acted : (node : ℕ) (act : Act) (how : Use) (ty : Option Ty) (of : List (Option Ty)) (xs : List Operand) → P.of (carried here node act how ty of xs)
-    acted node (Doing operation) how ty of xs = rows here (Doing operation) (destination here how node) ty of xs
-    acted node (Building fields) how ty of xs = rows here (Building fields) (destination here how node) ty of xs
-    acted node (Giving literal) how ty of xs = rows here (Giving literal) (destination here how node) ty of xs
-    acted node (Calling proc types) how ty of xs =
-        let handed = handed_over (any_hooked here.facts of) xs in
+    pub acted : (node : ℕ) (act : Act) (how : Use) (ty : Option Ty) (operands : Args) (xs : List Operand) → P.of (carried here node act how ty operands xs)
+    acted node (Doing operation) how ty operands xs = rows here (Doing operation) (destination here how node) ty (types_in operands) xs
+    acted node (Building fields) how ty operands xs = rows here (Building fields) (destination here how node) ty (types_in operands) xs
+    acted node (Giving literal) how ty operands xs = rows here (Giving literal) (destination here how node) ty (types_in operands) xs
+    acted node (Calling proc types) how ty operands xs =
+        let handed = handed_over here.facts operands (use_of here.modes (Calling proc types)) 0 xs in
         seq _ _ (closed.costs _ _ (closed.then _ _ (call proc (slots_for handed)) (left node))) (makes here (destination here how node) ty)
 
     -- the value of a branch
@@ -275,7 +275,7 @@ module _ (P : Said) (closed : Closed P) where
           let uses = use_of here.modes act in
           seq (ready_all operands uses 0 here) _ (all_args operands uses 0) (λ ready. seq (settle ready) _ (settles ready)
           (λ xs. at node.number _ _ (takes_up here (held_from here.facts here.modes operands uses 0) _
-          (acted node.number act how ty (types_in operands) xs))))
+          (acted node.number act how ty operands xs))))
       all_eval (Read path) how =
           let to = destination here how (node_at path).number in
           let deed = got_by here.facts here.plan to (node_at path).number (type_at path) in

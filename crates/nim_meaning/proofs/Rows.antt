@@ -15,7 +15,7 @@ use Rattle.nim_meaning.specs.Values.{Value, Fixed, Ref, number_of, length_of, Op
 use Rattle.nim_meaning.specs.State.{load}
 use Rattle.nim_meaning.specs.Deeds.{give, branch, stop}
 use Rattle.nim_meaning.specs.Lifted.{copied, fresh_text}
-use Rattle.nim_meaning.specs.Places.{Destination, object_of, item_of, to_item, to_object, kept_for, copied_for, taken_by, text_for, made_by, put}
+use Rattle.nim_meaning.specs.Places.{Destination, object_of, item_of, to_item, to_object, kept_for, copied_for, taken_by, text_for, made_by, kept_if, put}
 use Rattle.nim_meaning.specs.OwnedRows.{owned}
 use Rattle.nim_meaning.specs.Table.{outcome, limit_for, converted, moved, step_by, does, constant_for, acts}
 use Rattle.nim_meaning.specs.Here.{gives_hooked, any_hooked, form_for}
@@ -65,6 +65,10 @@ module _ (E : Type 0) where
   errs_text_for Owned to t = errs_then E (fresh_text t) _ (errs_fresh E _ _ _) (errs_kept to.how to.level to.node)
   errs_text_for Given to t = errs_then E (fresh_text t) _ (errs_fresh E _ _ _) (errs_kept to.how to.level to.node)
   errs_text_for Held to t = errs_then E (fresh_text t) _ (errs_fresh E _ _ _) (errs_kept to.how to.level to.node)
+
+  pub errs_kept_if : (hooked : Bool) (to : Destination) (v : Value) → ErrsIf E (kept_if hooked to v)
+  errs_kept_if false to v = tt
+  errs_kept_if true to v = errs_kept to.how to.level to.node v
 
   pub errs_made : (hooked : Bool) (to : Destination) (v : Value) → ErrsIf E (made_by hooked to v)
   errs_made false to v = tt

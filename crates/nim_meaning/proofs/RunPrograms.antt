@@ -17,7 +17,7 @@ use Rattle.nim_program.specs.Traps.{CallDepth}
 use Rattle.nim_meaning.specs.ActTree.{Root, On as GoesOn, Out, Turn_over, Back, Acts, Named, Bind, Result}
 use Rattle.nim_meaning.specs.Ways.{Point, Stop, Exits, Graph, Raises, Edges, entry, onto, follows, start}
 use Rattle.nim_meaning.specs.Values.{Value, Slot}
-use Rattle.nim_meaning.specs.State.{State, with_frame}
+use Rattle.nim_meaning.specs.State.{State, with_frame, down_to}
 use Rattle.nim_meaning.specs.Acts.{Broke, Continued, Returned, Raised, Outcome, On, Out as LeftBy, Does, with_trail, give, ◌>>◌, exit_of, worked, say, said}
 use Rattle.nim_meaning.specs.Acts.{change, elsewhere, stop}
 use Rattle.nim_meaning.specs.Here.{Here, is_hooked}
@@ -160,9 +160,9 @@ module _ (raises : Raises) (program : Program) (plan : Plan) where
   still_end : (here : Here) (params : List Param) (last : ℕ) (flow : Outcome (Unit {0})) → ((v : Value) → Still other (handing flow v)) →
       Still other (handed params last here flow)
   still_end here params last flow h =
-      still_looks other _
-      (λ world. still_both other (params_end here params (exit_of last flow)) _ (still_params here params (exit_of last flow))
-      (still_both other (change _) _ (still_change other _) (still_costs other _ (handing flow (result_of here.result here.level world)) (h _))))
+      still_both other (params_end here params (exit_of last flow)) _ (still_params here params (exit_of last flow))
+      (still_looks other _
+      (λ world. still_both other (change (down_to here.level)) _ (still_change other (down_to here.level)) (still_costs other _ (handing flow (result_of here.result here.level world)) (h _))))
 
   body_returns : (proc : ℕ) (here : Here) (params : List Param) (last : ℕ) (r : Res State (Outcome (Unit {0}))) →
       GoesBy (procedure_graph raises plan.sinks program proc) (first_point_of raises plan.sinks program proc) Stop other [] r →

@@ -30,7 +30,7 @@ use Rattle.nim_meaning.specs.ActsOf.{works_on, read_acts, acts_of, aimed, ready_
 use Rattle.nim_meaning.specs.Waiting.{Wait, held_from}
 use Rattle.nim_meaning.specs.Meaning.{at_node, at_path, destination, taking_up, carried, got_by, gets_copy, source, early, handed_by, eval, first_value, row}
 use Rattle.nim_meaning.specs.Meaning.{ended as ended_there, ended_value, branch_by, branch_value, waits_of, selecting}
-use Rattle.nim_meaning.specs.Aims.{Aim, Root as At_root, fresh_root, find, Ready, Evaluated, operand_for, settle}
+use Rattle.nim_meaning.specs.Aims.{Aim, Root as At_root, fresh_root, find, Ready, Evaluated, is_lent_own, operand_for, settle}
 use Rattle.nim_meaning.specs.Meaning.{selected, picked_value}
 use Rattle.nim_meaning.specs.Meaning.{ready_all}
 use Rattle.nim_meaning.specs.Meaning as M
@@ -136,24 +136,24 @@ module _ (raises : Raises) (E : Graph) (at_call : ℕ → ℕ → Mode) (here : 
   IsPlainOf (T.Doing operation) of = (any_hooked here.facts of ≡ false) ⊎ (operation ≡ O.Echo)
   IsPlainOf act of = Unit {0}
 
-  done_part : (n : ℕ) (act : T.Act) (operands : Args) (on : Operands) (how : Use) (ty : Option Ty) (of : List (Option Ty)) (ready : List Ready) →
-      gives_hooked here.facts ty ≡ false → IsPlainOf act of → on.alters ≡ paths_among (paths_in operands) → AllLead here (paths_in operands) ready →
-      P A_value (λ r. Then (done_by n act operands on) r) (settle ready >>= (λ xs. at_node n Done_by (carried here n act how ty of xs)))
-  done_part n (T.Doing operation) operands on how ty of ready plain h e l =
+  done_part : (n : ℕ) (act : T.Act) (operands : Args) (on : Operands) (how : Use) (ty : Option Ty) (ready : List Ready) →
+      gives_hooked here.facts ty ≡ false → IsPlainOf act (types_in operands) → on.alters ≡ paths_among (paths_in operands) → AllLead here (paths_in operands) ready →
+      P A_value (λ r. Then (done_by n act operands on) r) (settle ready >>= (λ xs. at_node n Done_by (carried here n act how ty operands xs)))
+  done_part n (T.Doing operation) operands on how ty ready plain h e l =
       let to = destination here how n in
       part_do raises E here n Done_by (act_by operation operands on) (act_makes_none operation operands on)
-      (λ k i. works_there {deed = λ xs. row here.facts (T.Doing operation) to ty of xs} i (done_as here.facts to ty of operation operands on plain h e) l)
-  done_part n (T.Building fields) operands on how ty of ready plain h e l =
+      (λ k i. works_there {deed = λ xs. row here.facts (T.Doing operation) to ty (types_in operands) xs} i (done_as here.facts to ty (types_in operands) operation operands on plain h e) l)
+  done_part n (T.Building fields) operands on how ty ready plain h e l =
       let to = destination here how n in
       part_do raises E here n Done_by (Operate on) refl
-      (λ k i. works_there {deed = λ xs. row here.facts (T.Building fields) to ty of xs} i
-      (building_as here.facts fields to ty of on (paths_in operands) plain e) l)
-  done_part n (T.Giving literal) operands on how ty of ready plain h e l =
+      (λ k i. works_there {deed = λ xs. row here.facts (T.Building fields) to ty (types_in operands) xs} i
+      (building_as here.facts fields to ty (types_in operands) on (paths_in operands) plain e) l)
+  done_part n (T.Giving literal) operands on how ty ready plain h e l =
       let to = destination here how n in
       part_do raises E here n Done_by (Operate on) refl
-      (λ k i. works_there {deed = λ xs. row here.facts (T.Giving literal) to ty of xs} i
-      (giving_as here.facts literal to ty of on (paths_in operands) plain e) l)
-  done_part n (T.Calling proc types) operands on how ty of ready plain h e l = part_call raises E here n proc on (λ k i. calls_there n types how ty of i e l)
+      (λ k i. works_there {deed = λ xs. row here.facts (T.Giving literal) to ty (types_in operands) xs} i
+      (giving_as here.facts literal to ty (types_in operands) on (paths_in operands) plain e) l)
+  done_part n (T.Calling proc types) operands on how ty ready plain h e l = part_call raises E here n proc on (λ k i. calls_there n types how ty operands i e l)
 
   plain_of : (act : T.Act) (operands : Args) → are_plain hooked (writes_literals act) operands ≡ true → IsPlainOf act (types_in operands)
   plain_of (T.Doing O.Echo) operands h = inr refl
@@ -222,7 +222,7 @@ module _ (raises : Raises) (E : Graph) (at_call : ℕ → ℕ → Mode) (here : 
       part_then raises E here {a = The_operands []} [] none_leads (part_gives raises E here none_leads)
       (λ ready l. subst (λ w. P A_value (λ r. Then (done_by node.number act T.NoArg no_operands)
       (used (is_hooked hooked at_call ty && waits_from act w) node.number r))
-      (settle ready >>= (λ xs. at_node node.number Done_by (carried here node.number act uses ty [] xs)))) (sym e)
+      (settle ready >>= (λ xs. at_node node.number Done_by (carried here node.number act uses ty T.NoArg xs)))) (sym e)
       (not_waiting (is_hooked hooked at_call ty) node.number (part_do raises E here node.number Done_by (Operate no_operands) refl
       (λ k i. works_there {deed = λ xs. row here.facts act (destination here uses node.number) ty [] xs} i
       (literal_as here.facts t (destination here uses node.number) ty no_operands [] u refl) l))))
@@ -265,10 +265,10 @@ module _ (raises : Raises) (E : Graph) (at_call : ℕ → ℕ → Mode) (here : 
         (ready_part (writes_literals act) (use_of at_call act) (use_of here.modes act)
         (λ w j. (written_lends here.facts at_call act w j, written_lends here.facts here.modes act w j)) 0 (receiver operands) operands p.1)
         (λ ready l. part_used raises E here (is_hooked hooked at_call ty) (waits_from act how) node.number (plain_type ty p.0)
-        (none_taken ready node.number (carried here node.number act uses ty (types_in operands))
+        (none_taken ready node.number (carried here node.number act uses ty operands)
         (held_from here.facts here.modes operands (use_of here.modes act) 0)
         (none_held here.facts here.modes (writes_literals act) operands (use_of here.modes act) 0 (written_lends here.facts here.modes act) p.1)
-        (done_part node.number act operands (works_on hooked at_call act 0 operands) uses ty (types_in operands) ready
+        (done_part node.number act operands (works_on hooked at_call act 0 operands) uses ty ready
         (plain_none here.facts ty p.0) (plain_of act operands p.1) (works_alters hooked at_call act 0 operands) l)))
     eval_part how to (T.Read path) uses h =
         let it = some_aim here path in
@@ -322,13 +322,13 @@ module _ (raises : Raises) (E : Graph) (at_call : ℕ → ℕ → Mode) (here : 
         subst (λ b. P (The_operands (None ∷ paths_in rest)) (λ r. acts_of hooked at_call (uses i) to value (ready_acts hooked at_call uses (suc i) to rest r))
         (branch b (source value here >>= (λ location. ready_all rest hows (suc i) here >>= (λ ready. give (Evaluated (At location) ∷ ready))))
         (eval value (hows i) here >>= (λ v. ready_all rest hows (suc i) here
-        >>= (λ ready. give (Evaluated (operand_for (gives_hooked here.facts (type_of value)) (hows i) here.level (node_of value).number v) ∷ ready))))))
+        >>= (λ ready. give (Evaluated (operand_for (is_lent_own here.facts (hows i) value) here.level (node_of value).number v) ∷ ready))))))
         (sym (no_copy written value (hows i) p.0))
         (part_then raises E here {a = A_value} nothing tt
         (operand_part written (uses i) to value (hows i) (λ e. lends e i) (λ g. eval_part (uses i) to value (hows i) g) p.0)
         (λ v u. part_then raises E here {a = The_operands (paths_in rest)} more.ready more.lead (ready_part written uses hows lends (suc i) to rest p.1)
         (λ ready l. part_gives raises E here
-        (value_leads (gives_hooked here.facts (type_of value)) (hows i) (node_of value).number v l))))
+        (value_leads (is_lent_own here.facts (hows i) value) (node_of value).number v l))))
     ready_part written uses hows lends i to (T.ByPath path rest) h =
         let p = and_parts (is_plain_path hooked path) (are_plain hooked written rest) h in
         let it = some_aim here path in

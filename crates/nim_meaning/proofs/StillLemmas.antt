@@ -3,7 +3,8 @@ use Rattle.std.proofs.Common.{◌≡◌, refl, ◌∙◌, inl, inr, ◌⊎◌, �
 use Rattle.arc_base.specs.Event.{Event}
 use Rattle.arc_base.specs.BigStep.{Res, Got, Over, Going, Errs, then_do, spend}
 use Rattle.nim_types.specs.Types.{Ty}
-use Rattle.nim_program.specs.Program.{Act, Doing, Building, Giving, Calling}
+use Rattle.nim_program.specs.Program.{Act, Doing, Building, Giving, Calling, Args, types_in}
+use Rattle.nim_program.specs.Uses.{use_of}
 use Rattle.nim_program.specs.declared.operation.Use.{Use}
 use Rattle.nim_program.specs.Traps.{Trap, OutOfMemory}
 use Rattle.nim_meaning.specs.Ways.{Point}
@@ -13,8 +14,8 @@ use Rattle.nim_meaning.specs.State.{World, State}
 use Rattle.nim_meaning.specs.Acts.{Outcome, On, Out as LeftBy, Does, give, onward, ◌>>=◌, ◌>>◌, at_exit, branch, costs, spending, left_with, worked, say, end}
 use Rattle.nim_meaning.specs.Acts.{stop, looks, change}
 use Rattle.nim_meaning.specs.Deeds.{Deed, Gives, Ends, Errs as Wrong, Works, Says, Looks, Changes, Takes, carry, changed, with_block}
-use Rattle.nim_meaning.specs.Here.{Here, gives_hooked, any_hooked}
-use Rattle.nim_meaning.specs.Places.{rooted, made, to_part, to_item, to_object, made_by}
+use Rattle.nim_meaning.specs.Here.{Here, gives_hooked}
+use Rattle.nim_meaning.specs.Places.{rooted, made, to_part, to_item, to_object, kept_if}
 use Rattle.nim_meaning.specs.Meaning.{destination, row, left_at, carried}
 use Rattle.nim_meaning.specs.Aims.{Aim, Root, Value_of, Waits_at, PartOf, ItemOf, ObjectOf, find, Ready, Evaluated, Aimed, settle, handed_over}
 use Rattle.nim_meaning.proofs.RunLemmas.{PassesNone, AreElsewhere, Still}
@@ -113,15 +114,18 @@ module _ (elsewhere : List Point → Type 0) where
   pub still_exit : {A B : Type 0} (act : Does A) (go : Outcome A → Does B) → S act → ((x : A) → S (go (On x))) → S (at_exit act go)
   still_exit act go h g = record { at = λ s. exit_passes s.trail (act s) go (h.at s) g }
 
-  pub still_carried : (here : Here) (node : ℕ) (act : Act) (how : Use) (ty : Option Ty) (of : List (Option Ty)) (xs : List Operand) →
-      AreElsewhere elsewhere here.calls → S (carried here node act how ty of xs)
-  still_carried here node (Doing operation) how ty of xs calls = still_carry (row here.facts (Doing operation) (destination here how node) ty of xs)
-  still_carried here node (Building fields) how ty of xs calls = still_carry (row here.facts (Building fields) (destination here how node) ty of xs)
-  still_carried here node (Giving literal) how ty of xs calls = still_carry (row here.facts (Giving literal) (destination here how node) ty of xs)
-  still_carried here node (Calling proc types) how ty of xs calls =
-      let handed = handed_over (any_hooked here.facts of) xs in
+  pub still_carried : (here : Here) (node : ℕ) (act : Act) (how : Use) (ty : Option Ty) (operands : Args) (xs : List Operand) →
+      AreElsewhere elsewhere here.calls → S (carried here node act how ty operands xs)
+  still_carried here node (Doing operation) how ty operands xs calls =
+      still_carry (row here.facts (Doing operation) (destination here how node) ty (types_in operands) xs)
+  still_carried here node (Building fields) how ty operands xs calls =
+      still_carry (row here.facts (Building fields) (destination here how node) ty (types_in operands) xs)
+  still_carried here node (Giving literal) how ty operands xs calls =
+      still_carry (row here.facts (Giving literal) (destination here how node) ty (types_in operands) xs)
+  still_carried here node (Calling proc types) how ty operands xs calls =
+      let handed = handed_over here.facts operands (use_of here.modes (Calling proc types)) 0 xs in
       still_then _ _ (still_costs _ _ (still_exit (here.calls proc (slots_for handed)) (left_at node) (record { at = calls proc (slots_for handed) })
-      (λ v. still_give v))) (λ v. still_carry (made_by (gives_hooked here.facts ty) (destination here how node) v))
+      (λ v. still_give v))) (λ v. still_carry (kept_if (gives_hooked here.facts ty) (destination here how node) v))
 
   spend_passes : {A : Type 0} (act : Does A) → S act → (n : ℕ) (s : State) → PassesNone elsewhere s.trail (spend n s (λ n. act (left_with n s)))
   spend_passes act h zero s = inl refl

@@ -60,8 +60,8 @@ tame_handing (Out (Raised exception by)) v = tame_got _
 
 pub tame_handed : (params : List Param) (last : ℕ) (here : Here) (flow : Outcome (Unit {0})) → Tame (handed params last here flow)
 tame_handed params last here flow =
-    tame_looks _ (λ world. tame_past (params_end here params (exit_of last flow)) _ (tame_params here params (exit_of last flow))
-    (tame_past (change (down_to here.level)) _ (tame_change (down_to here.level)) (tame_costs _ _ (tame_handing flow _))))
+    tame_past (params_end here params (exit_of last flow)) _ (tame_params here params (exit_of last flow))
+    (tame_looks _ (λ world. tame_past (change (down_to here.level)) _ (tame_change (down_to here.level)) (tame_costs _ _ (tame_handing flow _))))
 
 tame_bodies : (level : ℕ) (program : Program) (plan : Plan) (call : Calls) (params : List Param) (body : Body) (slots : List Slot) →
     Tame (exec_all body.stmts (from_level program plan (suc level) call body)) →

@@ -2,6 +2,7 @@
 use Rattle.std.proofs.Common.{◌≡◌, refl, ap, ap₂, ◌∙◌, ℕ, suc, Bool, true, false, not, ◌&&◌, ◌||◌, List, [], ◌++◌, Option, Some, None}
 use Rattle.std.proofs.lemmas.Bool.{and_parts, false≢true}
 use Rattle.nim_types.specs.Types.{Ty, Facts}
+use Rattle.nim_types.specs.Forms.{Form}
 use Rattle.nim_program.specs.declared.operation.Operation.TheVariants as O
 use Rattle.nim_program.specs.declared.operation.Use.{Use}
 use Rattle.nim_program.specs.declared.operation.Use.TheVariants.{Owned, Lent, Looked}
@@ -20,9 +21,9 @@ pub not_true : (b : Bool) → not b ≡ true → b ≡ false
 not_true true h = absurd (false≢true h)
 not_true false h = refl
 
-none_of : (b : Bool) (n : ℕ) (f : _) → wait_if (b && false) n f ≡ []
-none_of true n f = refl
-none_of false n f = refl
+none_of : (b : Bool) (n : ℕ) (ty : Option Ty) (f : Form) → wait_if (b && false) n ty f ≡ []
+none_of true n ty f = refl
+none_of false n ty f = refl
 
 held_none : (b : Bool) (n : ℕ) (rest : List ℕ) → held_if (b && false) n rest ≡ rest
 held_none true n rest = refl
@@ -80,13 +81,13 @@ module _ (facts : Facts) where
 
   module _ (modes : (proc position : ℕ) → Mode) where
     own_none : (w : Bool) (n : ℕ) (ty : Option Ty) → gives_hooked facts ty ≡ false → own_wait facts modes w n ty ≡ []
-    own_none w n ty e = ap (λ b. wait_if (b && w) n (form_for facts ty)) e
+    own_none w n ty e = ap (λ b. wait_if (b && w) n ty (form_for facts ty)) e
 
     -- a literal that is written
     written_none : (how : Use) (node : _) (ty : Option Ty) (t : List ℕ) → how ≡ Lent →
         waiting facts modes (Apply node ty (Giving (Characters t)) NoArg) how ≡ []
     written_none how node ty t e =
-        ap (λ how. waiting facts modes (Apply node ty (Giving (Characters t)) NoArg) how) e ∙ none_of (gives_hooked facts ty) node.number (form_for facts ty)
+        ap (λ how. waiting facts modes (Apply node ty (Giving (Characters t)) NoArg) how) e ∙ none_of (gives_hooked facts ty) node.number ty (form_for facts ty)
 
     none_operand : (written : Bool) (value : Expr) (how : Use) → (written ≡ true → how ≡ Lent) →
         (is_plain_value hooked value ≡ true → waiting facts modes value how ≡ []) →

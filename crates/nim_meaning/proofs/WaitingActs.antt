@@ -1,6 +1,7 @@
 -- The values that wait in a part are the temporaries that its acts make.
 use Rattle.std.proofs.Common.{◌≡◌, refl, sym, ap, ◌∙◌, append_assoc, ℕ, suc, Bool, true, false, ◌&&◌, if◌then◌else◌, List, [], ◌∷◌, ◌++◌, Option, Some, None}
 use Rattle.nim_types.specs.Types.{Ty, Facts}
+use Rattle.nim_types.specs.Forms.{Form}
 use Rattle.nim_program.specs.declared.operation.Use.{Use}
 use Rattle.nim_program.specs.declared.operation.Use.TheVariants.{Owned, Given, Held, Lent, Looked}
 use Rattle.nim_program.specs.declared.operation.Short.{Short}
@@ -47,14 +48,14 @@ module _ (facts : Facts) (modes : (proc position : ℕ) → Mode) where
   hooked_is (Some ty) = refl
 
   -- a value that waits
-  used_makes : (b w : Bool) (n : ℕ) (f : _) (rest : Acts) → all_made (used (b && w) n rest) ≡ nodes_of (wait_if (b && w) n f) ++ all_made rest
-  used_makes true true n f rest = refl
-  used_makes true false n f rest = refl
-  used_makes false w n f rest = refl
+  used_makes : (b w : Bool) (n : ℕ) (ty : Option Ty) (f : Form) (rest : Acts) → all_made (used (b && w) n rest) ≡ nodes_of (wait_if (b && w) n ty f) ++ all_made rest
+  used_makes true true n ty f rest = refl
+  used_makes true false n ty f rest = refl
+  used_makes false w n ty f rest = refl
 
   own_makes : (w : Bool) (n : ℕ) (ty : Option Ty) (rest : Acts) →
       all_made (used (is_hooked hooked modes ty && w) n rest) ≡ nodes_of (own_wait facts modes w n ty) ++ all_made rest
-  own_makes w n ty rest = ap (λ b. all_made (used (b && w) n rest)) (hooked_is ty) ∙ used_makes (gives_hooked facts ty) w n (form_for facts ty) rest
+  own_makes w n ty rest = ap (λ b. all_made (used (b && w) n rest)) (hooked_is ty) ∙ used_makes (gives_hooked facts ty) w n ty (form_for facts ty) rest
 
   done_makes : (n : ℕ) (act : T.Act) (operands : Args) (on : Operands) (rest : Acts) → all_made (Then (done_by n act operands on) rest) ≡ all_made rest
   done_makes n (T.Doing operation) operands on rest = ap (λ ns. ns ++ all_made rest) (act_makes_none operation operands on)
@@ -63,26 +64,26 @@ module _ (facts : Facts) (modes : (proc position : ℕ) → Mode) where
   done_makes n (T.Calling proc types) operands on rest = refl
 
   -- a path that is read at a node of its own
-  site_makes : (b : Bool) (how : Use) (to : Option Root) (n : ℕ) (f : _) (z : Path) (rest : Acts) →
-      all_made (one_act n Does (read_act b how to n z) (used (b && is_held how) n rest)) ≡ nodes_of (wait_if (b && reads_kept how) n f) ++ all_made rest
-  site_makes true Owned to n f z rest = refl
-  site_makes true Given to n f z rest = refl
-  site_makes true Held to n f z rest = refl
-  site_makes true Lent to n f z rest = refl
-  site_makes true Looked to n f z rest = refl
-  site_makes false how to n f z rest = refl
+  site_makes : (b : Bool) (how : Use) (to : Option Root) (n : ℕ) (ty : Option Ty) (f : Form) (z : Path) (rest : Acts) →
+      all_made (one_act n Does (read_act b how to n z) (used (b && is_held how) n rest)) ≡ nodes_of (wait_if (b && reads_kept how) n ty f) ++ all_made rest
+  site_makes true Owned to n ty f z rest = refl
+  site_makes true Given to n ty f z rest = refl
+  site_makes true Held to n ty f z rest = refl
+  site_makes true Lent to n ty f z rest = refl
+  site_makes true Looked to n ty f z rest = refl
+  site_makes false how to n ty f z rest = refl
 
-  none_own : (b : Bool) (n : ℕ) (f : _) (rest : Acts) → all_made rest ≡ nodes_of (wait_if (b && false) n f) ++ all_made rest
-  none_own true n f rest = refl
-  none_own false n f rest = refl
+  none_own : (b : Bool) (n : ℕ) (ty : Option Ty) (f : Form) (rest : Acts) → all_made rest ≡ nodes_of (wait_if (b && false) n ty f) ++ all_made rest
+  none_own true n ty f rest = refl
+  none_own false n ty f rest = refl
 
   read_makes : (how : Use) (to : Option Root) (path : T.Path) (rest : Acts) → all_made (read_acts hooked modes how to path rest)
       ≡ nodes_of (own_wait facts modes (has_node path && reads_kept how) (node_at path).number (T.type_at path)) ++ all_made rest
-  read_makes how to (T.Variable node ty place global) rest = site_makes (hooked ty) how to node.number (form_for facts (Some ty)) _ rest
-  read_makes how to (T.Fresh value) rest = none_own (gives_hooked facts (type_of value)) _ _ rest
-  read_makes how to (T.Field node ty base field) rest = site_makes (hooked ty) how to node.number (form_for facts (Some ty)) _ rest
-  read_makes how to (T.Element node ty base index constant) rest = site_makes (hooked ty) how to node.number (form_for facts (Some ty)) _ rest
-  read_makes how to (T.Deref ty base) rest = none_own (hooked ty) _ _ rest
+  read_makes how to (T.Variable node ty place global) rest = site_makes (hooked ty) how to node.number (Some ty) (form_for facts (Some ty)) _ rest
+  read_makes how to (T.Fresh value) rest = none_own (gives_hooked facts (type_of value)) _ _ _ rest
+  read_makes how to (T.Field node ty base field) rest = site_makes (hooked ty) how to node.number (Some ty) (form_for facts (Some ty)) _ rest
+  read_makes how to (T.Element node ty base index constant) rest = site_makes (hooked ty) how to node.number (Some ty) (form_for facts (Some ty)) _ rest
+  read_makes how to (T.Deref ty base) rest = none_own (hooked ty) _ _ _ rest
 
   looked_makes : (path : T.Path) (rest : Acts) → all_made (looked_at path rest) ≡ all_made rest
   looked_makes (T.Variable node ty place global) rest = refl

@@ -1,10 +1,13 @@
 -- Paths whose indexes are evaluated, and operands that wait to be worked on.
-use Rattle.std.specs.Prelude.{ℕ, ◌+◌, ℤ, Bool, true, false, List, [], ◌∷◌, map}
+use Rattle.std.specs.Prelude.{ℕ, suc, ◌+◌, ℤ, Bool, true, false, ◌&&◌, not, List, [], ◌∷◌}
+use Rattle.nim_types.specs.Types.{Facts}
 use Rattle.nim_program.specs.declared.operation.Use.{Use}
-use Rattle.nim_program.specs.declared.operation.Use.TheVariants.{Lent}
-use Rattle.nim_meaning.specs.Values.{Value, Fixed, bytes, Base, Waiting, Made, at_base, Location, Operand, Given, At}
+use Rattle.nim_program.specs.Program.{Expr, Args, ByValue, ByPath, type_of}
+use Rattle.nim_meaning.specs.Values.{Value, bytes, Base, Waiting, Made, at_base, Location, Operand, Given, At}
 use Rattle.nim_meaning.specs.Acts.{Does, give, ◌>>=◌}
 use Rattle.nim_meaning.specs.Deeds.{carry}
+use Rattle.nim_meaning.specs.Here.{gives_hooked}
+use Rattle.nim_meaning.specs.Shapes.{is_lent, is_text}
 use Rattle.nim_meaning.specs.Places.{rooted, made, to_part, to_item, to_object}
 
 -- ---- paths
@@ -40,15 +43,13 @@ pub data Ready : Type 0 where
   Evaluated : (operand : Operand) → Ready
   Aimed : (aim : Aim) → Ready
 
--- what is lent, and is somebody's own, stands where it waits
-abbrev pub lent_for : Use → (level node : ℕ) → Value → Operand
-lent_for Lent level node v = At (at_base (Waiting level node))
-lent_for how level node v = Given v
+-- what is lent, and is somebody's own, stands where it waits; nobody owns the text of a literal
+abbrev pub is_lent_own : Facts → Use → Expr → Bool
+is_lent_own facts how value = gives_hooked facts (type_of value) && (is_lent how && not (is_text value))
 
-abbrev pub operand_for : (hooked : Bool) → Use → (level node : ℕ) → Value → Operand
-operand_for false how level node v = Given v
-operand_for true how level node (Fixed t) = Given (Fixed t)
-operand_for true how level node v = lent_for how level node v
+abbrev pub operand_for : (lent : Bool) → (level node : ℕ) → Value → Operand
+operand_for false level node v = Given v
+operand_for true level node v = At (at_base (Waiting level node))
 
 -- the places are looked up now, in their order
 abbrev pub settle : List Ready → Does (List Operand)
@@ -62,13 +63,17 @@ settle (Aimed aim ∷ rest) = do
   give (At location ∷ xs)
 
 -- What is lent to a call stands somewhere: the text of a literal, which nobody owns, by itself. So a parameter that isn't the callee's own holds nothing.
-abbrev pub standing : Operand → Operand
-standing (Given (Fixed t)) = At (at_base (Made (Fixed t)))
-standing x = x
+abbrev pub standing : (literal : Bool) → Operand → Operand
+standing true (Given v) = At (at_base (Made v))
+standing literal x = x
 
-abbrev pub handed_over : (hooked : Bool) → List Operand → List Operand
-handed_over false xs = xs
-handed_over true xs = map standing xs
+abbrev pub is_lent_literal : Facts → Use → Expr → Bool
+is_lent_literal facts how value = gives_hooked facts (type_of value) && (is_lent how && is_text value)
+
+abbrev pub handed_over : Facts → Args → (uses : (position : ℕ) → Use) → (position : ℕ) → List Operand → List Operand
+handed_over facts (ByValue value rest) uses i (x ∷ xs) = standing (is_lent_literal facts (uses i) value) x ∷ handed_over facts rest uses (suc i) xs
+handed_over facts (ByPath path rest) uses i (x ∷ xs) = x ∷ handed_over facts rest uses (suc i) xs
+handed_over facts operands uses i xs = xs
 
 -- what is handed over to a call: values, and a word for each location
 abbrev pub handed_bytes : List Operand → ℕ

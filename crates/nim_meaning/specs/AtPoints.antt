@@ -48,8 +48,8 @@ pub data Leads (here : Here) : Path → Aim → Type 0 where
 -- each operand by path leads along its path; one that is evaluated is a value that no place holds
 pub data AllLead (here : Here) : List (Option Path) → List Ready → Type 0 where
   none_leads : AllLead here [] []
-  value_leads : {zs : List (Option Path)} {ready : List Ready} (hooked : Bool) (how : Use) (node : ℕ) (v : Value) → AllLead here zs ready →
-      AllLead here (None ∷ zs) (Evaluated (operand_for hooked how here.level node v) ∷ ready)
+  value_leads : {zs : List (Option Path)} {ready : List Ready} (lent : Bool) (node : ℕ) (v : Value) → AllLead here zs ready →
+      AllLead here (None ∷ zs) (Evaluated (operand_for lent here.level node v) ∷ ready)
   path_leads : {z : Path} {aim : Aim} {zs : List (Option Path)} {ready : List Ready} → Leads here z aim → AllLead here zs ready →
       AllLead here (Some z ∷ zs) (Aimed aim ∷ ready)
 
@@ -184,8 +184,8 @@ module _ (E : Graph) (here : Here) where
           E p d (k On) → DoneAs d zs deed → AllLead here zs ready → DoesBy A_value p k (settle ready >>= (λ xs. passing p (carry (deed xs))))
       -- a procedure gets them
       calls : {p : Point} {k : Exits} {proc : ℕ} {on : Operands} {zs : List (Option Path)} {ready : List Ready} (node : ℕ) (types : List Ty) (how : Use)
-          (ty : Option Ty) (of : List (Option Ty)) → E p (Invoke proc on) (k On) → on.alters ≡ paths_among zs → AllLead here zs ready →
-          DoesBy A_value p k (settle ready >>= (λ xs. passing p (carried here node (Calling proc types) how ty of xs)))
+          (ty : Option Ty) (operands : T.Args) → E p (Invoke proc on) (k On) → on.alters ≡ paths_among zs → AllLead here zs ready →
+          DoesBy A_value p k (settle ready >>= (λ xs. passing p (carried here node (Calling proc types) how ty operands xs)))
       -- a declared place is filled, and that of the result written
       fills : {p : Point} {k : Exits} {place : ℕ} (v : Value) → E p (Fill (Named place)) (k On) → DoesBy Nothing p k (passing p (fill here place v))
       gives_result : {p : Point} {k : Exits} {place : ℕ} (v : Value) → E p (Give (whole (Named place))) (k On) →

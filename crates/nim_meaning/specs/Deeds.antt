@@ -16,9 +16,8 @@ use Rattle.nim_meaning.specs.Acts.{Does, line_of}
 pub data Change : Type 0 where
   -- a value becomes that at a location
   Stores : (location : Location) (value : Value) → Change
-  -- a place of a call gets a slot, or has none any more
+  -- a place of a call gets a slot
   Opens : (level place : ℕ) (slot : Slot) → Change
-  Closes : (level place : ℕ) → Change
   -- a value waits in a call at a node, or does no more
   Waits : (level node : ℕ) (slot : Slot) → Change
   Leaves : (level node : ℕ) → Change
@@ -46,7 +45,6 @@ freed world k (Some block) = record world { heap = given world.heap k; history =
 abbrev pub changed : Change → World → World
 changed (Stores location v) world = store world location v
 changed (Opens level place slot) world = with_slot world level place (Some slot)
-changed (Closes level place) world = with_slot world level place None
 changed (Waits level node slot) world = with_one_waiting world level node slot
 changed (Leaves level node) world = with_none_waiting world level node
 changed (Pushes v) world = pushed world v

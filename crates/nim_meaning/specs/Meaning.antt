@@ -15,7 +15,7 @@ use Rattle.nim_types.specs.Forms.{Form, form_of}
 use Rattle.nim_program.specs.Program.{Expr, Apply, Read, Early, Choose, Path, Variable, Fresh, Field, Element, Deref, Args, NoArg, ByValue, ByPath}
 use Rattle.nim_program.specs.Program.{Declared, Kind, While, Count, Each, Stmt, Do, Idle, Give, Leave, Select, Loop, Raise, Try}
 use Rattle.nim_program.specs.Program.{Stmts, Empty, Then, Declare, Defer, Blocks, Otherwise, Block, Param, Body, Proc, Program}
-use Rattle.nim_program.specs.Program.{type_of, type_at, node_of, node_at, constant_in, types_in, last_after, last_of}
+use Rattle.nim_program.specs.Program.{type_of, type_at, node_of, node_at, constant_in, last_after, last_of}
 use Rattle.nim_program.specs.Folds.{by_constant}
 use Rattle.nim_program.specs.Sizes.{if_place_bytes, body_sum}
 use Rattle.nim_program.specs.declared.operation.Use.{Use}
@@ -35,7 +35,7 @@ use Rattle.nim_meaning.specs.Deeds.{Deed, Opens, Leaves, changed, carry, ◌>>=�
 use Rattle.nim_meaning.specs.Lifted.{walk, copying, assigned, assigns, slot_ends}
 use Rattle.nim_meaning.specs.Here.{Calls, Here, level_of, is_hooked, gives_hooked}
 use Rattle.nim_meaning.specs.Waiting.{waiting_first, held_from}
-use Rattle.nim_meaning.specs.Aims.{Aim, Root, Value_of, PartOf, ItemOf, ObjectOf, find, fresh_root, Ready, Evaluated, Aimed, operand_for, settle}
+use Rattle.nim_meaning.specs.Aims.{Aim, Root, Value_of, PartOf, ItemOf, ObjectOf, find, fresh_root, Ready, Evaluated, Aimed, is_lent_own, operand_for, settle}
 use Rattle.nim_meaning.specs.Places.{place_at, fetched, put}
 use Rattle.nim_meaning.specs.Shapes.{selector_type, is_covered, is_last_value, is_last_block, modes_in}
 pub use Rattle.nim_meaning.specs.Steps.{at_node, at_path, all_end, ended, grouped, waits_of, waits_in, ended_value, destination, row, taking_up, left_at}
@@ -52,7 +52,7 @@ abbrev mutual
     ready ← ready_all operands (use_of here.modes act) 0 here
     xs ← settle ready
     at_node node.number Done_by (taking_up here (held_from here.facts here.modes operands (use_of here.modes act) 0)
-        (carried here node.number act how ty (types_in operands) xs))
+        (carried here node.number act how ty operands xs))
   eval (Read path) how here = do
     aim ← aimed path here
     location ← find aim
@@ -104,7 +104,7 @@ abbrev mutual
       (do
         v ← eval value (uses i) here
         ready ← ready_all rest uses (suc i) here
-        give (Evaluated (operand_for (gives_hooked here.facts (type_of value)) (uses i) here.level (node_of value).number v) ∷ ready))
+        give (Evaluated (operand_for (is_lent_own here.facts (uses i) value) here.level (node_of value).number v) ∷ ready))
   ready_all (ByPath path rest) uses i here = do
     aim ← aimed path here
     ready ← ready_all rest uses (suc i) here
@@ -390,9 +390,9 @@ handing (Out (Raised exception by)) v = leave (Raised exception by)
 
 abbrev pub handed : List Param → (last : ℕ) → Here → Outcome (Unit {0}) → Does Value
 handed params last here flow =
-    looks (λ world. params_end here params (exit_of last flow)
-    >> (change (down_to here.level)
-    >> costs (result_bytes here.result (result_of here.result here.level world)) (handing flow (result_of here.result here.level world))))
+    params_end here params (exit_of last flow)
+    >> looks (λ world. change (down_to here.level)
+    >> costs (result_bytes here.result (result_of here.result here.level world)) (handing flow (result_of here.result here.level world)))
 
 -- A call's work is the sum of its procedure, and the bytes of its result, which starts at its default.
 abbrev pub entered_body : (globals : List Declared) (params : List Param) → Body → List Slot → Here → Does Value

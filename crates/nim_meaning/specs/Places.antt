@@ -79,6 +79,11 @@ kept_for how level node v = does (Waits level node (Holds v)) >> give v
 abbrev pub kept : Destination → Value → Deed Value
 kept to v = kept_for to.how to.level to.node v
 
+-- the value of a call, which is no literal
+abbrev pub kept_if : (hooked : Bool) → Destination → Value → Deed Value
+kept_if false to v = give v
+kept_if true to v = kept to v
+
 -- what an operation looks at is read as it is; all else is a copy
 abbrev pub copied_for : Use → Form → Destination → Location → Deed Value
 copied_for Looked f to location = fetched location

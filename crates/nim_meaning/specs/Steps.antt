@@ -8,7 +8,8 @@ use Rattle.nim_program.specs.declared.operation.Short.{Short}
 use Rattle.nim_program.specs.declared.operation.Short.TheVariants.{And, Or}
 use Rattle.nim_program.specs.Program.{Label, Ordinals, Exactly, Act, Doing, Building, Giving, Calling}
 use Rattle.nim_program.specs.Program.{Expr, Path, Args}
-use Rattle.nim_program.specs.Program.{type_of, node_of, node_at}
+use Rattle.nim_program.specs.Program.{type_of, node_of, node_at, types_in}
+use Rattle.nim_program.specs.Uses.{use_of}
 use Rattle.nim_program.specs.declared.operation.Use.{Use}
 use Rattle.nim_program.specs.declared.operation.Use.TheVariants.{Owned, Held}
 use Rattle.nim_program.specs.Ints.{truth}
@@ -23,10 +24,10 @@ use Rattle.nim_meaning.specs.Acts.{left_as, branch, costs, looks, change, passin
 use Rattle.nim_meaning.specs.Deeds as deeds
 use Rattle.nim_meaning.specs.Deeds.{Deed, Leaves, changed, carry, ◌>>=◌ as then_deed}
 use Rattle.nim_meaning.specs.Lifted.{temporary_ends}
-use Rattle.nim_meaning.specs.Here.{Here, gives_hooked, any_hooked, form_for, act_at}
+use Rattle.nim_meaning.specs.Here.{Here, gives_hooked, form_for, act_at}
 use Rattle.nim_meaning.specs.Waiting.{Wait, waiting, waiting_all}
 use Rattle.nim_meaning.specs.Aims.{handed_over, handed_bytes}
-use Rattle.nim_meaning.specs.Places.{Destination, taken_by, made_by, put}
+use Rattle.nim_meaning.specs.Places.{Destination, taken_by, made_by, kept_if, put}
 use Rattle.nim_meaning.specs.Table.{acts, moved, default_for}
 use Rattle.nim_meaning.specs.Shapes.{has_node, is_read, is_given}
 
@@ -92,14 +93,15 @@ left_at node (Out (Raised exception by)) = leave (Raised exception node)
 abbrev pub invoked : Here → (node proc : ℕ) → Use → Option Ty → List Operand → Does Value
 invoked here node proc how ty xs =
     costs (suc (handed_bytes xs)) (at_exit (here.calls proc (slots_for xs)) (left_at node))
-    >>= (λ v. carry (made_by (gives_hooked here.facts ty) (destination here how node) v))
+    >>= (λ v. carry (kept_if (gives_hooked here.facts ty) (destination here how node) v))
 
 -- it is carried out, or a procedure called
-abbrev pub carried : Here → (node : ℕ) → Act → Use → Option Ty → List (Option Ty) → List Operand → Does Value
-carried here node (Doing operation) how ty of xs = carry (row here.facts (Doing operation) (destination here how node) ty of xs)
-carried here node (Building fields) how ty of xs = carry (row here.facts (Building fields) (destination here how node) ty of xs)
-carried here node (Giving literal) how ty of xs = carry (row here.facts (Giving literal) (destination here how node) ty of xs)
-carried here node (Calling proc types) how ty of xs = invoked here node proc how ty (handed_over (any_hooked here.facts of) xs)
+abbrev pub carried : Here → (node : ℕ) → Act → Use → Option Ty → Args → List Operand → Does Value
+carried here node (Doing operation) how ty operands xs = carry (row here.facts (Doing operation) (destination here how node) ty (types_in operands) xs)
+carried here node (Building fields) how ty operands xs = carry (row here.facts (Building fields) (destination here how node) ty (types_in operands) xs)
+carried here node (Giving literal) how ty operands xs = carry (row here.facts (Giving literal) (destination here how node) ty (types_in operands) xs)
+carried here node (Calling proc types) how ty operands xs =
+    invoked here node proc how ty (handed_over here.facts operands (use_of here.modes (Calling proc types)) 0 xs)
 
 -- the value at a path that is read, a site by the number of its last node
 abbrev pub got_by : Facts → Plan → Destination → (site : ℕ) → Option Ty → Location → Deed Value

@@ -13,18 +13,19 @@ use Rattle.nim_program.specs.Uses.{use_of}
 use Rattle.nim_meaning.specs.Shapes.{is_read, is_held, is_lent, waits, waits_from}
 use Rattle.nim_meaning.specs.Here.{gives_hooked, form_for}
 
--- a value that waits at a node, and what it looks like
+-- a value that waits at a node, its type, and what it looks like
 pub record Wait : Type 0 where
   pub node : ℕ
+  pub of : Option Ty
   pub form : Form
 
 abbrev pub nodes_of : List Wait → List ℕ
 nodes_of [] = []
 nodes_of (w ∷ ws) = w.node ∷ nodes_of ws
 
-abbrev pub wait_if : Bool → ℕ → Form → List Wait
-wait_if true node f = record { node = node; form = f } ∷ []
-wait_if false node f = []
+abbrev pub wait_if : Bool → ℕ → Option Ty → Form → List Wait
+wait_if true node ty f = record { node = node; of = ty; form = f } ∷ []
+wait_if false node ty f = []
 
 abbrev pub held_if : Bool → ℕ → List ℕ → List ℕ
 held_if true node rest = node ∷ rest
@@ -38,7 +39,7 @@ reads_kept how = is_held how || is_lent how
 module _ (facts : Facts) (modes : (proc position : ℕ) → Mode) where
   -- that of a node of its own, where it has hooks
   abbrev pub own_wait : Bool → ℕ → Option Ty → List Wait
-  own_wait waits node ty = wait_if (gives_hooked facts ty && waits) node (form_for facts ty)
+  own_wait waits node ty = wait_if (gives_hooked facts ty && waits) node ty (form_for facts ty)
 
   -- In the order in which they are made. Conditions and branches are groups of their own.
   abbrev mutual

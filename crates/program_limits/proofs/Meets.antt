@@ -1,5 +1,5 @@
 -- Texts that are met from the last one to the first, and those of the whole program.
-use Rattle.std.proofs.Common.{◌≡◌, ◌∙◌, ℕ, ◌+◌, Bool, true, false, List, [], ◌∷◌, ◌++◌, Option, Some, None, refl, sym, ap, ap₂, append_assoc, append-nil, arith}
+use Rattle.std.proofs.Common.{◌≡◌, ◌∙◌, ℕ, ◌+◌, Bool, true, false, List, [], ◌∷◌, ◌++◌, refl, sym, ap, ap₂, append_assoc, append-nil, arith}
 use Rattle.std.specs.Prelude.{◌||◌, if◌then◌else◌}
 use Rattle.std.specs.HashSet.{contains}
 use Rattle.std.specs.Set.{is_member, unique_keys}
@@ -9,11 +9,14 @@ use Rattle.std.proofs.lemmas.Cmp.{nat_list_eq_equiv}
 use Rattle.nim_types.specs.Types.{same_text}
 use Rattle.nim_program.specs.declared.text_sizes.TheConstants.{MOST_DATA}
 use Rattle.nim_program.specs.Program.{Literal, Literals, Number, Characters, NoObject, PartsOf, ElementsOf, NoLiteral, ALiteral, Giving, Expr, Apply, Fresh}
+use Rattle.nim_program.specs.Program.{Label, Ordinals, Exactly, Chooser, ByConditions, ByLabels}
 use Rattle.nim_program.specs.Program.{NoArg, constant_in, Body, Program}
-use Rattle.nim_program.specs.Folds.{Standing, Part, Acting, Leading, total, total_at, lists, in_bodies, capped}
+use Rattle.nim_program.specs.Folds.{Standing, Part, Acting, Choosing, Leading, total, total_at, lists, in_bodies, capped}
 use Rattle.nim_program.specs.TextSizes.{text_bytes, all_bytes}
 use Rattle.nim_program.proofs.ForCallers.{Relates, related_of, related_bodies}
 use Rattle.program_limits.specs.Data.{literal_bytes, literal_texts, all_texts, part_texts, own_texts, body_texts, program_texts, texts_size}
+use Rattle.program_limits.specs.Data.{label_texts, branch_texts, labels_texts, chooser_texts}
+use Rattle.program_limits.specs.Meeting.{label_before, branch_before, labels_before, chooser_before}
 use Rattle.program_limits.specs.Meeting.{Met, Before, before, literal_before, all_before, standing_before, part_before, own_before, body_before}
 use Rattle.program_limits.specs.declared.texts.Texts.{Texts}
 
@@ -93,11 +96,32 @@ mutual
       literal_is first (all_before rest met) ∙ ap (λ ts. literal_texts first ++ ts) (all_is rest met)
       ∙ sym (append_assoc (literal_texts first) (all_texts rest) met)
 
+label_is : (label : Label) (met : List (List ℕ)) → label_before label met ≡ label_texts label ++ met
+label_is (Ordinals low high) met = refl
+label_is (Exactly text) met = refl
+
+branch_is : (labels : List Label) (met : List (List ℕ)) → branch_before labels met ≡ branch_texts labels ++ met
+branch_is [] met = refl
+branch_is (label ∷ labels) met =
+    label_is label (branch_before labels met) ∙ ap (λ ts. label_texts label ++ ts) (branch_is labels met)
+    ∙ sym (append_assoc (label_texts label) (branch_texts labels) met)
+
+labels_is : (all : List (List Label)) (met : List (List ℕ)) → labels_before all met ≡ labels_texts all ++ met
+labels_is [] met = refl
+labels_is (labels ∷ rest) met =
+    branch_is labels (labels_before rest met) ∙ ap (λ ts. branch_texts labels ++ ts) (labels_is rest met)
+    ∙ sym (append_assoc (branch_texts labels) (labels_texts rest) met)
+
+chooser_is : (chooser : Chooser) (met : List (List ℕ)) → chooser_before chooser met ≡ chooser_texts chooser ++ met
+chooser_is ByConditions met = refl
+chooser_is (ByLabels labels) met = labels_is labels met
+
 abbrev Puts : List (List ℕ) → Before → Type 0
 Puts texts puts = (met : List (List ℕ)) → puts met ≡ texts ++ met
 
 part_puts : (part : Part) → Puts (part_texts part) (part_before part)
 part_puts (Acting (Giving literal)) met = literal_is literal met
+part_puts (Choosing chooser looked) met = chooser_is chooser met
 part_puts (Leading read written (Standing literal)) met = ap (λ ts. literal_bytes literal ∷ ts) (literal_is literal met)
 part_puts part met = refl
 

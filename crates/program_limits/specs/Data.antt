@@ -1,6 +1,6 @@
 -- The data of a program as its size counts (E25): its globals, the names of the members of its enums and of its exceptions, the names of the six
--- exceptions that every program has, the texts of its constants and literals, and the constants that are read in place, as bytes: of texts and such
--- constants each distinct one once. Each stands with a word for its length, up to whole words. A name counts wherever it is declared, also where a text
+-- exceptions that every program has, the texts of its constants, literals and labels, and the constants that are read in place, as bytes: of texts and
+-- such constants each distinct one once. Each stands with a word for its length, up to whole words. A name counts wherever it is declared, also where a text
 -- or another name is equal to it.
 use Rattle.std.specs.Int.{w32, cast_unsigned, to_le_bytes}
 use Rattle.std.specs.Prelude.{ℕ, ◌+◌, List, [], ◌∷◌, ◌++◌, codes}
@@ -9,7 +9,8 @@ use Rattle.nim_types.specs.Types.{Ty, exception, Fact, members, below, Facts, sa
 use Rattle.nim_types.specs.declared.types.TypeDef.{TypeDef}
 use Rattle.nim_types.specs.declared.types.TypeDef.TheVariants as D
 use Rattle.nim_program.specs.Program.{Literal, Literals, Number, Characters, NoObject, PartsOf, ElementsOf, NoLiteral, ALiteral, Giving, Body, Program}
-use Rattle.nim_program.specs.Folds.{Standing, Part, Acting, Leading, Seen, lists, total_of, in_bodies}
+use Rattle.nim_program.specs.Program.{Label, Ordinals, Exactly, Chooser, ByConditions, ByLabels}
+use Rattle.nim_program.specs.Folds.{Standing, Part, Acting, Choosing, Leading, Seen, lists, total_of, in_bodies}
 use Rattle.nim_program.specs.Sizes.{globals_size}
 use Rattle.nim_program.specs.TextSizes.{text_bytes, all_bytes}
 
@@ -61,8 +62,26 @@ abbrev mutual
   joined_bytes NoLiteral = []
   joined_bytes (ALiteral first rest) = literal_bytes first ++ joined_bytes rest
 
+-- of labels, which a selector is compared with
+abbrev pub label_texts : Label → List (List ℕ)
+label_texts (Ordinals low high) = []
+label_texts (Exactly text) = text ∷ []
+
+abbrev pub branch_texts : List Label → List (List ℕ)
+branch_texts [] = []
+branch_texts (label ∷ labels) = label_texts label ++ branch_texts labels
+
+abbrev pub labels_texts : List (List Label) → List (List ℕ)
+labels_texts [] = []
+labels_texts (labels ∷ rest) = branch_texts labels ++ labels_texts rest
+
+abbrev pub chooser_texts : Chooser → List (List ℕ)
+chooser_texts ByConditions = []
+chooser_texts (ByLabels labels) = labels_texts labels
+
 abbrev pub part_texts : Part → List (List ℕ)
 part_texts (Acting (Giving literal)) = literal_texts literal
+part_texts (Choosing chooser looked) = chooser_texts chooser
 part_texts (Leading read written (Standing literal)) = literal_bytes literal ∷ literal_texts literal
 part_texts part = []
 

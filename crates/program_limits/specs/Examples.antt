@@ -5,6 +5,7 @@ use Rattle.nim_types.specs.Types.{Ty, int, text, array, tuple, enum, Key, member
 use Rattle.nim_program.specs.declared.expr.Node.{Node}
 use Rattle.nim_program.specs.declared.operation.Operation.TheVariants as O
 use Rattle.nim_program.specs.Program.{Characters, Doing, Giving, Expr, Apply, Args, NoArg, ByValue, Declared, Stmts, Empty, Then, Declare, Do, Program}
+use Rattle.nim_program.specs.Program.{Exactly, ByLabels, Select, Otherwise, Block}
 
 -- somewhere in the main module
 abbrev pub second_line : Place
@@ -68,6 +69,13 @@ repeating = record (starting [] saying) {
     hook = None;
   } ∷ [];
 }
+
+-- case "a"
+-- of "a", "b": echo "a"
+-- else: discard
+abbrev pub labelled : Program
+labelled = starting [] (Then (Select (at 0) (ByLabels ((Exactly (97 ∷ []) ∷ Exactly (98 ∷ []) ∷ []) ∷ [])) (said 1 (97 ∷ []) NoArg)
+    (Block (Then (Do (Apply (at 2) None (Doing O.Echo) (said 3 (97 ∷ []) NoArg))) Empty) (Otherwise Empty))) Empty)
 
 -- type Side = enum a, north
 -- var b: int

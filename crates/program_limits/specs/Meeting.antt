@@ -1,11 +1,12 @@
 -- The texts of a tree as they are met from the last one to the first: before those that were met. No public contract speaks of it.
-use Rattle.std.specs.Prelude.{◌≡◌, ℕ, false, List, ◌∷◌, Option, Some, None}
+use Rattle.std.specs.Prelude.{◌≡◌, ℕ, false, List, [], ◌∷◌, Option, Some, None}
 use Rattle.std.specs.HashSet.{contains}
 use Rattle.std.specs.Set.{is_member}
 use Rattle.nim_types.specs.Types.{same_text}
 use Rattle.nim_program.specs.declared.text_sizes.TheConstants.{MOST_DATA}
 use Rattle.nim_program.specs.Program.{Literal, Literals, Number, Characters, NoObject, PartsOf, ElementsOf, NoLiteral, ALiteral, Giving, Body}
-use Rattle.nim_program.specs.Folds.{Standing, Part, Acting, Leading, Seen, Sum, total_of, capped}
+use Rattle.nim_program.specs.Program.{Label, Ordinals, Exactly, Chooser, ByConditions, ByLabels}
+use Rattle.nim_program.specs.Folds.{Standing, Part, Acting, Choosing, Leading, Seen, Sum, total_of, capped}
 use Rattle.program_limits.specs.declared.texts.Texts.{Texts}
 use Rattle.program_limits.specs.Data.{literal_bytes, texts_size}
 
@@ -37,8 +38,25 @@ abbrev pub standing_before : Option Literal → Before
 standing_before None met = met
 standing_before (Some literal) met = literal_bytes literal ∷ met
 
+abbrev pub label_before : Label → Before
+label_before (Ordinals low high) met = met
+label_before (Exactly text) met = text ∷ met
+
+abbrev pub branch_before : List Label → Before
+branch_before [] met = met
+branch_before (label ∷ labels) met = label_before label (branch_before labels met)
+
+abbrev pub labels_before : List (List Label) → Before
+labels_before [] met = met
+labels_before (labels ∷ rest) met = branch_before labels (labels_before rest met)
+
+abbrev pub chooser_before : Chooser → Before
+chooser_before ByConditions met = met
+chooser_before (ByLabels labels) met = labels_before labels met
+
 abbrev pub part_before : Part → Before
 part_before (Acting (Giving literal)) met = literal_before literal met
+part_before (Choosing chooser looked) met = chooser_before chooser met
 part_before (Leading read written (Standing literal)) met = standing_before (Some literal) (literal_before literal met)
 part_before part met = met
 

@@ -12,6 +12,7 @@ ghost use Rattle.nim_program.specs.View.{handlers_of, body_of, proc_of, program_
 ghost use Rattle.program_limits.specs.Data.{texts_size, program_texts};
 ghost use Rattle.program_limits.specs.Meeting.{Met, Before, before, own_before, body_before};
 
+use crate::label_texts::of_branch_labels;
 use crate::texts::{Texts, no_texts, of_expr, of_operand, of_operands, of_path};
 use arc_base::Memory;
 use nim_program::{Body, Branch, CaseBranch, Expr, Handler, Operand, Proc, Program, Stmt};
@@ -82,7 +83,8 @@ fn of_stmt(alloc: Global, texts: &mut Texts, stmt: &Stmt)
         } => {
             of_block(alloc, texts, otherwise);
             of_case_branches(alloc, texts, branches);
-            of_selector(alloc, texts, selector)
+            of_selector(alloc, texts, selector);
+            of_branch_labels(alloc, texts, branches)
         }
         Stmt::Loop { head, body, .. } => {
             of_block(alloc, texts, body);

@@ -6,8 +6,9 @@ ghost use Rattle.nim_types.specs.Types.{int, array};
 ghost use Rattle.program_limits.specs.Frames.{beginning, frame_limits};
 ghost use Rattle.program_limits.specs.Data.{data_counted};
 ghost use Rattle.program_limits.specs.Limits.{data_limits};
-ghost use Rattle.program_limits.specs.Examples.{most_data, more_data, several, repeating, discarding};
-ghost use Rattle.program_limits.specs.Examples.{holding, nested, second_line};
+ghost use Rattle.program_limits.specs.Examples.{most_data, more_data, several, repeating, labelled};
+ghost use Rattle.program_limits.specs.Examples.{discarding, holding, nested};
+ghost use Rattle.program_limits.specs.Examples.{second_line};
 
 /// Programs at the limits of data, of procedures and of levels.
 pub fn limit_examples()
@@ -15,6 +16,8 @@ pub fn limit_examples()
     ensures several { data_counted several ≡ 4 + 8 + 12 + 84 + 12 }
     // Two texts of one byte, of which one stands in four places and the other in two.
     ensures repeating { data_counted repeating ≡ 84 + 8 + 8 }
+    // A text that is a constant and a label, and one that is a label alone.
+    ensures labelled { data_counted labelled ≡ 84 + 8 + 8 }
     ensures most_data { data_counted most_data ≡ 1040384 }
     ensures fitting { data_limits most_data ≡ Ok tt }
     ensures more_data { data_limits more_data ≡ refused TooLarge beginning }

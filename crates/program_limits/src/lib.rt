@@ -6,6 +6,7 @@ mod block_texts;
 mod data;
 mod frames;
 mod known;
+mod label_texts;
 mod lacking;
 mod laws;
 mod limits;

@@ -1,4 +1,4 @@
-// The texts of a program's constants and literals, each distinct one once. They are met from the
+// The texts of a program's constants, literals and labels, each distinct one once. They are met from the
 // last one to the first, since a part is put before all that stands behind it.
 ghost use Rattle.std.specs.Prelude.{◌≡◌, ◌∷◌, ◌++◌, [], ℕ, Bool, true, List, option_map};
 ghost use Rattle.std.specs.Prelude.{if◌then◌else◌, OnOk};
@@ -14,6 +14,7 @@ ghost use Rattle.program_limits.specs.Meeting.{Met, before, own_before};
 ghost use Rattle.program_limits.specs.Meeting.{literal_before, all_before, standing_before};
 
 use crate::data::plus;
+use crate::label_texts::of_pick_labels;
 use arc_base::{Bytes, Memory};
 use nim_program::{Choice, Expr, Literal, Operand, Path, Pick, text_bytes};
 use std::alloc::Global;
@@ -48,7 +49,8 @@ fn put(alloc: Global, kept: &mut HashSet<Bytes>, text: &Bytes) -> Result<(), Mem
     Ok(())
 }
 
-fn keep(alloc: Global, texts: &mut Texts, text: &Bytes)
+/// One more.
+pub fn keep(alloc: Global, texts: &mut Texts, text: &Bytes)
     ensures { (met : List (List ℕ)) → Met texts.old met → Met texts.new (text.now ∷ met) }
 {
     if texts.kept.contains(text) {
@@ -166,7 +168,8 @@ pub fn of_expr(alloc: Global, texts: &mut Texts, expr: &Expr)
         } => {
             of_else(alloc, texts, otherwise);
             of_picks(alloc, texts, branches);
-            of_operand(alloc, texts, &**selector)
+            of_operand(alloc, texts, &**selector);
+            of_pick_labels(alloc, texts, branches)
         }
     }
 }

@@ -21,18 +21,18 @@ use Rattle.word_code.specs.RoutineTable.{Beside, IsRewritten, trap_line}
 use Rattle.word_code.specs.Routines.{ComesBack, Comes, IsCalling, goes_on}
 use Rattle.word_code.proofs.ForCallers.{MemoryLaw, Sized, Runs, then_runs, Within, at as state_at, run_label, run_copy, run_compute, run_argument}
 use Rattle.word_code.proofs.ForCallers.{run_past, run_off, got, got_sum}
-use Rattle.refc_runtime.specs.declared.heap.TheConstants.{HEAP_WORD_BYTES, HEAP_DATA}
-use Rattle.refc_runtime.specs.declared.texts.TheConstants.{MOVE}
-use Rattle.refc_runtime.specs.declared.lines.TheConstants.{APPEND}
-use Rattle.refc_runtime.specs.HeapUse.{IsThere, AreDistant}
-use Rattle.refc_runtime.specs.HeapRoutines.{IsBesideHeap, IsKeptThere}
-use Rattle.refc_runtime.specs.TextRoutines.{AreBytes, Copying, moves_bytes}
-use Rattle.refc_runtime.specs.GrowRoutine.{Owned, Growing, place_of, room_of, holds_it, may_grow, IsPresent, kept_of, grows}
-use Rattle.refc_runtime.specs.AppendRoutine.{IsFilled, block_then, classes_behind, stands_behind, GrowthLeaves, Source, Outside, Inside, source_at}
-use Rattle.refc_runtime.specs.AppendRoutine.{source_bytes}
-use Rattle.refc_runtime.specs.AppendRoutine.{IsSource, Appending, MayAppend, appends}
+use Rattle.heap_memory.specs.declared.numbers.TheConstants.{HEAP_WORD_BYTES, HEAP_DATA}
+use Rattle.heap_memory.specs.declared.numbers.TheConstants.{MOVE}
+use Rattle.heap_memory.specs.declared.numbers.TheConstants.{APPEND}
+use Rattle.heap_memory.specs.HeapUse.{IsThere, AreDistant}
+use Rattle.heap_memory.specs.HeapRoutines.{IsBesideHeap, IsKeptThere}
+use Rattle.heap_memory.specs.TextRoutines.{AreBytes, Copying, moves_bytes}
+use Rattle.heap_memory.specs.GrowRoutine.{Owned, Growing, place_of, room_of, holds_it, may_grow, IsPresent, kept_of, grows}
+use Rattle.heap_memory.specs.AppendRoutine.{IsFilled, block_then, classes_behind, stands_behind, GrowthLeaves, Source, Outside, Inside, source_at}
+use Rattle.heap_memory.specs.AppendRoutine.{source_bytes}
+use Rattle.heap_memory.specs.AppendRoutine.{IsSource, Appending, MayAppend, appends}
 use Rattle.refc_runtime.specs.LineCode.{put_behind_lines, append_lines}
-use Rattle.refc_runtime.proofs.BlockLists.{size_some}
+use Rattle.heap_memory.proofs.ForCallers.{size_some}
 use Rattle.refc_runtime.proofs.Calls.{later, inside, enters, returns_awaiting}
 use Rattle.refc_runtime.proofs.Coming.{calling_state, comes_back, ends_behind}
 use Rattle.refc_runtime.proofs.GrowFacts.{beside_more}
@@ -40,7 +40,7 @@ use Rattle.refc_runtime.proofs.GrowRuns.{call_runs}
 use Rattle.refc_runtime.proofs.Grew.{growing_lines, Grew, grew, full}
 use Rattle.refc_runtime.proofs.Fills.{kept_length, front_read, heap_with, block_there, place_is, ends_low, open_at, front_part, stood, not_other, others_stay}
 use Rattle.refc_runtime.proofs.Fills.{Filled, fills}
-use Rattle.refc_runtime.proofs.HeapUses.{is_there, distant}
+use Rattle.heap_memory.proofs.ForCallers.{is_there, distant}
 use Rattle.refc_runtime.proofs.Pieces.{read_far}
 
 -- ---- what comes behind a text

@@ -8,7 +8,7 @@ use Rattle.word_code.specs.Memory.{Memory, as_state, may_put, with_number, bytes
 use Rattle.word_code.specs.RoutineTable.{Beside, IsRewritten}
 use Rattle.word_code.proofs.ForCallers.{MemoryLaw, Sized, sizes_more, store_rewritten, store_sized, store_here}
 use Rattle.refc_runtime.proofs.NumberTexts.{one_byte}
-use Rattle.refc_runtime.proofs.Ranges.{written_in, part_written, byte_before}
+use Rattle.heap_memory.proofs.ForCallers.{written_in, part_written, byte_before}
 
 -- one byte
 module _ (law : MemoryLaw) (m : Memory) (sized : Sized m) (a b : ℕ) (may : may_fill m a 1 ≡ true) where

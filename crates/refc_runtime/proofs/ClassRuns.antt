@@ -1,11 +1,11 @@
 -- What the routine that finds a size does.
 use Rattle.std.proofs.Common.{◌≡◌, ℕ, zero, suc, ◌+◌, ◌*◌, ◌<◌, ◌≤◌, ◌⊎◌, inl, inr, List, [], ◌∷◌, Some, refl, sym, ap, subst}
 use Rattle.std.proofs.Common.{◌∙◌, ⊎_elim, arith}
-use Rattle.std.specs.Prelude.{nat_le, not}
-use Rattle.std.proofs.lemmas.Bool.{lt-ltb, le-ltb, le-leb, lt-leb, cond-true, cond-false, cases_lt}
+use Rattle.std.specs.Prelude.{not}
+use Rattle.std.proofs.lemmas.Bool.{lt-ltb, le-ltb, cases_lt}
 use Rattle.rv32_isa.specs.Machine.{Lives}
 use Rattle.nim_types.specs.declared.blocks.TheConstants.{HEADER_BYTES}
-use Rattle.nim_meaning.specs.Heap.{Class, sizes_from, size_count, class_for}
+use Rattle.nim_meaning.specs.Heap.{size_count, class_for}
 use Rattle.word_code.specs.declared.word.WordOperation.TheVariants as operation
 use Rattle.word_code.specs.declared.word.Test.TheVariants as test
 use Rattle.word_code.specs.declared.word.WordInstr.{WordInstr}
@@ -15,35 +15,13 @@ use Rattle.word_code.specs.Memory.{Memory}
 use Rattle.word_code.specs.Words.{computed, Vars, no_words, put, WordState}
 use Rattle.word_code.specs.Routines.{goes_on}
 use Rattle.word_code.proofs.ForCallers.{Runs, then_runs, Within, at as state_at, run_label, run_constant, run_sum, run_compute, run_past, run_off, got, got_sum}
-use Rattle.refc_runtime.specs.declared.heap.TheConstants.{CLASS}
-use Rattle.refc_runtime.specs.HeapBlocks.{size_at}
-use Rattle.refc_runtime.specs.HeapRoutines.{class_word, class_of}
+use Rattle.heap_memory.specs.declared.numbers.TheConstants.{CLASS}
+use Rattle.heap_memory.specs.HeapBlocks.{size_at}
+use Rattle.heap_memory.specs.HeapRoutines.{class_word, class_of}
 use Rattle.refc_runtime.specs.HeapCode.{class_lines}
 use Rattle.refc_runtime.proofs.Calls.{later, inside, returns, returns_before}
-use Rattle.refc_runtime.proofs.TakeRuns.{size_within}
-
--- ---- the size for a payload
-
-abbrev sizes_behind : (count class : ℕ) → List Class
-sizes_behind count class = sizes_from count (size_at class)
-
--- the next size is the one, or it is further on
-pub this_size : (payload n class : ℕ) → payload + HEADER_BYTES ≤ size_at class → class_for payload (sizes_behind (suc n) class) ≡ 0
-this_size payload n class holds_it =
-    cond-true (nat_le (payload + HEADER_BYTES) (size_at class)) 0 (suc (class_for payload (sizes_behind n (suc class))))
-    (le-leb (payload + HEADER_BYTES) (size_at class) holds_it)
-
-pub later_size : (payload n class : ℕ) → size_at class < payload + HEADER_BYTES
-    → class_for payload (sizes_behind (suc n) class) ≡ suc (class_for payload (sizes_behind n (suc class)))
-later_size payload n class less =
-    cond-false (nat_le (payload + HEADER_BYTES) (size_at class)) 0 (suc (class_for payload (sizes_behind n (suc class))))
-    (lt-leb (payload + HEADER_BYTES) (size_at class) less)
-
-no_size : (payload n class : ℕ) → n + class ≡ size_count → size_at 20 < payload + HEADER_BYTES → class_for payload (sizes_behind n class) ≡ n
-no_size payload zero class all less = refl
-no_size payload (suc n) class all less =
-    let h = size_within class 20 (omega (arith, all)) in
-    later_size payload n class (omega (arith, h, less)) ∙ ap suc (no_size payload n (suc class) (omega (arith, all)) less)
+use Rattle.heap_memory.proofs.ForCallers.{size_within}
+use Rattle.heap_memory.proofs.ForCallers.{later_size, no_size, sizes_behind, this_size}
 
 -- ---- the routine's lines
 

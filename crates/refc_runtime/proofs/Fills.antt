@@ -9,17 +9,18 @@ use Rattle.nim_meaning.specs.Heap.{Class}
 use Rattle.word_code.specs.Memory.{Memory, bytes_at, may_fill}
 use Rattle.word_code.specs.RoutineTable.{IsRewritten}
 use Rattle.word_code.proofs.ForCallers.{Sized}
-use Rattle.refc_runtime.specs.HeapState.{Standing, Stands, with_block, without_block, IsHeap}
-use Rattle.refc_runtime.specs.HeapUse.{IsThere, IsRefilled}
-use Rattle.refc_runtime.specs.HeapRoutines.{class_of, fits, IsBesideHeap}
-use Rattle.refc_runtime.specs.GrowRoutine.{Owned, Growing, taking, place_of, room_of, holds_it, IsPresent, stands_then, kept_of}
-use Rattle.refc_runtime.specs.GrowRoutine.{GrowLeaves, GrowGives}
-use Rattle.refc_runtime.specs.AppendRoutine.{with_owned, with_payload, new_block, block_then, classes_behind, stands_behind, IsFilled}
-use Rattle.refc_runtime.proofs.BlockLists.{if_same, if_other, size_some}
-use Rattle.refc_runtime.proofs.GrowFacts.{same_stands, beside_heap}
-use Rattle.refc_runtime.proofs.HeapUses.{is_there, refilled, still_heap}
+use Rattle.heap_memory.specs.HeapState.{Standing, Stands, with_block, without_block, IsHeap}
+use Rattle.heap_memory.specs.HeapUse.{IsThere, IsRefilled}
+use Rattle.heap_memory.specs.HeapRoutines.{class_of, fits, IsBesideHeap}
+use Rattle.heap_memory.specs.GrowRoutine.{Owned, Growing, taking, place_of, room_of, holds_it, IsPresent, stands_then, kept_of}
+use Rattle.heap_memory.specs.GrowRoutine.{GrowLeaves, GrowGives}
+use Rattle.heap_memory.specs.AppendRoutine.{with_owned, with_payload, new_block, block_then, classes_behind, stands_behind, IsFilled}
+use Rattle.heap_memory.proofs.ForCallers.{if_same, if_other, size_some}
+use Rattle.heap_memory.proofs.ForCallers.{same_stands}
+use Rattle.refc_runtime.proofs.GrowFacts.{beside_heap}
+use Rattle.heap_memory.proofs.ForCallers.{is_there, refilled, still_heap}
 use Rattle.refc_runtime.proofs.Pieces.{joined_read}
-use Rattle.refc_runtime.proofs.Ranges.{written_in, part_read, part_written}
+use Rattle.heap_memory.proofs.ForCallers.{written_in, part_read, part_written}
 
 -- ---- the front of a block
 

@@ -11,8 +11,9 @@ use Rattle.word_code.specs.Memory.{Memory, number_at, may_put, with_number, own_
 use Rattle.word_code.specs.Words.{computed, Vars, no_words, put, WordState}
 use Rattle.word_code.specs.Routines.{goes_on}
 use Rattle.word_code.proofs.ForCallers.{Runs, then_runs, Within, at as state_at, run_datum, run_copy, run_sum, run_compute, run_load, run_store, got, got_sum}
-use Rattle.refc_runtime.specs.declared.heap.TheConstants.{GIVE, CONTENTS_KIND, HEADER_LESS, KIND_LESS}
-use Rattle.refc_runtime.specs.HeapBlocks.{first_word}
+use Rattle.heap_memory.specs.declared.numbers.TheConstants.{GIVE, CONTENTS_KIND}
+use Rattle.refc_runtime.specs.declared.heap.TheConstants.{HEADER_LESS, KIND_LESS}
+use Rattle.heap_memory.specs.HeapBlocks.{first_word}
 use Rattle.refc_runtime.specs.HeapCode.{give_lines}
 use Rattle.refc_runtime.proofs.Calls.{later, inside, returns}
 use Rattle.refc_runtime.proofs.HeapWords.{word_at}

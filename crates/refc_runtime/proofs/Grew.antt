@@ -15,11 +15,11 @@ use Rattle.word_code.specs.Words.{Vars, no_words, put, WordState, step}
 use Rattle.word_code.specs.RoutineTable.{trap_line}
 use Rattle.word_code.specs.Routines.{ComesBack, EndsProgram, Comes}
 use Rattle.word_code.proofs.ForCallers.{MemoryLaw, Sized, sizes_same, AlwaysStops, stops_on, Runs, then_runs, Within, at as state_at, run_argument, got}
-use Rattle.refc_runtime.specs.declared.texts.TheConstants.{GROW}
-use Rattle.refc_runtime.specs.HeapRoutines.{fits, IsBesideHeap, IsKeptThere}
-use Rattle.refc_runtime.specs.GrowRoutine.{Owned, Growing, taking, place_of, holds_it, may_grow, IsPresent, MayGrow, kept_of, GrowLeaves, grow_work, grows}
-use Rattle.refc_runtime.specs.AppendRoutine.{IsFilled}
-use Rattle.refc_runtime.proofs.HeapUses.{is_there}
+use Rattle.heap_memory.specs.declared.numbers.TheConstants.{GROW}
+use Rattle.heap_memory.specs.HeapRoutines.{fits, IsBesideHeap, IsKeptThere}
+use Rattle.heap_memory.specs.GrowRoutine.{Owned, Growing, taking, place_of, holds_it, may_grow, IsPresent, MayGrow, kept_of, GrowLeaves, grow_work, grows}
+use Rattle.heap_memory.specs.AppendRoutine.{IsFilled}
+use Rattle.heap_memory.proofs.ForCallers.{is_there}
 use Rattle.refc_runtime.proofs.GrowRuns.{call_runs}
 use Rattle.refc_runtime.proofs.Fills.{grown_filled, ends_low}
 

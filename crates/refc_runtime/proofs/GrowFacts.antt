@@ -1,95 +1,20 @@
 -- What is true of blocks where one grows.
-use Rattle.std.proofs.Common.{◌≡◌, ◌≢◌, ℕ, zero, suc, ◌+◌, ◌*◌, ◌<◌, ◌≤◌, inl, inr, List, length, take, Some, refl, sym, ap}
-use Rattle.std.proofs.Common.{subst, ◌∙◌, ⊎_elim, arith, Bool, true, false}
-use Rattle.std.specs.Prelude.{nat_le, if◌then◌else◌}
-use Rattle.std.proofs.lemmas.Bool.{cases_lt}
+use Rattle.std.proofs.Common.{◌≡◌, ◌≢◌, ℕ, ◌+◌, ◌≤◌, inl, inr, List, length, take, Some, refl, sym, ap}
+use Rattle.std.proofs.Common.{subst, ◌∙◌, arith, true}
 use Rattle.std.proofs.lemmas.List.{length-take}
 use Rattle.std.proofs.lemmas.Option.{same_Some}
-use Rattle.nim_types.specs.declared.blocks.TheConstants.{HEADER_BYTES}
-use Rattle.nim_meaning.specs.Heap.{Class, size_count, sizes_from, class_for}
+use Rattle.nim_meaning.specs.Heap.{Class}
 use Rattle.rv32_isa.specs.Image.{heap_at}
 use Rattle.word_code.specs.Memory.{Memory, bytes_at, may_fill}
 use Rattle.word_code.specs.RoutineTable.{Beside, IsRewritten}
 use Rattle.word_code.proofs.ForCallers.{Sized, sizes_more}
-use Rattle.refc_runtime.specs.HeapBlocks.{size_at}
-use Rattle.refc_runtime.specs.HeapState.{Standing, Stands, with_block, IsHeap}
-use Rattle.refc_runtime.specs.HeapUse.{IsThere, AreDistant, IsRefilled}
-use Rattle.refc_runtime.specs.HeapRoutines.{class_of, IsBesideHeap}
-use Rattle.refc_runtime.specs.TextRoutines.{AreBytes, Copying, MayCopy, AreThere}
-use Rattle.refc_runtime.proofs.BlockLists.{if_same, size_some}
-use Rattle.refc_runtime.proofs.HeapUses.{is_there, distant, refilled}
-use Rattle.refc_runtime.proofs.ClassRuns.{later_size, this_size}
-use Rattle.refc_runtime.proofs.Ranges.{written_in, part_read, part_written}
-
--- ---- the size for a payload
-
-sizes_few : (payload n size : ℕ) → class_for payload (sizes_from n size) ≤ n
-sizes_few payload zero size = omega arith
-sizes_few payload (suc n) size = by (nat_le (payload + HEADER_BYTES) size) (sizes_few payload n (2 * size))
-  where
-    by : (b : Bool) → class_for payload (sizes_from n (2 * size)) ≤ n → (if b then 0 else suc (class_for payload (sizes_from n (2 * size)))) ≤ suc n
-    by true h = omega arith
-    by false h = omega (arith, h)
-
-pub class_few : (payload : ℕ) → class_of payload ≤ size_count
-class_few payload = sizes_few payload size_count 16
-
-size_holds : (payload n class : ℕ) → class_for payload (sizes_from n (size_at class)) < n
-    → payload + HEADER_BYTES ≤ size_at (class_for payload (sizes_from n (size_at class)) + class)
-size_holds payload zero class less = absurd (omega (arith, less))
-size_holds payload (suc n) class less = ⊎_elim
-    (λ h. let e = later_size payload n class h in further e (size_holds payload n (suc class) (omega (arith, e, less)))) here
-    (cases_lt (size_at class) (payload + HEADER_BYTES))
-  where
-    here : payload + HEADER_BYTES ≤ size_at class → payload + HEADER_BYTES ≤ size_at (class_for payload (sizes_from (suc n) (size_at class)) + class)
-    here h =
-        let e = this_size payload n class h in
-        let i : class_for payload (sizes_from (suc n) (size_at class)) + class ≡ class = omega (arith, e) in
-        let s : size_at (class_for payload (sizes_from (suc n) (size_at class)) + class) ≡ size_at class = ap size_at i in
-        omega (arith, h, s)
-
-    further : class_for payload (sizes_from (suc n) (size_at class)) ≡ suc (class_for payload (sizes_from n (size_at (suc class))))
-        → payload + HEADER_BYTES ≤ size_at (class_for payload (sizes_from n (size_at (suc class))) + suc class)
-        → payload + HEADER_BYTES ≤ size_at (class_for payload (sizes_from (suc n) (size_at class)) + class)
-    further e h =
-        let i : class_for payload (sizes_from (suc n) (size_at class)) + class ≡ class_for payload (sizes_from n (size_at (suc class))) + suc class
-        = omega (arith, e) in
-        let s : size_at (class_for payload (sizes_from (suc n) (size_at class)) + class)
-        ≡ size_at (class_for payload (sizes_from n (size_at (suc class))) + suc class) = ap size_at i in
-        omega (arith, h, s)
-
-pub class_holds : (payload : ℕ) → class_of payload < size_count → payload + HEADER_BYTES ≤ size_at (class_of payload)
-class_holds payload less =
-    let h = size_holds payload size_count 0 less in
-    let s : size_at (class_of payload + 0) ≡ size_at (class_of payload) = (let i : class_of payload + 0 ≡ class_of payload = omega arith in ap size_at i) in
-    omega (arith, h, s)
-
--- ---- the same blocks
-
-pub same_stands : (at : ℕ) (classes : List Class) (stands others : Stands) (m : Memory) → ((k : ℕ) → others k ≡ stands k)
-    → IsHeap at classes stands m → IsHeap at classes others m
-same_stands at classes stands others m same h = record {
-  blocks = h.blocks;
-  frees = h.frees;
-  spare = h.spare;
-  kept = record {
-    all = h.kept.all;
-    held = record {
-      there = λ k s e. h.kept.held.there k s (sym (same k) ∙ e);
-      only = λ k s e. same k ∙ h.kept.held.only k s e;
-    };
-    linked = h.kept.linked;
-    counted = h.kept.counted;
-    sizes = h.kept.sizes;
-    demanded = h.kept.demanded;
-  };
-  none = h.none;
-  bytes = h.bytes;
-  words = h.words;
-  room = h.room;
-  next = h.next;
-  heads = h.heads;
-}
+use Rattle.heap_memory.specs.HeapState.{Standing, Stands, with_block, IsHeap}
+use Rattle.heap_memory.specs.HeapUse.{IsThere, AreDistant, IsRefilled}
+use Rattle.heap_memory.specs.HeapRoutines.{IsBesideHeap}
+use Rattle.heap_memory.specs.TextRoutines.{AreBytes, Copying, MayCopy, AreThere}
+use Rattle.heap_memory.proofs.ForCallers.{if_same, size_some}
+use Rattle.heap_memory.proofs.ForCallers.{is_there, distant, refilled}
+use Rattle.heap_memory.proofs.ForCallers.{written_in, part_read, part_written}
 
 -- ---- changes of memory
 

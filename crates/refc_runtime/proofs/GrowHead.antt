@@ -14,16 +14,17 @@ use Rattle.word_code.specs.Words.{computed, holds, Vars, no_words, put, WordStat
 use Rattle.word_code.specs.Routines.{goes_on}
 use Rattle.word_code.proofs.ForCallers.{MemoryLaw, Sized, Runs, then_runs, Within, at as state_at}
 use Rattle.word_code.proofs.ForCallers.{run_label, run_constant, run_sum, run_compute, run_load, run_past, run_off, got}
-use Rattle.refc_runtime.specs.declared.heap.TheConstants.{CONTENTS_KIND, HEADER_LESS, KIND_LESS}
-use Rattle.refc_runtime.specs.declared.texts.TheConstants.{GROW}
-use Rattle.refc_runtime.specs.HeapBlocks.{size_at, first_word}
-use Rattle.refc_runtime.specs.HeapUse.{IsThere}
-use Rattle.refc_runtime.specs.GrowRoutine.{Owned, Growing, place_of, MayGrow}
+use Rattle.heap_memory.specs.declared.numbers.TheConstants.{CONTENTS_KIND}
+use Rattle.refc_runtime.specs.declared.heap.TheConstants.{HEADER_LESS, KIND_LESS}
+use Rattle.heap_memory.specs.declared.numbers.TheConstants.{GROW}
+use Rattle.heap_memory.specs.HeapBlocks.{size_at, first_word}
+use Rattle.heap_memory.specs.HeapUse.{IsThere}
+use Rattle.heap_memory.specs.GrowRoutine.{Owned, Growing, place_of, MayGrow}
 use Rattle.refc_runtime.specs.TextCode.{larger_lines, none_lines, present_lines, grow_lines}
 use Rattle.refc_runtime.proofs.Calls.{later, inside, returns_awaiting}
-use Rattle.refc_runtime.proofs.HeapUses.{is_there}
+use Rattle.heap_memory.proofs.ForCallers.{is_there}
 use Rattle.refc_runtime.proofs.HeapMemory as memory
-use Rattle.refc_runtime.proofs.TakeRuns.{size_shifted, size_most}
+use Rattle.heap_memory.proofs.ForCallers.{size_shifted, size_most}
 
 module _ (law : MemoryLaw) (live : Lives) (procs : List WordProc) (n : ℕ) (s : WordState) (to : ℕ) (rest : List WordInstr) where
   abbrev own : ℕ

@@ -19,21 +19,22 @@ use Rattle.word_code.specs.RoutineTable.{trap_line}
 use Rattle.word_code.specs.Routines.{Routine, ComesBack, EndsProgram, Comes, IsCalling, goes_on}
 use Rattle.word_code.proofs.ForCallers.{MemoryLaw, Sized, sizes_same, AlwaysSteps, AlwaysStops, stops_on, Runs, then_runs, Within, at as state_at, run_label}
 use Rattle.word_code.proofs.ForCallers.{run_argument, run_past, run_off, got}
-use Rattle.refc_runtime.specs.declared.heap.TheConstants.{TAKE, GIVE, CLASS, CONTENTS_KIND, TAKE_LINES, NEXT_LINES, GIVE_LINES}
-use Rattle.refc_runtime.specs.declared.heap.TheConstants.{CLASS_LINES, FURTHER_LINES}
-use Rattle.refc_runtime.specs.declared.texts.TheConstants.{MOVE, GROW, GROW_LINES, KEPT_LINES, MOVE_START, MOVE_BYTE}
-use Rattle.refc_runtime.specs.HeapState.{Standing, Stands, with_block, IsHeap}
-use Rattle.refc_runtime.specs.HeapUse.{IsThere}
-use Rattle.refc_runtime.specs.HeapRoutines.{class_word, class_of, fits, has_free, IsTaken, Leaves, IsBesideHeap, takes, gives_back, finds_class, IsKeptThere}
-use Rattle.refc_runtime.specs.TextRoutines.{AreBytes, moves_bytes}
-use Rattle.refc_runtime.specs.GrowRoutine.{classes_then, stands_then, kept_of, Owned, Growing, taking, place_of, holds_it, may_grow, IsPresent, MayGrow}
-use Rattle.refc_runtime.specs.GrowRoutine.{IsGrown, GrowLeaves, GrowGives, grow_work, grows}
+use Rattle.heap_memory.specs.declared.numbers.TheConstants.{TAKE, GIVE, CLASS, CONTENTS_KIND, TAKE_LINES, NEXT_LINES, GIVE_LINES}
+use Rattle.heap_memory.specs.declared.numbers.TheConstants.{CLASS_LINES, FURTHER_LINES}
+use Rattle.heap_memory.specs.declared.numbers.TheConstants.{MOVE, GROW, GROW_LINES, KEPT_LINES, MOVE_START, MOVE_BYTE}
+use Rattle.heap_memory.specs.HeapState.{Standing, Stands, with_block, IsHeap}
+use Rattle.heap_memory.specs.HeapUse.{IsThere}
+use Rattle.heap_memory.specs.HeapRoutines.{class_word, class_of, fits, has_free, IsTaken, Leaves, IsBesideHeap, takes, gives_back, finds_class, IsKeptThere}
+use Rattle.heap_memory.specs.TextRoutines.{AreBytes, moves_bytes}
+use Rattle.heap_memory.specs.GrowRoutine.{classes_then, stands_then, kept_of, Owned, Growing, taking, place_of, holds_it, may_grow, IsPresent, MayGrow}
+use Rattle.heap_memory.specs.GrowRoutine.{IsGrown, GrowLeaves, GrowGives, grow_work, grows}
 use Rattle.refc_runtime.specs.TextCode.{grown_lines, larger_lines, grow_lines}
-use Rattle.refc_runtime.proofs.BlockLists.{if_same, if_other}
+use Rattle.heap_memory.proofs.ForCallers.{if_same, if_other}
 use Rattle.refc_runtime.proofs.Calls.{later, within, inside, enters, from_call, stops_call, returns_awaiting}
-use Rattle.refc_runtime.proofs.HeapUses.{is_there}
+use Rattle.heap_memory.proofs.ForCallers.{is_there}
 use Rattle.refc_runtime.proofs.GrowHead.{grow_proc, Small, small_none, small_some, stays, stays_none}
-use Rattle.refc_runtime.proofs.GrowFacts.{class_few, class_holds, same_stands, beside_more, copying, kept_long, may_copy, new_payload, new_long, heap_then}
+use Rattle.heap_memory.proofs.ForCallers.{class_few, class_holds, same_stands}
+use Rattle.refc_runtime.proofs.GrowFacts.{beside_more, copying, kept_long, may_copy, new_payload, new_long, heap_then}
 use Rattle.refc_runtime.proofs.GrowFacts.{new_front, rest_then}
 
 -- ---- calls of a routine that come back

@@ -17,10 +17,10 @@ use Rattle.word_code.specs.Words.{Vars, no_words, params_of, from_proc, WordStat
 use Rattle.word_code.specs.RoutineTable.{trap_line}
 use Rattle.word_code.specs.Routines.{ComesBack, EndsProgram, Comes, IsCalling, goes_on}
 use Rattle.word_code.proofs.ForCallers.{MemoryLaw, Sized, Runs, then_runs, AlwaysSteps, AlwaysStops, stops_on, at as state_at}
-use Rattle.refc_runtime.specs.declared.heap.TheConstants.{TAKE, GIVE, CLASS, TAKE_LINES, NEXT_LINES}
-use Rattle.refc_runtime.specs.HeapBlocks.{size_at, all_size, first_place}
-use Rattle.refc_runtime.specs.HeapState.{first_of, IsHeap}
-use Rattle.refc_runtime.specs.HeapRoutines.{class_word, class_of, Taking, fits, has_free, MayTake, IsTaken, Leaves, takes, gives_back, finds_class, IsKeptThere}
+use Rattle.heap_memory.specs.declared.numbers.TheConstants.{TAKE, GIVE, CLASS, TAKE_LINES, NEXT_LINES}
+use Rattle.heap_memory.specs.HeapBlocks.{size_at, all_size, first_place}
+use Rattle.heap_memory.specs.HeapState.{first_of, IsHeap}
+use Rattle.heap_memory.specs.HeapRoutines.{class_word, class_of, Taking, fits, has_free, MayTake, IsTaken, Leaves, takes, gives_back, finds_class, IsKeptThere}
 use Rattle.refc_runtime.specs.HeapCode.{take_lines, give_lines, class_lines}
 use Rattle.refc_runtime.proofs.HeapWords.{word_at, words_below}
 use Rattle.refc_runtime.proofs.HeapMemory as memory

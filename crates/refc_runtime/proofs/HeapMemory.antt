@@ -1,5 +1,5 @@
 -- Memory in which a block is taken or given.
-use Rattle.std.proofs.Common.{◌≡◌, ℕ, suc, ◌+◌, ◌-◌, ◌*◌, ◌%◌, ◌^◌, ◌<◌, ◌≤◌, List, [], ◌∷◌, ◌++◌, length, take, drop, replicate, Some, None, Ok}
+use Rattle.std.proofs.Common.{◌≡◌, ℕ, suc, ◌+◌, ◌-◌, ◌*◌, ◌^◌, ◌<◌, ◌≤◌, List, [], ◌∷◌, ◌++◌, length, take, drop, replicate, Some, None, Ok}
 use Rattle.std.proofs.Common.{refl, sym, ap, subst, ◌∙◌, ⊎_elim, arith, append_assoc, append-nil, length-append, true, false, max}
 use Rattle.std.proofs.lemmas.Bool.{cases_eq, lt-ltb, le-ltb}
 use Rattle.std.proofs.lemmas.List.{length-replicate, length-take, replicate-append-replicate, take-append-drop}
@@ -10,16 +10,17 @@ use Rattle.rv32_isa.proofs.ForCallers.{length-word_bytes, little-word_bytes}
 use Rattle.nim_meaning.specs.Heap.{Class, demand, size_count, one_more, one_less, at_class}
 use Rattle.word_code.specs.Memory.{Memory, number_at, may_put, with_number}
 use Rattle.word_code.proofs.ForCallers.{MemoryLaw, Sized, at_same}
-use Rattle.refc_runtime.specs.declared.heap.TheConstants.{CONTENTS_KIND}
-use Rattle.refc_runtime.specs.HeapBlocks.{size_at, Held, Block, kind_of, word_of, first_word, block_bytes, IsBlock, all_bytes}
-use Rattle.refc_runtime.specs.HeapBlocks.{all_size, first_place, block_in}
-use Rattle.refc_runtime.specs.HeapState.{Standing, Stands, with_block, without_block, held_block, AreKept, IsHeap, first_of, free_block, AreLinked}
-use Rattle.refc_runtime.specs.HeapRoutines.{IsBesideHeap, has_free}
-use Rattle.refc_runtime.proofs.BlockLists.{all_whole, added_size, placed_size, block_found, if_same, if_other, size_some, placed, split, far, within, added}
-use Rattle.refc_runtime.proofs.BlockLists.{added_bytes, length_all}
-use Rattle.refc_runtime.proofs.Counts.{Entry}
-use Rattle.refc_runtime.proofs.Kept.{entry_free, with_places, entry_at, first_small, taken_free, taken_next, entry_full, next_demand, given_block}
-use Rattle.refc_runtime.proofs.Kept.{taken_back}
+use Rattle.heap_memory.specs.declared.numbers.TheConstants.{CONTENTS_KIND}
+use Rattle.heap_memory.specs.HeapBlocks.{size_at, Held, Block, kind_of, word_of, first_word, block_bytes, IsBlock, all_bytes}
+use Rattle.heap_memory.specs.HeapBlocks.{all_size, first_place, block_in}
+use Rattle.heap_memory.specs.HeapState.{Standing, Stands, with_block, without_block, held_block, IsHeap, first_of, free_block, AreLinked}
+use Rattle.heap_memory.specs.HeapRoutines.{IsBesideHeap, has_free}
+use Rattle.heap_memory.proofs.ForCallers.{all_whole, added_size, placed_size, block_found, if_same, if_other, size_some, placed, far, within, added}
+use Rattle.heap_memory.proofs.ForCallers.{added_bytes, length_all}
+use Rattle.heap_memory.proofs.ForCallers.{Entry}
+use Rattle.heap_memory.proofs.ForCallers.{entry_free, with_places, entry_at, first_small, taken_free, taken_next, entry_full, next_demand, given_block}
+use Rattle.heap_memory.proofs.ForCallers.{taken_back}
+use Rattle.heap_memory.proofs.ForCallers.{BlockBytes, block_bytes_at, bytes_joined}
 use Rattle.refc_runtime.proofs.HeapWords.{WordOfHeap, heap_reads, heap_may, heap_puts, word_at, Stored, stored_more, word_may, data_stored, data_here}
 use Rattle.refc_runtime.proofs.HeapWords.{data_others}
 use Rattle.refc_runtime.proofs.HeapWords.{data_heap, heap_stored, heap_words}
@@ -27,43 +28,6 @@ use Rattle.refc_runtime.proofs.HeapWords.{data_heap, heap_stored, heap_words}
 zero_word : replicate 4 0 ≡ word_bytes 0
 unfolding word_bytes
 zero_word = refl
-
--- ---- the bytes of a block among all
-
-bytes_joined : (before first second payload after zeros : List ℕ)
-    → (before ++ (((first ++ second) ++ payload) ++ after)) ++ zeros ≡ before ++ (first ++ (second ++ (payload ++ (after ++ zeros))))
-bytes_joined before first second payload after zeros =
-    append_assoc before (((first ++ second) ++ payload) ++ after) zeros
-    ∙ ap (λ l. before ++ l) (append_assoc ((first ++ second) ++ payload) after zeros ∙ append_assoc (first ++ second) payload (after ++ zeros)
-    ∙ append_assoc first second (payload ++ (after ++ zeros)))
-
--- a block at a place, with the bytes of a heap before it and behind it
-pub record BlockBytes (place : ℕ) (b : Block) (blocks : List Block) (zeros : List ℕ) : Type 0 where
-  pub before : List ℕ
-  pub after : List ℕ
-  pub far : place ≡ first_place + length before
-  pub whole : place % 8 ≡ 0
-  pub bytes : all_bytes blocks ++ zeros
-      ≡ before ++ (word_bytes (first_word (kind_of b.holder) b.class) ++ (word_bytes (word_of b.holder) ++ (b.payload ++ after)))
-  pub other : (new : Block) → all_bytes (placed first_place place new blocks) ++ zeros
-      ≡ before ++ (word_bytes (first_word (kind_of new.holder) new.class) ++ (word_bytes (word_of new.holder) ++ (new.payload ++ after)))
-
-pub block_bytes_at : (classes : List Class) (stands : Stands) (blocks : List Block) (frees : (class : ℕ) → List ℕ) → AreKept classes stands blocks frees
-    → (place : ℕ) (b : Block) (zeros : List ℕ) → block_in place blocks ≡ Some b → BlockBytes place b blocks zeros
-block_bytes_at classes stands blocks frees kept place b zeros there =
-    let s = split first_place place b blocks kept.all there in
-    let f = far first_place place b blocks there in
-    let e = f.1 in
-    record {
-      before = s.before;
-      after = s.after ++ zeros;
-      far = s.far;
-      whole = omega (arith, e);
-      bytes = ap (λ l. l ++ zeros) s.bytes
-          ∙ bytes_joined s.before (word_bytes (first_word (kind_of b.holder) b.class)) (word_bytes (word_of b.holder)) b.payload s.after zeros;
-      other = λ new. ap (λ l. l ++ zeros) (s.other new)
-          ∙ bytes_joined s.before (word_bytes (first_word (kind_of new.holder) new.class)) (word_bytes (word_of new.holder)) new.payload s.after zeros;
-    }
 
 module _ (law : MemoryLaw) (at : ℕ) (m : Memory) (sized : Sized m) (classes : List Class) (stands : Stands) (h : IsHeap at classes stands m) where
   abbrev pub zeros : List ℕ

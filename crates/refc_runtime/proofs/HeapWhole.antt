@@ -26,22 +26,22 @@ use Rattle.word_code.specs.RoutineTable.{trap_line}
 use Rattle.word_code.specs.Joined.{joined}
 use Rattle.word_code.specs.Runtime.{IsRoutine}
 use Rattle.word_code.proofs.ForCallers.{MemoryLaw, Sized}
-use Rattle.refc_runtime.specs.declared.heap.TheConstants.{TAKE, GIVE, CLASS, HEAP_WORD_BYTES}
+use Rattle.heap_memory.specs.declared.numbers.TheConstants.{TAKE, GIVE, CLASS, HEAP_WORD_BYTES}
 use Rattle.refc_runtime.specs.Code.{routine, digits_lines}
-use Rattle.refc_runtime.specs.HeapBlocks.{size_at}
-use Rattle.refc_runtime.specs.HeapState.{none_stands, AreCounted, AreKept, IsHeap}
-use Rattle.refc_runtime.specs.declared.texts.TheConstants.{MOVE, GROW, ORDER}
-use Rattle.refc_runtime.specs.declared.lines.TheConstants.{RELEASE, APPEND, RESIZE, DIGITS}
-use Rattle.refc_runtime.specs.HeapRoutines.{IsKeptThere}
+use Rattle.heap_memory.specs.HeapBlocks.{size_at}
+use Rattle.heap_memory.specs.HeapState.{none_stands, AreCounted, AreKept, IsHeap}
+use Rattle.heap_memory.specs.declared.numbers.TheConstants.{MOVE, GROW, ORDER}
+use Rattle.heap_memory.specs.declared.numbers.TheConstants.{RELEASE, APPEND, RESIZE, DIGITS}
+use Rattle.heap_memory.specs.HeapRoutines.{IsKeptThere}
 use Rattle.refc_runtime.specs.TextCode.{move_lines, grow_lines, order_lines}
 use Rattle.refc_runtime.specs.LineCode.{release_lines, append_lines, resize_lines}
-use Rattle.refc_runtime.specs.LineRoutine.{reads_line, IsKeptOn}
+use Rattle.heap_memory.specs.LineRoutine.{reads_line, IsKeptOn}
 use Rattle.refc_runtime.specs.InputCode.{read_lines}
-use Rattle.refc_runtime.specs.declared.input.TheConstants.{READ_LINE}
-use Rattle.refc_runtime.specs.HeapRuntime.{HeapRoutineName, Takes, GivesBack, FindsClass, MovesBytes, Grows, Orders, Releases, Appends, Resizes, Spells}
-use Rattle.refc_runtime.specs.HeapRuntime.{heap_routine, IsHeapRuntime}
+use Rattle.heap_memory.specs.declared.numbers.TheConstants.{READ_LINE}
+use Rattle.heap_memory.specs.HeapRuntime.{HeapRoutineName, Takes, GivesBack, FindsClass, MovesBytes, Grows, Orders, Releases, Appends, Resizes, Spells}
+use Rattle.heap_memory.specs.HeapRuntime.{heap_routine, IsHeapRuntime}
 use Rattle.refc_runtime.specs.HeapCode.{take_lines, give_lines, class_lines, heap_routines, heap_statics}
-use Rattle.refc_runtime.proofs.Ranges.{data_part}
+use Rattle.heap_memory.proofs.ForCallers.{data_part}
 use Rattle.refc_runtime.proofs.HeapKept.{take_kept, give_kept, class_kept}
 use Rattle.refc_runtime.proofs.MoveRuns.{move_kept}
 use Rattle.refc_runtime.proofs.GrowRuns.{grow_comes}

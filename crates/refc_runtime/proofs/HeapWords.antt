@@ -17,10 +17,10 @@ use Rattle.word_code.specs.Memory.{Memory, as_state, number_at, may_put, with_nu
 use Rattle.word_code.specs.RoutineTable.{Cell, Beside, trap_line}
 use Rattle.word_code.proofs.ForCallers.{MemoryLaw, Sized, sizes_more, Changed, changed_word, put_here}
 use Rattle.nim_meaning.specs.Heap.{size_count}
-use Rattle.refc_runtime.specs.declared.heap.TheConstants.{HEAP_WORD_BYTES}
-use Rattle.refc_runtime.specs.HeapState.{HasHeapData}
-use Rattle.refc_runtime.specs.HeapRoutines.{IsBesideHeap}
-use Rattle.refc_runtime.proofs.Ranges.{part_there, lies, heap_part, heap_open, data_open}
+use Rattle.heap_memory.specs.declared.numbers.TheConstants.{HEAP_WORD_BYTES}
+use Rattle.heap_memory.specs.HeapState.{HasHeapData}
+use Rattle.heap_memory.specs.HeapRoutines.{IsBesideHeap}
+use Rattle.heap_memory.proofs.ForCallers.{part_there, lies, heap_part, heap_open, data_open}
 
 low_is : (v : ℕ) → low_bytes Word v ≡ word_bytes v
 unfolding word_bytes

@@ -1,4 +1,3 @@
-mod Ranges
 mod Calls
 mod Zeros
 mod Traded
@@ -13,9 +12,6 @@ mod NumberTexts
 mod Spelling
 mod NumberKept
 mod Whole
-mod BlockLists
-mod Counts
-mod Kept
 mod HeapWords
 mod HeapMemory
 mod TakeRuns
@@ -23,8 +19,6 @@ mod GiveRuns
 mod ClassRuns
 mod HeapKept
 mod HeapWhole
-mod Walks
-mod HeapUses
 mod Pieces
 mod MoveRuns
 mod GrowFacts
@@ -41,5 +35,6 @@ mod ResizeRuns
 mod Inputs
 mod LineTexts
 mod LineStages
+mod LineChars
 mod LineRuns
 mod ReadKept

@@ -6,20 +6,20 @@ use Rattle.std.proofs.lemmas.Bool.{cases_eq}
 use Rattle.nim_meaning.specs.Heap.{Class, one_more, at_class, has_room}
 use Rattle.word_code.specs.Memory.{Memory}
 use Rattle.word_code.proofs.ForCallers.{Sized}
-use Rattle.refc_runtime.specs.declared.heap.TheConstants.{FURTHER_LINES}
-use Rattle.refc_runtime.specs.declared.texts.TheConstants.{GROW_LINES, KEPT_LINES, MOVE_BYTE}
-use Rattle.refc_runtime.specs.declared.input.TheConstants.{CHAR_LINES}
-use Rattle.refc_runtime.specs.HeapState.{Standing, with_block, IsHeap}
-use Rattle.refc_runtime.specs.HeapRoutines.{class_of}
-use Rattle.refc_runtime.specs.TextRoutines.{AreBytes}
-use Rattle.refc_runtime.specs.GrowRoutine.{Growing, place_of, room_of, holds_it, may_grow, IsPresent, MayGrow, classes_then, stands_then, kept_of}
-use Rattle.refc_runtime.specs.GrowRoutine.{grow_work}
-use Rattle.refc_runtime.specs.AppendRoutine.{with_owned, with_payload, new_block, IsFilled}
-use Rattle.refc_runtime.specs.LineRoutine.{UnderWay, capacity, has_capacity, without_class, one_longer, may_get, char_work, Reading, block_of_class}
-use Rattle.refc_runtime.specs.LineRoutine.{block_under_way, IsUnderWay}
-use Rattle.refc_runtime.proofs.BlockLists.{if_same, if_other}
-use Rattle.refc_runtime.proofs.GrowFacts.{same_stands}
-use Rattle.refc_runtime.proofs.HeapUses.{is_there}
+use Rattle.heap_memory.specs.declared.numbers.TheConstants.{FURTHER_LINES}
+use Rattle.heap_memory.specs.declared.numbers.TheConstants.{GROW_LINES, KEPT_LINES, MOVE_BYTE}
+use Rattle.heap_memory.specs.declared.numbers.TheConstants.{CHAR_LINES}
+use Rattle.heap_memory.specs.HeapState.{Standing, with_block, IsHeap}
+use Rattle.heap_memory.specs.HeapRoutines.{class_of}
+use Rattle.heap_memory.specs.TextRoutines.{AreBytes}
+use Rattle.heap_memory.specs.GrowRoutine.{Growing, place_of, room_of, holds_it, may_grow, IsPresent, MayGrow, classes_then, stands_then, kept_of}
+use Rattle.heap_memory.specs.GrowRoutine.{grow_work}
+use Rattle.heap_memory.specs.AppendRoutine.{with_owned, with_payload, new_block, IsFilled}
+use Rattle.heap_memory.specs.LineRoutine.{UnderWay, capacity, has_capacity, without_class, one_longer, may_get, char_work, Reading, block_of_class}
+use Rattle.heap_memory.specs.LineRoutine.{block_under_way, IsUnderWay}
+use Rattle.heap_memory.proofs.ForCallers.{if_same, if_other}
+use Rattle.heap_memory.proofs.ForCallers.{same_stands}
+use Rattle.heap_memory.proofs.ForCallers.{is_there}
 
 module _ (own : ℕ) (u : Reading) (unused : (k : ℕ) → u.first ≤ k → u.stands k ≡ None) where
   -- its block, if it has one, has room for its characters, and an identity of its own

@@ -16,9 +16,9 @@ use Rattle.word_code.specs.RoutineTable.{Beside, IsRewritten}
 use Rattle.word_code.specs.Routines.{goes_on}
 use Rattle.word_code.proofs.ForCallers.{MemoryLaw, Sized, sizes_same, Runs, then_runs, Within, at as state_at, run_label, run_constant, run_sum, run_compute}
 use Rattle.word_code.proofs.ForCallers.{run_load, run_store, run_past, run_off, run_jump, got, got_sum}
-use Rattle.refc_runtime.specs.declared.texts.TheConstants.{MOVE}
-use Rattle.refc_runtime.specs.HeapRoutines.{IsKeptThere}
-use Rattle.refc_runtime.specs.TextRoutines.{AreBytes, Copying, MayCopy, moves_bytes}
+use Rattle.heap_memory.specs.declared.numbers.TheConstants.{MOVE}
+use Rattle.heap_memory.specs.HeapRoutines.{IsKeptThere}
+use Rattle.heap_memory.specs.TextRoutines.{AreBytes, Copying, MayCopy, moves_bytes}
 use Rattle.refc_runtime.specs.TextCode.{byte_lines, whole_lines, move_lines}
 use Rattle.refc_runtime.proofs.Calls.{later, inside, enters, returns, from_call}
 use Rattle.refc_runtime.proofs.Pieces.{IsPiece, byte_piece, word_piece, piece_read, piece_may, piece_sized, rest_here, rest_may, rest_apart, ends_small}

@@ -13,7 +13,7 @@ use Rattle.word_code.specs.RoutineTable.{Separate, copies, clears, swaps}
 use Rattle.word_code.proofs.ForCallers.{MemoryLaw, with_copied, span, span_is, CopiedTo, copied_to, changed_rewritten}
 use Rattle.word_code.proofs.ForCallers.{Runs, then_runs, Within, at, run_constant, run_copy, run_compute, got, got_sum}
 use Rattle.refc_runtime.specs.Code.{copy_lines, clear_lines, swap_lines}
-use Rattle.refc_runtime.proofs.Ranges.{area_low}
+use Rattle.heap_memory.proofs.ForCallers.{area_low}
 use Rattle.refc_runtime.proofs.Calls.{later, inside, enters, returns, from_call}
 use Rattle.refc_runtime.proofs.Zeros.{with_zeros, ClearedAt, cleared_at}
 use Rattle.refc_runtime.proofs.Traded.{with_traded, Trade, all_traded}

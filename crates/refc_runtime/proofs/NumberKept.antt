@@ -1,5 +1,5 @@
 -- The routines that spell a number keep what they promise.
-use Rattle.std.proofs.Common.{◌≡◌, ℕ, suc, ℤ, pos, negsuc, ◌+◌, ◌-◌, ◌%◌, ◌^◌, ◌<◌, ◌≤◌, List, [], ◌∷◌, ◌++◌, length, Some, refl, ap, subst, arith, append-nil}
+use Rattle.std.proofs.Common.{◌≡◌, ℕ, suc, ℤ, pos, negsuc, ◌+◌, ◌%◌, ◌^◌, ◌<◌, ◌≤◌, List, [], ◌∷◌, ◌++◌, length, Some, refl, ap, subst, arith, append-nil}
 use Rattle.std.specs.Prelude.{unsigned_abs}
 use Rattle.std.specs.Fmt.{decimal, signed_decimal}
 use Rattle.std.proofs.lemmas.Fmt.{decimal_by_steps}
@@ -18,12 +18,12 @@ use Rattle.word_code.specs.Routines.{IsKept, goes_on}
 use Rattle.word_code.specs.RoutineTable.{writes_number}
 use Rattle.word_code.proofs.ForCallers.{MemoryLaw, AlwaysSteps, Runs, on, then_runs, Within, at as state_at, run_datum, run_sum, run_compute}
 use Rattle.word_code.proofs.ForCallers.{run_write, got}
-use Rattle.refc_runtime.specs.declared.lines.TheConstants.{DIGITS}
+use Rattle.heap_memory.specs.declared.numbers.TheConstants.{DIGITS}
 use Rattle.refc_runtime.specs.Code.{number_lines, digits_lines, statics as data_of}
-use Rattle.refc_runtime.specs.HeapRoutines.{IsKeptThere}
-use Rattle.refc_runtime.specs.TextRoutines.{AreBytes, spells}
+use Rattle.heap_memory.specs.HeapRoutines.{IsKeptThere}
+use Rattle.heap_memory.specs.TextRoutines.{AreBytes, spells}
 use Rattle.refc_runtime.proofs.Calls.{later, within, inside, enters, from_call, returns_before}
-use Rattle.refc_runtime.proofs.Ranges.{written_in}
+use Rattle.heap_memory.proofs.ForCallers.{written_in}
 use Rattle.refc_runtime.proofs.SignedWords.{word_fits, magnitude}
 use Rattle.refc_runtime.proofs.Spelling.{IsSpelled as Spelt, number_spelled}
 

@@ -1,5 +1,5 @@
 -- What the routine that compares texts does.
-use Rattle.std.proofs.Common.{◌≡◌, ℕ, suc, ◌+◌, ◌-◌, ◌*◌, ◌%◌, ◌^◌, ◌<◌, ◌≤◌, List, [], ◌∷◌, length, Some, Ok, Err, ℤ, pos, ◌-ℤ◌, true, false, refl}
+use Rattle.std.proofs.Common.{◌≡◌, ℕ, suc, ◌+◌, ◌*◌, ◌%◌, ◌^◌, ◌<◌, ◌≤◌, List, [], ◌∷◌, length, Some, Ok, Err, ℤ, pos, ◌-ℤ◌, true, false, refl}
 use Rattle.std.proofs.Common.{sym, ap, ◌∙◌, ⊎_elim, arith, not, take}
 use Rattle.std.specs.Prelude.{◌==◌, nat_lt, if◌then◌else◌}
 use Rattle.std.proofs.lemmas.Bool.{eq-eqb, ne_eqb, lt-ltb, le-ltb, cases_lt, cond-true}
@@ -20,13 +20,13 @@ use Rattle.word_code.proofs.ForCallers.{Sized, Runs, then_runs, Within, at as st
 use Rattle.word_code.proofs.ForCallers.{run_off}
 use Rattle.word_code.proofs.ForCallers.{run_jump, got, got_sum}
 use Rattle.refc_runtime.specs.declared.routines.TheConstants.{ONE_LESS}
-use Rattle.refc_runtime.specs.declared.texts.TheConstants.{ORDER}
-use Rattle.refc_runtime.specs.HeapRoutines.{IsKeptThere}
-use Rattle.refc_runtime.specs.TextRoutines.{AreBytes, order, orders}
+use Rattle.heap_memory.specs.declared.numbers.TheConstants.{ORDER}
+use Rattle.heap_memory.specs.HeapRoutines.{IsKeptThere}
+use Rattle.heap_memory.specs.TextRoutines.{AreBytes, order, orders}
 use Rattle.refc_runtime.specs.TextCode.{below_lines, above_lines, over_lines, pair_lines, order_lines}
 use Rattle.refc_runtime.proofs.Calls.{later, inside, enters, returns_before, from_call}
 use Rattle.refc_runtime.proofs.Pieces.{range_small, read_far}
-use Rattle.refc_runtime.proofs.Ranges.{InRegion, read_in, part_read}
+use Rattle.heap_memory.proofs.ForCallers.{InRegion, read_in, part_read}
 
 -- ---- the first of some bytes
 

@@ -16,7 +16,7 @@ use Rattle.rv32_isa.specs.Steps.{size_of, number_of, low_bytes}
 use Rattle.word_code.specs.Memory.{Memory, as_state, number_at, may_put, with_number, bytes_at, may_fill}
 use Rattle.word_code.specs.RoutineTable.{Beside, IsRewritten}
 use Rattle.word_code.proofs.ForCallers.{MemoryLaw, Sized, sizes_more, store_rewritten, store_sized, store_here}
-use Rattle.refc_runtime.proofs.Ranges.{nothing_below, InRegion, read_in, written_in, part_read, part_written}
+use Rattle.heap_memory.proofs.ForCallers.{nothing_below, InRegion, read_in, written_in, part_read, part_written}
 
 -- ---- bytes as numbers
 

@@ -23,18 +23,19 @@ use Rattle.word_code.specs.RoutineTable.{IsRewritten, trap_line}
 use Rattle.word_code.specs.Routines.{Comes, IsCalling, goes_on}
 use Rattle.word_code.proofs.ForCallers.{MemoryLaw, Sized, sizes_same, store_rewritten, put_sized, put_here, Runs, then_runs, Within, at as state_at}
 use Rattle.word_code.proofs.ForCallers.{run_label, run_constant, run_sum, run_load, run_store, run_past, run_off, got}
-use Rattle.refc_runtime.specs.declared.input.TheConstants.{READ_LINE}
-use Rattle.refc_runtime.specs.HeapRoutines.{IsKeptThere}
-use Rattle.refc_runtime.specs.GrowRoutine.{grows}
-use Rattle.refc_runtime.specs.LineRoutine.{UnderWay, empty_text, all_fit, longer, line_work, Reading, MayRead, line_fits, IsBesideText, IsLine}
-use Rattle.refc_runtime.specs.LineRoutine.{IsPart, reads_line, IsKeptOn}
+use Rattle.heap_memory.specs.declared.numbers.TheConstants.{READ_LINE}
+use Rattle.heap_memory.specs.HeapRoutines.{IsKeptThere}
+use Rattle.heap_memory.specs.GrowRoutine.{grows}
+use Rattle.heap_memory.specs.LineRoutine.{UnderWay, empty_text, all_fit, longer, line_work, Reading, MayRead, line_fits, IsBesideText, IsLine}
+use Rattle.heap_memory.specs.LineRoutine.{IsPart, reads_line, IsKeptOn}
 use Rattle.refc_runtime.specs.InputCode.{line_end_lines, line_lines, read_lines}
 use Rattle.refc_runtime.proofs.Calls.{later, inside, enters, returns_before, returns_awaiting}
 use Rattle.refc_runtime.proofs.Coming.{calling_state, comes_back, ends_behind}
 use Rattle.refc_runtime.proofs.Inputs.{bytes_written, bytes_sized, bytes_there, byte_read, run_read_none, run_read_one}
-use Rattle.refc_runtime.proofs.LineRuns.{StageAt, BesideText, Reached, Part, LineOutcome, reads_on, stage_then, text_then, may_read_byte}
+use Rattle.refc_runtime.proofs.LineChars.{StageAt, BesideText, stage_then, text_then, may_read_byte}
+use Rattle.refc_runtime.proofs.LineRuns.{Reached, Part, LineOutcome, reads_on}
 use Rattle.refc_runtime.proofs.LineStages.{Stage, is_under_way, may_be_longer, place_low}
-use Rattle.refc_runtime.proofs.Ranges.{written_in}
+use Rattle.heap_memory.proofs.ForCallers.{written_in}
 use Rattle.refc_runtime.proofs.LineTexts.{line_from, behind_line, line_is, behind_is}
 
 module _ (law : MemoryLaw) (live : Lives) (procs : List WordProc) (n : ℕ) (grow_kept : IsKeptThere live procs (grows (own_data_at + n)))

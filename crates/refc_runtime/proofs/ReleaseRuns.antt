@@ -11,17 +11,17 @@ use Rattle.word_code.specs.Words.{holds, Vars, no_words, put, params_of, from_pr
 use Rattle.word_code.specs.Routines.{ComesBack, Comes, IsCalling, goes_on}
 use Rattle.word_code.proofs.ForCallers.{Sized, sizes_same, Runs, then_runs, Within, at as state_at, run_label, run_constant, run_argument}
 use Rattle.word_code.proofs.ForCallers.{run_past, run_off, got}
-use Rattle.refc_runtime.specs.declared.heap.TheConstants.{GIVE}
-use Rattle.refc_runtime.specs.declared.lines.TheConstants.{RELEASE}
-use Rattle.refc_runtime.specs.HeapState.{IsHeap}
-use Rattle.refc_runtime.specs.HeapRoutines.{Giving, gives_back, IsKeptThere}
-use Rattle.refc_runtime.specs.GrowRoutine.{Owned, place_of, IsPresent, classes_then, stands_then}
-use Rattle.refc_runtime.specs.AppendRoutine.{Releasing, MayRelease, releases}
+use Rattle.heap_memory.specs.declared.numbers.TheConstants.{GIVE}
+use Rattle.heap_memory.specs.declared.numbers.TheConstants.{RELEASE}
+use Rattle.heap_memory.specs.HeapState.{IsHeap}
+use Rattle.heap_memory.specs.HeapRoutines.{Giving, gives_back, IsKeptThere}
+use Rattle.heap_memory.specs.GrowRoutine.{Owned, place_of, IsPresent, classes_then, stands_then}
+use Rattle.heap_memory.specs.AppendRoutine.{Releasing, MayRelease, releases}
 use Rattle.refc_runtime.specs.LineCode.{release_lines}
 use Rattle.refc_runtime.proofs.Calls.{later, inside, enters, returns_awaiting}
 use Rattle.refc_runtime.proofs.Coming.{calling_state, comes_back}
 use Rattle.refc_runtime.proofs.GrowRuns.{call_runs}
-use Rattle.refc_runtime.proofs.HeapUses.{is_there}
+use Rattle.heap_memory.proofs.ForCallers.{is_there}
 
 module _ (live : Lives) (procs : List WordProc) (n : ℕ) (give_kept : IsKeptThere live procs (gives_back (own_data_at + n))) (u : Releasing)
     (s : WordState) (to : ℕ) (rest : List WordInstr) (others : List WordProc) (stands : from_proc RELEASE procs ≡ later n RELEASE 1 2 release_lines ∷ others)

@@ -21,10 +21,10 @@ use Rattle.word_code.specs.RoutineTable.{IsRewritten, trap_line}
 use Rattle.word_code.specs.Routines.{Comes, IsCalling, goes_on}
 use Rattle.word_code.proofs.ForCallers.{MemoryLaw, Sized, sizes_same, Runs, then_runs, Within, at as state_at, run_label, run_constant, run_sum, run_compute}
 use Rattle.word_code.proofs.ForCallers.{run_store, run_past, run_off, got, got_sum}
-use Rattle.refc_runtime.specs.declared.lines.TheConstants.{RESIZE}
-use Rattle.refc_runtime.specs.HeapRoutines.{fits, IsKeptThere}
-use Rattle.refc_runtime.specs.GrowRoutine.{Owned, Growing, taking, place_of, room_of, holds_it, may_grow, IsPresent, MayGrow, kept_of, grows}
-use Rattle.refc_runtime.specs.AppendRoutine.{IsFilled, GrowthLeaves, resizes}
+use Rattle.heap_memory.specs.declared.numbers.TheConstants.{RESIZE}
+use Rattle.heap_memory.specs.HeapRoutines.{fits, IsKeptThere}
+use Rattle.heap_memory.specs.GrowRoutine.{Owned, Growing, taking, place_of, room_of, holds_it, may_grow, IsPresent, MayGrow, kept_of, grows}
+use Rattle.heap_memory.specs.AppendRoutine.{IsFilled, GrowthLeaves, resizes}
 use Rattle.refc_runtime.specs.LineCode.{zero_lines, resize_lines}
 use Rattle.refc_runtime.proofs.ByteStores.{byte_may, byte_sized, byte_written, byte_here, first_open, all_written, all_bytes, behind_open}
 use Rattle.refc_runtime.proofs.Calls.{later, inside, enters, returns_awaiting, returns_before}

@@ -22,10 +22,10 @@ use Rattle.word_code.specs.Memory.{Memory, as_state, bytes_at, may_put, may_fill
 use Rattle.word_code.specs.Words.{Vars, no_words, put, from_label, WordState}
 use Rattle.word_code.specs.RoutineTable.{IsRewritten}
 use Rattle.word_code.proofs.ForCallers.{MemoryLaw, Sized, sizes_same, sizes_more, store_rewritten, store_sized, store_here}
-use Rattle.word_code.proofs.ForCallers.{Runs, on, then_runs, Within, at, run_label, run_constant, run_copy, run_sum, run_compute, run_store}
+use Rattle.word_code.proofs.ForCallers.{Runs, then_runs, Within, at, run_label, run_constant, run_copy, run_sum, run_compute, run_store}
 use Rattle.word_code.proofs.ForCallers.{run_past, run_off, run_jump, got}
 use Rattle.refc_runtime.specs.declared.routines.TheConstants.{ONE_LESS}
-use Rattle.refc_runtime.proofs.Ranges.{InRegion, written_in, part_written, byte_before}
+use Rattle.heap_memory.proofs.ForCallers.{InRegion, written_in, part_written, byte_before}
 use Rattle.refc_runtime.proofs.SignedWords.{negative_word, pos_sign, negative_sign, word_fits, magnitude}
 use Rattle.refc_runtime.proofs.NumberLines.{last_lines, put_lines, sign_lines, again_lines, digit_lines, more_lines, long_lines, front_lines}
 use Rattle.refc_runtime.proofs.NumberTexts.{signed_text, sign_steps, front_steps, number_text, itself, long_is, number_length}

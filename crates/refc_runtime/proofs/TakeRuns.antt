@@ -1,8 +1,7 @@
 -- What the routine that takes a block does.
-use Rattle.std.proofs.Common.{◌≡◌, ℕ, zero, suc, ◌+◌, ◌-◌, ◌*◌, ◌%◌, ◌^◌, ◌<◌, ◌≤◌, List, [], ◌∷◌, length, Some, Ok, true, false, refl, ap, subst}
+use Rattle.std.proofs.Common.{◌≡◌, ℕ, suc, ◌+◌, ◌-◌, ◌%◌, ◌^◌, ◌<◌, ◌≤◌, List, [], ◌∷◌, length, Some, Ok, true, false, refl, ap, subst}
 use Rattle.std.proofs.Common.{◌∙◌, arith, append-nil}
 use Rattle.std.proofs.lemmas.Bool.{lt-ltb, le-ltb}
-use Rattle.std.proofs.Math.Nat.{pow-suc}
 use Rattle.arc_base.specs.Event.{Event, writes}
 use Rattle.arc_base.specs.declared.outside.Stream.TheVariants.{Err}
 use Rattle.arc_base.specs.Stepping.{Next}
@@ -10,7 +9,6 @@ use Rattle.nim_program.specs.Traps.{OutOfMemory}
 use Rattle.rv32_isa.specs.declared.micro_op.Size.TheVariants.{Word}
 use Rattle.rv32_isa.specs.Image.{statics_at, heap_at}
 use Rattle.rv32_isa.specs.Machine.{Lives}
-use Rattle.rv32_isa.specs.Values.{shifted_left, shifted_right}
 use Rattle.nim_meaning.specs.Heap.{size_count}
 use Rattle.word_code.specs.declared.word.WordOperation.TheVariants as operation
 use Rattle.word_code.specs.declared.word.Test.TheVariants as test
@@ -23,46 +21,15 @@ use Rattle.word_code.specs.RoutineTable.{trap_line}
 use Rattle.word_code.specs.Routines.{goes_on}
 use Rattle.word_code.proofs.ForCallers.{Runs, then_runs, Within, at as state_at, run_label, run_constant, run_datum, run_sum, run_compute, run_load}
 use Rattle.word_code.proofs.ForCallers.{run_store, run_past, run_off, run_write, got, got_sum, AlwaysSteps, AlwaysStops, on, ends_one, stops_on}
-use Rattle.refc_runtime.specs.declared.heap.TheConstants.{TAKE, CONTENTS_KIND, HEAP_WORD_BYTES, HEADER_LESS}
-use Rattle.refc_runtime.specs.HeapBlocks.{size_at, first_word}
-use Rattle.refc_runtime.specs.HeapRoutines.{class_word}
+use Rattle.heap_memory.specs.declared.numbers.TheConstants.{TAKE, CONTENTS_KIND, HEAP_WORD_BYTES}
+use Rattle.refc_runtime.specs.declared.heap.TheConstants.{HEADER_LESS}
+use Rattle.heap_memory.specs.HeapBlocks.{size_at, first_word}
+use Rattle.heap_memory.specs.HeapRoutines.{class_word}
 use Rattle.refc_runtime.specs.HeapCode.{take_lines, free_lines, next_lines, full_lines}
-use Rattle.refc_runtime.proofs.BlockLists.{size_some}
+use Rattle.heap_memory.proofs.ForCallers.{size_some}
 use Rattle.refc_runtime.proofs.Calls.{later, inside, returns_before}
 use Rattle.refc_runtime.proofs.HeapWords.{word_at}
-
--- ---- sizes, as they are computed
-
-pub size_power : (class : ℕ) → 8 * 2 ^ suc class ≡ size_at class
-size_power zero = omega arith
-size_power (suc c) = let e = size_power c in ap (λ n. 8 * n) (pow-suc 2 (suc c)) ∙ omega (arith, e)
-
-pub size_grows : (class k : ℕ) → size_at class ≤ size_at (k + class)
-size_grows class zero = let e : size_at (0 + class) ≡ size_at class = ap size_at (omega arith) in omega (arith, e)
-size_grows class (suc k) =
-    let h = size_grows class k in
-    let i : suc k + class ≡ suc (k + class) = omega arith in
-    let e : size_at (suc k + class) ≡ 2 * size_at (k + class) = ap size_at i in
-    omega (arith, h, e)
-
-pub size_within : (class most : ℕ) → class ≤ most → size_at class ≤ size_at most
-size_within class most few =
-    let h = size_grows class (most - class) in
-    let e : size_at (most - class + class) ≡ size_at most = ap size_at (omega (arith, few)) in
-    omega (arith, h, e)
-
-pub size_most : (class : ℕ) → class ≤ size_count → size_at class ≤ 33554432
-size_most class few = size_within class size_count few
-
-pub size_shifted : (class : ℕ) → class ≤ size_count → shifted_left 8 (suc class) ≡ size_at class
-size_shifted class few =
-    let n : suc class % 32 ≡ suc class = omega (arith, few) in
-    let p = size_power class in
-    let m = size_most class few in
-    ap (λ k. 8 * 2 ^ k % 2 ^ 32) n ∙ ap (λ k. k % 2 ^ 32) p ∙ omega (arith, m)
-
-pub class_shifted : (class : ℕ) → shifted_right (class_word class) 2 ≡ suc class
-class_shifted class = omega arith
+use Rattle.heap_memory.proofs.ForCallers.{class_shifted, size_most, size_shifted}
 
 -- ---- the routine's lines
 

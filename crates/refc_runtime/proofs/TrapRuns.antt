@@ -18,7 +18,7 @@ use Rattle.word_code.specs.Routines.{HasData, IsKept}
 use Rattle.word_code.specs.RoutineTable.{trap_number, trap_line, is_built, writes_trap}
 use Rattle.word_code.proofs.ForCallers.{on, ends_one, stops_on, got, Sized, Within, at, run_constant, run_datum, run_write}
 use Rattle.refc_runtime.specs.Code.{trap_at, ending_lines, statics}
-use Rattle.refc_runtime.proofs.Ranges.{read_in, part_read}
+use Rattle.heap_memory.proofs.ForCallers.{read_in, part_read}
 use Rattle.refc_runtime.proofs.Calls.{later, within, inside, enters, stops_call}
 
 -- where a line stands among the bytes that stay

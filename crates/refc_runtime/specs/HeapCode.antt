@@ -11,15 +11,16 @@ use Rattle.word_code.specs.declared.word.WordInstr.{WordInstr}
 use Rattle.word_code.specs.declared.word.WordInstr.TheVariants.{Label, Constant, Copy, Sum, Compute, Datum, Load, Store, Branch, Return}
 use Rattle.word_code.specs.declared.word.WordProc.{WordProc}
 use Rattle.word_code.specs.RoutineTable.{trap_line}
-use Rattle.refc_runtime.specs.declared.heap.TheConstants.{TAKE, GIVE, CLASS, HEAP_WORD_BYTES, HEADER_LESS, KIND_LESS}
-use Rattle.refc_runtime.specs.declared.texts.TheConstants.{MOVE, GROW, ORDER}
-use Rattle.refc_runtime.specs.declared.lines.TheConstants.{RELEASE, APPEND, RESIZE, DIGITS}
-use Rattle.refc_runtime.specs.declared.input.TheConstants.{READ_LINE}
+use Rattle.heap_memory.specs.declared.numbers.TheConstants.{TAKE, GIVE, CLASS, HEAP_WORD_BYTES}
+use Rattle.refc_runtime.specs.declared.heap.TheConstants.{HEADER_LESS, KIND_LESS}
+use Rattle.heap_memory.specs.declared.numbers.TheConstants.{MOVE, GROW, ORDER}
+use Rattle.heap_memory.specs.declared.numbers.TheConstants.{RELEASE, APPEND, RESIZE, DIGITS}
+use Rattle.heap_memory.specs.declared.numbers.TheConstants.{READ_LINE}
 use Rattle.refc_runtime.specs.Code.{routine, digits_lines, ending_lines}
 use Rattle.refc_runtime.specs.TextCode.{move_lines, grow_lines, order_lines}
 use Rattle.refc_runtime.specs.LineCode.{release_lines, append_lines, resize_lines}
 use Rattle.refc_runtime.specs.InputCode.{read_lines}
-use Rattle.refc_runtime.specs.HeapRoutines.{class_word}
+use Rattle.heap_memory.specs.HeapRoutines.{class_word}
 
 abbrev pub full_lines : List WordInstr
 full_lines = Label 1 ∷ ending_lines HEAP_WORD_BYTES (length (trap_line OutOfMemory))

@@ -5,7 +5,7 @@ use Rattle.word_code.specs.declared.word.WordOperation.TheVariants as operation
 use Rattle.word_code.specs.declared.word.Test.TheVariants as test
 use Rattle.word_code.specs.declared.word.WordInstr.{WordInstr}
 use Rattle.word_code.specs.declared.word.WordInstr.TheVariants.{Label, Constant, Copy, Sum, Compute, Load, Store, Jump, Branch, Argument, Call, Return, Read}
-use Rattle.refc_runtime.specs.declared.texts.TheConstants.{GROW}
+use Rattle.heap_memory.specs.declared.numbers.TheConstants.{GROW}
 
 -- the text's length and block are put to the address in 0
 abbrev pub line_end_lines : List WordInstr

@@ -5,8 +5,8 @@ use Rattle.word_code.specs.declared.word.WordOperation.TheVariants as operation
 use Rattle.word_code.specs.declared.word.Test.TheVariants as test
 use Rattle.word_code.specs.declared.word.WordInstr.{WordInstr}
 use Rattle.word_code.specs.declared.word.WordInstr.TheVariants.{Label, Constant, Copy, Sum, Compute, Store, Branch, Argument, Call, Return}
-use Rattle.refc_runtime.specs.declared.heap.TheConstants.{GIVE}
-use Rattle.refc_runtime.specs.declared.texts.TheConstants.{MOVE, GROW}
+use Rattle.heap_memory.specs.declared.numbers.TheConstants.{GIVE}
+use Rattle.heap_memory.specs.declared.numbers.TheConstants.{MOVE, GROW}
 
 -- the place in 0 is 0 where there is no block
 abbrev pub release_lines : List WordInstr

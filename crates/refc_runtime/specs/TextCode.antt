@@ -5,9 +5,10 @@ use Rattle.word_code.specs.declared.word.WordOperation.TheVariants as operation
 use Rattle.word_code.specs.declared.word.Test.TheVariants as test
 use Rattle.word_code.specs.declared.word.WordInstr.{WordInstr}
 use Rattle.word_code.specs.declared.word.WordInstr.TheVariants.{Label, Constant, Sum, Compute, Load, Store, Jump, Branch, Argument, Call, Return}
-use Rattle.refc_runtime.specs.declared.heap.TheConstants.{TAKE, GIVE, CLASS, HEADER_LESS, KIND_LESS}
+use Rattle.heap_memory.specs.declared.numbers.TheConstants.{TAKE, GIVE, CLASS}
+use Rattle.refc_runtime.specs.declared.heap.TheConstants.{HEADER_LESS, KIND_LESS}
 use Rattle.refc_runtime.specs.declared.routines.TheConstants.{ONE_LESS}
-use Rattle.refc_runtime.specs.declared.texts.TheConstants.{MOVE}
+use Rattle.heap_memory.specs.declared.numbers.TheConstants.{MOVE}
 
 -- a byte at a time, until the address in 1 is that in 3
 abbrev pub byte_lines : List WordInstr

@@ -1,70 +1,25 @@
 // The routines of the heap, each as a procedure of word code, and their data.
-ghost use Rattle.std.specs.Prelude.{◌≡◌, ◌≢◌, ◌<◌, ◌≤◌, ◌+◌, ℕ, List, length, Some, IfOk};
-ghost use Rattle.nim_meaning.specs.Heap.{Class};
-ghost use Rattle.rv32_isa.specs.Regions.{HasRegions};
-ghost use Rattle.word_code.specs.Memory.{Memory as WordMemory, as_state};
-ghost use Rattle.word_code.specs.RoutineTable.{IsRewritten};
+ghost use Rattle.std.specs.Prelude.{◌≡◌, IfOk};
 ghost use Rattle.refc_runtime.specs.Code.{routine};
-ghost use Rattle.refc_runtime.specs.HeapState.{Standing, Stands, IsHeap};
-ghost use Rattle.refc_runtime.specs.HeapUse.{IsThere, AreDistant, IsRefilled, IsElsewhere};
-ghost use Rattle.refc_runtime.specs.Walk.{WalksRight};
 ghost use Rattle.refc_runtime.specs.HeapCode.{take_lines, give_lines, class_lines};
 ghost use Rattle.refc_runtime.specs.HeapCode.{heap_routines, heap_statics};
-ghost use Rattle.refc_runtime.specs.HeapRuntime.{IsHeapRuntime};
+ghost use Rattle.heap_memory.specs.HeapRuntime.{IsHeapRuntime};
 
 use crate::input::read_line_routine;
 use crate::lines::{append_routine, digits_routine, release_routine, resize_routine};
 use crate::routines::{branch, compute, constant, datum, load, routine, store, sum_with};
 use crate::texts::{grow_routine, move_routine, order_routine};
 use arc_base::{Bytes, Items, Memory, Stream};
+use heap_memory::{CLASS, GIVE, HEAP_WORD_BYTES, TAKE};
 use rv32_isa::{HEAP_AT, STATICS_AT, Size, memories};
 use std::alloc::Global;
 use word_code::{Test, WordCode, WordInstr, WordOperation, WordProc};
-
-/// Takes a block of the heap.
-pub const TAKE: u32 = 13;
-
-/// Gives a block back.
-pub const GIVE: u32 = 14;
-
-/// Finds the size of the smallest block for a payload.
-pub const CLASS: u32 = 15;
-
-/// The kind of a block that holds a text or a sequence.
-pub const CONTENTS_KIND: u32 = 1;
-
-/// The bytes of the heap's words in the data of its routines: where the next byte is that no block has, and the first free block of each size.
-pub const HEAP_WORD_BYTES: u32 = 92;
-
-/// The lines of a take, with its call, where a free block of the size is there.
-pub const TAKE_LINES: u32 = 12;
-
-/// The lines of any other take.
-pub const NEXT_LINES: u32 = 23;
-
-/// The lines that give a block back, with the call.
-pub const GIVE_LINES: u32 = 14;
-
-/// The lines that find a size, with the call, beside those for each further size.
-pub const CLASS_LINES: u32 = 9;
-
-/// The lines for each further size.
-pub const FURTHER_LINES: u32 = 4;
 
 /// The word by whose addition another one becomes eight less.
 pub const HEADER_LESS: u32 = 4_294_967_288;
 
 /// The word by whose addition the first word of a text's or sequence's block becomes its index.
 pub const KIND_LESS: u32 = 4_294_967_168;
-
-/// How many lines and procedures the heap's routines have.
-pub const HEAP_WEIGHT: u32 = 241;
-
-/// How many of their calls may stand in a chain.
-pub const HEAP_CHAIN: u32 = 3;
-
-/// How many bytes of data they have.
-pub const HEAP_DATA: u32 = 116;
 
 // Where the next byte is that no block has, the first free block of each size and of none, and the
 // line of the trap up to a whole number of words.
@@ -214,31 +169,3 @@ pub fn heap_runtime(alloc: Global) -> Result<WordCode, Memory>
     let statics = heap_data(alloc)?;
     Ok(WordCode { procs, statics })
 }
-
-/// Where blocks were taken and given, the walk over the heap finds those that are live. Each stands
-/// in the heap, apart from the others, and stays where memory changes elsewhere; where its payload is
-/// written, the others stay.
-pub fn heaps()
-    ensures walks { (kinds at : ℕ) (classes : List Class) (stands : Stands) (m : WordMemory) →
-        IsHeap at classes stands m → 0 < kinds →
-        ((k : ℕ) (s : Standing) → stands k ≡ Some s → s.kind < kinds) →
-        WalksRight kinds stands m.heap }
-    ensures there { (at : ℕ) (classes : List Class) (stands : Stands) (m : WordMemory) →
-        IsHeap at classes stands m → HasRegions (as_state m) → (k : ℕ) (s : Standing) →
-        stands k ≡ Some s → IsThere m s }
-    ensures distant { (at : ℕ) (classes : List Class) (stands : Stands) (m : WordMemory) →
-        IsHeap at classes stands m → (j k : ℕ) (s t : Standing) → stands j ≡ Some s →
-        stands k ≡ Some t → j ≢ k → AreDistant s t }
-    ensures places { (at : ℕ) (classes : List Class) (stands : Stands) (m other : WordMemory) →
-        IsHeap at classes stands m → HasRegions (as_state m) → HasRegions (as_state other) →
-        other.statics ≡ m.statics → other.heap ≡ m.heap → IsHeap at classes stands other }
-    ensures elsewhere { (at : ℕ) (classes : List Class) (stands : Stands) (m other : WordMemory)
-        (a n : ℕ) → IsHeap at classes stands m → HasRegions (as_state m) →
-        HasRegions (as_state other) → IsRewritten m other a n → IsElsewhere at m a n →
-        IsHeap at classes stands other }
-    ensures refilled { (at : ℕ) (classes : List Class) (stands : Stands) (m other : WordMemory)
-        (k : ℕ) (s : Standing) (offset n : ℕ) → IsHeap at classes stands m →
-        HasRegions (as_state m) → HasRegions (as_state other) → stands k ≡ Some s →
-        offset + n ≤ length s.payload → IsRewritten m other (s.place + offset) n →
-        IsRefilled at classes stands k s other }
-{}

@@ -5,20 +5,12 @@ ghost use Rattle.refc_runtime.specs.InputCode.{read_lines};
 
 use crate::lines::copy;
 use crate::routines::{branch, compute, constant, load, routine, store, sum_with};
-use crate::texts::{GROW, argument, call};
+use crate::texts::{argument, call};
 use arc_base::Memory;
+use heap_memory::{GROW, READ_LINE};
 use rv32_isa::Size;
 use std::alloc::Global;
 use word_code::{Test, WordInstr, WordOperation, WordProc};
-
-/// Reads a line of the input.
-pub const READ_LINE: u32 = 23;
-
-/// The lines of it, with the call, beside those for each character.
-pub const LINE_LINES: u32 = 23;
-
-/// The lines for each character, beside those of the growth.
-pub const CHAR_LINES: u32 = 20;
 
 fn read(to: u32, address: u32, len: u32) -> WordInstr
     ensures { result ≡ WordInstr.Read to address len }

@@ -4,40 +4,13 @@ ghost use Rattle.refc_runtime.specs.Code.{routine};
 ghost use Rattle.refc_runtime.specs.LineCode.{append_lines, resize_lines, release_lines};
 ghost use Rattle.refc_runtime.specs.Code.{digits_lines};
 
-use crate::heap::GIVE;
 use crate::routines::{branch, compute, constant, routine, spelling_routine, store, sum_with};
-use crate::texts::{GROW, MOVE, argument, call};
+use crate::texts::{argument, call};
 use arc_base::Memory;
+use heap_memory::{APPEND, DIGITS, GIVE, GROW, MOVE, RELEASE, RESIZE};
 use rv32_isa::Size;
 use std::alloc::Global;
 use word_code::{SCRATCH_BYTES, Test, WordInstr, WordOperation, WordProc};
-
-/// Gives a block back where there is one.
-pub const RELEASE: u32 = 19;
-
-/// The lines of it, with the call.
-pub const RELEASE_LINES: u32 = 20;
-
-/// Puts a text behind another.
-pub const APPEND: u32 = 20;
-
-/// The lines of it, with the call, beside those of the growth and for each byte.
-pub const APPEND_LINES: u32 = 28;
-
-/// Gives a text another length.
-pub const RESIZE: u32 = 21;
-
-/// The lines of it, with the call, beside those of the growth and for each byte.
-pub const RESIZE_LINES: u32 = 10;
-
-/// The lines for each byte that comes.
-pub const ZERO_BYTE: u32 = 4;
-
-/// Spells a number.
-pub const DIGITS: u32 = 22;
-
-/// The lines that spell a number of one byte, with the call.
-pub const DIGITS_LINES: u32 = 10;
 
 pub fn copy(to: u32, from: u32) -> WordInstr
     ensures { result ≡ WordInstr.Copy to from }

@@ -3,39 +3,13 @@ ghost use Rattle.std.specs.Prelude.{◌≡◌, IfOk};
 ghost use Rattle.refc_runtime.specs.Code.{routine};
 ghost use Rattle.refc_runtime.specs.TextCode.{move_lines, grow_lines, order_lines};
 
-use crate::heap::{CLASS, GIVE, HEADER_LESS, KIND_LESS, TAKE};
+use crate::heap::{HEADER_LESS, KIND_LESS};
 use crate::routines::{ONE_LESS, branch, compute, constant, load, routine, store, sum_with};
 use arc_base::Memory;
+use heap_memory::{CLASS, GIVE, GROW, MOVE, ORDER, TAKE};
 use rv32_isa::Size;
 use std::alloc::Global;
 use word_code::{Test, WordInstr, WordOperation, WordProc};
-
-/// Copies bytes.
-pub const MOVE: u32 = 16;
-
-/// The lines that copy no bytes, with the call.
-pub const MOVE_START: u32 = 15;
-
-/// The lines for each byte.
-pub const MOVE_BYTE: u32 = 7;
-
-/// Finds a block for a longer payload, and lets it begin with that of another block.
-pub const GROW: u32 = 17;
-
-/// The lines of it, with the call, where the block is large enough.
-pub const KEPT_LINES: u32 = 11;
-
-/// Those of any other call, beside those for the size and for each byte.
-pub const GROW_LINES: u32 = 81;
-
-/// Compares texts.
-pub const ORDER: u32 = 18;
-
-/// The lines that compare with an empty text, with the call.
-pub const ORDER_START: u32 = 10;
-
-/// The lines for each byte of the first text.
-pub const ORDER_BYTE: u32 = 10;
 
 pub fn argument(index: u32, from: u32) -> WordInstr
     ensures { result ≡ WordInstr.Argument index from }

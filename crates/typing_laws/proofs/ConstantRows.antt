@@ -1,6 +1,6 @@
 -- What operations do with constants: they give the values that the rules compute, and change nothing.
 use Rattle.std.proofs.Common.{◌≡◌, ℕ, zero, suc, Bool, true, false, List, [], ◌∷◌, length, Option, Some, None, refl, sym, ap, subst, ◌∙◌, arith}
-use Rattle.std.specs.Prelude.{ℤ, pos, ◌-ℤ◌, ◌&&◌, ◌||◌}
+use Rattle.std.specs.Prelude.{ℤ, pos, ◌-ℤ◌, ◌&&◌, ◌||◌, not}
 use Rattle.nim_types.specs.Types as type
 use Rattle.nim_types.specs.Types.{Ty, Facts}
 use Rattle.nim_program.specs.declared.operation.Measure.{Measure}
@@ -27,13 +27,13 @@ use Rattle.nim_meaning.specs.Acts.{Does, give, ◌>>=◌}
 use Rattle.nim_meaning.specs.Deeds as deeds
 use Rattle.nim_meaning.specs.Deeds.{Deed, carry, ◌>>=◌ as then_deed}
 use Rattle.nim_meaning.specs.Here.{Here, any_hooked, form_for, gives_hooked}
-use Rattle.nim_meaning.specs.Shapes.{is_given, is_held, is_read}
+use Rattle.nim_meaning.specs.Shapes.{is_given, is_held, is_lent, is_read, is_text}
 use Rattle.nim_meaning.specs.Waiting.{held_from, held_if}
 use Rattle.nim_meaning.specs.Table as T
 use Rattle.nim_meaning.specs.Table.{outcome, acts, does, limit_for}
 use Rattle.nim_meaning.specs.LeftOut as L
 use Rattle.nim_meaning.specs.Meaning.{eval, aimed, gets_copy, ready_all, source}
-use Rattle.nim_meaning.specs.Aims.{Aim, Root, Value_of, settle, find, Ready, Evaluated, Aimed, operand_for, fresh_root}
+use Rattle.nim_meaning.specs.Aims.{Aim, Root, Value_of, settle, find, Ready, Evaluated, Aimed, is_lent_own, operand_for, fresh_root}
 use Rattle.expr_rules.specs.Constants as C
 use Rattle.expr_rules.specs.Constants.{comes_to, if_fine, limited, alone, in_pair, unary_of, binary_of, compare_of}
 use Rattle.expr_rules.specs.Constants.{measure_of, converted, among, of_literal, if_computed, computing, with_values}
@@ -111,7 +111,7 @@ module _ (run : Here) where
   all_ready no_more uses i = given []
   all_ready (by_value e l {rest = rest} {ls = ls} m more) uses i =
       let last : Value → List Ready → Does (List Ready) =
-      (λ v ready. give (Evaluated (operand_for (gives_hooked run.facts (type_of e)) (uses i) run.level (node_of e).number v) ∷ ready)) in
+      (λ v ready. give (Evaluated (operand_for (is_lent_own run.facts (uses i) e) run.level (node_of e).number v) ∷ ready)) in
       let all : List Ready = Evaluated (Given (literal_value l)) ∷ readies ls rest in
       branching (gets_copy run (uses i) e)
       (source e run >>= (λ location. ready_all rest uses (suc i) run >>= (λ ready. give (Evaluated (At location) ∷ ready))))
@@ -119,7 +119,8 @@ module _ (run : Here) where
       (ap (λ b. b && (is_given (uses i) && is_read e)) m.plain)
       (after (eval e (uses i) run) (λ v. ready_all rest uses (suc i) run >>= last v) (literal_value l) all (m.value (uses i))
       (after (ready_all rest uses (suc i) run) (last (literal_value l)) (readies ls rest) all (all_ready more uses (suc i))
-      (subst (λ b. AlwaysGives (give (Evaluated (operand_for b (uses i) run.level (node_of e).number (literal_value l)) ∷ readies ls rest)) all) (sym m.plain)
+      (subst (λ b. AlwaysGives (give (Evaluated (operand_for (b && (is_lent (uses i) && not (is_text e))) run.level (node_of e).number (literal_value l)) ∷ readies ls rest)) all)
+      (sym m.plain)
       (given all))))
   all_ready (by_path e l {rest = rest} {ls = ls} m more) uses i =
       let aim : Aim = aim_by (constant_in e) l in

@@ -109,22 +109,22 @@ module _ (run : Here) (around : Scope) (sound : AreSound run.facts) (closed : Cl
   -- a row carried out, with what becomes of its value
   row_gives : (node : Node) (ty : Option Ty) (act : Act) (operands : Args) (ls : Literals) (l : Literal) (how : Use) → Come run operands ls
       → gives_hooked of_run ty ≡ false
-      → AlwaysGives (carried run node.number act how ty (types_in operands) (taken ls operands)) (literal_value l)
+      → AlwaysGives (carried run node.number act how ty operands (taken ls operands)) (literal_value l)
       → AlwaysGives (eval (Apply node ty act operands) how run) (literal_value l)
   row_gives node ty act operands ls l how come u g =
       let held : List ℕ = held_from of_run run.modes operands (use_of run.modes act) 0 in
       let last : List Operand → Does Value =
-      (λ xs. at_node node.number Done_by (taking_up run held (carried run node.number act how ty (types_in operands) xs))) in
+      (λ xs. at_node node.number Done_by (taking_up run held (carried run node.number act how ty operands xs))) in
       after (ready_all operands (use_of run.modes act) 0 run) (λ ready. settle ready >>= last) (readies ls operands) (literal_value l)
       (all_ready run come (use_of run.modes act) 0)
       (after (settle (readies ls operands)) last (taken ls operands) (literal_value l) (settled run come)
-      (passes (Spot node.number Done_by) (taking_up run held (carried run node.number act how ty (types_in operands) (taken ls operands))) (literal_value l)
-      (subst (λ nodes. AlwaysGives (taking_up run nodes (carried run node.number act how ty (types_in operands) (taken ls operands))) (literal_value l))
+      (passes (Spot node.number Done_by) (taking_up run held (carried run node.number act how ty operands (taken ls operands))) (literal_value l)
+      (subst (λ nodes. AlwaysGives (taking_up run nodes (carried run node.number act how ty operands (taken ls operands))) (literal_value l))
       (sym (none_held run come (use_of run.modes act) 0)) g)))
 
   meant : (node : Node) (ty : Option Ty) (act : Act) (operands : Args) (ls : Literals) (l : Literal) → Come run operands ls → gives_hooked of_run ty ≡ false
       → Done (acts act of_run ty (types_in operands) (taken ls operands)) l
-      → ((how : Use) → carried run node.number act how ty (types_in operands) (taken ls operands)
+      → ((how : Use) → carried run node.number act how ty operands (taken ls operands)
       ≡ carry (row of_run act (destination run how node.number) ty (types_in operands) (taken ls operands)))
       → Meant run (Apply node ty act operands) l
   meant node ty act operands ls l come u d is = record {

@@ -113,7 +113,7 @@ module _ (known : Known) (procs : List Signature) (globals places : List FlatPla
   rooted_by : (t p : ℕ) (global : Bool) (line : Line) (behind : ℕ) → location_to line ≡ Some t → alias_by line behind ≡ alias.Place p global
       → fits_here line ≡ true → Rooted t p global
   rooted_by t p global (L.Root to q other) behind g e h = rooted_as t to p q global other (some_same to t g) (same_place q p other global e) h
-  rooted_by t p global (L.Fresh to from) behind g e h = value_no_place from p global e
+  rooted_by t p global (L.Fresh to from waits) behind g e h = value_no_place from p global e
   rooted_by t p global (L.Constant to how ty pieces) behind g e h = none_given t g
   rooted_by t p global line behind g e h = no_place p global e
 
@@ -128,10 +128,10 @@ module _ (known : Known) (procs : List Signature) (globals places : List FlatPla
     pub value : value_at u ≡ Some ty
     pub read_only : may_write known procs globals places t ≡ false
 
-  entered_as : (t to u from : ℕ) → to ≡ t → from ≡ u → fits_here (L.Fresh to from) ≡ true → Entered t u
-  entered_as t to u from same e h =
-      let f : fits_here (L.Fresh t u) ≡ true =
-      subst (λ z. fits_here (L.Fresh z u) ≡ true) same (subst (λ z. fits_here (L.Fresh to z) ≡ true) e h) in
+  entered_as : (t to u from : ℕ) (waits : Option ℕ) → to ≡ t → from ≡ u → fits_here (L.Fresh to from waits) ≡ true → Entered t u
+  entered_as t to u from waits same e h =
+      let f : fits_here (L.Fresh t u waits) ≡ true =
+      subst (λ z. fits_here (L.Fresh z u waits) ≡ true) same (subst (λ z. fits_here (L.Fresh to z waits) ≡ true) e h) in
       let q = and_parts (is_of (location_at t) (value_at u)) (not (may_write known procs globals places t)) f in
       let r = are_of (location_at t) (value_at u) q.0 in
       record { ty = r.ty; location = r.is; value = r.is_other; read_only = not-true (may_write known procs globals places t) q.1 }
@@ -139,7 +139,7 @@ module _ (known : Known) (procs : List Signature) (globals places : List FlatPla
   entered_by : (t u : ℕ) (line : Line) (behind : ℕ) → location_to line ≡ Some t → alias_by line behind ≡ alias.Value u → fits_here line ≡ true
       → Entered t u
   entered_by t u (L.Root to q other) behind g e h = place_no_value q other u e
-  entered_by t u (L.Fresh to from) behind g e h = entered_as t to u from (some_same to t g) (same_value from u e) h
+  entered_by t u (L.Fresh to from waits) behind g e h = entered_as t to u from waits (some_same to t g) (same_value from u e) h
   entered_by t u (L.Constant to how ty pieces) behind g e h = none_given t g
   entered_by t u line behind g e h = no_value u e
 
@@ -149,7 +149,7 @@ module _ (known : Known) (procs : List Signature) (globals places : List FlatPla
   -- no location is another name for a text
   location_text : (t behind bytes : ℕ) (line : Line) (n : ℕ) → location_to line ≡ Some t → alias_by line n ≡ alias.Text behind bytes → ⊥
   location_text t behind bytes (L.Root to q other) n g e = cc
-  location_text t behind bytes (L.Fresh to from) n g e = cc
+  location_text t behind bytes (L.Fresh to from waits) n g e = cc
   location_text t behind bytes (L.Constant to how ty pieces) n g e = none_given t g
   location_text t behind bytes line n g e = cc
 
@@ -193,7 +193,7 @@ module _ (known : Known) (procs : List Signature) (globals places : List FlatPla
   value_by : (t : ℕ) (line : Line) (n : ℕ) → value_to line ≡ Some t → fits_here line ≡ true
       → (alias_by line n ≡ alias.Own) ⊎ Written t (alias_by line n)
   value_by t (L.Root to q other) n g h = none_given t g
-  value_by t (L.Fresh to from) n g h = none_given t g
+  value_by t (L.Fresh to from waits) n g h = none_given t g
   value_by t (L.Constant to how ty pieces) n g h =
       let shaped : Bool = has_shape (value_of pieces) (shape_of known.facts (type_at known.types ty)) in
       let q = and_parts (are_one pieces 0 && shaped) (is_of (value_at to) (Some (type_at known.types ty))) h in

@@ -161,7 +161,7 @@ module _ (x : Basis) (g : Both) (line : BlockLine) (rest : List BlockLine) (y : 
         let ty = are_of (type_in x is_value (body_of g) t) (Some p.of) b.0 in
         let w = was_value (g.call.temps.values t) z fetched.0 in
         let same : p.of ≡ ty.ty = some_same p.of ty.ty ty.is_other in
-        let typed : type_in x is_value (body_of g) t ≡ Some (type_of x.table h) = ty.is ∙ ap Some (sym same ∙ are.0.1) in
+        let typed : type_in x is_value (body_of g) t ≡ Some (type_of x.table h) = ty.is ∙ ap Some (sym same ∙ are.0.2) in
         let plain : is_address h.kind ≡ false = sym are.0.0 ∙ not_true p.by_location a.0 in
         let one = value_argument x (between x g line rest y vars m words) line rest good c h (among h (inl refl))
         (label + 2 * suc (length (operands here from)))
@@ -174,16 +174,18 @@ module _ (x : Basis) (g : Both) (line : BlockLine) (rest : List BlockLine) (y : 
         subst (λ o. GivesAll vars m words (Lines (h ∷ params) (F.Value t ∷ from)) k (slots_for (o ∷ xs)) (h ∷ params) (16 * handed_bytes (o ∷ xs))) (sym w.is)
         (subst (λ n. GivesAll vars m words (Lines (h ∷ params) (F.Value t ∷ from)) k (Holds w.value ∷ slots_for xs) (h ∷ params) n) (omega arith) both)
     all_given (h ∷ params) (p ∷ takes) (F.Place t ∷ from) (z ∷ xs) are fits apart own among handed finds fetched vars m words good =
-        let a = and_parts (p.by_location && if_kind is_standing (place_named is_location (body_of g).proc.places t)) _ fits in
-        let d = and_parts p.by_location _ a.0 in
+        let may : Bool = if_kind is_standing (place_named is_location (body_of g).proc.places t) in
+        let a = and_parts (p.by_location && (not p.written || may)) _ fits in
+        let d = and_parts p.by_location (not p.written || may) a.0 in
         let b = and_parts (is_of (type_in x is_location (body_of g) t) (Some p.of)) _ a.1 in
         let ty = are_of (type_in x is_location (body_of g) t) (Some p.of) b.0 in
         let w = was_place (λ place. At (location_at g.call.temps place)) (g.call.temps.places t) z fetched.0 in
         let same : p.of ≡ ty.ty = some_same p.of ty.ty ty.is_other in
-        let typed : type_in x is_location (body_of g) t ≡ Some (type_of x.table h) = ty.is ∙ ap Some (sym same ∙ are.0.1) in
+        let typed : type_in x is_location (body_of g) t ≡ Some (type_of x.table h) = ty.is ∙ ap Some (sym same ∙ are.0.2) in
         let address : is_address h.kind ≡ true = sym are.0.0 ∙ d.0 in
+        let written : may ≡ true = subst (λ b. (not b || may) ≡ true) (are.0.1 ∙ address) d.1 in
         let one = location_argument x (between x g line rest y vars m words) line rest good c h (among h (inl refl))
-        (label + 2 * suc (length (operands here from))) (Lines params from) t w.place w.has address typed d.1 (handed t (here_among t (places_in from))) in
+        (label + 2 * suc (length (operands here from))) (Lines params from) t w.place w.has address typed written (handed t (here_among t (places_in from))) in
         let all = all_given params takes from xs are.1 b.1 apart.1 own.1 (λ d i. among d (inr i)) (λ n i. handed n (behind_among n t (places_in from) i))
         (finds_next here (word_of x.table x.blocks (body_of g)).lines label h params (operand here (F.Place t)) (operands here from) k finds) fetched.1
         one.vars one.memory one.words one.good in

@@ -25,6 +25,7 @@ use Rattle.word_lowering.specs.declared.homes.Free.{Free}
 use Rattle.word_lowering.specs.declared.homes.Layout.{Layout}
 use Rattle.word_lowering.specs.declared.texts.TheConstants.{FIXED_BYTES}
 use Rattle.word_lowering.specs.declared.may_lower.TheConstants.{MOST_ROOM}
+use Rattle.nim_types.specs.Forms.{hooked, form_of}
 use Rattle.word_lowering.specs.Stored.{HaveForms}
 use Rattle.word_lowering.specs.Aliases.{value_to, location_to, alias_in, alias_for, addressed, is_among}
 use Rattle.word_lowering.specs.Layouts.{free_at, layout_of, housed, all_housed, behind_all, found, result_in}
@@ -109,7 +110,7 @@ module _ (table : List TypeDef) (blocks : Code BlockLine) where
               (each_among _ all h (all_aligned table start lines least proc.places (record { byte = refl; datum = refl })) a own);
           kept = kept_in_variable table start lines f p own;
           numbers = numbers;
-          unhooked = place_unhooked table is_table have p.kind p.ty plain;
+          unhooked = place_unhooked table is_table have p.kind p.ty alias.Own refl plain;
           rows = place_rows table is_table have p.kind p.ty;
           fields = place_parts table is_table have p.kind p.ty;
         }
@@ -229,10 +230,9 @@ module _ (table : List TypeDef) (blocks : Code BlockLine) where
         subst (λ a. (a ≡ alias.Own) ⊎ GivenBy (known_in table) (sigs table blocks) (globals_of table blocks) proc.places location_to t a) (sym e)
         (given_by (known_in table) (sigs table blocks) (globals_of table blocks) proc.places location_to t lines is.fits)
 
-    locations_are : (t : ℕ) → There all is_location t → of_numbers (looks table (found is_location t all)) ≡ true
-    locations_are t there =
-        place_numbers table is_table have (found is_location t all).kind (found is_location t all).ty (found is_location t all).alias
-        (by (found is_location t all).alias refl (location_given t there)) (plain_here (found is_location t all) there.among)
+    -- for a text none is another name
+    no_text_at : (t : ℕ) → There all is_location t → is_text (found is_location t all).alias ≡ false
+    no_text_at t there = by (found is_location t all).alias refl (location_given t there)
       where
         by : (a : Alias) → (found is_location t all).alias ≡ a → ((found is_location t all).alias ≡ alias.Own)
             ⊎ GivenBy (known_in table) (sigs table blocks) (globals_of table blocks) proc.places location_to t (found is_location t all).alias
@@ -244,6 +244,16 @@ module _ (table : List TypeDef) (blocks : Code BlockLine) where
         by (alias.Text behind bytes) e (inr g) =
             absurd (no_text_location (known_in table) (sigs table blocks) (globals_of table blocks) proc.places t behind bytes
             (subst (GivenBy (known_in table) (sigs table blocks) (globals_of table blocks) proc.places location_to t) e g))
+
+    locations_are : (t : ℕ) → There all is_location t → of_numbers (looks table (found is_location t all)) ≡ true
+    locations_are t there =
+        place_numbers table is_table have (found is_location t all).kind (found is_location t all).ty (found is_location t all).alias
+        (no_text_at t there) (plain_here (found is_location t all) there.among)
+
+    locations_plain : (t : ℕ) → There all is_location t → hooked (form_of (facts_in table) (type_of table (found is_location t all))) ≡ false
+    locations_plain t there =
+        place_unhooked table is_table have (found is_location t all).kind (found is_location t all).ty (found is_location t all).alias
+        (no_text_at t there) (plain_here (found is_location t all) there.among)
 
     aliased_is : (t p : ℕ) (global : Bool) → There all is_location t → (found is_location t all).alias ≡ alias.Place p global
         → if_type_of (known_in table) (place_among table blocks b p global) ≡ Some (type_of table (found is_location t all))
@@ -356,6 +366,7 @@ module _ (table : List TypeDef) (blocks : Code BlockLine) where
       values = values_are;
       places = places_are;
       locations = locations_are;
+      plain_locations = locations_plain;
       aliased = aliased_is;
       valued = valued_is;
       standing = λ n h. sym (standing_same n) ∙ h;

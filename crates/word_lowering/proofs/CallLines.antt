@@ -6,7 +6,7 @@ use Rattle.std.proofs.lemmas.Bool.{and_parts, false≢true}
 use Rattle.arc_base.specs.declared.outside.Stream.TheVariants.{Err}
 use Rattle.arc_base.specs.Event.{writes}
 use Rattle.nim_types.specs.Types.{Ty}
-use Rattle.nim_program.specs.declared.operation.Use.{Use}
+use Rattle.flat_code.specs.declared.line.UseAt.{UseAt}
 use Rattle.nim_program.specs.declared.program.TheConstants.{ACTIVE_CALLS}
 use Rattle.nim_program.specs.Kinds.{same_value}
 use Rattle.nim_program.specs.Traps.{CallDepth, trap_text}
@@ -86,7 +86,7 @@ without_type : (x : Basis) (ty : Option ℕ) → same_value None (if_type (known
 without_type x None h = refl
 without_type x (Some t) h = never h
 
-module _ (x : Basis) (labels : LabelsLead x) (traps : TrapsStop x) (own : ArgumentLabels x) (g : Both) (rest : List BlockLine) (to : ℕ) (how : Use)
+module _ (x : Basis) (labels : LabelsLead x) (traps : TrapsStop x) (own : ArgumentLabels x) (g : Both) (rest : List BlockLine) (to : ℕ) (how : UseAt)
     (ty : Option ℕ) (proc : ℕ) (from : List From) (y : IsGood x (starts g (plain (L.Call to how ty proc from)) rest)) where
   abbrev line : BlockLine
   line = plain (L.Call to how ty proc from)
@@ -323,7 +323,7 @@ module _ (x : Basis) (labels : LabelsLead x) (traps : TrapsStop x) (own : Argume
           (found (high x.table x.blocks (starts g line rest)) rest to (slots_for xs) (suc (handed_bytes xs)) left o)) (sym callee.block)
           (by_lines left e callee.body.proc.lines refl)
 
-pub call_line : (x : Basis) (labels : LabelsLead x) (traps : TrapsStop x) (own : ArgumentLabels x) (g : Both) (rest : List BlockLine) (to : ℕ) (how : Use)
+pub call_line : (x : Basis) (labels : LabelsLead x) (traps : TrapsStop x) (own : ArgumentLabels x) (g : Both) (rest : List BlockLine) (to : ℕ) (how : UseAt)
     (ty : Option ℕ) (proc : ℕ) (from : List From) → FollowedHere x labels g rest (L.Call to how ty proc from)
 call_line x labels traps own g rest to how ty proc from y =
     using_all_settles x (starts g (plain (L.Call to how ty proc from)) rest) rest g.call.temps from (λ xs. Calls to proc (slots_for xs) (suc (handed_bytes xs)))

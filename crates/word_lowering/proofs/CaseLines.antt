@@ -7,6 +7,8 @@ use Rattle.std.proofs.lemmas.Bool.{and_parts, ltb-true, ltb-false}
 use Rattle.std.proofs.lemmas.Bool.Decides.{Decides-int_eq}
 use Rattle.rv32_isa.specs.Values.{subtracted}
 use Rattle.nim_program.specs.Ints.{fits as is_int_number}
+use Rattle.nim_program.specs.declared.expr.Label.TheVariants as C
+use Rattle.nim_meaning.specs.Acts.{branch}
 use Rattle.nim_meaning.specs.Values.{Value, number_of}
 use Rattle.flat_code.specs.declared.block.BlockLine.{BlockLine}
 use Rattle.flat_code.specs.declared.line.Line.TheVariants as L
@@ -41,12 +43,12 @@ use Rattle.nim_program.specs.Kinds.{is_ordinal}
 
 -- a number is one of those from one to another where it isn't further above the first than the last is
 range_is : (low high z : ℤ) → is_int_number low ≡ true → is_int_number high ≡ true → is_int_number z ≡ true → int_lt high low ≡ false
-    → not (nat_lt (unsigned_abs (high -ℤ low)) (subtracted (word z) (word low))) ≡ (int_le low z && int_le z high)
+    → not (nat_lt (unsigned_abs (high -ℤ low)) (subtracted (word z) (word low))) ≡ (branch (int_le low z) (int_le z high) false)
 range_is low high z fl fh fz le =
     by (nat_lt (unsigned_abs (high -ℤ low)) (subtracted (word z) (word low))) (int_le low z) (int_le z high) refl refl refl
   where
     by : (p q r : Bool) → nat_lt (unsigned_abs (high -ℤ low)) (subtracted (word z) (word low)) ≡ p → int_le low z ≡ q → int_le z high ≡ r
-        → not p ≡ (q && r)
+        → not p ≡ branch q r false
     by false true true e f g = refl
     by true false r e f g = refl
     by true true false e f g = refl
@@ -60,10 +62,10 @@ range_is low high z fl fh fz le =
         let a = fits_signed low fl in let b = fits_signed high fh in let d = fits_signed z fz in
         let l = ltb-false (unsigned_abs (high -ℤ low)) (subtracted (word z) (word low)) e in absurd (omega (arith, ints))
 
-one_is : (low z : ℤ) → int_eq z low ≡ (int_le low z && int_le z low)
+one_is : (low z : ℤ) → int_eq z low ≡ (branch (int_le low z) (int_le z low) false)
 one_is low z = by (int_eq z low) (int_le low z) (int_le z low) refl refl refl
   where
-    by : (p q r : Bool) → int_eq z low ≡ p → int_le low z ≡ q → int_le z low ≡ r → p ≡ (q && r)
+    by : (p q r : Bool) → int_eq z low ≡ p → int_le low z ≡ q → int_le z low ≡ r → p ≡ branch q r false
     by true true true e f g = refl
     by false false r e f g = refl
     by false true false e f g = refl
@@ -71,10 +73,10 @@ one_is low z = by (int_eq z low) (int_le low z) (int_le z low) refl refl refl
     by true true false e f g = let s = (Decides-int_eq z low).0 e in absurd (omega (arith, ints))
     by false true true e f g = never (sym e ∙ (Decides-int_eq z low).1 (omega (arith, ints)))
 
-none_is : (low high z : ℤ) → int_lt high low ≡ true → (int_le low z && int_le z high) ≡ false
+none_is : (low high z : ℤ) → int_lt high low ≡ true → (branch (int_le low z) (int_le z high) false) ≡ false
 none_is low high z lt = by (int_le low z) (int_le z high) refl refl
   where
-    by : (q r : Bool) → int_le low z ≡ q → int_le z high ≡ r → (q && r) ≡ false
+    by : (q r : Bool) → int_le low z ≡ q → int_le z high ≡ r → branch q r false ≡ false
     by false r f g = refl
     by true false f g = refl
     by true true f g = absurd (omega (arith, ints))
@@ -85,7 +87,7 @@ span_small low high fl fh le = let a = fits_signed low fl in let b = fits_signed
 
 module _ (x : Basis) (labels : LabelsLead x) (g : Both) (rest : List BlockLine) (from : ℕ) (low high : ℤ) (name : ℕ) where
   abbrev line : BlockLine
-  line = plain (L.Fits from low high name)
+  line = plain (L.Fits from (C.Ordinals low high) name)
 
   module _ (y : IsGood x (starts g line rest)) where
     abbrev k : List WordInstr
@@ -123,7 +125,7 @@ module _ (x : Basis) (labels : LabelsLead x) (g : Both) (rest : List BlockLine) 
 
     abbrev Goal : ℤ → Type 0
     Goal z = Settles x (starts g line rest) rest
-        (leaps_where (scene_of (high_state x.table x.blocks (starts g line rest))) (int_le low z && int_le z high) name)
+        (leaps_where (scene_of (high_state x.table x.blocks (starts g line rest))) 1 (branch (int_le low z) (int_le z high) false) name)
 
     stays_here : (w : Vars) → Leads x.live (all_procs x) (within x.table x.blocks g) g.memory g.words k w k 0
     stays_here w = record { vars = w; same = all_same w; runs = none (lower x) (at (within x.table x.blocks g) g.memory k w g.words) }
@@ -215,26 +217,26 @@ module _ (x : Basis) (labels : LabelsLead x) (g : Both) (rest : List BlockLine) 
 
       goal : (p q : Bool) → int_lt high low ≡ p → int_eq low high ≡ q → Goal (number_of v)
       goal true q e f =
-          where_settles x g line rest y labels (int_le low (number_of v) && int_le (number_of v) high) name
+          where_settles x g line rest y labels (branch (int_le low (number_of v)) (int_le (number_of v) high) false) name
           (λ h. never (sym (none_is low high (number_of v) e) ∙ h))
           (λ h. silent_settles x g line rest y g.call.temps (same_temps x g line rest y) 1 (is_chosen true q e f))
       goal false true e f =
           let same : low ≡ high = (Decides-int_eq low high).0 f in
-          let is : (word (number_of v) == word low) ≡ (int_le low (number_of v) && int_le (number_of v) high)
-          = equal_is (number_of v) low o.fits low_fits ∙ one_is low (number_of v) ∙ ap (λ h. int_le low (number_of v) && int_le (number_of v) h) same in
-          where_settles x g line rest y labels (int_le low (number_of v) && int_le (number_of v) high) name
+          let is : (word (number_of v) == word low) ≡ (branch (int_le low (number_of v)) (int_le (number_of v) high) false)
+          = equal_is (number_of v) low o.fits low_fits ∙ one_is low (number_of v) ∙ ap (λ h. branch (int_le low (number_of v)) (int_le (number_of v) h) false) same in
+          where_settles x g line rest y labels (branch (int_le low (number_of v)) (int_le (number_of v) high) false) name
           (λ h there stands. subst (λ l. Here l there) (sym (is_chosen false true e f)) (one_leads (is ∙ h) there stands))
           (λ h. passes_settles x g line rest y g.call.temps (same_temps x g line rest y) 1 (omega arith)
           (subst (λ l. Here l k) (sym (is_chosen false true e f)) (one_passes (is ∙ h))))
       goal false false e f =
           let is = range_is low high (number_of v) low_fits high_fits o.fits e in
-          where_settles x g line rest y labels (int_le low (number_of v) && int_le (number_of v) high) name
+          where_settles x g line rest y labels (branch (int_le low (number_of v)) (int_le (number_of v) high) false) name
           (λ h there stands. subst (λ l. Here l there) (sym (is_chosen false false e f)) (range_leads e (is ∙ h) there stands))
           (λ h. passes_settles x g line rest y g.call.temps (same_temps x g line rest y) 1 (omega arith)
           (subst (λ l. Here l k) (sym (is_chosen false false e f)) (range_passes e (is ∙ h))))
 
-  pub fits_line : FollowedHere x labels g rest (L.Fits from low high name)
+  pub fits_line : FollowedHere x labels g rest (L.Fits from (C.Ordinals low high) name)
   fits_line y =
       using_settles x (starts g line rest) rest (g.call.temps.values from)
-      (λ v. leaps_where (scene_of (high_state x.table x.blocks (starts g line rest))) (int_le low (number_of v) && int_le (number_of v) high) name)
+      (λ v. leaps_where (scene_of (high_state x.table x.blocks (starts g line rest))) 1 (branch (int_le low (number_of v)) (int_le (number_of v) high) false) name)
       (λ v e. goal y v (ordinal_read x g line rest y from v (kinds y).0 e) (int_lt high low) (int_eq low high) refl refl)

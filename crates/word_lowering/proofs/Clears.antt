@@ -36,7 +36,7 @@ use Rattle.flat_code.specs.Running.{scene_of}
 use Rattle.flat_code.specs.declared.line.From.{From}
 use Rattle.nim_meaning.specs.Deeds.{costs, give, ◌>>=◌}
 use Rattle.nim_meaning.specs.Places.{made_by}
-use Rattle.nim_program.specs.declared.operation.Use.{Use}
+use Rattle.flat_code.specs.declared.line.UseAt.{UseAt}
 use Rattle.nim_types.specs.Types.{Ty}
 use Rattle.word_lowering.proofs.ApplyFits.{applies, RowHere}
 use Rattle.word_lowering.proofs.LineFits.{are_of, no_type}
@@ -168,7 +168,7 @@ module _ (x : Basis) (labels : LabelsLead x) (g : Both) (rest : List BlockLine) 
       (subst (λ h. Gets x g line rest y (clears h next) next (of_place n) v (9 + bytes v)) (sym o.same) r) (omega arith)
 
   -- an operation that gives the default of its type
-  pub default_line : (to : ℕ) (how : Use) (ty : Option ℕ) (from : List From) → RowHere x g rest to O.Default how ty [] from
+  pub default_line : (to : ℕ) (how : UseAt) (ty : Option ℕ) (from : List From) → RowHere x g rest to O.Default how ty [] from
   default_line to how (Some ty) [] y =
       let line = plain (L.Apply to O.Default how (Some ty) [] []) in
       let fit = applies x g rest to O.Default how (Some ty) [] [] y in
@@ -182,7 +182,7 @@ module _ (x : Basis) (labels : LabelsLead x) (g : Both) (rest : List BlockLine) 
       let code : code_here x g line rest y ≡ clears (house g.call.site (of_value to)) (code_next x g line rest y)
       = starts_there (house g.call.site (of_value to)).bytes (house g.call.site (of_value to)) (code_next x g line rest y) (omega (arith, some, size)) in
       subst (λ b. Settles x (starts g line rest) rest (gives (scene_of (high x.table x.blocks (starts g line rest))) to
-      (costs 1 (costs (bytes v) (give v)) >>= made_by b (bound_for g how to)))) (sym t.unhooked)
+      (costs 1 (costs (bytes v) (give v)) >>= made_by b (bound_for g how)))) (sym t.unhooked)
       (value_settles x g line rest y to v (9 + bytes v) (1 + (bytes v + 0)) t.there look
       (subst (λ l. Gets x g line rest y l (code_next x g line rest y) (of_value to) v (9 + bytes v)) (sym code)
       (gets_cleared x g line rest y (of_value to) t.there (value_plain (house g.call.site (of_value to)).kind t.there.kind) v look

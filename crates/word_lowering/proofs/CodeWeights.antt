@@ -1,4 +1,5 @@
 -- Word code has no more lines than block code weighs.
+use Rattle.nim_program.specs.declared.expr.Label.TheVariants as C
 use Rattle.std.proofs.Common.{◌≡◌, ℕ, suc, ◌+◌, ◌*◌, ◌≤◌, List, [], ◌∷◌, length, map, Bool, true, false, not}
 use Rattle.std.proofs.Common.{Option, Some, None, length-append}
 use Rattle.std.proofs.Common.{refl, ap, subst, arith}
@@ -191,10 +192,10 @@ module _ (x : Around) where
       let h = called_weighs (lines.layout_at x proc).runs label proc ty to (lines.operands x from) k in
       let n = operands_length from in
       omega (arith, h, n)
-  line_weighs (L.Get to from how site ty) label k = moves_weigh (lines.value x to) (lines.location x from) k
+  line_weighs (L.Get to from how ty) label k = moves_weigh (lines.value x to) (lines.location x from) k
   line_weighs (L.Look to from) label k = moves_weigh (lines.value x to) (lines.location x from) k
   line_weighs (L.Root to p global) label k = omega arith
-  line_weighs (L.Fresh to from) label k = omega arith
+  line_weighs (L.Fresh to from waits) label k = omega arith
   line_weighs (L.Standing to ty pieces) label k = omega arith
   line_weighs (L.Part to from field) label k = part_weighs (lines.led x to) (lines.location x from).home _ k
   line_weighs (L.Item to from index) label k =
@@ -220,7 +221,9 @@ module _ (x : Around) where
   line_weighs (L.Label name) label k = omega arith
   line_weighs (L.Jump to) label k = omega arith
   line_weighs (L.Unless from to) label k = omega arith
-  line_weighs (L.Fits from low high to) label k = fits_weighs (lines.held x from) (lines.own_label to) low high k
+  line_weighs (L.Fits from (C.Ordinals low high) to) label k = fits_weighs (lines.held x from) (lines.own_label to) low high k
+  line_weighs (L.Fits from (C.Text text) to) label k = omega arith
+  line_weighs (L.Own what from) label k = omega arith
   line_weighs L.Enter label k = omega arith
   line_weighs (L.Turn to) label k = omega arith
   line_weighs (L.TurnIf from to) label k = omega arith

@@ -23,7 +23,7 @@ use Rattle.nim_meaning.specs.Deeds.{costs, give, ◌>>=◌, Finishes}
 use Rattle.nim_meaning.specs.Here.{gives_hooked}
 use Rattle.nim_meaning.specs.Places.{made_by}
 use Rattle.nim_program.specs.View.{if_type}
-use Rattle.nim_program.specs.declared.operation.Use.{Use}
+use Rattle.flat_code.specs.declared.line.UseAt.{UseAt}
 use Rattle.word_lowering.proofs.ApplyFits.{applies, RowHere}
 use Rattle.word_lowering.proofs.ControlLines.{number_read, plain, value_type}
 use Rattle.word_lowering.proofs.LineFits.{are_of, bool_shape, same_type, some_kind}
@@ -56,7 +56,7 @@ first_plain : (b c : Bool) → not (b || c) ≡ true → b ≡ false
 first_plain true c h = never h
 first_plain false c h = refl
 
-module _ (x : Basis) (labels : LabelsLead x) (g : Both) (rest : List BlockLine) (to : ℕ) (how : Use) (ty : Option ℕ) where
+module _ (x : Basis) (labels : LabelsLead x) (g : Both) (rest : List BlockLine) (to : ℕ) (how : UseAt) (ty : Option ℕ) where
   module _ (comparison : Comparison) (a : ℕ) (b : Option ℕ) (left right : ℕ) where
     abbrev comparing : BlockLine
     comparing = plain (L.Apply to (O.Compare comparison) how ty (Some a ∷ b ∷ []) (F.Value left ∷ F.Value right ∷ []))
@@ -83,7 +83,7 @@ module _ (x : Basis) (labels : LabelsLead x) (g : Both) (rest : List BlockLine) 
         let bool = bool_shape (facts_in x.table) k.0 k.2 in
         let gives_it : Value → Value → Did = λ v w. gives (scene_of (high x.table x.blocks (starts g comparing rest))) to
         (costs 1 (costs (bytes v) (give (Number (truth (compared comparison (number_of v) (number_of w))))))
-        >>= made_by (gives_hooked (facts_in x.table) (if_type (known x).types ty)) (bound_for g how to)) in
+        >>= made_by (gives_hooked (facts_in x.table) (if_type (known x).types ty)) (bound_for g how)) in
         mapped_settles x (starts g comparing rest) rest (g.call.temps.values left) Given
         (λ z. using (option_map Given (g.call.temps.values right)) (λ o. gives_it (value_of z) (value_of o)))
         (λ v e. mapped_settles x (starts g comparing rest) rest (g.call.temps.values right) Given (λ o. gives_it v (value_of o))
@@ -93,7 +93,7 @@ module _ (x : Basis) (labels : LabelsLead x) (g : Both) (rest : List BlockLine) 
         let answer : ℤ = truth (compared comparison (number_of v) (number_of w)) in
         let got_it = getting x g comparing rest y to k.0 (Some 2) answer t bool (truth_shaped (compared comparison (number_of v) (number_of w))) in
         subst (λ c. Settles x (starts g comparing rest) rest (gives (scene_of (high x.table x.blocks (starts g comparing rest))) to
-        (costs 1 (costs (bytes v) (give (Number answer))) >>= made_by c (bound_for g how to)))) (sym (ap (gives_hooked (facts_in x.table)) k.1 ∙ t.unhooked))
+        (costs 1 (costs (bytes v) (give (Number answer))) >>= made_by c (bound_for g how)))) (sym (ap (gives_hooked (facts_in x.table)) k.1 ∙ t.unhooked))
         (gives_settles x g comparing rest y to answer (1 + (bytes v + 0)) (omega arith) got_it
         (compare_given x.live (all_procs x) (within x.table x.blocks g) g.memory g.words g.call.vars (variable x g comparing rest y to)
         (variable x g comparing rest y left) (high_target x g comparing rest y to answer got_it) o.high (number_of v) o.fits o.word_is
@@ -124,7 +124,7 @@ module _ (x : Basis) (labels : LabelsLead x) (g : Both) (rest : List BlockLine) 
 
 -- ---- conversions
 
-module _ (x : Basis) (traps : TrapsStop x) (labels : LabelsLead x) (g : Both) (rest : List BlockLine) (to : ℕ) (how : Use) where
+module _ (x : Basis) (traps : TrapsStop x) (labels : LabelsLead x) (g : Both) (rest : List BlockLine) (to : ℕ) (how : UseAt) where
   module _ (ty a from : ℕ) where
     abbrev converting : BlockLine
     converting = plain (L.Apply to O.Convert how (Some ty) (Some a ∷ []) (F.Value from ∷ []))
@@ -139,7 +139,7 @@ module _ (x : Basis) (traps : TrapsStop x) (labels : LabelsLead x) (g : Both) (r
         (from_typed : value_type x g converting rest y from ≡ Some from_type) (v : Value) (e : g.call.temps.values from ≡ Some v) where
       abbrev Converts : Option ℕ → Type 0
       Converts o = Settles x (starts g converting rest) rest (gives (scene_of (high x.table x.blocks (starts g converting rest))) to
-          (costs 1 (converted o v >>= moved) >>= made_by (gives_hooked (facts_in x.table) (Some to_type)) (bound_for g how to)))
+          (costs 1 (converted o v >>= moved) >>= made_by (gives_hooked (facts_in x.table) (Some to_type)) (bound_for g how)))
 
       t : Target x g converting rest y to to_type
       t = target x g converting rest y to to_type refl refl typed
@@ -158,7 +158,7 @@ module _ (x : Basis) (traps : TrapsStop x) (labels : LabelsLead x) (g : Both) (r
           let numbers = x.plains a (first_plain (is_hooked x.table a) (any_hooked x.table []) (plain_operands x g converting rest y)) in
           let r = value_read x g converting rest y from v from_type from_typed numbers e in
           subst (λ b. Settles x (starts g converting rest) rest (gives (scene_of (high x.table x.blocks (starts g converting rest))) to
-          (costs 1 (moved v) >>= made_by b (bound_for g how to)))) (sym t.unhooked)
+          (costs 1 (moved v) >>= made_by b (bound_for g how)))) (sym t.unhooked)
           (moved_value x g converting rest y to to_type v t (as_other v r.1) (house g.call.site (of_value from)) true r.0.read (code_is None none)
           (1 + (bytes v + 0)) (omega arith))
 
@@ -189,7 +189,7 @@ module _ (x : Basis) (traps : TrapsStop x) (labels : LabelsLead x) (g : Both) (r
             → Checks x.live (all_procs x) (within x.table x.blocks g) g.memory g.words (code_here x g converting rest y) g.call.vars
             (variable x g converting rest y to) (code_next x g converting rest y) (if b then Fine (number_of v) else Trapped OutOfRange)
             → Settles x (starts g converting rest) rest (gives (scene_of (high x.table x.blocks (starts g converting rest))) to
-            (costs 1 (outcome (if b then Fine (number_of v) else Trapped OutOfRange) >>= moved) >>= made_by false (bound_for g how to)))
+            (costs 1 (outcome (if b then Fine (number_of v) else Trapped OutOfRange) >>= moved) >>= made_by false (bound_for g how)))
         narrowed true h c =
             gives_settles x g converting rest y to (number_of v) (1 + (4 + 0)) (omega arith)
             (getting x g converting rest y to to_type (Some values) (number_of v) t shape (and_from (is_int_number (number_of v)) (inside (number_of v) values)
@@ -203,13 +203,13 @@ module _ (x : Basis) (traps : TrapsStop x) (labels : LabelsLead x) (g : Both) (r
 
             twice : Passes (Finishes es (1 + length (line_of (trap_text OutOfRange))) 1 g.world)
                 ≡ gives (scene_of (high x.table x.blocks (starts g converting rest))) to
-                (costs 1 (outcome (Trapped OutOfRange) >>= moved) >>= made_by false (bound_for g how to))
+                (costs 1 (outcome (Trapped OutOfRange) >>= moved) >>= made_by false (bound_for g how))
             twice = ap (λ l. Passes (Finishes l (1 + length (line_of (trap_text OutOfRange))) 1 g.world)) (sym (append-nil es))
 
         one_of : Converts (Some values)
         one_of =
             subst (λ b. Settles x (starts g converting rest) rest (gives (scene_of (high x.table x.blocks (starts g converting rest))) to
-            (costs 1 (outcome result >>= moved) >>= made_by b (bound_for g how to)))) (sym t.unhooked) (narrowed (inside (number_of v) values) refl checks)
+            (costs 1 (outcome result >>= moved) >>= made_by b (bound_for g how)))) (sym t.unhooked) (narrowed (inside (number_of v) values) refl checks)
 
     pub convert_value : RowHere x g rest to O.Convert how (Some ty) (Some a ∷ []) (F.Value from ∷ [])
     convert_value y =
@@ -220,7 +220,7 @@ module _ (x : Basis) (traps : TrapsStop x) (labels : LabelsLead x) (g : Both) (r
         mapped_settles x (starts g converting rest) rest (g.call.temps.values from) Given
         (λ z. gives (scene_of (high x.table x.blocks (starts g converting rest))) to
         (costs 1 (converted (limit_of (facts_in x.table) to_type) (value_of z) >>= moved) >>= made_by (gives_hooked (facts_in x.table) (Some to_type))
-        (bound_for g how to)))
+        (bound_for g how)))
         (λ z e. by y typed from_typed z e (x.conversions ty a f.row))
       where
         by : (y : IsGood x (starts g converting rest)) (typed : value_type x g converting rest y to ≡ Some to_type)

@@ -8,7 +8,7 @@ use Rattle.nim_types.specs.Forms.{or_word, form_of}
 use Rattle.nim_types.specs.Table.{facts_in, type_at}
 use Rattle.nim_types.specs.Types.{Ty}
 use Rattle.nim_program.specs.Kinds.{is_of}
-use Rattle.nim_program.specs.declared.operation.Use.{Use}
+use Rattle.flat_code.specs.declared.line.UseAt.{UseAt}
 use Rattle.nim_meaning.specs.Values.{Value, Number, Parts, Handle, Fixed, Ref, Resource, Gone, Vacant, Values, Nil, More, bytes, bytes_all}
 use Rattle.nim_meaning.specs.Deeds.{Answers, costs, ◌>>=◌}
 use Rattle.nim_meaning.specs.Places.{made_by}
@@ -321,7 +321,7 @@ module _ (x : Basis) (g : Both) (line : BlockLine) (rest : List BlockLine) (y : 
 
 -- ---- the line
 
-module _ (x : Basis) (labels : LabelsLead x) (g : Both) (rest : List BlockLine) (to : ℕ) (how : Use) (ty : ℕ) where
+module _ (x : Basis) (labels : LabelsLead x) (g : Both) (rest : List BlockLine) (to : ℕ) (how : UseAt) (ty : ℕ) where
   built_constant : (pieces : List Piece) → text_in pieces ≡ None → pieces_bytes pieces ≡ bytes (value_of pieces)
       → FollowedHere x labels g rest (L.Constant to how ty pieces)
   built_constant pieces no_text long y =
@@ -335,7 +335,7 @@ module _ (x : Basis) (labels : LabelsLead x) (g : Both) (rest : List BlockLine) 
       let u = are_of (value_type x g line rest y to) (Some to_type) f.1 in
       let t = target x g line rest y to to_type refl (ap (text_alias (texts_behind x g line rest y)) no_text) (u.is ∙ sym u.is_other) in
       subst (λ b. Settles x (starts g line rest) rest (gives (scene_of (high x.table x.blocks (starts g line rest))) to
-      (costs 1 (costs (pieces_bytes pieces) (constant_for b (form_of (facts_in x.table) to_type) v)) >>= made_by b (bound_for g how to)))) (sym t.unhooked)
+      (costs 1 (costs (pieces_bytes pieces) (constant_for b (form_of (facts_in x.table) to_type) v)) >>= made_by b (bound_for g how)))) (sym t.unhooked)
       (subst (λ n. Settles x (starts g line rest) rest (Passes (Answers [] (1 + (n + 0)) (with_value to g.call.temps v) g.world))) (sym long)
       (built_settles x g line rest y to t.there pieces v (words_are pieces p.0) (values_of_numbers v (shape_of (facts_in x.table) to_type) t.numbers p.1)
       (ap of_numbers t.look ∙ t.numbers) (subst (λ s. has_shape v s ≡ true) (sym t.look) p.1)

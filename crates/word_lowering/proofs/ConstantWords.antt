@@ -28,6 +28,7 @@ use Rattle.nim_meaning.specs.Deeds.{costs, give, ◌>>=◌, Answers}
 use Rattle.nim_meaning.specs.Places.{made_by}
 use Rattle.nim_program.specs.Kinds.{is_of}
 use Rattle.nim_program.specs.declared.operation.Use.{Use}
+use Rattle.flat_code.specs.declared.line.UseAt.{UseAt}
 use Rattle.word_lowering.proofs.ControlLines.{FollowedHere, plain, value_type}
 use Rattle.word_lowering.proofs.LineFits.{are_of}
 use Rattle.word_lowering.proofs.DistinctTexts.{has_behind}
@@ -65,7 +66,7 @@ text_whole (p ∷ before) line rest =
     )
 
 -- and it is one of all
-text_among : (to : ℕ) (how : Use) (ty : ℕ) (text : List ℕ) (before rest : List BlockLine) →
+text_among : (to : ℕ) (how : UseAt) (ty : ℕ) (text : List ℕ) (before rest : List BlockLine) →
     is_member same_text (lines_texts (map block_plain (before ++ plain (L.Constant to how ty (P.Text text ∷ [])) ∷ rest))) text ≡ true
 text_among to how ty text [] rest =
     ap (λ b. b || is_member same_text (lines_texts (map block_plain rest)) text) (nat_list_eq_equiv.refl text)
@@ -99,7 +100,7 @@ number_of_shape z (row n s) h = never h
 number_of_shape z (parts ss) h = never h
 number_of_shape z (resource ss) h = never h
 
-module _ (x : Basis) (labels : LabelsLead x) (g : Both) (rest : List BlockLine) (to : ℕ) (how : Use) (ty : ℕ) where
+module _ (x : Basis) (labels : LabelsLead x) (g : Both) (rest : List BlockLine) (to : ℕ) (how : UseAt) (ty : ℕ) where
   abbrev to_type : Ty
   to_type = type_at (known x).types ty
 
@@ -119,7 +120,7 @@ module _ (x : Basis) (labels : LabelsLead x) (g : Both) (rest : List BlockLine) 
       = ap (λ p. constant_at (house g.call.site (of_value to)) p (P.Ordinal z ∷ []) (code_next x g line rest y)) w.spot
       ∙ ap (λ u. Constant u (word z) ∷ code_next x g line rest y) (sym w.is) in
       subst (λ b. Settles x (starts g line rest) rest (gives (scene_of (high x.table x.blocks (starts g line rest))) to
-      (costs 1 (costs 0 (constant_for b (form_of (facts_in x.table) to_type) (Number z))) >>= made_by b (bound_for g how to)))) (sym t.unhooked)
+      (costs 1 (costs 0 (constant_for b (form_of (facts_in x.table) to_type) (Number z))) >>= made_by b (bound_for g how)))) (sym t.unhooked)
       (gives_settles x g line rest y to z (1 + (0 + 0)) (omega arith) n
       (subst (λ l. Given x.live (all_procs x) (within x.table x.blocks g) g.memory g.words l g.call.vars (variable x g line rest y to) (word z)
       (code_next x g line rest y)) (sym code) (constant_given x g line rest y to z n)))
@@ -201,14 +202,15 @@ module _ (x : Basis) (labels : LabelsLead x) (g : Both) (rest : List BlockLine) 
     pub text_constant : FollowedHere x labels g rest (L.Constant to how ty (P.Text text ∷ []))
     text_constant y =
         subst (λ d. Settles x (starts g naming rest) rest d)
-        (made_text (gives_hooked (facts_in x.table) (Some to_type)) how (plain_operands x g naming rest y))
+        (made_text (gives_hooked (facts_in x.table) (Some to_type)) how.how (plain_operands x g naming rest y))
         (stays_on x (starts g naming rest) (changed g rest text_temps g.call.vars g.memory g.words g.awaits g.world) rest (good_text y)
         1 text_temps g.world refl refl (omega arith))
       where
-        made_text : (b : Bool) (how : Use) → is_lent how ≡ true → Passes (Answers [] 1 text_temps g.world)
+        made_text : (b : Bool) (use_here : Use) → is_lent use_here ≡ true → Passes (Answers [] 1 text_temps g.world)
             ≡ gives (scene_of (high x.table x.blocks (starts g naming rest))) to
-            (costs 1 (costs 0 (constant_for b (form_of (facts_in x.table) to_type) (Fixed text))) >>= made_by b (bound_for g how to))
-        made_text false how h = refl
+            (costs 1 (costs 0 (constant_for b (form_of (facts_in x.table) to_type) (Fixed text)))
+            >>= made_by b (record { how = use_here; level = g.call.site.level; node = how.node }))
+        made_text false use_here h = refl
         made_text true uses.Lent h = refl
         made_text true uses.Owned h = never h
         made_text true uses.Given h = never h

@@ -10,7 +10,7 @@ use Rattle.nim_types.specs.Table.{facts_in, type_at}
 use Rattle.nim_types.specs.Forms.{form_of}
 use Rattle.nim_program.specs.Fitting.{are_distinct, are_fields, built, is_built, is_in}
 use Rattle.nim_program.specs.Kinds.{TypeKind, declared_kind, field_at, is_of, kind_of}
-use Rattle.nim_program.specs.declared.operation.Use.{Use}
+use Rattle.flat_code.specs.declared.line.UseAt.{UseAt}
 use Rattle.nim_meaning.specs.Values.{Value, Values, Nil, More, bytes, default_of, part, put_part, Operand, values_in}
 use Rattle.nim_meaning.specs.Table.{with_fields}
 use Rattle.nim_meaning.specs.Deeds.{Answers, costs, give, ◌>>=◌}
@@ -20,7 +20,7 @@ use Rattle.flat_code.specs.declared.block.BlockLine.{BlockLine}
 use Rattle.flat_code.specs.declared.line.From.{From}
 use Rattle.flat_code.specs.declared.line.From.TheVariants as F
 use Rattle.flat_code.specs.declared.line.Line.TheVariants as L
-use Rattle.flat_code.specs.Fits.{are_placed}
+use Rattle.flat_code.specs.Fits.{are_values}
 use Rattle.flat_code.specs.Fits as fit
 use Rattle.flat_code.specs.Lines.{gives}
 use Rattle.flat_code.specs.Running.{scene_of}
@@ -179,7 +179,7 @@ module _ (x : Basis) (g : Both) (line : BlockLine) (rest : List BlockLine) (y : 
     taken f = fit.taken (known x) (sigs x.table x.blocks) (globals_of x.table x.blocks) (body_of g).proc.places f
 
     fields_come : of_numbers (parts ss) ≡ true → (names : List ℕ) (from : List From) (xs : List Operand)
-        → are_fields k names (map taken from) ≡ true → are_placed 0 from ≡ true → Have g.call.temps from xs → FieldsCome names from (values_in xs)
+        → are_fields k names (map taken from) ≡ true → are_values from ≡ true → Have g.call.temps from xs → FieldsCome names from (values_in xs)
     fields_come numbers [] [] [] are placed has = tt
     fields_come numbers [] [] (z ∷ xs) are placed has = absurd has
     fields_come numbers [] (f ∷ from) xs are placed has = never are
@@ -343,7 +343,7 @@ module _ (x : Basis) (g : Both) (line : BlockLine) (rest : List BlockLine) (y : 
 
 -- ---- the line
 
-module _ (x : Basis) (labels : LabelsLead x) (g : Both) (rest : List BlockLine) (to : ℕ) (how : Use) (ty : ℕ) (names : List ℕ) (from : List From) where
+module _ (x : Basis) (labels : LabelsLead x) (g : Both) (rest : List BlockLine) (to : ℕ) (how : UseAt) (ty : ℕ) (names : List ℕ) (from : List From) where
   abbrev building : BlockLine
   building = plain (L.Construct to how ty names from)
 
@@ -363,9 +363,9 @@ module _ (x : Basis) (labels : LabelsLead x) (g : Both) (rest : List BlockLine) 
   construct_line y =
       let whole_kind : TypeKind = built (facts_in x.table) to_kind in
       let named : Bool = are_distinct names && are_fields whole_kind names all_taken in
-      let f = and_parts ((is_built whole_kind && named) && are_placed 0 from) (is_of (value_type x g building rest y to) (Some to_type))
+      let f = and_parts ((is_built whole_kind && named) && are_values from) (is_of (value_type x g building rest y to) (Some to_type))
       (fits_here x.table x.blocks (body_of g) building rest y.stands) in
-      let p = and_parts (is_built whole_kind && named) (are_placed 0 from) f.0 in
+      let p = and_parts (is_built whole_kind && named) (are_values from) f.0 in
       let q = and_parts (is_built whole_kind) named p.0 in
       let r = and_parts (are_distinct names) (are_fields whole_kind names all_taken) q.1 in
       let v = are_of (value_type x g building rest y to) (Some to_type) f.1 in
@@ -383,9 +383,9 @@ module _ (x : Basis) (labels : LabelsLead x) (g : Both) (rest : List BlockLine) 
       using_all_settles x (starts g building rest) rest g.call.temps from
       (λ xs. gives (scene_of (high x.table x.blocks (starts g building rest))) to
       (costs 1 (costs (bytes start_value) (give (with_fields start_value names (values_in xs))))
-      >>= made_by (gives_hooked (facts_in x.table) (Some to_type)) (bound_for g how to)))
+      >>= made_by (gives_hooked (facts_in x.table) (Some to_type)) (bound_for g how)))
       (λ xs has. subst (λ b. Settles x (starts g building rest) rest (gives (scene_of (high x.table x.blocks (starts g building rest))) to
-      (costs 1 (costs (bytes start_value) (give (with_fields start_value names (values_in xs)))) >>= made_by b (bound_for g how to)))) (sym t.unhooked)
+      (costs 1 (costs (bytes start_value) (give (with_fields start_value names (values_in xs)))) >>= made_by b (bound_for g how)))) (sym t.unhooked)
       (constructed x g building rest y to o.0 look ty t.there inside numbers size (λ i s e. x.parts_at ty t.unhooked o.0 i s o.1 e) names from
       (values_in xs)
       (fields_come x g building rest y to o.0 look to_kind o.2 numbers names from xs (subst (λ k. are_fields k names all_taken ≡ true) same r.1) p.1 has)

@@ -84,7 +84,7 @@ module _ (x : Basis) (g : Both) (line : BlockLine) (rest : List BlockLine) (y : 
       → (holds ≡ true → (there : List WordInstr) → from_label (own_label name) (word_of x.table x.blocks (body_of g)).lines ≡ Some there
       → Comes x g line rest y there)
       → (holds ≡ false → Settles x (starts g line rest) rest (Passes (Answers [] 1 g.call.temps g.world)))
-      → Settles x (starts g line rest) rest (leaps_where (scene_of (high x.table x.blocks (starts g line rest))) holds name)
+      → Settles x (starts g line rest) rest (leaps_where (scene_of (high x.table x.blocks (starts g line rest))) 1 holds name)
   where_settles labels true name h k = leaps_settles x g line rest y labels name (h refl)
   where_settles labels false name h k = k refl
 
@@ -199,7 +199,7 @@ module _ (x : Basis) (labels : LabelsLead x) (g : Both) (rest : List BlockLine) 
       let line = plain (L.Unless from name) in
       let same = same_temps x g line rest y in
       using_settles x (starts g line rest) rest (g.call.temps.values from)
-      (λ v. leaps_where (scene_of (high x.table x.blocks (starts g line rest))) (not (is_true (number_of v))) name)
+      (λ v. leaps_where (scene_of (high x.table x.blocks (starts g line rest))) 1 (not (is_true (number_of v))) name)
       (λ v e.
       let o = bool_read x g line rest y from v (fits_here x.table x.blocks (body_of g) line rest y.stands) e in
       let is : holds test.Equal (word (number_of v)) 0 ≡ not (is_true (number_of v))

@@ -1,8 +1,9 @@
 -- Each line of block code is followed.
+use Rattle.nim_program.specs.declared.expr.Label.TheVariants as C
 use Rattle.std.proofs.Common.{ℕ, List, [], ◌∷◌, Option, Some, None}
 use Rattle.nim_program.specs.declared.operation.Operation.{Operation}
 use Rattle.nim_program.specs.declared.operation.Operation.TheVariants as O
-use Rattle.nim_program.specs.declared.operation.Use.{Use}
+use Rattle.flat_code.specs.declared.line.UseAt.{UseAt}
 use Rattle.flat_code.specs.declared.block.BlockLine.{BlockLine}
 use Rattle.flat_code.specs.declared.block.BlockLine.TheVariants as block_line
 use Rattle.flat_code.specs.declared.owned.OwnedLine.TheVariants as owned_line
@@ -19,7 +20,7 @@ use Rattle.word_lowering.proofs.Clears.{blank_line, default_line}
 use Rattle.word_lowering.proofs.CompareLines.{compare_line, convert_line}
 use Rattle.word_lowering.proofs.ConstantLines.{constant_line}
 use Rattle.word_lowering.proofs.ConstructLines.{construct_line}
-use Rattle.word_lowering.proofs.ControlLines.{FollowedHere, enter_line, jump_line, label_line, turn_if_line, turn_line, unless_line}
+use Rattle.word_lowering.proofs.ControlLines.{plain, FollowedHere, enter_line, jump_line, label_line, turn_if_line, turn_line, unless_line}
 use Rattle.word_lowering.proofs.ElementLines.{element_line}
 use Rattle.word_lowering.proofs.EchoLines.{echo_line}
 use Rattle.word_lowering.proofs.EndLines.{quit_line}
@@ -43,12 +44,13 @@ use Rattle.word_lowering.proofs.HeapLines.{add_line, append_line, is_nil_line, j
 use Rattle.word_lowering.proofs.HeapLines.{read_line_line, sequence_line, set_length_line, show_line, destroy_line, unborn_line}
 use Rattle.word_lowering.proofs.OutLines.{move_line}
 use Rattle.word_lowering.proofs.SwapLines.{swap_line}
+use Rattle.word_lowering.proofs.Targets.{plain_operands}
 use Rattle.word_lowering.proofs.UpdateLines.{update_line}
 use Rattle.word_lowering.proofs.WrittenLines.{Writing}
 
 module _ (x : Basis) (labels : LabelsLead x) where
   abbrev Row : Operation → Type 0
-  Row operation = (g : Both) (rest : List BlockLine) (to : ℕ) (how : Use) (ty : Option ℕ) (of : List (Option ℕ)) (from : List From)
+  Row operation = (g : Both) (rest : List BlockLine) (to : ℕ) (how : UseAt) (ty : Option ℕ) (of : List (Option ℕ)) (from : List From)
       → RowHere x g rest to operation how ty of from
 
 module _ (x : Basis) (labels : LabelsLead x) (traps : TrapsStop x) (own : OwnLabels x) (arguments : ArgumentLabels x)
@@ -89,10 +91,11 @@ module _ (x : Basis) (labels : LabelsLead x) (traps : TrapsStop x) (own : OwnLab
   line_followed g rest (L.Construct to how ty fields from) y = construct_line x labels g rest to how ty fields from y
   line_followed g rest (L.Constant to how ty pieces) y = constant_line x labels g rest to how ty pieces y
   line_followed g rest (L.Call to how ty proc from) y = call_line x labels traps arguments g rest to how ty proc from y
-  line_followed g rest (L.Get to from how site ty) y = get_line x labels g rest to from how site ty y
+  line_followed g rest (L.Get to from how ty) y = get_line x labels g rest to from how ty y
   line_followed g rest (L.Look to from) y = look_line x labels g rest to from y
   line_followed g rest (L.Root to place global) y = root_line x labels g rest to place global y
-  line_followed g rest (L.Fresh to from) y = fresh_line x labels g rest to from y
+  line_followed g rest (L.Fresh to from None) y = fresh_line x labels g rest to from y
+  line_followed g rest (L.Fresh to from (Some node)) y = never (plain_operands x g (plain (L.Fresh to from (Some node))) rest y)
   line_followed g rest (L.Standing to ty pieces) y = standing_line x labels g rest to ty pieces y
   line_followed g rest (L.Part to from field) y = part_line x labels g rest to from field y
   line_followed g rest (L.Item to from index) y = item_line x traps labels g rest to from index y
@@ -112,7 +115,9 @@ module _ (x : Basis) (labels : LabelsLead x) (traps : TrapsStop x) (own : OwnLab
   line_followed g rest (L.Label name) y = label_line x labels g rest name y
   line_followed g rest (L.Jump to) y = jump_line x labels g rest to y
   line_followed g rest (L.Unless from to) y = unless_line x labels g rest from to y
-  line_followed g rest (L.Fits from least most to) y = fits_line x labels g rest from least most to y
+  line_followed g rest (L.Fits from (C.Ordinals least most) to) y = fits_line x labels g rest from least most to y
+  line_followed g rest (L.Fits from (C.Text text) to) y = never (plain_operands x g (plain (L.Fits from (C.Text text) to)) rest y)
+  line_followed g rest (L.Own what from) y = never (plain_operands x g (plain (L.Own what from)) rest y)
   line_followed g rest L.Enter y = enter_line x labels g rest y
   line_followed g rest (L.Turn to) y = turn_line x labels g rest to y
   line_followed g rest (L.TurnIf from to) y = turn_if_line x labels g rest from to y

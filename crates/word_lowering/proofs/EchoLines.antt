@@ -6,7 +6,7 @@ use Rattle.arc_base.specs.declared.outside.Stream.TheVariants.{Out}
 use Rattle.nim_types.specs.Types.{Ty}
 use Rattle.nim_types.specs.Table.{facts_in, type_at}
 use Rattle.nim_program.specs.declared.operation.Operation.TheVariants as O
-use Rattle.nim_program.specs.declared.operation.Use.{Use}
+use Rattle.flat_code.specs.declared.line.UseAt.{UseAt}
 use Rattle.nim_program.specs.Fitting.{are_shown, plain as plain_of}
 use Rattle.nim_program.specs.Kinds.{is_shown, same_value}
 use Rattle.nim_program.specs.View.{if_type}
@@ -20,7 +20,7 @@ use Rattle.flat_code.specs.declared.block.BlockLine.{BlockLine}
 use Rattle.flat_code.specs.declared.line.From.{From}
 use Rattle.flat_code.specs.declared.line.From.TheVariants as F
 use Rattle.flat_code.specs.declared.line.Line.TheVariants as L
-use Rattle.flat_code.specs.Fits.{are_placed, is_value}
+use Rattle.flat_code.specs.Fits.{are_values, is_value}
 use Rattle.flat_code.specs.Fits as fit
 use Rattle.flat_code.specs.Lines.{gives}
 use Rattle.flat_code.specs.Running.{scene_of}
@@ -52,7 +52,7 @@ module _ (x : Basis) (said : Writing x) (line : BlockLine) (rest : List BlockLin
   AreTyped g tys from = fit.are_of (known x) (sigs x.table x.blocks) (globals_of x.table x.blocks) (body_of g).proc.places (types_of tys) from ≡ true
 
   texts_tell : (g : Both) (y : IsGood x (starts g line rest)) (k : List WordInstr) (tys : List (Option ℕ)) (from : List From) (xs : List Operand)
-      → Have g.call.temps from xs → AreTyped g tys from → are_shown (facts_in x.table) (types_of tys) ≡ true → are_placed 0 from ≡ true
+      → Have g.call.temps from xs → AreTyped g tys from → are_shown (facts_in x.table) (types_of tys) ≡ true → are_values from ≡ true
       → Tells x said.least g line rest y (texts_code (around x.table x.blocks (body_of g)) tys (operands (around x.table x.blocks (body_of g)) from) k) k
       (texts_of (facts_in x.table) world (types_of tys) xs)
   texts_tell g y k [] [] [] have typed shown placed = none_tells x said.least g line rest y k
@@ -82,7 +82,7 @@ module _ (x : Basis) (said : Writing x) (line : BlockLine) (rest : List BlockLin
 
   -- and a line end behind them
   line_tells : (g : Both) (y : IsGood x (starts g line rest)) (k : List WordInstr) (tys : List (Option ℕ)) (from : List From) (xs : List Operand)
-      → Have g.call.temps from xs → AreTyped g tys from → are_shown (facts_in x.table) (types_of tys) ≡ true → are_placed 0 from ≡ true
+      → Have g.call.temps from xs → AreTyped g tys from → are_shown (facts_in x.table) (types_of tys) ≡ true → are_values from ≡ true
       → Tells x said.least g line rest y
       (texts_code (around x.table x.blocks (body_of g)) tys (operands (around x.table x.blocks (body_of g)) from) (text_code LINE_END_AT 1 k)) k
       (line_of (texts_of (facts_in x.table) world (types_of tys) xs))
@@ -96,7 +96,7 @@ module _ (x : Basis) (said : Writing x) (line : BlockLine) (rest : List BlockLin
       (text_tells x said.least (then_at x said.least g line rest y lines end text first) line rest
       (then_good x said.least g line rest y lines end text first) LINE_END_AT (10 ∷ []) k said.literals.line_end)
 
-module _ (x : Basis) (labels : LabelsLead x) (said : Writing x) (g : Both) (rest : List BlockLine) (to : ℕ) (how : Use) where
+module _ (x : Basis) (labels : LabelsLead x) (said : Writing x) (g : Both) (rest : List BlockLine) (to : ℕ) (how : UseAt) where
   pub echo_line : (ty : Option ℕ) (of : List (Option ℕ)) (from : List From) → RowHere x g rest to O.Echo how ty of from
   echo_line (Some ty) of from y = never (applies x g rest to O.Echo how (Some ty) of from y).row
   echo_line None of from y =
@@ -108,7 +108,7 @@ module _ (x : Basis) (labels : LabelsLead x) (said : Writing x) (g : Both) (rest
       using_all_settles x (starts g line rest) rest g.call.temps from
       (λ xs. gives (scene_of (high x.table x.blocks (starts g line rest))) to
       (costs 1 (looks (λ world. write Out (line_of (texts_of (facts_in x.table) world (map (if_type (known x).types) of) xs))) >> give nothing)
-      >>= made_by false (bound_for g how to)))
+      >>= made_by false (bound_for g how)))
       (λ xs have. subst (λ es. Settles x (starts g line rest) rest (Passes (Answers es (1 + (length (texts xs) + 0)) temps g.world)))
       (sym (append-nil (writes Out (texts xs))))
       (tells_settles x said.least g line rest y temps same_at (texts xs)

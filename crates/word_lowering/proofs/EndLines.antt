@@ -26,7 +26,7 @@ use Rattle.flat_code.specs.Running.{scene_of}
 use Rattle.nim_meaning.specs.Places.{made_by}
 use Rattle.nim_program.specs.Kinds.{is_int, kind_if, same_value}
 use Rattle.nim_program.specs.View.{if_type}
-use Rattle.nim_program.specs.declared.operation.Use.{Use}
+use Rattle.flat_code.specs.declared.line.UseAt.{UseAt}
 use Rattle.nim_types.specs.Table.{facts_in}
 use Rattle.word_lowering.proofs.ApplyFits.{applies, RowHere}
 use Rattle.word_lowering.proofs.ControlLines.{int_read, kind_at, plain, value_type}
@@ -55,7 +55,7 @@ module _ (x : Basis) (g : Both) where
       (at (within x.table x.blocks g) g.memory (Exit FIRST ∷ k) v1 g.words) [] [] no_objects r1
       (exits k v1 FIRST 0 (got 0 (omega arith)))
 
-module _ (x : Basis) (labels : LabelsLead x) (g : Both) (rest : List BlockLine) (to : ℕ) (how : Use) where
+module _ (x : Basis) (labels : LabelsLead x) (g : Both) (rest : List BlockLine) (to : ℕ) (how : UseAt) where
   quit_zero : RowHere x g rest to O.Quit how None [] []
   quit_zero y =
       let line = plain (L.Apply to O.Quit how None [] []) in
@@ -72,7 +72,7 @@ module _ (x : Basis) (labels : LabelsLead x) (g : Both) (rest : List BlockLine) 
       = subst (λ o. is_int (kind_if (facts_in x.table) o) ≡ true) (sym v) f.row in
       mapped_settles x (starts g line rest) rest (g.call.temps.values status) Given
       (λ z. gives (scene_of (high x.table x.blocks (starts g line rest))) to
-      (costs 1 (end (low_byte (number_of (value_of z)))) >>= made_by false (bound_for g how to)))
+      (costs 1 (end (low_byte (number_of (value_of z)))) >>= made_by false (bound_for g how)))
       (λ v e. let o = int_read x g line rest y status v k e in
       let s = exits x g (code_next x g line rest y) g.call.vars (variable x g line rest y status) (word (number_of v)) o.word_is in
       subst (λ n. AlwaysStops (lower x) (low x.table x.blocks (starts g line rest)) [] 16 n no_objects) (exit_status (number_of v) o.fits)

@@ -28,7 +28,7 @@ use Rattle.rv32_isa.specs.declared.micro_op.Size.TheVariants.{Word}
 module _ (table : List TypeDef) where
   -- parameters as a signature has them
   abbrev pub IsParam : Housed → Taken → Type 0
-  IsParam h p = (p.by_location ≡ is_address h.kind) × (p.of ≡ type_of table h)
+  IsParam h p = (p.by_location ≡ is_address h.kind) × (p.written ≡ is_address h.kind) × (p.of ≡ type_of table h)
 
   abbrev pub ParamsAre : List Housed → List Taken → Type 0
   ParamsAre [] [] = Unit {0}

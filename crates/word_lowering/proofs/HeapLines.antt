@@ -17,7 +17,7 @@ use Rattle.flat_code.specs.declared.line.Line.TheVariants as L
 use Rattle.flat_code.specs.Fits.{is_location}
 use Rattle.flat_code.specs.Shapes.{Shape, block, shape_of}
 use Rattle.nim_program.specs.View.{if_type}
-use Rattle.nim_program.specs.declared.operation.Use.{Use}
+use Rattle.flat_code.specs.declared.line.UseAt.{UseAt}
 use Rattle.word_lowering.proofs.ApplyFits.{applies, RowHere}
 use Rattle.word_lowering.proofs.ControlLines.{FollowedHere, plain, value_type}
 use Rattle.word_lowering.proofs.LineFits.{are_of, declared_other, same_type, some_kind}
@@ -167,7 +167,7 @@ module _ (x : Basis) (g : Both) (line : BlockLine) (rest : List BlockLine) (y : 
           true≢false (sym h ∙ (ap of_numbers look ∙ heap_shape (facts_in x.table) ty (a_ref (kind_of (facts_in x.table) ty) k)))
       by ty look k named (inr text) = no_block (facts_in x.table) ty k (sym look ∙ text.look)
 
-module _ (x : Basis) (labels : LabelsLead x) (g : Both) (rest : List BlockLine) (to : ℕ) (how : Use) where
+module _ (x : Basis) (labels : LabelsLead x) (g : Both) (rest : List BlockLine) (to : ℕ) (how : UseAt) where
   -- by the type of the value
   gets_heap : (operation : Operation) (ty : Option ℕ) (of : List (Option ℕ)) (from : List From)
       (y : IsGood x (starts g (plain (L.Apply to operation how ty of from)) rest))

@@ -1,4 +1,5 @@
 -- One text more is laid out, or none where it stands there already.
+use Rattle.nim_program.specs.declared.expr.Label.TheVariants as C
 use Rattle.std.proofs.Common.{◌≡◌, ◌∙◌, ℕ, ◌+◌, ◌-◌, Bool, true, false, List, [], ◌∷◌, ◌++◌, length, map, take, drop, min, Option, Some, None, refl, sym, ap}
 use Rattle.std.proofs.Common.{ap₂}
 use Rattle.std.proofs.Common.{append_assoc, append-nil, length-drop, arith}
@@ -98,10 +99,10 @@ line_is (L.Standing to ty pieces) met = ap (λ ts. standing_bytes pieces ∷ ts)
 line_is (L.Apply to operation how ty of from) met = refl
 line_is (L.Construct to how ty fields from) met = refl
 line_is (L.Call to how ty proc from) met = refl
-line_is (L.Get to from how site ty) met = refl
+line_is (L.Get to from how ty) met = refl
 line_is (L.Look to from) met = refl
 line_is (L.Root to place global) met = refl
-line_is (L.Fresh to from) met = refl
+line_is (L.Fresh to from waits) met = refl
 line_is (L.Part to from field) met = refl
 line_is (L.Item to from index) met = refl
 line_is (L.Object to from) met = refl
@@ -119,7 +120,9 @@ line_is (L.Next counter last) met = refl
 line_is (L.Label name) met = refl
 line_is (L.Jump to) met = refl
 line_is (L.Unless from to) met = refl
-line_is (L.Fits from low high to) met = refl
+line_is (L.Fits from (C.Ordinals low high) to) met = refl
+line_is (L.Fits from (C.Text text) to) met = refl
+line_is (L.Own what from) met = refl
 line_is L.Enter met = refl
 line_is (L.Turn to) met = refl
 line_is (L.TurnIf from to) met = refl

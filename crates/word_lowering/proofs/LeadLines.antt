@@ -168,9 +168,9 @@ module _ (x : Basis) (labels : LabelsLead x) (g : Both) (rest : List BlockLine) 
       }) refl)
       (λ h before. tt)
 
-  pub fresh_line : (from : ℕ) → FollowedHere x labels g rest (L.Fresh to from)
+  pub fresh_line : (from : ℕ) → FollowedHere x labels g rest (L.Fresh to from None)
   fresh_line from y =
-      let line = plain (L.Fresh to from) in
+      let line = plain (L.Fresh to from None) in
       let a = value_alias_is (house g.call.site (of_location to)).alias from (location_alias x g line rest y to (alias.Value from) refl refl) in
       using_settles x (starts g line rest) rest (g.call.temps.values from)
       (λ v. leads (scene_of (high x.table x.blocks (starts g line rest))) to (Within from []) (made v))

@@ -1,4 +1,5 @@
 -- The code of each line stands before that of the lines behind it.
+use Rattle.nim_program.specs.declared.expr.Label.TheVariants as C
 use Rattle.std.proofs.Common.{◌≡◌, inl, ℕ, zero, suc, ◌+◌, ◌*◌, ◌<◌, ◌≤◌, List, [], ◌∷◌, ◌++◌, length, Bool, true, false}
 use Rattle.std.proofs.Common.{Option, Some, None, refl, arith}
 use Rattle.std.proofs.lemmas.List.{length-map}
@@ -317,10 +318,10 @@ line_front x (L.Construct to how ty fields from) own high plain =
 line_front x (L.Constant to how ty pieces) own high plain = constant_front own 0 (text_in pieces) (code.value x to) pieces
 line_front x (L.Call to how ty proc from) own high plain =
     called_front own (length from) x high (code.layout_at x proc).runs proc ty to (code.operands x from) (operands_few x from)
-line_front x (L.Get to from how site ty) own high plain = moves_front own 0 (code.value x to) (code.location x from)
+line_front x (L.Get to from how ty) own high plain = moves_front own 0 (code.value x to) (code.location x from)
 line_front x (L.Look to from) own high plain = moves_front own 0 (code.value x to) (code.location x from)
 line_front x (L.Root to p global) own high plain = front_none own 0
-line_front x (L.Fresh to from) own high plain = front_none own 0
+line_front x (L.Fresh to from waits) own high plain = front_none own 0
 line_front x (L.Standing to ty pieces) own high plain = record { is = λ k. refl; fine = tt }
 line_front x (L.Part to from field) own high plain =
     part_front own 0 (code.led x to) (code.location x from).home (part_at x.table (code.location x from).ty field)
@@ -346,7 +347,9 @@ line_front x (L.Beyond counter last inclusive to) own high plain =
 line_front x (L.Next counter last) own high plain = record { is = λ k. refl; fine = tt }
 line_front x (L.Jump to) own high plain = record { is = λ k. refl; fine = tt }
 line_front x (L.Unless from to) own high plain = unless_front own 0 (code.held x from) (code.own_label to) (far to)
-line_front x (L.Fits from low most to) own high plain = fits_front own 0 (code.held x from) (code.own_label to) low most (far to)
+line_front x (L.Fits from (C.Ordinals low most) to) own high plain = fits_front own 0 (code.held x from) (code.own_label to) low most (far to)
+line_front x (L.Fits from (C.Text text) to) own high plain = front_none own 0
+line_front x (L.Own what from) own high plain = front_none own 0
 line_front x L.Enter own high plain = front_none own 0
 line_front x (L.Turn to) own high plain = record { is = λ k. refl; fine = tt }
 line_front x (L.TurnIf from to) own high plain = when_front own 0 (code.held x from) (code.own_label to) (far to)
@@ -365,10 +368,10 @@ kind_of (L.Apply to operation how ty of from) = is_other tt refl
 kind_of (L.Construct to how ty fields from) = is_other tt refl
 kind_of (L.Constant to how ty pieces) = is_other tt refl
 kind_of (L.Call to how ty proc from) = is_other tt refl
-kind_of (L.Get to from how site ty) = is_other tt refl
+kind_of (L.Get to from how ty) = is_other tt refl
 kind_of (L.Look to from) = is_other tt refl
 kind_of (L.Root to p global) = is_other tt refl
-kind_of (L.Fresh to from) = is_other tt refl
+kind_of (L.Fresh to from waits) = is_other tt refl
 kind_of (L.Standing to ty pieces) = is_other tt refl
 kind_of (L.Part to from field) = is_other tt refl
 kind_of (L.Item to from index) = is_other tt refl
@@ -386,7 +389,8 @@ kind_of (L.Beyond counter last inclusive to) = is_other tt refl
 kind_of (L.Next counter last) = is_other tt refl
 kind_of (L.Jump to) = is_other tt refl
 kind_of (L.Unless from to) = is_other tt refl
-kind_of (L.Fits from low high to) = is_other tt refl
+kind_of (L.Fits from these to) = is_other tt refl
+kind_of (L.Own what from) = is_other tt refl
 kind_of L.Enter = is_other tt refl
 kind_of (L.Turn to) = is_other tt refl
 kind_of (L.TurnIf from to) = is_other tt refl

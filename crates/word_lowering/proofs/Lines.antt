@@ -16,7 +16,7 @@ use Rattle.nim_meaning.specs.Values.{Value, Operand, default_of}
 use Rattle.nim_meaning.specs.State.{World}
 use Rattle.nim_meaning.specs.Acts.{branch}
 use Rattle.nim_meaning.specs.Places.{Destination}
-use Rattle.nim_program.specs.declared.operation.Use.{Use}
+use Rattle.flat_code.specs.declared.line.UseAt.{UseAt}
 use Rattle.nim_program.specs.Kinds.{kind_of, field_at, plain_kind, is_compared, is_resource}
 use Rattle.nim_program.specs.declared.operation.Comparison.{Comparison}
 use Rattle.nim_meaning.specs.Table.{limit_of}
@@ -201,9 +201,9 @@ changed g rest temps vars m words awaits w = record {
 abbrev pub with_vars : Both → Vars → Both
 with_vars g vars = record g { call = call g.call.site g.call.temps vars }
 
--- what a value is for that a temporary of the call gets
-abbrev pub bound_for : Both → Use → (to : ℕ) → Destination
-bound_for g how to = record { how = how; level = g.call.site.level; node = to }
+-- what a value of the call is for, and where it waits
+abbrev pub bound_for : Both → UseAt → Destination
+bound_for g how = record { how = how.how; level = g.call.site.level; node = how.node }
 
 abbrev pub starts : Both → BlockLine → List BlockLine → Both
 starts g line rest = with_rest g (line ∷ rest)

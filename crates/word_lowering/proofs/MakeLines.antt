@@ -8,7 +8,7 @@ use Rattle.nim_types.specs.Types as type
 use Rattle.nim_types.specs.Types.{Ty, Tys, no_types, types, Facts, fact_of}
 use Rattle.nim_types.specs.Table.{facts_in}
 use Rattle.nim_program.specs.declared.operation.Operation.TheVariants as O
-use Rattle.nim_program.specs.declared.operation.Use.{Use}
+use Rattle.flat_code.specs.declared.line.UseAt.{UseAt}
 use Rattle.nim_program.specs.Fitting.{are_parts}
 use Rattle.nim_program.specs.Kinds as kind
 use Rattle.nim_program.specs.Kinds.{TypeKind, count_types, declared_kind, has_parts, is_made, is_of, kind_if, kind_of, nth_type, same_value}
@@ -21,7 +21,7 @@ use Rattle.flat_code.specs.declared.block.BlockLine.{BlockLine}
 use Rattle.flat_code.specs.declared.line.From.{From}
 use Rattle.flat_code.specs.declared.line.From.TheVariants as F
 use Rattle.flat_code.specs.declared.line.Line.TheVariants as L
-use Rattle.flat_code.specs.Fits.{are_placed}
+use Rattle.flat_code.specs.Fits.{are_values}
 use Rattle.flat_code.specs.Fits as fit
 use Rattle.flat_code.specs.Lines.{gives}
 use Rattle.flat_code.specs.Running.{scene_of}
@@ -90,7 +90,7 @@ module _ (x : Basis) (g : Both) (line : BlockLine) (rest : List BlockLine) (y : 
       of_part (Some s) (Some t) u h e = same_type (Some s) (Some t) h ∙ e
 
   rows_come : (e : Ty) (m n i : ℕ) (wants : List (Option Ty)) (from : List From) (xs : List Operand) → n ≡ length wants
-      → are_parts (kind.array m e) i wants ≡ true → Typed wants from → are_placed 0 from ≡ true → Has from xs
+      → are_parts (kind.array m e) i wants ≡ true → Typed wants from → are_values from ≡ true → Has from xs
       → of_numbers (row n (shape_of (facts_in x.table) e)) ≡ true → depth (shape_of (facts_in x.table) e) < depth whole
       → Parts_come from xs × (are_rows (values_in xs) n (shape_of (facts_in x.table) e) ≡ true)
   rows_come e m zero i [] [] [] is are typed placed has numbers less = (tt, refl)
@@ -115,7 +115,7 @@ module _ (x : Basis) (g : Both) (line : BlockLine) (rest : List BlockLine) (y : 
 
   fields_come : (ts after : Tys) (i : ℕ) → ((j : ℕ) → nth_type ts (j + i) ≡ nth_type after j) → (wants : List (Option Ty)) (from : List From)
       (xs : List Operand) → count_types after ≡ length wants → are_parts (kind.tuple ts) i wants ≡ true
-      → Typed wants from → are_placed 0 from ≡ true → Has from xs
+      → Typed wants from → are_values from ≡ true → Has from xs
       → all_of_numbers (shapes_of after) ≡ true → depths (shapes_of after) < depth whole
       → Parts_come from xs × (have_shapes (values_in xs) (shapes_of after) ≡ true)
   fields_come ts no_types i nth [] [] [] is are typed placed has numbers less = (tt, refl)
@@ -146,7 +146,7 @@ module _ (x : Basis) (g : Both) (line : BlockLine) (rest : List BlockLine) (y : 
   abbrev Comes_of : Ty → Type 0
   Comes_of ty = (wants : List (Option Ty)) (from : List From) (xs : List Operand) → is_made (kind_of (facts_in x.table) ty) ≡ true
       → has_parts (kind_of (facts_in x.table) ty) (length wants) ≡ true → are_parts (kind_of (facts_in x.table) ty) 0 wants ≡ true → Typed wants from
-      → are_placed 0 from ≡ true → Has from xs → of_numbers (shape_of (facts_in x.table) ty) ≡ true → whole ≡ shape_of (facts_in x.table) ty
+      → are_values from ≡ true → Has from xs → of_numbers (shape_of (facts_in x.table) ty) ≡ true → whole ≡ shape_of (facts_in x.table) ty
       → Made_of ty from xs
 
   all_come : (ty : Ty) → Comes_of ty
@@ -175,7 +175,7 @@ module _ (x : Basis) (g : Both) (line : BlockLine) (rest : List BlockLine) (y : 
 
 -- ---- the line
 
-module _ (x : Basis) (labels : LabelsLead x) (g : Both) (rest : List BlockLine) (to : ℕ) (how : Use) (ty : Option ℕ) (of : List (Option ℕ))
+module _ (x : Basis) (labels : LabelsLead x) (g : Both) (rest : List BlockLine) (to : ℕ) (how : UseAt) (ty : Option ℕ) (of : List (Option ℕ))
     (from : List From) where
   abbrev making : BlockLine
   making = plain (L.Apply to O.Make how ty of from)
@@ -285,11 +285,11 @@ module _ (x : Basis) (labels : LabelsLead x) (g : Both) (rest : List BlockLine) 
       using_all_settles x (starts g making rest) rest g.call.temps from
       (λ xs. gives (scene_of (high x.table x.blocks (starts g making rest))) to
       (costs 1 (costs (bytes (Parts (values_in xs))) (give (Parts (values_in xs))))
-      >>= made_by (gives_hooked (facts_in x.table) (if_type (known x).types ty)) (bound_for g how to)))
+      >>= made_by (gives_hooked (facts_in x.table) (if_type (known x).types ty)) (bound_for g how)))
       (λ xs has. let c = all_come x g making rest y to s.0 wants from xs s.2 q.0 q.1 f.typed f.placed has t.numbers t.look in
       let inside = in_memory x g making rest y (of_value to) t.there (value_plain into.kind t.there.kind) (ap is_one_word t.look ∙ c.2) in
       subst (λ b. Settles x (starts g making rest) rest (gives (scene_of (high x.table x.blocks (starts g making rest))) to
-      (costs 1 (costs (bytes (Parts (values_in xs))) (give (Parts (values_in xs)))) >>= made_by b (bound_for g how to))))
+      (costs 1 (costs (bytes (Parts (values_in xs))) (give (Parts (values_in xs)))) >>= made_by b (bound_for g how))))
       (sym (ap (gives_hooked (facts_in x.table)) s.1 ∙ t.unhooked))
       (made y t.there inside (values_in xs) (subst (λ u. has_shape (Parts (values_in xs)) u ≡ true) (sym t.look) c.1)
       (ap of_numbers t.look ∙ t.numbers) c.0))

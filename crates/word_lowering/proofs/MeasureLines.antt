@@ -30,7 +30,7 @@ use Rattle.nim_meaning.specs.Table.{measured}
 use Rattle.nim_meaning.specs.Values.{Number, length_of, At, location_of, Value, number_of, nothing}
 use Rattle.nim_program.specs.Kinds.{has_length, is_int, kind_if, same_value}
 use Rattle.nim_program.specs.View.{if_type}
-use Rattle.nim_program.specs.declared.operation.Use.{Use}
+use Rattle.flat_code.specs.declared.line.UseAt.{UseAt}
 use Rattle.nim_types.specs.Table.{facts_in}
 use Rattle.word_lowering.proofs.ApplyFits.{applies, RowHere}
 use Rattle.word_lowering.proofs.Arithmetic.{fits_signed, signed_fits, equal_is}
@@ -103,7 +103,7 @@ module _ (x : Basis) (labels : LabelsLead x) (g : Both) (rest : List BlockLine) 
       (λ there e. let r = row_at x g line rest y from there kinds.1 e in
       measured_settles x g line rest y to Len from there r (int_target x g line rest y to refl refl kinds.0 (pos r.count) r.fits) refl)
 
-  pub measure_line : (m : Measure) (to : ℕ) (how : Use) (ty a : Option ℕ) (from : ℕ)
+  pub measure_line : (m : Measure) (to : ℕ) (how : UseAt) (ty a : Option ℕ) (from : ℕ)
       → RowHere x g rest to (O.Measure m) how ty (a ∷ []) (F.Place from ∷ [])
   measure_line m to how ty a from y =
       let line = plain (L.Apply to (O.Measure m) how ty (a ∷ []) (F.Place from ∷ [])) in
@@ -119,11 +119,11 @@ module _ (x : Basis) (labels : LabelsLead x) (g : Both) (rest : List BlockLine) 
       mapped_settles x (starts g line rest) rest (g.call.temps.places from) (λ place. At (location_at g.call.temps place))
       (λ u. gives (scene_of (high x.table x.blocks (starts g line rest))) to
       (costs 1 (looks (λ world. give (Number (measured m (length_of (load world (location_of u)))))))
-      >>= made_by (gives_hooked (facts_in x.table) (if_type (known x).types ty)) (bound_for g how to)))
+      >>= made_by (gives_hooked (facts_in x.table) (if_type (known x).types ty)) (bound_for g how)))
       (λ there e. let r = row_at x g line rest y from there long e in
       subst (λ b. Settles x (starts g line rest) rest (gives (scene_of (high x.table x.blocks (starts g line rest))) to
       (costs 1 (looks (λ world. give (Number (measured m (length_of (load world (location_at g.call.temps there)))))))
-      >>= made_by b (bound_for g how to)))) (sym (ap (gives_hooked (facts_in x.table)) s.1 ∙ t.unhooked))
+      >>= made_by b (bound_for g how)))) (sym (ap (gives_hooked (facts_in x.table)) s.1 ∙ t.unhooked))
       (measured_settles x g line rest y to m from there r
       (getting x g line rest y to s.0 None (measured m r.count) t (int_shape (facts_in x.table) s.0 s.2) (measured_fits m r.count r.fits)) refl))
 
@@ -219,7 +219,7 @@ module _ (x : Basis) (traps : TrapsStop x) (labels : LabelsLead x) (g : Both) (r
 -- ---- the row, whatever stands in the line
 
 module _ (x : Basis) (labels : LabelsLead x) (g : Both) (rest : List BlockLine) where
-  pub measure_row : (m : Measure) (to : ℕ) (how : Use) (ty : Option ℕ) (of : List (Option ℕ)) (from : List From)
+  pub measure_row : (m : Measure) (to : ℕ) (how : UseAt) (ty : Option ℕ) (of : List (Option ℕ)) (from : List From)
       → RowHere x g rest to (O.Measure m) how ty of from
   measure_row m to how ty (a ∷ []) (F.Place from ∷ []) y = measure_line x labels g rest m to how ty a from y
   measure_row m to how ty [] from y = never (applies x g rest to (O.Measure m) how ty [] from y).row

@@ -5,7 +5,7 @@ use Rattle.nim_plan.specs.declared.plan.Act.{Act}
 use Rattle.nim_types.specs.Types.{Ty}
 use Rattle.nim_types.specs.Forms.{hooked, form_of}
 use Rattle.nim_types.specs.Table.{facts_in}
-use Rattle.nim_program.specs.declared.operation.Use.{Use}
+use Rattle.flat_code.specs.declared.line.UseAt.{UseAt}
 use Rattle.nim_program.specs.declared.program.Mode.TheVariants.{Plain, Sink, Var}
 use Rattle.nim_program.specs.View.{if_type}
 use Rattle.nim_program.specs.Kinds.{is_of}
@@ -193,16 +193,16 @@ module _ (x : Basis) (g : Both) (line : BlockLine) (rest : List BlockLine) (y : 
       moved_value to ty v t (subst (λ s. has_shape v s ≡ true) p.look r.shaped) (location (around x.table x.blocks (body_of g)) from) r.all r.read code
       (bytes v + 0) (omega (arith, some))
 
-  pub taken_settles : (to : ℕ) (ty : Ty) (o : Option Ty) (how : Use) (act : Option Act) (from : ℕ) (there : Where) → Target x g line rest y to ty
+  pub taken_settles : (to : ℕ) (ty : Ty) (o : Option Ty) (how : UseAt) (act : Option Act) (from : ℕ) (there : Where) → Target x g line rest y to ty
       → o ≡ Some ty
       → type_in x is_location (body_of g) from ≡ Some ty → g.call.temps.places from ≡ Some there
       → code_here x g line rest y
       ≡ moves (house g.call.site (of_value to)) (location (around x.table x.blocks (body_of g)) from) (code_next x g line rest y)
       → Settles x (starts g line rest) rest (gives (scene_of (high x.table x.blocks (starts g line rest))) to
-      (taken_by (gives_hooked (facts_in x.table) o) (form_for (facts_in x.table) o) (bound_for g how to) act (location_at g.call.temps there)))
+      (taken_by (gives_hooked (facts_in x.table) o) (form_for (facts_in x.table) o) (bound_for g how) act (location_at g.call.temps there)))
   taken_settles to ty o how act from there t is typed e code =
       subst (λ b. Settles x (starts g line rest) rest (gives (scene_of (high x.table x.blocks (starts g line rest))) to
-      (taken_by b (form_for (facts_in x.table) o) (bound_for g how to) act (location_at g.call.temps there))))
+      (taken_by b (form_for (facts_in x.table) o) (bound_for g how) act (location_at g.call.temps there))))
       (sym (ap (gives_hooked (facts_in x.table)) is ∙ t.unhooked))
       (fetched_settles to ty from there t typed e code)
 
@@ -217,9 +217,9 @@ module _ (x : Basis) (labels : LabelsLead x) (g : Both) (rest : List BlockLine) 
         (λ there. gives (scene_of (high x.table x.blocks (starts g line rest))) to (fetched (location_at g.call.temps there)))
         (λ there e. fetched_settles x g line rest y to f.ty from there (target x g line rest y to f.ty refl refl f.is) f.is_other e refl)
 
-    pub get_line : (how : Use) (site : ℕ) (ty : Option ℕ) → FollowedHere x labels g rest (L.Get to from how site ty)
-    get_line how site ty y =
-        let line = plain (L.Get to from how site ty) in
+    pub get_line : (how : UseAt) (ty : Option ℕ) → FollowedHere x labels g rest (L.Get to from how ty)
+    get_line how ty y =
+        let line = plain (L.Get to from how ty) in
         let parts = and_parts (is_of (type_in x is_value (body_of g) to) (if_type (known x).types ty))
         (is_of (type_in x is_value (body_of g) to) (type_in x is_location (body_of g) from))
         (fits_here x.table x.blocks (body_of g) line rest y.stands) in
@@ -229,11 +229,11 @@ module _ (x : Basis) (labels : LabelsLead x) (g : Both) (rest : List BlockLine) 
         using_settles x (starts g line rest) rest (g.call.temps.places from)
         (λ there. gives (scene_of (high x.table x.blocks (starts g line rest))) to
         (taken_by (gives_hooked (facts_in x.table) (if_type (known x).types ty)) (form_for (facts_in x.table) (if_type (known x).types ty))
-        (bound_for g how to) None (location_at g.call.temps there)))
+        (bound_for g how) None (location_at g.call.temps there)))
         (λ there e. taken_settles x g line rest y to f.ty (if_type (known x).types ty) how None from there (target x g line rest y to f.ty refl refl f.is)
         (a.is_other ∙ ap Some same) f.is_other e refl)
 
-    pub take_line : (how : Use) (act : Option Act) (ty : Option ℕ)
+    pub take_line : (how : UseAt) (act : Option Act) (ty : Option ℕ)
         → (y : IsGood x (starts g (block_line.Plain (owned_line.Take to from how act ty)) rest))
         → Settles x (starts g (block_line.Plain (owned_line.Take to from how act ty)) rest) rest
         (block_does (known x) (scene_of (high x.table x.blocks (starts g (block_line.Plain (owned_line.Take to from how act ty)) rest)))
@@ -249,7 +249,7 @@ module _ (x : Basis) (labels : LabelsLead x) (g : Both) (rest : List BlockLine) 
         using_settles x (starts g line rest) rest (g.call.temps.places from)
         (λ there. gives (scene_of (high x.table x.blocks (starts g line rest))) to
         (taken_by (gives_hooked (facts_in x.table) (if_type (known x).types ty)) (form_for (facts_in x.table) (if_type (known x).types ty))
-        (bound_for g how to) act (location_at g.call.temps there)))
+        (bound_for g how) act (location_at g.call.temps there)))
         (λ there e. taken_settles x g line rest y to f.ty (if_type (known x).types ty) how act from there (target x g line rest y to f.ty refl refl f.is)
         (a.is_other ∙ ap Some same) f.is_other e refl)
 

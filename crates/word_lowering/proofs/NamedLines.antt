@@ -1,4 +1,5 @@
 -- The word code of lines names variables of its procedure alone.
+use Rattle.nim_program.specs.declared.expr.Label.TheVariants as C
 use Rattle.std.proofs.Common.{ℕ, zero, suc, ◌≤◌, ◌<◌, List, [], ◌∷◌, Bool, true, false, Option, Some}
 use Rattle.std.proofs.Common.{None, arith}
 use Rattle.nim_types.specs.declared.types.TypeDef.{TypeDef}
@@ -421,10 +422,10 @@ module _ (vars : ℕ) (many : OWN_FROM ≤ vars) where
     line_named (L.Constant to how ty pieces) label k = constant_named (text_in pieces) (lines.value x to) pieces (value_below to) k
     line_named (L.Call to how ty proc from) label k =
         called_named (lines.layout_at x proc).runs label proc ty to (lines.operands x from) (operands_below from) k
-    line_named (L.Get to from how site ty) label k = moves_named (lines.value x to) (lines.location x from) (value_below to) (location_below from) k
+    line_named (L.Get to from how ty) label k = moves_named (lines.value x to) (lines.location x from) (value_below to) (location_below from) k
     line_named (L.Look to from) label k = moves_named (lines.value x to) (lines.location x from) (value_below to) (location_below from) k
     line_named (L.Root to p global) label k = k
-    line_named (L.Fresh to from) label k = k
+    line_named (L.Fresh to from waits) label k = k
     line_named (L.Standing to ty pieces) label k = named.datum vars many (led_below to) k
     line_named (L.Part to from field) label k = part_named _ _ _ (led_below to) (location_below from) k
     line_named (L.Item to from index) label k =
@@ -449,7 +450,9 @@ module _ (vars : ℕ) (many : OWN_FROM ≤ vars) where
     line_named (L.Label name) label k = named.label vars many k
     line_named (L.Jump to) label k = named.jump vars many k
     line_named (L.Unless from to) label k = unless_named vars many _ (lines.own_label to) (held_below from) k
-    line_named (L.Fits from low high to) label k = fits_named vars many _ (lines.own_label to) low high (held_below from) k
+    line_named (L.Fits from (C.Ordinals low high) to) label k = fits_named vars many _ (lines.own_label to) low high (held_below from) k
+    line_named (L.Fits from (C.Text text) to) label k = k
+    line_named (L.Own what from) label k = k
     line_named L.Enter label k = k
     line_named (L.Turn to) label k = named.jump vars many k
     line_named (L.TurnIf from to) label k = if_named vars many _ (lines.own_label to) (held_below from) k

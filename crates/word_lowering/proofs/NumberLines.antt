@@ -157,12 +157,12 @@ module _ (x : Basis) (labels : LabelsLead x) (g : Both) (rest : List BlockLine) 
 
     beyond_goes : (y : IsGood x (starts g beyond rest)) (v w : Value) → Operand x g.call counter v → Operand x g.call last w
         → Settles x (starts g beyond rest) rest (branch (int_lt (number_of v) (limit inclusive (number_of w)))
-        (Passes (Answers [] 1 (with_value counter g.call.temps (Number (number_of v))) g.world)) (Leaps to))
+        (Passes (Answers [] 1 (with_value counter g.call.temps (Number (number_of v))) g.world)) (Leaps to 1))
     beyond_goes y v w o p =
         let kinds = and_parts (is_int (kind_at x g beyond rest y counter)) (is_int (kind_at x g beyond rest y last))
         (fits_here x.table x.blocks (body_of g) beyond rest y.stands) in
         branch_settles x (starts g beyond rest) rest (int_lt (number_of v) (limit inclusive (number_of w)))
-        (Passes (Answers [] 1 (with_value counter g.call.temps (Number (number_of v))) g.world)) (Leaps to)
+        (Passes (Answers [] 1 (with_value counter g.call.temps (Number (number_of v))) g.world)) (Leaps to 1)
         (λ h. gives_settles x g beyond rest y counter (number_of v) 1 (omega arith)
         (int_target x g beyond rest y counter refl refl kinds.0 (number_of v) o.fits)
         (record {
@@ -186,7 +186,7 @@ module _ (x : Basis) (labels : LabelsLead x) (g : Both) (rest : List BlockLine) 
         let kinds = and_parts (is_int (kind_at x g beyond rest y counter)) (is_int (kind_at x g beyond rest y last))
         (fits_here x.table x.blocks (body_of g) beyond rest y.stands) in
         let scene = scene_of (high x.table x.blocks (starts g beyond rest)) in
-        let goes : ℤ → ℤ → Did = λ i n. branch (int_lt i (limit inclusive n)) (gives scene counter (costs 1 (give (Number i)))) (Leaps to) in
+        let goes : ℤ → ℤ → Did = λ i n. branch (int_lt i (limit inclusive n)) (gives scene counter (costs 1 (give (Number i)))) (Leaps to 1) in
         using_settles x (starts g beyond rest) rest (g.call.temps.values counter)
         (λ v. using_number g.call.temps last (goes (number_of v)))
         (λ v e. using_settles x (starts g beyond rest) rest (g.call.temps.values last)
@@ -219,7 +219,7 @@ module _ (x : Basis) (labels : LabelsLead x) (g : Both) (rest : List BlockLine) 
 
       count_more : more_turns inclusive (number_of v) (number_of w) ≡ true → (o : Option (List BlockLine))
           → ((after : List BlockLine) → o ≡ Some after → line_from block_label to (body_of g).proc.lines ≡ Some after)
-          → Follows x (starts g count rest) (jumped (high x.table x.blocks (starts g count rest)) temps o)
+          → Follows x (starts g count rest) (jumped (high x.table x.blocks (starts g count rest)) temps 1 o)
       count_more h None first = λ before. tt
       count_more h (Some after) first =
           let kinds = and_parts (is_int (kind_at x g count rest y counter)) (is_int (kind_at x g count rest y last))

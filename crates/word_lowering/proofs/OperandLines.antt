@@ -29,7 +29,7 @@ use Rattle.nim_meaning.specs.Here.{gives_hooked}
 use Rattle.nim_meaning.specs.Places.{made_by}
 use Rattle.nim_meaning.specs.Values.{Given, value_of, Number, Value, number_of}
 use Rattle.nim_program.specs.View.{if_type}
-use Rattle.nim_program.specs.declared.operation.Use.{Use}
+use Rattle.flat_code.specs.declared.line.UseAt.{UseAt}
 use Rattle.nim_types.specs.Table.{facts_in}
 use Rattle.nim_types.specs.Types.{Ty}
 use Rattle.nim_program.specs.Kinds.{TypeKind, is_bool, is_int, is_of, kind_if, same_value}
@@ -204,8 +204,8 @@ module _ (x : Basis) (traps : TrapsStop x) (g : Both) (line : BlockLine) (rest :
   may_give t values got shape (Trapped trap) h = tt
 
   -- a value without hooks is what it is, however it is used
-  pub told : (hooked : Bool) (how : Use) → hooked ≡ false → (r : Checked)
-      → answer 1 r ≡ gives (scene_of (high x.table x.blocks (starts g line rest))) to (costs 1 (outcome r) >>= made_by hooked (bound_for g how to))
+  pub told : (hooked : Bool) (how : UseAt) → hooked ≡ false → (r : Checked)
+      → answer 1 r ≡ gives (scene_of (high x.table x.blocks (starts g line rest))) to (costs 1 (outcome r) >>= made_by hooked (bound_for g how))
   told true how e r = absurd (true≢false e)
   told false how e (Fine z) = refl
   told false how e (Trapped trap) =
@@ -217,7 +217,7 @@ module _ (x : Basis) (traps : TrapsStop x) (g : Both) (line : BlockLine) (rest :
 
 -- ---- one operand
 
-module _ (x : Basis) (traps : TrapsStop x) (own : OwnLabels x) (g : Both) (rest : List BlockLine) (to : ℕ) (how : Use) (ty : Option ℕ) where
+module _ (x : Basis) (traps : TrapsStop x) (own : OwnLabels x) (g : Both) (rest : List BlockLine) (to : ℕ) (how : UseAt) (ty : Option ℕ) where
   module _ (operator : UnaryOperator) (a : Option ℕ) (from : ℕ) where
     abbrev one : BlockLine
     one = plain (L.Apply to (O.Unary operator) how ty (a ∷ []) (F.Value from ∷ []))
@@ -231,7 +231,7 @@ module _ (x : Basis) (traps : TrapsStop x) (own : OwnLabels x) (g : Both) (rest 
         mapped_settles x (starts g one rest) rest (g.call.temps.values from) Given
         (λ u. gives (scene_of (high x.table x.blocks (starts g one rest))) to
         (costs 1 (outcome (applied_to operator (number_of (value_of u)))) >>= made_by (gives_hooked (facts_in x.table) (if_type (known x).types ty))
-        (bound_for g how to)))
+        (bound_for g how)))
         (λ v e. let o = number_read x g one rest y from v t values from_typed shape e in
         let z = getting_any x traps g one rest y to t values got shape in
         let checks = unary_checks x.live (all_procs x) (within x.table x.blocks g) g.memory g.words g.call.vars (variable x g one rest y to)
@@ -313,7 +313,7 @@ module _ (x : Basis) (traps : TrapsStop x) (own : OwnLabels x) (g : Both) (rest 
 
 -- ---- two operands
 
-module _ (x : Basis) (traps : TrapsStop x) (own : OwnLabels x) (g : Both) (rest : List BlockLine) (to : ℕ) (how : Use) (ty : Option ℕ) where
+module _ (x : Basis) (traps : TrapsStop x) (own : OwnLabels x) (g : Both) (rest : List BlockLine) (to : ℕ) (how : UseAt) (ty : Option ℕ) where
   module _ (operator : Operator) (a b : Option ℕ) (left right : ℕ) where
     abbrev two : BlockLine
     two = plain (L.Apply to (O.Binary operator) how ty (a ∷ b ∷ []) (F.Value left ∷ F.Value right ∷ []))
@@ -328,7 +328,7 @@ module _ (x : Basis) (traps : TrapsStop x) (own : OwnLabels x) (g : Both) (rest 
         let got = target x g two rest y to t refl refl typed in
         let gives_it : Value → Value → Did = λ v w. gives (scene_of (high x.table x.blocks (starts g two rest))) to
         (costs 1 (outcome (applied operator (number_of v) (number_of w))) >>= made_by (gives_hooked (facts_in x.table) (if_type (known x).types ty))
-        (bound_for g how to)) in
+        (bound_for g how)) in
         mapped_settles x (starts g two rest) rest (g.call.temps.values left) Given
         (λ u. using (option_map Given (g.call.temps.values right)) (λ z. gives_it (value_of u) (value_of z)))
         (λ v e. mapped_settles x (starts g two rest) rest (g.call.temps.values right) Given (λ z. gives_it v (value_of z))

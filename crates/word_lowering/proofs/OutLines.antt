@@ -43,7 +43,7 @@ use Rattle.nim_meaning.specs.Here.{gives_hooked}
 use Rattle.nim_meaning.specs.Places.{exchanged, made_by}
 use Rattle.nim_program.specs.Kinds.{is_of, same_value}
 use Rattle.nim_program.specs.View.{if_type}
-use Rattle.nim_program.specs.declared.operation.Use.{Use}
+use Rattle.flat_code.specs.declared.line.UseAt.{UseAt}
 use Rattle.nim_types.specs.Forms.{form_of}
 use Rattle.nim_types.specs.Table.{facts_in, type_at}
 use Rattle.nim_types.specs.Types.{Ty}
@@ -150,7 +150,7 @@ no_is_of : (o : Option Ty) → is_of o None ≡ true → false ≡ true
 no_is_of None h = h
 no_is_of (Some t) h = h
 
-module _ (x : Basis) (labels : LabelsLead x) (g : Both) (rest : List BlockLine) (to : ℕ) (how : Use) where
+module _ (x : Basis) (labels : LabelsLead x) (g : Both) (rest : List BlockLine) (to : ℕ) (how : UseAt) where
   module _ (ty : ℕ) (a : Option ℕ) (from : ℕ) where
     abbrev moving : BlockLine
     moving = plain (L.Apply to O.Move how (Some ty) (a ∷ []) (F.Place from ∷ []))
@@ -210,9 +210,9 @@ module _ (x : Basis) (labels : LabelsLead x) (g : Both) (rest : List BlockLine) 
         let t = target x g moving rest y to to_type refl refl typed in
         mapped_settles x (starts g moving rest) rest (g.call.temps.places from) (λ place. At (location_at g.call.temps place))
         (λ l. gives (scene_of (high x.table x.blocks (starts g moving rest))) to
-        (costs 1 (exchanged (location_of l) start_value) >>= made_by (gives_hooked (facts_in x.table) (Some to_type)) (bound_for g how to)))
+        (costs 1 (exchanged (location_of l) start_value) >>= made_by (gives_hooked (facts_in x.table) (Some to_type)) (bound_for g how)))
         (λ there e. subst (λ b. Settles x (starts g moving rest) rest (gives (scene_of (high x.table x.blocks (starts g moving rest))) to
-        (costs 1 (exchanged (location_at g.call.temps there) start_value) >>= made_by b (bound_for g how to)))) (sym t.unhooked)
+        (costs 1 (exchanged (location_at g.call.temps there) start_value) >>= made_by b (bound_for g how)))) (sym t.unhooked)
         (moved_out y there e typed from_typed may.0))
 
   pub move_line : (ty : Option ℕ) (of : List (Option ℕ)) (from : List From) → RowHere x g rest to O.Move how ty of from

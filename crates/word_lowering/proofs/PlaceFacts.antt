@@ -430,10 +430,11 @@ module _ (table : List TypeDef) (is_table : IsTable table) (have : HaveForms tab
   place_numbers K.Counter ty name other h = refl
   place_numbers kind ty name other h = type_plain table is_table have ty (plain_type ty name other h).1
 
-  pub place_unhooked : (kind : PlaceKind) (ty : ℕ) → is_plain table ty alias.Own kind ≡ true → hooked (form_of (facts_in table) (type_here kind ty)) ≡ false
-  place_unhooked K.Counter ty h = refl
-  place_unhooked kind ty h =
-      let q = plain_type ty alias.Own refl h in
+  pub place_unhooked : (kind : PlaceKind) (ty : ℕ) (name : Alias) → is_text name ≡ false → is_plain table ty name kind ≡ true
+      → hooked (form_of (facts_in table) (type_here kind ty)) ≡ false
+  place_unhooked K.Counter ty name other h = refl
+  place_unhooked kind ty name other h =
+      let q = plain_type ty name other h in
       sym (ap (λ b. b && hooked (form_of (facts_in table) (type_at (types_in table) ty))) (lt-ltb ty (length table) q.0)) ∙ q.1
 
   pub place_shape_bytes : (kind : PlaceKind) (ty : ℕ) → shape_bytes (shape_here kind ty) ≡ bytes_by kind (bytes_at table ty)

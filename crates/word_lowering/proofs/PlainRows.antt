@@ -5,7 +5,7 @@ use Rattle.std.proofs.lemmas.Bool.{not-true}
 use Rattle.nim_types.specs.Table.{facts_in, type_at}
 use Rattle.nim_program.specs.declared.operation.Operation.{Operation}
 use Rattle.nim_program.specs.declared.operation.Operation.TheVariants as O
-use Rattle.nim_program.specs.declared.operation.Use.{Use}
+use Rattle.flat_code.specs.declared.line.UseAt.{UseAt}
 use Rattle.nim_program.specs.View.{if_type}
 use Rattle.nim_meaning.specs.Deeds.{branch, costs, ◌>>=◌}
 use Rattle.nim_meaning.specs.Here.{any_hooked, gives_hooked}
@@ -41,7 +41,7 @@ any_unhooked x (Some ty ∷ of) h =
     let n = neither (is_hooked x.table ty) (may.any_hooked x.table of) h in
     ap (λ b. b || any_hooked (facts_in x.table) (map (if_type (known x).types) of)) (x.unhooked ty n.0) ∙ any_unhooked x of n.1
 
-module _ (x : Basis) (labels : LabelsLead x) (g : Both) (rest : List BlockLine) (to : ℕ) (how : Use) (ty : Option ℕ) (of : List (Option ℕ))
+module _ (x : Basis) (labels : LabelsLead x) (g : Both) (rest : List BlockLine) (to : ℕ) (how : UseAt) (ty : Option ℕ) (of : List (Option ℕ))
     (from : List From) where
   abbrev has_hooks : Operation → Bool
   has_hooks operation = gives_hooked (facts_in x.table) (gets_type x g rest to operation how ty of from)
@@ -55,7 +55,7 @@ module _ (x : Basis) (labels : LabelsLead x) (g : Both) (rest : List BlockLine) 
       (owned operation (facts_in x.table) (if_type (known x).types ty) (map (if_type (known x).types) of) xs
       (does operation (facts_in x.table) (if_type (known x).types ty) (map (if_type (known x).types) of) xs))
       (does operation (facts_in x.table) (if_type (known x).types ty) (map (if_type (known x).types) of) xs))
-      >>= made_by (gives_hooked (facts_in x.table) (if_type (known x).types ty)) (bound_for g how to)))
+      >>= made_by (gives_hooked (facts_in x.table) (if_type (known x).types ty)) (bound_for g how)))
 
   module _ (operation : Operation) (y : IsGood x (starts g (apply_line x g rest to operation how ty of from) rest)) where
     value_unhooked : (o : Option ℕ) → ty ≡ o → gives_hooked (facts_in x.table) (if_type (known x).types o) ≡ false

@@ -1,14 +1,15 @@
 -- Procedures of block code that may be lowered: each is tested, and has its word code under its number.
 use Rattle.std.proofs.Common.{◌≡◌, ◌⊎◌, inl, inr, ℕ, zero, suc, ◌+◌, ◌≤◌, List, [], ◌∷◌, ◌++◌, append_assoc, append-nil}
-use Rattle.std.proofs.Common.{length, map, max}
+use Rattle.std.proofs.Common.{length, map}
 use Rattle.std.proofs.Common.{Some, None, Bool, true, false, not, ◌&&◌}
-use Rattle.std.proofs.Common.{refl, sym, ap, subst, ◌∙◌, arith, if◌then◌else◌, ◌==◌, nat_le}
+use Rattle.std.proofs.Common.{refl, sym, ap, subst, ◌∙◌, arith, if◌then◌else◌, nat_le}
 use Rattle.std.specs.Prelude.{slice_get}
 use Rattle.std.specs.Set.{is_member}
 use Rattle.std.proofs.lemmas.Bool.{and_parts, eq-eqb, ne_eqb, leb-true, true≢false, false≢true}
 use Rattle.nim_types.specs.declared.types.TypeDef.{TypeDef}
 use Rattle.nim_types.specs.Types.{Ty, same_text}
-use Rattle.nim_types.specs.Table.{IsTable}
+use Rattle.nim_types.specs.Table.{IsTable, facts_in}
+use Rattle.nim_meaning.specs.Here.{is_hooked}
 use Rattle.nim_program.specs.declared.program.Mode.TheVariants.{Plain, Sink, Var}
 use Rattle.word_code.specs.declared.word.TheConstants.{SPARE_ROOM}
 use Rattle.flat_code.specs.declared.line.Line.{Line}
@@ -36,7 +37,7 @@ use Rattle.word_lowering.specs.declared.texts.TheConstants.{FIXED_BYTES}
 use Rattle.word_lowering.specs.declared.may_lower.TheConstants.{MOST_ROOM}
 use Rattle.word_lowering.specs.Layouts.{is_empty, is_static, place_kept, place_bytes, place_alias, home_at, free_behind, free_by, free_at, layout_of}
 use Rattle.word_lowering.specs.Layouts.{layouts, housed, behind}
-use Rattle.word_lowering.specs.Layouts.{all_housed, behind_all, is_param, params_in, is_address}
+use Rattle.word_lowering.specs.Layouts.{all_housed, is_param, params_in, is_address}
 use Rattle.word_lowering.specs.Layouts.{found as found_in}
 use Rattle.word_lowering.specs.LineCode.{Around, no_layout, or_none, proc_number}
 use Rattle.word_lowering.specs.Texts.{texts_of, texts_in}
@@ -44,7 +45,7 @@ use Rattle.word_lowering.proofs.DistinctTexts.{has_behind, has_before}
 use Rattle.word_lowering.specs.Lowered as code
 use Rattle.word_lowering.specs.Lowered.{no_proc, all_layouts, start_layout, start_around, lowered}
 use Rattle.word_lowering.specs.Lowers.{IsFitting, AreSilent}
-use Rattle.word_lowering.specs.MayLower.{no_params, params_lead, all_plain, hook_may, lines_may, labels_once, labels_may, and_placed, placed_bytes}
+use Rattle.word_lowering.specs.MayLower.{no_params, params_lead, is_text, is_plain, all_plain, hook_may, lines_may, labels_once, labels_may, and_placed, placed_bytes}
 use Rattle.word_lowering.specs.MayLower.{places_may, sizes_may, proc_may, procs_may}
 use Rattle.word_lowering.specs.MayLower.{may_lower}
 use Rattle.word_lowering.specs.Stored.{HaveForms}
@@ -55,7 +56,7 @@ use Rattle.word_lowering.proofs.Callees.{Callee}
 use Rattle.word_lowering.proofs.ShapeFacts.{never}
 use Rattle.word_lowering.proofs.Sites.{Body, type_of, Among, word_of, sigs, globals_of, IsBody}
 use Rattle.word_lowering.proofs.LayoutBounds.{params_below}
-use Rattle.word_lowering.proofs.PlaceFacts.{one_found, own_home, declared_own}
+use Rattle.word_lowering.proofs.PlaceFacts.{one_found, own_home, declared_own, place_unhooked}
 use Rattle.word_lowering.proofs.PlacesInOrder.{orderly}
 use Rattle.word_lowering.proofs.Bodies.{IsTested, body_at, is_body}
 
@@ -100,12 +101,13 @@ next_ends false true bytes rest last free h = h
 next_ends false false bytes rest last free h = omega (arith, h)
 
 module _ (table : List TypeDef) where
-  add_param : (kind : PlaceKind) (h : Housed) → h.kind ≡ kind → (ty : Ty) → ty ≡ type_of table h → (hs : List Housed) (ts : List Taken)
-      → ParamsAre table hs ts → ParamsAre table (if is_param kind then h ∷ hs else hs) (and_param kind ty ts)
-  add_param (K.Param Plain) h e ty f hs ts r = ((sym (ap is_address e), f), r)
-  add_param (K.Param Sink) h e ty f hs ts r = ((sym (ap is_address e), f), r)
-  add_param (K.Param Var) h e ty f hs ts r = ((sym (ap is_address e), f), r)
-  add_param kind h e ty f hs ts r = r
+  add_param : (kind : PlaceKind) (h : Housed) → h.kind ≡ kind → (ty : Ty) → ty ≡ type_of table h
+      → (is_param kind ≡ true → is_hooked (facts_in table) ty ≡ false) → (hs : List Housed) (ts : List Taken)
+      → ParamsAre table hs ts → ParamsAre table (if is_param kind then h ∷ hs else hs) (and_param (facts_in table) kind ty ts)
+  add_param (K.Param Plain) h e ty f plain hs ts r = ((plain refl ∙ sym (ap is_address e), sym (ap is_address e), f), r)
+  add_param (K.Param Sink) h e ty f plain hs ts r = ((sym (ap is_address e), sym (ap is_address e), f), r)
+  add_param (K.Param Var) h e ty f plain hs ts r = ((sym (ap is_address e), sym (ap is_address e), f), r)
+  add_param kind h e ty f plain hs ts r = r
 
   module _ (start : Bool) (lines : List Line) where
     abbrev one : Free → FlatPlace → Housed
@@ -116,12 +118,6 @@ module _ (table : List TypeDef) where
 
     abbrev params : Free → List FlatPlace → List Housed
     params free ps = params_in (all_housed table start lines free ps)
-
-    params_are : (free : Free) (ps : List FlatPlace) → ParamsAre table (params free ps) (taken_by (known_in table) ps)
-    params_are free [] = tt
-    params_are free (p ∷ ps) =
-        add_param p.kind (one free p) refl (place_type (known_in table) p) refl (params (next free p) ps) (taken_by (known_in table) ps)
-        (params_are (next free p) ps)
 
     none_in : (free : Free) (ps : List FlatPlace) (h : Housed) → no_params ps ≡ true → Among h (params free ps) → ⊥
     none_in free [] h e i = i
@@ -137,6 +133,15 @@ module _ (table : List TypeDef) where
     -- a parameter has a home
     param_own : (p : FlatPlace) → is_param p.kind ≡ true → place_alias table start lines p ≡ Own
     param_own p e = declared_own p.kind p.number lines (param_declared p.kind e)
+
+    params_are : IsTable table → HaveForms table → (free : Free) (ps : List FlatPlace) → all_plain table (all_housed table start lines free ps) ≡ true
+        → ParamsAre table (params free ps) (taken_by (known_in table) ps)
+    params_are is_table have free [] plain = tt
+    params_are is_table have free (p ∷ ps) plain =
+        let q = and_parts (is_plain table p.ty (place_alias table start lines p) p.kind) (all_plain table (all_housed table start lines (next free p) ps)) plain in
+        add_param p.kind (one free p) refl (place_type (known_in table) p) refl
+        (λ e. place_unhooked table is_table have p.kind p.ty (place_alias table start lines p) (ap is_text (param_own p e)) q.0)
+        (params (next free p) ps) (taken_by (known_in table) ps) (params_are is_table have (next free p) ps q.1)
 
     param_ends : (free : Free) (ps : List FlatPlace) → params_lead ps ≡ true → (h : Housed) (at : ℕ) → Among h (params free ps) → h.home ≡ Placed at
         → at + h.bytes ≤ free.byte + placed_bytes (params free ps)
@@ -396,7 +401,7 @@ module _ (table : List TypeDef) (blocks : Code BlockLine) where
       block = c.block;
       layout = ap or_none c.layout;
       params = subst (λ (z : Signature). ParamsAre table (params_in body.own.all) z.takes) c.sign
-          (params_are table false lines (free_at FIXED_BYTES) c.proc.places);
+          (params_are table false lines is_table have (free_at FIXED_BYTES) c.proc.places c.tested.plain);
       among = among_params body.own.all;
       homes = λ k i. is_called.places k (among_params body.own.all k i) (param_declared k.kind (param_kind body.own.all k i));
       orderly = subst (λ (z : Signature). Orderly table body z) c.sign (orderly table false c.proc literals (proc_number proc) once

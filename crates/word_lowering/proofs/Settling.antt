@@ -157,7 +157,7 @@ module _ (x : Basis) where
     pub lands_settles : LabelsLead → (temps : Temps) → SameTemps x g line rest y temps → (name : ℕ) (o : Option (List BlockLine))
         → ((after : List BlockLine) → o ≡ Some after → line_from block_label name (body_of g).proc.lines ≡ Some after)
         → ((there : List WordInstr) → from_label (own_label name) (word_of x.table x.blocks (body_of g)).lines ≡ Some there → Comes there)
-        → Follows x (starts g line rest) (jumped (high x.table x.blocks (starts g line rest)) temps o)
+        → Follows x (starts g line rest) (jumped (high x.table x.blocks (starts g line rest)) temps 1 o)
     lands_settles labels temps same name None first comes = λ before. tt
     lands_settles labels temps same name (Some after) first comes =
         let l = labels g line rest after name y (first after refl) in
@@ -173,7 +173,7 @@ module _ (x : Basis) where
 
     pub leaps_settles : LabelsLead → (name : ℕ)
         → ((there : List WordInstr) → from_label (own_label name) (word_of x.table x.blocks (body_of g)).lines ≡ Some there → Comes there)
-        → Settles x (starts g line rest) rest (Leaps name)
+        → Settles x (starts g line rest) rest (Leaps name 1)
     leaps_settles labels name comes =
         lands_settles labels g.call.temps (same_temps x g line rest y) name (line_from block_label name rest)
         (λ after e. y.linked.0.once name (y.stands.before ++ line ∷ []) rest after

@@ -210,8 +210,10 @@ module _ (table : List TypeDef) (blocks : Code BlockLine) where
     -- a value is a text of a line, or has a home, as all declared places have
     pub values : (t : ℕ) → There b.own.all is_value t → ((found is_value t b.own.all).alias ≡ alias.Own) ⊎ IsTextual (found is_value t b.own.all)
     pub places : (h : Housed) → Among h b.own.all → is_declared h.kind ≡ true → h.alias ≡ alias.Own
-    -- locations lead to numbers
+    -- locations lead to numbers, and nothing is to be done for these
     pub locations : (t : ℕ) → There b.own.all is_location t → of_numbers (looks table (found is_location t b.own.all)) ≡ true
+    pub plain_locations : (t : ℕ) → There b.own.all is_location t
+        → hooked (form_of (facts_in table) (type_of table (found is_location t b.own.all))) ≡ false
     -- the type of a location that is another name, which is written only where it is a place's
     pub aliased : (t p : ℕ) (global : Bool) → There b.own.all is_location t → (found is_location t b.own.all).alias ≡ alias.Place p global
         → if_type_of (known_in table) (place_among b p global) ≡ Some (type_of table (found is_location t b.own.all))

@@ -18,7 +18,7 @@ use Rattle.flat_code.specs.Shapes.{has_shape, shape_of}
 use Rattle.nim_meaning.specs.Deeds.{costs, ◌>>=◌, give}
 use Rattle.nim_program.specs.Kinds.{same_value}
 use Rattle.nim_program.specs.View.{if_type}
-use Rattle.nim_program.specs.declared.operation.Use.{Use}
+use Rattle.flat_code.specs.declared.line.UseAt.{UseAt}
 use Rattle.nim_types.specs.Table.{facts_in, type_at}
 use Rattle.nim_types.specs.Types.{Ty}
 use Rattle.word_lowering.proofs.ApplyFits.{applies, RowHere}
@@ -68,7 +68,7 @@ module _ (x : Basis) (g : Both) (line : BlockLine) (rest : List BlockLine) (y : 
         written = subst (λ s. Written x g line rest y (location (around x.table x.blocks (body_of g)) t) w.location_is s) p.look w.written;
       }
 
-module _ (x : Basis) (labels : LabelsLead x) (g : Both) (rest : List BlockLine) (to : ℕ) (how : Use) where
+module _ (x : Basis) (labels : LabelsLead x) (g : Both) (rest : List BlockLine) (to : ℕ) (how : UseAt) where
   module _ (a b : Option ℕ) (at from : ℕ) where
     abbrev assign : BlockLine
     assign = plain (L.Apply to O.Assign how None (a ∷ b ∷ []) (F.Place at ∷ F.Value from ∷ []))
@@ -88,14 +88,14 @@ module _ (x : Basis) (labels : LabelsLead x) (g : Both) (rest : List BlockLine) 
         let may = and_parts (if_kind is_standing (place_named is_location (body_of g).proc.places at)) true f.written in
         mapped_settles x (starts g assign rest) rest (g.call.temps.places at) (λ place. At (location_at g.call.temps place))
         (λ l. using (option_map Given (g.call.temps.values from)) (λ z. gives (scene_of (high x.table x.blocks (starts g assign rest))) to
-        (costs 1 (put (location_of l) (value_of z)) >>= made_by false (bound_for g how to))))
+        (costs 1 (put (location_of l) (value_of z)) >>= made_by false (bound_for g how))))
         (λ there e. mapped_settles x (starts g assign rest) rest (g.call.temps.values from) Given
         (λ z. gives (scene_of (high x.table x.blocks (starts g assign rest))) to
-        (costs 1 (put (location_at g.call.temps there) (value_of z)) >>= made_by false (bound_for g how to)))
+        (costs 1 (put (location_at g.call.temps there) (value_of z)) >>= made_by false (bound_for g how)))
         (λ z h. let s = writes_at x g assign rest y at there w.ty at_typed may.0 e in
         let r = value_read x g assign rest y from z w.ty from_typed s.numbers h in
         subst (λ l. Settles x (starts g assign rest) rest (gives (scene_of (high x.table x.blocks (starts g assign rest))) to
-        (costs 1 (put l z) >>= made_by false (bound_for g how to)))) (sym s.is)
+        (costs 1 (put l z) >>= made_by false (bound_for g how)))) (sym s.is)
         (stored_settles x g assign rest y (location (around x.table x.blocks (body_of g)) at) s.at (shape_of (facts_in x.table) w.ty) z r.1
         (house g.call.site (of_value from)) r.0.read refl (with_value to g.call.temps nothing) (none_temps x g assign rest y to none)
         (1 + (bytes z + 0)) (omega arith) s.written)))
@@ -126,7 +126,7 @@ module _ (x : Basis) (labels : LabelsLead x) (g : Both) (rest : List BlockLine) 
       let line = plain (L.Apply to O.Discard how None of from) in
       let f = applies x g rest to O.Discard how None of from y in
       all_settles x (starts g line rest) rest g.call.temps from
-      (λ xs. gives (scene_of (high x.table x.blocks (starts g line rest))) to (costs 1 (give nothing) >>= made_by false (bound_for g how to)))
+      (λ xs. gives (scene_of (high x.table x.blocks (starts g line rest))) to (costs 1 (give nothing) >>= made_by false (bound_for g how)))
       (λ xs. silent_settles x g line rest y (with_value to g.call.temps nothing)
       (none_temps x g line rest y to (no_type (value_type x g line rest y to) f.given)) 1 refl)
   discard_line (Some ty) of from y = never (applies x g rest to O.Discard how (Some ty) of from y).row
@@ -145,7 +145,7 @@ module _ (x : Basis) (g : Both) (line : BlockLine) (rest : List BlockLine) (y : 
       passes_there (house g.call.site (of_value from)).bytes (house g.call.site (of_value to)) (house g.call.site (of_value from)) (code_next x g line rest y)
       (omega (arith, some, size))
 
-module _ (x : Basis) (labels : LabelsLead x) (g : Both) (rest : List BlockLine) (to from : ℕ) (how : Use) where
+module _ (x : Basis) (labels : LabelsLead x) (g : Both) (rest : List BlockLine) (to from : ℕ) (how : UseAt) where
   pub pass_line : (ty : ℕ) → FollowedHere x labels g rest (L.Pass to from how (Some ty))
   pass_line ty y =
       let line = plain (L.Pass to from how (Some ty)) in
@@ -156,10 +156,10 @@ module _ (x : Basis) (labels : LabelsLead x) (g : Both) (rest : List BlockLine) 
       let from_typed = type_there (value_type x g line rest y to) (value_type x g line rest y from) t f.0 typed in
       let s = target x g line rest y to t refl refl typed in
       using_settles x (starts g line rest) rest (g.call.temps.values from)
-      (λ v. gives (scene_of (high x.table x.blocks (starts g line rest))) to (costs 1 (handed_by (facts_in x.table) (bound_for g how to) (Some t) v)))
+      (λ v. gives (scene_of (high x.table x.blocks (starts g line rest))) to (costs 1 (handed_by (facts_in x.table) (bound_for g how) (Some t) v)))
       (λ v e. let r = value_read x g line rest y from v t from_typed s.numbers e in
       subst (λ b. Settles x (starts g line rest) rest (gives (scene_of (high x.table x.blocks (starts g line rest))) to
-      (costs 1 (moved v >>= made_by b (bound_for g how to))))) (sym s.unhooked)
+      (costs 1 (moved v >>= made_by b (bound_for g how))))) (sym s.unhooked)
       (moved_value x g line rest y to t v s r.1 (house g.call.site (of_value from)) true r.0.read (passed_code x g line rest y to from v t s r.1 r.0)
       (1 + (bytes v + 0)) (omega arith)))
 

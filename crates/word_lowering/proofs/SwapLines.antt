@@ -6,7 +6,7 @@ use Rattle.std.specs.Prelude.{option_map, nat_eq, ◌&&◌, ◌||◌}
 use Rattle.nim_types.specs.Types.{Ty}
 use Rattle.nim_types.specs.Table.{facts_in}
 use Rattle.nim_program.specs.declared.operation.Operation.TheVariants as O
-use Rattle.nim_program.specs.declared.operation.Use.{Use}
+use Rattle.flat_code.specs.declared.line.UseAt.{UseAt}
 use Rattle.nim_program.specs.Kinds.{same_value}
 use Rattle.nim_program.specs.View.{if_type}
 use Rattle.nim_meaning.specs.Values.{Value, bytes, nothing, Location, At, location_of}
@@ -305,7 +305,7 @@ among_more n m ms h = by (nat_eq m n)
     by true = refl
     by false = h
 
-module _ (x : Basis) (labels : LabelsLead x) (g : Both) (rest : List BlockLine) (to : ℕ) (how : Use) where
+module _ (x : Basis) (labels : LabelsLead x) (g : Both) (rest : List BlockLine) (to : ℕ) (how : UseAt) where
   module _ (a b : Option ℕ) (left right : ℕ) where
     abbrev swapping : BlockLine
     swapping = plain (L.Apply to O.Swap how None (a ∷ b ∷ []) (F.Place left ∷ F.Place right ∷ []))
@@ -331,17 +331,17 @@ module _ (x : Basis) (labels : LabelsLead x) (g : Both) (rest : List BlockLine) 
         mapped_settles x (starts g swapping rest) rest (g.call.temps.places left) (λ place. At (location_at g.call.temps place))
         (λ l. using (option_map (λ place. At (location_at g.call.temps place)) (g.call.temps.places right))
         (λ m. gives (scene_of (high x.table x.blocks (starts g swapping rest))) to
-        (costs 1 (swapped (location_of l) (location_of m)) >>= made_by false (bound_for g how to))))
+        (costs 1 (swapped (location_of l) (location_of m)) >>= made_by false (bound_for g how))))
         (λ here e. mapped_settles x (starts g swapping rest) rest (g.call.temps.places right) (λ place. At (location_at g.call.temps place))
         (λ m. gives (scene_of (high x.table x.blocks (starts g swapping rest))) to
-        (costs 1 (swapped (location_at g.call.temps here) (location_of m)) >>= made_by false (bound_for g how to)))
+        (costs 1 (swapped (location_at g.call.temps here) (location_of m)) >>= made_by false (bound_for g how)))
         (λ there h.
         let l = end_at x g swapping rest y w.ty left here left_typed may.0 (among_first left (right ∷ [])) e in
         let m = end_at x g swapping rest y w.ty right there right_typed may_right.0 (among_more right left (right ∷ []) (among_first right [])) h in
         subst (λ k. Settles x (starts g swapping rest) rest (gives (scene_of (high x.table x.blocks (starts g swapping rest))) to
-        (costs 1 (swapped k (location_at g.call.temps there)) >>= made_by false (bound_for g how to)))) (sym l.is)
+        (costs 1 (swapped k (location_at g.call.temps there)) >>= made_by false (bound_for g how)))) (sym l.is)
         (subst (λ k. Settles x (starts g swapping rest) rest (gives (scene_of (high x.table x.blocks (starts g swapping rest))) to
-        (costs 1 (swapped l.at_location k) >>= made_by false (bound_for g how to)))) (sym m.is)
+        (costs 1 (swapped l.at_location k) >>= made_by false (bound_for g how)))) (sym m.is)
         (both_settle x g swapping rest y w.ty left right here there l m (with_value to g.call.temps nothing) none refl))))
 
   pub swap_line : (ty : Option ℕ) (of : List (Option ℕ)) (from : List From) → RowHere x g rest to O.Swap how ty of from

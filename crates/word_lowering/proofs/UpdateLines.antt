@@ -11,7 +11,7 @@ use Rattle.nim_types.specs.Table.{facts_in}
 use Rattle.nim_program.specs.declared.operation.Operation.TheVariants as O
 use Rattle.nim_program.specs.declared.operation.Operator.{Operator}
 use Rattle.nim_program.specs.declared.operation.Operator.TheVariants as binary
-use Rattle.nim_program.specs.declared.operation.Use.{Use}
+use Rattle.flat_code.specs.declared.line.UseAt.{UseAt}
 use Rattle.nim_program.specs.Fitting.{steps, updates}
 use Rattle.nim_program.specs.Ints.{Checked, Fine, Trapped, applied, fits as is_int_number}
 use Rattle.nim_program.specs.Kinds.{is_int, kind_if, same_value}
@@ -359,7 +359,7 @@ module _ (x : Basis) (g : Both) (line : BlockLine) (rest : List BlockLine) (y : 
 
 -- ---- the line
 
-module _ (x : Basis) (traps : TrapsStop x) (labels : LabelsLead x) (g : Both) (rest : List BlockLine) (to : ℕ) (how : Use) (operator : Operator) where
+module _ (x : Basis) (traps : TrapsStop x) (labels : LabelsLead x) (g : Both) (rest : List BlockLine) (to : ℕ) (how : UseAt) (operator : Operator) where
   abbrev location_type : ℕ → Option Ty
   location_type t = type_in x is_location (body_of g) t
 
@@ -373,7 +373,7 @@ module _ (x : Basis) (traps : TrapsStop x) (labels : LabelsLead x) (g : Both) (r
     -- the deed, as what it comes to
     as_deed : (r : Checked) (old : Value) (l : Location) (same_at : SameTemps x g line rest y temps) → Outcome x g line rest y traps temps same_at old l r
         → Settles x (starts g line rest) rest (Passes (behind [] 1 (behind [] (bytes old) (perform
-        (((outcome r >>= put_to l) >>= made_by false (bound_for g how to)) >>= (λ u. give (with_value to g.call.temps u))) g.world))))
+        (((outcome r >>= put_to l) >>= made_by false (bound_for g how)) >>= (λ u. give (with_value to g.call.temps u))) g.world))))
     as_deed (Fine z) old l same_at d = d
     as_deed (Trapped trap) old l same_at d =
         subst (λ e. Settles x (starts g line rest) rest e)
@@ -394,7 +394,7 @@ module _ (x : Basis) (traps : TrapsStop x) (labels : LabelsLead x) (g : Both) (r
         → ((trap : ℕ) (k : List WordInstr) → any_branches trap (code_of_line x g line rest k)
         ≡ any_branches trap (updated_code label operator (spot_of (location (around x.table x.blocks (body_of g)) t)) by k))
         → Settles x (starts g line rest) rest (gives (scene_of (high x.table x.blocks (starts g line rest))) to
-        (costs 1 (updated (location_at g.call.temps there) (λ n. operate operator n step)) >>= made_by false (bound_for g how to)))
+        (costs 1 (updated (location_at g.call.temps there) (λ n. operate operator n step)) >>= made_by false (bound_for g how)))
     updates_there t there none k may e up label by high_by step step_fits v same step_is front short runs shown =
         let s = some_kind (facts_in x.table) (location_type t) is_int refl k in
         let w = writes_at x g line rest y t there s.0 s.1 may e in
@@ -402,7 +402,7 @@ module _ (x : Basis) (traps : TrapsStop x) (labels : LabelsLead x) (g : Both) (r
         let h : Housed = location (around x.table x.blocks (body_of g)) t in
         let at_word = word_at x g line rest y h w.at (subst (λ q. Written x g line rest y h w.at q) (int_shape (facts_in x.table) s.0 s.2) w.written) in
         subst (λ l. Settles x (starts g line rest) rest (gives (scene_of (high x.table x.blocks (starts g line rest))) to
-        (costs 1 (updated l (λ n. operate operator n step)) >>= made_by false (bound_for g how to)))) (sym w.is)
+        (costs 1 (updated l (λ n. operate operator n step)) >>= made_by false (bound_for g how)))) (sym w.is)
         (as_deed (applied operator (number_of (load g.world w.at)) step) (load g.world w.at) w.at same_at
         (update_settles x g line rest y traps temps same_at h operator up label by high_by step step_fits v same step_is front short runs shown w.at at_word))
 
@@ -420,7 +420,7 @@ module _ (x : Basis) (traps : TrapsStop x) (labels : LabelsLead x) (g : Both) (r
         let k = subst (λ o. is_int (kind_if (facts_in x.table) o) ≡ true) (sym (same_type (location_type t) (if_type (known x).types a) p.0)) r.1 in
         mapped_settles x (starts g stepping rest) rest (g.call.temps.places t) (λ place. At (location_at g.call.temps place))
         (λ l. gives (scene_of (high x.table x.blocks (starts g stepping rest))) to
-        (costs 1 (updated (location_of l) (λ n. operate operator n (pos 1))) >>= made_by false (bound_for g how to)))
+        (costs 1 (updated (location_of l) (λ n. operate operator n (pos 1))) >>= made_by false (bound_for g how)))
         (λ there e. updates_there stepping y t there (no_type (value_type x g stepping rest y to) f.given) k may.0 e (step_updates operator r.0)
         (label_before (map block_plain rest)) FIFTH (omega arith) (pos 1) refl (put g.call.vars FIFTH 1)
         (same_put g.call.vars FIFTH 1 (omega arith) (omega arith)) (put_here g.call.vars FIFTH 1 (omega arith)) 1 (omega arith)
@@ -449,10 +449,10 @@ module _ (x : Basis) (traps : TrapsStop x) (labels : LabelsLead x) (g : Both) (r
         (sym (same_type (value_type x g adding rest y by) (if_type (known x).types b) q.0)) i.1 in
         mapped_settles x (starts g adding rest) rest (g.call.temps.places t) (λ place. At (location_at g.call.temps place))
         (λ l. using (option_map Given (g.call.temps.values by)) (λ z. gives (scene_of (high x.table x.blocks (starts g adding rest))) to
-        (costs 1 (updated (location_of l) (λ n. operate operator n (number_of (value_of z)))) >>= made_by false (bound_for g how to))))
+        (costs 1 (updated (location_of l) (λ n. operate operator n (number_of (value_of z)))) >>= made_by false (bound_for g how))))
         (λ there e. mapped_settles x (starts g adding rest) rest (g.call.temps.values by) Given
         (λ z. gives (scene_of (high x.table x.blocks (starts g adding rest))) to
-        (costs 1 (updated (location_at g.call.temps there) (λ n. operate operator n (number_of (value_of z)))) >>= made_by false (bound_for g how to)))
+        (costs 1 (updated (location_at g.call.temps there) (λ n. operate operator n (number_of (value_of z)))) >>= made_by false (bound_for g how)))
         (λ z h. let o = int_read x g adding rest y by z k_by h in
         updates_there adding y t there (no_type (value_type x g adding rest y to) f.given) k may.0 e r.0
         (label_before (map block_plain rest)) (variable x g adding rest y by) (let high_by = o.high in omega (arith, high_by)) (number_of z) o.fits

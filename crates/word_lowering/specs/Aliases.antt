@@ -23,7 +23,7 @@ value_to (L.Apply to operation how ty of from) = Some to
 value_to (L.Construct to how ty fields from) = Some to
 value_to (L.Constant to how ty pieces) = Some to
 value_to (L.Call to how ty proc from) = Some to
-value_to (L.Get to from how site ty) = Some to
+value_to (L.Get to from how ty) = Some to
 value_to (L.Look to from) = Some to
 value_to (L.Pass to from how ty) = Some to
 value_to (L.Truth to holds) = Some to
@@ -38,7 +38,7 @@ value_to line = None
 -- the temporary that gets a location
 abbrev pub location_to : Line → Option ℕ
 location_to (L.Root to place global) = Some to
-location_to (L.Fresh to from) = Some to
+location_to (L.Fresh to from waits) = Some to
 location_to (L.Standing to ty pieces) = Some to
 location_to (L.Part to from field) = Some to
 location_to (L.Item to from index) = Some to
@@ -73,7 +73,7 @@ text_alias behind (Some text) = Text behind (length text)
 -- what a line gives is another name for, where so many bytes of texts are behind it
 abbrev pub alias_by : Line → (behind : ℕ) → Alias
 alias_by (L.Root to place global) behind = Place place global
-alias_by (L.Fresh to from) behind = Value from
+alias_by (L.Fresh to from waits) behind = Value from
 alias_by (L.Constant to how ty pieces) behind = text_alias behind (text_in pieces)
 alias_by line behind = Own
 

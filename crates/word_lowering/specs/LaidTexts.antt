@@ -3,6 +3,7 @@ use Rattle.std.specs.Prelude.{◌≡◌, ℕ, false, List, [], ◌∷◌}
 use Rattle.std.specs.HashMap.{HashMap, get}
 use Rattle.std.specs.Set.{unique_keys}
 use Rattle.nim_types.specs.Types.{same_text}
+use Rattle.nim_program.specs.declared.expr.Label.TheVariants as C
 use Rattle.flat_code.specs.declared.block.BlockLine.{BlockLine}
 use Rattle.flat_code.specs.declared.code.CodeProc.{CodeProc}
 use Rattle.flat_code.specs.declared.line.Line.{Line}
@@ -40,6 +41,7 @@ pieces_before (piece ∷ pieces) met = piece_before piece (pieces_before pieces 
 abbrev pub line_before : Line → Before
 line_before (L.Constant to how ty pieces) met = pieces_before pieces met
 line_before (L.Standing to ty pieces) met = standing_bytes pieces ∷ pieces_before pieces met
+line_before (L.Fits from (C.Text text) to) met = text ∷ met
 line_before line met = met
 
 abbrev pub lines_before : List BlockLine → Before

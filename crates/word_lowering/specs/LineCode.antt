@@ -4,6 +4,8 @@ use Rattle.std.specs.Prelude.{ℕ, zero, suc, ◌+◌, ◌-◌, ◌^◌, ◌*◌
 use Rattle.arc_base.specs.declared.outside.Stream.TheVariants.{Out}
 use Rattle.nim_types.specs.declared.types.TypeDef.{TypeDef}
 use Rattle.nim_types.specs.declared.types.TypeDef.TheVariants as D
+use Rattle.nim_program.specs.declared.expr.Label.{Label as Choice}
+use Rattle.nim_program.specs.declared.expr.Label.TheVariants as C
 use Rattle.nim_program.specs.declared.operation.Measure.{Measure}
 use Rattle.nim_program.specs.declared.operation.Measure.TheVariants.{Len, High}
 use Rattle.nim_program.specs.declared.operation.Operation.{Operation}
@@ -255,6 +257,11 @@ abbrev pub quit_code : List Housed → List WordInstr → List WordInstr
 quit_code [] k = exit_code k
 quit_code (status ∷ rest) k = Exit (variable_of status) ∷ k
 
+-- a label of a `case`; texts come with the heap
+abbrev pub choice_code : Choice → (from to : ℕ) → List WordInstr → List WordInstr
+choice_code (C.Ordinals low high) from to k = fits_code from to low high k
+choice_code (C.Text text) from to k = k
+
 -- parts one behind the other
 abbrev pub parts_code : Home → List Housed → List WordInstr → List WordInstr
 parts_code to [] k = k
@@ -430,10 +437,10 @@ module _ (x : Around) where
   line_code (L.Construct to how ty fields from) label k = clears (value to) (fields_code (value to).home ty fields (operands from) k)
   line_code (L.Constant to how ty pieces) label k = constant_code (value to) pieces k
   line_code (L.Call to how ty proc from) label k = call_code label proc ty to from k
-  line_code (L.Get to from how site ty) label k = moves (value to) (location from) k
+  line_code (L.Get to from how ty) label k = moves (value to) (location from) k
   line_code (L.Look to from) label k = moves (value to) (location from) k
   line_code (L.Root to p global) label k = k
-  line_code (L.Fresh to from) label k = k
+  line_code (L.Fresh to from waits) label k = k
   line_code (L.Standing to ty pieces) label k = Datum (led to) (standing_at pieces) ∷ k
   line_code (L.Part to from field) label k = part_code (led to) (location from).home (part_at x.table (location from).ty field) k
   line_code (L.Item to from index) label k = item_code (led to) (location from).home (held index) (count_at from) (bytes_each from) k
@@ -455,7 +462,9 @@ module _ (x : Around) where
   line_code (L.Label name) label k = Label (own_label name) ∷ k
   line_code (L.Jump to) label k = Jump (own_label to) ∷ k
   line_code (L.Unless from to) label k = unless_code (held from) (own_label to) k
-  line_code (L.Fits from low high to) label k = fits_code (held from) (own_label to) low high k
+  line_code (L.Fits from these to) label k = choice_code these (held from) (own_label to) k
+  -- what is owned comes with the heap
+  line_code (L.Own what from) label k = k
   line_code L.Enter label k = k
   line_code (L.Turn to) label k = Jump (own_label to) ∷ k
   line_code (L.TurnIf from to) label k = if_code (held from) (own_label to) k
@@ -474,7 +483,7 @@ is_control (L.Next counter last) = true
 is_control (L.Label name) = true
 is_control (L.Jump to) = true
 is_control (L.Unless from to) = true
-is_control (L.Fits from low high to) = true
+is_control (L.Fits from these to) = true
 is_control (L.Turn to) = true
 is_control (L.TurnIf from to) = true
 is_control (L.CountTurn counter last inclusive to) = true

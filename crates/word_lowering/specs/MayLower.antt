@@ -6,6 +6,7 @@ use Rattle.nim_types.specs.declared.types.TypeDef.{TypeDef}
 use Rattle.nim_types.specs.declared.types.TypeDef.TheVariants as D
 use Rattle.nim_types.specs.Table.{type_at, types_in, facts_in}
 use Rattle.nim_types.specs.Forms.{hooked, form_of}
+use Rattle.nim_program.specs.declared.expr.Label.TheVariants as C
 use Rattle.nim_program.specs.declared.operation.Operation.{Operation}
 use Rattle.nim_program.specs.declared.operation.Operation.TheVariants as O
 use Rattle.nim_program.specs.declared.operation.Use.{Use}
@@ -92,10 +93,13 @@ abbrev pub lends : Option (List ℕ) → Use → Bool
 lends None how = true
 lends (Some text) how = is_lent how
 
--- texts are operands of `echo` alone
+-- Texts are operands of `echo` alone; no value waits or is owned.
 abbrev pub reads_plain : List TypeDef → Line → Bool
 reads_plain table (L.Apply to operation how ty of from) = is_echo operation || not (any_hooked table of)
-reads_plain table (L.Constant to how ty pieces) = lends (text_in pieces) how
+reads_plain table (L.Constant to how ty pieces) = lends (text_in pieces) how.how
+reads_plain table (L.Fresh to from (Some node)) = false
+reads_plain table (L.Fits from (C.Text text) to) = false
+reads_plain table (L.Own what from) = false
 reads_plain table line = true
 
 abbrev pub line_may : List TypeDef → List Housed → Line → (behind : ℕ) → Bool

@@ -14,6 +14,7 @@ use crate::standing::standing_bytes;
 use crate::texts::{push_padded, push_texts_in};
 use arc_base::{Bytes, Memory};
 use flat_code::{BlockLine, CodeProc, Line, OwnedLine, Piece};
+use nim_program::Label;
 use std::alloc::Global;
 use std::collections::HashMap;
 use std::marker::Model;
@@ -113,6 +114,14 @@ fn put_line(alloc: Global, laying: &mut Laying, line: &BlockLine)
             put_pieces(alloc, laying, pieces.as_slice());
             put_standing(alloc, laying, pieces.as_slice())
         }
+        BlockLine::Plain(
+            OwnedLine::Plain(
+                Line::Fits {
+                    these: Label::Text(text),
+                    ..
+                },
+            ),
+        ) => put_text(alloc, laying, text),
         _ => {}
     }
 }

@@ -5,7 +5,7 @@ ghost use Rattle.flat_code.specs.Codes.{block_plain};
 ghost use Rattle.word_lowering.specs.Emission.{Puts};
 ghost use Rattle.word_lowering.specs.LineCode.{part_code, item_code, element_code, own_label};
 ghost use Rattle.word_lowering.specs.LineCode.{value, location, held, led, count_at, bytes_each};
-ghost use Rattle.word_lowering.specs.LineCode.{operands, row_code, line_code, lines_code, labels_in};
+ghost use Rattle.word_lowering.specs.LineCode.{operands, row_code, choice_code, line_code, lines_code, labels_in};
 ghost use Rattle.word_lowering.specs.LineCode.{is_control, standing_at};
 ghost use Rattle.word_lowering.specs.Operations.{trap_label};
 ghost use Rattle.word_lowering.specs.Scope.{around_of, HasRoom};
@@ -26,7 +26,7 @@ use crate::stored::part_at;
 use crate::values::{emit_constant, emit_construct, truth_word};
 use arc_base::{Items, Memory};
 use flat_code::{BlockLine, From, Line, OwnedLine, Piece};
-use nim_program::Operation;
+use nim_program::{Label, Operation};
 use nim_types::TypeId;
 use word_code::{Test, WordInstr};
 
@@ -137,6 +137,16 @@ fn emit_jump(code: &mut Items<WordInstr>, to: u32) -> Result<(), Memory>
     emit(code, &[WordInstr::Jump { to }])
 }
 
+// A test of what is chosen by: control goes on at `to` where a label has it.
+fn emit_choice(code: &mut Items<WordInstr>, from: u32, these: &Label, to: u32) -> Result<(), Memory>
+    ensures { OnOk result (Puts code.old code.new (choice_code these.now from to)) }
+{
+    match these {
+        Label::Ordinals { low, high } => emit_fits(code, from, to, *low, *high),
+        Label::Text(_) => Ok(()),
+    }
+}
+
 // The code of a line of control, with a label of its own.
 fn emit_control(
     code: &mut Items<WordInstr>,
@@ -164,12 +174,9 @@ fn emit_control(
         Line::Label { name } => emit_label(code, *name),
         Line::Jump { to } | Line::Turn { to } => emit_jump(code, *to),
         Line::Unless { from, to } => emit_unless(code, x.held(*from), own_label(*to)?),
-        Line::Fits {
-            from,
-            low,
-            high,
-            to,
-        } => emit_fits(code, x.held(*from), own_label(*to)?, *low, *high),
+        Line::Fits { from, these, to } => {
+            emit_choice(code, x.held(*from), these, own_label(*to)?)
+        }
         Line::TurnIf { from, to } => emit_if(code, x.held(*from), own_label(*to)?),
         Line::CountTurn {
             counter,
@@ -199,7 +206,8 @@ fn emit_standing(
     emit(code, &[address(x.led(to), Home::Static(at))])
 }
 
-// The code of a line with a label of its own.
+// The code of a line with a label of its own. Another name needs none, and what comes with the heap
+// has none yet.
 fn emit_line(code: &mut Items<WordInstr>, x: &Scope, line: &Line, label: u32) -> Result<(), Memory>
     requires { HasRoom (around_of x.now) }
     ensures { OnOk result (Puts code.old code.new (line_code (around_of x.now) line.now label)) }
@@ -235,7 +243,6 @@ fn emit_line(code: &mut Items<WordInstr>, x: &Scope, line: &Line, label: u32) ->
             emit_moves(code, x.value(*to), x.location(*from))
         }
         Line::Standing { to, pieces, .. } => emit_standing(code, x, *to, pieces.as_slice()),
-        Line::Root { .. } | Line::Fresh { .. } | Line::Object { .. } | Line::Enter => Ok(()),
         Line::Part { to, from, field } => emit_part_at(code, x, *to, *from, *field),
         Line::Item { to, from, index } => emit_item_at(code, x, *to, *from, *index),
         Line::Pass { to, from, .. } => emit_passes(code, x.value(*to), x.value(*from)),
@@ -258,6 +265,7 @@ fn emit_line(code: &mut Items<WordInstr>, x: &Scope, line: &Line, label: u32) ->
         | Line::TurnIf { .. }
         | Line::CountTurn { .. } => emit_control(code, x, line, label),
         Line::Return { result } => emit_return(code, x, *result),
+        _ => Ok(()),
     }
 }
 

@@ -5,6 +5,10 @@ use Rattle.core_compiler.proofs.FrameSums.{sums_within, data_few}
 use Rattle.core_compiler.proofs.Refusals.{plain_within}
 use Rattle.core_compiler.proofs.program.flat_of.Goals as goal
 
+pub flatten-requires : goal.flatten-requires
+flatten-requires c =
+    record { forms = c.table_forms.ensures c.args.program.now.types (program_in c.args.program.now) refl refl c.requires.typed }
+
 pub returns : goal.returns
 returns c =
     let program = program_in c.args.program.now in
@@ -12,7 +16,7 @@ returns c =
     let typed = c.requires.typed in
     let numbered = c.requires.numbered in
     let plain = plain_within program c.requires.within in
-    let formed = c.formed.ensures program typed numbered plain in
+    let formed = c.formed.ensures program typed numbered in
     let sound = λ (heap : ℕ) (input : List ℕ). c.meanings.ensures.sound program plan heap input in
     let table = c.args.program.now.types in
     is_flat_of c.args.program.now plan c.in_ok-flat.flat c.in_ok-flat.ensures.procs c.in_ok-flat.ensures.code
@@ -25,6 +29,7 @@ returns c =
     (c.sizes.ensures.globals program plan typed numbered)
     (λ text. c.sizes.ensures.texts program plan text)
     (c.table_forms.ensures table program refl refl typed)
-    (c.may_be_lowered.ensures.alike table program refl typed plain plan)
+    (c.may_be_lowered.ensures.alike table program refl typed plan)
     (c.may_be_lowered.ensures.plain table program refl typed numbered plain 16384 (sums_within program c.requires.within) plan)
+    (c.may_be_lowered.ensures.lent table program refl typed plain plan)
     (data_few program c.requires.within)

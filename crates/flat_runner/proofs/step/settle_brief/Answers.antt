@@ -26,7 +26,7 @@ returns-in-Leaps c =
     let at = subst (λ (l : List Line). option_map (λ i. drop i l) c.ahead.result ≡ from_label label_in c.in-Leaps.name (drop run.now.at l))
     lines (c.ahead.ensures c.requires) in
     subst (λ d. Settles types plan flat m d run.units (step_of c.go_to.result) (machine_is flat w c.go_to.new.run) c.go_to.new.run.units) (sym e)
-    (settled_of (jumped m m.now.temps o) (Some run.units) (step_of c.go_to.result) _ c.go_to.new.run.units (c.go_to.ensures.next flat w o at)
+    (settled_of (jumped m m.now.temps 1 o) (Some run.units) (step_of c.go_to.result) _ c.go_to.new.run.units (c.go_to.ensures.next flat w o at)
     (ap Some (sym c.go_to.ensures.units)))
 
 pub returns-in-Enters : goal.returns-in-Enters
@@ -37,7 +37,7 @@ returns-in-Enters c =
     let e = subst (IsBrief (scene_of m) d) c.in-Enters.is did in
     let new = c.turn.new.run in
     subst (λ d. Settles types plan flat m d run.units (step_of c.turn.result) (machine_is flat w new) new.units) (sym e)
-    (by_unit types plan flat (jumped m m.now.temps (Some m.now.rest)) run.units new.units (step_of c.turn.result) _ (c.turn.ensures flat w (Some m.now.rest) refl))
+    (by_unit types plan flat (jumped m m.now.temps 1 (Some m.now.rest)) run.units new.units (step_of c.turn.result) _ (c.turn.ensures flat w (Some m.now.rest) refl))
 
 pub returns-in-Turns : goal.returns-in-Turns
 returns-in-Turns c =
@@ -49,7 +49,7 @@ returns-in-Turns c =
     let o = from_label label_in c.in-Turns.name m.now.whole in
     let at = label_at c.args.lines.now m.now.whole c.args.book.now.labels.items c.in-Turns.name _ lines c.requires c.back.ensures in
     subst (λ d. Settles types plan flat m d run.units (step_of c.turn-in-Turns.result) (machine_is flat w new) new.units) (sym e)
-    (by_unit types plan flat (jumped m m.now.temps o) run.units new.units (step_of c.turn-in-Turns.result) _ (c.turn-in-Turns.ensures flat w o at))
+    (by_unit types plan flat (jumped m m.now.temps 1 o) run.units new.units (step_of c.turn-in-Turns.result) _ (c.turn-in-Turns.ensures flat w o at))
 
 pub returns-in-Ok-set_number : goal.returns-in-Ok-set_number
 returns-in-Ok-set_number c =
@@ -65,9 +65,9 @@ returns-in-Ok-set_number c =
     let at = label_at c.args.lines.now m.now.whole c.args.book.now.labels.items a.name _ lines c.requires c.back-in-Ok-set_number.ensures in
     let t = temps_is c.set_number-in-Counts.new.temps in
     subst (λ d. Settles types plan flat m d run.units r (machine_is flat w new) new.units) (sym e)
-    (by_unit types plan flat (jumped m (with_value a.to m.now.temps (Number a.z)) o) run.units new.units r _
+    (by_unit types plan flat (jumped m (with_value a.to m.now.temps (Number a.z)) 1 o) run.units new.units r _
     (subst (λ n. Settled n (less_one run.units) r (machine_is flat w new) new.units)
-    (jumps_same m t t o ∙ ap (λ t. jumped m t o) (c.in-Ok-set_number.ensures ∙ ap (λ z. with_value a.to m.now.temps (Number z)) z))
+    (jumps_same m t t o ∙ ap (λ t. jumped m t 1 o) (c.in-Ok-set_number.ensures ∙ ap (λ z. with_value a.to m.now.temps (Number z)) z))
     (c.turn-in-Ok-set_number.ensures flat w o at)))
 
 pub returns-in-Stores : goal.returns-in-Stores

@@ -12,5 +12,5 @@ returns-then-spend c =
     let run = c.args.run.now in
     let left = c.spend.new.units in
     let u : less_one run.units ≡ Some left = c.spend.ensures ∙ ap (λ b. if b then Some left else None) c.if-spend.true in
-    settled_of (jumped (machine_is flat w run) (temps_is run.now.temps) rest) (less_one run.units) (step_of c.go_to.result) _ _
+    settled_of (jumped (machine_is flat w run) (temps_is run.now.temps) 1 rest) (less_one run.units) (step_of c.go_to.result) _ _
     (c.go_to.ensures.next flat w rest e) (u ∙ ap Some (sym c.go_to.ensures.units))

@@ -18,11 +18,12 @@ body_or other None = other
 body_or other (Some body) = body
 
 abbrev IsBody : Proc → Body → Type 0
-IsBody proc body = BodyFormed (ground_of counting (named_in none_named) false body) (AtFirst (length proc.params) (named_in none_named 0) body) body
+IsBody proc body =
+    BodyFormed (ground_of counting (named_in none_named) false body) (AtFirst (length proc.params) (named_in none_named 0) body) proc.params body
 
 is_next : (body : Body) → next.body ≡ Some body → IsBody next body
 is_next body has = subst (λ b. IsBody next b) (ap (λ o. body_or body o) has)
-    (omega arith, (((refl, (refl, (refl, tt))), ((refl, omega arith), ((refl, tt), tt))), tt))
+    ((omega arith, refl), ((omega arith, refl), tt), (((refl, (refl, (refl, tt))), ((refl, omega arith), ((refl, tt), tt))), tt))
 
 abbrev nowhere : Option Proc
 nowhere = None
@@ -31,7 +32,7 @@ none_some : (proc : Proc) → (nowhere ≡ Some proc) → ⊥
 none_some proc = λ e. cc
 
 bodies : (n : ℕ) (proc : Proc) (body : Body) → slice_get counting.procs n ≡ Some proc → proc.body ≡ Some body →
-    BodyFormed (ground_of counting (named_in none_named) false body) (AtFirst (length proc.params) (named_in none_named n) body) body
+    BodyFormed (ground_of counting (named_in none_named) false body) (AtFirst (length proc.params) (named_in none_named n) body) proc.params body
 bodies zero proc body is has = subst (λ proc. proc.body ≡ Some body → IsBody proc body) (ap proc_or is) (is_next body) has
 bodies (suc n) proc body is has = absurd (none_some proc is)
 
@@ -46,7 +47,7 @@ variable_is : Formed around (InLoop around Open (Count (place 0) true)) (read 0)
 variable_is = (refl, inr (refl, tt))
 
 called_is : Formed around (InLoop around Open (Count (place 0) true)) (Apply node (Some int) (Calling 0 []) (one (read 0)))
-called_is = ((refl, λ place is. absurd is), (variable_is, tt))
+called_is = ((refl, refl, λ place is. absurd is), (variable_is, tt))
 
 three_is : Formed around (InLoop around Open (Count (place 0) true)) (equal (read 0) (number 3))
 three_is = ((refl, (refl, (refl, tt))), (variable_is, ((refl, tt), tt)))
@@ -61,18 +62,18 @@ returns-clause-formed c =
       procs = bodies;
       start = (
         tt,
+        tt,
         (
           (
             tt,
             ((refl, tt), ((refl, tt), tt)),
-            omega arith,
+            (refl, omega arith),
             ((tt, tt, (three_is, tt), ((refl, tt), tt)), (((tt, (refl, tt)), (two_is, tt)), tt)),
           ),
           tt,
         ),
       );
       gives = refl;
-      no_hooks = refl;
     }
 
 pub returns-clause-shown : goal.returns-clause-shown

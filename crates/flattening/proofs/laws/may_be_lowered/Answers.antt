@@ -1,12 +1,19 @@
-use Rattle.std.proofs.Common.{sym, subst}
+use Rattle.std.proofs.Common.{sym, subst, ap, ◌∙◌}
+use Rattle.nim_types.specs.Types.{base_in, fact_of, int}
 use Rattle.flat_code.proofs.ForCallers.{AreSorted, sorted_table}
 use Rattle.flattening.proofs.AlikeLines.{all_alike}
+use Rattle.flattening.proofs.Shaped.{typed_shaped, undeclared_in}
 use Rattle.flattening.proofs.PlainPrograms.{all_plain}
+use Rattle.flattening.proofs.Unlent.{all_unlent}
 use Rattle.flattening.proofs.laws.may_be_lowered.Goals as goal
 
 pub returns-clause-alike : goal.returns-clause-alike
-returns-clause-alike c = λ table program said typed plain plan. all_alike program typed (subst AreSorted (sym said) (sorted_table table)) plan plain
+returns-clause-alike c = λ table program said typed plan.
+    all_alike program plan (typed_shaped program (ap (λ facts. base_in (fact_of facts int)) said ∙ undeclared_in table) typed)
 
 pub returns-clause-plain : goal.returns-clause-plain
 returns-clause-plain c = λ table program said typed numbered plain most sums plan.
     all_plain program plan typed (subst AreSorted (sym said) (sorted_table table)) most numbered plain sums
+
+pub returns-clause-lent : goal.returns-clause-lent
+returns-clause-lent c = λ table program said typed plain plan. all_unlent program plan typed (subst AreSorted (sym said) (sorted_table table)) plain

@@ -21,7 +21,8 @@ of_stmt-returns-in-Case t c ts rest met h =
     let blocks = each_block before own_before (case_blocks ts given.branches.items last) in
     let other = c.of_block-in-Case.ensures ts _ h in
     let inside = c.of_case_branches.ensures ts last _ other in
-    subst (λ s. Met c.of_selector.new.texts (total_of before own_before s met)) (sym whole) (c.of_selector.ensures ts blocks _ inside)
+    let all = c.of_selector.ensures ts blocks _ inside in
+    subst (λ s. Met c.of_branch_labels.new.texts (total_of before own_before s met)) (sym whole) (c.of_branch_labels.ensures _ all)
 
 pub of_stmt-returns-in-Loop : goal.of_stmt-returns-in-Loop
 of_stmt-returns-in-Loop t c ts rest met h =

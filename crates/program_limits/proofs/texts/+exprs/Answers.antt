@@ -1,4 +1,4 @@
-use Rattle.std.proofs.Common.{◌∙◌, refl, sym, ap, ap₂, subst, true}
+use Rattle.std.proofs.Common.{◌∙◌, sym, ap, ap₂, subst, true}
 use Rattle.std.specs.Prelude.{option_map}
 use Rattle.nim_types.specs.Table.{type_at}
 use Rattle.nim_program.specs.Program as T
@@ -6,7 +6,7 @@ use Rattle.nim_program.specs.Program.{ByValue, NoArg, ByConditions, ByLabels}
 use Rattle.nim_program.specs.View.{expr_of, path_of, operand_before, choices_of, picks_of, pick_labels, if_value, if_type}
 use Rattle.nim_program.specs.Folds.{total, total_at}
 use Rattle.nim_program.proofs.ForCallers.{applied, called, constructed, chosen, selected}
-use Rattle.program_limits.specs.Meeting.{Met, before, own_before, standing_before}
+use Rattle.program_limits.specs.Meeting.{Met, before, own_before}
 use Rattle.program_limits.proofs.Meets.{fresh_before}
 use Rattle.program_limits.proofs.texts.+exprs.Goals as goal
 
@@ -69,4 +69,5 @@ of_expr-returns-in-Case t c ts met h =
     (sym c.deref-in-Case.ensures) in
     let other = c.of_else.ensures ts met h in
     let values = c.of_picks.ensures ts last met other in
-    subst (λ e. Met c.of_operand.new.texts (total before own_before e met)) (sym whole) (c.of_operand.ensures ts rest met values)
+    let all = c.of_operand.ensures ts rest met values in
+    subst (λ e. Met c.of_pick_labels.new.texts (total before own_before e met)) (sym whole) (c.of_pick_labels.ensures _ all)

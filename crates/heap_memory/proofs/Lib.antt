@@ -1,0 +1,10 @@
+mod Ranges
+mod BlockLists
+mod Counts
+mod Kept
+mod BlockBytes
+mod HeapUses
+mod Walks
+mod Sizes
+mod ClassLaws
+pub mod ForCallers

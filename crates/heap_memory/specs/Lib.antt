@@ -1,0 +1,10 @@
+pub mod HeapBlocks
+pub mod HeapState
+pub mod HeapUse
+pub mod Walk
+pub mod HeapRoutines
+pub mod TextRoutines
+pub mod GrowRoutine
+pub mod AppendRoutine
+pub mod LineRoutine
+pub mod HeapRuntime
