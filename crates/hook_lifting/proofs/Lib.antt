@@ -1,0 +1,9 @@
+mod Deeds
+mod Entries
+mod Follows
+mod Loops
+mod Parts
+mod Sequences
+mod Steps
+mod Walks
+mod Writing

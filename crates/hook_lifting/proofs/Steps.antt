@@ -1,0 +1,111 @@
+-- Lines that lead to parts, and the hooks that are a few lines one after another.
+use Rattle.std.proofs.Common.{◌≡◌, ℕ, ◌<◌, true, false, List, [], ◌∷◌, Some, None, refl, ap, ◌∙◌, arith}
+use Rattle.std.specs.Prelude.{ℤ, pos, unsigned_abs, nat_lt, ◌&&◌}
+use Rattle.std.proofs.lemmas.Bool.{le-leb, lt-ltb}
+use Rattle.nim_types.specs.Forms.{Form}
+use Rattle.nim_program.specs.Ints.{inside}
+use Rattle.nim_meaning.specs.Acts.{branch}
+use Rattle.nim_meaning.specs.Values.{Value, Number, number_of, length_of, item_of, deeper, Location, vacant}
+use Rattle.nim_meaning.specs.State.{World, load}
+use Rattle.nim_meaning.specs.Deeds.{Deed, Stores, Pushes, Pops, changed, Done, Answers, perform, ◌>>◌, ◌>>=◌, give, costs, looks}
+use Rattle.nim_meaning.specs.Deeds.{does as changes}
+use Rattle.nim_meaning.specs.Places.{to_part}
+use Rattle.nim_meaning.specs.Lifted.{walk, copying, ends_at, in_hand, copied, replaced, sunk}
+use Rattle.flat_code.specs.declared.line.Line.TheVariants as L
+use Rattle.flat_code.specs.Scene.{Known, Did, Passes, Fails, Located, location_at, Temps, with_value, with_place}
+use Rattle.flat_code.specs.Lines.{form_in, using, using_number, leads}
+use Rattle.hook_lifting.specs.declared.lifted.Hook.TheVariants.{Copies, Ends}
+use Rattle.hook_lifting.specs.declared.lifted.LiftedLine.{LiftedLine}
+use Rattle.hook_lifting.specs.declared.lifted.LiftedLine.TheVariants as O
+use Rattle.hook_lifting.specs.Lifted.{assigning_lines, sinking_lines}
+use Rattle.hook_lifting.specs.Lifting.{does_by, both_places}
+use Rattle.hook_lifting.proofs.Deeds.{regrouped}
+use Rattle.hook_lifting.proofs.Follows.{at, scene, Follows, weaker, earns, alike, goes, does, does_last, returns}
+use Rattle.hook_lifting.proofs.Walks.{ok_hook}
+
+module _ (known : Known) (level : ℕ) where
+  -- ---- to parts
+
+  -- a place of both goes on to a part
+  pub part_leads : (t from i : ℕ) (temps : Temps) (world : World) (location : Location) → temps.places from ≡ Some (Located location) →
+      does_by known (scene level temps world) (O.Plain (L.Part t from i)) ≡ Passes (Answers [] 1 (with_place t temps (Located (deeper location i))) world)
+  part_leads t from i temps world location e =
+      ap (λ o. using o (λ place. leads (scene level temps world) t place (to_part (location_at temps place) i))) e
+
+  is_inside : (i n : ℕ) → i < n → inside (pos i) n ≡ true
+  is_inside i n less = ap (λ b. b && nat_lt i n) (le-leb 0 i (omega arith)) ∙ lt-ltb i n less
+
+  pub member_leads : (t from n i : ℕ) (temps : Temps) (world : World) (location : Location) → temps.places from ≡ Some (Located location) →
+      temps.values 4 ≡ Some (Number (pos i)) → i < n →
+      does_by known (scene level temps world) (O.Member t from 4 n) ≡ Passes (Answers [] 1 (with_place t temps (Located (deeper location i))) world)
+  member_leads t from n i temps world location e counted less =
+      let x = scene level temps world in
+      let go : Location → ℤ → Did = λ a z. branch (inside z n) (leads x t (Located a) (costs 1 (give (deeper a (unsigned_abs z))))) Fails in
+      ap (λ o. using o (λ place. using_number temps 4 (λ z. go (location_at temps place) z))) e
+      ∙ (ap (λ o. using o (λ v. go location (number_of v))) counted
+      ∙ ap (λ b. branch b (leads x t (Located location) (costs 1 (give (deeper location i)))) Fails) (is_inside i n less))
+
+  pub element_leads : (t of from i : ℕ) (temps : Temps) (world : World) (v : Value) (location : Location) → temps.values of ≡ Some v →
+      temps.places from ≡ Some (Located location) → temps.values 4 ≡ Some (Number (pos i)) → i < length_of v →
+      does_by known (scene level temps world) (O.Element t of from 4) ≡ Passes (Answers [] 1 (with_place t temps (Located (item_of v location i))) world)
+  element_leads t of from i temps world v location has e counted less =
+      let x = scene level temps world in
+      let go : Value → Location → ℤ → Did =
+      λ v a z. branch (inside z (length_of v)) (leads x t (Located a) (costs 1 (give (item_of v a (unsigned_abs z))))) Fails in
+      ap (λ o. using o (λ v. using (temps.places from) (λ place. using_number temps 4 (λ z. go v (location_at temps place) z)))) has
+      ∙ (ap (λ o. using o (λ place. using_number temps 4 (λ z. go v (location_at temps place) z))) e
+      ∙ (ap (λ o. using o (λ u. go v location (number_of u))) counted
+      ∙ ap (λ b. branch b (leads x t (Located location) (costs 1 (give (item_of v location i)))) Fails) (is_inside i (length_of v) less)))
+
+-- ---- a value comes to a place in place of another one
+
+module _ (known : Known) (whole : List LiftedLine) (level ty : ℕ) (to from : Location) where
+  abbrev form : Form
+  form = form_in known ty
+
+  abbrev last : List LiftedLine
+  last = O.Plain (L.Return None) ∷ []
+
+  pub assigning_follows : (world : World) → Follows known 8 0 (perform (copied form from >>= replaced form to) world)
+      (at whole level (assigning_lines ty last) (both_places to from) world)
+  assigning_follows world =
+      let h = in_hand world in
+      let temps1 = with_place 2 (both_places to from) (Located h) in
+      let world1 = changed (Pushes (vacant form)) world in
+      let popped : Deed Value = looks (λ after. changes Pops >> give (load after h)) in
+      let lines3 = O.Push 2 6 ∷ O.Hook Ends ty 2 2 ∷ O.Pop 6 2 ∷ last in
+      goes 1 (at whole level (O.Hook Copies ty 2 1 ∷ O.Pop 7 2 ∷ O.Exchange 6 0 7 ∷ lines3) temps1 world1) refl
+      (alike ((walk copying form h from >> popped) >>= replaced form to) (walk copying form h from >> (popped >>= replaced form to)) world1
+      (regrouped (walk copying form h from) (λ u. popped) (replaced form to))
+      (does known whole level true (λ u. Unit {0}) 1 (O.Hook Copies ty 2 1) (O.Pop 7 2 ∷ O.Exchange 6 0 7 ∷ lines3)
+      temps1 world1 (walk copying form h from) (λ u. temps1) (λ u. popped >>= replaced form to) refl (ok_hook Copies form h from)
+      (λ u ok world2.
+      let v = load world2 h in
+      let world3 = changed Pops world2 in
+      let temps2 = with_value 7 temps1 v in
+      let old = load world3 to in
+      let world4 = changed (Stores to v) world3 in
+      let temps3 = with_value 6 temps2 old in
+      let h2 = in_hand world4 in
+      let temps4 = with_place 2 temps3 (Located h2) in
+      let world5 = changed (Pushes old) world4 in
+      goes 1 (at whole level (O.Exchange 6 0 7 ∷ lines3) temps2 world3) refl
+      (earns {p = 5} {q = 0} 8
+      (weaker {p = 5} {q = 0} (omega arith) (omega arith)
+      (goes 1 (at whole level lines3 temps3 world4) refl
+      (goes 1 (at whole level (O.Hook Ends ty 2 2 ∷ O.Pop 6 2 ∷ last) temps4 world5) refl
+      (does known whole level false (λ u. Unit {0}) 1 (O.Hook Ends ty 2 2) (O.Pop 6 2 ∷ last) temps4 world5 (ends_at form h2) (λ u. temps4)
+      (λ u. changes Pops) refl (ok_hook Ends form h2 h2)
+      (λ u ok world6.
+      goes 1 (at whole level last (with_value 6 temps4 (load world6 h2)) (changed Pops world6)) refl
+      (returns known whole level [] (with_value 6 temps4 (load world6 h2)) (changed Pops world6)))))))))))
+
+  pub sinking_follows : (world : World) → Follows known 3 0 (perform (sunk form to from) world)
+      (at whole level (sinking_lines ty last) (both_places to from) world)
+  sinking_follows world =
+      let world1 = changed (Stores from (load world to)) (changed (Stores to (load world from)) world) in
+      earns {p = 3} {q = 0} 8
+      (weaker {p = 3} {q = 0} (omega arith) (omega arith)
+      (goes 1 (at whole level (O.Hook Ends ty 1 1 ∷ last) (both_places to from) world1) refl
+      (does_last known whole level false 1 (O.Hook Ends ty 1 1) last (both_places to from) world1 (ends_at form from) refl (ok_hook Ends form from from)
+      (λ new. returns known whole level [] (both_places to from) new))))

@@ -1,0 +1,4 @@
+pub mod Examples
+pub mod Lifted
+pub mod Lifting
+pub mod Written

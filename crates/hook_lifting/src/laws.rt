@@ -1,0 +1,18 @@
+// The law of lifted hooks.
+ghost use Rattle.std.specs.Prelude.{◌≡◌, ℕ, List, true, false, Some, slice_get};
+ghost use Rattle.nim_types.specs.declared.types.TypeDef.{TypeDef as Entry};
+ghost use Rattle.nim_types.specs.Table.{IsTable};
+ghost use Rattle.nim_program.specs.Sizes.{HaveForms};
+ghost use Rattle.flat_code.specs.Scene.{known_in};
+ghost use Rattle.hook_lifting.specs.declared.lifted.Hook.{Hook as HookKind};
+ghost use Rattle.hook_lifting.specs.Lifted.{has_hooks, is_routine, lines_of};
+ghost use Rattle.hook_lifting.specs.Lifting.{Does_hook};
+
+/// The lines of each hook of a type do, in each world, what the meaning does with the values: the
+/// walk over the form of the type, with little more work.
+pub fn lifting()
+    ensures { (table : List Entry) → IsTable table → HaveForms table → (hook : HookKind) (ty : ℕ)
+        (entry : Entry) → slice_get table ty ≡ Some entry → has_hooks table ty ≡ true →
+        is_routine entry hook ≡ false →
+        Does_hook (known_in table) hook ty entry (lines_of table hook ty entry) }
+{}

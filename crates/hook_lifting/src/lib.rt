@@ -1,0 +1,13 @@
+//! The hooks of types that have texts or sequences in them, as procedures of lines over their parts.
+#![tactic(auto)]
+
+mod examples;
+mod laws;
+mod lifted;
+mod lines;
+mod procedures;
+
+pub use examples::lifted_examples;
+pub use laws::lifting;
+pub use lifted::{Hook, Hooks, Lifted, LiftedLine};
+pub use procedures::lift;
