@@ -37,7 +37,7 @@ use Rattle.hook_lifting.proofs.Sequences.{copies_follow, ends_follow}
 use Rattle.hook_lifting.proofs.Walks.{takes_blocks, ok_hook, ends_nothing}
 
 -- as the law says it
-near_alike : (p : ℕ) (d : Done (Unit {0})) (came : Option (Done (Unit {0}))) → Near p 0 d came → Alike p d came
+pub near_alike : (p : ℕ) (d : Done (Unit {0})) (came : Option (Done (Unit {0}))) → Near p 0 d came → Alike p d came
 near_alike p (Answers gs m x w) (Some (Answers hs j y v)) h = (h.0, h.1, omega (arith, h.2))
 near_alike p (Finishes gs m x w) (Some (Finishes hs j y v)) h = h
 near_alike p (Answers gs m x w) (Some (Finishes hs j y v)) h = absurd h

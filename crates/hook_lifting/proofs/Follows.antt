@@ -6,7 +6,7 @@ use Rattle.std.specs.Prelude.{option_map}
 use Rattle.arc_base.specs.Event.{Event}
 use Rattle.arc_base.specs.Stepping.{Goes}
 use Rattle.nim_meaning.specs.State.{World}
-use Rattle.nim_meaning.specs.Deeds.{Deed, Works, Done, Answers, Finishes, Fails, behind, perform, ◌>>=◌, ◌>>◌, give}
+use Rattle.nim_meaning.specs.Deeds.{Deed, Works, Done, Answers, Finishes, Fails, behind, perform, ◌>>=◌, give}
 use Rattle.flat_code.specs.declared.line.Line.TheVariants as L
 use Rattle.flat_code.specs.Scene.{Known, Scene, Passes, Temps}
 use Rattle.flat_code.specs.Running.{Machine, settled}

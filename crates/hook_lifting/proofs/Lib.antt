@@ -1,3 +1,4 @@
+mod Cuts
 mod Deeds
 mod Entries
 mod Follows

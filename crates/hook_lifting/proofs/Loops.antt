@@ -1,6 +1,6 @@
 -- A loop over elements follows what is done with each of them.
 use Rattle.std.proofs.Common.{◌≡◌, ◌≢◌, ℕ, zero, suc, ◌+◌, ◌*◌, ◌<◌, ◌≤◌, Bool, true, false, List, [], ◌∷◌, Option, Some, refl, ap, ◌∙◌, arith}
-use Rattle.std.specs.Prelude.{ℤ, pos, ◌+ℤ◌, int_lt, nat_lt, nat_eq}
+use Rattle.std.specs.Prelude.{◌-◌, ℤ, pos, ◌+ℤ◌, int_lt, nat_lt, nat_eq}
 use Rattle.std.proofs.lemmas.Bool.{ne_eqb, cond-false, lt-ltb, le-ltb}
 use Rattle.nim_meaning.specs.Acts.{branch}
 use Rattle.nim_meaning.specs.Values.{Value, Number, number_of, Location}
@@ -152,39 +152,36 @@ module _ (known : Known) (whole : List LiftedLine) (level : ℕ) (hook : Hook) (
           (a_turn n (suc i) (omega (arith, many)) now world (keeps_number (Number (pos (suc i))) keeps) refl
           (next n (suc i) (omega (arith, many))))
 
-      -- from the beginning of the loop on, up to what comes behind
-      begin : (l : ℕ) → l ≡ len → (temps : Temps) (world : World) → Keeps base temps →
-          Comes (2 + (5 * l + p)) (each l 0 >> rest) world (here (loop_lines hook of one other k) temps world)
-      begin l e temps world keeps = weaker (omega arith) (omega arith) (goes 1 (here (O.Plain (L.Beyond 4 5 false 0) ∷ turn) zeroed world) refl (tested l e))
-        where
-          zeroed : Temps
-          zeroed = with_value 4 temps (Number (pos 0))
+      -- from the test of the first number on, up to what comes behind
+      test_is : (i : ℕ) (temps : Temps) (world : World) (b : Bool) → Keeps base temps → temps.values 4 ≡ Some (Number (pos i)) → nat_lt i len ≡ b →
+          does_by known (scene level temps world) (O.Plain (L.Beyond 4 5 false 0))
+          ≡ branch b (gives (scene level temps world) 4 (costs 1 (give (Number (pos i))))) (Leaps 0 1)
+      test_is i temps world b keeps at4 is =
+          let go : ℤ → ℤ → Did = λ i n. branch (int_lt i n) (gives (scene level temps world) 4 (costs 1 (give (Number i)))) (Leaps 0 1) in
+          ap (λ o. using o (λ v. using_number temps 5 (λ n. go (number_of v) n))) at4
+          ∙ (ap (λ o. using o (λ v. go (pos i) (number_of v))) (keeps.values 5 (omega arith) ∙ counted)
+          ∙ ap (λ b. branch b (gives (scene level temps world) 4 (costs 1 (give (Number (pos i))))) (Leaps 0 1)) is)
 
-          kept : Keeps base zeroed
-          kept = keeps_number (Number (pos 0)) keeps
-
-          test_is : (b : Bool) → nat_lt 0 len ≡ b → does_by known (scene level zeroed world) (O.Plain (L.Beyond 4 5 false 0))
-              ≡ branch b (gives (scene level zeroed world) 4 (costs 1 (give (Number (pos 0))))) (Leaps 0 1)
-          test_is b is =
-              ap (λ o. using o (λ v. branch (int_lt (pos 0) (number_of v)) (gives (scene level zeroed world) 4 (costs 1 (give (Number (pos 0))))) (Leaps 0 1)))
-              (kept.values 5 (omega arith) ∙ counted)
-              ∙ ap (λ b. branch b (gives (scene level zeroed world) 4 (costs 1 (give (Number (pos 0))))) (Leaps 0 1)) is
-
-          tested : (l : ℕ) → l ≡ len → Comes (1 + (5 * l + p)) (each l 0 >> rest) world (here (O.Plain (L.Beyond 4 5 false 0) ∷ turn) zeroed world)
-          tested zero e =
-              weaker (omega arith) (omega arith)
-              (goes 1 (here behind_turns zeroed world)
-              (ap (λ did. settled label_of (does_by known) [] (here (O.Plain (L.Beyond 4 5 false 0) ∷ turn) zeroed world) turn did)
-              (test_is false (none_more 0 len (omega (arith, e))))
-              ∙ ap (λ o. jumped (here (O.Plain (L.Beyond 4 5 false 0) ∷ turn) zeroed world) zeroed 1 o) out)
-              (more zeroed kept world))
-          tested (suc n) e =
-              goes 1 (here turn (with_value 4 zeroed (Number (pos 0))) world)
-              (ap (λ did. settled label_of (does_by known) [] (here (O.Plain (L.Beyond 4 5 false 0) ∷ turn) zeroed world) turn did)
-              (test_is true (one_more 0 len (omega (arith, e)))))
-              (a_turn n 0 (omega (arith, e)) (with_value 4 zeroed (Number (pos 0))) world (keeps_number (Number (pos 0)) kept) refl
-              (next n 0 (omega (arith, e))))
+      pub test_follows : (i l : ℕ) → l ≡ len - i → (temps : Temps) (world : World) → Keeps base temps → temps.values 4 ≡ Some (Number (pos i)) →
+          Comes (1 + (5 * l + p)) (each l i >> rest) world (here (O.Plain (L.Beyond 4 5 false 0) ∷ turn) temps world)
+      test_follows i zero e temps world keeps at4 =
+          weaker (omega arith) (omega arith)
+          (goes 1 (here behind_turns temps world)
+          (ap (λ did. settled label_of (does_by known) [] (here (O.Plain (L.Beyond 4 5 false 0) ∷ turn) temps world) turn did)
+          (test_is i temps world false keeps at4 (none_more i len (omega (arith, e))))
+          ∙ ap (λ o. jumped (here (O.Plain (L.Beyond 4 5 false 0) ∷ turn) temps world) temps 1 o) out)
+          (more temps keeps world))
+      test_follows i (suc n) e temps world keeps at4 =
+          goes 1 (here turn (with_value 4 temps (Number (pos i))) world)
+          (ap (λ did. settled label_of (does_by known) [] (here (O.Plain (L.Beyond 4 5 false 0) ∷ turn) temps world) turn did)
+          (test_is i temps world true keeps at4 (one_more i len (omega (arith, e)))))
+          (a_turn n i (omega (arith, e)) (with_value 4 temps (Number (pos i))) world (keeps_number (Number (pos i)) keeps) refl
+          (next n i (omega (arith, e))))
 
       pub loop_follows : (temps : Temps) (world : World) → Keeps base temps →
           Comes (2 + (5 * len + p)) (each len 0 >> rest) world (here (loop_lines hook of one other k) temps world)
-      loop_follows temps world keeps = begin len refl temps world keeps
+      loop_follows temps world keeps =
+          let zeroed = with_value 4 temps (Number (pos 0)) in
+          weaker (omega arith) (omega arith)
+          (goes 1 (here (O.Plain (L.Beyond 4 5 false 0) ∷ turn) zeroed world) refl
+          (test_follows 0 len (omega arith) zeroed world (keeps_number (Number (pos 0)) keeps) refl))

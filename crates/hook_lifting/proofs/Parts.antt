@@ -1,12 +1,11 @@
 -- What is put for parts and for types, one after another.
-use Rattle.std.proofs.Common.{◌≡◌, ℕ, zero, suc, ◌+◌, ◌<◌, ◌≤◌, List, [], ◌∷◌, ◌++◌, length, drop, Some, refl, sym, ap, ◌∙◌, arith, append_assoc, append-nil}
+use Rattle.std.proofs.Common.{◌≡◌, ℕ, zero, suc, ◌+◌, ◌<◌, ◌≤◌, List, [], ◌∷◌, ◌++◌, length, drop, Some, refl, sym, ap, ◌∙◌, arith, append_assoc}
 use Rattle.std.specs.Prelude.{slice_index_or, slice_get}
 use Rattle.nim_types.specs.declared.types.TypeDef.{TypeDef}
 use Rattle.nim_types.specs.Table.{AllBelow}
 use Rattle.hook_lifting.specs.declared.lifted.Hook.{Hook}
-use Rattle.hook_lifting.specs.declared.lifted.Lifted.{Lifted}
 use Rattle.hook_lifting.specs.declared.lifted.LiftedLine.{LiftedLine}
-use Rattle.hook_lifting.specs.Lifted.{one_part, part_lines, of_entry, lifted_from}
+use Rattle.hook_lifting.specs.Lifted.{one_part, part_lines, each_from}
 
 pub below_at : (n : ℕ) (parts : List ℕ) (i : ℕ) → AllBelow n parts → i < length parts → slice_index_or parts i 0 < n
 below_at n [] i h less = absurd (omega (arith, less))
@@ -41,16 +40,12 @@ entry_at [] i less = absurd (omega (arith, less))
 entry_at (d ∷ ds) zero less = (d, refl, refl)
 entry_at (d ∷ ds) (suc i) less = entry_at ds i (omega (arith, less))
 
-pub types_next : (table ds : List TypeDef) (i : ℕ) (old new : List Lifted) → i < length ds →
-    ((entry : TypeDef) → slice_get ds i ≡ Some entry → new ≡ old ++ of_entry table i entry) →
-    new ++ lifted_from table (drop (i + 1) ds) (i + 1) ≡ old ++ lifted_from table (drop i ds) i
-types_next table ds i old new less added =
+pub types_next : {X : Type 0} (of : (ty : ℕ) → TypeDef → List X) (ds : List TypeDef) (i : ℕ) (old new : List X) → i < length ds →
+    ((entry : TypeDef) → slice_get ds i ≡ Some entry → new ≡ old ++ of i entry) →
+    new ++ each_from of (drop (i + 1) ds) (i + 1) ≡ old ++ each_from of (drop i ds) i
+types_next of ds i old new less added =
     let e : i + 1 ≡ suc i = omega arith in
     let d = entry_at ds i less in
-    ap (λ n. new ++ lifted_from table (drop n ds) n) e
-    ∙ (ap (λ all. all ++ lifted_from table (drop (suc i) ds) (suc i)) (added d.0 d.1)
-    ∙ (append_assoc old (of_entry table i d.0) (lifted_from table (drop (suc i) ds) (suc i))
-    ∙ ap (λ ds. old ++ lifted_from table ds i) (sym d.2)))
-
-pub no_types_left : (table ds : List TypeDef) (i : ℕ) (old : List Lifted) → length ds ≤ i → old ++ lifted_from table (drop i ds) i ≡ old
-no_types_left table ds i old le = ap (λ ds. old ++ lifted_from table ds i) (drop_all ds i le) ∙ append-nil old
+    ap (λ n. new ++ each_from of (drop n ds) n) e
+    ∙ (ap (λ all. all ++ each_from of (drop (suc i) ds) (suc i)) (added d.0 d.1)
+    ∙ (append_assoc old (of i d.0) (each_from of (drop (suc i) ds) (suc i)) ∙ ap (λ ds. old ++ each_from of ds i) (sym d.2)))

@@ -8,7 +8,7 @@ use Rattle.nim_types.specs.declared.types.TypeDef.{TypeDef}
 use Rattle.nim_meaning.specs.Heap.{Elements, class_for}
 use Rattle.nim_meaning.specs.Values.{Value, Number, Handle, Vacant, length_of, item_of, Location, vacant, repeated, block_of}
 use Rattle.nim_meaning.specs.State.{World, load}
-use Rattle.nim_meaning.specs.Deeds.{Deed, Works, Takes, Stores, changed, perform, behind, ◌>>◌, ◌>>=◌, give, costs, looks}
+use Rattle.nim_meaning.specs.Deeds.{Deed, Works, Takes, Stores, changed, perform, ◌>>◌, ◌>>=◌, give, costs, looks}
 use Rattle.nim_meaning.specs.Deeds.{does as changes}
 use Rattle.nim_meaning.specs.Lifted.{walk, each_element, fresh, frees, left_vacant, copying, ending}
 use Rattle.nim_meaning.specs.OwnedRows.{element_of}

@@ -7,7 +7,7 @@ use Rattle.nim_program.specs.Ints.{inside}
 use Rattle.nim_meaning.specs.Acts.{branch}
 use Rattle.nim_meaning.specs.Values.{Value, Number, number_of, length_of, item_of, deeper, Location, vacant}
 use Rattle.nim_meaning.specs.State.{World, load}
-use Rattle.nim_meaning.specs.Deeds.{Deed, Stores, Pushes, Pops, changed, Done, Answers, perform, ◌>>◌, ◌>>=◌, give, costs, looks}
+use Rattle.nim_meaning.specs.Deeds.{Deed, Stores, Pushes, Pops, changed, Answers, perform, ◌>>◌, ◌>>=◌, give, costs, looks}
 use Rattle.nim_meaning.specs.Deeds.{does as changes}
 use Rattle.nim_meaning.specs.Places.{to_part}
 use Rattle.nim_meaning.specs.Lifted.{walk, copying, ends_at, in_hand, copied, replaced, sunk}

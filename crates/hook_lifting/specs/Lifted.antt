@@ -1,6 +1,5 @@
 -- The lines of lifted hooks: each part once and in order.
 use Rattle.std.specs.Prelude.{ℕ, suc, Bool, true, false, if◌then◌else◌, List, [], ◌∷◌, ◌++◌, None}
-use Rattle.nim_types.specs.Types as type
 use Rattle.nim_types.specs.Table.{types_in, type_at, facts_in}
 use Rattle.nim_types.specs.declared.types.TypeDef.{TypeDef}
 use Rattle.nim_types.specs.declared.types.TypeDef.TheVariants as D
@@ -8,6 +7,7 @@ use Rattle.nim_meaning.specs.Here.{is_hooked}
 use Rattle.flat_code.specs.declared.line.Line.TheVariants as L
 use Rattle.hook_lifting.specs.declared.lifted.Hook.{Hook}
 use Rattle.hook_lifting.specs.declared.lifted.Hook.TheVariants.{Copies, Assigns, Sinks, Ends}
+use Rattle.hook_lifting.specs.declared.lifted.Cut.{Cut}
 use Rattle.hook_lifting.specs.declared.lifted.Lifted.{Lifted}
 use Rattle.hook_lifting.specs.declared.lifted.LiftedLine.{LiftedLine}
 use Rattle.hook_lifting.specs.declared.lifted.LiftedLine.TheVariants as O
@@ -54,6 +54,23 @@ abbrev pub copying_lines : (ty of : ℕ) → List LiftedLine → List LiftedLine
 copying_lines ty of k =
     O.Load 7 1 ∷ O.Take ty 6 0 7 ∷ O.Count 5 7 ∷ loop_lines Copies of (O.Element 2 6 0 4) (O.Element 3 7 1 4) k
 
+-- a sequence keeps so many of its elements, and those behind end
+abbrev pub cutting_lines : (of : ℕ) → List LiftedLine → List LiftedLine
+cutting_lines of k =
+    O.Load 6 0
+    ∷ O.Shorten 0 6 8
+    ∷ O.Count 5 6
+    ∷ O.Copy 4 8
+    ∷ O.Plain (L.Beyond 4 5 false 0)
+    ∷ turn_lines Ends of (O.Element 2 6 0 4) (O.Element 3 6 0 4) (O.Forget 6 8 ∷ k)
+
+abbrev pub cut_lines : (of : ℕ) → List LiftedLine
+cut_lines of = cutting_lines of (O.Plain (L.Return None) ∷ [])
+
+abbrev pub cut_if : Bool → (ty of : ℕ) → List Cut
+cut_if true ty of = record { ty = ty; lines = cut_lines of } ∷ []
+cut_if false ty of = []
+
 -- copies and ends of texts are routines
 abbrev pub text_lines : Hook → (ty : ℕ) → List LiftedLine → List LiftedLine
 text_lines Assigns ty k = assigning_lines ty k
@@ -68,6 +85,11 @@ of_text hook = false
 abbrev pub is_routine : TypeDef → Hook → Bool
 is_routine D.Text hook = of_text hook
 is_routine d hook = false
+
+-- of each entry, by its number, from one on
+abbrev pub each_from : {X : Type 0} → ((ty : ℕ) → TypeDef → List X) → List TypeDef → (ty : ℕ) → List X
+each_from of [] ty = []
+each_from of (d ∷ ds) ty = of ty d ++ each_from of ds (suc ty)
 
 -- ---- by the table, whose types have forms
 
@@ -117,9 +139,13 @@ module _ (table : List TypeDef) where
   abbrev pub of_entry : (ty : ℕ) → TypeDef → List Lifted
   of_entry ty d = if has_hooks table ty then hooks_of ty d all_hooks else []
 
-  abbrev pub lifted_from : List TypeDef → (ty : ℕ) → List Lifted
-  lifted_from [] ty = []
-  lifted_from (d ∷ ds) ty = of_entry ty d ++ lifted_from ds (suc ty)
-
   abbrev pub lifted : List Lifted
-  lifted = lifted_from table 0
+  lifted = each_from of_entry table 0
+
+  -- of sequences whose elements have hooks
+  abbrev pub cut_entry : (ty : ℕ) → TypeDef → List Cut
+  cut_entry ty (D.Seq of) = cut_if (has_hooks table of) ty of
+  cut_entry ty d = []
+
+  abbrev pub cuts : List Cut
+  cuts = each_from cut_entry table 0

@@ -1,19 +1,19 @@
 -- What a line of a lifted hook does, and what a hook does: the walk of the meaning over the form of its type.
-use Rattle.std.specs.Prelude.{◌≡◌, ℕ, zero, suc, ◌+◌, ◌*◌, ◌≤◌, pos, unsigned_abs, List, [], length, Option, Some, None, option_map}
+use Rattle.std.specs.Prelude.{◌≡◌, ℕ, zero, suc, ◌+◌, ◌-◌, ◌*◌, ◌≤◌, pos, unsigned_abs, List, [], length, Option, Some, None, option_map}
 use Rattle.arc_base.specs.Event.{Event}
 use Rattle.arc_base.specs.Stepping.{Next, Goes, Ends as Is_over, Faults, Errs as Failed}
 use Rattle.nim_types.specs.Forms.{Form, size}
 use Rattle.nim_types.specs.declared.types.TypeDef.{TypeDef}
 use Rattle.nim_types.specs.declared.types.TypeDef.TheVariants as D
 use Rattle.nim_program.specs.Ints.{inside}
-use Rattle.nim_meaning.specs.Values.{Value, Number, length_of, repeated, vacant, item_of, deeper, Location}
+use Rattle.nim_meaning.specs.Values.{Value, Number, Handle, length_of, block_of, first_of, repeated, vacant, item_of, deeper, Location}
 use Rattle.nim_meaning.specs.Heap.{Elements}
-use Rattle.nim_meaning.specs.State.{World, load}
+use Rattle.nim_meaning.specs.State.{World, load, elements_of}
 use Rattle.nim_meaning.specs.Deeds.{Deed, Stores, Pushes, Pops, Done, Answers, Finishes, behind, perform, does, give, ◌>>=◌, ◌>>◌, costs, looks}
-use Rattle.nim_meaning.specs.Lifted.{Walk, walk, copying, assigning, sinking, ending, fresh, left_vacant, in_hand}
-use Rattle.nim_meaning.specs.OwnedRows.{element_of}
+use Rattle.nim_meaning.specs.Lifted.{Walk, walk, copying, assigning, sinking, ending, fresh, refills, left_vacant, in_hand}
+use Rattle.nim_meaning.specs.OwnedRows.{element_of, cut}
 use Rattle.nim_meaning.specs.Acts.{branch}
-use Rattle.flat_code.specs.Scene.{Known, Scene, Did, Passes, Located, Temps, no_temps, with_place}
+use Rattle.flat_code.specs.Scene.{Known, Scene, Did, Passes, Located, Temps, no_temps, with_value, with_place}
 use Rattle.flat_code.specs.Scene as scenes
 use Rattle.flat_code.specs.Lines.{form_in, using, using_number, using_place, gives, leads, acts}
 use Rattle.flat_code.specs.Lines as lines
@@ -76,6 +76,13 @@ does_by known x (O.Push to of) = using (x.temps.values of) (λ v. begins x to v)
 does_by known x (O.Pop to at) = using_place x.temps at (λ _ a. gives x to (costs 1 (looks λ world. does Pops >> give (load world a))))
 does_by known x (O.Exchange to at of) =
     using (x.temps.values of) (λ v. using_place x.temps at (λ _ a. gives x to (costs 1 (looks λ world. does (Stores a v) >> give (load world a)))))
+does_by known x (O.Copy to of) = using (x.temps.values of) (λ v. gives x to (costs 1 (give v)))
+does_by known x (O.Shorten at of count) =
+    using (x.temps.values of) (λ v. using_place x.temps at (λ _ a. using_number x.temps count (λ z. acts x (costs 1
+    (does (Stores a (Handle (unsigned_abs z) (block_of v))))))))
+does_by known x (O.Forget of count) =
+    using (x.temps.values of) (λ v. using_number x.temps count (λ z. acts x (costs 1
+    (looks λ world. refills (block_of v) (Elements (first_of (unsigned_abs z) (elements_of world v)))))))
 
 abbrev pub label_of : LiftedLine → Option ℕ
 label_of (O.Plain line) = label_in line
@@ -86,12 +93,15 @@ label_of line = None
 abbrev pub both_places : (to from : Location) → Temps
 both_places to from = with_place 1 (with_place 0 no_temps (Located to)) (Located from)
 
-abbrev pub beginning : List LiftedLine → (level : ℕ) → (to from : Location) → World → Machine LiftedLine
-beginning whole level to from world = record {
-  now = record { whole = whole; rest = whole; level = level; left = 0; temps = both_places to from };
+abbrev pub begun_with : Temps → List LiftedLine → (level : ℕ) → World → Machine LiftedLine
+begun_with temps whole level world = record {
+  now = record { whole = whole; rest = whole; level = level; left = 0; temps = temps };
   waiting = [];
   world = world;
 }
+
+abbrev pub beginning : List LiftedLine → (level : ℕ) → (to from : Location) → World → Machine LiftedLine
+beginning whole level to from world = begun_with (both_places to from) whole level world
 
 -- ---- what a hook comes to
 
@@ -129,3 +139,16 @@ Does_hook known hook ty d lines =
     (level : ℕ) (to from : Location) (world : World) →
     (count : ℕ) × Alike (length lines + 5 * turns_of d) (perform (hook_deed known hook ty to from) world)
     (comes_to known count (beginning lines level to from world))
+
+-- ---- a sequence is made shorter
+
+abbrev pub place_and_count : (at : Location) → (count : ℕ) → Temps
+place_and_count at n = with_value 8 (with_place 0 no_temps (Located at)) (Number (pos n))
+
+-- In each world these lines do what the meaning does where a sequence of such elements keeps n of them. Beside three times that they work once for each of
+-- them, and five times for each element that ends.
+abbrev pub Does_cut : Known → (of : ℕ) → List LiftedLine → Type 0
+Does_cut known of lines =
+    (level : ℕ) (at : Location) (n : ℕ) (world : World) →
+    (count : ℕ) × Alike (length lines + 5 * (length_of (load world at) - n)) (perform (cut (form_in known of) n at (load world at)) world)
+    (comes_to known count (begun_with (place_and_count at n) lines level world))

@@ -3,10 +3,10 @@ ghost use Rattle.std.specs.Prelude.{◌≡◌, ℕ, List, true, false, Some, sli
 ghost use Rattle.nim_types.specs.declared.types.TypeDef.{TypeDef as Entry};
 ghost use Rattle.nim_types.specs.Table.{IsTable};
 ghost use Rattle.nim_program.specs.Sizes.{HaveForms};
-ghost use Rattle.flat_code.specs.Scene.{known_in};
+ghost use Rattle.flat_code.specs.Scene.{Known, known_in};
 ghost use Rattle.hook_lifting.specs.declared.lifted.Hook.{Hook as HookKind};
-ghost use Rattle.hook_lifting.specs.Lifted.{has_hooks, is_routine, lines_of};
-ghost use Rattle.hook_lifting.specs.Lifting.{Does_hook};
+ghost use Rattle.hook_lifting.specs.Lifted.{has_hooks, is_routine, lines_of, cut_lines};
+ghost use Rattle.hook_lifting.specs.Lifting.{Does_hook, Does_cut};
 
 /// The lines of each hook of a type do, in each world, what the meaning does with the values: the
 /// walk over the form of the type, with little more work.
@@ -15,4 +15,10 @@ pub fn lifting()
         (entry : Entry) → slice_get table ty ≡ Some entry → has_hooks table ty ≡ true →
         is_routine entry hook ≡ false →
         Does_hook (known_in table) hook ty entry (lines_of table hook ty entry) }
+{}
+
+/// In each world the lines that make a sequence shorter do what the meaning does: it has so many
+/// elements, those behind end, and its block forgets them.
+pub fn cutting()
+    ensures { (known : Known) (of : ℕ) → Does_cut known of (cut_lines of) }
 {}

@@ -8,6 +8,6 @@ mod lines;
 mod procedures;
 
 pub use examples::lifted_examples;
-pub use laws::lifting;
-pub use lifted::{Hook, Hooks, Lifted, LiftedLine};
+pub use laws::{cutting, lifting};
+pub use lifted::{Cut, Hook, Hooks, Lifted, LiftedLine};
 pub use procedures::lift;

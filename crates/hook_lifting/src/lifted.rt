@@ -99,6 +99,22 @@ pub enum LiftedLine {
         at: u32,
         of: u32,
     },
+    /// A number becomes that of another temporary.
+    Copy {
+        to: u32,
+        of: u32,
+    },
+    /// A sequence, at its location, has so many elements from now on.
+    Shorten {
+        at: u32,
+        of: u32,
+        count: u32,
+    },
+    /// What a sequence's block holds behind so many elements is nothing any more.
+    Forget {
+        of: u32,
+        count: u32,
+    },
 }
 
 /// The hook of a type: at its beginning temporary 0 leads to the location that it works on, and
@@ -111,8 +127,17 @@ pub struct Lifted {
     pub lines: Items<LiftedLine>,
 }
 
-/// The hooks of a program, in order of type and then of kind.
+/// The procedure that makes sequences of a type shorter, whose elements have hooks: at its
+/// beginning temporary 0 leads to the location of one, and value 8 is how many elements it keeps.
+#[derive(Drop)]
+pub struct Cut {
+    pub ty: TypeId,
+    pub lines: Items<LiftedLine>,
+}
+
+/// The hooks of a program, in order of type and then of kind; and what makes sequences shorter.
 #[derive(Drop)]
 pub struct Hooks {
     pub of: Items<Lifted>,
+    pub cuts: Items<Cut>,
 }

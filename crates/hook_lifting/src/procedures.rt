@@ -9,10 +9,11 @@ ghost use Rattle.hook_lifting.specs.Lifted.{has_hooks, is_needed, to_part, one_p
 ghost use Rattle.hook_lifting.specs.Lifted.{loop_lines, array_lines, assigning_lines, sinking_lines};
 ghost use Rattle.hook_lifting.specs.Lifted.{copying_lines, ending_lines, sequence_lines, text_lines};
 ghost use Rattle.hook_lifting.specs.Lifted.{entry_lines, is_routine, lines_of, all_hooks, hooks_of};
-ghost use Rattle.hook_lifting.specs.Lifted.{elements_end, of_entry};
+ghost use Rattle.hook_lifting.specs.Lifted.{turn_lines, elements_end, of_entry, cutting_lines};
+ghost use Rattle.hook_lifting.specs.Lifted.{cut_lines, cut_if, cut_entry, cuts};
 ghost use Rattle.hook_lifting.specs.Lifted.{lifted};
 
-use crate::lifted::{Hook, Hooks, Lifted, LiftedLine};
+use crate::lifted::{Cut, Hook, Hooks, Lifted, LiftedLine};
 use crate::lines::Lines;
 use arc_base::{Items, Memory};
 use flat_code::Line;
@@ -90,16 +91,9 @@ fn put_parts(lines: &mut Lines, types: &TypeTable, hook: Hook, parts: &[TypeId])
 }
 
 // The same for each element to which two lines lead.
-fn put_turns(lines: &mut Lines, hook: Hook, of: TypeId, one: LiftedLine, other: LiftedLine)
-    ensures { IsPut lines.old lines.new (loop_lines hook of one other) }
+fn put_each(lines: &mut Lines, hook: Hook, of: TypeId, one: LiftedLine, other: LiftedLine)
+    ensures { IsPut lines.old lines.new (turn_lines hook of one other) }
 {
-    lines.put(LiftedLine::Plain(Line::Zero { to: 4 }));
-    lines.put(LiftedLine::Plain(Line::Beyond {
-        counter: 4,
-        last: 5,
-        inclusive: false,
-        to: 0,
-    }));
     lines.put(LiftedLine::Plain(Line::Label { name: 1 }));
     lines.put(one);
     lines.put(other);
@@ -116,6 +110,20 @@ fn put_turns(lines: &mut Lines, hook: Hook, of: TypeId, one: LiftedLine, other: 
         to: 1,
     }));
     lines.put(LiftedLine::Plain(Line::Label { name: 0 }));
+}
+
+// From the first element on.
+fn put_turns(lines: &mut Lines, hook: Hook, of: TypeId, one: LiftedLine, other: LiftedLine)
+    ensures { IsPut lines.old lines.new (loop_lines hook of one other) }
+{
+    lines.put(LiftedLine::Plain(Line::Zero { to: 4 }));
+    lines.put(LiftedLine::Plain(Line::Beyond {
+        counter: 4,
+        last: 5,
+        inclusive: false,
+        to: 0,
+    }));
+    put_each(lines, hook, of, one, other);
 }
 
 // The elements of an array.
@@ -370,15 +378,106 @@ fn add_type(
     add_hooks(alloc, hooks, types, ty)
 }
 
-/// The hooks of the types of a table: of each type with hooks, in order, all four. Each type has a
-/// form.
-pub fn lift(alloc: Global, types: &TypeTable) -> Result<Hooks, Memory>
+// The hooks of all types.
+fn hooks_of_all(alloc: Global, types: &TypeTable) -> Result<Items<Lifted>, Memory>
     requires forms { HaveForms types.now }
-    ensures { IfOk result (λ hooks. hooks.of ≡ lifted types.now) }
+    ensures { IfOk result (λ hooks. hooks ≡ lifted types.now) }
 {
     let mut of = Items::new(alloc);
     for ty in 0..types.count() {
         add_type(alloc, &mut of, types, ty)?;
     }
-    Ok(Hooks { of })
+    Ok(of)
+}
+
+// A sequence keeps so many of its elements.
+fn put_cutting(lines: &mut Lines, of: TypeId)
+    ensures { IsPut lines.old lines.new (cutting_lines of) }
+{
+    lines.put(LiftedLine::Load { to: 6, at: 0 });
+    lines.put(LiftedLine::Shorten {
+        at: 0,
+        of: 6,
+        count: 8,
+    });
+    lines.put(LiftedLine::Count { to: 5, of: 6 });
+    lines.put(LiftedLine::Copy { to: 4, of: 8 });
+    lines.put(LiftedLine::Plain(Line::Beyond {
+        counter: 4,
+        last: 5,
+        inclusive: false,
+        to: 0,
+    }));
+    put_each(lines, Hook::Ends, of, element(2, 6, 0), element(3, 6, 0));
+    lines.put(LiftedLine::Forget { of: 6, count: 8 });
+}
+
+// The lines that make a sequence shorter.
+fn cut_lines(alloc: Global, of: TypeId) -> Result<Items<LiftedLine>, Memory>
+    ensures { IfOk result (λ lines. lines ≡ cut_lines of) }
+{
+    let mut lines = Lines::new(alloc);
+    put_cutting(&mut lines, of);
+    lines.put(LiftedLine::Plain(Line::Return { result: None }));
+    lines.finish()
+}
+
+// Adds what makes sequences of a type shorter, if it is one whose elements have hooks.
+fn add_cut(
+    alloc: Global,
+    cuts: &mut Items<Cut>,
+    types: &TypeTable,
+    ty: TypeId,
+) -> Result<(), Memory>
+    requires forms { HaveForms types.now }
+    requires inside { ty < length types.now }
+    ensures { OnOk result ((entry : Entry) → slice_get types.now ty ≡ Some entry →
+        cuts.new ≡ cuts.old ++ cut_entry types.now ty entry) }
+{
+    match types.get(ty) {
+        TypeDef::Seq(of) => add_cut_if(alloc, cuts, types, ty, *of),
+        _ => Ok(()),
+    }
+}
+
+fn add_cut_if(
+    alloc: Global,
+    cuts: &mut Items<Cut>,
+    types: &TypeTable,
+    ty: TypeId,
+    of: TypeId,
+) -> Result<(), Memory>
+    requires forms { HaveForms types.now }
+    requires inside { of < length types.now }
+    ensures { OnOk result (cuts.new ≡ cuts.old ++ cut_if (has_hooks types.now of) ty of) }
+{
+    if !has_hooks(types, of) {
+        return Ok(());
+    }
+    let lines = cut_lines(alloc, of)?;
+    cuts.push(Cut { ty, lines })
+}
+
+// What makes sequences shorter, of all types.
+fn cuts_of_all(alloc: Global, types: &TypeTable) -> Result<Items<Cut>, Memory>
+    requires forms { HaveForms types.now }
+    ensures { IfOk result (λ all. all ≡ cuts types.now) }
+{
+    let mut all = Items::new(alloc);
+    for ty in 0..types.count() {
+        add_cut(alloc, &mut all, types, ty)?;
+    }
+    Ok(all)
+}
+
+/// The hooks of the types of a table: of each type with hooks, in order, all four; and of each
+/// sequence whose elements have hooks what makes it shorter. Each type has a form.
+pub fn lift(alloc: Global, types: &TypeTable) -> Result<Hooks, Memory>
+    requires forms { HaveForms types.now }
+    ensures { IfOk result (λ hooks. (hooks.of ≡ lifted types.now)
+        × (hooks.cuts ≡ cuts types.now)) }
+{
+    let of = hooks_of_all(alloc, types)?;
+    let cuts = cuts_of_all(alloc, types)?;
+    Ok(Hooks { of, cuts })
 }

@@ -1,8 +1,6 @@
-use Rattle.std.proofs.Common.{◌≡◌, ◌<◌, ◌≤◌, ◌+◌, ℕ, List, Option, length, sym, ap, ◌∙◌, subst, arith, drop}
+use Rattle.std.proofs.Common.{◌+◌, length, sym, ap, arith, drop}
 use Rattle.std.specs.Prelude.{slice_index_or}
-use Rattle.hook_lifting.specs.declared.lifted.LiftedLine.{LiftedLine}
 use Rattle.hook_lifting.specs.Lifted.{one_part, part_lines}
-use Rattle.hook_lifting.specs.Written.{IsPut}
 use Rattle.hook_lifting.proofs.Writing.{puts_as, puts_two, puts_none}
 use Rattle.hook_lifting.proofs.Parts.{below_at, parts_next, drop_all}
 use Rattle.hook_lifting.proofs.procedures.put_parts.Goals as goal
