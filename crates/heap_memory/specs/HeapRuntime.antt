@@ -16,12 +16,15 @@ use Rattle.heap_memory.specs.TextRoutines.{moves_bytes, spells, orders}
 use Rattle.heap_memory.specs.GrowRoutine.{grows}
 use Rattle.heap_memory.specs.LineRoutine.{reads_line, IsKeptOn}
 use Rattle.heap_memory.specs.AppendRoutine.{appends, resizes, releases}
+use Rattle.heap_memory.specs.HandleRoutines.{orders_texts, writes_text, copies_text, appends_text, resizes_text}
+use Rattle.heap_memory.specs.SequenceRoutines.{puts_sequence, adds_element, resizes_sequence, pops_element}
 use Rattle.word_code.specs.Routines.{Routine}
 
 -- ---- the routines that there are
 
 pub data HeapRoutineName : Type 0 where
   Takes GivesBack FindsClass MovesBytes Grows Orders Releases Appends Resizes Spells : HeapRoutineName
+  OrdersTexts WritesText CopiesText AppendsText ResizesText PutsSequence AddsElement ResizesSequence PopsElement : HeapRoutineName
 
 -- what each promises, where the heap's words begin at an address
 abbrev pub heap_routine : (at : ℕ) → HeapRoutineName → Routine
@@ -35,6 +38,15 @@ heap_routine at Releases = releases at
 heap_routine at Appends = appends at
 heap_routine at Resizes = resizes at
 heap_routine at Spells = spells
+heap_routine at OrdersTexts = orders_texts
+heap_routine at WritesText = writes_text
+heap_routine at CopiesText = copies_text at
+heap_routine at AppendsText = appends_text at
+heap_routine at ResizesText = resizes_text at
+heap_routine at PutsSequence = puts_sequence at
+heap_routine at AddsElement = adds_element at
+heap_routine at ResizesSequence = resizes_sequence at
+heap_routine at PopsElement = pops_element
 
 -- ---- what is promised of it
 

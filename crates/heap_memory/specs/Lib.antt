@@ -7,4 +7,6 @@ pub mod TextRoutines
 pub mod GrowRoutine
 pub mod AppendRoutine
 pub mod LineRoutine
+pub mod HandleRoutines
+pub mod SequenceRoutines
 pub mod HeapRuntime

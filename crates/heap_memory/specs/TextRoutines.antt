@@ -1,6 +1,7 @@
 -- Routines on the bytes of texts: a row for each, with all that it promises.
-use Rattle.std.specs.Prelude.{◌≡◌, ◌<◌, ℕ, ◌+◌, ◌-◌, ◌*◌, ◌^◌, List, [], ◌∷◌, length, Some, None, true, ℤ, pos, ◌-ℤ◌, nat_lt, if◌then◌else◌}
+use Rattle.std.specs.Prelude.{◌≡◌, ◌<◌, ℕ, ◌+◌, ◌-◌, ◌*◌, ◌^◌, List, [], ◌∷◌, length, Some, None, true}
 use Rattle.std.specs.Fmt.{signed_decimal}
+use Rattle.nim_meaning.specs.OwnedRows.{order}
 use Rattle.word_code.specs.declared.routine.TheConstants.{SCRATCH_BYTES, DIGIT_LINES}
 use Rattle.word_code.specs.Memory.{Memory, bytes_at, may_fill}
 use Rattle.word_code.specs.RoutineTable.{Beside, IsRewritten}
@@ -79,13 +80,6 @@ spells = record {
 
 -- ---- texts are compared
 
--- how two texts stand to one another, byte by byte: below 0, 0, or above
-abbrev pub order : List ℕ → List ℕ → ℤ
-order [] [] = pos 0
-order [] (d ∷ ds) = pos 0 -ℤ pos 1
-order (c ∷ cs) [] = pos 1
-order (c ∷ cs) (d ∷ ds) = if nat_lt c d then pos 0 -ℤ pos 1 else if nat_lt d c then pos 1 else order cs ds
-
 -- these bytes, which stand at these addresses
 pub record Comparing : Type 0 where
   pub left : ℕ
@@ -111,6 +105,6 @@ orders = record {
   ends = λ u. None;
   leaves = λ u m other. other ≡ m;
   reads = λ u input. input;
-  gives = λ u other word. signed word ≡ order u.first u.second;
+  gives = λ u other word. (word < 2 ^ 32) × (signed word ≡ order u.first u.second);
   lines = λ u. ORDER_START + ORDER_BYTE * length u.first;
 }

@@ -32,10 +32,10 @@ pub const CLASS_LINES: u32 = 9;
 pub const FURTHER_LINES: u32 = 4;
 
 /// How many lines and procedures the heap's routines have.
-pub const HEAP_WEIGHT: u32 = 241;
+pub const HEAP_WEIGHT: u32 = 370;
 
 /// How many of their calls may stand in a chain.
-pub const HEAP_CHAIN: u32 = 3;
+pub const HEAP_CHAIN: u32 = 4;
 
 /// How many bytes of data they have.
 pub const HEAP_DATA: u32 = 116;
@@ -102,3 +102,36 @@ pub const LINE_LINES: u32 = 23;
 
 /// The lines for each character, beside those of the growth.
 pub const CHAR_LINES: u32 = 20;
+
+/// Compares the texts of two handles.
+pub const TEXT_ORDER: u32 = 24;
+
+/// Writes the text of a handle.
+pub const TEXT_WRITE: u32 = 25;
+
+/// Puts a copy of a handle's text to an address.
+pub const TEXT_COPY: u32 = 26;
+
+/// Puts the text of a handle behind that of another one.
+pub const TEXT_APPEND: u32 = 27;
+
+/// Gives the text of a handle another length.
+pub const TEXT_RESIZE: u32 = 28;
+
+/// The lines of a routine on handles, with the call, beside those of the routine that it calls.
+pub const HANDLE_LINES: u32 = 16;
+
+/// Puts a new sequence to an address.
+pub const SEQ_NEW: u32 = 29;
+
+/// Makes room for one more element in the sequence of a handle.
+pub const SEQ_ADD: u32 = 30;
+
+/// Gives the sequence of a handle another length.
+pub const SEQ_RESIZE: u32 = 31;
+
+/// Takes the last element from the sequence of a handle.
+pub const SEQ_POP: u32 = 32;
+
+/// The lines of a routine that counts the bytes of elements, with the call, beside those of the routine that it calls.
+pub const SEQUENCE_LINES: u32 = 20;

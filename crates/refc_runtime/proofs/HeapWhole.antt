@@ -24,7 +24,8 @@ use Rattle.word_code.specs.Memory.{Memory, number_at, bytes_at, own_data_at}
 use Rattle.word_code.specs.Words.{is_counted, most_called, start}
 use Rattle.word_code.specs.RoutineTable.{trap_line}
 use Rattle.word_code.specs.Joined.{joined}
-use Rattle.word_code.specs.Runtime.{IsRoutine}
+use Rattle.word_code.specs.Sizes.{AreRanked}
+use Rattle.word_code.specs.Runtime.{IsRoutine, AreRoutines}
 use Rattle.word_code.proofs.ForCallers.{MemoryLaw, Sized}
 use Rattle.heap_memory.specs.declared.numbers.TheConstants.{TAKE, GIVE, CLASS, HEAP_WORD_BYTES}
 use Rattle.refc_runtime.specs.Code.{routine, digits_lines}
@@ -38,7 +39,11 @@ use Rattle.refc_runtime.specs.LineCode.{release_lines, append_lines, resize_line
 use Rattle.heap_memory.specs.LineRoutine.{reads_line, IsKeptOn}
 use Rattle.refc_runtime.specs.InputCode.{read_lines}
 use Rattle.heap_memory.specs.declared.numbers.TheConstants.{READ_LINE}
+use Rattle.heap_memory.specs.declared.numbers.TheConstants.{TEXT_ORDER, TEXT_WRITE, TEXT_COPY, TEXT_APPEND, TEXT_RESIZE, SEQ_NEW, SEQ_ADD, SEQ_RESIZE, SEQ_POP}
+use Rattle.refc_runtime.specs.HandleCode.{text_order_lines, text_write_lines, text_copy_lines, text_append_lines, text_resize_lines}
+use Rattle.refc_runtime.specs.HandleCode.{seq_new_lines, seq_add_lines, seq_resize_lines, seq_pop_lines}
 use Rattle.heap_memory.specs.HeapRuntime.{HeapRoutineName, Takes, GivesBack, FindsClass, MovesBytes, Grows, Orders, Releases, Appends, Resizes, Spells}
+use Rattle.heap_memory.specs.HeapRuntime.{OrdersTexts, WritesText, CopiesText, AppendsText, ResizesText, PutsSequence, AddsElement, ResizesSequence, PopsElement}
 use Rattle.heap_memory.specs.HeapRuntime.{heap_routine, IsHeapRuntime}
 use Rattle.refc_runtime.specs.HeapCode.{take_lines, give_lines, class_lines, heap_routines, heap_statics}
 use Rattle.heap_memory.proofs.ForCallers.{data_part}
@@ -51,6 +56,8 @@ use Rattle.refc_runtime.proofs.ReleaseRuns.{release_comes}
 use Rattle.refc_runtime.proofs.ReadKept.{read_kept}
 use Rattle.refc_runtime.proofs.AppendRuns.{append_comes}
 use Rattle.refc_runtime.proofs.ResizeRuns.{resize_comes}
+use Rattle.refc_runtime.proofs.HandleRuns.{text_order_comes, text_write_comes, text_append_comes, text_copy_comes, text_resize_comes}
+use Rattle.refc_runtime.proofs.SequenceRuns.{seq_new_comes, seq_add_comes, seq_resize_comes, seq_pop_comes}
 
 -- ---- no block was taken
 
@@ -219,21 +226,22 @@ is_routine : (number params vars : ℕ) (lines : List WordInstr) → 0 < number 
 is_routine number params vars lines some last few =
     record { first = some; last = last; kind = refl; whole_data = refl; small = record { room = omega arith; variables = few } }
 
--- what calls nothing, what calls that, and what calls both
+-- what calls nothing, what calls that, what calls both, and what is called with handles
 abbrev rank : ℕ → ℕ
-rank number = if nat_lt number GROW then 1 else if nat_lt number APPEND then 2 else 3
+rank number = if nat_lt number GROW then 1 else if nat_lt number APPEND then 2 else if nat_lt number TEXT_ORDER then 3 else 4
 
 calls_nothing : (p : WordProc) → most_called rank p.lines ≡ 0 → 1 ≤ rank p.number → is_counted p.kind ≡ false
     → suc (most_called rank p.lines) ≤ rank p.number
 calls_nothing p e r f = omega (arith, e, r)
 
-rank_most : (number : ℕ) → rank number ≤ 3
-rank_most number = by (nat_lt number GROW) (nat_lt number APPEND)
+rank_most : (number : ℕ) → rank number ≤ 4
+rank_most number = by (nat_lt number GROW) (nat_lt number APPEND) (nat_lt number TEXT_ORDER)
   where
-    by : (b d : Bool) → (if b then 1 else if d then 2 else 3) ≤ 3
-    by true d = omega arith
-    by false true = omega arith
-    by false false = omega arith
+    by : (b d e : Bool) → (if b then 1 else if d then 2 else if e then 3 else 4) ≤ 4
+    by true d e = omega arith
+    by false true e = omega arith
+    by false false true = omega arith
+    by false false false = omega arith
 
 -- ---- in front of other procedures
 
@@ -257,20 +265,100 @@ module _ (law : MemoryLaw) (live : Lives) (others : WordCode) where
   grows_there u s to rest calling sized may =
       grow_comes law live procs 0 takes_there gives_there finds_there moves_there s to rest u _ refl calling sized may
 
+  orders_there : IsKeptThere live procs (heap_routine own_data_at Orders)
+  orders_there = order_kept live procs 0 _ refl
+
+  appends_there : IsKeptThere live procs (heap_routine own_data_at Appends)
+  appends_there u s to rest calling sized may = append_comes law live procs 0 grows_there moves_there u s to rest _ refl calling sized may
+
+  resizes_there : IsKeptThere live procs (heap_routine own_data_at Resizes)
+  resizes_there u s to rest calling sized may = resize_comes law live procs 0 grows_there u s to rest _ refl calling sized may
+
   all_kept : (name : HeapRoutineName) → IsKeptThere live procs (heap_routine own_data_at name)
   all_kept Takes = takes_there
   all_kept GivesBack = gives_there
   all_kept FindsClass = finds_there
   all_kept MovesBytes = moves_there
   all_kept Grows = grows_there
-  all_kept Orders = order_kept live procs 0 _ refl
+  all_kept Orders = orders_there
   all_kept Releases = λ u s to rest calling sized may. release_comes live procs 0 gives_there u s to rest _ refl calling sized may
-  all_kept Appends = λ u s to rest calling sized may. append_comes law live procs 0 grows_there moves_there u s to rest _ refl calling sized may
-  all_kept Resizes = λ u s to rest calling sized may. resize_comes law live procs 0 grows_there u s to rest _ refl calling sized may
+  all_kept Appends = appends_there
+  all_kept Resizes = resizes_there
   all_kept Spells = digits_kept law live procs 0 _ refl
+  all_kept OrdersTexts = λ u s to rest calling sized may. text_order_comes live procs 0 orders_there u s to rest _ refl calling sized may
+  all_kept WritesText = λ u s to rest calling sized may. text_write_comes live procs 0 u s to rest _ refl calling sized may
+  all_kept CopiesText = λ u s to rest calling sized may. text_copy_comes law live procs 0 appends_there u s to rest _ refl calling sized may
+  all_kept AppendsText = λ u s to rest calling sized may. text_append_comes law live procs 0 appends_there u s to rest _ refl calling sized may
+  all_kept PutsSequence = λ u s to rest calling sized may. seq_new_comes law live procs 0 resizes_there u s to rest _ refl calling sized may
+  all_kept AddsElement = λ u s to rest calling sized may. seq_add_comes law live procs 0 grows_there u s to rest _ refl calling sized may
+  all_kept ResizesSequence = λ u s to rest calling sized may. seq_resize_comes law live procs 0 resizes_there u s to rest _ refl calling sized may
+  all_kept PopsElement = λ u s to rest calling sized may. seq_pop_comes law live procs 0 u s to rest _ refl calling sized may
+  all_kept ResizesText = λ u s to rest calling sized may. text_resize_comes law live procs 0 resizes_there u s to rest _ refl calling sized may
 
   reads_there : (input : List ℕ) → IsKeptOn live procs input (reads_line own_data_at input)
   reads_there input = read_kept law live procs 0 grows_there _ refl input
+
+-- those on handles
+abbrev on_handles : List WordProc
+on_handles =
+    routine TEXT_ORDER 2 6 text_order_lines
+    ∷ routine TEXT_WRITE 1 6 text_write_lines
+    ∷ routine TEXT_COPY 2 6 text_copy_lines
+    ∷ routine TEXT_APPEND 2 6 text_append_lines
+    ∷ routine TEXT_RESIZE 2 6 text_resize_lines
+    ∷ routine SEQ_NEW 3 7 seq_new_lines
+    ∷ routine SEQ_ADD 2 8 seq_add_lines
+    ∷ routine SEQ_RESIZE 3 7 seq_resize_lines
+    ∷ routine SEQ_POP 2 6 seq_pop_lines
+    ∷ []
+
+on_handles_are : AreRoutines on_handles
+on_handles_are = (
+  is_routine TEXT_ORDER 2 6 text_order_lines (omega arith) (omega arith) (omega arith),
+  (
+    is_routine TEXT_WRITE 1 6 text_write_lines (omega arith) (omega arith) (omega arith),
+    (
+      is_routine TEXT_COPY 2 6 text_copy_lines (omega arith) (omega arith) (omega arith),
+      (
+        is_routine TEXT_APPEND 2 6 text_append_lines (omega arith) (omega arith) (omega arith),
+        (
+          is_routine TEXT_RESIZE 2 6 text_resize_lines (omega arith) (omega arith) (omega arith),
+          (
+            is_routine SEQ_NEW 3 7 seq_new_lines (omega arith) (omega arith) (omega arith),
+            (
+              is_routine SEQ_ADD 2 8 seq_add_lines (omega arith) (omega arith) (omega arith),
+              (
+                is_routine SEQ_RESIZE 3 7 seq_resize_lines (omega arith) (omega arith) (omega arith),
+                (is_routine SEQ_POP 2 6 seq_pop_lines (omega arith) (omega arith) (omega arith), tt),
+              ),
+            ),
+          ),
+        ),
+      ),
+    ),
+  ),
+)
+
+on_handles_ranked : AreRanked rank on_handles
+on_handles_ranked = (
+  λ uncounted. omega arith,
+  (
+    λ uncounted. omega arith,
+    (
+      λ uncounted. omega arith,
+      (
+        λ uncounted. omega arith,
+        (
+          λ uncounted. omega arith,
+          (
+            λ uncounted. omega arith,
+            (λ uncounted. omega arith, (λ uncounted. omega arith, (calls_nothing (routine SEQ_POP 2 6 seq_pop_lines) refl (omega arith), tt))),
+          ),
+        ),
+      ),
+    ),
+  ),
+)
 
 is_heap_runtime : MemoryLaw → IsHeapRuntime code
 is_heap_runtime law = record {
@@ -297,7 +385,7 @@ is_heap_runtime law = record {
                       is_routine DIGITS 2 7 digits_lines (omega arith) (omega arith) (omega arith),
                       (
                         is_routine READ_LINE 1 9 read_lines (omega arith) (omega arith) (omega arith),
-                        tt,
+                        on_handles_are,
                       ),
                     ),
                   ),
@@ -332,7 +420,7 @@ is_heap_runtime law = record {
                       calls_nothing (routine DIGITS 2 7 digits_lines) refl (omega arith),
                       (
                         λ uncounted. omega arith,
-                        tt,
+                        on_handles_ranked,
                       ),
                     ),
                   ),

@@ -18,6 +18,9 @@ mod TakeRuns
 mod GiveRuns
 mod ClassRuns
 mod HeapKept
+mod HandleMemory
+mod HandleRuns
+mod SequenceRuns
 mod HeapWhole
 mod Pieces
 mod MoveRuns

@@ -22,7 +22,8 @@ use Rattle.word_code.proofs.ForCallers.{run_jump, got, got_sum}
 use Rattle.refc_runtime.specs.declared.routines.TheConstants.{ONE_LESS}
 use Rattle.heap_memory.specs.declared.numbers.TheConstants.{ORDER}
 use Rattle.heap_memory.specs.HeapRoutines.{IsKeptThere}
-use Rattle.heap_memory.specs.TextRoutines.{AreBytes, order, orders}
+use Rattle.nim_meaning.specs.OwnedRows.{order}
+use Rattle.heap_memory.specs.TextRoutines.{AreBytes, orders}
 use Rattle.refc_runtime.specs.TextCode.{below_lines, above_lines, over_lines, pair_lines, order_lines}
 use Rattle.refc_runtime.proofs.Calls.{later, inside, enters, returns_before, from_call}
 use Rattle.refc_runtime.proofs.Pieces.{range_small, read_far}
@@ -58,6 +59,7 @@ module _ (live : Lives) (procs : List WordProc) (n : ℕ) (s : WordState) (to : 
   -- it comes back with how they stand
   pub record Ordered (m : Memory) (first second : List ℕ) (lines : List WordInstr) (most : ℕ) (v : Vars) : Type 0 where
     pub word : ℕ
+    pub small : word < 2 ^ 32
     pub is : signed word ≡ order first second
     pub count : ℕ
     pub few : count ≤ most
@@ -159,6 +161,7 @@ module _ (live : Lives) (procs : List WordProc) (n : ℕ) (s : WordState) (to : 
     is_less : b < d → Step
     is_less less = record {
       word = ONE_LESS;
+      small = omega arith;
       is = ap (λ x. if x then minus_one else if nat_lt d b then pos 1 else order bs ds) (sym (lt-ltb b d less));
       count = 9;
       few = omega arith;
@@ -169,6 +172,7 @@ module _ (live : Lives) (procs : List WordProc) (n : ℕ) (s : WordState) (to : 
     is_more : d < b → Step
     is_more less = record {
       word = 1;
+      small = omega arith;
       is =
           ap (λ x. if x then pos 1 else order bs ds) (sym (lt-ltb d b less))
           ∙ ap (λ x. if x then minus_one else if nat_lt d b then pos 1 else order bs ds) (sym (le-ltb b d (omega (arith, less))));
@@ -184,6 +188,7 @@ module _ (live : Lives) (procs : List WordProc) (n : ℕ) (s : WordState) (to : 
         let few = x.few in
         record {
           word = x.word;
+          small = x.small;
           is = x.is ∙ ap (λ y. if y then pos 1 else order bs ds) (sym (le-ltb d b high))
               ∙ ap (λ y. if y then minus_one else if nat_lt d b then pos 1 else order bs ds) (sym (le-ltb b d low));
           count = 10 + x.count;
@@ -213,6 +218,7 @@ module _ (live : Lives) (procs : List WordProc) (n : ℕ) (s : WordState) (to : 
       let none : holds test.Unequal right right ≡ false = ap not (eq-eqb right right refl) in
       record {
         word = 0;
+        small = omega arith;
         is = refl;
         count = 6;
         few = omega arith;
@@ -227,6 +233,7 @@ module _ (live : Lives) (procs : List WordProc) (n : ℕ) (s : WordState) (to : 
       let some : holds test.Unequal right right_end ≡ true = ap not (ne_eqb right right_end (λ e. absurd (omega (arith, e, near)))) in
       record {
         word = ONE_LESS;
+        small = omega arith;
         is = refl;
         count = 7;
         few = omega arith;
@@ -238,6 +245,7 @@ module _ (live : Lives) (procs : List WordProc) (n : ℕ) (s : WordState) (to : 
       let more : holds test.Equal left left_end ≡ false = ne_eqb left left_end (λ e. absurd (omega (arith, e, far))) in
       record {
         word = 1;
+        small = omega arith;
         is = refl;
         count = 6;
         few = omega arith;
@@ -281,7 +289,7 @@ module _ (live : Lives) (procs : List WordProc) (n : ℕ) (others : List WordPro
         memory = m;
         word = x.word;
         leaves = refl;
-        gives = x.is;
+        gives = (x.small, x.is);
         lines = 1 + (1 + 1 + x.count);
         few = omega (arith, few);
         steps = (from_call live procs s to rest ORDER [] _ _ _ calling.next

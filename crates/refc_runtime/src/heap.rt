@@ -5,9 +5,14 @@ ghost use Rattle.refc_runtime.specs.HeapCode.{take_lines, give_lines, class_line
 ghost use Rattle.refc_runtime.specs.HeapCode.{heap_routines, heap_statics};
 ghost use Rattle.heap_memory.specs.HeapRuntime.{IsHeapRuntime};
 
+use crate::handles::{
+    text_append_routine, text_copy_routine, text_order_routine, text_resize_routine,
+    text_write_routine,
+};
 use crate::input::read_line_routine;
 use crate::lines::{append_routine, digits_routine, release_routine, resize_routine};
 use crate::routines::{branch, compute, constant, datum, load, routine, store, sum_with};
+use crate::sequences::{seq_add_routine, seq_new_routine, seq_pop_routine, seq_resize_routine};
 use crate::texts::{grow_routine, move_routine, order_routine};
 use arc_base::{Bytes, Items, Memory, Stream};
 use heap_memory::{CLASS, GIVE, HEAP_WORD_BYTES, TAKE};
@@ -149,6 +154,15 @@ fn heap_routines(alloc: Global) -> Result<Items<WordProc>, Memory>
     procs.push(resize_routine(alloc)?)?;
     procs.push(digits_routine(alloc)?)?;
     procs.push(read_line_routine(alloc)?)?;
+    procs.push(text_order_routine(alloc)?)?;
+    procs.push(text_write_routine(alloc)?)?;
+    procs.push(text_copy_routine(alloc)?)?;
+    procs.push(text_append_routine(alloc)?)?;
+    procs.push(text_resize_routine(alloc)?)?;
+    procs.push(seq_new_routine(alloc)?)?;
+    procs.push(seq_add_routine(alloc)?)?;
+    procs.push(seq_resize_routine(alloc)?)?;
+    procs.push(seq_pop_routine(alloc)?)?;
     Ok(procs)
 }
 

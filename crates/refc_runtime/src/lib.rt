@@ -2,10 +2,12 @@
 #![tactic(auto)]
 
 mod code;
+mod handles;
 mod heap;
 mod input;
 mod lines;
 mod routines;
+mod sequences;
 mod texts;
 
 pub use code::runtime;
