@@ -178,8 +178,7 @@ module _ (law : AgreesLaw) (pace : PaceLaw) where
   -- ---- the whole
 
   module _ (program : Program) (table : List TypeDef) (plan : Plan) (flat : Code Line) (words : WordCode)
-      (sound : (heap : ℕ) (input : List ℕ) → Sound (meaning program plan heap input)) (top : IsFlatOf table program plan flat)
-      (middle : AreWordsOf table plan flat words) where
+      (top : IsFlatOf table program plan flat) (middle : AreWordsOf table plan flat words) where
     pub words_do : (fresh : Fresh) (heap stack : ℕ) (input : List ℕ) → heap ≤ 16777216 →
         Agrees (word_meaning live_objects words fresh heap stack input) (meaning program plan heap input)
     words_do fresh heap stack input few =

@@ -1,6 +1,6 @@
 -- Flat code that is that of a program does what the program means.
 use Rattle.std.proofs.Common.{◌≡◌, ◌≤◌, ◌<◌, ℕ, ◌+◌, ◌*◌, List, [], ◌∷◌, ◌++◌, length, sym, ap, subst, ◌∙◌, arith, true}
-use Rattle.arc_base.specs.Behaviour.{Agrees}
+use Rattle.arc_base.specs.Behaviour.{Agrees, Sound}
 use Rattle.arc_base.specs.Pace.{Paced}
 use Rattle.nim_plan.specs.declared.plan.Plan.{Plan}
 use Rattle.nim_program.specs.declared.program.Program.{Program as RustProgram}
@@ -36,6 +36,7 @@ last_there (y ∷ xs) x = omega arith
 
 module _ (p : RustProgram) (plan : Plan) (flat : Code Line) (procs : flat.procs ≡ flat_procs (program_in p) plan)
     (code : procs_of (known_in p.types) flat ≡ code_of (program_in p) plan)
+    (sound : (heap : ℕ) (input : List ℕ) → Sound (meaning (program_in p) plan heap input))
     (agrees : (heap : ℕ) (input : List ℕ) → Agrees (flat_meaning (program_in p) plan heap input) (meaning (program_in p) plan heap input))
     (paced : (heap : ℕ) (input : List ℕ) → Paced 12 (flat_meaning (program_in p) plan heap input) (meaning (program_in p) plan heap input))
     (exact : (heap : ℕ) (input : List ℕ) (units : ℕ) → IsExact (program_in p) plan heap input units)
@@ -83,6 +84,7 @@ module _ (p : RustProgram) (plan : Plan) (flat : Code Line) (procs : flat.procs 
 
     pub is_flat_of : IsFlatOf p.types program plan flat
     is_flat_of = record {
+      sound = sound;
       agrees = λ heap input. subst (λ (ps : List (Proc Line)). Agrees (runs label_in (does known plan) ps heap input) (meaning program plan heap input))
           (sym code) (agrees heap input);
       paced = λ heap input. subst (λ (ps : List (Proc Line)). Paced 12 (runs label_in (does known plan) ps heap input) (meaning program plan heap input))

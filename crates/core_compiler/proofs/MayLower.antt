@@ -1,5 +1,5 @@
 -- Block code of flat code of a plain typed program may become word code: each test of it holds.
-use Rattle.std.proofs.Common.{◌≡◌, ℕ, suc, ◌+◌, ◌≤◌, ◌<◌, ◌⊎◌, inl, inr, Bool, true, false, List, [], ◌∷◌, ◌++◌, length, map, Option, Some, None, refl, sym, ap}
+use Rattle.std.proofs.Common.{◌≡◌, ℕ, suc, ◌+◌, ◌≤◌, ◌<◌, Bool, true, false, List, [], ◌∷◌, ◌++◌, length, map, Option, Some, None, refl, sym, ap}
 use Rattle.std.proofs.Common.{ap₂, ◌∙◌, subst, arith}
 use Rattle.std.specs.Prelude.{nat_eq, nat_le, ◌&&◌, ◌||◌, not}
 use Rattle.std.proofs.lemmas.List.{length-map}
@@ -18,11 +18,10 @@ use Rattle.flat_code.specs.Codes.{each_line, under, owned_plain, block_plain, Ar
 use Rattle.flat_code.specs.Fits.{Signature, start_places, signatures, proc_fits, each_fits, code_fits, has_lines_for, in_order, are_none, params_at, results_at}
 use Rattle.flat_code.specs.Fits.{all_fit}
 use Rattle.flat_code.specs.Running.{before_last}
-use Rattle.flat_code.specs.Scene.{Known, known_in}
+use Rattle.flat_code.specs.Scene.{known_in}
 use Rattle.flat_code.specs.Sizes.{data_bytes}
 use Rattle.flat_code.specs.Whole.{label_in}
-use Rattle.flat_code.specs.Alike.{value_name, location_name, label_name, name_of, gives_text, IsProperty, is_named, is_as, gives_as, AreAlike, AllAlike}
-use Rattle.flat_code.specs.PlainCode.{has_hooks, is_temporary, gets_text, IsPlainPlace, ArePlainPlaces, ReadsPlain, ReadPlain}
+use Rattle.flat_code.specs.Alike.{value_name, location_name, label_name, name_of, IsProperty, is_named, is_as, gives_as, AreAlike, AllAlike}
 use Rattle.flat_code.specs.PlainCode.{is_none, IsPlainProc, ArePlainProcs}
 use Rattle.word_lowering.specs.declared.may_lower.TheConstants.{MOST_ROOM, MOST_VARS, MOST_DATA}
 use Rattle.word_lowering.specs.declared.texts.TheConstants.{FIXED_BYTES}
@@ -199,7 +198,8 @@ module _ (plan : Plan) where
     none_same [] = refl
     none_same (p ∷ ps) = refl
 
-    all_may : (ps : List (CodeProc Line)) → ArePlainProcs (known_in table) 16384 ps → NoneLent ps → AllAlike ps → AreNone (map (λ (p : CodeProc Line). p.hook) ps) →
+    all_may : (ps : List (CodeProc Line)) → ArePlainProcs (known_in table) 16384 ps → NoneLent ps → AllAlike ps →
+        AreNone (map (λ (p : CodeProc Line). p.hook) ps) →
         each_fits block_plain (known_in table) procs globals (map block_of ps) ≡ true →
         procs_may table (layouts table datum (map block_of ps)) (map block_of ps) ≡ true
     all_may [] plain lent alike none f = refl

@@ -1,5 +1,5 @@
 -- What is said of what is seen of flat code, said of what its program shows.
-use Rattle.std.proofs.Common.{◌≡◌, ℕ, ◌+◌, List, [], Option, Some, None, sym, subst, ◌∙◌, append-nil, add_comm}
+use Rattle.std.proofs.Common.{ℕ, ◌+◌, List, [], Option, Some, None, sym, subst, ◌∙◌, append-nil, add_comm}
 use Rattle.arc_base.specs.Event.{Event}
 use Rattle.arc_base.specs.declared.outside.Stream.{Stream}
 use Rattle.arc_base.specs.declared.outside.Stream.TheVariants.{Out as Output, Err as Errors}

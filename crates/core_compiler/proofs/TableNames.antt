@@ -1,5 +1,5 @@
 -- Code has no names but those that count.
-use Rattle.std.proofs.Common.{◌≤◌, ℕ, ◌+◌, List, [], ◌∷◌, arith, subst}
+use Rattle.std.proofs.Common.{◌≤◌, List, [], ◌∷◌, arith, subst}
 use Rattle.nim_types.specs.Table.{facts_in}
 use Rattle.nim_types.specs.declared.types.TypeDef.{TypeDef}
 use Rattle.nim_types.specs.declared.types.TypeDef.TheVariants as D

@@ -1,5 +1,4 @@
 -- What running the meaning of a typed program comes to: never to a fault, and never to what is wrong.
-use Rattle.std.specs.Prelude.{List, ℕ, Option}
 use Rattle.flat_runner.specs.declared.mean.MeanEnd.{MeanEnd}
 use Rattle.flat_runner.specs.declared.mean.MeanEnd.TheVariants as M
 

@@ -66,9 +66,10 @@ pub record MayBeLowered (table : List TypeDef) (flat : Code Line) : Type 0 where
   pub hooks : AreNone (hooks_of flat)
   pub data_few : data_bytes flat_plain table flat.procs ≤ MOST_DATA_BYTES
 
--- Flat code does what the program means under the plan, and with so many units shows the same after some number of lines and ever after; its lines
+-- The program is never wrong, and flat code does what it means under the plan, and with so many units shows the same after some number of lines and ever after; its lines
 -- fit the types of its places; it weighs as much as the program's parts and pairs, and has the data that count. No type of the table contains itself.
 pub record IsFlatOf (table : List TypeDef) (program : Program) (plan : Plan) (flat : Code Line) : Type 0 where
+  pub sound : (heap : ℕ) (input : List ℕ) → Sound (meaning program plan heap input)
   pub agrees : (heap : ℕ) (input : List ℕ) → Agrees (flat_meaning table flat plan heap input) (meaning program plan heap input)
   pub paced : (heap : ℕ) (input : List ℕ) → Paced FLAT_PACE (flat_meaning table flat plan heap input) (meaning program plan heap input)
   pub exact : (heap : ℕ) (input : List ℕ) (units : ℕ) → (lines : ℕ)

@@ -10,7 +10,6 @@ ghost use Rattle.core_compiler.specs.Mean.{IsEnd};
 use crate::program::flat_of;
 use arc_base::{Sink, Source};
 use flat_runner::mean::{MeanEnd, mean};
-use nim_meaning::meanings;
 use nim_plan::Plan;
 use nim_program::Program;
 use std::alloc::Global;
@@ -49,6 +48,5 @@ pub fn mean_core<I: Source, O: Sink, E: Sink>(
     let Ok(flat) = flat_of(alloc, program, plan) else {
         return MeanEnd::Memory;
     };
-    meanings();
     mean(alloc, &program.types, plan, &flat, heap, n, input, out, err)
 }

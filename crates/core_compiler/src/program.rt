@@ -19,7 +19,7 @@ use arc_base::{Code, Memory, Place, Stop, agreement};
 use destructor_injection::owned_of;
 use flat_code::Flat;
 use flattening::{fits, flat_code, flatten, may_be_lowered, sizes};
-use formed_programs::{formed, table_forms};
+use formed_programs::{formed, table_forms, without_hooks};
 use goto_exceptions::branches;
 use nim_meaning::meanings;
 use nim_plan::Plan;
@@ -80,11 +80,12 @@ pub fn flat_of(alloc: Global, program: &Program, plan: &Plan) -> Result<Flat, Me
     table_forms();
     let flat = flatten(alloc, program, plan)?;
     formed();
+    without_hooks();
+    meanings();
     flat_code();
     fits();
     may_be_lowered();
     sizes();
-    meanings();
     Ok(flat)
 }
 
@@ -138,7 +139,6 @@ pub fn compile_core(alloc: Global, program: &Program, plan: &Plan, heap: u32) ->
     let flat = flat_of(alloc, program, plan)?;
     let words = words_of(alloc, &program.types, plan, &flat)?;
     agreement();
-    meanings();
     match image_of_words(alloc, &words, heap) {
         Ok(image) => Ok(image),
         Err(LayFault::TooLarge(_)) => Err(too_large()),

@@ -13,7 +13,8 @@ use Rattle.flat_code.specs.Scene.{Known, known_in, Scene}
 use Rattle.flat_code.specs.Lines.{does}
 use Rattle.flat_code.specs.Whole.{label_in}
 use Rattle.flat_code.specs.Codes.{each_line, by_lines, flat_plain, flat_meaning, under, owned_plain, owned_label, owned_does, owned_meaning}
-use Rattle.flat_code.proofs.ForCallers.{same_agrees, same_pace, runs_by_lines, form_by_lines}
+use Rattle.flat_code.specs.Codes.{flat_within, owned_within}
+use Rattle.flat_code.proofs.ForCallers.{same_agrees, same_pace, runs_by_lines, within_by_lines, form_by_lines}
 use Rattle.destructor_injection.specs.Injecting.{IsOwned}
 
 -- each line is, and is labelled, as it was, and does what it did under the plan
@@ -60,6 +61,13 @@ shown table plan flat heap input n =
     let known = known_in table in
     runs_by_lines (under plan) label_in owned_label (λ line. (same_line known plan line).1)
     (does known plan) (owned_does known) (λ x line. (same_line known plan line).2 x) known flat heap input n
+
+pub shown_within : (table : List TypeDef) (plan : Plan) (flat : Code Line) (units heap : ℕ) (input : List ℕ) (n : ℕ) →
+    owned_within table (by_lines (under plan) flat) units heap input n ≡ flat_within table flat plan units heap input n
+shown_within table plan flat units heap input n =
+    let known = known_in table in
+    within_by_lines (under plan) label_in owned_label (λ line. (same_line known plan line).1)
+    (does known plan) (owned_does known) (λ x line. (same_line known plan line).2 x) known flat units heap input n
 
 abbrev owned_with : List (CodeProc OwnedLine) → Code OwnedLine
 owned_with procs = record { procs = procs }

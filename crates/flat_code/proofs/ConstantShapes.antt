@@ -8,7 +8,7 @@ use Rattle.nim_types.specs.Forms as form
 use Rattle.nim_types.specs.Forms.{Form, Forms, HasForm, of_int, of_bool, of_char, of_text, of_sequence, of_any_sequence, of_array, of_tuple}
 use Rattle.nim_types.specs.Forms.{of_parameter}
 use Rattle.nim_types.specs.Forms.{of_enum, of_object, of_distinct, of_ref, of_exception, AreForms, none_of, more_of, object_form, wrapped, types_of}
-use Rattle.nim_types.specs.Forms.{hooked, hooked_any}
+use Rattle.nim_types.specs.Forms.{hooked, hooked_any, has_resource, has_resource_any}
 use Rattle.nim_program.specs.Ints.{fits}
 use Rattle.nim_program.specs.Kinds as kind
 use Rattle.nim_program.specs.Kinds.{TypeKind, plain_kind, is_value, is_text, is_ref, is_sequence, part_at, nth_type, count_types}
@@ -17,7 +17,7 @@ use Rattle.nim_program.specs.Kinds.{count_literals, is_constant, are_constants}
 use Rattle.nim_program.specs.Program.{Literal, Number as Ordinal, Characters, NoObject, PartsOf, ElementsOf, Literals, NoLiteral, ALiteral}
 use Rattle.nim_meaning.specs.Values.{Number, Parts, Fixed, Ref, literal_value, literal_values}
 use Rattle.flat_code.specs.Shapes.{Shape, number, reference, block, elements, row, parts, resource, Shapes, no_shapes, shapes, object_shape, shape_by}
-use Rattle.flat_code.specs.Shapes.{shape_within, shape_of, has_shape, are_rows}
+use Rattle.flat_code.specs.Shapes.{shape_within, shape_of, has_shape, are_all, are_rows}
 use Rattle.flat_code.specs.Shapes.{have_shapes}
 use Rattle.flat_code.proofs.ShapeDepths.{AreSorted, object_said, distinct_said, enum_said}
 use Rattle.flat_code.proofs.ShapeKinds.{shapes_of, Matches, AllHave, PartsHave, plain_shaped}
@@ -40,6 +40,22 @@ abbrev mutual
   pub are_free : Shapes → Bool
   are_free no_shapes = true
   are_free (shapes s ss) = is_free s && are_free ss
+
+-- no object in it has hooks of its own
+abbrev mutual
+  pub is_simple : Shape → Bool
+  is_simple (number values) = true
+  is_simple reference = true
+  is_simple block = true
+  is_simple (elements s) = is_simple s
+  is_simple (row zero s) = true
+  is_simple (row (suc n) s) = is_simple s
+  is_simple (parts ss) = are_simple ss
+  is_simple (resource ss) = false
+
+  pub are_simple : Shapes → Bool
+  are_simple no_shapes = true
+  are_simple (shapes s ss) = is_simple s && are_simple ss
 
 module _ (facts : Facts) (sorted : AreSorted facts) where
   -- ---- types without hooks
@@ -88,6 +104,49 @@ module _ (facts : Facts) (sorted : AreSorted facts) where
     all_free none_of h = refl
     all_free (more_of {f = f} {fs = fs} a s) h = let q = no_hook (hooked f) (hooked_any fs) h in and_from _ _ (free_of a q.0) (all_free s q.1)
 
+  -- ---- types without objects that have hooks of their own
+
+  row_simple : (n : ℕ) (s : Shape) (b : Bool) → form.of_some n b ≡ false → (b ≡ false → is_simple s ≡ true) → is_simple (row n s) ≡ true
+  row_simple zero s b h go = refl
+  row_simple (suc n) s b h go = go h
+
+  enum_simple : (key : Key) (o : Option Fact) → fact_of facts (type.enum key) ≡ o → is_simple (shape_of facts (type.enum key)) ≡ true
+  enum_simple key None e = ap is_simple (enum_said facts sorted key ∙ ap (shape_by (shape_within (length facts) facts)) e)
+  enum_simple key (Some (members names)) e = ap is_simple (enum_said facts sorted key ∙ ap (shape_by (shape_within (length facts) facts)) e)
+  enum_simple key (Some (fields all own_hooks)) e = absurd (sorted (type.enum key) (fields all own_hooks) e)
+  enum_simple key (Some (base t)) e = absurd (sorted (type.enum key) (base t) e)
+  enum_simple key (Some (below parent)) e = absurd (sorted (type.enum key) (below parent) e)
+
+  object_simple : (own_hooks : Bool) (fs : Forms) (ss : Shapes) → has_resource (object_form own_hooks fs) ≡ false →
+      (has_resource_any fs ≡ false → are_simple ss ≡ true) → is_simple (object_shape own_hooks ss) ≡ true
+  object_simple true fs ss h go = never (sym h)
+  object_simple false fs ss h go = go h
+
+  mutual
+    pub simple_of : {ty : Ty} {f : Form} → HasForm facts ty f → has_resource f ≡ false → is_simple (shape_of facts ty) ≡ true
+    simple_of of_int h = refl
+    simple_of of_bool h = refl
+    simple_of of_char h = refl
+    simple_of of_text h = refl
+    simple_of (of_sequence d a) h = simple_of a h
+    simple_of (of_any_sequence d) h = absurd (both_ways true d refl)
+    simple_of (of_array {n} {t} {f} a) h = row_simple n (shape_of facts t) (has_resource f) h (λ u. simple_of a u)
+    simple_of (of_tuple a) h = all_simple a h
+    simple_of of_parameter h = refl
+    simple_of (of_enum {key}) h = enum_simple key (fact_of facts (type.enum key)) refl
+    simple_of (of_object {key} {arguments} {all} {own_hooks} {fs} e a) h =
+        ap is_simple (object_said facts sorted key arguments (object_form own_hooks fs) (of_object e a) ∙ ap (shape_by (shape_within (length facts) facts)) e)
+        ∙ object_simple own_hooks fs (shapes_of facts (types_of all)) h (λ u. all_simple a u)
+    simple_of (of_distinct {key} {t} {f} e a) h =
+        ap is_simple (distinct_said facts sorted key (wrapped f) (of_distinct e a) ∙ ap (shape_by (shape_within (length facts) facts)) e) ∙ simple_of a h
+    simple_of of_ref h = refl
+    simple_of of_exception h = refl
+
+    all_simple : {ts : Tys} {fs : Forms} → AreForms true facts ts fs → has_resource_any fs ≡ false → are_simple (shapes_of facts ts) ≡ true
+    all_simple none_of h = refl
+    all_simple (more_of {f = f} {fs = fs} a s) h =
+        let q = no_hook (has_resource f) (has_resource_any fs) h in and_from _ _ (simple_of a q.0) (all_simple s q.1)
+
   -- ---- constants
 
   number_right : (k : TypeKind) (s : Shape) (z : ℤ) → Matches facts k s → is_value k z ≡ true → has_shape (Number z) s ≡ true
@@ -105,9 +164,15 @@ module _ (facts : Facts) (sorted : AreSorted facts) where
   nil_right (kind.ref t) s m h = ap (has_shape (Ref None)) m
   nil_right k s m h = never h
 
-  elements_free : {A : Type 0} (k : TypeKind) (s : Shape) → Matches facts k s → is_sequence k ≡ true → is_free s ≡ true → A
-  elements_free (kind.sequence t) s m h free = never (sym (ap is_free m) ∙ free)
-  elements_free k s m h free = never h
+  -- the elements of a sequence, however many
+  elements_right : (all : Literals) →
+      ((t : Ty) (f : Form) → HasForm facts t f → (i : ℕ) → is_simple (shape_of facts t) ≡ true → are_constants facts (kind.sequence t) i all ≡ true →
+      are_all (literal_values all) (shape_of facts t) ≡ true) →
+      (k : TypeKind) (s : Shape) → Matches facts k s → PartsHave facts k → is_simple s ≡ true → is_sequence k ≡ true → are_constants facts k 0 all ≡ true →
+      has_shape (Parts (literal_values all)) s ≡ true
+  elements_right all each (kind.sequence t) s m p simple is h =
+      ap (has_shape (Parts (literal_values all))) m ∙ each t p.0 p.1 0 (sym (ap is_simple m) ∙ simple) h
+  elements_right all each k s m p simple is h = never is
 
   at_part : (o : Option Ty) (t : Ty) (l : Literal) → o ≡ Some t → for_some o (λ ty. is_constant facts ty l) ≡ true → is_constant facts t l ≡ true
   at_part None t l e h = never h
@@ -121,68 +186,77 @@ module _ (facts : Facts) (sorted : AreSorted facts) where
 
   -- parts, by what holds of rows and of fields
   parts_right : (all : Literals) →
-      ((t : Ty) (f : Form) → HasForm facts t f → (i m n : ℕ) → n ≡ count_literals all → is_free (row n (shape_of facts t)) ≡ true →
+      ((t : Ty) (f : Form) → HasForm facts t f → (i m n : ℕ) → n ≡ count_literals all → is_simple (row n (shape_of facts t)) ≡ true →
       are_constants facts (kind.array m t) i all ≡ true → are_rows (literal_values all) n (shape_of facts t) ≡ true) →
-      ((k : TypeKind) (i : ℕ) (ts : Tys) → ((j : ℕ) → part_at k (j + i) ≡ nth_type ts j) → AllHave facts ts → are_free (shapes_of facts ts) ≡ true →
+      ((k : TypeKind) (i : ℕ) (ts : Tys) → ((j : ℕ) → part_at k (j + i) ≡ nth_type ts j) → AllHave facts ts → are_simple (shapes_of facts ts) ≡ true →
       count_types ts ≡ count_literals all → are_constants facts k i all ≡ true → have_shapes (literal_values all) (shapes_of facts ts) ≡ true) →
-      (k : TypeKind) (s : Shape) → Matches facts k s → PartsHave facts k → is_free s ≡ true → has_parts k (count_literals all) ≡ true →
+      (k : TypeKind) (s : Shape) → Matches facts k s → PartsHave facts k → is_simple s ≡ true → has_parts k (count_literals all) ≡ true →
       are_constants facts k 0 all ≡ true → has_shape (Parts (literal_values all)) s ≡ true
-  parts_right all rows parts_of (kind.array n t) s m p free count h =
+  parts_right all rows parts_of (kind.array n t) s m p simple count h =
       ap (has_shape (Parts (literal_values all))) m
-      ∙ rows t p.0 p.1 0 n n (eqb-true n (count_literals all) count) (sym (ap is_free m) ∙ free) h
-  parts_right all rows parts_of (kind.tuple ts) s m p free count h =
+      ∙ rows t p.0 p.1 0 n n (eqb-true n (count_literals all) count) (sym (ap is_simple m) ∙ simple) h
+  parts_right all rows parts_of (kind.tuple ts) s m p simple count h =
       ap (has_shape (Parts (literal_values all))) m
-      ∙ parts_of (kind.tuple ts) 0 ts (λ j. ap (nth_type ts) (zero_behind j)) p (sym (ap is_free m) ∙ free)
+      ∙ parts_of (kind.tuple ts) 0 ts (λ j. ap (nth_type ts) (zero_behind j)) p (sym (ap is_simple m) ∙ simple)
       (eqb-true (count_types ts) (count_literals all) count) h
-  parts_right all rows parts_of (kind.object true ts) s m p free count h = never (sym (ap is_free m) ∙ free)
-  parts_right all rows parts_of (kind.object false ts) s m p free count h =
+  parts_right all rows parts_of (kind.object true ts) s m p simple count h = never (sym (ap is_simple m) ∙ simple)
+  parts_right all rows parts_of (kind.object false ts) s m p simple count h =
       ap (has_shape (Parts (literal_values all))) m
-      ∙ parts_of (kind.object false ts) 0 ts (λ j. ap (nth_type ts) (zero_behind j)) p (sym (ap is_free m) ∙ free)
+      ∙ parts_of (kind.object false ts) 0 ts (λ j. ap (nth_type ts) (zero_behind j)) p (sym (ap is_simple m) ∙ simple)
       (eqb-true (count_types ts) (count_literals all) count) h
-  parts_right all rows parts_of k s m p free count h = never count
+  parts_right all rows parts_of k s m p simple count h = never count
 
-  -- a row has one that is free where it has any
-  one_free : (n : ℕ) (s : Shape) → is_free (row (suc n) s) ≡ true → is_free (row n s) ≡ true
-  one_free zero s h = refl
-  one_free (suc n) s h = h
+  -- a row has one that is simple where it has any
+  one_simple : (n : ℕ) (s : Shape) → is_simple (row (suc n) s) ≡ true → is_simple (row n s) ≡ true
+  one_simple zero s h = refl
+  one_simple (suc n) s h = h
 
   mutual
-    pub constant_shape : {ty : Ty} {f : Form} → HasForm facts ty f → is_free (shape_of facts ty) ≡ true → (l : Literal) → is_constant facts ty l ≡ true →
+    pub constant_shape : {ty : Ty} {f : Form} → HasForm facts ty f → is_simple (shape_of facts ty) ≡ true → (l : Literal) → is_constant facts ty l ≡ true →
         has_shape (literal_value l) (shape_of facts ty) ≡ true
-    constant_shape {ty} has free (Ordinal z) h = number_right (plain_kind facts ty) (shape_of facts ty) z (plain_shaped facts sorted has).matches h
-    constant_shape {ty} has free (Characters bytes) h = text_right (plain_kind facts ty) (shape_of facts ty) bytes (plain_shaped facts sorted has).matches h
-    constant_shape {ty} has free NoObject h = nil_right (plain_kind facts ty) (shape_of facts ty) (plain_shaped facts sorted has).matches h
-    constant_shape {ty} has free (PartsOf all) h =
+    constant_shape {ty} has simple (Ordinal z) h = number_right (plain_kind facts ty) (shape_of facts ty) z (plain_shaped facts sorted has).matches h
+    constant_shape {ty} has simple (Characters bytes) h = text_right (plain_kind facts ty) (shape_of facts ty) bytes (plain_shaped facts sorted has).matches h
+    constant_shape {ty} has simple NoObject h = nil_right (plain_kind facts ty) (shape_of facts ty) (plain_shaped facts sorted has).matches h
+    constant_shape {ty} has simple (PartsOf all) h =
         let q = and_parts (has_parts (plain_kind facts ty) (count_literals all)) (are_constants facts (plain_kind facts ty) 0 all) h in
         let p = plain_shaped facts sorted has in
-        parts_right all (λ t f is i m n count free h. row_values is i m n all count free h)
-        (λ k i ts same have free count h. part_values k i ts all same have free count h)
-        (plain_kind facts ty) (shape_of facts ty) p.matches p.parts_have free q.0 q.1
-    constant_shape {ty} has free (ElementsOf all) h =
-        elements_free (plain_kind facts ty) (shape_of facts ty) (plain_shaped facts sorted has).matches
-        (and_parts (is_sequence (plain_kind facts ty)) (fits (pos (count_literals all)))
-        (and_parts (is_sequence (plain_kind facts ty) && fits (pos (count_literals all))) (are_constants facts (plain_kind facts ty) 0 all) h).0).0 free
+        parts_right all (λ t f is i m n count simple h. row_values is i m n all count simple h)
+        (λ k i ts same have simple count h. part_values k i ts all same have simple count h)
+        (plain_kind facts ty) (shape_of facts ty) p.matches p.parts_have simple q.0 q.1
+    constant_shape {ty} has simple (ElementsOf all) h =
+        let k = plain_kind facts ty in
+        let q = and_parts (is_sequence k && fits (pos (count_literals all))) (are_constants facts k 0 all) h in
+        let p = plain_shaped facts sorted has in
+        elements_right all (λ t f is i simple h. element_values is i all simple h) k (shape_of facts ty) p.matches p.parts_have simple
+        (and_parts (is_sequence k) (fits (pos (count_literals all))) q.0).0 q.1
 
-    row_values : {t : Ty} {f : Form} → HasForm facts t f → (i m n : ℕ) (all : Literals) → n ≡ count_literals all → is_free (row n (shape_of facts t)) ≡ true →
+    element_values : {t : Ty} {f : Form} → HasForm facts t f → (i : ℕ) (all : Literals) → is_simple (shape_of facts t) ≡ true →
+        are_constants facts (kind.sequence t) i all ≡ true → are_all (literal_values all) (shape_of facts t) ≡ true
+    element_values has i NoLiteral simple h = refl
+    element_values {t} has i (ALiteral first rest) simple h =
+        let q = and_parts (is_constant facts t first) (are_constants facts (kind.sequence t) (suc i) rest) h in
+        and_from _ _ (constant_shape has simple first q.0) (element_values has (suc i) rest simple q.1)
+
+    row_values : {t : Ty} {f : Form} → HasForm facts t f → (i m n : ℕ) (all : Literals) → n ≡ count_literals all → is_simple (row n (shape_of facts t)) ≡ true →
         are_constants facts (kind.array m t) i all ≡ true → are_rows (literal_values all) n (shape_of facts t) ≡ true
-    row_values has i m zero NoLiteral count free h = refl
-    row_values has i m (suc n) NoLiteral count free h = absurd (omega (arith, count))
-    row_values has i m zero (ALiteral first rest) count free h = absurd (omega (arith, count))
-    row_values {t} has i m (suc n) (ALiteral first rest) count free h =
+    row_values has i m zero NoLiteral count simple h = refl
+    row_values has i m (suc n) NoLiteral count simple h = absurd (omega (arith, count))
+    row_values has i m zero (ALiteral first rest) count simple h = absurd (omega (arith, count))
+    row_values {t} has i m (suc n) (ALiteral first rest) count simple h =
         let q = and_parts (is_constant facts t first) (are_constants facts (kind.array m t) (suc i) rest) h in
-        and_from _ _ (constant_shape has free first q.0)
-        (row_values has (suc i) m n rest (omega (arith, count)) (one_free n (shape_of facts t) free) q.1)
+        and_from _ _ (constant_shape has simple first q.0)
+        (row_values has (suc i) m n rest (omega (arith, count)) (one_simple n (shape_of facts t) simple) q.1)
 
     part_values : (k : TypeKind) (i : ℕ) (ts : Tys) (all : Literals) → ((j : ℕ) → part_at k (j + i) ≡ nth_type ts j) → AllHave facts ts →
-        are_free (shapes_of facts ts) ≡ true → count_types ts ≡ count_literals all → are_constants facts k i all ≡ true →
+        are_simple (shapes_of facts ts) ≡ true → count_types ts ≡ count_literals all → are_constants facts k i all ≡ true →
         have_shapes (literal_values all) (shapes_of facts ts) ≡ true
-    part_values k i no_types NoLiteral same have free count h = refl
-    part_values k i (types t ts) NoLiteral same have free count h = absurd (omega (arith, count))
-    part_values k i no_types (ALiteral first rest) same have free count h = absurd (omega (arith, count))
-    part_values k i (types t ts) (ALiteral first rest) same have free count h =
+    part_values k i no_types NoLiteral same have simple count h = refl
+    part_values k i (types t ts) NoLiteral same have simple count h = absurd (omega (arith, count))
+    part_values k i no_types (ALiteral first rest) same have simple count h = absurd (omega (arith, count))
+    part_values k i (types t ts) (ALiteral first rest) same have simple count h =
         let q = and_parts (for_some (part_at k i) (λ ty. is_constant facts ty first)) (are_constants facts k (suc i) rest) h in
         let one = at_part (part_at k i) t first (ap (part_at k) (here_at i) ∙ same 0) q.0 in
-        let u = and_parts (is_free (shape_of facts t)) (are_free (shapes_of facts ts)) free in
+        let u = and_parts (is_simple (shape_of facts t)) (are_simple (shapes_of facts ts)) simple in
         and_from _ _ (constant_shape have.0.1 u.0 first one)
         (part_values k (suc i) ts rest (λ j. ap (part_at k) (next i j) ∙ same (suc j)) have.1 u.1 (omega (arith, count)) q.1)
       where

@@ -1,6 +1,8 @@
 mod Same
 mod LineMaps
 mod ByLines
+mod ByUnits
+mod Standstill
 mod KeptForms
 mod ShapeDepths
 mod ShapeKinds

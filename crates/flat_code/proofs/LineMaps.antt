@@ -1,13 +1,15 @@
 -- Code whose lines become others that do the same shows the same, after each number of lines.
 use Rattle.std.proofs.Common.{◌≡◌, ℕ, zero, suc, List, [], ◌∷◌, map, refl, ap, ◌∙◌, Option, Some, None, Bool, true, false}
 use Rattle.std.specs.Prelude.{option_map, slice_get, if◌then◌else◌}
+use Rattle.arc_base.specs.Event.{Event}
 use Rattle.arc_base.specs.Stepping.{Next, Goes, Ends, Faults, Errs, next_map, after, run}
 use Rattle.nim_meaning.specs.Values.{Value, Slot}
 use Rattle.nim_meaning.specs.Deeds.{Done, Answers, Finishes, Fails}
 use Rattle.flat_code.specs.Scene.{Temps, Scene, Did, Passes, Leaps, Enters, Turns, Calls, Returns}
 use Rattle.flat_code.specs.Scene as scenes
-use Rattle.flat_code.specs.Running.{Proc, Active, Waiting, Machine, no_proc, is_name, from_label, last_of, before_last, callable}
+use Rattle.flat_code.specs.Running.{Proc, Active, Waiting, Machine, Counting, Going, Standing, within, no_proc, is_name, from_label, last_of, before_last, callable}
 use Rattle.flat_code.specs.Running.{scene_of, went, jumped, entered, found, called, returned, settled, step_lines, step, at_first, runs}
+use Rattle.flat_code.specs.Running.{spends, spends_next, counting_step, runs_within}
 
 -- ---- lists
 
@@ -53,6 +55,24 @@ module _ {L M : Type 0} (f : L → M) where
 
   abbrev in_machine : Machine L → Machine M
   in_machine m = record { now = in_active m.now; waiting = map in_waiting m.waiting; world = m.world }
+
+  abbrev in_counting : Counting L → Counting M
+  in_counting (Going units m) = Going units (in_machine m)
+  in_counting Standing = Standing
+
+  going_map : (units : Option ℕ) (x : Next Event (Machine L)) →
+      next_map (Going units) (next_map in_machine x) ≡ next_map in_counting (next_map (Going units) x)
+  going_map units (Goes es w m) = refl
+  going_map units (Ends es w status live) = refl
+  going_map units Faults = refl
+  going_map units Errs = refl
+
+  within_map : (b : Bool) (units : Option ℕ) (x : Next Event (Machine L)) →
+      within b units (next_map in_machine x) ≡ next_map in_counting (within b units x)
+  within_map false units x = going_map units x
+  within_map true None x = going_map None x
+  within_map true (Some zero) x = refl
+  within_map true (Some (suc units)) x = going_map (Some units) x
 
   went_map : (m : Machine L) (rest : List L) (done : Done Temps) →
       went (in_machine m) (map f rest) done ≡ next_map in_machine (went m rest done)
@@ -132,3 +152,32 @@ module _ {L M : Type 0} (f : L → M) where
       runs_map heap input n =
           ap (λ s. run (step label_of' does' (map in_proc procs)) n s [] 0) (first_map heap input)
           ∙ run_map (step label_of' does' (map in_proc procs)) (step label_of does procs) in_machine step_map n (at_first label_of does procs heap input) [] 0
+
+      spent_map : (d : Did) → spends label_of' does' (map in_proc procs) d ≡ spends label_of does procs d
+      spent_map (Passes done) = refl
+      spent_map (Leaps name work) = refl
+      spent_map Enters = refl
+      spent_map (Turns temps name) = refl
+      spent_map (Calls to proc slots work) = refl
+      spent_map (Returns v work) = refl
+      spent_map scenes.Fails = refl
+
+      spends_map : (m : Machine L) (rest : List L) →
+          spends_next label_of' does' (map in_proc procs) (in_machine m) (map f rest) ≡ spends_next label_of does procs m rest
+      spends_map m [] = refl
+      spends_map m (line ∷ rest) = ap (spends label_of' does' (map in_proc procs)) (same (scene_of m) line) ∙ spent_map (does (scene_of m) line)
+
+      counting_map : (c : Counting L) →
+          counting_step label_of' does' (map in_proc procs) (in_counting c) ≡ next_map in_counting (counting_step label_of does procs c)
+      counting_map (Going units m) =
+          ap (λ b. within b units (step label_of' does' (map in_proc procs) (in_machine m))) (spends_map m m.now.rest)
+          ∙ (ap (within (spends_next label_of does procs m m.now.rest) units) (step_map m)
+          ∙ within_map (spends_next label_of does procs m m.now.rest) units (step label_of does procs m))
+      counting_map Standing = refl
+
+      pub runs_within_map : (units heap : ℕ) (input : List ℕ) (n : ℕ) →
+          runs_within label_of' does' (map in_proc procs) units heap input n ≡ runs_within label_of does procs units heap input n
+      runs_within_map units heap input n =
+          ap (λ s. run (counting_step label_of' does' (map in_proc procs)) n (Going (Some units) s) [] 0) (first_map heap input)
+          ∙ run_map (counting_step label_of' does' (map in_proc procs)) (counting_step label_of does procs) in_counting counting_map n
+          (Going (Some units) (at_first label_of does procs heap input)) [] 0

@@ -1,5 +1,6 @@
--- What flat, owned and block code mean: after n lines. They differ in their lines alone: those of flat code are under its plan, those of owned
--- code have the plan's acts in them, and those of block code are to have the error word.
+-- What flat, owned and block code mean: after n lines, of which turns and calls may spend so many units, or as many as there are. They differ in
+-- their lines alone: those of flat code are under its plan, those of owned code have the plan's acts in them, and those of block code are to have
+-- the error word.
 use Rattle.std.specs.Prelude.{◌≡◌, ℕ, ◌+◌, ◌*◌, ◌≤◌, true, List, [], ◌∷◌, map, length, Option, None}
 use Rattle.arc_base.specs.Event.{Event}
 use Rattle.arc_base.specs.Behaviour.{Behaviour}
@@ -24,7 +25,7 @@ use Rattle.flat_code.specs.declared.place.PlaceKind.TheVariants.{Result}
 use Rattle.flat_code.specs.declared.place.FlatPlace.{FlatPlace}
 use Rattle.flat_code.specs.Scene.{Known, known_in, Scene, Did}
 use Rattle.flat_code.specs.Lines.{destination, does, gives, using_place}
-use Rattle.flat_code.specs.Running.{Proc, runs}
+use Rattle.flat_code.specs.Running.{Proc, runs, runs_within}
 use Rattle.flat_code.specs.Whole.{label_in, are_whole}
 use Rattle.flat_code.specs.Fits.{code_fits}
 use Rattle.flat_code.specs.Sizes.{code_weight, data_bytes}
@@ -90,6 +91,9 @@ flat_plain line = line
 abbrev pub flat_meaning : List TypeDef → Code Line → Plan → (heap : ℕ) → (input : List ℕ) → Behaviour Event
 flat_meaning table flat plan heap input = runs label_in (does (known_in table) plan) (procs_of (known_in table) flat) heap input
 
+abbrev pub flat_within : List TypeDef → Code Line → Plan → (units heap : ℕ) → (input : List ℕ) → Behaviour Event
+flat_within table flat plan units heap input = runs_within label_in (does (known_in table) plan) (procs_of (known_in table) flat) units heap input
+
 -- ---- owned code
 
 -- the plan that says nothing
@@ -118,6 +122,9 @@ owned_does known x (O.Take to from how act ty) =
 abbrev pub owned_meaning : List TypeDef → Code OwnedLine → (heap : ℕ) → (input : List ℕ) → Behaviour Event
 owned_meaning table owned heap input = runs owned_label (owned_does (known_in table)) (procs_of (known_in table) owned) heap input
 
+abbrev pub owned_within : List TypeDef → Code OwnedLine → (units heap : ℕ) → (input : List ℕ) → Behaviour Event
+owned_within table owned units heap input = runs_within owned_label (owned_does (known_in table)) (procs_of (known_in table) owned) units heap input
+
 -- ---- block code
 
 abbrev pub block_plain : BlockLine → Line
@@ -131,3 +138,6 @@ block_does known x (B.Plain line) = owned_does known x line
 
 abbrev pub block_meaning : List TypeDef → Code BlockLine → (heap : ℕ) → (input : List ℕ) → Behaviour Event
 block_meaning table blocks heap input = runs block_label (block_does (known_in table)) (procs_of (known_in table) blocks) heap input
+
+abbrev pub block_within : List TypeDef → Code BlockLine → (units heap : ℕ) → (input : List ℕ) → Behaviour Event
+block_within table blocks units heap input = runs_within block_label (block_does (known_in table)) (procs_of (known_in table) blocks) units heap input

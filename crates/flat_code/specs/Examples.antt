@@ -39,7 +39,7 @@ abbrev nowhere : Place
 nowhere = record { «module» = 0; line = 1; column = 1 }
 
 abbrev place : PlaceKind → (ty number : ℕ) → FlatPlace
-place kind ty number = record { number = number; at = nowhere; kind = kind; ty = ty; hooked = false; resource = false; copies = true }
+place kind ty number = record { number = number; at = nowhere; kind = kind; ty = ty; hooked = false; resource = false; copies = true; waits = None }
 
 -- places of one kind and type
 abbrev places : PlaceKind → (ty : ℕ) → List ℕ → List FlatPlace

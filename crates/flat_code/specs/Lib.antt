@@ -8,5 +8,6 @@ pub mod Fits
 pub mod Sizes
 pub mod Alike
 pub mod PlainCode
+pub mod Waits
 pub mod Codes
 pub mod Examples

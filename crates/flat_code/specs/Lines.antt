@@ -10,16 +10,16 @@ use Rattle.nim_program.specs.Program.{Label, Ordinals, Exactly, Doing, Building}
 use Rattle.nim_program.specs.View.{if_type, label_of}
 use Rattle.nim_meaning.specs.Values.{Value, Number, Fixed, nothing, number_of, length_of, bytes, default_of, Standing, Waiting, Made, Location, at_base, Holds}
 use Rattle.nim_meaning.specs.Values.{Stands, Operand, Given, At, operand, value, location, slots_for}
-use Rattle.nim_meaning.specs.State.{World, slot_at, load, text_of}
+use Rattle.nim_meaning.specs.State.{World, slot_at, load, text_of, is_whole}
 use Rattle.nim_meaning.specs.Acts.{branch}
-use Rattle.nim_meaning.specs.Deeds.{Deed, Opens, Waits, Leaves, perform, give, ◌>>=◌, ◌>>◌, costs, looks, does as changes, stop}
+use Rattle.nim_meaning.specs.Deeds.{Deed, Opens, Waits, Leaves, perform, give, ◌>>=◌, ◌>>◌, costs, sees, does as changes, stop}
 use Rattle.nim_meaning.specs.Deeds as deeds
 use Rattle.nim_types.specs.Forms.{Form, form_of}
-use Rattle.nim_meaning.specs.Here.{gives_hooked}
+use Rattle.nim_meaning.specs.Here.{gives_hooked, any_hooked}
 use Rattle.nim_meaning.specs.Lifted.{temporary_ends, assigned}
 use Rattle.flat_code.specs.Pieces.{value_of, pieces_bytes}
 use Rattle.nim_meaning.specs.Table.{constant_row}
-use Rattle.nim_meaning.specs.Places.{Destination, made_by, place_at, rooted, made, to_part, to_item, to_object, item_of, fetched, put}
+use Rattle.nim_meaning.specs.Places.{Destination, made_by, place_at, rooted, made, to_part, to_item, to_object, length_at, fetched, fetched_item, put}
 use Rattle.nim_meaning.specs.Steps.{row, got_by, handed_by, fits_label, label_work}
 use Rattle.nim_meaning.specs.Meaning.{limit, place_ends, place_copies}
 use Rattle.nim_meaning.specs.Aims.{handed_bytes}
@@ -30,7 +30,9 @@ use Rattle.flat_code.specs.declared.line.Owning.{Owning}
 use Rattle.flat_code.specs.declared.line.Owning.TheVariants as W
 use Rattle.flat_code.specs.declared.line.Line.{Line}
 use Rattle.flat_code.specs.declared.line.Line.TheVariants as L
-use Rattle.flat_code.specs.Scene.{Where, Located, Within, Temps, with_value, with_place, location_at, led}
+use Rattle.nim_program.specs.declared.operation.Operation.{Operation}
+use Rattle.nim_program.specs.declared.operation.Operation.TheVariants as O
+use Rattle.flat_code.specs.Scene.{Where, Located, Within, Temps, without, with_value, with_place, location_at, led}
 use Rattle.flat_code.specs.Scene.{Scene, Did, Passes, Leaps, Enters, Turns, Calls, Returns, Fails}
 use Rattle.flat_code.specs.Scene.{Known}
 
@@ -94,11 +96,11 @@ fills level place v = costs (bytes v) (changes (Opens level place (Holds v)) >> 
 -- ---- loops
 
 abbrev pub still : Location → ℤ → Deed Value
-still location n = looks (λ world. deeds.branch (int_eq (pos (length_of (load world location))) n) (give nothing) (stop LengthChanged))
+still location n = sees location (λ world v. deeds.branch (int_eq (pos (length_of v)) n) (give nothing) (stop LengthChanged))
 
 -- the value of an element, which has to be there
 abbrev pub element_at : Location → ℤ → Deed Value
-element_at location z = looks (λ world. fetched (item_of (load world location) location (unsigned_abs z)))
+element_at location z = fetched_item location (unsigned_abs z)
 
 -- after so much work, control goes on at a label where something holds
 abbrev pub leaps_where : Scene → (work : ℕ) → Bool → (label : ℕ) → Did
@@ -128,6 +130,11 @@ abbrev pub compared_by : Label → World → Value → Value
 compared_by (Ordinals low high) world v = v
 compared_by (Exactly text) world v = Fixed (text_of world v)
 
+-- what a text has is looked at, and has to be there
+abbrev pub if_whole : Label → World → Value → Did → Did
+if_whole (Ordinals low high) world v did = did
+if_whole (Exactly text) world v did = branch (is_whole world v) did Fails
+
 -- ---- what is done with a value that somebody owns
 
 abbrev pub form_in : Known → (ty : ℕ) → Form
@@ -148,11 +155,30 @@ if_filled (W.PlaceEnds place ty) x did = if_open x.world x.level place did
 if_filled (W.ResultGets place ty) x did = if_open x.world x.level place did
 if_filled what x did = did
 
+-- ---- what is handed over
+
+-- A value with hooks that trades places with what a place held is in its temporary no more.
+abbrev pub handed_over : List From → Temps → Temps
+handed_over [] temps = temps
+handed_over (F.Value t ∷ from) temps = handed_over from (record temps { values = without temps.values t })
+handed_over (F.Place t ∷ from) temps = handed_over from temps
+
+abbrev pub without_all : List From → Scene → Scene
+without_all from x = record x { temps = handed_over from x.temps }
+
+abbrev pub traded : (hooked : Bool) → Operation → List From → List From
+traded true O.Assign (place ∷ from) = from
+traded hooked operation from = []
+
+abbrev pub traded_by : Owning → List From → List From
+traded_by (W.ResultGets place ty) from = from
+traded_by what from = []
+
 -- ---- lines
 
 abbrev pub does : Known → Plan → Scene → Line → Did
 does known plan x (L.Apply to operation how ty of from) =
-    using_all x.temps from (λ xs. gives x to
+    using_all x.temps from (λ xs. gives (without_all (traded (any_hooked known.facts (map (if_type known.types) of)) operation from) x) to
     (row known.facts (Doing operation) (destination x how) (if_type known.types ty) (map (if_type known.types) of) xs))
 does known plan x (L.Construct to how ty fields from) =
     using_all x.temps from (λ xs. gives x to (row known.facts (Building fields) (destination x how) (Some (type_at known.types ty)) [] xs))
@@ -178,10 +204,10 @@ does known plan x (L.Truth to value) = gives x to (costs 1 (give (Number (truth 
 does known plan x (L.Fill place from) = using (x.temps.values from) (λ v. acts x (costs 1 (fills x.level place v)))
 does known plan x (L.Blank place ty) = acts x (costs 1 (fills x.level place (default_of known.facts (type_at known.types ty))))
 does known plan x (L.Give place from) = using (x.temps.values from) (λ v. acts x (costs 1 (put (place_at x.level place) v)))
-does known plan x (L.Own what from) = using_all x.temps from (λ xs. if_filled what x (acts x (costs 1 (owns known what x.level xs))))
+does known plan x (L.Own what from) = using_all x.temps from (λ xs. if_filled what x (acts (without_all (traded_by what from) x) (costs 1 (owns known what x.level xs))))
 does known plan x (L.Zero to) = gives x to (costs 1 (give (Number (pos 0))))
 does known plan x (L.Length to from) =
-    using_place x.temps from (λ place location. gives x to (costs 1 (looks (λ world. give (Number (pos (length_of (load world location))))))))
+    using_place x.temps from (λ place location. gives x to (costs 1 (length_at location >>= (λ n. give (Number (pos n))))))
 does known plan x (L.Still from len) =
     using_place x.temps from (λ place location. using_number x.temps len (λ n. acts x (costs 1 (still location n))))
 does known plan x (L.Element to from index) =
@@ -197,7 +223,8 @@ does known plan x (L.Label name) = acts x (costs 1 (give nothing))
 does known plan x (L.Jump to) = Leaps to 1
 does known plan x (L.Unless from to) = using_number x.temps from (λ z. leaps_where x 1 (not (is_true z)) to)
 does known plan x (L.Fits from these to) =
-    using (x.temps.values from) (λ v. leaps_where x (label_work (label_of these)) (fits_label (label_of these) (compared_by (label_of these) x.world v)) to)
+    using (x.temps.values from) (λ v. if_whole (label_of these) x.world v
+    (leaps_where x (label_work (label_of these)) (fits_label (label_of these) (compared_by (label_of these) x.world v)) to))
 does known plan x L.Enter = Enters
 does known plan x (L.Turn to) = Turns x.temps to
 does known plan x (L.TurnIf from to) = using_number x.temps from (λ z. turns_where x (is_true z) x.temps to)

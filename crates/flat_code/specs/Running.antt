@@ -1,11 +1,11 @@
 -- How code runs whose lines each do something by themselves: with a list of calls that are active. Flat, owned and block code are such code,
 -- each with lines of its own.
-use Rattle.std.specs.Prelude.{ℕ, zero, suc, ◌+◌, nat_eq, Bool, true, false, if◌then◌else◌}
+use Rattle.std.specs.Prelude.{◌≡◌, ℕ, zero, suc, ◌+◌, nat_eq, Bool, true, false, if◌then◌else◌}
 use Rattle.std.specs.Prelude.{List, [], ◌∷◌, ◌++◌, length, Option, Some, None, slice_get}
 use Rattle.arc_base.specs.Event.{Event, writes}
 use Rattle.arc_base.specs.declared.outside.Stream.TheVariants.{Err}
 use Rattle.arc_base.specs.Behaviour.{Behaviour, Seen, Running}
-use Rattle.arc_base.specs.Stepping.{Next, Goes, Ends, Faults, Errs, seen, after, behaviour}
+use Rattle.arc_base.specs.Stepping.{Next, Goes, Ends, Faults, Errs, next_map, seen, after, behaviour}
 use Rattle.nim_program.specs.declared.program.TheConstants.{ACTIVE_CALLS}
 use Rattle.nim_program.specs.declared.program.HookOf.{HookOf}
 use Rattle.nim_program.specs.Traps.{Trap, CallDepth, trap_text}
@@ -44,6 +44,11 @@ pub record Machine (L : Type 0) : Type 0 where
   pub now : Active L
   pub waiting : List (Waiting L)
   pub world : World
+
+-- a machine that may still spend so many units, None: as many as there are; or a run that stands still, since one was missing
+pub data Counting (L : Type 0) : Type 0 where
+  Going : (units : Option ℕ) (machine : Machine L) → Counting L
+  Standing : Counting L
 
 -- ---- looking up
 
@@ -137,6 +142,17 @@ returned m v work (w ∷ waiting) = Goes [] work (record {
   world = down_to m.now.level m.world;
 })
 
+-- the same is seen but for the work
+abbrev pub ShowsAlike : (a b : Seen Event) → Type 0
+ShowsAlike a b = (a.events ≡ b.events) × (a.phase ≡ b.phase)
+
+-- What comes of a line, by whether it spends a unit. One that would spend a unit that isn't there is a work, and isn't carried out.
+abbrev pub within : {L : Type 0} → (spends : Bool) → Option ℕ → Next Event (Machine L) → Next Event (Counting L)
+within false units next = next_map (Going units) next
+within true None next = next_map (Going None) next
+within true (Some zero) next = Goes [] 1 Standing
+within true (Some (suc units)) next = next_map (Going (Some units)) next
+
 module _ {L : Type 0} (label_of : L → Option ℕ) (does : Scene → L → Did) (procs : List (Proc L)) where
   abbrev pub settled : Machine L → List L → Did → Next Event (Machine L)
   settled m rest (Passes done) = went m rest done
@@ -195,3 +211,11 @@ module _ {L : Type 0} (label_of : L → Option ℕ) (does : Scene → L → Did)
   run_by zero m units out work = seen out Running work
   run_by (suc n) m units out work =
       with_units (unit_left (spends_next m m.now.rest) units) (λ left. after (step m) (λ next. run_by n next left) out work) (seen out Running work)
+
+  -- the same, of a machine that counts
+  abbrev pub counting_step : Counting L → Next Event (Counting L)
+  counting_step (Going units m) = within (spends_next m m.now.rest) units (step m)
+  counting_step Standing = Goes [] 0 Standing
+
+  abbrev pub runs_within : (units heap : ℕ) (input : List ℕ) → Behaviour Event
+  runs_within units heap input = behaviour counting_step (Going (Some units) (at_first heap input))

@@ -24,6 +24,9 @@ no_temps = record { values = λ t. None; places = λ t. None }
 abbrev pub put : {A : Type 0} → (ℕ → Option A) → ℕ → A → ℕ → Option A
 put held t x u = if nat_eq u t then Some x else held u
 
+abbrev pub without : {A : Type 0} → (ℕ → Option A) → ℕ → ℕ → Option A
+without held t u = if nat_eq u t then None else held u
+
 abbrev pub with_value : ℕ → Temps → Value → Temps
 with_value t temps v = record temps { values = put temps.values t v }
 

@@ -43,4 +43,6 @@ pub struct FlatPlace {
     pub resource: bool,
     /// Whether its values can be copied.
     pub copies: bool,
+    /// The node at which the value of a temporary waits, if it does.
+    pub waits: Option<u32>,
 }

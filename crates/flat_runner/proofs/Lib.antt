@@ -3,6 +3,7 @@ mod StartRows
 mod Falling
 mod Running
 mod Placing
+mod Seen
 mod Bare
 mod Rows
 mod TempRows

@@ -2,9 +2,10 @@
 use Rattle.std.proofs.Common.{◌≡◌, ℕ, zero, suc, ◌<◌, ◌≤◌, Bool, true, false, List, [], ◌∷◌}
 use Rattle.std.proofs.Common.{◌++◌, length, map, Vec, Global, refl, sym, ap, ◌∙◌, arith, get_or, set}
 use Rattle.std.proofs.lemmas.Bool.{true≢false, eqb-true}
-use Rattle.std.specs.Prelude.{ℤ, pos, ◌==◌, unsigned_abs, Result, Ok, Err, IfOk}
+use Rattle.std.specs.Prelude.{ℤ, pos, ◌==◌, Result, Ok, Err, IfOk}
 use Rattle.arc_base.specs.declared.bytes.Memory.{Memory}
 use mathlib.Core.Former.{Count}
+use Rattle.nim_program.specs.Ints.{low_byte}
 use Rattle.nim_meaning.specs.Values.{Value, Number, Parts, Handle, Fixed, Ref, Resource, Gone, Vacant, Values}
 use Rattle.nim_meaning.specs.Values.{number_of, Nil, More, nothing, count, nth, with_nth, with_part, part, parts_of}
 use Rattle.nim_meaning.specs.Values.{characters}
@@ -90,7 +91,7 @@ pub with_part_twice : (v : Value) (i : ℕ) (x y : Value) → with_part (with_pa
 with_part_twice (Number n) i x y = refl
 with_part_twice (Parts all) i x y = ap Parts (with_nth_twice all i x y)
 with_part_twice (Handle n k) i x y = refl
-with_part_twice (Fixed text) i x y = ap Fixed (set_twice text i (unsigned_abs (number_of x)) (unsigned_abs (number_of y)))
+with_part_twice (Fixed text) i x y = ap Fixed (set_twice text i (low_byte (number_of x)) (low_byte (number_of y)))
 with_part_twice (Ref k) i x y = refl
 with_part_twice (Resource all k) i x y = ap (λ l. Resource l k) (with_nth_twice all i x y)
 with_part_twice (Gone v final) i x y = refl

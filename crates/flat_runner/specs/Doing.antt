@@ -1,23 +1,27 @@
 -- What lines and operations do, without the work that they take, and without the world that an ended run leaves.
 -- It serves proofs alone: the promise of `mean` doesn't speak of it.
-use Rattle.std.specs.Prelude.{◌≡◌, ℕ, List, [], Option, Some, None, map}
+use Rattle.std.specs.Ordering.{int_eq}
+use Rattle.std.specs.Prelude.{◌≡◌, ℕ, pos, unsigned_abs, List, [], Option, Some, None, map}
 use Rattle.arc_base.specs.Event.{writes}
 use Rattle.arc_base.specs.declared.outside.Stream.TheVariants.{Out as Output, Err as Errors}
 use Rattle.nim_types.specs.Table.{type_at, types_in, facts_in}
 use Rattle.nim_plan.specs.declared.plan.Plan.{Plan}
 use Rattle.nim_program.specs.declared.operation.Operation.{Operation}
+use Rattle.nim_program.specs.Ints.{inside}
+use Rattle.nim_program.specs.Traps.{IndexOutOfBounds, LengthChanged}
 use Rattle.nim_program.specs.View.{if_type}
-use Rattle.nim_meaning.specs.Values.{Value, Number, nothing, default_of, Slot, Holds, Location, location_of, nowhere, values_in}
+use Rattle.nim_meaning.specs.Acts.{branch as whether}
+use Rattle.nim_meaning.specs.Values.{Value, Number, item_of, length_of, nothing, default_of, Slot, Holds, Location, location_of, nowhere, values_in}
 use Rattle.nim_meaning.specs.Places.{place_at}
-use Rattle.nim_meaning.specs.State.{World, with_slot, store, world_of as first_world}
-use Rattle.nim_meaning.specs.Deeds.{Done, Answers, Finishes, Fails as DeedFails, give, perform}
+use Rattle.nim_meaning.specs.State.{World, load, with_slot, store, world_of as first_world}
+use Rattle.nim_meaning.specs.Deeds.{Done, Answers, Finishes, Fails as DeedFails, branch, give, perform, stop}
 use Rattle.nim_meaning.specs.Table.{does as operates, with_fields}
 use Rattle.nim_program.specs.declared.expr.Label.TheVariants as C
 use Rattle.flat_code.specs.declared.line.From.{From}
 use Rattle.flat_code.specs.declared.line.Line.{Line}
 use Rattle.flat_code.specs.declared.line.Line.TheVariants as L
 use Rattle.flat_code.specs.Scene.{Scene, Temps, Located, Did, Passes, Leaps, Enters, Turns, Calls, Returns, Fails, Known, known_in, with_value, with_place}
-use Rattle.flat_code.specs.Lines.{does, gives, using, using_all}
+use Rattle.flat_code.specs.Lines.{acts, does, gives, leads, using, using_all, using_number, using_place}
 use Rattle.flat_code.specs.Pieces.{value_of as value_of_pieces}
 use Rattle.flat_runner.specs.declared.brief.Brief.{Brief}
 use Rattle.flat_runner.specs.declared.brief.Brief.TheVariants as B
@@ -78,14 +82,27 @@ operated w x operation ty of from =
 
 -- ---- lines
 
--- What a line of plain code does, which has nothing to do with hooks. Lines that plain code has none of are at a fault.
+-- What a line of plain code does, which has nothing to do with hooks, where what it looks at is there. Lines that plain code has none of are at a fault.
 abbrev pub plainly : Known → Plan → Scene → Line → Did
 plainly known plan x (L.Apply to operation how ty of from) =
     using_all x.temps from (λ xs. gives x to (operates operation known.facts (if_type known.types ty) (map (if_type known.types) of) xs))
 plainly known plan x (L.Construct to how ty fields from) =
     using_all x.temps from (λ xs. gives x to (give (with_fields (default_of known.facts (type_at known.types ty)) fields (values_in xs))))
 plainly known plan x (L.Constant to how ty pieces) = gives x to (give (value_of_pieces pieces))
-plainly known plan x (L.Get to from how ty) = does known plan x (L.Look to from)
+plainly known plan x (L.Get to from how ty) = using_place x.temps from (λ place location. gives x to (give (load x.world location)))
+plainly known plan x (L.Look to from) = using_place x.temps from (λ place location. gives x to (give (load x.world location)))
+plainly known plan x (L.Item to from index) =
+    using_place x.temps from (λ place location. using_number x.temps index (λ z. leads x to place
+    (branch (inside z (length_of (load x.world location))) (give (item_of (load x.world location) location (unsigned_abs z))) (stop IndexOutOfBounds))))
+plainly known plan x (L.Length to from) =
+    using_place x.temps from (λ place location. gives x to (give (Number (pos (length_of (load x.world location))))))
+plainly known plan x (L.Still from len) =
+    using_place x.temps from (λ place location. using_number x.temps len (λ n. acts x
+    (branch (int_eq (pos (length_of (load x.world location))) n) (give nothing) (stop LengthChanged))))
+plainly known plan x (L.Element to from index) =
+    using_place x.temps from (λ place location. using_number x.temps index (λ z.
+    whether (inside z (length_of (load x.world location)))
+    (gives x to (give (load x.world (item_of (load x.world location) location (unsigned_abs z))))) Fails))
 plainly known plan x (L.Pass to from how ty) = using (x.temps.values from) (λ v. gives x to (give v))
 plainly known plan x (L.Fresh to from (Some node)) = Fails
 plainly known plan x (L.Fits from (C.Text text) to) = Fails

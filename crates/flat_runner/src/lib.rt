@@ -12,8 +12,8 @@
 //! that comes to a number, a place or a jump answers a small one, and is tried first (brief.rt). One
 //! function carries that out (step.rt), so all else changes nothing; `mean` goes on from step to step.
 //!
-//! `Memory` is answered where memory was refused, and in two cases that no typed program comes to: a
-//! value with more parts than an int says, and a char above 255 in a text.
+//! `Memory` is answered where memory was refused, and where a value has more parts than an int says,
+//! to which no typed program comes.
 #![tactic(auto)]
 
 mod act;

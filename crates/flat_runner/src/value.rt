@@ -2,9 +2,10 @@
 ghost use Rattle.flat_runner.specs.View.{found_value, int_of, value_of, values_of};
 ghost use Rattle.nim_meaning.specs.Values.{Fixed, Number, characters, length_of, nothing, nth, number_of};
 ghost use Rattle.nim_meaning.specs.Values.{part, parts_of, put_part, with_nth, with_part};
-ghost use Rattle.std.specs.Prelude.{IfOk, Some, map, slice_set};
-ghost use Rattle.std.specs.Prelude.{unsigned_abs, ◌≡◌};
+ghost use Rattle.nim_program.specs.Ints.{low_byte};
+ghost use Rattle.std.specs.Prelude.{IfOk, Some, map, slice_set, ◌≡◌};
 
+use crate::numbers::low_byte;
 use arc_base::Memory;
 use std::alloc::Global;
 use std::mem::replace;
@@ -216,14 +217,11 @@ fn byte_exchanged(text: Vec<u8>, i: usize, new: u8) -> (Vec<u8>, Value)
     (text, Value::Number(i32::from(old)))
 }
 
-// A text with another char. No char is above 255.
-fn with_char(text: Vec<u8>, i: usize, z: i32) -> Result<Value, Memory>
-    ensures { IfOk result (λ v. value_of v ≡ Fixed (slice_set text.items i (unsigned_abs z))) }
+// A text with another char.
+fn with_char(text: Vec<u8>, i: usize, z: i32) -> Value
+    ensures { value_of result ≡ Fixed (slice_set text.items i (low_byte z)) }
 {
-    match u8::try_from(z.unsigned_abs()) {
-        Err(_) => Err(Memory),
-        Ok(byte) => Ok(Value::Text(byte_exchanged(text, i, byte).0)),
-    }
+    Value::Text(byte_exchanged(text, i, low_byte(z)).0)
 }
 
 /// A value with another part.
@@ -236,7 +234,7 @@ pub fn with_part(v: Value, i: usize, new: Value) -> Result<Value, Memory>
             hooks,
             all: exchanged(all, i, new).0,
         }),
-        Value::Text(text) => with_char(text, i, number(&new)),
+        Value::Text(text) => Ok(with_char(text, i, number(&new))),
         Value::Empty => Ok(Value::Empty),
         Value::Nil => Ok(Value::Nil),
     }

@@ -1,8 +1,9 @@
 -- What is done with operands: one line, for all operations and for calls, whose values wait by one more.
-use Rattle.std.proofs.Common.{◌≡◌, ℕ, suc, ◌+◌, ◌*◌, Bool, true, false, List, [], ◌∷◌, Option, Some, None, refl, sym, ap, ap₂, ◌∙◌, subst, arith}
+use Rattle.std.proofs.Common.{◌≡◌, ℕ, suc, ◌+◌, ◌*◌, Bool, true, false, List, [], ◌∷◌, Option, Some, None, refl, ap, ap₂, ◌∙◌, arith, ◌<◌, ◌≤◌}
 use Rattle.std.specs.Prelude.{length, map, option_map, ◌&&◌, ◌||◌, if◌then◌else◌}
 use Rattle.nim_types.specs.Types.{Ty, Facts}
 use Rattle.nim_types.specs.Table.{type_at as type_by_number}
+use Rattle.nim_program.specs.declared.operation.Operation.{Operation}
 use Rattle.nim_program.specs.declared.operation.Operation.TheVariants as O
 use Rattle.nim_program.specs.declared.expr.Node.{Node}
 use Rattle.nim_program.specs.declared.operation.Use.{Use}
@@ -15,29 +16,31 @@ use Rattle.nim_meaning.specs.Values.{Value, Holds, bytes, literal_value, nothing
 use Rattle.nim_meaning.specs.State.{State, slot_at}
 use Rattle.nim_meaning.specs.Shapes.{waits}
 use Rattle.nim_meaning.specs.Acts.{worked}
-use Rattle.nim_meaning.specs.Deeds.{Deed, Waits, Changes, Gives, carry, give, branch, costs, ◌>>=◌}
-use Rattle.nim_meaning.specs.Here.{Here, gives_hooked, form_for}
+use Rattle.nim_meaning.specs.Deeds.{Deed, Waits, Changes, Gives, carry, give, branch, costs, looks, ◌>>=◌}
+use Rattle.nim_meaning.specs.Here.{Here, gives_hooked, any_hooked, form_for}
 use Rattle.nim_meaning.specs.Places.{Destination, made_by, kept_if}
-use Rattle.nim_meaning.specs.Table.{default_for, literal_bytes, with_fields, moved, operates, constant_for, constant_row}
+use Rattle.nim_meaning.specs.Table.{default_for, literal_bytes, with_fields, operates, constant_for, constant_row}
 use Rattle.nim_meaning.specs.Table as table
 use Rattle.nim_meaning.specs.Meaning.{destination, row, left_at, carried, handed_by, handed_on}
 use Rattle.nim_meaning.specs.Aims.{handed_over, handed_bytes}
+use Rattle.flat_code.specs.declared.line.From.{From}
 use Rattle.flat_code.specs.declared.line.From.TheVariants as F
 use Rattle.flat_code.specs.declared.line.Owning.TheVariants as W
 use Rattle.flat_code.specs.declared.line.Line.{Line}
 use Rattle.flat_code.specs.declared.line.Line.TheVariants as L
 use Rattle.flat_code.specs.Pieces.{value_of, pieces_bytes, pieces_of}
 use Rattle.flat_code.specs.Scene.{Scene, Temps, with_value, Did, Calls}
-use Rattle.flat_code.specs.Lines.{is_there, using, using_all}
+use Rattle.flat_code.specs.Lines.{is_there, using, using_all, handed_over as without_handed, traded}
 use Rattle.flat_code.specs.Lines as does
-use Rattle.flattening.specs.Numbering.{type_number, if_number, all_numbers}
-use Rattle.flattening.specs.ExprLines.{use_at, froms, act_line, back_line, none_fits, handed_on as handed_on_line}
+use Rattle.flattening.specs.Numbering.{type_number, if_number, all_numbers, width, width_at, widths}
+use Rattle.flattening.specs.ExprLines.{use_at, is_copied, is_lent_at, froms, act_line, back_line, none_fits, handed_on as handed_on_line}
 use Rattle.flattening.specs.Flattened.{modes_of}
 use Rattle.flattening.specs.Formed.{Scope, IsListed, IfListed, AreListed, ActFormed, count, taken_by}
 use Rattle.flattening.proofs.Runs.{Runs, pays, known}
 use Rattle.flattening.proofs.Worlds.{since_none}
 use Rattle.flattening.proofs.Openings.{answering_all}
-use Rattle.flattening.proofs.Temps.{Kept, kept_none, kept_value, kept_then, kept_wide, put_same}
+use Rattle.flattening.proofs.Temps.{Kept, AreWithin, within_wide, kept_none, kept_value, kept_handed, kept_wide, put_same}
+use Rattle.flattening.proofs.Widths.{some_width}
 use Rattle.flattening.proofs.Literals.{pieces_value, pieces_cost}
 use Rattle.flattening.proofs.Spots.{Spot, here_of, there, scene, does_at, Lands, past, after, answers, further, performs, performs_ticked}
 use Rattle.flattening.proofs.Standing.{grounded, Stands}
@@ -52,6 +55,32 @@ type_is types (Some ty) h = ap (λ t. Some t) h
 pub types_are : (types : List Ty) (tys : List (Option Ty)) → AreListed types tys → map (if_type types) (all_numbers types tys) ≡ tys
 types_are types [] h = refl
 types_are types (ty ∷ tys) h = ap₂ (λ t ts. t ∷ ts) (type_is types ty h.0) (types_are types tys h.1)
+
+-- ---- what is handed over
+
+taken_within : {lo hi t : ℕ} (copied lent : Bool) (from : List From) → lo ≤ t → t < hi → AreWithin lo hi from →
+    AreWithin lo hi ((if copied then F.Place (suc t) else if lent then F.Place t else F.Value t) ∷ from)
+taken_within true lent from low high w = w
+taken_within false true from low high w = w
+taken_within false false from low high w = (low, high, w)
+
+-- operands stand in the temporaries of their own parts
+pub froms_within : (facts : Facts) (act : Act) (args : Args) (uses : ℕ → Use) (i t : ℕ) → AreWithin t (t + widths args) (froms facts act args uses i t)
+froms_within facts act NoArg uses i t = tt
+froms_within facts act (ByValue value rest) uses i t =
+    let w = some_width value in
+    taken_within (is_copied facts (uses i) value) (is_lent_at facts act (uses i) value) (froms facts act rest uses (suc i) (t + width value)) (omega arith)
+    (omega (arith, w))
+    (within_wide (froms facts act rest uses (suc i) (t + width value)) (omega arith) (omega arith) (froms_within facts act rest uses (suc i) (t + width value)))
+froms_within facts act (ByPath path rest) uses i t =
+    within_wide (froms facts act rest uses (suc i) (t + width_at path)) (omega arith) (omega arith)
+    (froms_within facts act rest uses (suc i) (t + width_at path))
+
+traded_within : (lo hi : ℕ) (hooked : Bool) (operation : Operation) (from : List From) → AreWithin lo hi from → AreWithin lo hi (traded hooked operation from)
+traded_within lo hi true O.Assign [] w = tt
+traded_within lo hi true O.Assign (F.Value t ∷ from) w = w.2
+traded_within lo hi true O.Assign (F.Place t ∷ from) w = w
+traded_within lo hi hooked operation from w = tt
 
 -- ---- calls from a spot
 
@@ -99,18 +128,20 @@ module _ (c : Spot) (top : Bool) (room : ℕ → Type 0) (names : (proc place : 
   own : (t : ℕ) (temps : Temps) (v : Value) → Kept t (suc t) temps (with_value t temps v)
   own t temps v = kept_value t v (omega arith) (omega arith) (kept_none t (suc t) temps)
 
-  -- a temporary gets what a deed gives, which is one work and more
-  gives_follow : (l : Line) (deed : Deed Value) (t : ℕ) (k : List Line) (temps : Temps) (s : State) →
-      does_at c temps s.world l ≡ does.gives (scene c temps s.world) t (costs 1 deed) →
-      Runs c.fixed (Lands c k t (suc t) temps s.world (Has t)) 0 2 (there c (l ∷ k) temps s.world) s.meter (carry (costs 1 deed) s)
-  gives_follow l deed t k temps s is =
-      performs_ticked c (λ v. with_value t temps v) deed s (omega arith)
-      (answering_all (λ v. Has t v (with_value t temps v)) (λ v. put_same temps.values t v) deed) (own t temps) is
+  -- a temporary gets what a deed gives, which is one work and more; what is handed over is in its temporaries no more
+  gives_follow : (from : List From) (l : Line) (deed : Deed Value) (t hi : ℕ) (k : List Line) (temps : Temps) (s : State) → t < hi → AreWithin t hi from →
+      does_at c temps s.world l ≡ does.gives (scene c (without_handed from temps) s.world) t (costs 1 deed) →
+      Runs c.fixed (Lands c k t hi temps s.world (Has t)) 0 2 (there c (l ∷ k) temps s.world) s.meter (carry (costs 1 deed) s)
+  gives_follow from l deed t hi k temps s less within is =
+      let left = without_handed from temps in
+      performs_ticked c (λ v. with_value t left v) deed s (omega arith)
+      (answering_all (λ v. Has t v (with_value t left v)) (λ v. put_same left.values t v) deed)
+      (λ v. kept_value t v (omega arith) less (kept_handed from within (kept_none t hi temps))) is
 
   -- a literal, by the line of its type's number
   abbrev literal_deed : Literal → Destination → Ty → Deed Value
   literal_deed literal to ty =
-      costs (literal_bytes literal) (constant_for (gives_hooked facts (Some ty)) (form_for facts (Some ty)) (literal_value literal))
+      constant_for (gives_hooked facts (Some ty)) (form_for facts (Some ty)) (literal_bytes literal) (literal_value literal)
       >>= made_by (gives_hooked facts (Some ty)) to
 
   literal_line : (x : Scene) (t : ℕ) (literal : Literal) (to : Destination) (ty : Ty) → IsListed types ty →
@@ -147,35 +178,45 @@ module _ (c : Spot) (top : Bool) (room : ℕ → Type 0) (names : (proc place : 
 
   pub act_follows : CallsFollow c names → (act : Act) (operands : Args) (node : Node) (ty : Option Ty) →
       ActFormed (grounded c top room names) Open ty act operands → (how : Use) (xs : List Operand) (u t : ℕ) (k : List Line) (temps : Temps) (s : State) →
-      Takes act operands (use_of modes act) u xs temps → Stands c room Open s.world →
-      Runs c.fixed (Lands c k t (suc t) temps s.world (Has t)) 0 2
+      t < u → Takes act operands (use_of modes act) u xs temps → Stands c room Open s.world →
+      Runs c.fixed (Lands c k t (u + widths operands) temps s.world (Has t)) 0 2
       (there c (act_line types facts modes t act (use_at how node.number) ty (types_in operands) (froms facts act operands (use_of modes act) 0 u)
       ∷ back_line types facts modes t act (use_at how node.number) ty k) temps s.world) s.meter
       (carried here node.number act how ty operands xs s)
-  act_follows calls (Doing operation) operands node ty f how xs u t k temps s takes h =
+  act_follows calls (Doing operation) operands node ty f how xs u t k temps s less takes h =
       let of = types_in operands in
       let to = destination here how node.number in
-      let x = scene c temps s.world in
-      gives_follow _ (operates operation facts ty of xs >>= made_by (gives_hooked facts ty) to) t k temps s
-      (takes.fetched (λ xs. does.gives x t (row facts (Doing operation) to (if_type types (if_number types ty)) (map (if_type types) (all_numbers types of)) xs))
+      let from = froms facts (Doing operation) operands (use_of modes (Doing operation)) 0 u in
+      let hooked = any_hooked facts (map (if_type types) (all_numbers types of)) in
+      let gone = traded hooked operation from in
+      let x = scene c (without_handed gone temps) s.world in
+      gives_follow gone _ (operates operation facts ty of xs >>= made_by (gives_hooked facts ty) to) t (u + widths operands) k temps s (omega (arith, less))
+      (traded_within t (u + widths operands) hooked operation from (within_wide from (omega (arith, less)) (omega arith)
+      (froms_within facts (Doing operation) operands (use_of modes (Doing operation)) 0 u)))
+      (takes.fetched (λ xs. does.gives x t (row facts (Doing operation) to (if_type types (if_number types ty))
+      (map (if_type types) (all_numbers types of)) xs))
       ∙ ap₂ (λ ty of. does.gives x t (row facts (Doing operation) to ty of xs)) (type_is types ty f.0) (types_are types of f.1))
-  act_follows calls (Building fields) operands node None f how xs u t k temps s takes h = absurd f
-  act_follows calls (Building fields) operands node (Some ty) f how xs u t k temps s takes h =
+  act_follows calls (Building fields) operands node None f how xs u t k temps s less takes h = absurd f
+  act_follows calls (Building fields) operands node (Some ty) f how xs u t k temps s less takes h =
       let to = destination here how node.number in
       let x = scene c temps s.world in
       let d = default_for facts (Some ty) in
-      gives_follow _ (costs (bytes d) (give (with_fields d fields (values_in xs))) >>= made_by (gives_hooked facts (Some ty)) to) t k temps s
+      gives_follow [] _ (costs (bytes d) (give (with_fields d fields (values_in xs))) >>= made_by (gives_hooked facts (Some ty)) to) t (u + widths operands)
+      k temps s
+      (omega (arith, less)) tt
       (takes.fetched (λ xs. does.gives x t (row facts (Building fields) to (Some (type_by_number types (type_number types ty))) [] xs))
       ∙ ap (λ ty. does.gives x t (row facts (Building fields) to (Some ty) [] xs)) f)
-  act_follows calls (Giving literal) operands node None f how xs u t k temps s takes h = absurd f
-  act_follows calls (Giving literal) operands node (Some ty) f how xs u t k temps s takes h =
+  act_follows calls (Giving literal) operands node None f how xs u t k temps s less takes h = absurd f
+  act_follows calls (Giving literal) operands node (Some ty) f how xs u t k temps s less takes h =
       let to = destination here how node.number in
-      gives_follow _ (literal_deed literal to ty) t k temps s (literal_line (scene c temps s.world) t literal to ty f)
-  act_follows calls (Calling proc params) operands node ty f how xs u t k temps s takes h =
+      gives_follow [] _ (literal_deed literal to ty) t (u + widths operands) k temps s (omega (arith, less)) tt
+      (literal_line (scene c temps s.world) t literal to ty f)
+  act_follows calls (Calling proc params) operands node ty f how xs u t k temps s less takes h =
       let uses = use_of modes (Calling proc params) in
       let ys = handed_over facts operands uses 0 xs in
       let n = suc (handed_bytes ys) in
-      let l = act_line types facts modes t (Calling proc params) (use_at how node.number) ty (types_in operands) (froms facts (Calling proc params) operands uses 0 u) in
+      let l = act_line types facts modes t (Calling proc params) (use_at how node.number) ty (types_in operands)
+      (froms facts (Calling proc params) operands uses 0 u) in
       let more = back_line types facts modes t (Calling proc params) (use_at how node.number) ty k in
       after {c = c} {p = 0} {q = 10} 10 (omega arith) (omega arith)
       (pays (12 * n) n (omega arith)
@@ -184,7 +225,7 @@ module _ (c : Spot) (top : Bool) (room : ℕ → Type 0) (names : (proc place : 
       (many_slots ys ∙ (many_handed facts operands uses 0 xs ∙ (takes.many ∙ f.1))) h.framed (λ place is. h.open_is true place (f.2 place is)))
       (λ v b now has kept since. answers {P = Has t} v b now (omega arith) has kept since)))
       (λ v b now has kept since.
-      further {lo' = t} {hi' = suc t} (omega arith) (omega arith) kept since (λ v last p kept. p)
+      further {lo' = t} {hi' = suc t} (omega arith) (omega (arith, less)) (kept_wide (omega arith) (omega (arith, less)) kept) since (λ v last p kept. p)
       (kept_follows (gives_hooked facts ty) how node.number v t k now b has))
 
   -- ---- the value of a branch is handed on
@@ -201,9 +242,11 @@ module _ (c : Spot) (top : Bool) (room : ℕ → Type 0) (names : (proc place : 
       (ap (λ o. using o (λ v. does.gives x t (costs 1 (handed_by facts (destination here how n) (if_type types (if_number types ty)) v)))) has
       ∙ ap (λ ty. does.gives x t (costs 1 (handed_by facts (destination here how n) ty v))) (type_is types ty f))
 
-  default_is : (b : Bool) (d : Deed Value) → branch b d d ≡ d
-  default_is true d = refl
-  default_is false d = refl
+  -- its row looks at nothing, also where it has hooks
+  default_is : (x : Scene) (t : ℕ) (b : Bool) (d : Deed Value) (rest : Value → Deed Value) →
+      does.gives x t (costs 1 (branch b (looks (λ world. d)) d) >>= rest) ≡ does.gives x t (costs 1 d >>= rest)
+  default_is x t true d rest = refl
+  default_is x t false d rest = refl
 
   -- where no branch is chosen, the default is
   pub default_follows : (how : Use) (n : ℕ) (ty : Option Ty) → IfListed types ty → (t : ℕ) (k : List Line) (temps : Temps) (s : State) →
@@ -221,5 +264,4 @@ module _ (c : Spot) (top : Bool) (room : ℕ → Type 0) (names : (proc place : 
       performs c (λ v. with_value t temps v) deed s 1 (omega arith)
       (answering_all (λ v. Has t v (with_value t temps v)) (λ v. put_same temps.values t v) deed) (own t temps)
       (ap (λ ty. does.gives x t (row facts (Doing O.Default) to (Some ty) [] [])) f
-      ∙ ap (λ d. does.gives x t (costs 1 d >>= made_by (gives_hooked facts (Some ty)) to))
-      (default_is (gives_hooked facts (Some ty) || false) (table.does O.Default facts (Some ty) [] [])))
+      ∙ default_is x t (gives_hooked facts (Some ty) || false) (table.does O.Default facts (Some ty) [] []) (made_by (gives_hooked facts (Some ty)) to))

@@ -6,7 +6,7 @@ use Rattle.nim_plan.specs.declared.plan.Plan.{Plan}
 use Rattle.nim_program.specs.declared.program.HookOf.{HookOf}
 use Rattle.nim_program.specs.declared.program.Mode.{Mode}
 use Rattle.nim_program.specs.Program.{Stmt, Do, Idle, Give, Leave, Select, Loop, Raise, Try, Stmts, Empty, Then, Declare, Defer, Blocks, Otherwise, Block}
-use Rattle.nim_program.specs.Program.{Param, Body, Proc, Program}
+use Rattle.nim_program.specs.Program.{Chooser, ByConditions, ByLabels, Args, NoArg, ByValue, ByPath, Param, Body, Proc, Program}
 use Rattle.flat_code.specs.declared.code.CodeProc.{CodeProc}
 use Rattle.flat_code.specs.declared.line.Line.{Line}
 use Rattle.flat_code.specs.Alike.{gives_as, AreAlike, AllAlike}
@@ -20,6 +20,13 @@ use Rattle.flattening.proofs.LineNames.{CountsFrom}
 use Rattle.flattening.proofs.NameTallies.{body_named}
 use Rattle.flattening.proofs.Tallies.{tally, count, no_flags, below_one}
 
+-- what chooses by labels has one selector
+abbrev pub HasOne : Chooser → Args → Type 0
+HasOne ByConditions tests = Unit {0}
+HasOne (ByLabels labels) (ByValue value NoArg) = Unit {0}
+HasOne (ByLabels labels) (ByPath path NoArg) = Unit {0}
+HasOne (ByLabels labels) tests = ⊥
+
 -- what chooses by labels has a selector, each loop the head of its kind, and none counts from a text
 abbrev mutual
   pub IsShaped : Stmt → Type 0
@@ -27,7 +34,7 @@ abbrev mutual
   IsShaped (Idle node parts) = Unit {0}
   IsShaped (Give node back value) = Unit {0}
   IsShaped (Leave node leaving parts) = Unit {0}
-  IsShaped (Select node chooser tests blocks) = HasSelector chooser tests × AreShapedBlocks blocks
+  IsShaped (Select node chooser tests blocks) = (HasSelector chooser tests × HasOne chooser tests) × AreShapedBlocks blocks
   IsShaped (Loop node kind head body) = (HeadFits kind head × CountsFrom kind head) × AreShaped body
   IsShaped (Raise node exception message) = Unit {0}
   IsShaped (Try node body handlers last) = Unit {0}
@@ -58,7 +65,7 @@ shaped = record {
   Right = IsShaped;
   AllRight = AreShaped;
   EachRight = AreShapedBlocks;
-  select = λ node chooser parts blocks s. (inr s.0, s.1);
+  select = λ node chooser parts blocks s. (inr s.0.0, s.1);
   loop = λ node kind head body s. (inr s.0, s.1);
   follows = λ first more s. s;
   declare = λ node place cursor args more s. s;

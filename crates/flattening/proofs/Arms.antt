@@ -116,7 +116,8 @@ module _ (c : Spot) (top : Bool) (room : ℕ → Type 0) (names : (proc place : 
 
       abbrev whole_arm : Bool → List Line
       whole_arm last =
-          arm_label last (label Next t) (label Arm u) (value_of_branch c top room names Open value u (handed_on_line types facts modes t u (use_at how site) ty ∷ behind last))
+          arm_label last (label Next t) (label Arm u)
+          (value_of_branch c top room names Open value u (handed_on_line types facts modes t u (use_at how site) ty ∷ behind last))
 
       abbrev Skips : Bool → Type 0
       Skips last = (name : ℕ) → (name ≡ label Next t) ⊎ (4 * u ≤ name) → found name arms ≡ found name (whole_arm last)
@@ -142,7 +143,8 @@ module _ (c : Spot) (top : Bool) (room : ℕ → Type 0) (names : (proc place : 
           on true v b now at kept since = spares 3 2 (omega arith) (omega arith) (ends_at c top room names Open t hi k temps now s.world v b kept since at)
           on false v b now at kept since =
               leaps c 7 (label End t) 1 (omega arith) refl
-              ((puts_arms types facts modes covered labels rest ty how site t u2 (omega (arith, less))).skips (label End t) ending (λ le. absurd (omega (arith, le)))
+              ((puts_arms types facts modes covered labels rest ty how site t u2 (omega (arith, less))).skips (label End t) ending
+              (λ le. absurd (omega (arith, le)))
               ∙ found_here (label End t) k)
               (spares 3 2 (omega arith) (omega arith) (ends_at c top room names Open t hi k temps now s.world v b kept since at))
 

@@ -13,7 +13,8 @@ use Rattle.nim_program.specs.declared.stmt.Stmt.{Stmt as RustStmt}
 use Rattle.nim_program.specs.declared.stmt.Stmt.TheVariants as S
 use Rattle.nim_program.specs.declared.stmt.Leaving.TheVariants.{Break}
 use Rattle.nim_program.specs.Program as T
-use Rattle.nim_program.specs.Program.{Label, Declared, Param, ByConditions, ByLabels, Building, Expr, Args, NoArg, ByValue, Stmt, Give, Select, While, Count, Each}
+use Rattle.nim_program.specs.Program.{Label, Declared, Param, ByConditions, ByLabels, Building, Expr, Args, NoArg, ByValue, Stmt, Give, Select, While, Count}
+use Rattle.nim_program.specs.Program.{Each}
 use Rattle.nim_program.specs.Program.{Stmts, Empty, Then, Declare, Blocks, Block}
 use Rattle.nim_program.specs.View.{expr_of, declared_of, if_type, if_value, operand_before, operands_of, stmt_before, stmts_of, branch_labels}
 use Rattle.nim_meaning.specs.Shapes.{is_covered, selector_type, is_empty, is_last_block}
@@ -24,7 +25,8 @@ use Rattle.flat_code.specs.declared.line.Line.TheVariants as L
 use Rattle.flattening.specs.declared.numbers.Purpose.TheVariants.{End, Next, Arm, Turn}
 use Rattle.flattening.specs.Numbering.{type_number, width, widths, width_in, width_of, behind_selector, label}
 use Rattle.flattening.specs.ExprLines.{lines, ready_lines, arm_label, label_tests, value_ends}
-use Rattle.flattening.specs.StmtLines.{Exits, ending, in_loop, in_scope, outermost, returned, second, back_lines, place_end, param_ends, head_ends, selector_ends}
+use Rattle.flattening.specs.StmtLines.{Exits, ending, in_loop, in_scope, outermost, returned, second, back_lines, place_end, param_ends, head_ends}
+use Rattle.flattening.specs.StmtLines.{selector_ends}
 use Rattle.flattening.specs.StmtLines.{selector_lines, give_lines, fill_lines, lines_in, lines_of, branch_lines, block_tests, arm_blocks}
 use Rattle.flattening.specs.StmtViews.{first_owns, first_lines, loop_lines, placed_turn, tested, before_turns, next_element}
 use Rattle.flattening.specs.Views.{is_defer, own_lines, waits_own, place_owns, params_own}

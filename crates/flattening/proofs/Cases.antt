@@ -10,10 +10,10 @@ use Rattle.nim_program.specs.declared.operation.Use.TheVariants.{Looked}
 use Rattle.nim_program.specs.declared.program.Mode.{Mode}
 use Rattle.nim_program.specs.Program.{Label, ByLabels, Args, NoArg, ByValue, ByPath, Select, Stmts, Blocks, Otherwise, Block}
 use Rattle.nim_meaning.specs.Values.{Value, Fixed}
-use Rattle.nim_meaning.specs.State.{State, text_of}
+use Rattle.nim_meaning.specs.State.{State, text_of, is_whole}
 use Rattle.nim_meaning.specs.ActTree.{Chooses, Begins}
 use Rattle.nim_meaning.specs.Ways.{At as Point}
-use Rattle.nim_meaning.specs.Acts.{On, Does, branch, looks, costs, ◌>>=◌, worked, with_trail}
+use Rattle.nim_meaning.specs.Acts.{On, Does, branch, looks, costs, wrong, ◌>>=◌, worked, with_trail}
 use Rattle.nim_meaning.specs.Deeds.{carry}
 use Rattle.nim_meaning.specs.Here.{Here, gives_hooked}
 use Rattle.nim_meaning.specs.Waiting.{waiting_first}
@@ -31,7 +31,8 @@ use Rattle.flattening.specs.ExprLines.{arm_label, label_tests, find_lines}
 use Rattle.flattening.specs.StmtLines.{Exits, ending as exits_ending, selector_ends, selector_lines, block_tests, lines_of, arm_blocks}
 use Rattle.flattening.specs.Flattened.{modes_of}
 use Rattle.flattening.specs.Formed.{Scope, AreOf, AllOf, AllFormed, HasSelector, BlockFormed, BlocksFormed}
-use Rattle.flattening.proofs.Runs.{Runs, pays, spares}
+use Rattle.flattening.proofs.Runs.{Runs, pays, spares, unless_wrong}
+use Rattle.flattening.proofs.Openings.{answering_all}
 use Rattle.flattening.proofs.Worlds.{Since, since_none, since_then}
 use Rattle.flattening.proofs.Temps.{Kept, kept_none, kept_then, kept_wide, kept_value, put_same}
 use Rattle.flattening.proofs.Puts.{Puts, found, found_here, puts_line, puts_label, puts_wide, ◌>>◌}
@@ -277,7 +278,8 @@ module _ (c : Spot) (top : Bool) (room : ℕ → Type 0) (names : (proc place : 
       (kept_then (kept_wide (omega arith) (omega (arith, w)) kept) (kept_wide (omega arith) (omega (arith, w)) kept2)) (since_then since since2)
       (λ v n p kept. p)
       (performs_alone c {P = λ v now. now.values t ≡ Some v} (λ v. with_value t last v) (fetched l) (with_trail trail d) (omega arith)
-      (λ world. put_same last.values t _) (λ v. kept_value t v (omega arith) (omega arith) (kept_none t (suc t) last))
+      (answering_all (λ v. (with_value t last v).values t ≡ Some v) (λ v. put_same last.values t v) (fetched l))
+      (λ v. kept_value t v (omega arith) (omega arith) (kept_none t (suc t) last))
       (ap (λ o. using o (λ place. does.gives (scene c last d.world) t (fetched (location_at last place)))) looked.leads.is
       ∙ ap (λ l. does.gives (scene c last d.world) t (fetched l)) (leads_now looked.leads))))))
 
@@ -292,14 +294,18 @@ module _ (c : Spot) (top : Bool) (room : ℕ → Type 0) (names : (proc place : 
       (there c (block_tests labels blocks sel (suc t) (L.Jump (label Next t)
       ∷ arm_blocks types facts modes c.result covered labels blocks exits t (suc t) n (L.Label (label End t) ∷ k))) temps s.world) s.meter
       (branch {A = Does (Unit {0})} texts
-      (looks (λ world. costs (length (text_of world v)) (at_node node Chooses (picked_block covered labels blocks (Fixed (text_of world v)) here))))
+      (looks (λ world. branch (is_whole world v)
+      (costs (length (text_of world v)) (at_node node Chooses (picked_block covered labels blocks (Fixed (text_of world v)) here))) wrong))
       (at_node node Chooses (picked_block covered labels blocks v here)) s)
   selected_by true covered labels blocks tests node inside Open f exits around v sel t n le k r l temps s has h =
       let size = length (text_of s.world v) in
+      let chooses : Does (Unit {0}) = costs size (at_node node Chooses (picked_block covered labels blocks (Fixed (text_of s.world v)) here)) in
+      unless_wrong (is_whole s.world v) (λ b. branch {A = Does (Unit {0})} b chooses wrong s) s refl
+      (λ whole.
       pays 12 size (omega arith)
       (tests inside Open f exits around v (Fixed (text_of s.world v)) sel t (suc t) n (omega arith) le k
       (arm_blocks types facts modes c.result covered labels blocks exits t (suc t) n (L.Label (label End t) ∷ k)) r l (λ name which. refl) temps
-      (with_trail (Point node Chooses ∷ s.trail) (worked size s)) has refl h)
+      (with_trail (Point node Chooses ∷ s.trail) (worked size s)) has (whole, refl) h))
   selected_by false covered labels blocks tests node inside Open f exits around v sel t n le k r l temps s has h =
       tests inside Open f exits around v v sel t (suc t) n (omega arith) le k
       (arm_blocks types facts modes c.result covered labels blocks exits t (suc t) n (L.Label (label End t) ∷ k)) r l (λ name which. refl) temps

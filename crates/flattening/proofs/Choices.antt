@@ -1,5 +1,5 @@
 -- Flat code follows expressions that choose, over what their parts do.
-use Rattle.std.proofs.Common.{◌≡◌, ℕ, suc, ◌+◌, ◌*◌, ◌<◌, ◌≤◌, ◌⊎◌, Bool, true, false, List, ◌∷◌, Option, Some, None, refl, sym, ap, ◌∙◌, subst, arith}
+use Rattle.std.proofs.Common.{◌≡◌, ℕ, suc, ◌+◌, ◌*◌, ◌<◌, ◌≤◌, ◌⊎◌, Bool, true, false, List, ◌∷◌, Option, Some, None, refl, ap, ◌∙◌, arith}
 use Rattle.std.specs.Prelude.{not}
 use Rattle.arc_base.specs.BigStep.{Got, then_do}
 use Rattle.nim_types.specs.Types.{Ty, Facts}
@@ -27,7 +27,7 @@ use Rattle.flat_code.specs.Lines.{using, leaps_where}
 use Rattle.flat_code.specs.Lines as does
 use Rattle.flattening.specs.declared.numbers.Purpose.TheVariants.{End, Next, Arm}
 use Rattle.flattening.specs.Numbering.{width, widths, label}
-use Rattle.flattening.specs.ExprLines.{use_at, branch_use, branch_ends, value_ends, lines, choice_lines, arm_lines, early_lines, value_tests}
+use Rattle.flattening.specs.ExprLines.{use_at, branch_use, branch_ends, lines, choice_lines, arm_lines, early_lines, value_tests}
 use Rattle.flattening.specs.ExprLines.{handed_on as handed_on_line, none_fits as default_line}
 use Rattle.flattening.specs.Flattened.{modes_of}
 use Rattle.flattening.specs.Formed.{Scope, IfListed}
@@ -234,7 +234,8 @@ module _ (c : Spot) (top : Bool) (room : ℕ → Type 0) (names : (proc place : 
 
   -- no branch is chosen
   pub none_follows : (ty : Option Ty) → IfListed c.fixed.program.types ty → (how : Use) (site t hi : ℕ) → t < hi → (k : List Line) (temps : Temps) (s : State) →
-      Runs c.fixed (Lands c k t hi temps s.world (Has t)) 8 2 (there c (default_line types facts modes t ty (use_at how site) ∷ L.Label (label End t) ∷ k) temps s.world) s.meter
+      Runs c.fixed (Lands c k t hi temps s.world (Has t)) 8 2
+      (there c (default_line types facts modes t ty (use_at how site) ∷ L.Label (label End t) ∷ k) temps s.world) s.meter
       (handed_on here how site ty (default_for here.facts ty) s)
   none_follows ty listed how site t hi less k temps s =
       brings 3 (omega arith) (omega arith) (default_follows c top room names Open how site ty listed t (L.Label (label End t) ∷ k) temps s)
@@ -254,7 +255,8 @@ module _ (c : Spot) (top : Bool) (room : ℕ → Type 0) (names : (proc place : 
       spares 3 2 (omega arith) (omega arith) (ends_at t (u + widths (ByValue last NoArg)) k temps now s.world v b
       (kept_wide (omega arith) (omega arith) kept) since has))
 
-  module _ (condition value : Expr) (rest : Args) (gives : Branches value) (ty : Option Ty) (listed : IfListed c.fixed.program.types ty) (how : Use) (site t : ℕ)
+  module _ (condition value : Expr) (rest : Args) (gives : Branches value) (ty : Option Ty) (listed : IfListed c.fixed.program.types ty) (how : Use)
+      (site t : ℕ)
       (more : ChoiceFollows rest ty how site t) (n : ℕ) (less : t < n) (k : List Line) where
     abbrev n2 : ℕ
     n2 = n + width condition
@@ -286,7 +288,8 @@ module _ (c : Spot) (top : Bool) (room : ℕ → Type 0) (names : (proc place : 
     arm_is_found =
         let w = some_width condition in
         (puts_branch types facts modes value n2).skips (label Arm n)
-        (handed_on_line types facts modes t n2 (use_at how site) ty ∷ L.Jump (label End t) ∷ L.Label (label Arm n) ∷ others) (λ le. absurd (omega (arith, le, w)))
+        (handed_on_line types facts modes t n2 (use_at how site) ty ∷ L.Jump (label End t) ∷ L.Label (label Arm n) ∷ others)
+        (λ le. absurd (omega (arith, le, w)))
         ∙ found_here (label Arm n) others
 
     chosen : (b : Bool) (x : Value) (now : Temps) (d : State) → is_true (number_of x) ≡ b → now.values n ≡ Some x → Stands c room Open d.world →

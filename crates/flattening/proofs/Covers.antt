@@ -2,7 +2,7 @@
 -- spare.
 use Rattle.std.proofs.Common.{◌≡◌, ℕ, zero, suc, ◌+◌, ◌*◌, ◌<◌, ◌≤◌, ◌⊎◌, inl, inr, Bool, true, false, List, [], ◌∷◌, ◌++◌, length}
 use Rattle.std.proofs.Common.{refl, sym, ap, ◌∙◌, subst, arith}
-use Rattle.std.specs.Prelude.{◌&&◌, ◌||◌, if◌then◌else◌}
+use Rattle.std.specs.Prelude.{◌&&◌, ◌||◌, if◌then◌else◌, None}
 use Rattle.std.proofs.lemmas.Bool.{both_ways}
 use Rattle.nim_types.specs.Types.{Ty, Facts, same}
 use Rattle.nim_types.specs.Forms as form
@@ -172,7 +172,7 @@ module _ (types : List Ty) (facts : Facts) where
   -- ---- places of types of the table
 
   pub place_plain : (modes : (proc position : ℕ) → Mode) (lines : List Line) (number : ℕ) (node : Node) (kind : PlaceKind) (ty : Ty) →
-      IsFine types facts ty → IsPlainPlace (known types facts) lines (place types facts modes number node.at kind ty)
+      IsFine types facts ty → IsPlainPlace (known types facts) lines (place types facts modes None number node.at kind ty)
   place_plain modes lines number node kind ty f =
       inr (number_within types ty f.0, inl (subst (λ t. is_hooked facts t ≡ false) (sym (listed types ty f.0)) f.1))
 
@@ -186,5 +186,5 @@ module _ (types : List Ty) (facts : Facts) where
   unlent kind false n e = refl
 
   pub fine_bytes : (modes : (proc position : ℕ) → Mode) (number : ℕ) (node : Node) (kind : PlaceKind) (ty : Ty) → IsFine types facts ty →
-      place_bytes (known types facts) (place types facts modes number node.at kind ty) ≡ kind_bytes kind (type_bytes facts ty)
+      place_bytes (known types facts) (place types facts modes None number node.at kind ty) ≡ kind_bytes kind (type_bytes facts ty)
   fine_bytes modes number node kind ty f = unlent kind (is_hooked facts ty) _ f.1 ∙ ap (kind_bytes kind) (value_bytes ty f.0)

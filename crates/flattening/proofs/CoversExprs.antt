@@ -23,7 +23,7 @@ use Rattle.nim_program.specs.Typed.{is_fresh, behind_first, is_located}
 use Rattle.nim_program.specs.Uses.{use_of}
 use Rattle.nim_meaning.specs.Here.{is_hooked, gives_hooked}
 use Rattle.nim_meaning.specs.LeftOut.{any_hooked, writes_literals}
-use Rattle.nim_meaning.specs.Shapes.{waits, is_covered, is_last_value, is_lent}
+use Rattle.nim_meaning.specs.Shapes.{waits, has_node, is_covered, is_last_value, is_lent}
 use Rattle.nim_meaning.specs.Waiting.{Wait, held_if, waiting, held_from}
 use Rattle.flat_code.specs.declared.line.From.{From}
 use Rattle.flat_code.specs.declared.line.From.TheVariants as F
@@ -44,7 +44,7 @@ use Rattle.flattening.specs.ExprLines.{use_at, is_call, has_hooks, is_copied, is
 use Rattle.flattening.specs.ExprLines.{value_tests, arm_label, act_line, none_fits, handed_on, early_lines, taken_lines, end_lines, value_ends, branch_ends}
 use Rattle.flattening.specs.ExprLines.{back_line, begin_line, lines, aim_lines, copied_lines, ready_lines, choice_lines, select_lines, arm_lines}
 use Rattle.flattening.specs.Formed.{AreOf, AllOf}
-use Rattle.flattening.specs.Places.{place, temporary, read_place, selector_place, expr_places, path_places, operand_places, part_places}
+use Rattle.flattening.specs.Places.{place, temporary, value_at, read_place, selector_place, expr_places, path_places, operand_places, part_places}
 use Rattle.flat_code.specs.PlainCode.{gets_text, any_has_hooks, ArePlainPlaces, ReadsPlain}
 use Rattle.flattening.proofs.LineNames.{literal_no_text}
 use Rattle.flattening.proofs.Listed.{listed}
@@ -207,9 +207,10 @@ module _ (types : List Ty) (facts : Facts) (modes : (proc position : ℕ) → Mo
   arm false other a = silent (L.Label a) tt
 
   -- a place for no line
-  pub one_place : (number : ℕ) (node : Node) (kind : PlaceKind) (ty : Ty) (bytes : ℕ) → IsFine types facts ty → kind_bytes kind (type_bytes facts ty) ≡ bytes →
-      C (place types facts modes number node.at kind ty ∷ []) 0 bytes (λ k. k)
-  one_place number node kind ty bytes f e = record {
+  pub one_place : {waits : Option ℕ} (number : ℕ) (node : Node) (kind : PlaceKind) (ty : Ty) (bytes : ℕ) → IsFine types facts ty →
+      kind_bytes kind (type_bytes facts ty) ≡ bytes →
+      C (place types facts modes waits number node.at kind ty ∷ []) 0 bytes (λ k. k)
+  one_place {waits} number node kind ty bytes f e = record {
     right = λ k. (place_plain types facts modes k number node kind ty f, tt);
     keeps = λ t k h. h;
     reads = λ k h. h;
@@ -217,7 +218,7 @@ module _ (types : List Ty) (facts : Facts) (modes : (proc position : ℕ) → Mo
   }
 
   pub value_place : (node : Node) (ty : Option Ty) (t : ℕ) → IfFine types facts ty →
-      C (temporary types facts modes node ty K.Temp t) (word_if ty) (2 * value_bytes facts ty) (λ k. k)
+      C (value_at types facts modes true node ty t) (word_if ty) (2 * value_bytes facts ty) (λ k. k)
   value_place node None t f = covers_most types facts 0 0 (omega arith) (covers_none types facts)
   value_place node (Some ty) t f =
       let l = bytes_least facts ty in
@@ -238,8 +239,9 @@ module _ (types : List Ty) (facts : Facts) (modes : (proc position : ℕ) → Mo
       gets_text t (L.Constant t how ty (P.Text text ∷ []) ∷ k) ≡ true
   text_given t how ty text k = ap (λ b. (true && b) || gets_text t k) (eq-eqb (value_name t) (value_name t) refl)
 
-  act_right : (node : Node) (t : ℕ) (act : Act) (how : UseAt) (ty : Option Ty) (of : List (Option Ty)) (from : List From) → OfText types facts (act_text act) ty →
-      (k : List Line) → ArePlainPlaces (known types facts) (act_line types facts modes t act how ty of from ∷ k) (temporary types facts modes node ty K.Temp t)
+  act_right : (node : Node) (t : ℕ) (act : Act) (how : UseAt) (ty : Option Ty) (of : List (Option Ty)) (from : List From) →
+      OfText types facts (act_text act) ty →
+      (k : List Line) → ArePlainPlaces (known types facts) (act_line types facts modes t act how ty of from ∷ k) (value_at types facts modes true node ty t)
   act_right node t act how None of from s k = tt
   act_right node t (Doing operation) how (Some ty) of from s k =
       (place_plain types facts modes (act_line types facts modes t (Doing operation) how (Some ty) of from ∷ k) t node K.Temp ty s, tt)
@@ -275,14 +277,14 @@ module _ (types : List Ty) (facts : Facts) (modes : (proc position : ℕ) → Mo
   act_reads t (Calling proc given) how ty operands from lent s r = tt
 
   temporary_bytes : (node : Node) (ty : Option Ty) (t : ℕ) → IfAmong types facts ty →
-      places_bytes (known types facts) (temporary types facts modes node ty K.Temp t) + word_if ty ≤ 2 * value_bytes facts ty
+      places_bytes (known types facts) (value_at types facts modes true node ty t) + word_if ty ≤ 2 * value_bytes facts ty
   temporary_bytes node None t among = omega arith
   temporary_bytes node (Some ty) t among =
       let e = bytes_same types facts ty among in let l = bytes_least facts ty in omega (arith, e, l)
 
   acted : (node : Node) (ty : Option Ty) (act : Act) (operands : Args) (from : List From) (how : UseAt) (t : ℕ) → OfText types facts (act_text act) ty →
       (act_text act ≡ false) ⊎ (is_lent how.how ≡ true) → Reads types facts act (types_in operands) × AreSimple types facts (writes_literals act) operands →
-      C (temporary types facts modes node ty K.Temp t) (word_if ty) (2 * value_bytes facts ty)
+      C (value_at types facts modes true node ty t) (word_if ty) (2 * value_bytes facts ty)
       (λ k. act_line types facts modes t act how ty (types_in operands) from ∷ k)
   acted node ty act operands from how t of lent s =
       let line = silent (act_line types facts modes t act how ty (types_in operands) from) (act_reads t act how ty operands from lent s.1 s.0) in
@@ -316,7 +318,8 @@ module _ (types : List Ty) (facts : Facts) (modes : (proc position : ℕ) → Mo
 
   begun : (constant : Option Literal) (value : Expr) (t : ℕ) → is_fresh value ≡ true → IfFine types facts (type_of value) →
       C (expr_places types facts modes value (suc t)) (led_spare value) (2 * W value) (lines types facts modes value Looked (suc t)) →
-      C (temporary types facts modes (node_of value) (type_of value) K.Within t ++ if_constant constant [] (expr_places types facts modes value (suc t))) (if_constant constant 12 0)
+      C (temporary types facts modes (node_of value) (type_of value) K.Within t ++ if_constant constant [] (expr_places types facts modes value (suc t)))
+      (if_constant constant 12 0)
       (2 * begun_bytes constant value) (λ k. if_constant constant k (lines types facts modes value Looked (suc t) k))
   begun None value t fresh fine comes =
       let e = fresh_spare value fresh in
@@ -326,33 +329,37 @@ module _ (types : List Ty) (facts : Facts) (modes : (proc position : ℕ) → Mo
       covers_most types facts 12 _ (omega (arith, e)) (led_place (node_of value) (type_of value) false t fine >> covers_none types facts)
 
   -- with its value, in temporary s
-  looked_node : (path : Path) (s t : ℕ) (node : Node) (ty : Ty) (line : Line) (spare most : ℕ) → ReadsPlain (known types facts) line → IsFine types facts ty →
+  looked_node : {waits : Option ℕ} (path : Path) (s t : ℕ) (node : Node) (ty : Ty) (line : Line) (spare most : ℕ) → ReadsPlain (known types facts) line →
+      IsFine types facts ty →
       IsSimplePath types facts path → Aimed path t → spare + (2 * WP path + type_bytes facts ty) ≤ most + path_spare path →
-      C (place types facts modes s node.at K.Temp ty ∷ path_places types facts modes path t) spare most (λ k. aim_lines types facts modes path t (find_lines types facts path t (line ∷ k)))
-  looked_node path s t node ty line spare most r f simple aimed le =
+      C (place types facts modes waits s node.at K.Temp ty ∷ path_places types facts modes path t) spare most
+      (λ k. aim_lines types facts modes path t (find_lines types facts path t (line ∷ k)))
+  looked_node {waits} path s t node ty line spare most r f simple aimed le =
       covers_most types facts spare most (omega (arith, le))
       (one_place s node K.Temp ty (type_bytes facts ty) f refl >> (aimed <~ (find path t simple ~> silent line r)))
 
   -- its value is read to temporary u
-  got : (path : Path) (u t : ℕ) (line : Line) → ReadsPlain (known types facts) line → is_located path ≡ true → IsSimplePath types facts path → Aimed path t →
-      C (read_place types facts modes path u ++ path_places types facts modes path t) 0 (2 * WR path)
+  got : (may : Bool) (path : Path) (u t : ℕ) (line : Line) → ReadsPlain (known types facts) line → is_located path ≡ true → IsSimplePath types facts path →
+      Aimed path t →
+      C (read_place types facts modes may path u ++ path_places types facts modes path t) 0 (2 * WR path)
       (λ k. aim_lines types facts modes path t (find_lines types facts path t (line ∷ k)))
-  got (Variable node ty place global) u t line r is s aimed =
+  got may (Variable node ty place global) u t line r is s aimed =
       let l = bytes_least facts ty in looked_node (Variable node ty place global) u t node ty line 0 (2 * WR (Variable node ty place global)) r s s aimed
       (omega (arith, l))
-  got (Fresh value) u t line r is s aimed = never is
-  got (Field node ty base field) u t line r is s aimed =
+  got may (Fresh value) u t line r is s aimed = never is
+  got may (Field node ty base field) u t line r is s aimed =
       let l = bytes_least facts ty in
       looked_node (Field node ty base field) u t node ty line 0 (2 * WR (Field node ty base field)) r s.0 s aimed (omega (arith, l))
-  got (Element node ty base index constant) u t line r is s aimed =
+  got may (Element node ty base index constant) u t line r is s aimed =
       let l = bytes_least facts ty in
       looked_node (Element node ty base index constant) u t node ty line 0 (2 * WR (Element node ty base index constant)) r s.0 s aimed (omega (arith, l))
-  got (Deref ty base) u t line r is s aimed = absurd s
+  got may (Deref ty base) u t line r is s aimed = absurd s
 
   -- a selector, which is small, comes to temporary u
   pub selected : (path : Path) (u t : ℕ) (line : Line) → ReadsPlain (known types facts) line → IsSimplePath types facts path → Aimed path t →
       (is_located path ≡ true) × IsSmall types facts (type_at path) →
-      C (read_place types facts modes path u ++ path_places types facts modes path t) 0 (2 * WP path) (λ k. aim_lines types facts modes path t (find_lines types facts path t (line ∷ k)))
+      C (read_place types facts modes false path u ++ path_places types facts modes path t) 0 (2 * WP path)
+      (λ k. aim_lines types facts modes path t (find_lines types facts path t (line ∷ k)))
   selected (Variable node ty place global) u t line r s aimed small =
       let l = small.1 in
       looked_node (Variable node ty place global) u t node ty line 0 (2 * WP (Variable node ty place global)) r s s aimed (omega (arith, l))
@@ -380,7 +387,7 @@ module _ (types : List Ty) (facts : Facts) (modes : (proc position : ℕ) → Mo
       C (expr_places types facts modes e t) (led_spare e) (2 * W e) (lines types facts modes e how t)
   operand false e how t lent s go = go s
   operand true (Apply node ty (Giving (Characters text)) NoArg) how t lent s go =
-      turned types facts (temporary types facts modes node ty K.Temp t) []
+      turned types facts (value_at types facts modes true node ty t) []
       (covers_most types facts _ _ (omega arith)
       (covers_none types facts
       >> (settle false NoArg (suc t) tt ~> acted node ty (Giving (Characters text)) NoArg [] (use_at how node.number) t s (inr (lent refl)) (tt, tt))))
@@ -429,7 +436,7 @@ module _ (types : List Ty) (facts : Facts) (modes : (proc position : ℕ) → Mo
     expr (Apply node ty act operands) how t s =
         let from = froms facts act operands (use_of modes act) 0 (suc t) in
         let taken = held_from facts modes operands (use_of modes act) 0 in
-        turned types facts (temporary types facts modes node ty K.Temp t) (operand_places types facts modes act operands (use_of modes act) 0 (suc t))
+        turned types facts (value_at types facts modes true node ty t) (operand_places types facts modes act operands (use_of modes act) 0 (suc t))
         (covers_most types facts _ _ (omega arith)
         (ready act (writes_literals act) operands (use_of modes act) 0 (suc t) (writes_by facts act) (lent_uses modes act) s.2
         >> (settle (writes_literals act) operands (suc t) s.2
@@ -437,7 +444,7 @@ module _ (types : List Ty) (facts : Facts) (modes : (proc position : ℕ) → Mo
         ~> (acted node ty act operands from (use_at how node.number) t (no_text (act_text act) ty s.0.0 s.0.1) (inl s.0.0) (s.1, s.2)
         <~ back t act (use_at how node.number) ty s.0.1)))))
     expr (Read path) how t s =
-        got path t (suc t) (L.Get t (suc t) (use_at how (node_at path).number) (if_number types (type_at path))) tt s.0 s.1 (aim path (suc t) s.1)
+        got (has_node path) path t (suc t) (L.Get t (suc t) (use_at how (node_at path).number) (if_number types (type_at path))) tt s.0 s.1 (aim path (suc t) s.1)
     expr (Early node ty short left right) how t s =
         covers_most types facts _ _ (omega arith)
         (value_place node (Some ty) t s.0
@@ -473,7 +480,8 @@ module _ (types : List Ty) (facts : Facts) (modes : (proc position : ℕ) → Mo
     ready act written NoArg uses i t call lent s = covers_none types facts
     ready act written (ByValue e rest) uses i t call lent s =
         alone (expr_places types facts modes e t) (operand_places types facts modes act rest uses (suc i) (t + width e))
-        (temporary types facts modes (node_of e) (type_of e) K.Within t) (lines types facts modes e (uses i) t) (ready_lines types facts modes act rest uses (suc i) (t + width e))
+        (temporary types facts modes (node_of e) (type_of e) K.Within t) (lines types facts modes e (uses i) t)
+        (ready_lines types facts modes act rest uses (suc i) (t + width e))
         (λ k. copied_lines types facts modes e t (ready_lines types facts modes act rest uses (suc i) (t + width e) k)) (L.Fresh t t (waits_at facts e))
         (is_copied facts (uses i) e) (is_lent_at facts act (uses i) e) (not_copied types facts modes written e (uses i) (λ h. lent h i) s.0)
         (not_lent types facts modes written act e (uses i) call s.0)
@@ -487,7 +495,8 @@ module _ (types : List Ty) (facts : Facts) (modes : (proc position : ℕ) → Mo
         C (part_places types facts modes parts u) 0 (2 * WA parts) (choice_lines types facts modes parts ty how t u)
     choice NoArg ty how t u s a = no_fit t ty how
     choice (ByPath path rest) ty how t u s a = absurd a
-    choice (ByValue last NoArg) ty how t u s a = covers_most types facts 0 _ (omega arith) (branch last ty how t u s.0 (expr last (branch_use types facts modes last) u s.0) >> covers_none types facts)
+    choice (ByValue last NoArg) ty how t u s a =
+        covers_most types facts 0 _ (omega arith) (branch last ty how t u s.0 (expr last (branch_use types facts modes last) u s.0) >> covers_none types facts)
     choice (ByValue condition (ByPath path rest)) ty how t u s a = absurd a
     choice (ByValue condition (ByValue e rest)) ty how t u s a =
         covers_most types facts 0 _ (omega arith)
@@ -511,7 +520,8 @@ module _ (types : List Ty) (facts : Facts) (modes : (proc position : ℕ) → Mo
     select labels (ByPath path rest) ty how t u s a small fit o =
         let n = looked_from path u in
         covers_as types facts
-        (append_assoc (read_place types facts modes path u) (path_places types facts modes path n) (part_places types facts modes rest (n + width_at path)))
+        (append_assoc (read_place types facts modes false path u) (path_places types facts modes path n)
+        (part_places types facts modes rest (n + width_at path)))
         (covers_most types facts 0 _ (omega arith)
         (selected path u n (L.Look u n) tt s.0 (aim path n s.0) small
         >> (all_tests labels rest u (n + width_at path) o
@@ -524,7 +534,8 @@ module _ (types : List Ty) (facts : Facts) (modes : (proc position : ℕ) → Mo
     arms covered labels NoArg ty how t u s a fit = silent (L.Label (label Next t)) tt ~> no_fit t ty how
     arms covered labels (ByPath path rest) ty how t u s a fit = absurd a
     arms covered [] (ByValue e NoArg) ty how t u s a fit =
-        covers_most types facts 0 _ (omega arith) (silent (L.Label (label Next t)) tt ~> (branch e ty how t u s.0 (expr e (branch_use types facts modes e) u s.0) >> covers_none types facts))
+        covers_most types facts 0 _ (omega arith)
+        (silent (L.Label (label Next t)) tt ~> (branch e ty how t u s.0 (expr e (branch_use types facts modes e) u s.0) >> covers_none types facts))
     arms covered [] (ByValue e (ByValue other rest)) ty how t u s a fit = absurd fit
     arms covered [] (ByValue e (ByPath path rest)) ty how t u s a fit = absurd fit
     arms covered (these ∷ labels) (ByValue e rest) ty how t u s a fit =

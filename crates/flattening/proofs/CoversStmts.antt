@@ -167,14 +167,15 @@ module _ (types : List Ty) (facts : Facts) (modes : (proc position : ℕ) → Mo
 
   -- what a `case` chooses by
   selector : (args : Args) (t : ℕ) → Alone args → AreSimple types facts false args → SmallFirst types facts args →
-      S (selector_place types facts modes args t ++ part_places types facts modes args (selector_from args t)) 0 (2 * A args) (selector_lines types facts modes result args t)
+      S (selector_place types facts modes args t ++ part_places types facts modes args (selector_from args t)) 0 (2 * A args)
+      (selector_lines types facts modes result args t)
   selector NoArg t alone s small = absurd alone
   selector (ByValue e NoArg) t alone s small = covers_most types facts 0 _ (omega arith) (told e Looked t s.0 >> covers_none types facts)
   selector (ByValue e (ByValue other rest)) t alone s small = absurd alone
   selector (ByValue e (ByPath path rest)) t alone s small = absurd alone
   selector (ByPath path NoArg) t alone s small =
       let n = looked_from path t in
-      covers_as types facts (append_assoc (read_place types facts modes path t) (path_places types facts modes path n) [])
+      covers_as types facts (append_assoc (read_place types facts modes false path t) (path_places types facts modes path n) [])
       (covers_most types facts 0 _ (omega arith)
       (selected types facts modes globals path t n (L.Look t n) tt s.0 (aim types facts modes globals path n s.0) small >> covers_none types facts))
   selector (ByPath path (ByValue other rest)) t alone s small = absurd alone
@@ -216,7 +217,8 @@ module _ (types : List Ty) (facts : Facts) (modes : (proc position : ℕ) → Mo
   element borrows place t head counter f = by (is_hooked facts place.of) f.1
     where
       by : (b : Bool) → b ≡ false → S [] 0 0 (λ k.
-          if b then L.Item t head counter ∷ hooked_element types facts modes result borrows place t ∷ k else L.Element t head counter ∷ L.Fill place.number t ∷ k)
+          if b then L.Item t head counter ∷ hooked_element types facts modes result borrows place t ∷ k else L.Element t head counter
+          ∷ L.Fill place.number t ∷ k)
       by true e = never (sym e)
       by false e = nothing (L.Element t head counter) tt ~> nothing (L.Fill place.number t) tt
 
@@ -351,7 +353,8 @@ module _ (types : List Ty) (facts : Facts) (modes : (proc position : ℕ) → Mo
     arms covered [] (Block first rest) exits t a u c l x = absurd l
     arms covered (these ∷ labels) (Block first rest) exits t a u c l x =
         covers_most types facts 0 _ (omega arith)
-        (arm_then types facts modes globals (covered && is_last_block rest) (label Next t) (label Arm a) (arm_places types facts modes rest (u + width_of first))
+        (arm_then types facts modes globals (covered && is_last_block rest) (label Next t) (label Arm a)
+        (arm_places types facts modes rest (u + width_of first))
         (2 * WBs rest)
         (block first exits u c.0 x)
         (last_none covered rest (u + width_of first))

@@ -17,7 +17,8 @@ use Rattle.flattening.proofs.GlobalSizes.{globals_most}
 pub start_most : (program : Program) (plan : Plan) → IsTyped program → is_numbered_program program ≡ true →
     globals_bytes (known_of program) (start_places (flat_procs program plan)) ≤ globals_size program.facts program.globals
 start_most program plan typed numbered =
-    let places : start_places (flat_procs program plan) ≡ body_places program.types program.facts (modes_of program plan) plan.sinks program.globals [] program.start =
+    let places : start_places (flat_procs program plan)
+    ≡ body_places program.types program.facts (modes_of program plan) plan.sinks program.globals [] program.start =
     start_end (map (λ (p : Proc). flat_proc program plan p.hook p.params p.body) program.procs) (flat_body program plan None [] program.start) in
     let same = ap (globals_bytes (known_of program)) places in
     let globals = globals_most program plan typed numbered in

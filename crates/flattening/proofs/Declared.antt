@@ -1,5 +1,5 @@
 -- Declared places among the places of flat code: each stands where it is declared, in the order of its number, and is found by that.
-use Rattle.std.proofs.Common.{◌≡◌, ◌≢◌, ℕ, suc, ◌≤◌, ◌⊎◌, inl, inr, Bool, true, false, List, [], ◌∷◌, ◌++◌, Some, refl, sym, ap, ◌∙◌, subst, arith}
+use Rattle.std.proofs.Common.{◌≡◌, ◌≢◌, ℕ, suc, ◌≤◌, ◌⊎◌, inl, inr, Bool, true, false, List, [], ◌∷◌, ◌++◌, Some, None, refl, sym, ap, ◌∙◌, subst, arith}
 use Rattle.std.specs.Prelude.{nat_le, nat_lt, ◌&&◌, if◌then◌else◌, map}
 use Rattle.std.proofs.lemmas.Bool.{and_parts, and_from, leb-true, ne_eqb, lt-ltb}
 use Rattle.nim_types.specs.Types.{Ty, Facts}
@@ -57,6 +57,7 @@ pub record Like (types : List Ty) (p : FlatPlace) (d : Declared) : Type 0 where
   pub number : p.number ≡ d.number
   pub of : p.ty ≡ type_number types d.of
   pub block : is_block p.kind ≡ true
+  pub waits : p.waits ≡ None
 
 abbrev pub Likes : List Ty → List FlatPlace → List Declared → Type 0
 Likes types [] [] = Unit {0}
@@ -84,7 +85,7 @@ module _ (types : List Ty) (facts : Facts) (modes : (proc position : ℕ) → Mo
   all_like : (kind : Declared → PlaceKind) → ((d : Declared) → is_block (kind d) ≡ true) → (ds : List Declared) →
       Likes types (all_declared types facts modes kind ds) ds
   all_like kind is [] = tt
-  all_like kind is (d ∷ ds) = (record { number = refl; of = refl; block = is d }, all_like kind is ds)
+  all_like kind is (d ∷ ds) = (record { number = refl; of = refl; block = is d; waits = refl }, all_like kind is ds)
 
   pub block_like : (globals : List Declared) (b : Stmts) →
       Likes types (total_of lists (own_declared types facts modes globals) b) (total_of lists own_places b)

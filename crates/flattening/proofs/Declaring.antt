@@ -65,7 +65,8 @@ module _ (types : List Ty) (facts : Facts) (modes : (proc position : ℕ) → Mo
     stmt_declares (Loop node While head body) = ap₂ (λ x y. x ++ y) (none_of head) (declares body)
     stmt_declares (Loop node (Count variable inclusive) head body) =
         ap (λ x. of_declared types facts modes K.ForVar variable ∷ x) (ap₂ (λ x y. x ++ y) (none_of head) (declares body))
-    stmt_declares (Loop node (Each variable) head body) = ap (λ x. of_declared types facts modes K.ForVar variable ∷ x) (ap₂ (λ x y. x ++ y) (none_of head) (declares body))
+    stmt_declares (Loop node (Each variable) head body) =
+        ap (λ x. of_declared types facts modes K.ForVar variable ∷ x) (ap₂ (λ x y. x ++ y) (none_of head) (declares body))
     stmt_declares (Raise node exception message) = none_of message
     stmt_declares (Try node body handlers last) = ap₂ (λ x y. x ++ y) (declares body) (ap₂ (λ x y. x ++ y) (handlers_declare handlers) (declares last))
 
@@ -73,7 +74,8 @@ module _ (types : List Ty) (facts : Facts) (modes : (proc position : ℕ) → Mo
     declares Empty = refl
     declares (Then first rest) = ap₂ (λ x y. x ++ y) (stmt_declares first) (declares rest)
     declares (Declare node place cursor value rest) =
-        ap (λ x. of_declared types facts modes (kind_declared (is_global globals) place.number cursor) place ∷ x) (ap₂ (λ x y. x ++ y) (none_of value) (declares rest))
+        ap (λ x. of_declared types facts modes (kind_declared (is_global globals) place.number cursor) place ∷ x)
+        (ap₂ (λ x y. x ++ y) (none_of value) (declares rest))
     declares (Defer node last rest) = ap₂ (λ x y. x ++ y) (declares last) (declares rest)
 
     blocks_declare : (blocks : Blocks) → together lists (each_block lists (own_declared types facts modes globals) blocks)

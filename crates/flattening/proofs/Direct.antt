@@ -1,14 +1,17 @@
--- Code without calls that have types for type parameters, whose constants are texts or have no hooks: that of programs of which nothing is left out.
-use Rattle.std.proofs.Common.{◌≡◌, Bool, true, false, List, [], ◌∷◌, Option, None, refl, ap, ◌∙◌}
+-- Code without calls that have types for type parameters, and without constants with objects that have hooks of their own: among others that of
+-- programs of which nothing is left out.
+use Rattle.std.proofs.Common.{◌≡◌, zero, suc, Bool, true, false, List, [], ◌∷◌, Option, Some, None, refl, ap, ap₂, ◌∙◌}
 use Rattle.std.specs.Prelude.{not, ◌&&◌, ◌||◌}
 use Rattle.std.proofs.lemmas.Bool.{both_ways, and_from, or_parts, not-false}
 use Rattle.nim_types.specs.Types.{Ty, Facts}
+use Rattle.nim_types.specs.Forms as form
+use Rattle.nim_types.specs.Forms.{Form, Forms, form_of, hooked, hooked_any, has_resource, has_resource_any}
 use Rattle.nim_program.specs.Program.{Literal, Characters, Number, NoObject, PartsOf, ElementsOf, Act, Doing, Building, Giving, Calling, Expr, Apply, Read}
 use Rattle.nim_program.specs.Program.{Early, Choose}
 use Rattle.nim_program.specs.Program.{Path, Variable, Fresh, Field, Element, Deref, Args, NoArg, ByValue, ByPath, types_in}
 use Rattle.nim_program.specs.Program.{Stmt, Do, Idle, Give, Leave, Select, Loop, Raise, Try, Stmts, Empty, Then, Declare, Defer, Blocks, Otherwise, Block}
 use Rattle.nim_program.specs.Folds.{loop_places}
-use Rattle.nim_meaning.specs.Here.{is_hooked, gives_hooked}
+use Rattle.nim_meaning.specs.Here.{is_hooked, gives_hooked, form_for}
 use Rattle.nim_meaning.specs.LeftOut.{◌or_then◌, earlier, any_place_hooked, left_out_in_stmt, left_out_in_block, left_out_in_blocks}
 use Rattle.nim_meaning.specs.LeftOut.{is_act_built, writes_literals, unless_literal, out_if, first_hooked, left_out_in, left_out_in_path, left_out_in_args}
 use Rattle.flattening.proofs.Plain.{kept, neither, found, none_earlier}
@@ -18,10 +21,32 @@ abbrev pub is_text : Literal → Bool
 is_text (Characters text) = true
 is_text _ = false
 
+-- where nothing is hooked no object has hooks of its own
+mutual
+  unhooked_simple : (f : Form) → hooked f ≡ false → has_resource f ≡ false
+  unhooked_simple form.plain h = refl
+  unhooked_simple form.reference h = refl
+  unhooked_simple form.block h = refl
+  unhooked_simple (form.elements f) h = absurd (both_ways true h refl)
+  unhooked_simple (form.row zero f) h = refl
+  unhooked_simple (form.row (suc n) f) h = unhooked_simple f h
+  unhooked_simple (form.parts fs) h = all_simple fs h
+  unhooked_simple (form.resource fs) h = absurd (both_ways true h refl)
+  unhooked_simple (form.wrapped f) h = unhooked_simple f h
+
+  all_simple : (fs : Forms) → hooked_any fs ≡ false → has_resource_any fs ≡ false
+  all_simple form.no_forms h = refl
+  all_simple (form.forms f fs) h =
+      let q = or_parts (hooked f) (hooked_any fs) h in ap₂ (λ a b. a || b) (unhooked_simple f q.0) (all_simple fs q.1)
+
 module _ (facts : Facts) where
+  -- an object with hooks of its own is in it
+  abbrev pub has_own_hooks : Option Ty → Bool
+  has_own_hooks ty = has_resource (form_for facts ty)
+
   -- of an operation whose operands are such; a constant has none
   abbrev pub of_act : (ty : Option Ty) → Act → Bool → Bool
-  of_act ty (Giving literal) all = is_text literal || not (gives_hooked facts ty)
+  of_act ty (Giving literal) all = is_text literal || not (has_own_hooks ty)
   of_act ty (Calling proc (first ∷ types)) all = false
   of_act ty act all = all
 
@@ -75,11 +100,15 @@ module _ (facts : Facts) where
       or_true true = refl
       or_true false = refl
 
+  own_hooks : (ty : Option Ty) → gives_hooked facts ty ≡ false → has_own_hooks ty ≡ false
+  own_hooks None h = refl
+  own_hooks (Some ty) h = unhooked_simple (form_of facts ty) h
+
   acted : (ty : Option Ty) (act : Act) (of : List (Option Ty)) (all : Bool) → gives_hooked facts ty ≡ false → is_act_built act facts of ≡ true → all ≡ true →
       of_act ty act all ≡ true
   acted ty (Doing operation) of all u b h = h
   acted ty (Building fields) of all u b h = h
-  acted ty (Giving literal) of all u b h = unhooked_right literal (gives_hooked facts ty) u
+  acted ty (Giving literal) of all u b h = unhooked_right literal (has_own_hooks ty) (own_hooks ty u)
   acted ty (Calling proc []) of all u b h = h
   acted ty (Calling proc (first ∷ types)) of all u b h = absurd (both_ways false refl b)
 

@@ -1,33 +1,34 @@
 -- Flat code follows `for` over elements.
 use Rattle.std.proofs.Common.{◌≡◌, ℕ, suc, ◌+◌, Bool, true, List, [], ◌∷◌, refl, sym, ap, ◌∙◌, subst, arith}
 use Rattle.std.specs.Prelude.{pos}
-use Rattle.arc_base.specs.BigStep.{Turn as TurnOf}
+use Rattle.arc_base.specs.BigStep.{Turn as TurnOf, then_do}
 use Rattle.nim_types.specs.Types.{Ty, Facts}
 use Rattle.nim_program.specs.declared.expr.Node.{Node}
 use Rattle.nim_program.specs.declared.operation.Use.TheVariants.{Owned}
 use Rattle.nim_program.specs.declared.program.Mode.{Mode}
 use Rattle.nim_program.specs.Program.{Building, Args, NoArg, ByValue, ByPath, Declared, Each, Loop, Stmts, last_of}
 use Rattle.nim_meaning.specs.Values.{Number, length_of, Location}
-use Rattle.nim_meaning.specs.State.{State, load}
+use Rattle.nim_meaning.specs.State.{State, load, is_seen}
 use Rattle.nim_meaning.specs.ActTree.{Begins, Looks as Looks_up}
 use Rattle.nim_meaning.specs.Ways.{At as Point}
 use Rattle.nim_meaning.specs.Acts.{Does, worked, with_trail}
-use Rattle.nim_meaning.specs.Acts.{costs, loop, give}
+use Rattle.nim_meaning.specs.Acts.{loop, onward}
 use Rattle.nim_meaning.specs.Acts as acting
-use Rattle.nim_meaning.specs.Deeds.{◌>>=◌}
+use Rattle.nim_meaning.specs.Deeds.{carry, behind as later_done, perform, ◌>>=◌}
 use Rattle.nim_meaning.specs.Deeds as deeds
 use Rattle.nim_meaning.specs.Here.{Here}
 use Rattle.nim_meaning.specs.Waiting.{waiting_all}
 use Rattle.nim_meaning.specs.Meaning.{head_values, is_fresh, exec_all, at_node, each_turn, ready_aim}
 use Rattle.nim_meaning.specs.Aims.{Aim, find}
-use Rattle.flat_code.specs.Scene.{with_value, location_at}
+use Rattle.nim_meaning.specs.Places.{length_at}
+use Rattle.flat_code.specs.Scene.{with_value, location_at, Passes}
 use Rattle.flat_code.specs.Lines.{using}
 use Rattle.flat_code.specs.Lines as does
 use Rattle.flattening.specs.declared.numbers.Purpose.TheVariants.{Arm}
 use Rattle.flattening.specs.Numbering.{label}
 use Rattle.flattening.specs.ExprLines.{find_lines}
 use Rattle.flattening.specs.Flattened.{modes_of}
-use Rattle.flattening.proofs.Runs.{Runs, pays, spares}
+use Rattle.flattening.proofs.Runs.{Runs, pays, spares, unless_wrong}
 use Rattle.flattening.proofs.Worlds.{since_then}
 use Rattle.flattening.proofs.Temps.{kept_then, kept_wide, kept_value, put_same, put_other}
 use Rattle.flattening.proofs.Puts.{◌>>◌}
@@ -76,7 +77,8 @@ module _ (c : Spot) (top : Bool) (room : ℕ → Type 0) (names : (proc place : 
       let head1 : Args = ByPath path rest in
       let turn : Aim → ℕ → ℕ → Does (TurnOf ℕ (Unit {0})) =
       λ aim len. each_turn node.number here place (is_fresh head1) (last_of body) (exec_all body here) aim len in
-      let loops : Aim → Location → Does (Unit {0}) = λ aim location. acting.looks (λ world. loop (turn aim (length_of (load world location))) 0) in
+      let turns : Aim → ℕ → Does (Unit {0}) = λ aim len. loop (turn aim len) 0 in
+      let loops : Aim → Location → Does (Unit {0}) = λ aim location. acting.◌>>=◌ (carry (length_at location)) (turns aim) in
       let finds : Aim → Does (Unit {0}) = λ aim. acting.◌>>=◌ (at_node node.number Looks_up (find aim)) (loops aim) in
       let s1 : State = with_trail (Point node.number Begins ∷ s.trail) (worked 1 s) in
       pays 12 1 (omega arith)
@@ -98,10 +100,14 @@ module _ (c : Spot) (top : Bool) (room : ℕ → Type 0) (names : (proc place : 
       let with_both = with_value counter with_len (Number (pos 0)) in
       let invariant = EachAt c top room names calls outermost gives_listed node place path rest body follows inside Open f exits around t k l temps s.world h
       aim len in
+      unless_wrong (is_seen d.world location) (λ b. then_do (carry (deeds.unless_gone b (deeds.give len)) d) (onward (turns aim))) d refl
+      (λ seen.
       goes c 11 1 (omega arith)
-      (ap (λ o. using o (λ place. does.gives xs many (deeds.costs 1
-      (deeds.looks (λ world. deeds.give (Number (pos (length_of (load world (location_at last place)))))))))) looked.leads.is
-      ∙ ap (λ l. does.gives xs many (deeds.costs 1 (deeds.looks (λ world. deeds.give (Number (pos (length_of (load world l)))))))) (leads_now looked.leads))
+      (ap (λ o. using o (λ place. does.gives xs many (deeds.costs 1 (length_at (location_at last place) >>= (λ n. deeds.give (Number (pos n)))))))
+      looked.leads.is
+      ∙ (ap (λ l. does.gives xs many (deeds.costs 1 (length_at l >>= (λ n. deeds.give (Number (pos n)))))) (leads_now looked.leads)
+      ∙ ap (λ b. Passes (later_done [] 1 (perform ((deeds.unless_gone b (deeds.give len) >>= (λ n. deeds.give (Number (pos n))))
+      >>= (λ v. deeds.give (with_value many last v))) d.world))) seen))
       (goes c 10 1 (omega arith) refl
       (leaps c 9 (label Arm t) 1 (omega arith) refl
       (arm_is_found c top room names calls outermost gives_listed node place path rest body follows inside Open f exits around t k)
@@ -124,4 +130,4 @@ module _ (c : Spot) (top : Bool) (room : ℕ → Type 0) (names : (proc place : 
         };
         since = since_then since since2;
       })))
-      (λ b last kept since. goes c 0 1 (omega arith) refl (stays c around1 b last (omega arith) kept since))))))))))
+      (λ b last kept since. goes c 0 1 (omega arith) refl (stays c around1 b last (omega arith) kept since)))))))))))

@@ -11,17 +11,17 @@ use Rattle.nim_program.specs.Ints.{inside as is_inside}
 use Rattle.nim_program.specs.Traps.{LengthChanged}
 use Rattle.nim_program.specs.Program.{Building, Path, Args, ByPath, Declared, Each, Loop, Stmts, last_of}
 use Rattle.nim_meaning.specs.Values.{Value, Number, nothing, number_of, length_of, bytes, Location, Holds}
-use Rattle.nim_meaning.specs.State.{World, State, load}
+use Rattle.nim_meaning.specs.State.{World, State, load, is_seen}
 use Rattle.nim_meaning.specs.ActTree.{Turns, Chooses, Fills, Does as Done_by}
 use Rattle.nim_meaning.specs.Ways.{At as Point}
 use Rattle.nim_meaning.specs.Acts.{Outcome, On, Out, Does, onward, branch, worked, left_with, with_trail}
 use Rattle.nim_meaning.specs.Acts.{at_exit, costs, again, no_more, next, turn_of, give, stop}
 use Rattle.nim_meaning.specs.Acts as acting
-use Rattle.nim_meaning.specs.Deeds.{Opens, changed, behind as later_done, perform, ◌>>=◌}
+use Rattle.nim_meaning.specs.Deeds.{Opens, changed, carry, behind as later_done, perform, ◌>>=◌}
 use Rattle.nim_meaning.specs.Deeds as deeds
 use Rattle.nim_meaning.specs.Here.{Here, is_hooked}
 use Rattle.nim_meaning.specs.Waiting.{Wait, waiting_all}
-use Rattle.nim_meaning.specs.Places.{item_of}
+use Rattle.nim_meaning.specs.Places.{item_of, item_at, fetched_item}
 use Rattle.nim_meaning.specs.Meaning.{is_fresh, element_for, exec_all, fill, scoped, at_node, still, element_at, each_turn}
 use Rattle.nim_meaning.specs.Aims.{Aim, find}
 use Rattle.flat_code.specs.declared.line.Line.{Line}
@@ -35,7 +35,7 @@ use Rattle.flattening.specs.ExprLines.{find_lines, ready_lines}
 use Rattle.flattening.specs.StmtLines.{Exits, ending as exits_ending, in_loop, in_scope, place_end, head_ends, hooked_element, element_lines, lines_of}
 use Rattle.flattening.specs.Flattened.{modes_of}
 use Rattle.flattening.specs.Formed.{Scope, With, StmtFormed}
-use Rattle.flattening.proofs.Runs.{M, Runs, Walks, walks_on, pays, spares, lands, follows_on, Turned}
+use Rattle.flattening.proofs.Runs.{M, Runs, Walks, walks_on, pays, spares, lands, follows_on, unless_wrong, Turned}
 use Rattle.flattening.proofs.Worlds.{Since, since_then, since_slot}
 use Rattle.flattening.proofs.Openings.{answering_all}
 use Rattle.flattening.proofs.Temps.{Kept, kept_none, kept_then, kept_wide, kept_value, kept_place, put_same, put_other, value_before}
@@ -55,7 +55,7 @@ use Rattle.flattening.proofs.Filling.{Filled}
 use Rattle.flattening.proofs.Scopes.{reaches_ended}
 use Rattle.flattening.proofs.Stmts.{IsListedResult, BlockFollows}
 use Rattle.flattening.proofs.Widths.{same_width}
-use Rattle.flattening.proofs.Elements.{all_inside, next_number, still_line_is, fetches, puts_element, opens_element, item_line, item_fetched}
+use Rattle.flattening.proofs.Elements.{all_inside, next_number, as_long_by, still_line_is, puts_element, opens_element, item_line, item_fetched}
 
 module _ (c : Spot) (top : Bool) (room : ℕ → Type 0) (names : (proc place : ℕ) → Type 0) (calls : CallsFollow c names)
     (outermost : top ≡ true → c.level ≡ 0) (gives_listed : IsListedResult c.fixed.program.types c.result) where
@@ -301,7 +301,7 @@ module _ (c : Spot) (top : Bool) (room : ℕ → Type 0) (names : (proc place : 
       opening i item = acting.◌>>◌ (at_node node.number Fills (element_for here place borrows item)) (again acts (suc i))
 
       abbrev by_place : Location → ℕ → Does (TurnOf ℕ (Unit {0}))
-      by_place location i = acting.◌>>=◌ (at_node node.number Done_by (acting.looks (λ world. give (item_of (load world location) location i)))) (opening i)
+      by_place location i = acting.◌>>=◌ (at_node node.number Done_by (carry (item_at location i))) (opening i)
 
       abbrev element_to_open : Location → ℕ → Unit {0} → Does (TurnOf ℕ (Unit {0}))
       element_to_open location i u = branch (is_hooked facts place.of) (by_place location i) (by_value location i)
@@ -335,9 +335,9 @@ module _ (c : Spot) (top : Bool) (room : ℕ → Type 0) (names : (proc place : 
           (then_do (by_value location i d) turn_of)
       value_follows i u location last d is same leads x few since =
           both_falling (λ v. acting.◌>>◌ (at_node node.number Fills (fill here place.number v)) (again acts (suc i))) turn_of 2 (omega arith) (omega arith)
-          (performs c {lo = t} {hi = suc t} {P = λ v now. now ≡ with_value t last v} {p = 3} {q = 2} (λ v. with_value t last v) (fetches location i)
+          (performs c {lo = t} {hi = suc t} {P = λ v now. now ≡ with_value t last v} {p = 3} {q = 2} (λ v. with_value t last v) (fetched_item location i)
           (with_trail (Point node.number Done_by ∷ d.trail) d) 1 (omega arith)
-          (answering_all (λ v. with_value t last v ≡ with_value t last v) (λ v. refl) (fetches location i))
+          (answering_all (λ v. with_value t last v ≡ with_value t last v) (λ v. refl) (fetched_item location i))
           (λ v. kept_value t v (omega arith) (omega arith) (kept_none t (suc t) last))
           (ap (λ o. using o (λ place. using_number last counter (λ z. gives_inside last d.world (location_at last place) z))) leads.is
           ∙ (ap (λ l. using_number last counter (λ z. gives_inside last d.world l z)) (leads_now leads)
@@ -353,13 +353,18 @@ module _ (c : Spot) (top : Bool) (room : ℕ → Type 0) (names : (proc place : 
           there_is = ap (λ n. is_inside (pos i) n) same ∙ (all_inside i len ∙ is)
 
       -- by its place
-      place_follows : (i u : ℕ) (location : Location) (last : Temps) (d : State) → nat_lt i len ≡ true → length_of (load d.world location) ≡ len →
+      place_follows : (i u : ℕ) (location : Location) (last : Temps) (d : State) → nat_lt i len ≡ true → is_seen d.world location ≡ true →
+          length_of (load d.world location) ≡ len →
           LeadsTo place_at (place_at + width_at path) place_at location last → HoldsAt i last → d.meter.units ≤ u → Since c.level world d.world →
           Runs c.fixed (Turned EachAt Ends u) 3 6
           (there c (L.Item t place_at counter ∷ hooked_element types facts modes c.result borrows place t ∷ turning) last d.world) d.meter
           (then_do (by_place location i d) turn_of)
-      place_follows i u location last d is same leads x few since =
-          goes c 2 1 (omega arith) (item_line c t counter i len location last d.world is same leads x.counts)
+      place_follows i u location last d is seen same leads x few since =
+          subst (λ b. Runs c.fixed (Turned EachAt Ends u) 3 6
+          (there c (L.Item t place_at counter ∷ hooked_element types facts modes c.result borrows place t ∷ turning) last d.world) d.meter
+          (then_do (then_do (carry (deeds.unless_gone b (deeds.give item)) (with_trail (Point node.number Done_by ∷ d.trail) d)) (onward (opening i))) turn_of))
+          (sym seen)
+          (goes c 2 1 (omega arith) (item_line c t counter i len location last d.world is seen same leads x.counts)
           (subst (λ r. Runs c.fixed (Turned EachAt Ends u) 2 6
           (there c (hooked_element types facts modes c.result borrows place t ∷ turning) after_item d.world) d.meter r)
           (sym (do_assoc (element_for here place borrows item d2) (onward (λ done. again acts (suc i))) turn_of))
@@ -367,7 +372,7 @@ module _ (c : Spot) (top : Bool) (room : ℕ → Type 0) (names : (proc place : 
           (opens_element c place f.2.0 borrows t item turning after_item d2
           ((stands_since h since).room_is place.number f.2.1, omega (arith, (stands_since h since).framed))
           (item_fetched c t i location last d.world leads))
-          (λ flow b m1 falls g. on flow b m1 falls g)))
+          (λ flow b m1 falls g. on flow b m1 falls g))))
         where
           item : Location
           item = item_of (load d.world location) location i
@@ -387,47 +392,44 @@ module _ (c : Spot) (top : Bool) (room : ℕ → Type 0) (names : (proc place : 
           on (Out way) b m1 falls g = absurd g
 
       -- where the place was found
-      element_follows : (b : Bool) (i u : ℕ) (location : Location) (last : Temps) (d : State) → nat_lt i len ≡ true →
+      element_follows : (b : Bool) (i u : ℕ) (location : Location) (last : Temps) (d : State) → nat_lt i len ≡ true → is_seen d.world location ≡ true →
           length_of (load d.world location) ≡ len →
           LeadsTo place_at (place_at + width_at path) place_at location last → HoldsAt i last → d.meter.units ≤ u → Since c.level world d.world →
           Runs c.fixed (Turned EachAt Ends u) 3 6
           (there c (if b then L.Item t place_at counter ∷ hooked_element types facts modes c.result borrows place t ∷ turning
           else L.Element t place_at counter ∷ L.Fill place.number t ∷ turning) last d.world) d.meter
           (then_do (branch {A = Does (TurnOf ℕ (Unit {0}))} b (by_place location i) (by_value location i) d) turn_of)
-      element_follows true i u location last d is same leads x few since = place_follows i u location last d is same leads x few since
-      element_follows false i u location last d is same leads x few since = value_follows i u location last d is same leads x few since
+      element_follows true i u location last d is seen same leads x few since = place_follows i u location last d is seen same leads x few since
+      element_follows false i u location last d is seen same leads x few since = value_follows i u location last d is same leads x few since
 
       found_by : (b : Bool) (i u : ℕ) (location : Location) (last : Temps) (d : State) → nat_lt i len ≡ true →
-          nat_eq (length_of (load d.world location)) len ≡ b →
+          is_seen d.world location ≡ true → nat_eq (length_of (load d.world location)) len ≡ b →
           LeadsTo place_at (place_at + width_at path) place_at location last → HoldsAt i last → d.meter.units ≤ u → Since c.level world d.world →
           Runs c.fixed (Turned EachAt Ends u) 4 6 (there c fetching last d.world) d.meter
-          (then_do (then_do (branch b (give (tt {0})) (stop LengthChanged) d) (onward (element_to_open location i))) turn_of)
-      found_by b i u location last d is same leads x few since = by b refl
+          (then_do (then_do (carry (as_long_by b) d) (onward (element_to_open location i))) turn_of)
+      found_by b i u location last d is seen same leads x few since = by b refl
         where
           line_is : does_at c last d.world (L.Still place_at many)
-              ≡ Passes (later_done [] 1 (perform (deeds.branch b (deeds.give (tt {0})) (deeds.stop LengthChanged) >>= (λ v. deeds.give last)) d.world))
+              ≡ Passes (later_done [] 1 (perform (as_long_by b >>= (λ u. deeds.give last)) d.world))
           line_is =
               ap (λ o. using o (λ place. using_number last many
               (λ n. does.acts (scene c last d.world) (deeds.costs 1 (does.still (location_at last place) n))))) leads.is
               ∙ (ap (λ l. using_number last many (λ n. does.acts (scene c last d.world) (deeds.costs 1 (does.still l n)))) (leads_now leads)
               ∙ (ap (λ o. using o (λ v. does.acts (scene c last d.world) (deeds.costs 1 (does.still location (number_of v))))) x.long
-              ∙ (ap (λ done. Passes (later_done [] 1 done)) (still_line_is location len last d.world)
-              ∙ ap (λ b2. Passes (later_done [] 1 (perform (deeds.branch b2 (deeds.give (tt {0})) (deeds.stop LengthChanged)
-              >>= (λ v. deeds.give last)) d.world))) same)))
+              ∙ (ap (λ done. Passes (later_done [] 1 done)) (still_line_is location len last d.world seen)
+              ∙ ap (λ b2. Passes (later_done [] 1 (perform (as_long_by b2 >>= (λ u. deeds.give last)) d.world))) same)))
 
           by : (b2 : Bool) → b ≡ b2 → Runs c.fixed (Turned EachAt Ends u) 4 6 (there c fetching last d.world) d.meter
-              (then_do (then_do (branch b2 (give (tt {0})) (stop LengthChanged) d) (onward (element_to_open location i))) turn_of)
+              (then_do (then_do (carry (as_long_by b2) d) (onward (element_to_open location i))) turn_of)
           by true e =
               goes c 3 1 (omega arith)
-              (line_is ∙ ap (λ b2. Passes (later_done [] 1 (perform (deeds.branch b2 (deeds.give (tt {0})) (deeds.stop LengthChanged)
-              >>= (λ v. deeds.give last)) d.world))) e)
-              (element_follows (is_hooked facts place.of) i u location last d is (eqb-true _ _ (same ∙ e)) leads x few since)
+              (line_is ∙ ap (λ b2. Passes (later_done [] 1 (perform (as_long_by b2 >>= (λ u. deeds.give last)) d.world))) e)
+              (element_follows (is_hooked facts place.of) i u location last d is seen (eqb-true _ _ (same ∙ e)) leads x few since)
           by false e =
               both_falling (element_to_open location i) turn_of 3 (omega arith) (omega arith)
               (performs c {lo = t} {hi = suc t} {P = λ u now. ⊥} {p = 4} {q = 3} (λ u. last) (deeds.stop {A = Unit {0}} LengthChanged) d 1 (omega arith) tt
               (λ u. kept_none t (suc t) last)
-              (line_is ∙ ap (λ b2. Passes (later_done [] 1 (perform (deeds.branch b2 (deeds.give (tt {0})) (deeds.stop LengthChanged)
-              >>= (λ v. deeds.give last)) d.world))) e))
+              (line_is ∙ ap (λ b2. Passes (later_done [] 1 (perform (as_long_by b2 >>= (λ u. deeds.give last)) d.world))) e))
               (λ done b3 now2 falls never kept since2. absurd never)
 
       found_follows : (i u : ℕ) (location : Location) (last : Temps) (d : State) → nat_lt i len ≡ true →
@@ -435,7 +437,10 @@ module _ (c : Spot) (top : Bool) (room : ℕ → Type 0) (names : (proc place : 
           HoldsAt i last → d.meter.units ≤ u → Since c.level world d.world →
           Runs c.fixed (Turned EachAt Ends u) 4 6 (there c fetching last d.world) d.meter (then_do (found_to_open i location d) turn_of)
       found_follows i u location last d is leads x few since =
-          found_by (nat_eq (length_of (load d.world location)) len) i u location last d is refl leads x few since
+          let as_long = as_long_by (nat_eq (length_of (load d.world location)) len) in
+          unless_wrong (is_seen d.world location)
+          (λ b. then_do (then_do (carry (deeds.unless_gone b as_long) d) (onward (element_to_open location i))) turn_of) d refl
+          (λ seen. found_by (nat_eq (length_of (load d.world location)) len) i u location last d is seen refl leads x few since)
 
       abbrev turned : Bool → ℕ → Does (TurnOf ℕ (Unit {0}))
       turned b i = branch b (acting.◌>>=◌ (find aim) (found_to_open i)) no_more

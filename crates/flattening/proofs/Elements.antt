@@ -9,14 +9,12 @@ use Rattle.nim_program.specs.Ints.{inside as is_inside}
 use Rattle.nim_program.specs.Traps.{LengthChanged, IndexOutOfBounds}
 use Rattle.nim_program.specs.Program.{Declared}
 use Rattle.nim_meaning.specs.Values.{Value, Number, nothing, number_of, length_of, Location, Operand, At as AtPlace}
-use Rattle.nim_meaning.specs.State.{World, State, load}
-use Rattle.nim_meaning.specs.Acts.{branch}
-use Rattle.nim_meaning.specs.Acts.{loop, give, stop}
-use Rattle.nim_meaning.specs.Deeds.{Deed, Looks, carry, behind as later_done, perform, Answers, ◌>>=◌}
+use Rattle.nim_meaning.specs.State.{World, State, load, is_seen}
+use Rattle.nim_meaning.specs.Deeds.{Deed, behind as later_done, perform, Answers, ◌>>=◌}
 use Rattle.nim_meaning.specs.Deeds as deeds
 use Rattle.nim_meaning.specs.Here.{is_hooked}
-use Rattle.nim_meaning.specs.Places.{item_of, to_item, fetched}
-use Rattle.nim_meaning.specs.Meaning.{element_for, still}
+use Rattle.nim_meaning.specs.Places.{item_of, to_item}
+use Rattle.nim_meaning.specs.Meaning.{element_for}
 use Rattle.flat_code.specs.declared.line.From.TheVariants as F
 use Rattle.flat_code.specs.declared.line.Line.{Line}
 use Rattle.flat_code.specs.declared.line.Line.TheVariants as L
@@ -44,32 +42,26 @@ all_inside i n = grind (arith, ints)
 pub next_number : (i : ℕ) → pos i +ℤ pos 1 ≡ pos (suc i)
 next_number i = let e : i + 1 ≡ suc i = omega arith in ap (λ n. pos n) e
 
--- ---- the two deeds of a turn
+-- ---- that there are still as many
 
-abbrev pub stays_as_long : Location → ℕ → Deed (Unit {0})
-stays_as_long location len = Looks (λ world. deeds.branch (nat_eq (length_of (load world location)) len) (deeds.give tt) (deeds.stop LengthChanged))
+-- where the elements are there
+abbrev pub as_long_by : Bool → Deed (Unit {0})
+as_long_by b = deeds.branch b (deeds.give tt) (deeds.stop LengthChanged)
 
-pub still_is : (location : Location) (len : ℕ) (s : State) → still location len s ≡ carry (stays_as_long location len) s
-still_is location len s = on (nat_eq (length_of (load s.world location)) len)
+abbrev same_length : Bool → Deed Value
+same_length b = deeds.branch b (deeds.give nothing) (deeds.stop LengthChanged)
+
+pub still_line_is : (location : Location) (len : ℕ) (temps : Temps) (world : World) → is_seen world location ≡ true →
+    perform (does.still location (pos len) >>= (λ v. deeds.give temps)) world
+    ≡ perform (as_long_by (nat_eq (length_of (load world location)) len) >>= (λ u. deeds.give temps)) world
+still_line_is location len temps world there =
+    ap (λ b. perform (deeds.unless_gone b (same_length (int_eq (pos (length_of (load world location))) (pos len))) >>= (λ v. deeds.give temps)) world) there
+    ∙ (ap (λ b. perform (same_length b >>= (λ v. deeds.give temps)) world) (same_numbers (length_of (load world location)) len)
+    ∙ on (nat_eq (length_of (load world location)) len))
   where
-    on : (b : Bool) → branch b (give (tt {0})) (stop LengthChanged) s ≡ carry (deeds.branch b (deeds.give (tt {0})) (deeds.stop LengthChanged)) s
+    on : (b : Bool) → perform (same_length b >>= (λ v. deeds.give temps)) world ≡ perform (as_long_by b >>= (λ u. deeds.give temps)) world
     on true = refl
     on false = refl
-
-pub still_line_is : (location : Location) (len : ℕ) (temps : Temps) (world : World) →
-    perform (does.still location (pos len) >>= (λ v. deeds.give temps)) world ≡ perform (stays_as_long location len >>= (λ v. deeds.give temps)) world
-still_line_is location len temps world =
-    ap (λ b. perform (deeds.branch b (deeds.give nothing) (deeds.stop LengthChanged) >>= (λ v. deeds.give temps)) world)
-    (same_numbers (length_of (load world location)) len)
-    ∙ on (nat_eq (length_of (load world location)) len)
-  where
-    on : (b : Bool) → perform (deeds.branch b (deeds.give nothing) (deeds.stop LengthChanged) >>= (λ v. deeds.give temps)) world
-        ≡ perform (deeds.branch b (deeds.give (tt {0})) (deeds.stop LengthChanged) >>= (λ v. deeds.give temps)) world
-    on true = refl
-    on false = refl
-
-abbrev pub fetches : Location → ℕ → Deed Value
-fetches location i = Looks (λ world. fetched (item_of (load world location) location i))
 
 -- ---- one with hooks goes by its place
 
@@ -105,14 +97,14 @@ module _ (c : Spot) where
   opens_element place listed false t location k now d room fetched = copies_follow c place listed (F.Place t) location k now d room fetched
 
   module _ {lo hi at : ℕ} (t counter i len : ℕ) (location : Location) (last : Temps) (world : World) (is : nat_lt i len ≡ true)
-      (same : length_of (load world location) ≡ len) (leads : Leads lo hi at location last) where
+      (there : is_seen world location ≡ true) (same : length_of (load world location) ≡ len) (leads : Leads lo hi at location last) where
     abbrev item : Location
     item = item_of (load world location) location i
 
     there_is : is_inside (pos i) (length_of (load world location)) ≡ true
     there_is = ap (λ n. is_inside (pos i) n) same ∙ (all_inside i len ∙ is)
 
-    -- where it stands is known, since it is there
+    -- where it stands is known, since it is one of those that are there
     pub item_line : last.values counter ≡ Some (Number (pos i)) →
         does_at c last world (L.Item t at counter) ≡ Passes (Answers [] 1 (with_place t last (led leads.place item)) world)
     item_line counts =
@@ -120,8 +112,11 @@ module _ (c : Spot) where
         ap (λ o. using o (λ place. using_number last counter (λ z. does.leads x t place (to_item (location_at last place) z)))) leads.is
         ∙ (ap (λ l. using_number last counter (λ z. does.leads x t leads.place (to_item l z))) (leads_now leads)
         ∙ (ap (λ o. using o (λ v. does.leads x t leads.place (to_item location (number_of v)))) counts
+        ∙ (ap (λ b. Passes (later_done [] 1 (perform (deeds.unless_gone b
+        (deeds.branch (is_inside (pos i) (length_of (load world location))) (deeds.give item) (deeds.stop IndexOutOfBounds))
+        >>= (λ l. deeds.give (with_place t last (led leads.place l)))) world))) there
         ∙ ap (λ b. Passes (later_done [] 1 (perform (deeds.branch b (deeds.give item) (deeds.stop IndexOutOfBounds)
-        >>= (λ l. deeds.give (with_place t last (led leads.place l)))) world))) there_is))
+        >>= (λ l. deeds.give (with_place t last (led leads.place l)))) world))) there_is)))
 
   pub item_fetched : {lo hi at : ℕ} (t i : ℕ) (location : Location) (last : Temps) (world : World) (leads : Leads lo hi at location last) →
       let item = item_of (load world location) location i in

@@ -1,7 +1,6 @@
 -- What ends where a part is left: places and temporaries, by lines that set no temporary of flat code.
-use Rattle.std.proofs.Common.{◌≡◌, ℕ, suc, ◌+◌, Bool, true, false, List, [], ◌∷◌, Option, Some, None, refl, sym, ap, ◌∙◌, subst, arith}
+use Rattle.std.proofs.Common.{◌≡◌, ℕ, ◌+◌, Bool, true, false, List, [], ◌∷◌, refl, sym, ap, ◌∙◌, subst, arith}
 use Rattle.std.specs.Prelude.{if◌then◌else◌}
-use Rattle.arc_base.specs.Event.{Event}
 use Rattle.arc_base.specs.BigStep.{Got}
 use Rattle.nim_types.specs.Types.{Ty, Facts}
 use Rattle.nim_types.specs.Forms.{Form, form_of}
@@ -11,8 +10,9 @@ use Rattle.nim_meaning.specs.Values.{Operand, Waiting, at_base}
 use Rattle.nim_meaning.specs.State.{World, State, slot_at, temporary_at}
 use Rattle.nim_meaning.specs.ActTree.{Named, Temporary, Flow}
 use Rattle.nim_meaning.specs.Ways.{Leave as Scope_left}
-use Rattle.nim_meaning.specs.Acts.{Outcome, On, Does, worked, with_trail, left_as, leaving_scope, as_before, onward, branch, costs, give, ◌>>◌}
-use Rattle.nim_meaning.specs.Deeds.{Deed, Leaves, carry, perform, behind, Done, Answers, Finishes, Fails, costs as deed_costs, looks, does as changes, give as gives, ◌>>=◌}
+use Rattle.nim_meaning.specs.Acts.{Outcome, On, Does, worked, with_trail, left_as, leaving_scope, as_before, branch, costs, give, ◌>>◌}
+use Rattle.nim_meaning.specs.Deeds.{Deed, Leaves, carry, perform, behind, Done, Answers, Finishes, Fails, costs as deed_costs, looks, does as changes}
+use Rattle.nim_meaning.specs.Deeds.{give as gives, ◌>>=◌}
 use Rattle.nim_meaning.specs.Lifted.{slot_ends, temporary_ends}
 use Rattle.nim_meaning.specs.Here.{Here, is_hooked}
 use Rattle.nim_meaning.specs.Waiting.{Wait}
@@ -24,16 +24,16 @@ use Rattle.flat_code.specs.declared.line.Line.{Line}
 use Rattle.flat_code.specs.declared.line.Line.TheVariants as L
 use Rattle.flat_code.specs.Scene.{Temps, Did, Passes}
 use Rattle.flat_code.specs.Scene as scenes
-use Rattle.flat_code.specs.Lines.{using_all, owns, form_in, is_there, if_filled}
+use Rattle.flat_code.specs.Lines.{using_all, owns, is_there, if_filled, handed_over, without_all, traded_by}
 use Rattle.flat_code.specs.Lines as does
 use Rattle.flattening.specs.Numbering.{type_number, number_or}
 use Rattle.flattening.specs.ExprLines.{end_lines}
 use Rattle.flattening.specs.StmtLines.{place_end, param_ends}
 use Rattle.flattening.proofs.Runs.{M, Runs, pays, known}
-use Rattle.flattening.proofs.Worlds.{Since, since_none, since_then, still_holds}
+use Rattle.flattening.proofs.Worlds.{since_none, since_then, still_holds}
 use Rattle.flattening.proofs.Openings.{answering_all}
-use Rattle.flattening.proofs.Temps.{Kept, kept_none, kept_then}
-use Rattle.flattening.proofs.Spots.{Spot, here_of, there, scene, does_at, Lands, past, after, answers, further, performs}
+use Rattle.flattening.proofs.Temps.{kept_none}
+use Rattle.flattening.proofs.Spots.{Spot, here_of, there, scene, Lands, past, after, answers, further, performs}
 
 -- a type of the table, by its number
 abbrev pub IsListed : List Ty → Ty → Type 0
@@ -66,14 +66,16 @@ module _ (c : Spot) where
 
   pub own_follows : (what : Owning) (from : List From) (xs : List Operand) (k : List Line) (temps : Temps) (s : State) →
       ((did : Did) → if_filled what (scene c temps s.world) did ≡ did) → ((go : List Operand → Did) → using_all temps from go ≡ go xs) →
+      handed_over (traded_by what from) temps ≡ temps →
       Runs c.fixed (Lands c k 0 0 temps s.world (Same temps)) 1 0 (there c (L.Own what from ∷ k) temps s.world) s.meter
       (carry (owns (known c.fixed) what c.level xs) s)
-  own_follows what from xs k temps s filled fetched =
+  own_follows what from xs k temps s filled fetched stays =
       let x = scene c temps s.world in
+      let y = without_all (traded_by what from) x in
       let deed = owns (known c.fixed) what c.level xs in
       performs c (λ u. temps) deed s 1 (omega arith) (answering_all (λ u. Same temps u temps) (λ u. refl) deed) (λ u. kept_none 0 0 temps)
-      (fetched (λ xs. if_filled what x (does.acts x (deed_costs 1 (owns (known c.fixed) what c.level xs))))
-      ∙ filled (does.acts x (deed_costs 1 deed)))
+      (fetched (λ xs. if_filled what x (does.acts y (deed_costs 1 (owns (known c.fixed) what c.level xs))))
+      ∙ (filled (does.acts y (deed_costs 1 deed)) ∙ ap (λ temps. does.acts (scene c temps s.world) (deed_costs 1 deed)) stays))
 
   -- ---- ends
 
@@ -108,7 +110,7 @@ module _ (c : Spot) where
           (subst (λ ty. Runs c.fixed (Lands c k 0 0 temps s.world (Same temps)) 1 0 (there c (line_is ∷ k) temps s.world) (worked 1 s).meter
           (carry (place_ends (form_of facts ty) c.level place.number) (worked 1 passed))) listed
           (own_follows (W.PlaceEnds place.number (type_number types place.of)) [] [] k temps (worked 1 passed)
-          (as_open s.world place opened) (λ go. refl)))
+          (as_open s.world place opened) (λ go. refl) refl))
       on false = pays 0 1 (omega arith) (answers {P = Same temps} tt (worked 1 s) temps (omega arith) refl (kept_none 0 0 temps) (since_none c.level s.world))
 
   -- a place at an exit
@@ -126,7 +128,7 @@ module _ (c : Spot) where
           (subst (λ ty. Runs c.fixed (Lands c k 0 0 temps s.world (Same temps)) 1 0 (there c (line_is ∷ k) temps s.world) (worked 1 s).meter
           (carry (place_ends (form_of facts ty) c.level place.number) (worked 1 s))) listed
           (own_follows (W.PlaceEnds place.number (type_number types place.of)) [] [] k temps (worked 1 s) (as_open s.world place opened)
-          (λ go. refl)))
+          (λ go. refl) refl))
       on false = pays 0 1 (omega arith) (answers {P = Same temps} tt (worked 1 s) temps (omega arith) refl (kept_none 0 0 temps) (since_none c.level s.world))
 
   -- the type of what waits is of the table

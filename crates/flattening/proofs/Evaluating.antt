@@ -1,26 +1,25 @@
 -- Flat code follows operations, reads and paths.
-use Rattle.std.proofs.Common.{◌≡◌, ℕ, suc, ◌+◌, ◌<◌, ◌≤◌, Bool, true, false, List, [], ◌∷◌, length, Option, Some, None, refl, sym, ap, ◌∙◌, subst, arith}
+use Rattle.std.proofs.Common.{◌≡◌, ℕ, suc, ◌+◌, Bool, true, false, List, ◌∷◌, length, Option, Some, None, refl, sym, ap, ◌∙◌, arith}
 use Rattle.std.specs.Prelude.{ℤ}
 use Rattle.std.proofs.lemmas.Bool.{false≢true}
 use Rattle.nim_types.specs.Types.{Ty, Facts}
 use Rattle.nim_program.specs.declared.expr.Node.{Node}
-use Rattle.nim_program.specs.declared.operation.Use.{Use}
 use Rattle.nim_program.specs.declared.operation.Use.TheVariants.{Owned, Looked}
 use Rattle.nim_program.specs.declared.program.Mode.{Mode}
-use Rattle.nim_program.specs.Program.{Literal, Act, Expr, Apply, Read, Early, Choose, Path, Variable, Fresh, Field, Element, Deref, Args}
+use Rattle.nim_program.specs.Program.{Literal, Act, Expr, Apply, Read, Path, Variable, Fresh, Field, Element, Deref, Args}
 use Rattle.nim_program.specs.Program.{node_of, node_at, type_of, type_at, types_in, constant_in}
 use Rattle.nim_program.specs.Folds.{by_constant, if_constant}
 use Rattle.nim_program.specs.Uses.{use_of}
 use Rattle.nim_program.specs.View.{if_type}
-use Rattle.nim_meaning.specs.Values.{Value, number_of, literal_value, Standing, Made, Location}
+use Rattle.nim_meaning.specs.Values.{number_of, literal_value, Standing, Made}
 use Rattle.nim_meaning.specs.State.{State}
 use Rattle.nim_meaning.specs.ActTree.{Does as Done_by}
 use Rattle.nim_meaning.specs.Ways.{At as Point}
-use Rattle.nim_meaning.specs.Acts.{Does, give, ◌>>=◌, with_trail}
+use Rattle.nim_meaning.specs.Acts.{give, ◌>>=◌, with_trail}
 use Rattle.nim_meaning.specs.Shapes.{is_read}
 use Rattle.nim_meaning.specs.Here.{Here, level_of, gives_hooked}
 use Rattle.nim_meaning.specs.Waiting.{held_from}
-use Rattle.nim_meaning.specs.Meaning.{destination, carried, got, got_by, eval, source, aimed}
+use Rattle.nim_meaning.specs.Meaning.{destination, carried, got, got_by, eval}
 use Rattle.nim_meaning.specs.Aims.{Root, PartOf, ItemOf, ObjectOf, fresh_root}
 use Rattle.flat_code.specs.declared.line.Line.{Line}
 use Rattle.flat_code.specs.declared.line.Line.TheVariants as L
@@ -28,7 +27,7 @@ use Rattle.flat_code.specs.Scene.{Temps, with_value, location_at}
 use Rattle.flat_code.specs.Lines.{using, level_at}
 use Rattle.flat_code.specs.Lines as does
 use Rattle.flattening.specs.Numbering.{if_number, width, width_at, widths}
-use Rattle.flattening.specs.ExprLines.{use_at, froms, act_line, back_line, find_lines, settle_lines, taken_lines, lines, aim_lines, copied_lines}
+use Rattle.flattening.specs.ExprLines.{use_at, froms, act_line, back_line, find_lines, settle_lines, taken_lines, lines}
 use Rattle.flattening.specs.Flattened.{modes_of}
 use Rattle.flattening.specs.Formed.{Scope, Formed, PathFormed}
 use Rattle.flattening.proofs.Runs.{Runs}
@@ -38,11 +37,11 @@ use Rattle.flattening.proofs.Temps.{kept_none, kept_then, kept_wide, kept_value,
 use Rattle.flattening.proofs.Spots.{Spot, here_of, there, scene, Lands, after, answers, further, performs_alone, at_point}
 use Rattle.flattening.proofs.Standing.{grounded, Stands, stands_since}
 use Rattle.flattening.proofs.Groups.{Has, ExprFollows, taken_follows}
-use Rattle.flattening.proofs.Paths.{Leads, leads_now, leads_wide, Begins, Aims, aims_kept, find_gain, aim_gain, gains, find_follows}
+use Rattle.flattening.proofs.Paths.{leads_now, leads_wide, Begins, aims_kept, aim_gain, gains, find_follows}
 use Rattle.flattening.proofs.Acting.{CallsFollow, type_is, act_follows}
-use Rattle.flattening.proofs.Operands.{Readies, settle_follows}
+use Rattle.flattening.proofs.Operands.{settle_follows}
 use Rattle.flattening.proofs.Lending.{AimFollows, SourceFollows, ArgsFollow}
-use Rattle.flattening.proofs.Widths.{same_width, fresh_width, some_width, some_width_at, read_width}
+use Rattle.flattening.proofs.Widths.{same_width, fresh_width, some_width_at, read_width}
 
 module _ (c : Spot) (top : Bool) (room : ℕ → Type 0) (names : (proc place : ℕ) → Type 0) (Open : Scope) where
   abbrev facts : Facts
@@ -157,8 +156,9 @@ module _ (c : Spot) (top : Bool) (room : ℕ → Type 0) (names : (proc place : 
       (kept_then (kept_wide (omega arith) (omega arith) kept) (kept_wide (omega arith) (omega arith) kept2)) (since_then since since2) (λ v n p kept. p)
       (taken_follows c top room names Open held run last (carried here node.number act how ty operands xs) d1
       (λ g since3.
-      further {lo' = t} {hi' = suc t} (omega arith) (omega arith) (kept_none t (t + width (Apply node ty act operands)) last) since3 (λ v n p kept. p)
-      (act_follows c top room names Open calls act operands node ty f.0 how xs u t k last g takes (stands_since h1 since3))))))
+      further {lo' = t} {hi' = u + widths operands} (omega arith) (omega arith) (kept_none t (t + width (Apply node ty act operands)) last) since3
+      (λ v n p kept. p)
+      (act_follows c top room names Open calls act operands node ty f.0 how xs u t k last g (omega arith) takes (stands_since h1 since3))))))
 
   pub read_follows : (path : Path) → Formed (grounded c top room names) Open (Read path) → AimFollows c top room names Open path →
       ExprFollows c top room names Open (Read path)
@@ -178,11 +178,13 @@ module _ (c : Spot) (top : Bool) (room : ℕ → Type 0) (names : (proc place : 
       (λ trail.
       let x = scene c last d.world in
       let deed = got_by facts c.fixed.plan to n ty l in
-      further {lo' = t} {hi' = suc t} (omega arith) (omega (arith, w)) (kept_wide (omega arith) (omega (arith, w)) (kept_then kept kept2)) (since_then since since2)
+      further {lo' = t} {hi' = suc t} (omega arith) (omega (arith, w)) (kept_wide (omega arith) (omega (arith, w)) (kept_then kept kept2))
+      (since_then since since2)
       (λ v n p kept. p)
       (performs_alone c (λ v. with_value t last v) deed (with_trail trail d) (omega arith)
       (answering_all (λ v. Has t v (with_value t last v)) (λ v. put_same last.values t v) deed)
       (λ v. kept_value t v (omega arith) (omega arith) (kept_none t (suc t) last))
-      (ap (λ o. using o (λ place. does.gives x t (got_by facts c.fixed.plan to n (if_type types (if_number types ty)) (location_at last place)))) looked.leads.is
+      (ap (λ o. using o (λ place. does.gives x t (got_by facts c.fixed.plan to n (if_type types (if_number types ty)) (location_at last place))))
+      looked.leads.is
       ∙ (ap (λ l. does.gives x t (got_by facts c.fixed.plan to n (if_type types (if_number types ty)) l)) (leads_now looked.leads)
       ∙ ap (λ ty. does.gives x t (got_by facts c.fixed.plan to n ty l)) (type_is types ty f.0)))))))

@@ -1,5 +1,6 @@
 -- Flat code follows every expression.
-use Rattle.std.proofs.Common.{◌≡◌, ℕ, suc, ◌+◌, ◌*◌, ◌<◌, ◌≤◌, ◌⊎◌, inl, inr, Bool, true, false, List, [], ◌∷◌, length, Option, Some, None, refl, sym, ap, ◌∙◌, arith}
+use Rattle.std.proofs.Common.{◌≡◌, ℕ, suc, ◌+◌, ◌<◌, Bool, true, false, List, [], ◌∷◌, length, Option, Some, None, refl, ap, ◌∙◌}
+use Rattle.std.proofs.Common.{arith}
 use Rattle.arc_base.specs.BigStep.{then_do}
 use Rattle.nim_types.specs.Types.{Ty, Facts}
 use Rattle.nim_program.specs.declared.expr.Node.{Node}
@@ -9,18 +10,17 @@ use Rattle.nim_program.specs.declared.operation.Use.TheVariants.{Owned, Looked}
 use Rattle.nim_program.specs.declared.program.Mode.{Mode}
 use Rattle.nim_program.specs.Program.{Label, Act, ByConditions, ByLabels, Expr, Apply, Read, Early, Choose}
 use Rattle.nim_program.specs.Program.{Path, Variable, Fresh, Field, Element, Deref, Args, NoArg, ByValue, ByPath, type_of, type_at}
-use Rattle.nim_program.specs.Ints.{is_true}
-use Rattle.nim_meaning.specs.Values.{Value, Fixed, Location, number_of}
-use Rattle.nim_meaning.specs.State.{State, World, text_of}
+use Rattle.nim_meaning.specs.Values.{Value, Fixed, Location}
+use Rattle.nim_meaning.specs.State.{State, text_of, is_whole}
 use Rattle.nim_meaning.specs.ActTree.{Chooses}
 use Rattle.nim_meaning.specs.Ways.{At as Point}
 use Rattle.nim_meaning.specs.Shapes.{selector_type, is_covered}
-use Rattle.nim_meaning.specs.Acts.{Does, onward, branch, costs, looks, worked, with_trail}
+use Rattle.nim_meaning.specs.Acts.{Does, onward, branch, costs, looks, wrong, worked, with_trail}
 use Rattle.nim_meaning.specs.Here.{Here, gives_hooked}
 use Rattle.nim_meaning.specs.Deeds.{carry}
 use Rattle.nim_meaning.specs.Aims.{find}
 use Rattle.nim_meaning.specs.Places.{fetched}
-use Rattle.nim_meaning.specs.Meaning.{eval, handed_on, selected, selecting, picked_value, at_node, at_path}
+use Rattle.nim_meaning.specs.Meaning.{handed_on, selected, selecting, picked_value, at_node, at_path}
 use Rattle.flat_code.specs.declared.line.Line.{Line}
 use Rattle.flat_code.specs.declared.line.Line.TheVariants as L
 use Rattle.flat_code.specs.Scene.{Temps, with_value, location_at}
@@ -31,8 +31,8 @@ use Rattle.flattening.specs.Numbering.{arm_count, looked_from, behind_selector, 
 use Rattle.flattening.specs.ExprLines.{use_at, early_lines, lines, find_lines, value_tests, arm_lines, select_lines}
 use Rattle.flattening.specs.Flattened.{modes_of}
 use Rattle.flattening.specs.Formed.{Scope, IfListed, AllOf, Formed, PathFormed, AllFormed}
-use Rattle.flattening.proofs.Runs.{Runs, pays, spares}
-use Rattle.flattening.proofs.Worlds.{Since, since_none, since_then}
+use Rattle.flattening.proofs.Runs.{Runs, pays, spares, unless_wrong}
+use Rattle.flattening.proofs.Worlds.{since_none, since_then}
 use Rattle.flattening.proofs.Openings.{answering_all}
 use Rattle.flattening.proofs.Temps.{kept_none, kept_then, kept_wide, kept_value, put_same}
 use Rattle.flattening.proofs.Spots.{Spot, here_of, there, scene, Lands, after, after_both, answers, further, performs_alone, at_point}
@@ -43,7 +43,6 @@ use Rattle.flattening.proofs.Acting.{CallsFollow}
 use Rattle.flattening.proofs.Lending.{AimFollows, SourceFollows, ArgsFollow, value_follows, path_follows}
 use Rattle.flattening.proofs.Evaluating.{variable_follows, fresh_follows, field_follows, element_follows, deref_follows, source_follows, not_read}
 use Rattle.flattening.proofs.Evaluating.{apply_follows, read_follows}
-use Rattle.flattening.proofs.Picks.{IsSelected}
 use Rattle.flattening.proofs.Choices.{ChoiceFollows, TestsFollow, early_follows, none_follows, no_choice, last_choice, a_choice}
 use Rattle.flattening.proofs.Arms.{none_fits, none_by_path, otherwise, an_arm}
 use Rattle.flattening.proofs.Widths.{same_width, some_width_at, selector_width}
@@ -115,14 +114,18 @@ module _ (c : Spot) (top : Bool) (room : ℕ → Type 0) (names : (proc place : 
       (there c (value_tests labels rest u u2 (L.Jump (label Next t)
       ∷ arm_lines types facts modes covered labels rest ty (use_at how node) t u2 (L.Label (label End t) ∷ k))) temps s.world) s.meter
       (then_do (branch {A = Does Value} texts
-      (looks (λ world. costs (length (text_of world v)) (at_node node Chooses (picked_value covered labels rest (Fixed (text_of world v)) ty here))))
+      (looks (λ world. branch (is_whole world v)
+      (costs (length (text_of world v)) (at_node node Chooses (picked_value covered labels rest (Fixed (text_of world v)) ty here))) wrong))
       (at_node node Chooses (picked_value covered labels rest v ty here)) s) (onward (handed_on here how node ty)))
   selected_by true covered labels rest ty how node t u u2 tests less k temps s v has h =
       let n = length (text_of s.world v) in
       let arms = arm_lines types facts modes covered labels rest ty (use_at how node) t u2 (L.Label (label End t) ∷ k) in
+      let chooses : Does Value = costs n (at_node node Chooses (picked_value covered labels rest (Fixed (text_of s.world v)) ty here)) in
+      unless_wrong (is_whole s.world v) (λ b. then_do (branch {A = Does Value} b chooses wrong s) (onward (handed_on here how node ty))) s refl
+      (λ whole.
       pays 12 n (omega arith)
-      (tests covered how node t v (Fixed (text_of s.world v)) u u2 less k arms temps (with_trail (Point node Chooses ∷ s.trail) (worked n s)) has refl h
-      (λ name which. refl))
+      (tests covered how node t v (Fixed (text_of s.world v)) u u2 less k arms temps (with_trail (Point node Chooses ∷ s.trail) (worked n s)) has
+      (whole, refl) h (λ name which. refl)))
   selected_by false covered labels rest ty how node t u u2 tests less k temps s v has h =
       let arms = arm_lines types facts modes covered labels rest ty (use_at how node) t u2 (L.Label (label End t) ∷ k) in
       tests covered how node t v v u u2 less k arms temps (with_trail (Point node Chooses ∷ s.trail) s) has refl h (λ name which. refl)
@@ -174,7 +177,8 @@ module _ (c : Spot) (top : Bool) (room : ℕ → Type 0) (names : (proc place : 
       after_both selects (onward (handed_on here how node ty)) 12 (omega arith) (omega arith)
       (at_point {p = 0} {q = 0} (carry (fetched l)) path d (λ trail.
       performs_alone c {lo = u} {hi = suc u} {P = Has u} (λ v. with_value u last v) (fetched l) (with_trail trail d) (omega arith)
-      (λ world. put_same last.values u _) (λ v. kept_value u v (omega arith) (omega arith) (kept_none u (suc u) last))
+      (answering_all (λ v. Has u v (with_value u last v)) (λ v. put_same last.values u v) (fetched l))
+      (λ v. kept_value u v (omega arith) (omega arith) (kept_none u (suc u) last))
       (ap (λ o. using o (λ place. does.gives (scene c last d.world) u (fetched (location_at last place)))) looked.leads.is
       ∙ ap (λ l. does.gives (scene c last d.world) u (fetched l)) (leads_now looked.leads))))
       (λ x g m has kept3 since3.

@@ -36,11 +36,12 @@ use Rattle.flattening.specs.Formed.{IfListed, AreListed}
 use Rattle.flattening.specs.Numbering.{if_number, width, width_at}
 use Rattle.flattening.specs.ExprLines.{has_hooks, is_copied, is_lent_at, froms, act_line, back_line}
 use Rattle.flattening.proofs.Acting.{type_is, types_are}
-use Rattle.flattening.proofs.Direct.{is_text, of_act}
+use Rattle.flattening.proofs.Direct.{is_text, has_own_hooks, of_act}
 use Rattle.flattening.proofs.Fit.{Among, Fit, fitting, fit_none, fit_line, fit_by}
 use Rattle.flattening.proofs.FitParts.{never, of_same, both_are, both_some}
 use Rattle.flattening.proofs.FitParts as parts
 use Rattle.flattening.proofs.FitPaths as paths
+use Rattle.flattening.proofs.FitWaits as waiting
 
 -- each row of the table is one of lines
 pub operation_right : (facts : Facts) (operation : Operation) (ty : Option Ty) (of : List (Option Ty)) → table.fits facts operation ty of ≡ true →
@@ -154,7 +155,7 @@ module _ (types : List Ty) (facts : Facts) (modes : (proc position : ℕ) → Mo
       Held (λ i. refl) 0 operands (suc t) refl q.1))
       (both_some _ _ (Some ty) refl is (ap Some listed))
 
-  giving_right : (t : ℕ) (literal : Literal) (how : UseAt) (ty : Option Ty) (operands : Args) → is_text literal || not (gives_hooked facts ty) ≡ true →
+  giving_right : (t : ℕ) (literal : Literal) (how : UseAt) (ty : Option Ty) (operands : Args) → is_text literal || not (has_own_hooks facts ty) ≡ true →
       act_fits here ty (Giving literal) operands ≡ true → IfListed types ty → value t ≡ ty →
       fitting around (act_line types facts modes t (Giving literal) how ty (types_in operands) (from_all (Giving literal) operands (suc t))) ≡ true
   giving_right t literal how ty (ByValue e rest) d h listed is = never h
@@ -322,12 +323,14 @@ module _ (types : List Ty) (facts : Facts) (modes : (proc position : ℕ) → Mo
   there None h = never h
   there (Some ty) h = refl
 
-  pub back_fits : (t : ℕ) (act : Act) (how : UseAt) (ty : Option Ty) → value t ≡ ty → Fit around (back_line types facts modes t act how ty)
-  back_fits t (Doing operation) how ty is = fit_none
-  back_fits t (Building fields) how ty is = fit_none
-  back_fits t (Giving literal) how ty is = fit_none
-  back_fits t (Calling proc args) how ty is =
+  pub back_fits : (t : ℕ) (act : Act) (how : UseAt) (ty : Option Ty) → value t ≡ ty →
+      waiting.Kept types facts modes procs globals sigs start whole t how.node ty →
+      Fit around (back_line types facts modes t act how ty)
+  back_fits t (Doing operation) how ty is kept = fit_none
+  back_fits t (Building fields) how ty is kept = fit_none
+  back_fits t (Giving literal) how ty is kept = fit_none
+  back_fits t (Calling proc args) how ty is kept =
       fit_by (gives_hooked facts ty && waits how.how)
-      (λ waiting. fit_line (L.Own (W.Waits how.node) (F.Value t ∷ []))
-      (has_place whole t (ap is_there is ∙ there ty (and_parts (gives_hooked facts ty) (waits how.how) waiting).0)))
+      (λ waits_back. fit_line (L.Own (W.Waits how.node) (F.Value t ∷ [])) (kept (and_parts (gives_hooked facts ty) (waits how.how) waits_back).0)
+      (has_place whole t (ap is_there is ∙ there ty (and_parts (gives_hooked facts ty) (waits how.how) waits_back).0)))
       (λ not_waiting. fit_none)

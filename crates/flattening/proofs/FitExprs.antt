@@ -9,18 +9,20 @@ use Rattle.nim_program.specs.declared.operation.Use.{Use}
 use Rattle.nim_program.specs.declared.operation.Use.TheVariants.{Owned, Looked}
 use Rattle.nim_program.specs.declared.program.Mode.{Mode}
 use Rattle.nim_program.specs.Ints.{fits as is_int_value}
-use Rattle.nim_program.specs.Program.{Act, Building, Literal, Label, Ordinals, Exactly, ByConditions, ByLabels, Expr, Apply, Read, Early, Choose}
+use Rattle.nim_program.specs.Program.{Act, Doing, Building, Giving, Calling, Literal, Label, Ordinals, Exactly, ByConditions, ByLabels, Expr, Apply, Read}
+use Rattle.nim_program.specs.Program.{Early, Choose}
 use Rattle.nim_program.specs.Program.{Path, Variable, Fresh, Field, Element, Deref, Args, NoArg, ByValue, ByPath, Proc, type_of, type_at, types_in}
 use Rattle.nim_program.specs.Program.{constant_in, node_of, node_at}
 use Rattle.nim_program.specs.Folds.{if_constant}
 use Rattle.nim_program.specs.Kinds.{TypeKind, kind_of, kind_if, is_bool, is_ordinal, is_text, is_selected, is_of, is_there, same_value}
-use Rattle.nim_program.specs.Fitting.{early_fits, label_fits, labels_fit, has_label, are_labels, are_enough, conditions_fit, values_fit, chooser_fits}
+use Rattle.nim_program.specs.Fitting.{building_fits, are_distinct, are_fields, early_fits, label_fits, labels_fit, has_label, are_labels, are_enough}
+use Rattle.nim_program.specs.Fitting.{conditions_fit, values_fit, chooser_fits}
 use Rattle.nim_program.specs.Scopes.{Placed, Here}
 use Rattle.nim_program.specs.Typed.{are_typed, act_fits, are_placed, is_selector, choice_is_placed}
 use Rattle.nim_program.specs.Uses.{use_of}
 use Rattle.nim_meaning.specs.Here.{gives_hooked}
-use Rattle.nim_meaning.specs.Shapes.{is_covered, is_last_value}
-use Rattle.nim_meaning.specs.Waiting.{waiting, held_from, held_if}
+use Rattle.nim_meaning.specs.Shapes.{is_covered, is_last_value, waits as are_kept, is_text as is_literal_text}
+use Rattle.nim_meaning.specs.Waiting.{waiting, held_from, held_if, reads_kept}
 use Rattle.nim_program.specs.declared.expr.Label.TheVariants as C
 use Rattle.flat_code.specs.declared.line.UseAt.{UseAt}
 use Rattle.flat_code.specs.declared.line.Line.{Line}
@@ -28,20 +30,24 @@ use Rattle.flat_code.specs.declared.line.Line.TheVariants as L
 use Rattle.flat_code.specs.declared.place.FlatPlace.{FlatPlace}
 use Rattle.flat_code.specs.Scene.{Known}
 use Rattle.flat_code.specs.Fits.{Signature, needs_no_type}
+use Rattle.flat_code.specs.Waits.{used_at}
 use Rattle.flattening.specs.declared.numbers.Purpose.TheVariants.{End, Next, Arm}
 use Rattle.flattening.specs.Formed.{IfListed}
 use Rattle.flattening.specs.Numbering.{if_number, width, width_at, arm_count, looked_from, label}
 use Rattle.flattening.specs.ExprLines.{find_lines, label_tests, value_tests, arm_label, none_fits, handed_on, early_lines}
 use Rattle.flattening.specs.ExprLines.{lines, aim_lines, copied_lines, ready_lines, choice_lines, arm_lines, branch_use, branch_ends, value_ends}
-use Rattle.flattening.specs.ExprLines.{use_at, has_hooks, is_copied, is_lent_at, waits_at}
+use Rattle.flattening.specs.ExprLines.{use_at, froms, act_line, has_hooks, is_copied, is_lent_at, waits_at}
 use Rattle.flattening.proofs.Acting.{type_is}
 use Rattle.flattening.proofs.Direct.{are_direct}
-use Rattle.flattening.proofs.Fit.{Among, Fit, fitting, fit_none, fit_line, ◌>>◌, fit_if, fit_by, fit_taken, fit_ends}
+use Rattle.flattening.proofs.Fit.{Among, Fit, Ends, fitting, fit_none, fit_line, ◌>>◌, fit_if, fit_by, fit_taken, fit_ends}
 use Rattle.flattening.proofs.FitParts.{value_turned, never, of_same, itself, both_are}
 use Rattle.flattening.proofs.FitParts as parts
 use Rattle.flattening.proofs.FitPaths as paths
 use Rattle.flattening.proofs.FitActs as acts
 use Rattle.flattening.proofs.Listed.{the_bool}
+use Rattle.flattening.proofs.Parts.{Each}
+use Rattle.flattening.proofs.FitWaits as waits
+use Rattle.flattening.proofs.FitWaits.{HasType}
 
 module _ (types : List Ty) (facts : Facts) (modes : (proc position : ℕ) → Mode) (procs : List Proc) (globals : List Placed) (sigs : List Signature)
     (start whole : List FlatPlace)
@@ -77,6 +83,21 @@ module _ (types : List Ty) (facts : Facts) (modes : (proc position : ℕ) → Mo
   find_fits : (read : Bool) (path : Path) (t : ℕ) → PathStood read path t → Fit around (find_lines types facts path t)
   find_fits = paths.find_fits types facts modes procs globals sigs start whole grounds filled places dest sees
 
+  -- ---- what waits
+
+  abbrev Kept : (t node : ℕ) → Option Ty → Type 0
+  Kept = waits.Kept types facts modes procs globals sigs start whole
+
+  used_right : (b : Bool) (t : ℕ) (how : UseAt) (ty : Option Ty) → IfListed types ty → Kept t how.node ty →
+      used_at known whole b t how (if_number types ty) ≡ true
+  used_right = waits.used_right types facts modes procs globals sigs start whole
+
+  kept : (e : Expr) (t : ℕ) → Stood e t → Kept t (node_of e).number (type_of e)
+  kept = waits.kept types facts modes procs globals sigs start whole filled places dest
+
+  all_end : (e : Expr) (how : Use) (t : ℕ) → Stood e t → Each (Ends around types) (waiting facts modes e how)
+  all_end = waits.all_end types facts modes procs globals sigs start whole filled places dest
+
   -- ---- lines of choices
 
   pub bool_at : (t : ℕ) (ty : Option Ty) → value t ≡ ty → is_bool (kind_if facts ty) ≡ true → is_bool (kind_if facts (value t)) ≡ true
@@ -86,6 +107,11 @@ module _ (types : List Ty) (facts : Facts) (modes : (proc position : ℕ) → Mo
   none_right : (t : ℕ) (ty : Option Ty) (how : UseAt) → IfListed types ty → value t ≡ ty → fitting around (none_fits types facts modes t ty how) ≡ true
   none_right t ty how listed is = both_are _ _ ty is (type_is types ty listed)
 
+  fit_none_fits : (t : ℕ) (ty : Option Ty) (how : UseAt) → Kept t how.node ty → IfListed types ty → value t ≡ ty →
+      Fit around (λ k. none_fits types facts modes t ty how ∷ k)
+  fit_none_fits t ty how keeps listed is =
+      fit_line (none_fits types facts modes t ty how) (used_right (are_kept how.how) t how ty listed keeps) (none_right t ty how listed is)
+
   handed_right : (t from : ℕ) (ty passed : Option Ty) (how : UseAt) → IfListed types ty → value t ≡ ty → value from ≡ passed → same_value passed ty ≡ true →
       fitting around (handed_on types facts modes t from how ty) ≡ true
   handed_right t from None passed how listed is from_is same =
@@ -94,16 +120,22 @@ module _ (types : List Ty) (facts : Facts) (modes : (proc position : ℕ) → Mo
       and_from _ _ (ap₂ same_value is from_is ∙ value_turned passed _ same)
       (ap₂ (λ o u. same_value o (Some u)) is listed ∙ itself (Some ty))
 
+  fit_handed : (t from : ℕ) (ty passed : Option Ty) (how : UseAt) → Kept t how.node ty → IfListed types ty → value t ≡ ty → value from ≡ passed →
+      same_value passed ty ≡ true → Fit around (λ k. handed_on types facts modes t from how ty ∷ k)
+  fit_handed t from ty passed how keeps listed is from_is same =
+      fit_line (handed_on types facts modes t from how ty) (used_right (are_kept how.how) t how ty listed keeps)
+      (handed_right t from ty passed how listed is from_is same)
+
   pub tests_fit : (k : TypeKind) (labels : List Label) (s arm : ℕ) → kind_if facts (value s) ≡ k → labels_fit k labels ≡ true →
       Fit around (label_tests labels s arm)
   tests_fit k [] s arm e h = fit_none
   tests_fit k (Ordinals low high ∷ labels) s arm e h =
       let q = and_parts (label_fits k (Ordinals low high)) (labels_fit k labels) h in
-      fit_line (L.Fits s (C.Ordinals low high) arm) (ap (λ j. is_ordinal j && (is_int_value low && is_int_value high)) e ∙ q.0)
+      fit_line (L.Fits s (C.Ordinals low high) arm) refl (ap (λ j. is_ordinal j && (is_int_value low && is_int_value high)) e ∙ q.0)
       >> tests_fit k labels s arm e q.1
   tests_fit k (Exactly text ∷ labels) s arm e h =
       let q = and_parts (label_fits k (Exactly text)) (labels_fit k labels) h in
-      fit_line (L.Fits s (C.Text text) arm) (ap is_text e ∙ q.0) >> tests_fit k labels s arm e q.1
+      fit_line (L.Fits s (C.Text text) arm) refl (ap is_text e ∙ q.0) >> tests_fit k labels s arm e q.1
 
   all_tests_fit : (k : TypeKind) (labels : List (List Label)) (values : Args) (s t : ℕ) → kind_if facts (value s) ≡ k → are_labels k labels ≡ true →
       Fit around (value_tests labels values s t)
@@ -115,15 +147,16 @@ module _ (types : List Ty) (facts : Facts) (modes : (proc position : ℕ) → Mo
       tests_fit k these s (label Arm t) e (and_parts (has_label these) (labels_fit k these) q.0).1 >> all_tests_fit k labels rest s (t + width v) e q.1
 
   pub arm_fits : (b : Bool) (other arm : ℕ) → Fit around (arm_label b other arm)
-  arm_fits true other arm = fit_line (L.Label other) refl >> fit_line (L.Label arm) refl
-  arm_fits false other arm = fit_line (L.Label arm) refl
+  arm_fits true other arm = fit_line (L.Label other) refl refl >> fit_line (L.Label arm) refl refl
+  arm_fits false other arm = fit_line (L.Label arm) refl refl
 
   early_right : (short : Short) (t s : ℕ) (ty : Ty) → value t ≡ Some ty → value s ≡ Some ty → is_bool (kind_of facts ty) ≡ true →
       Fit around (early_lines types facts modes short t s)
-  early_right And t s ty e f h = fit_line (L.Truth t false) (bool_at t (Some ty) e h) >> fit_line (L.Unless s (label End t)) (bool_at s (Some ty) f h)
+  early_right And t s ty e f h = fit_line (L.Truth t false) refl (bool_at t (Some ty) e h) >> fit_line (L.Unless s (label End t)) refl (bool_at s (Some ty) f h)
   early_right Or t s ty e f h =
-      fit_line (L.Truth t true) (bool_at t (Some ty) e h)
-      >> (fit_line (L.Unless s (label Next t)) (bool_at s (Some ty) f h) >> (fit_line (L.Jump (label End t)) refl >> fit_line (L.Label (label Next t)) refl))
+      fit_line (L.Truth t true) refl (bool_at t (Some ty) e h)
+      >> (fit_line (L.Unless s (label Next t)) refl (bool_at s (Some ty) f h) >>
+      (fit_line (L.Jump (label End t)) refl refl >> fit_line (L.Label (label Next t)) refl refl))
 
   -- the value of a bool is handed on without its type
   bool_passes : (t from : ℕ) (ty : Ty) (how : UseAt) → value t ≡ Some ty → value from ≡ Some ty → is_bool (kind_of facts ty) ≡ true →
@@ -139,8 +172,11 @@ module _ (types : List Ty) (facts : Facts) (modes : (proc position : ℕ) → Mo
   last_value enough value ty (ByPath path rest) h = never h
 
   -- what ends behind the value of a branch
-  branch_then : {F : List Line → List Line} (e : Expr) → Fit around F → Fit around (λ k. F (branch_ends types facts modes e k))
-  branch_then e fit = fit >> (fit_ends types (waiting facts modes e Owned) >> fit_taken (held_if (has_hooks facts e) (node_of e).number []))
+  branch_then : {F : List Line → List Line} (e : Expr) (t : ℕ) → Stood e t → Fit around F → Fit around (λ k. F (branch_ends types facts modes e k))
+  branch_then e t s fit =
+      fit
+      >> (fit_ends types (waiting facts modes e Owned) (all_end e Owned t s) >> fit_taken (held_if (has_hooks facts e) (node_of e).number [])
+      (waits.branch_taken types facts modes procs globals sigs start whole filled places dest e t s))
 
   -- ---- expressions
 
@@ -153,6 +189,19 @@ module _ (types : List Ty) (facts : Facts) (modes : (proc position : ℕ) → Mo
 
   first_path : (path : Path) (rest : Args) (t : ℕ) → PartsStood 0 (ByPath path rest) t → PathStood false path t
   first_path = parts.first_path types facts modes procs globals sigs start whole filled places dest (Building []) (λ j. Owned) 0
+
+  -- what is done with operands has a type where it builds a value or gives a constant
+  acted_type : (ty : Option Ty) (act : Act) (operands : Args) → act_fits here ty act operands ≡ true → HasType act ty
+  acted_type ty (Doing operation) operands h = tt
+  acted_type None (Building fields) operands h =
+      let q = and_parts (building_fits facts None fields (types_in operands)) (are_placed 0 operands) h in
+      never (and_parts false (are_distinct fields && are_fields TypeKind.other fields (types_in operands)) q.0).0
+  acted_type (Some ty) (Building fields) operands h = tt
+  acted_type None (Giving literal) NoArg h = never h
+  acted_type None (Giving literal) (ByValue e rest) h = never h
+  acted_type None (Giving literal) (ByPath path rest) h = never h
+  acted_type (Some ty) (Giving literal) operands h = tt
+  acted_type ty (Calling proc given) operands h = tt
 
   hooked_there : (ty : Option Ty) → gives_hooked facts ty ≡ true → is_there ty ≡ true
   hooked_there None h = never h
@@ -168,14 +217,20 @@ module _ (types : List Ty) (facts : Facts) (modes : (proc position : ℕ) → Mo
     expr_fits (Apply node ty act operands) how t e =
         let all = parts.operands_stood types facts modes procs globals sigs start whole filled places dest node ty act operands t e in
         let is = value_is (Apply node ty act operands) t e in
+        let keeps : Kept t node.number ty = kept (Apply node ty act operands) t e in
+        let fits = (and_parts (act_fits here ty act operands) (are_typed here operands) e.typed).0 in
         let listed = parts.value_listed types facts modes procs globals sigs start whole (Apply node ty act operands) e.listed in
         ready_fits act operands (use_of modes act) 0 (suc t) all
         >> (paths.settle_fits types facts modes procs globals sigs start whole grounds filled places dest sees act (use_of modes act) 0 operands (suc t) all
         >> (fit_taken (held_from facts modes operands (use_of modes act) 0)
-        >> (fit_line _ (acts.act_right types facts modes procs globals sigs start whole grounds filled places dest sees t act (use_at how node.number)
-        ty operands (are_direct facts operands) e.direct (and_parts (act_fits here ty act operands) (are_typed here operands) e.typed).0 listed
+        (waits.all_taken types facts modes procs globals sigs start whole filled places dest act (use_of modes act) operands 0 (suc t) all)
+        >> (fit_line (act_line types facts modes t act (use_at how node.number) ty (types_in operands) (froms facts act operands (use_of modes act) 0 (suc t)))
+        (waits.act_waits types facts modes procs globals sigs start whole t act (use_at how node.number) ty (types_in operands)
+        (froms facts act operands (use_of modes act) 0 (suc t)) (acted_type ty act operands fits) listed keeps)
+        (acts.act_right types facts modes procs globals sigs start whole grounds filled places dest sees t act (use_at how node.number)
+        ty operands (are_direct facts operands) e.direct fits listed
         (parts.all_listed types facts modes procs globals sigs start whole operands all.listed) is all)
-        >> acts.back_fits types facts modes procs globals sigs start whole grounds filled places dest sees t act (use_at how node.number) ty is)))
+        >> acts.back_fits types facts modes procs globals sigs start whole grounds filled places dest sees t act (use_at how node.number) ty is keeps)))
     expr_fits (Read path) how t e =
         let p = parts.read_stood types facts modes procs globals sigs start whole filled places dest path t e in
         let l = parts.leads types facts modes procs globals sigs start whole filled places dest true path (suc t) p in
@@ -185,6 +240,7 @@ module _ (types : List Ty) (facts : Facts) (modes : (proc position : ℕ) → Mo
         aim_fits true path (suc t) p
         >> (find_fits true path (suc t) p
         >> fit_line (L.Get t (suc t) (use_at how (node_at path).number) (if_number types (type_at path)))
+        (used_right (reads_kept how) t (use_at how (node_at path).number) (type_at path) listed (kept (Read path) t e))
         (and_from _ _ (parts.both_some _ _ (type_at path) some is (type_is types (type_at path) listed)) (parts.both_some _ _ (type_at path) some is l.type)))
     expr_fits (Early node ty short left right) how t e =
         let l = parts.left_stood types facts modes procs globals sigs start whole filled places dest node ty short left right t e in
@@ -198,16 +254,17 @@ module _ (types : List Ty) (facts : Facts) (modes : (proc position : ℕ) → Mo
         expr_fits left Owned (suc t) l
         >> (early_right short t (suc t) ty is left_is b.0
         >> (expr_fits right Owned (suc t + width left) r
-        >> (fit_line (L.Pass t (suc t + width left) (use_at how node.number) None)
+        >> (fit_line (L.Pass t (suc t + width left) (use_at how node.number) None) refl
         (bool_passes t (suc t + width left) ty (use_at how node.number) is right_is b.0)
-        >> fit_line (L.Label (label End t)) refl)))
+        >> fit_line (L.Label (label End t)) refl refl)))
     expr_fits (Choose node ty ByConditions parts') how t e =
         let all = parts.conditions_stood types facts modes procs globals sigs start whole filled places dest node ty parts' t e in
         let q = and_parts (chooser_fits facts ty ByConditions (types_in parts')) (choice_is_placed ByConditions parts')
         (and_parts _ (are_typed here parts') e.typed).0 in
         let listed = parts.value_listed types facts modes procs globals sigs start whole (Choose node ty ByConditions parts') e.listed in
-        choice_fits 0 parts' ty (use_at how node.number) t (suc t) listed (value_is (Choose node ty ByConditions parts') t e) q.0 q.1 all >> fit_line
-        (L.Label (label End t)) refl
+        choice_fits 0 parts' ty (use_at how node.number) t (suc t) (kept (Choose node ty ByConditions parts') t e) listed
+        (value_is (Choose node ty ByConditions parts') t e) q.0 q.1 all >> fit_line
+        (L.Label (label End t)) refl refl
     expr_fits (Choose node ty (ByLabels labels) NoArg) how t e =
         never (and_parts false (choice_is_placed (ByLabels labels) NoArg) (and_parts _ true e.typed).0).0
     expr_fits (Choose node ty (ByLabels labels) (ByValue selector rest)) how t e =
@@ -224,11 +281,12 @@ module _ (types : List Ty) (facts : Facts) (modes : (proc position : ℕ) → Mo
         let is = value_is selector u s in
         expr_fits selector Looked u s
         >> (all_tests_fit k labels rest u (u + width selector) (ap (kind_if facts) is) (and_parts (is_selected k) (are_labels k labels) h.0).1
-        >> (fit_line (L.Jump (label Next t)) refl
-        >> (arms_fit (are_enough k ty labels) (is_covered (type_of selector)) 1 labels rest ty (use_at how node.number) t (u + width selector) listed
+        >> (fit_line (L.Jump (label Next t)) refl refl
+        >> (arms_fit (are_enough k ty labels) (is_covered (type_of selector)) 1 labels rest ty (use_at how node.number) t (u + width selector)
+        (kept (Choose node ty (ByLabels labels) (ByValue selector rest)) t e) listed
         (value_is (Choose node ty (ByLabels labels) (ByValue selector rest)) t e) h.1
         (and_parts (is_selector (ByValue selector rest)) (are_placed 0 rest) q.1).1 (rest_stood 0 selector rest u all)
-        >> fit_line (L.Label (label End t)) refl)))
+        >> fit_line (L.Label (label End t)) refl refl)))
     expr_fits (Choose node ty (ByLabels labels) (ByPath path rest)) how t e =
         let u = suc t + arm_count (ByLabels labels) in
         let from = looked_from path u in
@@ -245,13 +303,14 @@ module _ (types : List Ty) (facts : Facts) (modes : (proc position : ℕ) → Mo
         let some = parts.path_typed types facts modes procs globals sigs start whole filled places dest false path from p in
         aim_fits false path from p
         >> (find_fits false path from p
-        >> (fit_line (L.Look u from) (parts.both_some _ _ (type_at path) some is l.type)
+        >> (fit_line (L.Look u from) refl (parts.both_some _ _ (type_at path) some is l.type)
         >> (all_tests_fit k labels rest u (from + width_at path) (ap (kind_if facts) is) (and_parts (is_selected k) (are_labels k labels) h.0).1
-        >> (fit_line (L.Jump (label Next t)) refl
-        >> (arms_fit (are_enough k ty labels) (is_covered (type_at path)) 1 labels rest ty (use_at how node.number) t (from + width_at path) listed
+        >> (fit_line (L.Jump (label Next t)) refl refl
+        >> (arms_fit (are_enough k ty labels) (is_covered (type_at path)) 1 labels rest ty (use_at how node.number) t (from + width_at path)
+        (kept (Choose node ty (ByLabels labels) (ByPath path rest)) t e) listed
         (value_is (Choose node ty (ByLabels labels) (ByPath path rest)) t e) h.1 (and_parts (is_selector (ByPath path rest)) (are_placed 0 rest) q.1).1
         (parts.behind_path types facts modes procs globals sigs start whole filled places dest (Building []) (λ j. Owned) 0 path rest from all)
-        >> fit_line (L.Label (label End t)) refl)))))
+        >> fit_line (L.Label (label End t)) refl refl)))))
 
     pub aim_fits : (read : Bool) (path : Path) (t : ℕ) → PathStood read path t → Fit around (aim_lines types facts modes path t)
     aim_fits read (Variable node ty place global) t p = fit_none
@@ -286,6 +345,8 @@ module _ (types : List Ty) (facts : Facts) (modes : (proc position : ℕ) → Mo
         (expr_fits e (uses i) t s
         >> (fit_by (is_lent_at facts act (uses i) e)
         (λ lent. fit_line (L.Fresh t t (waits_at facts e))
+        (waits.fresh_right types facts modes procs globals sigs start whole filled places dest e t (has_hooks facts e && not (is_literal_text e))
+        (λ h. (and_parts (has_hooks facts e) _ h).0) s)
         (let l = parts.lent_leads types facts modes procs globals sigs start whole filled places dest act uses i e rest t lent all in
         and_from _ _ (parts.both_some _ _ (type_of e) (hooked_there (type_of e) (and_parts (has_hooks facts e) _ lent).0) l.0 (value_is e t s)) (ap not l.1)))
         (λ not_lent. fit_none)
@@ -295,53 +356,54 @@ module _ (types : List Ty) (facts : Facts) (modes : (proc position : ℕ) → Mo
         >> ready_fits act rest uses (suc i) (t + width_at path)
         (parts.behind_path types facts modes procs globals sigs start whole filled places dest act uses i path rest t all)
 
-    choice_fits : (i : ℕ) (args : Args) (ty : Option Ty) (how : UseAt) (t u : ℕ) → IfListed types ty → value t ≡ ty →
+    choice_fits : (i : ℕ) (args : Args) (ty : Option Ty) (how : UseAt) (t u : ℕ) → Kept t how.node ty → IfListed types ty → value t ≡ ty →
         conditions_fit facts ty (types_in args) ≡ true → are_placed 0 args ≡ true → PartsStood i args u →
         Fit around (choice_lines types facts modes args ty how t u)
-    choice_fits i NoArg ty how t u listed is h placed all = never h
-    choice_fits i (ByPath path rest) ty how t u listed is h placed all = never placed
-    choice_fits i (ByValue last NoArg) ty how t u listed is h placed all =
+    choice_fits i NoArg ty how t u keeps listed is h placed all = never h
+    choice_fits i (ByPath path rest) ty how t u keeps listed is h placed all = never placed
+    choice_fits i (ByValue last NoArg) ty how t u keeps listed is h placed all =
         let s = first_stood i last NoArg u all in
-        branch_then last (expr_fits last (branch_use types facts modes last) u s) >> fit_line _
-        (handed_right t u ty (type_of last) how listed is (value_is last u s) h)
-    choice_fits i (ByValue condition (ByPath path rest)) ty how t u listed is h placed all = never placed
-    choice_fits i (ByValue condition (ByValue v rest)) ty how t u listed is h placed all =
+        branch_then last u s (expr_fits last (branch_use types facts modes last) u s) >> fit_handed t u ty (type_of last) how keeps listed is
+        (value_is last u s) h
+    choice_fits i (ByValue condition (ByPath path rest)) ty how t u keeps listed is h placed all = never placed
+    choice_fits i (ByValue condition (ByValue v rest)) ty how t u keeps listed is h placed all =
         let q = and_parts (is_bool (kind_if facts (type_of condition)) && same_value (type_of v) ty) (conditions_fit facts ty (types_in rest)) h in
         let b = and_parts (is_bool (kind_if facts (type_of condition))) (same_value (type_of v) ty) q.0 in
         let s = first_stood i condition (ByValue v rest) u all in
         let behind = rest_stood i condition (ByValue v rest) u all in
         let r = first_stood (suc i) v rest (u + width condition) behind in
         expr_fits condition Owned u s
-        >> (fit_ends types (waiting facts modes condition Owned)
-        >> (fit_line (L.Unless u (label Arm u)) (bool_at u (type_of condition) (value_is condition u s) b.0)
-        >> (branch_then v (expr_fits v (branch_use types facts modes v) (u + width condition) r)
-        >> (fit_line _ (handed_right t (u + width condition) ty (type_of v) how listed is (value_is v (u + width condition) r) b.1)
-        >> (fit_line (L.Jump (label End t)) refl
-        >> (fit_line (L.Label (label Arm u)) refl
-        >> choice_fits (suc (suc i)) rest ty how t (u + width condition + width v) listed is q.1 placed
+        >> (fit_ends types (waiting facts modes condition Owned) (all_end condition Owned u s)
+        >> (fit_line (L.Unless u (label Arm u)) refl (bool_at u (type_of condition) (value_is condition u s) b.0)
+        >> (branch_then v (u + width condition) r (expr_fits v (branch_use types facts modes v) (u + width condition) r)
+        >> (fit_handed t (u + width condition) ty (type_of v) how keeps listed is (value_is v (u + width condition) r) b.1
+        >> (fit_line (L.Jump (label End t)) refl refl
+        >> (fit_line (L.Label (label Arm u)) refl refl
+        >> choice_fits (suc (suc i)) rest ty how t (u + width condition + width v) keeps listed is q.1 placed
         (rest_stood (suc i) v rest (u + width condition) behind)))))))
 
-    arms_fit : (enough covered : Bool) (i : ℕ) (labels : List (List Label)) (args : Args) (ty : Option Ty) (how : UseAt) (t u : ℕ) → IfListed types ty →
-        value t ≡ ty → values_fit facts ty enough labels (types_in args) ≡ true → are_placed 0 args ≡ true → PartsStood i args u →
+    arms_fit : (enough covered : Bool) (i : ℕ) (labels : List (List Label)) (args : Args) (ty : Option Ty) (how : UseAt) (t u : ℕ) →
+        Kept t how.node ty → IfListed types ty → value t ≡ ty → values_fit facts ty enough labels (types_in args) ≡ true → are_placed 0 args ≡ true →
+        PartsStood i args u →
         Fit around (arm_lines types facts modes covered labels args ty how t u)
-    arms_fit enough covered i labels NoArg ty how t u listed is h placed all =
-        fit_line (L.Label (label Next t)) refl >> fit_line _ (none_right t ty how listed is)
-    arms_fit enough covered i labels (ByPath path rest) ty how t u listed is h placed all = never placed
-    arms_fit enough covered i [] (ByValue v rest) ty how t u listed is h placed all =
+    arms_fit enough covered i labels NoArg ty how t u keeps listed is h placed all =
+        fit_line (L.Label (label Next t)) refl refl >> fit_none_fits t ty how keeps listed is
+    arms_fit enough covered i labels (ByPath path rest) ty how t u keeps listed is h placed all = never placed
+    arms_fit enough covered i [] (ByValue v rest) ty how t u keeps listed is h placed all =
         let s = first_stood i v rest u all in
-        fit_line (L.Label (label Next t)) refl
-        >> (branch_then v (expr_fits v (branch_use types facts modes v) u s) >> fit_line _
-        (handed_right t u ty (type_of v) how listed is (value_is v u s) (last_value enough (type_of v) ty rest h)))
-    arms_fit enough covered i (these ∷ labels) (ByValue v rest) ty how t u listed is h placed all =
+        fit_line (L.Label (label Next t)) refl refl
+        >> (branch_then v u s (expr_fits v (branch_use types facts modes v) u s) >> fit_handed t u ty (type_of v) how keeps listed is (value_is v u s)
+        (last_value enough (type_of v) ty rest h))
+    arms_fit enough covered i (these ∷ labels) (ByValue v rest) ty how t u keeps listed is h placed all =
         let q = and_parts (same_value (type_of v) ty) (values_fit facts ty enough labels (types_in rest)) h in
         let s = first_stood i v rest u all in
         arm_fits (covered && is_last_value rest) (label Next t) (label Arm u)
-        >> (branch_then v (expr_fits v (branch_use types facts modes v) u s)
-        >> (fit_line _ (handed_right t u ty (type_of v) how listed is (value_is v u s) q.0)
+        >> (branch_then v u s (expr_fits v (branch_use types facts modes v) u s)
+        >> (fit_handed t u ty (type_of v) how keeps listed is (value_is v u s) q.0
         >> fit_if (covered && is_last_value rest) fit_none
-        (fit_line (L.Jump (label End t)) refl
-        >> arms_fit enough covered (suc i) labels rest ty how t (u + width v) listed is q.1 placed (rest_stood i v rest u all))))
+        (fit_line (L.Jump (label End t)) refl refl
+        >> arms_fit enough covered (suc i) labels rest ty how t (u + width v) keeps listed is q.1 placed (rest_stood i v rest u all))))
 
   -- what ends behind a value
-  pub value_ends_fit : (e : Expr) (how : Use) → Fit around (value_ends types facts modes e how)
-  value_ends_fit e how = fit_ends types (waiting facts modes e how)
+  pub value_ends_fit : (e : Expr) (how : Use) (t : ℕ) → Stood e t → Fit around (value_ends types facts modes e how)
+  value_ends_fit e how t s = fit_ends types (waiting facts modes e how) (all_end e how t s)

@@ -28,7 +28,7 @@ use Rattle.flattening.specs.Places.{stmt_places, block_places}
 use Rattle.flattening.specs.StmtLines.{Exits, ending, in_loop, in_scope, head_ends, hooked_element}
 use Rattle.flattening.specs.StmtLines.{lines_in, lines_of}
 use Rattle.flattening.proofs.Direct.{are_direct, is_direct_block, are_direct_blocks}
-use Rattle.flattening.proofs.Fit.{Among, Fit, fitting, fit_line, fit_by, ◌>>◌}
+use Rattle.flattening.proofs.Fit.{Among, Fit, fitting, waiting_right, fit_line, fit_by, ◌>>◌}
 use Rattle.flattening.proofs.FitBlocks.{the_int}
 use Rattle.flattening.proofs.FitBlocks as blocks
 use Rattle.flattening.proofs.FitExprs as exprs
@@ -125,7 +125,7 @@ module _ (types : List Ty) (facts : Facts) (modes : (proc position : ℕ) → Mo
         RestFits rest (in_scope types facts modes result place exits) →
         Fit around (lines_of types facts modes result (Declare node place cursor value rest) exits t)
     declared_fits NoArg rest exits t k rest_fits =
-        fit_line (L.Blank place.number (type_number types place.of)) (both_some _ _ (Some place.of) refl k.place_held.own (ap Some k.place_listed))
+        fit_line (L.Blank place.number (type_number types place.of)) refl (both_some _ _ (Some place.of) refl k.place_held.own (ap Some k.place_listed))
         >> (rest_fits (suc t) (owns_inner (suc t) (suc t + width_of rest) (omega arith) (omega arith) (omega arith) k.owns)
         >> standing.place_end_fits types facts modes procs globals sigs start whole result grounds place k.place_listed k.place_held.named)
     declared_fits (ByValue e NoArg) rest exits t k rest_fits =
@@ -137,7 +137,7 @@ module _ (types : List Ty) (facts : Facts) (modes : (proc position : ℕ) → Mo
         (block_numbers types facts modes rest (suc t + widths value')) o)) in
         standing.fill_fits types facts modes procs globals sigs start whole result grounds filled places dest sees place e (suc t) k.place_listed k.place_held
         k.starts_right s
-        >> (exprs.value_ends_fit types facts modes procs globals sigs start whole grounds filled places dest sees e Given
+        >> (exprs.value_ends_fit types facts modes procs globals sigs start whole grounds filled places dest sees e Given (suc t) s
         >> (rest_fits (suc t + widths value')
         (owns_second (suc t) (suc t + widths value') (suc t + widths value' + width_of rest) (omega arith) (omega arith) (omega arith)
         (value_numbers types facts modes value' (suc t)) o)
@@ -211,18 +211,18 @@ module _ (types : List Ty) (facts : Facts) (modes : (proc position : ℕ) → Mo
     abbrev pub inside : (head : Args) → Exits
     inside head = in_scope types facts modes result variable (in_loop (ending (head_ends types facts modes result head) exits) t)
 
-    pub inside_fits : (head : Args) → IsListed types variable.of → Held variable → standing.ExitsFit types facts modes procs globals sigs start whole result
+    pub inside_fits : (head : Args) → Fit around (head_ends types facts modes result head) → IsListed types variable.of → Held variable →
+        standing.ExitsFit types facts modes procs globals sigs start whole result
         grounds exits → standing.ExitsFit types facts modes procs globals sigs start whole result grounds (inside head)
-    inside_fits head listed held fit =
+    inside_fits head ends listed held fit =
         standing.scope_fits types facts modes procs globals sigs start whole result grounds variable
         (in_loop (ending (head_ends types facts modes result head) exits) t) listed held
         (standing.in_loop_fits types facts modes procs globals sigs start whole result grounds (ending (head_ends types facts modes result head) exits) t
-        (standing.ending_fits types facts modes procs globals sigs start whole result grounds exits
-        (standing.head_ends_fit types facts modes procs globals sigs start whole result grounds head) fit))
+        (standing.ending_fits types facts modes procs globals sigs start whole result grounds exits ends fit))
 
     abbrev BodyFits : (head : Args) → ℕ → Type 0
-    BodyFits head u = (more : List Placed) → Sees filled more → BlockStood filled more dest (looping by) body u →
-        Fit around (lines_of types facts modes result body (inside head) u)
+    BodyFits head u = (more : List Placed) → Sees filled more → Fit around (head_ends types facts modes result head) →
+        BlockStood filled more dest (looping by) body u → Fit around (lines_of types facts modes result body (inside head) u)
 
     -- a range
     count_two : (inclusive : Bool) (first last : Expr) →
@@ -240,6 +240,7 @@ module _ (types : List Ty) (facts : Facts) (modes : (proc position : ℕ) → Mo
         let l = apart (IsListed types) (totals lists own_types head) (total_of lists own_types body) s.listed.1 in
         let d = apart Held (totals lists own_places head) (total_of lists own_places body) s.held.1 in
         let all = standing.parts_stood types facts modes procs globals sigs start whole result grounds filled places dest sees head (suc t) q.1 p.0 l.0 o.0 in
+        let ends = standing.head_ends_fit types facts modes procs globals sigs start whole result grounds filled places dest sees head (suc t) all in
         let a = standing.first_stood types facts modes procs globals sigs start whole result grounds filled places dest sees 0 first (ByValue last NoArg)
         (suc t) all in
         let b = standing.first_stood types facts modes procs globals sigs start whole result grounds filled places dest sees 1 last NoArg (suc t + width first)
@@ -249,17 +250,18 @@ module _ (types : List Ty) (facts : Facts) (modes : (proc position : ℕ) → Mo
         let b_is = parts.value_is types facts modes procs globals sigs start whole filled places dest last (suc t + width first) b in
         let both = and_from _ _ (int_at (suc t) (type_of first) a_is j.1) (int_at (suc t + width first) (type_of last) b_is i.1) in
         exprs.ready_fits types facts modes procs globals sigs start whole grounds filled places dest sees (Building []) head (λ i. Owned) 0 (suc t) all
-        >> (fit_line (L.Beyond (suc t) (suc t + width first) inclusive (label End t)) both
-        >> (fit_line L.Enter refl
-        >> (fit_line (L.Label (label Turn t)) refl
-        >> (fit_line (L.Fill variable.number (suc t)) (ap₂ is_of s.held.0.own a_is
+        >> (fit_line (L.Beyond (suc t) (suc t + width first) inclusive (label End t)) refl both
+        >> (fit_line L.Enter refl refl
+        >> (fit_line (L.Label (label Turn t)) refl refl
+        >> (fit_line (L.Fill variable.number (suc t)) refl (ap₂ is_of s.held.0.own a_is
         ∙ turned (type_of first) (Some variable.of) (both_int (type_of first) variable.of j.1 j.0))
-        >> (body_fits (places ++ placed variable ∷ []) (blocks.sees_place types facts modes procs globals sigs start whole filled places variable sees s.held.0)
+        >> (body_fits (places ++ placed variable ∷ [])
+        (blocks.sees_place types facts modes procs globals sigs start whole filled places variable sees s.held.0) ends
         (record { typed = (and_parts (not (is_empty body)) _ h.1).1; direct = p.1; listed = l.1; held = d.1; owns = o.1 })
         >> (standing.place_end_fits types facts modes procs globals sigs start whole result grounds variable s.listed.0 s.held.0.named
-        >> (fit_line (L.Label (label Next t)) refl
-        >> (fit_line (L.CountTurn (suc t) (suc t + width first) inclusive (label Turn t)) both
-        >> (fit_line (L.Label (label End t)) refl >> standing.head_ends_fit types facts modes procs globals sigs start whole result grounds head)))))))))
+        >> (fit_line (L.Label (label Next t)) refl refl
+        >> (fit_line (L.CountTurn (suc t) (suc t + width first) inclusive (label Turn t)) refl both
+        >> (fit_line (L.Label (label End t)) refl refl >> ends)))))))))
 
     pub count_fits : (inclusive : Bool) (head : Args) → StmtStood filled places dest by (Loop node (Count variable inclusive) head body) t →
         BodyFits head (suc t + widths head) → Fit around (lines_in types facts modes result (Loop node (Count variable inclusive) head body) exits t)
@@ -279,6 +281,10 @@ module _ (types : List Ty) (facts : Facts) (modes : (proc position : ℕ) → Mo
     hooked_right false at listed held is =
         and_from _ _ (both_some _ _ (Some variable.of) refl held.own (ap Some listed)) (both_some _ _ (Some variable.of) refl is (ap Some listed))
 
+    hooked_waits : (borrows : Bool) (at : ℕ) → waiting_right around (hooked_element types facts modes result borrows variable at) ≡ true
+    hooked_waits true at = refl
+    hooked_waits false at = refl
+
     -- elements
     each_one : (path : Path) → StmtStood filled places dest by (Loop node (OfEach variable) (ByPath path NoArg) body) t →
         BodyFits (ByPath path NoArg) (suc t + 2 + widths (ByPath path NoArg)) →
@@ -294,6 +300,7 @@ module _ (types : List Ty) (facts : Facts) (modes : (proc position : ℕ) → Mo
         let d = apart Held (totals lists own_places head) (total_of lists own_places body) s.held.1 in
         let u = suc t + 2 in
         let all = standing.parts_stood types facts modes procs globals sigs start whole result grounds filled places dest sees head u q.1 p.0 l.0 o.0 in
+        let ends = standing.head_ends_fit types facts modes procs globals sigs start whole result grounds filled places dest sees head u all in
         let a = parts.first_path types facts modes procs globals sigs start whole filled places dest (Building []) (λ i. Owned) 0 path NoArg u all in
         let led = parts.leads types facts modes procs globals sigs start whole filled places dest false path u a in
         let found = paths.find_fits types facts modes procs globals sigs start whole grounds filled places dest sees false path u a in
@@ -305,29 +312,31 @@ module _ (types : List Ty) (facts : Facts) (modes : (proc position : ℕ) → Mo
         let of = turned (element_of (kind_if facts (type_at path))) (Some variable.of) i.1 in
         exprs.ready_fits types facts modes procs globals sigs start whole grounds filled places dest sees (Building []) head (λ i. Owned) 0 u all
         >> (found
-        >> (fit_line (L.Length (suc (suc t)) u) (and_from _ _ many long)
-        >> (fit_line (L.Zero (suc t)) number
-        >> (fit_line (L.Jump (label Arm t)) refl
-        >> (fit_line (L.Label (label Turn t)) refl
-        >> (body_fits (places ++ placed variable ∷ []) (blocks.sees_place types facts modes procs globals sigs start whole filled places variable sees s.held.0)
+        >> (fit_line (L.Length (suc (suc t)) u) refl (and_from _ _ many long)
+        >> (fit_line (L.Zero (suc t)) refl number
+        >> (fit_line (L.Jump (label Arm t)) refl refl
+        >> (fit_line (L.Label (label Turn t)) refl refl
+        >> (body_fits (places ++ placed variable ∷ [])
+        (blocks.sees_place types facts modes procs globals sigs start whole filled places variable sees s.held.0) ends
         (record { typed = (and_parts (not (is_empty body)) _ h.1).1; direct = p.1; listed = l.1; held = d.1; owns = o.1 })
         >> (standing.place_end_fits types facts modes procs globals sigs start whole result grounds variable s.listed.0 s.held.0.named
-        >> (fit_line (L.Label (label Next t)) refl
-        >> (fit_line (L.Next (suc t) (suc (suc t))) (and_from _ _ number many)
-        >> (fit_line (L.Label (label Arm t)) refl
-        >> (fit_line (L.Beyond (suc t) (suc (suc t)) false (label End t)) (and_from _ _ number many)
+        >> (fit_line (L.Label (label Next t)) refl refl
+        >> (fit_line (L.Next (suc t) (suc (suc t))) refl (and_from _ _ number many)
+        >> (fit_line (L.Label (label Arm t)) refl refl
+        >> (fit_line (L.Beyond (suc t) (suc (suc t)) false (label End t)) refl (and_from _ _ number many)
         >> (found
-        >> (fit_line (L.Still u (suc (suc t))) (and_from _ _ long many)
+        >> (fit_line (L.Still u (suc (suc t))) refl (and_from _ _ long many)
         >> (fit_by (is_hooked facts variable.of)
         (λ hooked. let e = owned.element_led known modes whole node variable path NoArg t _ _ (omega arith) s.listed.0 s.owns hooked in
-        fit_line (L.Item t u (suc t)) (and_from _ _ (ap₂ (λ v o. is_of v (element_of (kind_if facts o))) e.0 led.type ∙ of)
+        fit_line (L.Item t u (suc t)) refl (and_from _ _ (ap₂ (λ v o. is_of v (element_of (kind_if facts o))) e.0 led.type ∙ of)
         (and_from _ _ number (both_same _ _ (is_written path) e.1 led.writes)))
-        >> fit_line (hooked_element types facts modes result (is_fresh head) variable t) (hooked_right (is_fresh head) t s.listed.0 s.held.0 e.0))
+        >> fit_line (hooked_element types facts modes result (is_fresh head) variable t) (hooked_waits (is_fresh head) t)
+        (hooked_right (is_fresh head) t s.listed.0 s.held.0 e.0))
         (λ unhooked. let e = owned.element_value known modes whole node variable path NoArg t _ _ (omega arith) s.listed.0 s.owns unhooked in
-        fit_line (L.Element t u (suc t)) (and_from _ _ (ap₂ (λ v o. is_of v (element_of (kind_if facts o))) e led.type ∙ of) number)
-        >> fit_line (L.Fill variable.number t) (both_some _ _ (Some variable.of) refl s.held.0.own e))
-        >> (fit_line (L.Turn (label Turn t)) refl
-        >> (fit_line (L.Label (label End t)) refl >> standing.head_ends_fit types facts modes procs globals sigs start whole result grounds head))))))))))))))))
+        fit_line (L.Element t u (suc t)) refl (and_from _ _ (ap₂ (λ v o. is_of v (element_of (kind_if facts o))) e led.type ∙ of) number)
+        >> fit_line (L.Fill variable.number t) refl (both_some _ _ (Some variable.of) refl s.held.0.own e))
+        >> (fit_line (L.Turn (label Turn t)) refl refl
+        >> (fit_line (L.Label (label End t)) refl refl >> ends))))))))))))))))
 
     pub each_fits : (head : Args) → StmtStood filled places dest by (Loop node (OfEach variable) head body) t →
         BodyFits head (suc t + 2 + widths head) → Fit around (lines_in types facts modes result (Loop node (OfEach variable) head body) exits t)

@@ -19,7 +19,7 @@ use Rattle.nim_program.specs.Program.{is_written}
 use Rattle.nim_program.specs.Typed.{own_types, type_if, act_types, is_typed, is_typed_path, are_typed, is_whole, is_read, is_fresh, act_fits}
 use Rattle.nim_program.specs.Uses.{use_for, use_of}
 use Rattle.nim_meaning.specs.Here.{is_hooked, gives_hooked}
-use Rattle.nim_meaning.specs.Shapes.{is_lent, is_given}
+use Rattle.nim_meaning.specs.Shapes.{has_node, is_lent, is_given}
 use Rattle.nim_meaning.specs.Values.{literal_value}
 use Rattle.flat_code.specs.declared.place.FlatPlace.{FlatPlace}
 use Rattle.flat_code.specs.Fits.{Taken, Signature, is_var, any_place}
@@ -29,7 +29,7 @@ use Rattle.flattening.specs.ExprLines.{has_hooks, is_copied, is_lent_at}
 use Rattle.flattening.specs.Formed.{IsListed, IfListed, AreListed}
 use Rattle.flattening.specs.Numbering.{width, width_at, widths, arm_count, looked_from, selector_from}
 use Rattle.flattening.specs.Places.{temporary, path_places, operand_places, part_places, selector_place}
-use Rattle.flattening.proofs.Direct.{is_text, of_act, is_direct, is_direct_path, are_direct}
+use Rattle.flattening.proofs.Direct.{is_text, has_own_hooks, of_act, is_direct, is_direct_path, are_direct}
 use Rattle.flattening.proofs.Fit.{Among}
 use Rattle.flattening.proofs.Numbered.{Owns, owns_first, owns_second, owns_later}
 use Rattle.flattening.proofs.Owned as owned
@@ -133,7 +133,7 @@ module _ (types : List Ty) (facts : Facts) (modes : (proc position : ℕ) → Mo
   -- and constants are values of their types
   pub record Grounds : Type 0 where
     pub calls : (n : ℕ) (p : Proc) (body : Body) → slice_get procs n ≡ Some p → p.body ≡ Some body → Signed n p
-    pub constants : (ty : Ty) (literal : Literal) → IsListed types ty → is_text literal || not (is_hooked facts ty) ≡ true →
+    pub constants : (ty : Ty) (literal : Literal) → IsListed types ty → is_text literal || not (has_own_hooks facts (Some ty)) ≡ true →
         is_constant facts ty literal ≡ true → has_shape (literal_value literal) (shape_of facts ty) ≡ true
 
   -- places in scope are places of the code
@@ -318,7 +318,7 @@ module _ (types : List Ty) (facts : Facts) (modes : (proc position : ℕ) → Mo
           typed = h.1;
           direct = direct_operands ty act operands h.0 e.direct;
           listed = (apart (IsListed types) (type_if ty ++ act_types act) (totals lists own_types operands) e.listed).1;
-          owns = owned.behind_node known modes whole node ty t (suc t + widths operands)
+          owns = owned.behind_node known modes whole true node ty t (suc t + widths operands)
               (operand_places types facts modes act operands (use_of modes act) 0 (suc t)) (omega arith) (omega arith) e.owns;
         }
 
@@ -329,7 +329,7 @@ module _ (types : List Ty) (facts : Facts) (modes : (proc position : ℕ) → Mo
       listed = (apart (IsListed types) (total lists own_types left) (total lists own_types right) e.listed.1).0;
       owns = owns_later (suc (suc t)) (omega arith)
           (owns_first (suc t + width left) (suc t + width left + width right) (omega arith) (expr_numbers types facts modes right (suc t + width left))
-          (owned.behind_node known modes whole node (Some ty) t (suc t + width left + width right) _ (omega arith) (omega arith) e.owns));
+          (owned.behind_node known modes whole true node (Some ty) t (suc t + width left + width right) _ (omega arith) (omega arith) e.owns));
     }
 
     pub right_stood : (node : Node) (ty : Ty) (short : Short) (left right : Expr) (t : ℕ) → Stood (Early node ty short left right) t →
@@ -341,7 +341,7 @@ module _ (types : List Ty) (facts : Facts) (modes : (proc position : ℕ) → Mo
       owns = owns_later (suc (suc t + width left)) (omega arith)
           (owns_second (suc t) (suc t + width left) (suc t + width left + width right) (omega arith) (omega arith) (omega arith)
           (expr_numbers types facts modes left (suc t))
-          (owned.behind_node known modes whole node (Some ty) t (suc t + width left + width right) _ (omega arith) (omega arith) e.owns));
+          (owned.behind_node known modes whole true node (Some ty) t (suc t + width left + width right) _ (omega arith) (omega arith) e.owns));
     }
 
     -- the parts of a choice
@@ -354,7 +354,7 @@ module _ (types : List Ty) (facts : Facts) (modes : (proc position : ℕ) → Mo
       direct = e.direct;
       listed = chosen_listed ty parts e.listed;
       owns = owned.parts_as_operands known modes whole parts 0 (suc t)
-          (owned.behind_node known modes whole node ty t (suc t + widths parts) (part_places types facts modes parts (suc t)) (omega arith) (omega arith)
+          (owned.behind_node known modes whole true node ty t (suc t + widths parts) (part_places types facts modes parts (suc t)) (omega arith) (omega arith)
           e.owns);
     }
 
@@ -379,6 +379,14 @@ module _ (types : List Ty) (facts : Facts) (modes : (proc position : ℕ) → Mo
     path_typed read (Element node ty base index constant) t p = refl
     path_typed read (Deref ty base) t p = refl
 
+    -- a path that is read is a node of its own
+    pub node_read : (path : Path) → is_read facts path ≡ true → has_node path ≡ true
+    node_read (Variable node ty place global) h = refl
+    node_read (Fresh value) h = never (and_parts false (is_whole facts (Fresh value)) h).0
+    node_read (Field node ty base field) h = refl
+    node_read (Element node ty base index constant) h = refl
+    node_read (Deref ty base) h = never (and_parts true false h).1
+
     pub value_is : (e : Expr) (t : ℕ) → Stood e t → value t ≡ type_of e
     value_is (Apply node ty act operands) t e =
         owned.value_found known modes whole node ty t (operand_places types facts modes act operands (use_of modes act) 0 (suc t)) (omega arith)
@@ -387,9 +395,9 @@ module _ (types : List Ty) (facts : Facts) (modes : (proc position : ℕ) → Mo
     value_is (Read path) t e =
         let p = read_stood path t e in
         let w = read_width path in
-        owned.there_found known modes whole (node_at path) (type_at path) t (path_places types facts modes path (suc t)) (omega (arith, w))
+        owned.there_found known modes whole (has_node path) (node_at path) (type_at path) t (path_places types facts modes path (suc t)) (omega (arith, w))
         (path_listed true path e.listed) (path_typed true path (suc t) p) e.owns
-    value_is (Early node ty short left right) t e = owned.value_there known modes whole node ty t _ (omega arith) e.listed.0 e.owns
+    value_is (Early node ty short left right) t e = owned.value_there known modes whole true node ty t _ (omega arith) e.listed.0 e.owns
     value_is (Choose node ty ByConditions parts) t e =
         owned.value_found known modes whole node ty t (part_places types facts modes parts (suc t)) (omega arith)
         (value_listed (Choose node ty ByConditions parts) e.listed)

@@ -13,7 +13,6 @@ use Rattle.nim_program.specs.Kinds.{kind_if, is_int, field_at, element_of, objec
 use Rattle.nim_program.specs.Scopes.{Placed, Here, type_in}
 use Rattle.nim_program.specs.Program.{is_written}
 use Rattle.nim_program.specs.Typed.{is_typed, is_typed_path, is_fresh, is_place, are_placed, may_take, may_take_all}
-use Rattle.nim_meaning.specs.Here.{is_hooked}
 use Rattle.nim_meaning.specs.Shapes.{is_read, is_lent, is_given, is_text as is_literal_text}
 use Rattle.flat_code.specs.declared.line.From.{From}
 use Rattle.flat_code.specs.declared.line.From.TheVariants as F
@@ -26,10 +25,11 @@ use Rattle.flat_code.specs.Shapes.{has_shape, shape_of}
 use Rattle.flattening.specs.Formed.{IsListed, IfListed}
 use Rattle.flattening.specs.Numbering.{type_number, width, width_at}
 use Rattle.flattening.specs.ExprLines.{begin_line, from_of, froms, has_hooks, is_copied, is_call, is_lent_at, find_lines, settle_lines}
-use Rattle.flattening.proofs.Direct.{is_text, is_direct}
+use Rattle.flattening.proofs.Direct.{has_own_hooks, is_text, is_direct}
 use Rattle.flattening.proofs.Fit.{Among, Fit, fitting, fit_none, fit_line, ◌>>◌}
 use Rattle.flattening.proofs.FitParts.{turned, never, of_same, itself, both_some}
 use Rattle.flattening.proofs.FitParts as parts
+use Rattle.flattening.proofs.FitWaits as waits
 use Rattle.flattening.proofs.Literals.{pieces_value}
 use Rattle.flattening.proofs.OnePiece.{is_one}
 
@@ -82,7 +82,7 @@ module _ (types : List Ty) (facts : Facts) (modes : (proc position : ℕ) → Mo
 
   -- ---- constants
 
-  pub constant_right : (ty : Ty) (literal : Literal) → IsListed types ty → is_text literal || not (is_hooked facts ty) ≡ true →
+  pub constant_right : (ty : Ty) (literal : Literal) → IsListed types ty → is_text literal || not (has_own_hooks facts (Some ty)) ≡ true →
       is_constant facts ty literal ≡ true →
       fit.is_constant_of (parts.known types facts modes procs globals sigs start whole) sigs start whole (type_number types ty) (pieces_of literal) ≡ true
   constant_right ty literal listed direct is =
@@ -126,15 +126,18 @@ module _ (types : List Ty) (facts : Facts) (modes : (proc position : ℕ) → Mo
   pub find_fits : (read : Bool) (path : Path) (t : ℕ) → PathStood read path t → Fit around (find_lines types facts path t)
   find_fits read (Variable node ty place global) t p =
       let l = leads read (Variable node ty place global) t p in
-      fit_line (L.Root t place global)
+      fit_line (L.Root t place global) refl
       (and_from _ _ (both_some _ _ (Some ty) refl l.type (named_is place global ty (of_same _ _ p.typed))) l.writes)
-  find_fits read (Fresh value) t p = fit_line _ (begun_right (constant_in value) read value t refl p)
+  find_fits read (Fresh value) t p =
+      fit_line (begin_line types facts (constant_in value) value t)
+      (waits.begun_waits types facts modes procs globals sigs start whole filled places dest read value t p)
+      (begun_right (constant_in value) read value t refl p)
   find_fits read (Field node ty base field) t p =
       let l = leads read (Field node ty base field) t p in
       let b = parts.base_stood types facts modes procs globals sigs start whole filled places dest read node ty base field t p in
       let k = leads false base (suc t) b in
       find_fits false base (suc t) b
-      >> fit_line (L.Part t (suc t) field)
+      >> fit_line (L.Part t (suc t) field) refl
       (and_from _ _
       (ap₂ (λ q o. is_of q (field_at (kind_if facts o) field)) l.type k.type
       ∙ turned (field_at (kind_if facts (type_at base)) field) (Some ty)
@@ -146,7 +149,7 @@ module _ (types : List Ty) (facts : Facts) (modes : (proc position : ℕ) → Mo
       let k = leads false base (suc t) b.0 in
       let h = and_parts (is_of (element_of (kind_if facts (type_at base))) (Some ty)) (is_int (kind_if facts (type_of index))) (and_parts _ _ p.typed).0 in
       find_fits false base (suc t) b.0
-      >> fit_line (L.Item t (suc t) (suc t + width_at base))
+      >> fit_line (L.Item t (suc t) (suc t + width_at base)) refl
       (and_from _ _ (ap₂ (λ q o. is_of q (element_of (kind_if facts o))) l.type k.type ∙ turned (element_of (kind_if facts (type_at base))) (Some ty) h.0)
       (and_from _ _ (ap (λ o. is_int (kind_if facts o)) (value_is index (suc t + width_at base) b.1) ∙ h.1)
       (both_same _ _ (is_written base) l.writes k.writes)))
@@ -155,7 +158,7 @@ module _ (types : List Ty) (facts : Facts) (modes : (proc position : ℕ) → Mo
       let b = parts.object_stood types facts modes procs globals sigs start whole filled places dest read ty base t p in
       let k = leads false base (suc t) b in
       find_fits false base (suc t) b
-      >> fit_line (L.Object t (suc t))
+      >> fit_line (L.Object t (suc t)) refl
       (and_from _ _
       (ap₂ (λ q o. is_of q (object_of (kind_if facts o))) l.type k.type
       ∙ turned (object_of (kind_if facts (type_at base))) (Some ty)

@@ -6,7 +6,7 @@ use Rattle.std.proofs.lemmas.Bool.{and_parts, and_from, not-true}
 use Rattle.nim_types.specs.Types as type
 use Rattle.nim_types.specs.Types.{Ty, Facts, same}
 use Rattle.nim_types.specs.Forms as form
-use Rattle.nim_types.specs.Forms.{Form, HasForm, of_int, hooked}
+use Rattle.nim_types.specs.Forms.{Form, HasForm, of_int, has_resource}
 use Rattle.nim_types.specs.Table.{type_at as type_by_number}
 use Rattle.nim_types.proofs.ForCallers.{same_sound, same_refl, the_form}
 use Rattle.nim_plan.specs.declared.plan.Plan.{Plan}
@@ -25,7 +25,6 @@ use Rattle.nim_program.specs.Typed.{are_typed_procs, is_typed_start, IsTyped, pr
 use Rattle.nim_program.specs.Typed.{starts, is_next}
 use Rattle.nim_meaning.specs.LeftOut.{left_out_in_block, left_out_in_head, left_out_in_body, left_out_in_proc, left_out_in_procs}
 use Rattle.nim_meaning.specs.LeftOut.{first_of, IsPlain}
-use Rattle.nim_meaning.specs.Here.{is_hooked}
 use Rattle.nim_meaning.specs.Shapes.{mode_in, modes_in}
 use Rattle.nim_meaning.specs.Values.{literal_value}
 use Rattle.flat_code.specs.declared.code.CodeProc.{CodeProc}
@@ -38,8 +37,9 @@ use Rattle.flat_code.specs.Fits.{proc_fits, each_fits, code_fits}
 use Rattle.flat_code.specs.Fits.{are_none, params_at, results_at, all_fit}
 use Rattle.flat_code.specs.Running.{before_last}
 use Rattle.flat_code.specs.Scene.{Known}
+use Rattle.flat_code.specs.Waits.{all_wait_right, AllWaitRight}
 use Rattle.flat_code.specs.Shapes.{shape_of, has_shape}
-use Rattle.flat_code.proofs.ForCallers.{AreSorted, free_of, constant_shape, text_shape}
+use Rattle.flat_code.proofs.ForCallers.{AreSorted, simple_of, constant_shape, text_shape}
 use Rattle.flattening.specs.Flattened.{known_of, modes_of}
 use Rattle.flattening.specs.Formed.{IsListed}
 use Rattle.flattening.specs.Given.{flat_body, flat_proc, flat_procs}
@@ -47,7 +47,7 @@ use Rattle.flattening.specs.Numbering.{type_number, width_in, width_of}
 use Rattle.flattening.specs.Places.{block_places, body_places}
 use Rattle.flattening.specs.StmtLines.{Exits, in_scope, number_of, outermost, returned, param_ends, lines_of, body_lines}
 use Rattle.flattening.proofs.DeclaredGlobals.{BodyListed, body_listed, Found, globals_in}
-use Rattle.flattening.proofs.Direct.{is_text, is_direct_stmt, is_direct_block, direct_block}
+use Rattle.flattening.proofs.Direct.{is_text, has_own_hooks, is_direct_stmt, is_direct_block, direct_block}
 use Rattle.flattening.proofs.Fit.{Fit, fit_none, fit_line, ◌>>◌}
 use Rattle.flattening.proofs.FitBlocks as blocks
 use Rattle.flattening.proofs.FitBodies as bodies
@@ -148,6 +148,16 @@ module _ (program : Program) (plan : Plan) where
   abbrev start : List FlatPlace
   start = body_places types facts modes plan.sinks program.globals [] program.start
 
+  -- a procedure, and procedures, that fit and let values wait where they say
+  abbrev ProcRight : CodeProc Line → Type 0
+  ProcRight p = (proc_fits flat_plain known sigs start p ≡ true) × (all_wait_right known p.places p.lines ≡ true)
+
+  abbrev EachRight : List (CodeProc Line) → Type 0
+  EachRight procs = (each_fits flat_plain known sigs start procs ≡ true) × AllWaitRight known procs
+
+  one_right : (p : CodeProc Line) (procs : List (CodeProc Line)) → ProcRight p → EachRight procs → EachRight (p ∷ procs)
+  one_right p procs right rest = (and_from _ _ right.0 rest.0, (right.1, rest.1))
+
   -- ---- bodies
 
   body_direct : (params : List Param) (body : Body) → left_out_in_body facts params body ≡ None → is_direct_block facts body.stmts ≡ true
@@ -209,21 +219,22 @@ module _ (program : Program) (plan : Plan) where
         breaks = fit_none;
         continues = fit_none;
         returns = params_end
-            >> fit_line (L.Return (number_of body.result))
+            >> fit_line (L.Return (number_of body.result)) refl
             (bodies.returns types facts modes plan.sinks params body.result _ (bodies.others types facts modes plan.sinks program.globals params body));
       }
 
-      -- a body whose lines fit
+      -- a body whose lines fit, and let values wait where they say
       pub body_right : (hook : Option HookOf) → Fit (parts.around types facts modes program.procs globals sigs start whole)
-          (lines_of types facts modes body.result body.stmts exits 0) →
-          proc_fits flat_plain known sigs start (flat_body program plan hook params body) ≡ true
+          (lines_of types facts modes body.result body.stmts exits 0) → ProcRight (flat_body program plan hook params body)
       body_right hook fit =
           let last = returned body.result [] in
-          let lines = body_lines types facts modes params body in
-          and_from _ _
-          (some_for whole lines (fit.some (param_ends types facts params last) (params_end.some last refl)))
-          (and_from _ _ (bodies.ordered types facts modes plan.sinks program.globals params body numbered)
-          (ap (all_fit known sigs start whole) (plain_same lines) ∙ fit.all (param_ends types facts params last) (exits_fit.returns.all [] refl)))
+          let lines = body_lines types facts modes params body in (
+            and_from _ _
+                (some_for whole lines (fit.some (param_ends types facts params last) (params_end.some last refl)))
+                (and_from _ _ (bodies.ordered types facts modes plan.sinks program.globals params body numbered)
+                (ap (all_fit known sigs start whole) (plain_same lines) ∙ fit.all (param_ends types facts params last) (exits_fit.returns.all [] refl))),
+            fit.waits (param_ends types facts params last) (exits_fit.returns.waits [] refl),
+          )
 
   -- ---- procedures by number
 
@@ -294,7 +305,7 @@ module _ (program : Program) (plan : Plan) where
     -- a procedure
     body_fits : (hook : Option HookOf) (dest : Option ℕ) (params : List Param) (gives : Option Ty) (body : Body) →
         is_typed_body program dest params gives body ≡ true → is_numbered params body ≡ true → is_direct_block facts body.stmts ≡ true →
-        proc_fits flat_plain known sigs start (flat_body program plan hook params body) ≡ true
+        ProcRight (flat_body program plan hook params body)
     body_fits hook dest params gives body h numbered p =
         let q = and_parts (are_among_types types (body_types params body) && _) _ h in
         let r = and_parts (are_among_types types (body_types params body)) _ q.0 in
@@ -320,18 +331,18 @@ module _ (program : Program) (plan : Plan) where
         }))
 
     procs_fit : (procs : List Proc) → are_typed_procs program procs ≡ true → are_numbered procs ≡ true → left_out_in_procs facts procs ≡ None →
-        (more : List (CodeProc Line)) → each_fits flat_plain known sigs start more ≡ true →
-        each_fits flat_plain known sigs start (map proc_of procs ++ more) ≡ true
+        (more : List (CodeProc Line)) → EachRight more → EachRight (map proc_of procs ++ more)
     procs_fit [] h k p more rest = rest
     procs_fit (q ∷ procs) h k p more rest =
         let t = and_parts (is_typed_proc program q) (are_typed_procs program procs) h in
         let n = and_parts (is_numbered_if q.params q.body) (are_numbered procs) k in
         let o = none_earlier (left_out_in_proc facts q.params q.body) (left_out_in_procs facts procs) p in
-        and_from _ _ (of_body q.body (and_parts (hook_fits program q.hook q.params q.gives q.body) _ t.0).1 n.0 o.0) (procs_fit procs t.1 n.1 o.1 more rest)
+        one_right (proc_of q) (map proc_of procs ++ more) (of_body q.body (and_parts (hook_fits program q.hook q.params q.gives q.body) _ t.0).1 n.0 o.0)
+        (procs_fit procs t.1 n.1 o.1 more rest)
       where
         of_body : (body : Option Body) → is_typed_if program (dest_of q.hook q.params) q.params q.gives body ≡ true → is_numbered_if q.params body ≡ true →
-            left_out_in_proc facts q.params body ≡ None → proc_fits flat_plain known sigs start (flat_proc program plan q.hook q.params body) ≡ true
-        of_body None h k p = refl
+            left_out_in_proc facts q.params body ≡ None → ProcRight (flat_proc program plan q.hook q.params body)
+        of_body None h k p = (refl, refl)
         of_body (Some body) h k p =
             body_fits q.hook (dest_of q.hook q.params) q.params q.gives body h k (body_direct q.params body p)
 
@@ -399,19 +410,20 @@ module _ (program : Program) (plan : Plan) where
       by (inl h) = typed.forms ty h
       by (inr e) = (form.plain, subst (λ (t : Ty). HasForm facts t form.plain) (sym e) of_int)
 
-  free_constant : IsTyped program → AreSorted facts → (ty : Ty) (literal : Literal) → IsListed types ty → is_hooked facts ty ≡ false →
+  simple_constant : IsTyped program → AreSorted facts → (ty : Ty) (literal : Literal) → IsListed types ty → has_own_hooks facts (Some ty) ≡ false →
       is_constant facts ty literal ≡ true → has_shape (literal_value literal) (shape_of facts ty) ≡ true
-  free_constant typed sorted ty literal e unhooked h =
+  simple_constant typed sorted ty literal e unowned h =
       let f = listed_form typed ty e in
-      constant_shape facts sorted f.1 (free_of facts sorted f.1 (sym (ap hooked (the_form f.1)) ∙ unhooked)) literal h
+      constant_shape facts sorted f.1 (simple_of facts sorted f.1 (sym (ap has_resource (the_form f.1)) ∙ unowned)) literal h
 
-  constants : IsTyped program → AreSorted facts → (ty : Ty) (literal : Literal) → IsListed types ty → is_text literal || not (is_hooked facts ty) ≡ true →
+  constants : IsTyped program → AreSorted facts → (ty : Ty) (literal : Literal) → IsListed types ty →
+      is_text literal || not (has_own_hooks facts (Some ty)) ≡ true →
       is_constant facts ty literal ≡ true → has_shape (literal_value literal) (shape_of facts ty) ≡ true
   constants typed sorted ty (Characters bytes) e d h = text_shape facts sorted (listed_form typed ty e).1 bytes h
-  constants typed sorted ty (Number z) e d h = free_constant typed sorted ty (Number z) e (not-true (is_hooked facts ty) d) h
-  constants typed sorted ty NoObject e d h = free_constant typed sorted ty NoObject e (not-true (is_hooked facts ty) d) h
-  constants typed sorted ty (PartsOf all) e d h = free_constant typed sorted ty (PartsOf all) e (not-true (is_hooked facts ty) d) h
-  constants typed sorted ty (ElementsOf all) e d h = free_constant typed sorted ty (ElementsOf all) e (not-true (is_hooked facts ty) d) h
+  constants typed sorted ty (Number z) e d h = simple_constant typed sorted ty (Number z) e (not-true (has_own_hooks facts (Some ty)) d) h
+  constants typed sorted ty NoObject e d h = simple_constant typed sorted ty NoObject e (not-true (has_own_hooks facts (Some ty)) d) h
+  constants typed sorted ty (PartsOf all) e d h = simple_constant typed sorted ty (PartsOf all) e (not-true (has_own_hooks facts (Some ty)) d) h
+  constants typed sorted ty (ElementsOf all) e d h = simple_constant typed sorted ty (ElementsOf all) e (not-true (has_own_hooks facts (Some ty)) d) h
 
   -- ---- the whole
 
@@ -425,7 +437,7 @@ module _ (program : Program) (plan : Plan) where
   start_none (Some d) e h = nothing (sym e)
 
   pub program_fits : IsTyped program → is_numbered_program program ≡ true → IsPlain program →
-      AreSorted facts → code_fits flat_plain known (flat_procs program plan) ≡ true
+      AreSorted facts → (code_fits flat_plain known (flat_procs program plan) ≡ true) × AllWaitRight known (flat_procs program plan)
   program_fits typed numbered plain sorted =
       let t = and_parts (are_typed_procs program program.procs) (is_typed_start program program.start)
       (and_parts (are_declared facts types) _ typed.typed).1 in
@@ -449,14 +461,16 @@ module _ (program : Program) (plan : Plan) where
       (grounds start)) (exits_fit grounds found [] program.start k.1 l) s.1 (body_direct [] program.start p.1)
       l.stmts (held grounds found [] program.start k.1 l)
       (bodies.owned types facts modes plan.sinks program.globals [] program.start (0 + width_of program.start.stmts))) in
-      let procs = procs_fit grounds found program.procs t.0 k.0 p.0 (first ∷ []) (and_from _ _ begins refl) in
+      let procs = procs_fit grounds found program.procs t.0 k.0 p.0 (first ∷ []) (one_right first [] begins (refl, tt)) in
       let places : start_places (flat_procs program plan) ≡ start = start_end (map proc_of program.procs) first in
       let signed_all : signatures flat_plain known (before_last (flat_procs program plan)) ≡ sigs =
       ap (signatures flat_plain known) (before_last_end (map proc_of program.procs) first)
-      ∙ map_twice (λ (q : CodeProc Line). signature_of known q.places) proc_of program.procs in
-      and_from _ _
-      (ap (λ ps. are_none (params_at ps ++ results_at ps)) places
-      ∙ start_none program.start.result none
-      (bodies.head_numbers types facts modes plan.sinks [] program.start.result _
-      (bodies.others types facts modes plan.sinks program.globals [] program.start)))
-      (ap₂ (λ signed ps. each_fits flat_plain known signed ps (flat_procs program plan)) signed_all places ∙ procs)
+      ∙ map_twice (λ (q : CodeProc Line). signature_of known q.places) proc_of program.procs in (
+        and_from _ _
+            (ap (λ ps. are_none (params_at ps ++ results_at ps)) places
+            ∙ start_none program.start.result none
+            (bodies.head_numbers types facts modes plan.sinks [] program.start.result _
+            (bodies.others types facts modes plan.sinks program.globals [] program.start)))
+            (ap₂ (λ signed ps. each_fits flat_plain known signed ps (flat_procs program plan)) signed_all places ∙ procs.0),
+        procs.1,
+      )

@@ -20,7 +20,7 @@ use Rattle.flat_code.specs.declared.place.FlatPlace.{FlatPlace}
 use Rattle.flat_code.specs.Fits.{Signature}
 use Rattle.flattening.specs.declared.numbers.Purpose.TheVariants.{End, Next, Arm, Turn}
 use Rattle.flattening.specs.Formed.{IsListed}
-use Rattle.flattening.specs.Numbering.{width, widths, arm_count, behind_selector, width_in, width_of, label}
+use Rattle.flattening.specs.Numbering.{width, widths, arm_count, selector_from, behind_selector, width_in, width_of, label}
 use Rattle.flattening.specs.Places.{branch_places, arm_places}
 use Rattle.flattening.specs.StmtLines.{Exits, ending, in_loop, in_scope, selector_ends}
 use Rattle.flattening.specs.StmtLines.{lines_in, lines_of, branch_lines, arm_blocks}
@@ -32,6 +32,7 @@ use Rattle.flattening.proofs.FitExprs as exprs
 use Rattle.flattening.proofs.FitParts.{never}
 use Rattle.flattening.proofs.FitParts as parts
 use Rattle.flattening.proofs.Numbered.{numbered_wide, ◌>>◌ as joined, Owns, owns_first, owns_second, owns_less, owns_inner}
+use Rattle.flattening.proofs.Owned as owned
 use Rattle.flattening.proofs.Parts.{Each, EachIn, apart, taking_turns}
 use Rattle.flattening.proofs.PlaceNumbers.{selector_begins, expr_numbers}
 use Rattle.flattening.proofs.PlaceNumbers.{stmt_numbers, block_numbers, branch_numbers, arm_numbers}
@@ -83,10 +84,10 @@ module _ (types : List Ty) (facts : Facts) (modes : (proc position : ℕ) → Mo
     pub stmt_fits : (filled : ℕ) (places : List Placed) (dest : Option ℕ) (by : Around) (s : Stmt) (exits : Exits) (t : ℕ) → Sees filled places →
         ResultFits result by.gives → ExitsFit exits → StmtStood filled places dest by s t → Fit around (lines_in types facts modes result s exits t)
     stmt_fits filled places dest by (Do e) exits t sees gives fit s =
-        exprs.expr_fits types facts modes procs globals sigs start whole grounds filled places dest sees e Owned t
-        (standing.value_stood types facts modes procs globals sigs start whole result grounds filled places dest sees e t
-        (and_parts (not (is_there (type_of e))) (is_typed (here filled places dest) e) s.typed).1 s.direct s.listed s.owns)
-        >> exprs.value_ends_fit types facts modes procs globals sigs start whole grounds filled places dest sees e Owned
+        let v = standing.value_stood types facts modes procs globals sigs start whole result grounds filled places dest sees e t
+        (and_parts (not (is_there (type_of e))) (is_typed (here filled places dest) e) s.typed).1 s.direct s.listed s.owns in
+        exprs.expr_fits types facts modes procs globals sigs start whole grounds filled places dest sees e Owned t v
+        >> exprs.value_ends_fit types facts modes procs globals sigs start whole grounds filled places dest sees e Owned t v
     stmt_fits filled places dest by (Idle node parts) exits t sees gives fit s = fit_none
     stmt_fits filled places dest by (Give node back e) exits t sees gives fit s =
         let q = and_parts (is_of (type_of e) by.gives && (not back || by.returns)) (is_typed (here filled places dest) e) s.typed in
@@ -94,7 +95,8 @@ module _ (types : List Ty) (facts : Facts) (modes : (proc position : ℕ) → Mo
         let v = standing.value_stood types facts modes procs globals sigs start whole result grounds filled places dest sees e (suc t) q.1 s.direct s.listed
         (owns_inner (suc t) (suc t + width e) (omega arith) (omega arith) (omega arith) s.owns) in
         standing.give_fits types facts modes procs globals sigs start whole result grounds filled places dest sees e (suc t) by.gives gives r.0 v
-        >> (exprs.value_ends_fit types facts modes procs globals sigs start whole grounds filled places dest sees e Given >> standing.back_fits types facts
+        >> (exprs.value_ends_fit types facts modes procs globals sigs start whole grounds filled places dest sees e Given (suc t) v >> standing.back_fits
+        types facts
         modes procs globals sigs start whole result grounds exits back fit)
     stmt_fits filled places dest by
         (Leave node leaving parts) exits t sees gives fit s = standing.leaving_fits types facts modes procs globals sigs start whole result grounds exits
@@ -111,7 +113,7 @@ module _ (types : List Ty) (facts : Facts) (modes : (proc position : ℕ) → Mo
         (record { typed = h.1; direct = p.1; listed = l.1; held = d.1 })
         (let w = turn_width tests bs in
         owns_inner (suc t) (suc t + (widths tests + width_of_blocks bs)) (omega arith) (omega arith) (omega (arith, w)) s.owns)
-        >> fit_line (L.Label (label End t)) refl
+        >> fit_line (L.Label (label End t)) refl refl
     stmt_fits filled places dest by (Select node (ByLabels labels) tests bs) exits t sees gives fit s =
         let h = and_parts (chooses facts (ByLabels labels) tests bs && are_typed (here filled places dest) tests)
         (are_typed_blocks (here filled places dest) by bs) s.typed in
@@ -132,16 +134,21 @@ module _ (types : List Ty) (facts : Facts) (modes : (proc position : ℕ) → Mo
         (owns_inner u (v + width_of_blocks bs) (omega arith) (omega arith) (omega (arith, e, w)) s.owns) in
         let selected = standing.selects types facts modes procs globals sigs start whole result grounds filled places dest sees labels tests bs u c.1 q.1
         p.0 (together_each (IsListed types) own_types tests l.0) o.0 in
+        let ends = standing.selector_ends_fit types facts modes procs globals sigs start whole result grounds filled places dest sees tests
+        (selector_from tests u)
+        (standing.parts_stood types facts modes procs globals sigs start whole result grounds filled places dest sees tests (selector_from tests u) q.1 p.0
+        (together_each (IsListed types) own_types tests l.0)
+        (owned.parts_owned (parts.known types facts modes procs globals sigs start whole) modes whole tests u o.0)) in
         selected.fit
         >> (standing.block_tests_fit types facts modes procs globals sigs start whole result grounds filled places dest sees k labels bs u
         (suc t) selected.kind (and_parts (is_selected k) (are_labels k labels) n.0).1
-        >> (fit_line (L.Jump (label Next t)) refl
+        >> (fit_line (L.Jump (label Next t)) refl refl
         >> (arms_fit filled places dest by (is_covered (selector_type tests)) labels bs (ending (selector_ends types facts modes result tests) exits) t
         (suc t) v
         sees gives (standing.ending_fits types facts modes procs globals sigs start whole result grounds exits
-        (standing.selector_ends_fit types facts modes procs globals sigs start whole result grounds tests) fit)
+        ends fit)
         (record { typed = h.1; direct = p.1; listed = l.1; held = d.1 }) o.1
-        >> (fit_line (L.Label (label End t)) refl >> standing.selector_ends_fit types facts modes procs globals sigs start whole result grounds tests))))
+        >> (fit_line (L.Label (label End t)) refl refl >> ends))))
     stmt_fits filled places dest by (Loop node While (ByValue e NoArg) body) exits t sees gives fit s =
         let h = and_parts (is_bool (kind_if facts (type_of e)) && are_typed (here filled places dest) (ByValue e NoArg)) _ s.typed in
         let q = and_parts (is_bool (kind_if facts (type_of e))) (are_typed (here filled places dest) (ByValue e NoArg)) h.0 in
@@ -150,18 +157,18 @@ module _ (types : List Ty) (facts : Facts) (modes : (proc position : ℕ) → Mo
         let l = apart (IsListed types) (totals lists own_types (ByValue e NoArg)) (total_of lists own_types body) s.listed in
         let d = apart Held (totals lists own_places (ByValue e NoArg)) (total_of lists own_places body) s.held in
         let v = standing.one_value types facts modes procs globals sigs start whole result grounds filled places dest sees e (suc t) q.1 p.0 l.0 o.0 in
-        fit_line (L.Jump (label Next t)) refl
-        >> (fit_line (L.Label (label Turn t)) refl
+        fit_line (L.Jump (label Next t)) refl refl
+        >> (fit_line (L.Label (label Turn t)) refl refl
         >> (block_fits filled places dest (looping by) body (in_loop exits t) (suc t + widths (ByValue e NoArg)) sees gives
         (standing.in_loop_fits types facts modes procs globals sigs start whole result grounds exits t fit)
         (record { typed = (and_parts (not (is_empty body)) _ h.1).1; direct = p.1; listed = l.1; held = d.1; owns = o.1 })
-        >> (fit_line (L.Label (label Next t)) refl
+        >> (fit_line (L.Label (label Next t)) refl refl
         >> (exprs.expr_fits types facts modes procs globals sigs start whole grounds filled places dest sees e Owned (suc t) v
-        >> (exprs.value_ends_fit types facts modes procs globals sigs start whole grounds filled places dest sees e Owned
-        >> (fit_line (L.TurnIf (suc t) (label Turn t))
+        >> (exprs.value_ends_fit types facts modes procs globals sigs start whole grounds filled places dest sees e Owned (suc t) v
+        >> (fit_line (L.TurnIf (suc t) (label Turn t)) refl
         (standing.bool_at types facts modes procs globals sigs start whole result grounds filled places dest sees (suc t) (type_of e)
         (parts.value_is types facts modes procs globals sigs start whole filled places dest e (suc t) v) q.0)
-        >> fit_line (L.Label (label End t)) refl))))))
+        >> fit_line (L.Label (label End t)) refl refl))))))
     stmt_fits filled places dest by (Loop node While NoArg body) exits t sees gives fit s = never s.typed
     stmt_fits filled places dest by (Loop node While (ByValue e (ByValue f rest)) body) exits t sees gives fit s =
         never s.typed
@@ -171,14 +178,16 @@ module _ (types : List Ty) (facts : Facts) (modes : (proc position : ℕ) → Mo
     stmt_fits filled places dest by (Loop node (Count variable inclusive) head body) exits t sees gives fit s =
         let inside = loops.inside types facts modes procs globals sigs start whole result grounds filled places dest by node variable body exits t sees head in
         loops.count_fits types facts modes procs globals sigs start whole result grounds filled places dest by node variable body exits t sees inclusive head s
-        (λ more seen b. block_fits filled more dest (looping by) body inside (suc t + widths head) seen gives
-        (loops.inside_fits types facts modes procs globals sigs start whole result grounds filled places dest by node variable body exits t sees head s.listed.0
+        (λ more seen ends b. block_fits filled more dest (looping by) body inside (suc t + widths head) seen gives
+        (loops.inside_fits types facts modes procs globals sigs start whole result grounds filled places dest by node variable body exits t sees head ends
+        s.listed.0
         s.held.0 fit) b)
     stmt_fits filled places dest by (Loop node (OfEach variable) head body) exits t sees gives fit s =
         let inside = loops.inside types facts modes procs globals sigs start whole result grounds filled places dest by node variable body exits t sees head in
         loops.each_fits types facts modes procs globals sigs start whole result grounds filled places dest by node variable body exits t sees head s
-        (λ more seen b. block_fits filled more dest (looping by) body inside (suc t + 2 + widths head) seen gives
-        (loops.inside_fits types facts modes procs globals sigs start whole result grounds filled places dest by node variable body exits t sees head s.listed.0
+        (λ more seen ends b. block_fits filled more dest (looping by) body inside (suc t + 2 + widths head) seen gives
+        (loops.inside_fits types facts modes procs globals sigs start whole result grounds filled places dest by node variable body exits t sees head ends
+        s.listed.0
         s.held.0 fit) b)
     stmt_fits filled places dest by (Raise node exception message) exits t sees gives fit s = fit_none
     stmt_fits filled places dest by (Try node body handlers last) exits t sees gives fit s = fit_none
@@ -246,15 +255,15 @@ module _ (types : List Ty) (facts : Facts) (modes : (proc position : ℕ) → Mo
         (joined (numbered_wide (omega arith) (omega arith) (block_numbers types facts modes first v))
         (numbered_wide (omega arith) (omega arith) (branch_numbers types facts modes tests rest w))) owns) in
         exprs.expr_fits types facts modes procs globals sigs start whole grounds filled places dest sees e Owned u s
-        >> (exprs.value_ends_fit types facts modes procs globals sigs start whole grounds filled places dest sees e Owned
-        >> (fit_line (L.Unless u (label Arm u))
+        >> (exprs.value_ends_fit types facts modes procs globals sigs start whole grounds filled places dest sees e Owned u s
+        >> (fit_line (L.Unless u (label Arm u)) refl
         (standing.bool_at types facts modes procs globals sigs start whole result grounds filled places dest sees u (type_of e)
         (parts.value_is types facts modes procs globals sigs start whole filled places dest e u s) b.0)
         >> (block_fits filled places dest by first exits v sees gives fit
         (loops.first_block types facts modes procs globals sigs start whole result grounds filled places dest by first rest v bs
         (owns_first w hi (omega arith) (branch_numbers types facts modes tests rest w) behind))
-        >> (fit_line (L.Jump (label End t)) refl
-        >> (fit_line (L.Label (label Arm u)) refl
+        >> (fit_line (L.Jump (label End t)) refl refl
+        >> (fit_line (L.Label (label Arm u)) refl refl
         >> branches_fit filled places dest by tests rest exits t w sees gives fit b.1 h.1 k.1 l.1
         (loops.rest_known types facts modes procs globals sigs start whole result grounds filled places dest by first rest bs)
         (owns_second v w hi (omega arith) (omega arith) (omega arith) (block_numbers types facts modes first v) behind))))))
@@ -264,11 +273,11 @@ module _ (types : List Ty) (facts : Facts) (modes : (proc position : ℕ) → Mo
         Owns whole (arm_places types facts modes bs u) u u (u + width_of_blocks bs) →
         Fit around (arm_blocks types facts modes result covered labels bs exits t arm u)
     arms_fit filled places dest by covered labels (Otherwise block) exits t arm u sees gives fit bs owns =
-        fit_line (L.Label (label Next t)) refl
+        fit_line (L.Label (label Next t)) refl refl
         >> block_fits filled places dest by block exits u sees gives fit
         (loops.last_block types facts modes procs globals sigs start whole result grounds filled places dest by block u bs owns)
     arms_fit filled places dest by covered [] (Block first rest) exits t arm u sees gives fit bs owns =
-        fit_line (L.Label (label Next t)) refl
+        fit_line (L.Label (label Next t)) refl refl
         >> block_fits filled places dest by first exits u sees gives fit
         (loops.first_block types facts modes procs globals sigs start whole result grounds filled places dest by first rest u bs
         (owns_first (u + width_of first) (u + width_of first + width_of_blocks rest) (omega arith)
@@ -281,7 +290,7 @@ module _ (types : List Ty) (facts : Facts) (modes : (proc position : ℕ) → Mo
         (loops.first_block types facts modes procs globals sigs start whole result grounds filled places dest by first rest u bs
         (owns_first v (v + width_of_blocks rest) (omega arith) (arm_numbers types facts modes rest v) owns))
         >> fit_if (covered && is_last_block rest) fit_none
-        (fit_line (L.Jump (label End t)) refl
+        (fit_line (L.Jump (label End t)) refl refl
         >> arms_fit filled places dest by covered labels rest exits t (suc arm) v sees gives fit
         (loops.rest_known types facts modes procs globals sigs start whole result grounds filled places dest by first rest bs)
         (owns_second u v (v + width_of_blocks rest) (omega arith) (omega arith) (omega arith) (block_numbers types facts modes first u) owns)))

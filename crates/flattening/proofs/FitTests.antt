@@ -38,6 +38,7 @@ use Rattle.flattening.proofs.Direct.{is_direct, are_direct, is_direct_stmt, is_d
 use Rattle.flattening.proofs.Fit.{Among, Fit, fit_none, fit_line, ◌>>◌, fit_if, fit_by, fit_ends}
 use Rattle.flattening.proofs.FitBlocks as blocks
 use Rattle.flattening.proofs.FitExprs as exprs
+use Rattle.flattening.proofs.FitWaits as waits
 use Rattle.flattening.proofs.FitParts.{turned, never, both_some}
 use Rattle.flattening.proofs.FitParts as parts
 use Rattle.flattening.proofs.FitPaths as paths
@@ -90,7 +91,7 @@ module _ (types : List Ty) (facts : Facts) (modes : (proc position : ℕ) → Mo
 
   pub in_loop_fits : (exits : Exits) (t : ℕ) → ExitsFit exits → ExitsFit (in_loop exits t)
   in_loop_fits exits t fit =
-      record { breaks = fit_line (L.Jump (label End t)) refl; continues = fit_line (L.Jump (label Next t)) refl; returns = fit.returns }
+      record { breaks = fit_line (L.Jump (label End t)) refl refl; continues = fit_line (L.Jump (label Next t)) refl refl; returns = fit.returns }
 
   pub back_fits : (exits : Exits) (back : Bool) → ExitsFit exits → Fit around (back_lines exits back)
   back_fits exits true fit = fit.returns
@@ -101,18 +102,11 @@ module _ (types : List Ty) (facts : Facts) (modes : (proc position : ℕ) → Mo
       parts.named types facts modes procs globals sigs start whole place.number false ≡ Some place.of → Fit around (place_end types facts place)
   place_end_fits place listed named =
       fit_if (is_hooked facts place.of)
-      (fit_line (L.Own (W.PlaceEnds place.number (type_number types place.of)) []) (both_some _ _ (Some place.of) refl named (ap Some listed))) fit_none
+      (fit_line (L.Own (W.PlaceEnds place.number (type_number types place.of)) []) refl (both_some _ _ (Some place.of) refl named (ap Some listed))) fit_none
 
   pub scope_fits : (place : Declared) (exits : Exits) → IsListed types place.of → Held place → ExitsFit exits →
       ExitsFit (in_scope types facts modes result place exits)
   scope_fits place exits listed held fit = ending_fits exits (place_end_fits place listed held.named) fit
-
-  -- temporaries of a head
-  pub head_ends_fit : (head : Args) → Fit around (head_ends types facts modes result head)
-  head_ends_fit head = fit_ends types (waiting_all facts modes head (λ i. Owned) 0)
-
-  pub selector_ends_fit : (tests : Args) → Fit around (selector_ends types facts modes result tests)
-  selector_ends_fit tests = fit_ends types (waiting_first facts modes tests)
 
   abbrev pub ResultFits : Option Declared → Option Ty → Type 0
   ResultFits None gives = gives ≡ None
@@ -125,9 +119,10 @@ module _ (types : List Ty) (facts : Facts) (modes : (proc position : ℕ) → Mo
       is_of of gives ≡ true → Fit around (gets_line types facts modes result place hooked from)
   gets_fits None hooked from gives of fits e h = fit_none
   gets_fits (Some place) true from gives of fits e h =
-      fit_line _
+      fit_line _ refl
       (and_from _ _ (both_some _ _ (Some place.of) refl fits.0 (ap Some fits.2)) (ap₂ is_of e (ap Some fits.2 ∙ sym fits.1) ∙ h))
-  gets_fits (Some place) false (F.Value from) gives of fits e h = fit_line (L.Give place.number from) (ap₂ is_of (fits.0 ∙ sym fits.1) e ∙ turned of gives h)
+  gets_fits (Some place) false (F.Value from) gives of fits e h =
+      fit_line (L.Give place.number from) refl (ap₂ is_of (fits.0 ∙ sym fits.1) e ∙ turned of gives h)
   gets_fits (Some place) false (F.Place from) gives of fits e h = fit_none
 
   -- nothing behind the one value
@@ -155,6 +150,17 @@ module _ (types : List Ty) (facts : Facts) (modes : (proc position : ℕ) → Mo
 
     pub first_stood : (i : ℕ) (e : Expr) (rest : Args) (t : ℕ) → PartsStood i (ByValue e rest) t → Stood e t
     first_stood i = parts.first_stood types facts modes procs globals sigs start whole filled places dest (Building []) (λ j. Owned) i
+
+    -- temporaries of a head, and of a selector
+    pub head_ends_fit : (head : Args) (t : ℕ) → PartsStood 0 head t → Fit around (head_ends types facts modes result head)
+    head_ends_fit head t all =
+        fit_ends types (waiting_all facts modes head (λ i. Owned) 0)
+        (waits.operands_end types facts modes procs globals sigs start whole filled places dest (Building []) (λ i. Owned) head 0 t all)
+
+    pub selector_ends_fit : (tests : Args) (t : ℕ) → PartsStood 0 tests t → Fit around (selector_ends types facts modes result tests)
+    selector_ends_fit tests t all =
+        fit_ends types (waiting_first facts modes tests)
+        (waits.first_ends types facts modes procs globals sigs start whole filled places dest tests 0 t all)
 
     pub value_stood : (e : Expr) (t : ℕ) → is_typed at e ≡ true → is_direct facts e ≡ true → Listed (total lists own_types e) →
         Owns whole (expr_places types facts modes e t) t t (t + width e) → Stood e t
@@ -188,11 +194,11 @@ module _ (types : List Ty) (facts : Facts) (modes : (proc position : ℕ) → Mo
     fill_fits place e t listed held h s =
         fit_by (is_copied facts Given e)
         (λ copied. exprs.copied_fits types facts modes procs globals sigs start whole grounds filled places dest sees e t s
-        >> fit_line (L.Own (W.PlaceCopies place.number (type_number types place.of)) (F.Place (suc t) ∷ []))
+        >> fit_line (L.Own (W.PlaceCopies place.number (type_number types place.of)) (F.Place (suc t) ∷ [])) refl
         (and_from _ _ (both_some _ _ (Some place.of) refl held.own (ap Some listed))
         (ap₂ is_of (parts.copied_leads types facts modes procs globals sigs start whole filled places dest Given e t copied s) (ap Some listed) ∙ h)))
         (λ not_copied. expr_fits e Given t s
-        >> fit_line (L.Fill place.number t) (ap₂ is_of held.own (value_is e t s) ∙ turned (type_of e) (Some place.of) h))
+        >> fit_line (L.Fill place.number t) refl (ap₂ is_of held.own (value_is e t s) ∙ turned (type_of e) (Some place.of) h))
 
     -- the tests of all labels
     pub block_tests_fit : (k : TypeKind) (labels : List (List Label)) (bs : Blocks) (s arm : ℕ) → kind_if facts (value s) ≡ k → are_labels k labels ≡ true →
@@ -235,7 +241,7 @@ module _ (types : List Ty) (facts : Facts) (modes : (proc position : ℕ) → Mo
         record {
           fit = exprs.aim_fits types facts modes procs globals sigs start whole grounds filled places dest sees false path from p
               >> (paths.find_fits types facts modes procs globals sigs start whole grounds filled places dest sees false path from p
-              >> fit_line (L.Look u from)
+              >> fit_line (L.Look u from) refl
               (both_some _ _ (type_at path) (parts.path_typed types facts modes procs globals sigs start whole filled places dest false path from p) is
               l.type));
           kind = ap (kind_if facts) is;

@@ -3,15 +3,14 @@ use Rattle.std.proofs.Common.{◌≡◌, ℕ, suc, ◌+◌, Bool, true, false, L
 use Rattle.std.specs.Prelude.{◌&&◌, if◌then◌else◌}
 use Rattle.nim_types.specs.Types.{Ty, Facts}
 use Rattle.nim_types.specs.Forms.{form_of}
-use Rattle.nim_program.specs.declared.expr.Node.{Node}
-use Rattle.nim_program.specs.declared.operation.Short.{Short}
 use Rattle.nim_program.specs.declared.operation.Use.{Use}
 use Rattle.nim_program.specs.declared.operation.Use.TheVariants.{Owned, Held, Looked}
 use Rattle.nim_program.specs.declared.program.Mode.{Mode}
 use Rattle.nim_program.specs.Folds.{by_constant}
 use Rattle.nim_program.specs.Uses.{use_of}
 use Rattle.nim_program.specs.Program.{Literal, Act, Doing, Building, Giving, Calling, ByConditions, ByLabels, Expr, Apply, Read, Early, Choose}
-use Rattle.nim_program.specs.Program.{Path, Variable, Fresh, Field, Element, Deref, Args, NoArg, ByValue, ByPath, node_of, node_at, type_of, type_at, constant_in}
+use Rattle.nim_program.specs.Program.{Path, Variable, Fresh, Field, Element, Deref, Args, NoArg, ByValue, ByPath, node_of, node_at, type_of, type_at}
+use Rattle.nim_program.specs.Program.{constant_in}
 use Rattle.nim_meaning.specs.Values.{Value}
 use Rattle.nim_meaning.specs.State.{State}
 use Rattle.nim_meaning.specs.Shapes.{is_read, waits, waits_from}
@@ -161,7 +160,8 @@ module _ (c : Spot) (top : Bool) (room : ℕ → Type 0) (names : (proc place : 
         both_listed (waiting facts modes value (uses i)) (waiting_all facts modes rest uses (suc i)) (waits_listed value (uses i) f.0)
         (waits_listed_all rest uses (suc i) f.1)
     waits_listed_all (ByPath path rest) uses i f =
-        both_listed (waiting_at facts modes path) (waiting_all facts modes rest uses (suc i)) (waits_listed_at path f.0) (waits_listed_all rest uses (suc i) f.1)
+        both_listed (waiting_at facts modes path) (waiting_all facts modes rest uses (suc i)) (waits_listed_at path f.0)
+        (waits_listed_all rest uses (suc i) f.1)
 
     pub waits_listed_first : (args : Args) → AllFormed (grounded c top room names) Open args → AreListedWaits c (waiting_first facts modes args)
     waits_listed_first NoArg f = tt

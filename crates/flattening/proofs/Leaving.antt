@@ -111,7 +111,8 @@ abbrev pub Gone : (c : Spot) → {exits : Exits} → {inside : Bool} → Around 
 Gone c {exits} {inside} around lo hi temps world (Broke by) b m =
     (k : List Line) × (found around.break_at k ≡ Some around.break_to) × (inside ≡ true) × At c (exits.breaks k) lo hi temps world (λ now. Unit {0}) b.world m
 Gone c {exits} {inside} around lo hi temps world (Continued by) b m =
-    (k : List Line) × (found around.continue_at k ≡ Some around.continue_to) × (inside ≡ true) × At c (exits.continues k) lo hi temps world (λ now. Unit {0}) b.world m
+    (k : List Line) × (found around.continue_at k ≡ Some around.continue_to) × (inside ≡ true)
+    × At c (exits.continues k) lo hi temps world (λ now. Unit {0}) b.world m
 Gone c {exits} around lo hi temps world (Returned by) b m = (k : List Line) × At c (exits.returns k) lo hi temps world (λ now. Unit {0}) b.world m
 Gone c around lo hi temps world (Raised exception by) b m = ⊥
 
@@ -237,7 +238,8 @@ module _ (c : Spot) {exits : Exits} {inside : Bool} (around : Around c exits ins
       Runs c.fixed (Left c (around_end around lines puts) (lines k) lo hi temps world) p q m a r →
       Runs c.fixed (Left c around k lo hi temps world) p q m a (then_do r (λ flow. then_act (act flow) (as_before flow)))
   leaves_ended {lines} {ready} puts act follows {k} {lo} {hi} {temps} {world} {p} {q} {m} {a} {r} goes_on f =
-      follows_on q (λ flow. then_act (act flow) (as_before flow)) (omega arith) (omega arith) f (λ flow b m1 falls g. left_ended act follows goes_on q puts flow b m1 g)
+      follows_on q (λ flow. then_act (act flow) (as_before flow)) (omega arith) (omega arith) f
+      (λ flow b m1 falls g. left_ended act follows goes_on q puts flow b m1 g)
 
   -- the scope of a place, which is open where it begins
   pub scope_leaves : (place : Declared) → IsListed c.fixed.program.types place.of → (last : ℕ) →
@@ -310,7 +312,8 @@ module _ (c : Spot) {exits : Exits} {inside : Bool} (around : Around c exits ins
       follows_turns Inv (Looped c around ending lo hi temps world) q (λ x s. then_do (turn x s) turn_of) h (suc b.meter.units) x b m (omega arith) i
 
   -- behind the body of a turn: at the next one, or behind the loop
-  pub body_ends : {lo' hi' : ℕ} {now : Temps} {mid : World} {p q Q : ℕ} {m : M} {a : Meter Event} {r : Res State (Outcome (Unit {0}))} (q' : ℕ) (x : X) (u : ℕ) → Q ≤ q →
+  pub body_ends : {lo' hi' : ℕ} {now : Temps} {mid : World} {p q Q : ℕ} {m : M} {a : Meter Event} {r : Res State (Outcome (Unit {0}))} (q' : ℕ) (x : X) (u : ℕ)
+      → Q ≤ q →
       q' + 1 ≤ q →
       a.units < u → lo ≤ lo' → hi' ≤ hi → Kept lo hi temps now → Since c.level world mid →
       Runs c.fixed (Left c (inner around t ending next_lines) next_lines lo' hi' now mid) p q m a r →

@@ -1,21 +1,21 @@
 -- Operands are evaluated from left to right: each by value, by where it waits, or by where its place copies from.
-use Rattle.std.proofs.Common.{◌≡◌, ℕ, suc, ◌+◌, ◌<◌, ◌≤◌, Bool, true, false, List, [], ◌∷◌, length, Option, Some, None, refl, sym, ap, ◌∙◌, subst, arith}
+use Rattle.std.proofs.Common.{◌≡◌, ℕ, suc, ◌+◌, ◌<◌, ◌≤◌, Bool, true, false, List, [], ◌∷◌, length, Some, None, refl, sym, ap, ◌∙◌, subst, arith}
 use Rattle.std.specs.Prelude.{◌&&◌, ◌||◌, not, if◌then◌else◌}
-use Rattle.std.proofs.lemmas.Bool.{false≢true, and_parts}
+use Rattle.std.proofs.lemmas.Bool.{and_parts}
 use Rattle.arc_base.specs.Event.{Event}
 use Rattle.arc_base.specs.BigStep.{Meter, Res}
 use Rattle.nim_types.specs.Types.{Ty, Facts}
 use Rattle.nim_program.specs.declared.operation.Use.{Use}
 use Rattle.nim_program.specs.declared.program.Mode.{Mode}
-use Rattle.nim_program.specs.Program.{Act, Expr, Apply, Read, Early, Choose, Path, Args, NoArg, ByValue, ByPath, node_of, type_of}
+use Rattle.nim_program.specs.Program.{Act, Expr, Path, Args, ByValue, ByPath, node_of, type_of}
 use Rattle.nim_meaning.specs.Values.{Value, Made, Waiting, at_base, Location, Operand, Given, At as AtPlace}
 use Rattle.nim_meaning.specs.State.{State, World}
 use Rattle.nim_meaning.specs.Shapes.{is_read, is_given, is_held, is_lent, is_text}
 use Rattle.nim_meaning.specs.Here.{Here, gives_hooked}
-use Rattle.nim_meaning.specs.Acts.{Outcome, On, Does, give, branch, ◌>>=◌}
+use Rattle.nim_meaning.specs.Acts.{Outcome, Does, give, branch, ◌>>=◌}
 use Rattle.nim_meaning.specs.Waiting.{held_if, held_from}
-use Rattle.nim_meaning.specs.Aims.{Aim, Ready, Evaluated, Aimed, operand_for, standing, is_lent_own, is_lent_literal}
-use Rattle.nim_meaning.specs.Meaning.{eval, source, ready_all, gets_copy, aimed}
+use Rattle.nim_meaning.specs.Aims.{Ready, Evaluated, Aimed, operand_for, standing, is_lent_own, is_lent_literal}
+use Rattle.nim_meaning.specs.Meaning.{eval, source, ready_all, aimed}
 use Rattle.flat_code.specs.declared.line.From.{From}
 use Rattle.flat_code.specs.declared.line.From.TheVariants as F
 use Rattle.flat_code.specs.declared.line.Line.{Line}
@@ -32,10 +32,10 @@ use Rattle.flattening.proofs.Worlds.{Since, since_then}
 use Rattle.flattening.proofs.Temps.{Kept, kept_none, kept_then, kept_wide, kept_place, put_same, value_before, place_before}
 use Rattle.flattening.proofs.Spots.{Spot, here_of, there, scene, Lands, after, answers, goes}
 use Rattle.flattening.proofs.Standing.{Stands, stands_since}
-use Rattle.flattening.proofs.Groups.{Has, ExprFollows}
+use Rattle.flattening.proofs.Groups.{ExprFollows}
 use Rattle.flattening.proofs.Paths.{Leads, Aims, aims_kept, aim_gain}
 use Rattle.flattening.proofs.Operands.{IsAt, is_at_later, lent_as, Readies}
-use Rattle.flattening.proofs.Widths.{some_width, some_width_at}
+use Rattle.flattening.proofs.Widths.{some_width}
 
 module _ (c : Spot) (top : Bool) (room : ℕ → Type 0) (names : (proc place : ℕ) → Type 0) (Open : Scope) where
   abbrev facts : Facts
@@ -109,13 +109,15 @@ module _ (c : Spot) (top : Bool) (room : ℕ → Type 0) (names : (proc place : 
       less,
     )
 
-    waits_line : (k : List Line) (world : World) {A : Type 0} {Good : Outcome A → State → M → Type 0} {p q : ℕ} {r : Res State (Outcome A)} (meter : Meter Event) →
+    waits_line : (k : List Line) (world : World) {A : Type 0} {Good : Outcome A → State → M → Type 0} {p q : ℕ} {r : Res State (Outcome A)}
+        (meter : Meter Event) →
         Runs c.fixed Good p q (there c k (with_place t now (Located (at_base (Waiting c.level node)))) world) meter r →
         Runs c.fixed Good p q (there c (L.Fresh t t (Some node) ∷ k) now world) meter r
     waits_line k world {p = p} meter f =
         goes c p 0 (omega arith) (ap (λ o. using o (λ v. does.leads (scene c now world) t (Within t []) (fresh_at (Some node) c.level v))) has) f
 
-    own_line : (k : List Line) (world : World) {A : Type 0} {Good : Outcome A → State → M → Type 0} {p q : ℕ} {r : Res State (Outcome A)} (meter : Meter Event) →
+    own_line : (k : List Line) (world : World) {A : Type 0} {Good : Outcome A → State → M → Type 0} {p q : ℕ} {r : Res State (Outcome A)}
+        (meter : Meter Event) →
         Runs c.fixed Good p q (there c k (with_place t now (Within t [])) world) meter r →
         Runs c.fixed Good p q (there c (L.Fresh t t None ∷ k) now world) meter r
     own_line k world {p = p} meter f =
@@ -200,7 +202,8 @@ module _ (c : Spot) (top : Bool) (room : ℕ → Type 0) (names : (proc place : 
 
     by_copy : (b : Bool) → is_copied facts how value ≡ b →
         Runs c.fixed (Lands c k t hi temps s.world Ends) 0 gain
-        (there c (if b then copied_lines types facts modes value t behind_it else lines types facts modes value how t (lent_line facts act how value t behind_it))
+        (there c (if b then copied_lines types facts modes value t behind_it else lines types facts modes value how t
+        (lent_line facts act how value t behind_it))
         temps s.world) s.meter (branch b copies gives s)
     by_copy true e =
         let read = (and_parts (is_given how) (is_read value) (and_parts (gives_hooked facts (type_of value)) (is_given how && is_read value) e).1).1 in
@@ -214,7 +217,8 @@ module _ (c : Spot) (top : Bool) (room : ℕ → Type 0) (names : (proc place : 
         let n = (node_of value).number in
         after 2 (omega arith) (omega arith) (follows how t (lent_line facts act how value t behind_it) temps s h)
         (λ v d now has kept since.
-        lends n t u v now (omega (arith, w)) has (gives_hooked facts (type_of value)) (is_lent how) (is_text value) (is_call facts act) behind_it d.world d.meter
+        lends n t u v now (omega (arith, w)) has (gives_hooked facts (type_of value)) (is_lent how) (is_text value) (is_call facts act) behind_it
+        d.world d.meter
         (λ last is kept2.
         rest_follows false e (operand_for (is_lent_own facts how value) c.level n v) last d is (kept_then kept kept2) since))
 

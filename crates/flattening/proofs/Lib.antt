@@ -43,6 +43,7 @@ mod Counts
 mod TypeNumbers
 mod Behind
 mod ExprPuts
+mod WaitNodes
 mod WaitPuts
 mod BlockPuts
 mod StmtPuts
@@ -67,6 +68,7 @@ mod FitActs
 mod FitExprs
 mod FitBlocks
 mod FitTests
+mod FitWaits
 mod FitLoops
 mod FitStmts
 mod Declared
@@ -105,7 +107,6 @@ mod PutsStmts
 mod Scopes
 mod Shaped
 mod WaysOut
-mod Whole
 pub mod ForCallers
 mod LentPlaces
 mod Ordinals

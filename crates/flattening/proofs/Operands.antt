@@ -1,41 +1,31 @@
 -- Operands: where a line takes them from, and that their places are looked up behind the last one.
-use Rattle.std.proofs.Common.{◌≡◌, ℕ, suc, ◌+◌, ◌<◌, ◌≤◌, Bool, true, false, List, [], ◌∷◌, length, Option, Some, None, refl, sym, ap, ◌∙◌, subst, arith}
-use Rattle.std.specs.Prelude.{option_map, ◌&&◌, ◌||◌, not, if◌then◌else◌}
-use Rattle.std.proofs.lemmas.Bool.{and_parts}
+use Rattle.std.proofs.Common.{◌≡◌, ℕ, suc, ◌+◌, ◌<◌, ◌≤◌, Bool, true, false, List, [], ◌∷◌, length, Some, refl, sym, ap, ◌∙◌, subst, arith}
+use Rattle.std.specs.Prelude.{option_map, ◌&&◌}
 use Rattle.nim_types.specs.Types.{Ty, Facts}
-use Rattle.arc_base.specs.BigStep.{Meter, Res}
 use Rattle.nim_program.specs.declared.operation.Use.{Use}
 use Rattle.nim_program.specs.declared.program.Mode.{Mode}
-use Rattle.nim_program.specs.Program.{Act, Doing, Building, Giving, Calling, Expr, Path, Args, NoArg, ByValue, ByPath, node_of, type_of}
-use Rattle.nim_program.specs.Uses.{use_of}
-use Rattle.nim_meaning.specs.Values.{Value, Made, Waiting, at_base, Location, Operand, Given, At as AtPlace}
-use Rattle.nim_meaning.specs.State.{State, World}
-use Rattle.nim_meaning.specs.Shapes.{is_read, is_given, is_held, is_lent, is_text}
-use Rattle.nim_meaning.specs.Here.{Here, gives_hooked}
-use Rattle.nim_meaning.specs.Acts.{Outcome, Does, give, branch, ◌>>=◌}
-use Rattle.nim_meaning.specs.Waiting.{held_if, held_from}
-use Rattle.nim_meaning.specs.Aims.{Aim, find, Ready, Evaluated, Aimed, settle, operand_for, standing, is_lent_own, is_lent_literal, handed_over}
-use Rattle.nim_meaning.specs.Meaning.{eval, source, ready_all, gets_copy}
+use Rattle.nim_program.specs.Program.{Act, Doing, Building, Giving, Calling, Expr, Path, Args, NoArg, ByValue, ByPath}
+use Rattle.nim_meaning.specs.Values.{Value, Location, Operand, Given, At as AtPlace}
+use Rattle.nim_meaning.specs.State.{State}
+use Rattle.nim_meaning.specs.Here.{Here}
+use Rattle.nim_meaning.specs.Aims.{Aim, Ready, Evaluated, Aimed, settle, standing, is_lent_literal, handed_over}
 use Rattle.flat_code.specs.declared.line.From.{From}
 use Rattle.flat_code.specs.declared.line.From.TheVariants as F
 use Rattle.flat_code.specs.declared.line.Line.{Line}
-use Rattle.flat_code.specs.declared.line.Line.TheVariants as L
-use Rattle.flat_code.specs.Scene.{Located, Within, Temps, with_place, location_at, Did}
+use Rattle.flat_code.specs.Scene.{Temps, location_at, Did}
 use Rattle.flat_code.specs.Lines.{using, using_all, fetch}
-use Rattle.flat_code.specs.Lines as does
 use Rattle.flattening.specs.Numbering.{width, width_at, widths}
-use Rattle.flattening.specs.ExprLines.{is_copied, is_call, from_of, froms, find_lines, settle_lines, lines, copied_lines, lent_line, ready_lines}
+use Rattle.flattening.specs.ExprLines.{is_call, from_of, froms, find_lines, settle_lines}
 use Rattle.flattening.specs.Flattened.{modes_of}
 use Rattle.flattening.specs.Formed.{Scope, AllFormed, count}
-use Rattle.flattening.proofs.Runs.{M, Runs}
+use Rattle.flattening.proofs.Runs.{Runs}
 use Rattle.flattening.proofs.Worlds.{since_none, since_then}
-use Rattle.flattening.proofs.Temps.{Kept, kept_none, kept_then, kept_wide, kept_place, put_same, value_before, value_behind, place_before}
-use Rattle.flattening.proofs.Spots.{Spot, here_of, there, scene, Lands, after, answers, further, goes}
+use Rattle.flattening.proofs.Temps.{Kept, kept_none, kept_then, kept_wide, place_before}
+use Rattle.flattening.proofs.Spots.{Spot, here_of, there, Lands, after, answers, further}
 use Rattle.flattening.proofs.Standing.{grounded, Stands, stands_since}
-use Rattle.flattening.proofs.Groups.{Has, ExprFollows}
-use Rattle.flattening.proofs.Paths.{Leads, leads_now, leads_later, Aims, aims_kept, find_gain, find_follows}
+use Rattle.flattening.proofs.Paths.{Leads, leads_now, leads_later, Aims, aims_kept, find_follows}
 use Rattle.flattening.proofs.Acting.{given_to, Takes}
-use Rattle.flattening.proofs.Widths.{some_width, some_width_at}
+use Rattle.flattening.proofs.Widths.{some_width_at}
 
 -- ---- where an operand is
 
@@ -124,7 +114,8 @@ module _ (c : Spot) (top : Bool) (room : ℕ → Type 0) (names : (proc place : 
       Runs c.fixed (Lands c k t (t + widths args) temps s.world (Settled act args uses i t temps)) 0 0
       (there c (settle_lines types facts args t k) temps s.world) s.meter (settle ready s)
   settles act NoArg f uses i t k temps ready r s h =
-      subst (λ x. Runs c.fixed (Lands c k t (t + 0) temps s.world (Settled act NoArg uses i t temps)) 0 0 (there c k temps s.world) s.meter (settle x s)) (sym r)
+      subst (λ x. Runs c.fixed (Lands c k t (t + 0) temps s.world (Settled act NoArg uses i t temps)) 0 0 (there c k temps s.world) s.meter
+      (settle x s)) (sym r)
       (answers [] s temps (omega arith) (record { fetched = λ go. refl; many = refl; values = λ j. refl }) (kept_none t (t + 0) temps)
       (since_none c.level s.world))
   settles act (ByValue value rest) f uses i t k temps ready r s h =

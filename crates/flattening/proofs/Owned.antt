@@ -1,9 +1,11 @@
 -- What is found at the numbers of a part: the types of its values, and of where its paths lead.
-use Rattle.std.proofs.Common.{◌≡◌, ℕ, suc, ◌+◌, ◌<◌, ◌≤◌, ℤ, Bool, true, false, List, [], ◌∷◌, ◌++◌, Option, Some, None, refl, sym, ap, ◌∙◌, arith}
+use Rattle.std.proofs.Common.{◌≡◌, ℕ, suc, ◌+◌, ◌<◌, ◌≤◌, ℤ, Bool, true, false, List, [], ◌∷◌, ◌++◌, Option, Some, None, refl, sym, ap, ap₂, ◌∙◌, arith}
 use Rattle.std.proofs.Common.{subst}
-use Rattle.std.specs.Prelude.{if◌then◌else◌}
-use Rattle.std.proofs.lemmas.Bool.{both_ways}
-use Rattle.nim_types.specs.Types.{Ty, int, Facts}
+use Rattle.std.specs.Prelude.{if◌then◌else◌, ◌&&◌, ◌||◌, nat_eq}
+use Rattle.std.proofs.lemmas.Bool.{both_ways, and_from, or_left, or_right, eq-eqb}
+use Rattle.nim_types.specs.Types.{Ty, int, Facts, same}
+use Rattle.nim_types.specs.Table.{type_at as type_at_number}
+use Rattle.nim_types.proofs.ForCallers.{same_refl}
 use Rattle.nim_program.specs.declared.expr.Node.{Node}
 use Rattle.nim_program.specs.declared.operation.Use.{Use}
 use Rattle.nim_program.specs.declared.operation.Use.TheVariants as U
@@ -14,22 +16,25 @@ use Rattle.nim_program.specs.Program.{is_written}
 use Rattle.nim_program.specs.Folds.{if_constant, begun_by}
 use Rattle.nim_program.specs.Kinds.{is_there}
 use Rattle.nim_program.specs.Uses.{use_of}
-use Rattle.nim_meaning.specs.Here.{is_hooked}
+use Rattle.nim_meaning.specs.Here.{is_hooked, gives_hooked}
+use Rattle.nim_meaning.specs.Shapes.{has_node}
 use Rattle.flat_code.specs.declared.place.PlaceKind.{PlaceKind}
 use Rattle.flat_code.specs.declared.place.PlaceKind.TheVariants as K
 use Rattle.flat_code.specs.declared.place.FlatPlace.{FlatPlace}
 use Rattle.flat_code.specs.Scene.{Known}
-use Rattle.flat_code.specs.Fits.{is_value, is_location, is_standing, place_named, type_by_kind, if_type_of, if_kind}
+use Rattle.flat_code.specs.Fits.{is_value, is_location, is_standing, place_named, place_type, type_by_kind, if_type_of, if_kind}
+use Rattle.flat_code.specs.Waits.{is_node, any_waits, if_waits}
 use Rattle.flattening.specs.ExprLines.{is_lent_at}
 use Rattle.flattening.specs.Formed.{IsListed, IfListed}
-use Rattle.flattening.specs.Numbering.{own_width, width, width_at, widths, arm_count, looked_from, selector_from, behind_selector}
-use Rattle.flattening.specs.Places.{place, temporary, location, selector_place, lent_place, expr_places, path_places, operand_places, part_places, loop_places}
-use Rattle.flattening.specs.Places.{kind_of_path, element_kind}
+use Rattle.flattening.specs.Numbering.{type_number, number_or, own_width, width, width_at, widths, arm_count, looked_from, selector_from, behind_selector}
+use Rattle.flattening.specs.Places.{place, temporary, value_at, location, selector_place, lent_place, expr_places, path_places, operand_places, part_places}
+use Rattle.flattening.specs.Places.{loop_places}
+use Rattle.flattening.specs.Places.{kind_of_path, waits_by, element_kind}
 use Rattle.flattening.proofs.LentPlaces.{owned_list}
 use Rattle.flattening.proofs.Numbered.{named_here, named_past, named_before, named_behind, named_neither, other_number, Owns, owns_first, owns_second}
 use Rattle.flattening.proofs.Numbered.{owns_later}
 use Rattle.flattening.proofs.Numbered.{owns_inner}
-use Rattle.flattening.proofs.PlaceNumbers.{temporary_number, location_number, selector_number, selector_begins, lent_number, expr_numbers, path_numbers}
+use Rattle.flattening.proofs.PlaceNumbers.{value_number, location_number, selector_number, selector_begins, lent_number, expr_numbers, path_numbers}
 use Rattle.flattening.proofs.PlaceNumbers.{operand_numbers, part_numbers}
 use Rattle.flattening.proofs.Widths.{same_width, read_width, some_width, some_width_at}
 
@@ -83,20 +88,60 @@ module _ (known : Known) (modes : (proc position : ℕ) → Mode) (whole : List 
 
   -- ---- what is found
 
-  pub value_there : {l hi : ℕ} (node : Node) (ty : Ty) (t : ℕ) (rest : List FlatPlace) → t < hi → IsListed types ty →
-      Owns whole (place types facts modes t node.at K.Temp ty ∷ rest) t l hi → value t ≡ Some ty
-  value_there node ty t rest less listed owns =
-      ap (if_type_of known) (owns.values t (omega arith) less ∙ named_here is_value (place types facts modes t node.at K.Temp ty) rest refl) ∙ ap Some listed
+  -- the temporary of a value
+  abbrev value_of : (may_wait : Bool) → Node → Ty → (t : ℕ) → FlatPlace
+  value_of may node ty t = place types facts modes (waits_by may (is_hooked facts ty) node.number) t node.at K.Temp ty
+
+  pub value_there : {l hi : ℕ} (may : Bool) (node : Node) (ty : Ty) (t : ℕ) (rest : List FlatPlace) → t < hi → IsListed types ty →
+      Owns whole (value_of may node ty t ∷ rest) t l hi → value t ≡ Some ty
+  value_there may node ty t rest less listed owns =
+      ap (if_type_of known) (owns.values t (omega arith) less ∙ named_here is_value (value_of may node ty t) rest refl) ∙ ap Some listed
 
   pub value_found : {l hi : ℕ} (node : Node) (ty : Option Ty) (t : ℕ) (rest : List FlatPlace) → t < hi → IfListed types ty →
-      place_named is_value rest t ≡ None → Owns whole (temporary types facts modes node ty K.Temp t ++ rest) t l hi → value t ≡ ty
+      place_named is_value rest t ≡ None → Owns whole (value_at types facts modes true node ty t ++ rest) t l hi → value t ≡ ty
   value_found node None t rest less listed none owns = ap (if_type_of known) (owns.values t (omega arith) less ∙ none)
-  value_found node (Some ty) t rest less listed none owns = value_there node ty t rest less listed owns
+  value_found node (Some ty) t rest less listed none owns = value_there true node ty t rest less listed owns
 
-  pub there_found : {l hi : ℕ} (node : Node) (ty : Option Ty) (t : ℕ) (rest : List FlatPlace) → t < hi → IfListed types ty → is_there ty ≡ true →
-      Owns whole (temporary types facts modes node ty K.Temp t ++ rest) t l hi → value t ≡ ty
-  there_found node None t rest less listed there owns = never there
-  there_found node (Some ty) t rest less listed there owns = value_there node ty t rest less listed owns
+  pub there_found : {l hi : ℕ} (may : Bool) (node : Node) (ty : Option Ty) (t : ℕ) (rest : List FlatPlace) → t < hi → IfListed types ty → is_there ty ≡ true →
+      Owns whole (value_at types facts modes may node ty t ++ rest) t l hi → value t ≡ ty
+  there_found may node None t rest less listed there owns = never there
+  there_found may node (Some ty) t rest less listed there owns = value_there may node ty t rest less listed owns
+
+  -- ---- what waits
+
+  -- the value of a node waits there, in a temporary
+  pub record Awaits (t node : ℕ) (ty : Option Ty) : Type 0 where
+    pub held : if_waits node (place_named is_value whole t) ≡ true
+    pub some : any_waits (λ p. true) node whole ≡ true
+    pub ends : any_waits (λ p. same (place_type known p) (type_at_number types (number_or types ty))) node whole ≡ true
+
+  -- a place that is found by its number is one of the list
+  among : (holds : FlatPlace → Bool) (node t : ℕ) (ps : List FlatPlace) (p : FlatPlace) → place_named is_value ps t ≡ Some p →
+      is_node node p.waits && holds p ≡ true → any_waits holds node ps ≡ true
+  among holds node t [] p e h = absurd cc
+  among holds node t (q ∷ ps) p e h = by (nat_eq q.number t && is_value q.kind) e (λ f. among holds node t ps p f h)
+    where
+      the_one : Some q ≡ Some p → q ≡ p
+      the_one e = cc
+
+      by : (b : Bool) → (if b then Some q else place_named is_value ps t) ≡ Some p →
+          (place_named is_value ps t ≡ Some p → any_waits holds node ps ≡ true) → (is_node node q.waits && holds q) || any_waits holds node ps ≡ true
+      by true e rest = or_left _ _ (subst (λ (r : FlatPlace). is_node node r.waits && holds r ≡ true) (sym (the_one e)) h)
+      by false e rest = or_right _ _ (rest e)
+
+  pub waits_found : {l hi : ℕ} (may : Bool) (node : Node) (ty : Option Ty) (t : ℕ) (rest : List FlatPlace) → t < hi → may ≡ true →
+      gives_hooked facts ty ≡ true → Owns whole (value_at types facts modes may node ty t ++ rest) t l hi → Awaits t node.number ty
+  waits_found may node None t rest less is hooked owns = never hooked
+  waits_found may node (Some ty) t rest less is hooked owns =
+      let found = owns.values t (omega arith) less ∙ named_here is_value (value_of may node ty t) rest refl in
+      let waits : is_node node.number (waits_by may (is_hooked facts ty) node.number) ≡ true =
+      ap₂ (λ a b. is_node node.number (waits_by a b node.number)) is hooked ∙ eq-eqb node.number node.number refl in
+      record {
+        held = ap (if_waits node.number) found ∙ waits;
+        some = among (λ p. true) node.number t whole (value_of may node ty t) found (and_from _ _ waits refl);
+        ends = among (λ p. same (place_type known p) (type_at_number types (type_number types ty))) node.number t whole (value_of may node ty t) found
+            (and_from _ _ waits (same_refl (type_at_number types (type_number types ty))));
+      }
 
   by_kind : (b : Bool) → is_location (kind_by b) ≡ true
   by_kind true = refl
@@ -115,10 +160,10 @@ module _ (known : Known) (modes : (proc position : ℕ) → Mode) (whole : List 
   kept_type false ty = refl
 
   pub led_found : {v hi : ℕ} (b : Bool) (node : Node) (ty : Ty) (t : ℕ) (rest : List FlatPlace) → t < hi → IsListed types ty →
-      Owns whole (place types facts modes t node.at (kind_by b) ty ∷ rest) v t hi → (led t ≡ Some ty) × (may_write t ≡ b)
+      Owns whole (place types facts modes None t node.at (kind_by b) ty ∷ rest) v t hi → (led t ≡ Some ty) × (may_write t ≡ b)
   led_found b node ty t rest less listed owns =
       let found = owns.locations t (omega arith) less
-      ∙ named_here is_location (place types facts modes t node.at (kind_by b) ty) rest (by_kind b) in (
+      ∙ named_here is_location (place types facts modes None t node.at (kind_by b) ty) rest (by_kind b) in (
         ap (if_type_of known) found ∙ ap Some (kept_type b _ ∙ listed),
         ap (if_kind is_standing) found ∙ standing b,
       )
@@ -128,9 +173,9 @@ module _ (known : Known) (modes : (proc position : ℕ) → Mode) (whole : List 
       Owns whole (loop_places types facts modes node (Each variable) head t ++ rest) t t hi →
       (value (suc t) ≡ Some int) × (value (suc (suc t)) ≡ Some int)
   loop_found node variable head t hi rest less owns =
-      let element = place types facts modes t node.at (element_kind types facts modes variable head) variable.of in
-      let number = place types facts modes (suc t) node.at K.Counter int in
-      let many = place types facts modes (suc (suc t)) node.at K.Counter int in
+      let element = place types facts modes None t node.at (element_kind types facts modes variable head) variable.of in
+      let number = place types facts modes None (suc t) node.at K.Counter int in
+      let many = place types facts modes None (suc (suc t)) node.at K.Counter int in
       let second = owns.values (suc t) (omega arith) (omega (arith, less))
       ∙ other_number is_value element (number ∷ many ∷ rest) t (suc t) refl (omega arith)
       ∙ named_here is_value number (many ∷ rest) refl in
@@ -144,10 +189,10 @@ module _ (known : Known) (modes : (proc position : ℕ) → Mode) (whole : List 
   module _ (node : Node) (variable : Declared) (path : Path) (more : Args) (t hi : ℕ) (rest : List FlatPlace) (less : suc (suc t) < hi)
       (listed : IsListed types variable.of) (owns : Owns whole (loop_places types facts modes node (Each variable) (ByPath path more) t ++ rest) t t hi) where
     abbrev behind : List FlatPlace
-    behind = place types facts modes (suc t) node.at K.Counter int ∷ place types facts modes (suc (suc t)) node.at K.Counter int ∷ rest
+    behind = place types facts modes None (suc t) node.at K.Counter int ∷ place types facts modes None (suc (suc t)) node.at K.Counter int ∷ rest
 
     abbrev element : Bool → FlatPlace
-    element b = place types facts modes t node.at (if b then kind_of_path path else K.Temp) variable.of
+    element b = place types facts modes None t node.at (if b then kind_of_path path else K.Temp) variable.of
 
     pub element_value : is_hooked facts variable.of ≡ false → value t ≡ Some variable.of
     element_value unhooked = at (is_hooked facts variable.of) unhooked (owns.values t (omega arith) (omega (arith, less)))
@@ -170,29 +215,30 @@ module _ (known : Known) (modes : (proc position : ℕ) → Mode) (whole : List 
 
   -- ---- what parts own
 
-  behind_temporary : (node : Node) (ty : Option Ty) (t : ℕ) (rest : List FlatPlace) → place_named is_location rest t ≡ None →
-      place_named is_location (temporary types facts modes node ty K.Temp t ++ rest) t ≡ None
-  behind_temporary node None t rest e = e
-  behind_temporary node (Some ty) t rest e = named_past is_location (place types facts modes t node.at K.Temp ty) rest t refl ∙ e
+  behind_value : (may : Bool) (node : Node) (ty : Option Ty) (t : ℕ) (rest : List FlatPlace) → place_named is_location rest t ≡ None →
+      place_named is_location (value_at types facts modes may node ty t ++ rest) t ≡ None
+  behind_value may node None t rest e = e
+  behind_value may node (Some ty) t rest e = named_past is_location (value_of may node ty t) rest t refl ∙ e
 
   -- where the value of an expression comes to, no location of its own is
   pub none_at_value : (e : Expr) (t : ℕ) → place_named is_location (expr_places types facts modes e t) t ≡ None
   none_at_value (Apply node ty act operands) t =
-      behind_temporary node ty t _
+      behind_value true node ty t _
       ((operand_numbers types facts modes act operands (use_of modes act) 0 (suc t)).locations t (λ le. absurd (omega (arith, le))))
   none_at_value (Read path) t =
-      behind_temporary (node_at path) (type_at path) t _ ((path_numbers types facts modes path (suc t)).locations t (λ le. absurd (omega (arith, le))))
+      behind_value (has_node path) (node_at path) (type_at path) t _
+      ((path_numbers types facts modes path (suc t)).locations t (λ le. absurd (omega (arith, le))))
   none_at_value (Early node ty short left right) t =
-      behind_temporary node (Some ty) t _
+      behind_value true node (Some ty) t _
       (named_neither is_location (expr_places types facts modes left (suc t)) (expr_places types facts modes right (suc t + width left)) t
       ((expr_numbers types facts modes left (suc t)).locations t (λ le. absurd (omega (arith, le))))
       ((expr_numbers types facts modes right (suc t + width left)).locations t (λ le. absurd (omega (arith, le)))))
   none_at_value (Choose node ty ByConditions parts) t =
-      behind_temporary node ty t _ ((part_numbers types facts modes parts (suc t)).locations t (λ le. absurd (omega (arith, le))))
+      behind_value true node ty t _ ((part_numbers types facts modes parts (suc t)).locations t (λ le. absurd (omega (arith, le))))
   none_at_value (Choose node ty (ByLabels labels) parts) t =
       let s = suc t + arm_count (ByLabels labels) in
       let later = selector_later parts s in
-      behind_temporary node ty t _
+      behind_value true node ty t _
       (named_neither is_location (selector_place types facts modes parts s) (part_places types facts modes parts (selector_from parts s)) t
       ((selector_number types facts modes {lo = s} {hi = selector_from parts s} parts s (omega arith) (omega arith)).locations t
       (λ le. absurd (omega (arith, le))))
@@ -207,7 +253,7 @@ module _ (known : Known) (modes : (proc position : ℕ) → Mode) (whole : List 
     where
       by_type : (ty : Option Ty) → place_named is_value (temporary types facts modes (node_of value) ty K.Within t) n ≡ None
       by_type None = refl
-      by_type (Some ty) = named_past is_value (place types facts modes t (node_of value).at K.Within ty) [] n refl
+      by_type (Some ty) = named_past is_value (place types facts modes None t (node_of value).at K.Within ty) [] n refl
 
       by_lent : (b : Bool) →
           place_named is_value (if b then temporary types facts modes (node_of value) (type_of value) K.Within t else []) n ≡ None
@@ -262,7 +308,7 @@ module _ (known : Known) (modes : (proc position : ℕ) → Mode) (whole : List 
         by_type false ty lent there listed e = never lent
         by_type true None lent there listed e = never there
         by_type true (Some ty) lent there listed e =
-            let found = e ∙ named_here is_location (place types facts modes t (node_of value).at K.Within ty) others refl in
+            let found = e ∙ named_here is_location (place types facts modes None t (node_of value).at K.Within ty) others refl in
             (ap (if_type_of known) found ∙ ap Some listed, ap (if_kind is_standing) found)
 
     pub first_path_owned : (path : Path) (rest : Args) (t : ℕ) → AllOwned act (ByPath path rest) uses i t → PathOwned path t
@@ -282,10 +328,10 @@ module _ (known : Known) (modes : (proc position : ℕ) → Mode) (whole : List 
   parts_as_operands args i t owns = subst (λ places. Owns whole places t t (t + widths args)) (sym (owned_list types facts modes args i t)) owns
 
   -- behind the node's own temporary
-  pub behind_node : {l hi : ℕ} (node : Node) (ty : Option Ty) (t hi' : ℕ) (rest : List FlatPlace) → l ≤ suc t → hi' ≤ hi →
-      Owns whole (temporary types facts modes node ty K.Temp t ++ rest) t l hi → Owns whole rest (suc t) (suc t) hi'
-  behind_node node ty t hi' rest low high owns =
-      owns_second t (suc t) hi' (omega arith) low high (temporary_number types facts modes node ty K.Temp t refl (omega arith) (omega arith)) owns
+  pub behind_node : {l hi : ℕ} (may : Bool) (node : Node) (ty : Option Ty) (t hi' : ℕ) (rest : List FlatPlace) → l ≤ suc t → hi' ≤ hi →
+      Owns whole (value_at types facts modes may node ty t ++ rest) t l hi → Owns whole rest (suc t) (suc t) hi'
+  behind_node may node ty t hi' rest low high owns =
+      owns_second t (suc t) hi' (omega arith) low high (value_number types facts modes may node ty t (omega arith) (omega arith)) owns
 
   -- the parts of a choice have no value at its number
   pub none_at_choice : (parts : Args) (t s : ℕ) → suc t ≤ s →
@@ -304,7 +350,8 @@ module _ (known : Known) (modes : (proc position : ℕ) → Mode) (whole : List 
       let s = suc t + arm_count (ByLabels labels) in
       let e = selector_begins labels parts s in
       owns_inner s (behind_selector parts s) (omega arith) (omega arith) (omega arith)
-      (behind_node node ty t (behind_selector parts s) (selector_place types facts modes parts s ++ part_places types facts modes parts (selector_from parts s))
+      (behind_node true node ty t (behind_selector parts s)
+      (selector_place types facts modes parts s ++ part_places types facts modes parts (selector_from parts s))
       (omega arith)
       (omega (arith, e)) owns)
 
@@ -320,7 +367,7 @@ module _ (known : Known) (modes : (proc position : ℕ) → Mode) (whole : List 
   selector_found path rest s listed there owns =
       let w = some_width_at path in
       let e = same_width path in
-      there_found (node_at path) (type_at path) s (part_places types facts modes (ByPath path rest) (looked_from path s)) (omega (arith, w, e)) listed
+      there_found false (node_at path) (type_at path) s (part_places types facts modes (ByPath path rest) (looked_from path s)) (omega (arith, w, e)) listed
       there owns
 
   pub base_owned : (node : Node) (ty : Ty) (base : Path) (field t : ℕ) → PathOwned (Field node ty base field) t → PathOwned base (suc t)
@@ -365,4 +412,5 @@ module _ (known : Known) (modes : (proc position : ℕ) → Mode) (whole : List 
   pub read_owned : (path : Path) (t : ℕ) → Owned (Read path) t → PathOwned path (suc t)
   read_owned path t owns =
       let w = read_width path in
-      behind_node (node_at path) (type_at path) t (suc t + width_at path) (path_places types facts modes path (suc t)) (omega arith) (omega (arith, w)) owns
+      behind_node (has_node path) (node_at path) (type_at path) t (suc t + width_at path) (path_places types facts modes path (suc t)) (omega arith)
+      (omega (arith, w)) owns

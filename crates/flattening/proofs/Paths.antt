@@ -1,5 +1,5 @@
 -- Flat code looks up paths, line by line as the meaning does it step by step.
-use Rattle.std.proofs.Common.{◌≡◌, ℕ, ℤ, suc, ◌+◌, ◌<◌, ◌≤◌, Bool, true, false, List, [], ◌∷◌, length, Option, Some, None, refl, sym, ap, ◌∙◌, subst, arith}
+use Rattle.std.proofs.Common.{◌≡◌, ℕ, ℤ, suc, ◌+◌, ◌<◌, ◌≤◌, Bool, true, false, List, [], ◌∷◌, Option, Some, None, refl, sym, ap, ◌∙◌, subst, arith}
 use Rattle.std.specs.Prelude.{unsigned_abs, if◌then◌else◌}
 use Rattle.nim_types.specs.Types.{Ty, Facts}
 use Rattle.nim_program.specs.Program.{Literal, Expr, type_of, node_of, constant_in, Path, Variable, Fresh, Field, Element, Deref}
@@ -8,27 +8,27 @@ use Rattle.nim_program.specs.Traps.{IndexOutOfBounds}
 use Rattle.nim_program.specs.Ints.{inside}
 use Rattle.nim_meaning.specs.Values.{Value, Made, literal_value, Number, Parts, Handle, Fixed, Ref, Resource, Gone}
 use Rattle.nim_meaning.specs.Values.{Vacant, number_of, length_of, Standing, Waiting, Location, deeper, at_base}
-use Rattle.nim_meaning.specs.State.{State, World, load}
+use Rattle.nim_meaning.specs.State.{State, load, is_seen}
 use Rattle.nim_meaning.specs.Acts.{branch as choose}
 use Rattle.nim_meaning.specs.Here.{gives_hooked}
-use Rattle.nim_meaning.specs.Deeds.{Gives, Looks, give, branch, stop}
+use Rattle.nim_meaning.specs.Deeds.{Deed, Gives, Looks, give, branch, unless_gone, sees, stop}
 use Rattle.nim_meaning.specs.Places.{place_at, item_of, rooted, to_part, to_item, to_object, made, root_of}
-use Rattle.nim_meaning.specs.Aims.{Aim, Root, Value_of, PartOf, ItemOf, ObjectOf, fresh_root, find}
+use Rattle.nim_meaning.specs.Aims.{Aim, Root, PartOf, ItemOf, ObjectOf, fresh_root, find}
 use Rattle.flat_code.specs.declared.line.Line.{Line}
 use Rattle.flat_code.specs.declared.line.Line.TheVariants as L
 use Rattle.flat_code.specs.Scene.{Where, Located, Within, Temps, with_place, location_at, led, Fails}
 use Rattle.flat_code.specs.Lines.{using, using_number, level_at, fresh_at}
 use Rattle.flat_code.specs.Lines as does
-use Rattle.flattening.specs.Numbering.{width, width_at}
+use Rattle.flattening.specs.Numbering.{width_at}
 use Rattle.flattening.specs.ExprLines.{begin_line, find_lines}
 use Rattle.flattening.specs.Formed.{Scope, PathFormed}
 use Rattle.flattening.proofs.Runs.{Runs}
 use Rattle.flattening.proofs.Openings.{Answering, answering_all}
 use Rattle.flattening.proofs.Temps.{kept_none, kept_wide, kept_place, put_same}
 use Rattle.flattening.proofs.Spots.{Spot, there, scene, Lands, after, further, performs_alone, performs_ticked}
-use Rattle.flattening.proofs.Standing.{grounded, Stands, stands_since}
+use Rattle.flattening.proofs.Standing.{grounded, Stands}
 use Rattle.flattening.proofs.Literals.{pieces_value}
-use Rattle.flattening.proofs.Widths.{same_width, fresh_width, some_width, some_width_at}
+use Rattle.flattening.proofs.Widths.{same_width, fresh_width, some_width}
 
 -- ---- where a temporary leads
 
@@ -216,12 +216,20 @@ module _ (c : Spot) (top : Bool) (room : ℕ → Type 0) (names : (proc place : 
   object_answers : (Q : Location → Type 0) → ((l : Location) → Q l) → (l : Location) → Answering Q (to_object l)
   object_answers Q q l = answering_all Q q (to_object l)
 
+  -- the element of a number, which is one of those that are there
+  abbrev item_by : Location → ℤ → Deed Location
+  item_by location z = sees location (λ world v. branch (inside z (length_of v)) (give (item_of v location (unsigned_abs z))) (stop IndexOutOfBounds))
+
   item_answers : (Q : Location → Type 0) (location : Location) (z : ℤ) → ((v : Value) → Q (item_of v location (unsigned_abs z))) →
-      Answering Q (Looks (λ world. branch (inside z (length_of (load world location))) (give (item_of (load world location) location (unsigned_abs z)))
-      (stop IndexOutOfBounds)))
+      Answering Q (item_by location z)
   item_answers Q location z q =
-      λ world. inside_or (inside z (length_of (load world location))) (item_of (load world location) location (unsigned_abs z)) (q (load world location))
+      λ world. let v = load world location in
+      seen_or (is_seen world location) _ (inside_or (inside z (length_of v)) (item_of v location (unsigned_abs z)) (q v))
     where
+      seen_or : (b : Bool) (deed : Deed Location) → Answering Q deed → Answering Q (unless_gone b deed)
+      seen_or true deed a = a
+      seen_or false deed a = tt
+
       inside_or : (b : Bool) (item : Location) → Q item → Answering Q (branch b (give item) (stop IndexOutOfBounds))
       inside_or true item q = q
       inside_or false item q = tt
@@ -275,9 +283,7 @@ module _ (c : Spot) (top : Bool) (room : ℕ → Type 0) (names : (proc place : 
       let place = looked.leads.place in
       further {lo' = t} {hi' = hi} (omega arith) (omega arith) (kept_wide (omega arith) (omega (arith, w)) kept) since
       (λ l last p k. looked_from {mid = now} looked.values p)
-      (performs_ticked c (λ l. with_place t now (led place l))
-      (Looks (λ world. branch (inside z (length_of (load world l))) (give (item_of (load world l) l (unsigned_abs z))) (stop IndexOutOfBounds))) b
-      (omega arith)
+      (performs_ticked c (λ l. with_place t now (led place l)) (item_by l z) b (omega arith)
       (item_answers (λ l. Looked t hi t now l (with_place t now (led place l))) l z (λ v. record {
         leads = record {
           place = led place (item_of v l (unsigned_abs z));

@@ -13,11 +13,12 @@ use Rattle.nim_program.specs.Program.{Literal, Label, is_written, constant_in}
 use Rattle.nim_program.specs.Folds.{if_constant, begun_by, looked_type}
 use Rattle.nim_program.specs.Uses.{use_of}
 use Rattle.nim_meaning.specs.Here.{is_hooked}
+use Rattle.nim_meaning.specs.Shapes.{has_node}
 use Rattle.flat_code.specs.declared.place.PlaceKind.{PlaceKind}
 use Rattle.flat_code.specs.declared.place.PlaceKind.TheVariants as K
 use Rattle.flat_code.specs.Fits.{is_declared}
 use Rattle.flattening.specs.Numbering.{own_width, width, width_at, widths, arm_count, looked_count, selector_from, behind_selector, width_in, width_of}
-use Rattle.flattening.specs.Places.{kind_of_path, head_from, temporary, read_place, location, selector_place, lent_place}
+use Rattle.flattening.specs.Places.{kind_of_path, head_from, temporary, value_at, location, selector_place, lent_place}
 use Rattle.flattening.specs.Places.{expr_places, path_places, operand_places, part_places, element_kind}
 use Rattle.flattening.specs.ExprLines.{is_lent_at}
 use Rattle.flattening.specs.Places.{loop_places, value_places, behind_value, stmt_places, block_places, branch_places, arm_places}
@@ -37,10 +38,13 @@ module _ (types : List Ty) (facts : Facts) (modes : (proc position : ℕ) → Mo
   temporary_number node None kind t e low high = numbered_none
   temporary_number node (Some ty) kind t e low high = numbered_one _ e low high
 
-  pub read_number : {lo hi : ℕ} (path : Path) (t : ℕ) → lo ≤ t → t < hi → Numbered lo hi (read_place types facts modes path t)
-  read_number path t low high = temporary_number (node_at path) (type_at path) K.Temp t refl low high
+  pub value_number : {lo hi : ℕ} (may : Bool) (node : Node) (ty : Option Ty) (t : ℕ) → lo ≤ t → t < hi →
+      Numbered lo hi (value_at types facts modes may node ty t)
+  value_number may node None t low high = numbered_none
+  value_number may node (Some ty) t low high = numbered_one _ refl low high
 
-  looked_number : {lo hi : ℕ} (node : Node) (ty : Option Ty) (s : ℕ) → lo ≤ s → s + looked_count ty ≤ hi → Numbered lo hi (temporary types facts modes node ty K.Temp s)
+  looked_number : {lo hi : ℕ} (node : Node) (ty : Option Ty) (s : ℕ) → lo ≤ s → s + looked_count ty ≤ hi →
+      Numbered lo hi (value_at types facts modes false node ty s)
   looked_number node None s low high = numbered_none
   looked_number node (Some ty) s low high = numbered_one _ refl low (omega (arith, high))
 
@@ -77,21 +81,22 @@ module _ (types : List Ty) (facts : Facts) (modes : (proc position : ℕ) → Mo
   mutual
     pub expr_numbers : (e : Expr) (t : ℕ) → Numbered t (t + width e) (expr_places types facts modes e t)
     expr_numbers (Apply node ty act operands) t =
-        temporary_number node ty K.Temp t refl (omega arith) (omega arith)
+        value_number true node ty t (omega arith) (omega arith)
         >> numbered_wide (omega arith) (omega arith) (operand_numbers act operands (use_of modes act) 0 (suc t))
     expr_numbers (Read path) t =
         let w = read_width path in
-        read_number path t (omega arith) (omega (arith, w)) >> numbered_wide (omega arith) (omega (arith, w)) (path_numbers path (suc t))
+        value_number (has_node path) (node_at path) (type_at path) t (omega arith) (omega (arith, w)) >> numbered_wide (omega arith) (omega (arith, w))
+        (path_numbers path (suc t))
     expr_numbers (Early node ty short left right) t =
-        temporary_number node (Some ty) K.Temp t refl (omega arith) (omega arith)
+        value_number true node (Some ty) t (omega arith) (omega arith)
         >> (numbered_wide (omega arith) (omega arith) (expr_numbers left (suc t))
         >> numbered_wide (omega arith) (omega arith) (expr_numbers right (suc t + width left)))
     expr_numbers (Choose node ty ByConditions parts) t =
-        temporary_number node ty K.Temp t refl (omega arith) (omega arith) >> numbered_wide (omega arith) (omega arith) (part_numbers parts (suc t))
+        value_number true node ty t (omega arith) (omega arith) >> numbered_wide (omega arith) (omega arith) (part_numbers parts (suc t))
     expr_numbers (Choose node ty (ByLabels labels) parts) t =
         let s = suc t + arm_count (ByLabels labels) in
         let e = selector_begins labels parts s in
-        temporary_number node ty K.Temp t refl (omega arith) (omega arith)
+        value_number true node ty t (omega arith) (omega arith)
         >> (selector_number parts s (omega arith) (omega (arith, e)) >> numbered_wide (omega (arith, e)) (omega (arith, e))
         (part_numbers parts (selector_from parts s)))
 

@@ -17,13 +17,14 @@ use Rattle.nim_program.specs.Program as T
 use Rattle.nim_program.specs.Program.{ByConditions, ByLabels, Label, Expr, Apply, Read, Early, Choose, Path, Fresh, Field, Element, Deref}
 use Rattle.nim_program.specs.Program.{Act, Building, Args, NoArg, ByValue, Kind, Stmt, Select, Stmts, Empty, Then, Blocks}
 use Rattle.nim_program.specs.Uses.{use_of}
+use Rattle.nim_meaning.specs.Shapes.{has_node}
 use Rattle.nim_program.specs.Program.{Block}
 use Rattle.nim_program.specs.declared.operation.Short.{Short}
 use Rattle.nim_program.specs.View.{expr_of, if_type, if_value, operand_before, operands_of, stmt_before}
-use Rattle.flat_code.specs.declared.place.PlaceKind.TheVariants as K
 use Rattle.flat_code.specs.declared.place.FlatPlace.{FlatPlace}
 use Rattle.flattening.specs.Numbering.{width, width_at, widths, width_in, width_of, arm_count, selector_from, behind_selector}
-use Rattle.flattening.specs.Places.{head_from, temporary, read_place, selector_place, location, lent_place, expr_places, path_places, operand_places, part_places}
+use Rattle.flattening.specs.Places.{head_from, value_at, read_place, selector_place, location, lent_place, expr_places, path_places, operand_places}
+use Rattle.flattening.specs.Places.{part_places}
 use Rattle.flattening.specs.Places.{block_places, branch_places, arm_places}
 use Rattle.flattening.specs.Places.{stmt_places}
 use Rattle.flattening.specs.ExprLines.{is_call}
@@ -78,25 +79,26 @@ module _ (types : List Ty) (facts : Facts) (modes : (proc position : ℕ) → Mo
 
   pub applied_list : (node : Node) (ty : Option Ty) (act by : Act) → is_call facts act ≡ is_call facts by → (operands : Args) (t u : ℕ) → u ≡ suc t →
       expr_places types facts modes (Apply node ty act operands) t
-      ≡ temporary types facts modes node ty K.Temp t ++ operand_places types facts modes by operands (use_of modes act) 0 u
+      ≡ value_at types facts modes true node ty t ++ operand_places types facts modes by operands (use_of modes act) 0 u
   applied_list node ty act by same operands t u e =
-      ap (λ places. temporary types facts modes node ty K.Temp t ++ places)
+      ap (λ places. value_at types facts modes true node ty t ++ places)
       (lent_alike types facts modes act by same operands (use_of modes act) 0 (suc t)
       ∙ ap (λ x. operand_places types facts modes by operands (use_of modes act) 0 x) (sym e))
 
   pub read_list : (path : Path) (t u : ℕ) → u ≡ suc t →
-      expr_places types facts modes (Read path) t ≡ read_place types facts modes path t ++ path_places types facts modes path u
-  read_list path t u e = ap (λ x. read_place types facts modes path t ++ path_places types facts modes path x) (sym e)
+      expr_places types facts modes (Read path) t ≡ read_place types facts modes (has_node path) path t ++ path_places types facts modes path u
+  read_list path t u e = ap (λ x. read_place types facts modes (has_node path) path t ++ path_places types facts modes path x) (sym e)
 
   pub early_list : (node : Node) (ty : Ty) (short : Short) (left right : Expr) (t u v : ℕ) → u ≡ suc t → v ≡ u + width left →
       expr_places types facts modes (Early node ty short left right) t
-      ≡ temporary types facts modes node (Some ty) K.Temp t ++ (expr_places types facts modes left u ++ expr_places types facts modes right v)
+      ≡ value_at types facts modes true node (Some ty) t ++ (expr_places types facts modes left u ++ expr_places types facts modes right v)
   early_list node ty short left right t u v e f =
-      sym (ap₂ (λ x y. temporary types facts modes node (Some ty) K.Temp t ++ (expr_places types facts modes left x ++ expr_places types facts modes right y)) e (f ∙ ap (λ x. x + width left) e))
+      sym (ap₂ (λ x y. value_at types facts modes true node (Some ty) t ++ (expr_places types facts modes left x ++ expr_places types facts modes right y)) e
+      (f ∙ ap (λ x. x + width left) e))
 
   pub chosen_list : (node : Node) (ty : Option Ty) (parts : Args) (t u : ℕ) → u ≡ suc t →
-      expr_places types facts modes (Choose node ty ByConditions parts) t ≡ temporary types facts modes node ty K.Temp t ++ part_places types facts modes parts u
-  chosen_list node ty parts t u e = ap (λ x. temporary types facts modes node ty K.Temp t ++ part_places types facts modes parts x) (sym e)
+      expr_places types facts modes (Choose node ty ByConditions parts) t ≡ value_at types facts modes true node ty t ++ part_places types facts modes parts u
+  chosen_list node ty parts t u e = ap (λ x. value_at types facts modes true node ty t ++ part_places types facts modes parts x) (sym e)
 
   -- an operand before others
   pub operands_list : (ts : List Ty) (act : Act) (x : RustOperand) (rest : Args) (uses : ℕ → Use) (how : Use) (i n t u : ℕ) → how ≡ uses i → n ≡ suc i →
@@ -141,10 +143,11 @@ module _ (types : List Ty) (facts : Facts) (modes : (proc position : ℕ) → Mo
       u ≡ suc t → s ≡ u + n → n ≡ arm_count (ByLabels labels) → from ≡ selector_from (operand_before ts x NoArg) s →
       v ≡ behind_selector (operand_before ts x NoArg) s →
       expr_places types facts modes (Choose node ty (ByLabels labels) (operand_before ts x rest)) t
-      ≡ temporary types facts modes node ty K.Temp t
-      ++ (selector_place types facts modes (operand_before ts x NoArg) s ++ (first_places types facts modes (operand_before ts x NoArg) from ++ part_places types facts modes rest v))
+      ≡ value_at types facts modes true node ty t
+      ++ (selector_place types facts modes (operand_before ts x NoArg) s ++
+      (first_places types facts modes (operand_before ts x NoArg) from ++ part_places types facts modes rest v))
   selected_list ts node ty labels x rest n t u s from v e f g h i =
-      let own = temporary types facts modes node ty K.Temp t in
+      let own = value_at types facts modes true node ty t in
       let parts = operand_before ts x rest in
       let begin = selector_place types facts modes (operand_before ts x NoArg) s in
       let k : s ≡ suc t + arm_count (ByLabels labels) = f ∙ ap₂ (λ a b. a + b) e g in
@@ -161,7 +164,8 @@ module _ (types : List Ty) (facts : Facts) (modes : (proc position : ℕ) → Mo
       ≡ (expr_places types facts modes condition t ++ expr_places types facts modes value u) ++ part_places types facts modes rest v
   choices_list condition value rest t u v e f =
       sym (append_assoc (expr_places types facts modes condition t) (expr_places types facts modes value u) (part_places types facts modes rest v)
-      ∙ ap₂ (λ x y. expr_places types facts modes condition t ++ (expr_places types facts modes value x ++ part_places types facts modes rest y)) e (f ∙ ap (λ x. x + width value) e))
+      ∙ ap₂ (λ x y. expr_places types facts modes condition t ++ (expr_places types facts modes value x ++ part_places types facts modes rest y)) e
+      (f ∙ ap (λ x. x + width value) e))
 
   pub picks_list : (value : Expr) (rest : Args) (t u : ℕ) → u ≡ t + width value →
       part_places types facts modes (ByValue value rest) t ≡ expr_places types facts modes value t ++ part_places types facts modes rest u
@@ -170,14 +174,16 @@ module _ (types : List Ty) (facts : Facts) (modes : (proc position : ℕ) → Mo
   -- ---- paths
 
   pub field_list : (node : Node) (ty : Ty) (base : Path) (field t u : ℕ) → u ≡ suc t →
-      path_places types facts modes (Field node ty base field) t ≡ location types facts modes (Field node ty base field) t ++ path_places types facts modes base u
+      path_places types facts modes (Field node ty base field) t
+      ≡ location types facts modes (Field node ty base field) t ++ path_places types facts modes base u
   field_list node ty base field t u e = ap (λ x. location types facts modes (Field node ty base field) t ++ path_places types facts modes base x) (sym e)
 
   pub element_list : (node : Node) (ty : Ty) (base : Path) (index : Expr) (constant : _) (t u v : ℕ) → u ≡ suc t → v ≡ u + width_at base →
       path_places types facts modes (Element node ty base index constant) t
       ≡ location types facts modes (Element node ty base index constant) t ++ (path_places types facts modes base u ++ expr_places types facts modes index v)
   element_list node ty base index constant t u v e f =
-      sym (ap₂ (λ x y. location types facts modes (Element node ty base index constant) t ++ (path_places types facts modes base x ++ expr_places types facts modes index y)) e
+      sym (ap₂ (λ x y. location types facts modes (Element node ty base index constant) t ++
+      (path_places types facts modes base x ++ expr_places types facts modes index y)) e
       (f ∙ ap (λ x. x + width_at base) e))
 
   pub deref_list : (ty : Ty) (base : Path) (t u : ℕ) → u ≡ suc t →
@@ -198,7 +204,8 @@ module _ (types : List Ty) (facts : Facts) (modes : (proc position : ℕ) → Mo
 
   -- one more statement of a block
   pub stmts_list : (ts : List Ty) (s : RustStmt) (rest : Stmts) (t v : ℕ) → is_defer s ≡ false → v ≡ t + width_of (stmt_before ts s Empty) →
-      block_places types facts modes (stmt_before ts s rest) t ≡ places_of_first types facts modes (stmt_before ts s Empty) t ++ block_places types facts modes rest v
+      block_places types facts modes (stmt_before ts s rest) t
+      ≡ places_of_first types facts modes (stmt_before ts s Empty) t ++ block_places types facts modes rest v
   stmts_list ts (S.Do value) rest t v g e = then_list (T.Do (expr_of ts value)) rest t v e
   stmts_list ts (S.Idle node parts) rest t v g e = then_list (T.Idle node (operands_of ts parts.items)) rest t v e
   stmts_list ts (S.Give node back value) rest t v g e = then_list (T.Give node back (expr_of ts value)) rest t v e
@@ -242,7 +249,8 @@ module _ (types : List Ty) (facts : Facts) (modes : (proc position : ℕ) → Mo
       places_of_first types facts modes (Then (Select node ByConditions tests blocks) Empty) t ≡ branch_places types facts modes tests blocks u
   decided_list node tests blocks t u e = ap (λ x. branch_places types facts modes tests blocks x) (sym e)
 
-  alone_list : (ts : List Ty) (x : RustOperand) (t : ℕ) → part_places types facts modes (operand_before ts x NoArg) t ≡ first_places types facts modes (operand_before ts x NoArg) t
+  alone_list : (ts : List Ty) (x : RustOperand) (t : ℕ) →
+      part_places types facts modes (operand_before ts x NoArg) t ≡ first_places types facts modes (operand_before ts x NoArg) t
   alone_list ts (A.Value value) t = append-nil _
   alone_list ts (A.At path) t = append-nil _
 
@@ -258,7 +266,8 @@ module _ (types : List Ty) (facts : Facts) (modes : (proc position : ℕ) → Mo
       s ≡ u + n → n ≡ arm_count (ByLabels labels) → from ≡ selector_from (operand_before ts x NoArg) s →
       v ≡ behind_selector (operand_before ts x NoArg) s →
       places_of_first types facts modes (Then (Select node (ByLabels labels) (operand_before ts x NoArg) blocks) Empty) t
-      ≡ selector_place types facts modes (operand_before ts x NoArg) s ++ (first_places types facts modes (operand_before ts x NoArg) from ++ arm_places types facts modes blocks v)
+      ≡ selector_place types facts modes (operand_before ts x NoArg) s ++
+      (first_places types facts modes (operand_before ts x NoArg) from ++ arm_places types facts modes blocks v)
   cases_list ts node labels x blocks n t u s from v e f g h i =
       let tests = operand_before ts x NoArg in
       let all = λ (y a z : ℕ). selector_place types facts modes tests y ++ (part_places types facts modes tests a ++ arm_places types facts modes blocks z) in
@@ -271,7 +280,8 @@ module _ (types : List Ty) (facts : Facts) (modes : (proc position : ℕ) → Mo
       ≡ (expr_places types facts modes condition t ++ block_places types facts modes body u) ++ branch_places types facts modes tests rest v
   branches_list condition body tests rest t u v e f =
       sym (append_assoc (expr_places types facts modes condition t) (block_places types facts modes body u) (branch_places types facts modes tests rest v)
-      ∙ ap₂ (λ x y. expr_places types facts modes condition t ++ (block_places types facts modes body x ++ branch_places types facts modes tests rest y)) e (f ∙ ap (λ x. x + width_of body) e))
+      ∙ ap₂ (λ x y. expr_places types facts modes condition t ++ (block_places types facts modes body x ++ branch_places types facts modes tests rest y)) e
+      (f ∙ ap (λ x. x + width_of body) e))
 
   pub arms_list : (body : Stmts) (rest : Blocks) (t u : ℕ) → u ≡ t + width_of body →
       arm_places types facts modes (Block body rest) t ≡ block_places types facts modes body t ++ arm_places types facts modes rest u
@@ -280,7 +290,8 @@ module _ (types : List Ty) (facts : Facts) (modes : (proc position : ℕ) → Mo
 -- ---- declared places
 
 pub declared_more : (types : List Ty) (facts : Facts) (modes : (proc position : ℕ) → Mode) (globals : ℕ → Bool) (ts : List Ty) (s : RustStmt) (rest : Stmts) →
-    declared_in types facts modes globals (stmt_before ts s rest) ≡ declared_first types facts modes globals (stmt_before ts s Empty) ++ declared_in types facts modes globals rest
+    declared_in types facts modes globals (stmt_before ts s rest)
+    ≡ declared_first types facts modes globals (stmt_before ts s Empty) ++ declared_in types facts modes globals rest
 declared_more types facts modes globals ts (S.Do value) rest = refl
 declared_more types facts modes globals ts (S.Idle node parts) rest = refl
 declared_more types facts modes globals ts (S.Give node back value) rest = refl

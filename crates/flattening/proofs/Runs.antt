@@ -1,6 +1,6 @@
 -- Flat code does what a part of the meaning does: the same events and the same end, with each number of units, and with work that the meaning's
 -- work pays for: each unit of it pays for 12 of flat code's. What isn't paid for yet is taken from a credit.
-use Rattle.std.proofs.Common.{◌≡◌, ℕ, zero, suc, ◌+◌, ◌*◌, ◌<◌, ◌≤◌, Bool, true, false, List, ◌++◌, refl, sym, ap, ap₂, ◌∙◌, arith, add_assoc}
+use Rattle.std.proofs.Common.{◌≡◌, ℕ, zero, suc, ◌+◌, ◌*◌, ◌<◌, ◌≤◌, Bool, true, false, List, ◌++◌, refl, sym, ap, ap₂, ◌∙◌, subst, arith, add_assoc}
 use Rattle.std.specs.Prelude.{Option, Some}
 use Rattle.arc_base.specs.Event.{Event}
 use Rattle.arc_base.specs.Behaviour.{Live, Seen, Phase, Running, Ended}
@@ -245,6 +245,13 @@ module _ {x : Fixed} {A : Type 0} {Good : A → State → M → Type 0} where
           g,
         );
       }
+
+-- nothing is to be shown of a part that is wrong, which it is where something doesn't hold
+pub unless_wrong : {x : Fixed} {A : Type 0} {Good : A → State → M → Type 0} {p q : ℕ} {m : M} {a : Meter Event} (b : Bool) (run : Bool → Res State A)
+    (s : State) →
+    run false ≡ Errs s → (b ≡ true → Runs x Good p q m a (run true)) → Runs x Good p q m a (run b)
+unless_wrong true run s wrong f = f refl
+unless_wrong {x} {A} {Good} {p} {q} {m} {a} false run s wrong f = subst (λ r. Runs x Good p q m a r) (sym wrong) (record { it = tt })
 
 -- ---- one thing after another, whatever comes of the first
 

@@ -1,23 +1,26 @@
--- What is typed is shaped: what chooses by labels has a selector, each loop the head of its kind, and none counts from a text.
+-- What is typed is shaped: what chooses by labels has one selector, each loop the head of its kind, and none counts from a text.
 use Rattle.std.proofs.Common.{◌≡◌, ℕ, zero, suc, true, false, List, [], ◌∷◌, length, Option, Some, None, refl, sym, ap, ◌∙◌, subst}
-use Rattle.std.specs.Prelude.{not, ◌&&◌}
+use Rattle.std.specs.Prelude.{not, ◌&&◌, ◌||◌}
 use Rattle.std.proofs.lemmas.Bool.{and_parts}
 use Rattle.nim_types.specs.Types.{Ty, Fact, Facts, fact_of, base_in}
 use Rattle.nim_types.specs.Types as type
 use Rattle.nim_types.specs.declared.types.TypeDef.{TypeDef}
 use Rattle.nim_types.specs.Table.{facts_in}
 use Rattle.nim_program.specs.Program.{Number, Characters, NoObject, PartsOf, ElementsOf, Act, Doing, Building, Giving, Calling}
-use Rattle.nim_program.specs.Program.{Chooser, ByConditions, ByLabels, Expr, Apply, Read, Early, Choose, Args, NoArg, ByValue, ByPath, Kind, While, Count}
+use Rattle.nim_program.specs.Program.{Label, Chooser, ByConditions, ByLabels, Expr, Apply, Read, Early, Choose, Args, NoArg, ByValue, ByPath, Kind, While}
+use Rattle.nim_program.specs.Program.{Count}
 use Rattle.nim_program.specs.Program.{Each as EachKind, Stmt, Do, Idle, Give, Leave, Select, Loop, Raise, Try, Stmts, Empty, Then, Declare, Defer}
 use Rattle.nim_program.specs.Program.{Blocks, Otherwise, Block, Param, Body, Proc, Program, type_of}
 use Rattle.nim_program.specs.Folds.{loop_places}
-use Rattle.nim_program.specs.Kinds.{kind_of, kind_if, plain_kind, declared_kind, base_or, below_distinct, is_int, is_text}
+use Rattle.nim_program.specs.Kinds.{TypeKind, kind_of, kind_if, plain_kind, declared_kind, base_or, below_distinct, is_int, is_text}
+use Rattle.nim_program.specs.Fitting.{are_labels, are_enough}
 use Rattle.nim_program.specs.Scopes.{Here, with_place, with_global}
 use Rattle.nim_program.specs.Typed.{Around, module_code, looping, procedure, is_empty, chooses, head_fits, with_places, act_fits}
-use Rattle.nim_program.specs.Typed.{is_typed, are_typed, is_typed_stmt, is_typed_block, are_typed_blocks, is_typed_code, in_body, before}
+use Rattle.nim_program.specs.Typed.{is_selector, labels_select, are_blocks, has_else, is_typed, are_typed, is_typed_stmt, is_typed_block, are_typed_blocks}
+use Rattle.nim_program.specs.Typed.{is_typed_code, in_body, before}
 use Rattle.nim_program.specs.Typed.{is_typed_if, is_typed_proc, are_typed_procs, is_typed_start, hook_fits, dest_of, IsTyped}
 use Rattle.flat_code.proofs.ForCallers.{IsSorted, sorted_table}
-use Rattle.flattening.proofs.AlikeLines.{IsShaped, AreShaped, AreShapedBlocks, IfShaped, ProcsShaped, ProgramShaped}
+use Rattle.flattening.proofs.AlikeLines.{HasOne, IsShaped, AreShaped, AreShapedBlocks, IfShaped, ProcsShaped, ProgramShaped}
 use Rattle.flattening.specs.Formed.{HasSelector, HeadFits}
 use Rattle.flattening.proofs.LineNames.{never, act_text, is_literal, CountsFrom}
 
@@ -28,6 +31,25 @@ has_selector facts ByConditions tests blocks h = tt
 has_selector facts (ByLabels labels) (ByValue value rest) blocks h = tt
 has_selector facts (ByLabels labels) (ByPath path rest) blocks h = tt
 has_selector facts (ByLabels labels) NoArg blocks h = never h
+
+no_kind : {A : Type 0} (labels : List (List Label)) (blocks : Blocks) → labels_select TypeKind.other labels blocks ≡ true → A
+no_kind labels blocks h =
+    never (and_parts false (are_labels TypeKind.other labels)
+    (and_parts _ (are_blocks labels blocks) (and_parts _ (has_else blocks || are_enough TypeKind.other None labels) h).0).0).0
+
+has_one : (facts : Facts) (chooser : Chooser) (tests : Args) (blocks : Blocks) → chooses facts chooser tests blocks ≡ true → HasOne chooser tests
+has_one facts ByConditions tests blocks h = tt
+has_one facts (ByLabels labels) NoArg blocks h = never h
+has_one facts (ByLabels labels) (ByValue value NoArg) blocks h = tt
+has_one facts (ByLabels labels) (ByPath path NoArg) blocks h = tt
+has_one facts (ByLabels labels) (ByValue value (ByValue other rest)) blocks h =
+    no_kind labels blocks (and_parts (is_selector (ByValue value (ByValue other rest))) _ h).1
+has_one facts (ByLabels labels) (ByValue value (ByPath path rest)) blocks h =
+    no_kind labels blocks (and_parts (is_selector (ByValue value (ByPath path rest))) _ h).1
+has_one facts (ByLabels labels) (ByPath path (ByValue other rest)) blocks h =
+    no_kind labels blocks (and_parts (is_selector (ByPath path (ByValue other rest))) _ h).1
+has_one facts (ByLabels labels) (ByPath path (ByPath other rest)) blocks h =
+    no_kind labels blocks (and_parts (is_selector (ByPath path (ByPath other rest))) _ h).1
 
 head_of : (facts : Facts) (kind : Kind) (operands : Args) → head_fits facts kind operands ≡ true → HeadFits kind operands
 head_of facts While NoArg h = never h
@@ -125,7 +147,7 @@ module _ (facts : Facts) (undeclared : base_in (fact_of facts type.int) ≡ None
     stmt_shaped here same around (Select node chooser tests blocks) h =
         let t = and_parts (chooses here.facts chooser tests blocks && are_typed here tests) (are_typed_blocks here around blocks) h in
         let u = and_parts (chooses here.facts chooser tests blocks) (are_typed here tests) t.0 in
-        (has_selector here.facts chooser tests blocks u.0, blocks_shaped here same around blocks t.1)
+        ((has_selector here.facts chooser tests blocks u.0, has_one here.facts chooser tests blocks u.0), blocks_shaped here same around blocks t.1)
     stmt_shaped here same around (Loop node kind head body) h =
         let t = and_parts (head_fits here.facts kind head && are_typed here head) _ h in
         let u = and_parts (head_fits here.facts kind head) (are_typed here head) t.0 in

@@ -17,20 +17,23 @@ use Rattle.nim_meaning.specs.State.{World, State, slot_at}
 use Rattle.nim_meaning.specs.ActTree.{Begins, Does as Done_by, Leaves}
 use Rattle.nim_meaning.specs.Ways.{At as Point}
 use Rattle.nim_meaning.specs.Shapes.{is_read, is_given}
-use Rattle.nim_meaning.specs.Acts.{Broke, Continued, Returned, Outcome, On, Out, Does, onward, as_before, left_as, branch, give, ◌>>=◌, ◌>>◌, worked, with_trail}
+use Rattle.nim_meaning.specs.Acts.{Broke, Continued, Returned, Outcome, On, Out, Does, onward, as_before, left_as, branch, give, ◌>>=◌, ◌>>◌, worked}
+use Rattle.nim_meaning.specs.Acts.{with_trail}
 use Rattle.nim_meaning.specs.Deeds.{Deed, Opens, changed, carry, perform, behind as later_done, Done, Answers, Finishes, Fails, costs as deed_costs}
 use Rattle.nim_meaning.specs.Deeds as deeds
 use Rattle.nim_meaning.specs.Lifted.{assigned, assigns}
 use Rattle.nim_meaning.specs.Places.{place_at, put}
 use Rattle.nim_meaning.specs.Here.{Here, gives_hooked}
 use Rattle.nim_meaning.specs.Waiting.{Wait, waiting}
-use Rattle.nim_meaning.specs.Meaning.{eval, source, gets_copy, at_node, all_end, ended, fill, fill_from, result_gets, result_copies, back_or_on, scoped, exec, exec_all}
+use Rattle.nim_meaning.specs.Meaning.{eval, source, gets_copy, at_node, all_end, ended, fill, fill_from, result_gets, result_copies, back_or_on, scoped, exec}
+use Rattle.nim_meaning.specs.Meaning.{exec_all}
+use Rattle.flat_code.specs.declared.line.From.{From}
 use Rattle.flat_code.specs.declared.line.From.TheVariants as F
 use Rattle.flat_code.specs.declared.line.Owning.TheVariants as W
 use Rattle.flat_code.specs.declared.line.Line.{Line}
 use Rattle.flat_code.specs.declared.line.Line.TheVariants as L
 use Rattle.flat_code.specs.Scene.{Temps, location_at, Did, Passes}
-use Rattle.flat_code.specs.Lines.{is_there, using, using_all}
+use Rattle.flat_code.specs.Lines.{is_there, using, using_all, handed_over}
 use Rattle.flat_code.specs.Lines as does
 use Rattle.flattening.specs.Numbering.{type_number, width, widths, width_in, width_of}
 use Rattle.flattening.specs.ExprLines.{has_hooks, is_copied, end_lines, value_ends, lines, copied_lines}
@@ -41,7 +44,8 @@ use Rattle.flattening.proofs.Runs.{M, Runs, known, pays, spares, lands, follows_
 use Rattle.flattening.proofs.Deeds.{answer_map, mapped}
 use Rattle.flattening.proofs.Worlds.{Since, since_none, since_then, since_slot, still_holds}
 use Rattle.flattening.proofs.Openings.{answering_all}
-use Rattle.flattening.proofs.Temps.{Kept, kept_none, kept_wide}
+use Rattle.flattening.proofs.Temps.{Kept, kept_none, kept_then, kept_wide, kept_handed}
+use Rattle.flattening.proofs.Widths.{some_width}
 use Rattle.flattening.proofs.Puts.{Puts, puts_line, puts_wide, ◌>>◌ as both_put}
 use Rattle.flattening.proofs.Spots.{Spot, here_of, there, scene, Lands, At, weaker, past, after, answers, goes, performs}
 use Rattle.flattening.proofs.Standing.{grounded, Stands, stands_since}
@@ -83,7 +87,8 @@ module _ (c : Spot) (top : Bool) (room : ℕ → Type 0) (names : (proc place : 
       (inside : Bool) (Open : Scope) → StmtFormed (grounded c top room names) inside Open stmt → (exits : Exits) (around : Around c exits inside) (t : ℕ)
       (k : List Line) → Reaches around t k → Leads c t (lines_in types facts modes c.result stmt exits t k) → (temps : Temps) (s : State) →
       Stands c room Open s.world →
-      Runs c.fixed (Left c around k t (t + width_in stmt) temps s.world) 0 0 (there c (lines_in types facts modes c.result stmt exits t k) temps s.world) s.meter
+      Runs c.fixed (Left c around k t (t + width_in stmt) temps s.world) 0 0
+      (there c (lines_in types facts modes c.result stmt exits t k) temps s.world) s.meter
       (exec stmt here s)
 
   abbrev pub BlockFollows : Stmts → Type 1
@@ -184,7 +189,8 @@ module _ (c : Spot) (top : Bool) (room : ℕ → Type 0) (names : (proc place : 
       (around_end around (place_end types facts place) (puts_place_end c place)) u (place_end types facts place k)
       (inner_reaches place exits around t u k low r) l temps s h))
     where
-      inner_reaches : (place : Declared) (exits : Exits) {inside : Bool} (around : Around c exits inside) (t u : ℕ) (k : List Line) → t ≤ u → Reaches around t k →
+      inner_reaches : (place : Declared) (exits : Exits) {inside : Bool} (around : Around c exits inside) (t u : ℕ) (k : List Line) → t ≤ u →
+          Reaches around t k →
           Reaches (around_end around (place_end types facts place) (puts_place_end c place)) u (place_end types facts place k)
       inner_reaches place exits around t u k low r =
           let q = reaches {t' = u} low (omega arith) (puts_place_end c place (4 * t) (4 * t)) r in
@@ -313,7 +319,8 @@ module _ (c : Spot) (top : Bool) (room : ℕ → Type 0) (names : (proc place : 
       (further_left c around {lo' = t} {hi' = hi} (omega arith) (omega arith) (kept_wide (omega arith) (omega arith) kept) since
       (scope_follows place rest (last_after node.number rest) f.1 follows inside Open f.3 exits around t u hi k (omega arith) (omega arith) r
       (leads_on {lo = 0} {hi = 4 * u} (omega arith) (omega arith)
-      (both_put (puts_wide {hi = 4 * u} (omega arith) (omega arith) (puts_fill types facts modes c.result place value (suc t))) (puts_waits types waits)) l) now d
+      (both_put (puts_wide {hi = 4 * u} (omega arith) (omega arith) (puts_fill types facts modes c.result place value (suc t))) (puts_waits types waits))
+      l) now d
       (stands_there top names n outermost opened (stands_since h since)))))))
 
   -- ---- results
@@ -342,30 +349,34 @@ module _ (c : Spot) (top : Bool) (room : ℕ → Type 0) (names : (proc place : 
   let_go deed temps world =
       mapped (λ u. temps) deed world
       ∙ (sym (same_map (λ u. nothing) (λ v. temps) (perform deed world))
-      ∙ (sym (ap (answer_map (λ (v : Value). temps)) (mapped (λ u. nothing) deed world)) ∙ sym (mapped (λ v. temps) (deeds.◌>>=◌ deed (λ u. deeds.give nothing)) world)))
+      ∙ (sym (ap (answer_map (λ (v : Value). temps)) (mapped (λ u. nothing) deed world))
+      ∙ sym (mapped (λ v. temps) (deeds.◌>>=◌ deed (λ u. deeds.give nothing)) world)))
 
   -- the result gets a value
   gets_follow : (result : Option Declared) → IsListedResult types result → (hooked : Bool) (v : Value) (t : ℕ) (k : List Line) (temps : Temps) →
       temps.values t ≡ Some v → (s : State) → ((place : Declared) → result ≡ Some place → IsOpen c place s.world) →
-      Runs c.fixed (Lands c k 0 0 temps s.world (Same temps)) 1 0
+      Runs c.fixed (Lands c k t (suc t) temps s.world (λ v now. Unit {0})) 1 0
       (there c (gets_line types facts modes c.result result hooked (F.Value t) k) temps s.world) s.meter (result_gets hooked result here v s)
   gets_follow None listed hooked v t k temps has s opened =
-      answers {P = Same temps} nothing s temps (omega arith) refl (kept_none 0 0 temps) (since_none c.level s.world)
+      answers {P = λ v now. Unit {0}} nothing s temps (omega arith) tt (kept_none t (suc t) temps) (since_none c.level s.world)
   gets_follow (Some place) listed false v t k temps has s opened =
       performs c (λ v. temps) (put (place_at c.level place.number) v) s 1 (omega arith)
-      (answering_all (λ v. Same temps v temps) (λ v. refl) (put (place_at c.level place.number) v)) (λ v. kept_none 0 0 temps)
+      (answering_all (λ v. Unit {0}) (λ v. tt) (put (place_at c.level place.number) v)) (λ v. kept_none t (suc t) temps)
       (ap (λ o. using o (λ v. does.acts (scene c temps s.world) (deed_costs 1 (put (place_at c.level place.number) v)))) has)
   gets_follow (Some place) listed true v t k temps has s opened =
       let f = form_of facts place.of in
       let at = place_at c.level place.number in
-      let x = scene c temps s.world in
-      performs c (λ v. temps) (assigns f at (Given v)) s 1 (omega arith)
-      (answering_all (λ v. Same temps v temps) (λ v. refl) (assigns f at (Given v))) (λ v. kept_none 0 0 temps)
+      let from : List From = F.Value t ∷ [] in
+      let left = handed_over from temps in
+      let x = scene c left s.world in
+      performs c (λ v. left) (assigns f at (Given v)) s 1 (omega arith)
+      (answering_all (λ v. Unit {0}) (λ v. tt) (assigns f at (Given v)))
+      (λ v. kept_handed from (omega arith, omega arith, tt) (kept_none t (suc t) temps))
       (ap (λ o. using (option_map Given o) (λ y. does.if_open s.world c.level place.number (does.acts x (deed_costs 1
       (does.owns (known c.fixed) (W.ResultGets place.number (type_number types place.of)) c.level (y ∷ [])))))) has
       ∙ (as_open c s.world place (opened place refl) _
       ∙ (ap (λ ty. does.acts x (deed_costs 1 (assigned (form_of facts ty) at (Given v)))) listed
-      ∙ ap (λ d. Passes (later_done [] 1 d)) (let_go (assigned f at (Given v)) temps s.world))))
+      ∙ ap (λ d. Passes (later_done [] 1 d)) (let_go (assigned f at (Given v)) left s.world))))
 
   -- or a copy
   copies_result : (result : Option Declared) → IsListedResult types result → (l : Location) (t : ℕ) (k : List Line) (temps : Temps) →
@@ -380,7 +391,7 @@ module _ (c : Spot) (top : Bool) (room : ℕ → Type 0) (names : (proc place : 
       (there c (L.Own (W.ResultGets place.number (type_number types place.of)) (F.Place t ∷ []) ∷ k) temps s.world) s.meter
       (carry (assigned (form_of facts ty) (place_at c.level place.number) (AtPlace l)) s)) listed
       (own_follows c (W.ResultGets place.number (type_number types place.of)) (F.Place t ∷ []) (AtPlace l ∷ []) k temps s
-      (as_open c s.world place (opened place refl)) fetched)
+      (as_open c s.world place (opened place refl)) fetched refl)
 
   module _ (node : Node) (back : Bool) (value : Expr) (Open : Scope) (f : Formed (grounded c top room names) Open value) (exits : Exits) (inside : Bool)
       (around : Around c exits inside) (t : ℕ) (k : List Line) (temps : Temps) (s : State) (h : Stands c room Open s.world) where
@@ -404,11 +415,12 @@ module _ (c : Spot) (top : Bool) (room : ℕ → Type 0) (names : (proc place : 
     Gives = Left c (around_end around ends_it (puts_ends c (waiting facts modes value ToPlace))) (ends_it k) t hi temps s.world
 
     given_on : (d : State) (now : Temps) → Kept (suc t) (suc t + width value) temps now → Since c.level s.world d.world → (g : State) (last : Temps) →
-        last ≡ now → Since c.level d.world g.world → Runs c.fixed Gives 13 0 (there c rest last g.world) g.meter (back_or_on back node.number g)
-    given_on d now kept since g last same since2 =
+        Kept (suc t) (suc t + width value) now last → Since c.level d.world g.world →
+        Runs c.fixed Gives 13 0 (there c rest last g.world) g.meter (back_or_on back node.number g)
+    given_on d now kept since g last kept2 since2 =
         spares 0 0 (omega arith) (omega arith)
         (goes_back ends_it (puts_ends c (waiting facts modes value ToPlace)) back node.number exits inside around k t hi temps last s.world g
-        (subst (λ now. Kept t hi temps now) (sym same) (kept_wide (omega arith) (omega arith) kept)) (since_then since since2))
+        (kept_wide (omega arith) (omega arith) (kept_then kept kept2)) (since_then since since2))
 
     given_by : (b : Bool) → is_copied facts ToPlace value ≡ b → Runs c.fixed Gives 12 0
         (there c (if b then copied_lines types facts modes value (suc t) (gets_line types facts modes c.result c.result true (F.Place (suc (suc t))) rest)
@@ -423,14 +435,17 @@ module _ (c : Spot) (top : Bool) (room : ℕ → Type 0) (names : (proc place : 
         (λ go. ap (λ o. using o (λ x. go (x ∷ [])))
         (ap (option_map (λ place. AtPlace (location_at now place))) leads.0.is ∙ ap (λ l. Some (AtPlace l)) (leads_now leads.0)))
         (with_trail (Point node.number Done_by ∷ d.trail) d) (stands_since h since).result_is)
-        (λ u g last same kept2 since2. given_on d now kept since g last same since2))
+        (λ u g last same kept2 since2.
+        given_on d now kept since g last
+        (subst (λ last. Kept (suc t) (suc t + width value) now last) (sym same) (kept_none (suc t) (suc t + width value) now)) since2))
     given_by false e =
         after 14 (omega arith) (omega arith) (expr_follows c top room names Open calls value f ToPlace (suc t) _ temps s h)
         (λ v d now has kept since.
         after 13 (omega arith) (omega arith)
         (gets_follow c.result gives_listed (has_hooks facts value) v (suc t) rest now has (with_trail (Point node.number Done_by ∷ d.trail) d)
         (stands_since h since).result_is)
-        (λ u g last same kept2 since2. given_on d now kept since g last same since2))
+        (λ u g last done kept2 since2.
+        let w = some_width value in given_on d now kept since g last (kept_wide (omega arith) (omega (arith, w)) kept2) since2))
 
   pub gives : (node : Node) (back : Bool) (value : Expr) → StmtFollows (Give node back value)
   gives node back value inside Open f exits around t k r l temps s h =

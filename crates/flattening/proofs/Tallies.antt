@@ -168,7 +168,22 @@ module _ (name : ℕ) where
       let m4 = below_more (suc (location_name t)) (label_name (label Next t)) (omega arith) in
       let m5 = below_more (suc (label_name (label Next t))) (label_name (label Turn t)) (omega arith) in
       let m6 = below_more (suc (label_name (label Turn t))) (8 * suc t) (omega arith) in
-      omega (arith, below_next (label_name (label Arm t)), below_next (value_name t), below_next (label_name (label End t)), below_next (location_name t), below_next (label_name (label Next t)), below_next (label_name (label Turn t)), m0, m1, m2, m3, m4, m5, m6)
+      omega (
+        arith,
+        below_next (label_name (label Arm t)),
+        below_next (value_name t),
+        below_next (label_name (label End t)),
+        below_next (location_name t),
+        below_next (label_name (label Next t)),
+        below_next (label_name (label Turn t)),
+        m0,
+        m1,
+        m2,
+        m3,
+        m4,
+        m5,
+        m6,
+      )
 
   -- ---- lines
 

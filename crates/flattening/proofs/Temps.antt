@@ -1,15 +1,21 @@
 -- Temporaries: what a line puts into one, and that a part sets its own alone.
-use Rattle.std.proofs.Common.{◌≡◌, ◌≢◌, ℕ, ◌<◌, ◌≤◌, Option, Some, refl, ◌∙◌, arith}
+use Rattle.std.proofs.Common.{◌≡◌, ◌≢◌, ℕ, ◌<◌, ◌≤◌, List, [], ◌∷◌, Option, Some, None, refl, ◌∙◌, arith}
 use Rattle.std.specs.Prelude.{nat_eq}
 use Rattle.std.proofs.lemmas.Bool.{eq-eqb, ne_eqb, cond-true, cond-false}
 use Rattle.nim_meaning.specs.Values.{Value}
-use Rattle.flat_code.specs.Scene.{Where, Temps, put, with_value, with_place}
+use Rattle.flat_code.specs.declared.line.From.{From}
+use Rattle.flat_code.specs.declared.line.From.TheVariants as F
+use Rattle.flat_code.specs.Scene.{Where, Temps, put, without, with_value, with_place}
+use Rattle.flat_code.specs.Lines.{handed_over}
 
 pub put_same : {A : Type 0} (held : ℕ → Option A) (t : ℕ) (x : A) → put held t x t ≡ Some x
 put_same held t x = cond-true (nat_eq t t) (Some x) (held t) (eq-eqb t t refl)
 
 pub put_other : {A : Type 0} (held : ℕ → Option A) (t : ℕ) (x : A) (u : ℕ) → u ≢ t → put held t x u ≡ held u
 put_other held t x u ne = cond-false (nat_eq u t) (Some x) (held u) (ne_eqb u t ne)
+
+without_other : {A : Type 0} (held : ℕ → Option A) (t u : ℕ) → u ≢ t → without held t u ≡ held u
+without_other held t u ne = cond-false (nat_eq u t) None (held u) (ne_eqb u t ne)
 
 -- a number is none of those from one to below another
 abbrev pub Outside : (lo hi i : ℕ) → Type 0
@@ -44,6 +50,26 @@ kept_value {lo} {hi} {old} {now} t v low high k =
 pub kept_place : {lo hi : ℕ} {old now : Temps} (t : ℕ) (place : Where) → lo ≤ t → t < hi → Kept lo hi old now → Kept lo hi old (with_place t now place)
 kept_place {lo} {hi} {old} {now} t place low high k =
     record { values = k.values; places = λ i out. put_other now.places t place i (apart lo hi t i low high out) ∙ k.places i out }
+
+-- where values are handed over, of temporaries from one to below another
+abbrev pub AreWithin : (lo hi : ℕ) → List From → Type 0
+AreWithin lo hi [] = Unit {0}
+AreWithin lo hi (F.Value t ∷ from) = (lo ≤ t) × (t < hi) × AreWithin lo hi from
+AreWithin lo hi (F.Place t ∷ from) = AreWithin lo hi from
+
+pub within_wide : {lo hi lo' hi' : ℕ} (from : List From) → lo ≤ lo' → hi' ≤ hi → AreWithin lo' hi' from → AreWithin lo hi from
+within_wide [] low high w = tt
+within_wide (F.Value t ∷ from) low high w = (omega (arith, low, w.0), omega (arith, high, w.1), within_wide from low high w.2)
+within_wide (F.Place t ∷ from) low high w = within_wide from low high w
+
+kept_without : {lo hi : ℕ} {old now : Temps} (t : ℕ) → lo ≤ t → t < hi → Kept lo hi old now → Kept lo hi old (record now { values = without now.values t })
+kept_without {lo} {hi} {old} {now} t low high k =
+    record { values = λ i out. without_other now.values t i (apart lo hi t i low high out) ∙ k.values i out; places = k.places }
+
+pub kept_handed : {lo hi : ℕ} {old now : Temps} (from : List From) → AreWithin lo hi from → Kept lo hi old now → Kept lo hi old (handed_over from now)
+kept_handed [] w k = k
+kept_handed {now = now} (F.Value t ∷ from) w k = kept_handed {now = record now { values = without now.values t }} from w.2 (kept_without t w.0 w.1 k)
+kept_handed (F.Place t ∷ from) w k = kept_handed from w k
 
 -- a value that stands before, or behind, what was set
 pub value_before : {lo hi : ℕ} {old now : Temps} (i : ℕ) → i < lo → Kept lo hi old now → now.values i ≡ old.values i

@@ -236,7 +236,8 @@ module _ (types : List Ty) (facts : Facts) (modes : (proc position : ℕ) → Mo
     pub arm_lines : (covered : Bool) → List (List Label) → Args → Option Ty → UseAt → (t u : ℕ) → List Line → List Line
     arm_lines covered labels NoArg ty how t u k = L.Label (label Next t) ∷ none_fits t ty how ∷ k
     arm_lines covered labels (ByPath path rest) ty how t u k = L.Label (label Next t) ∷ none_fits t ty how ∷ k
-    arm_lines covered [] (ByValue value rest) ty how t u k = L.Label (label Next t) ∷ lines value (branch_use value) u (branch_ends value (handed_on t u how ty ∷ k))
+    arm_lines covered [] (ByValue value rest) ty how t u k =
+        L.Label (label Next t) ∷ lines value (branch_use value) u (branch_ends value (handed_on t u how ty ∷ k))
     arm_lines covered (these ∷ labels) (ByValue value rest) ty how t u k =
         arm_label (covered && is_last_value rest) (label Next t) (label Arm u)
         (lines value (branch_use value) u

@@ -1,6 +1,6 @@
 -- The places of flat code, in order of text: what a body declares, and the temporaries of its parts by their numbers: one for each value that is given or
 -- read, and one for where each part of a path leads that is looked up.
-use Rattle.std.specs.Prelude.{ℕ, suc, ◌+◌, true, false, if◌then◌else◌, List, [], ◌∷◌, ◌++◌, Option, Some, None}
+use Rattle.std.specs.Prelude.{ℕ, suc, ◌+◌, Bool, true, false, if◌then◌else◌, List, [], ◌∷◌, ◌++◌, Option, Some, None}
 use Rattle.arc_base.specs.declared.place.Place.{Place}
 use Rattle.nim_types.specs.Types.{Ty, int, Facts}
 use Rattle.nim_program.specs.declared.expr.Node.{Node}
@@ -19,7 +19,7 @@ use Rattle.flat_code.specs.declared.place.PlaceKind.{PlaceKind}
 use Rattle.flat_code.specs.declared.place.PlaceKind.TheVariants as K
 use Rattle.flat_code.specs.declared.place.FlatPlace.{FlatPlace}
 use Rattle.nim_meaning.specs.Here.{is_hooked}
-use Rattle.nim_meaning.specs.Shapes.{mode_of}
+use Rattle.nim_meaning.specs.Shapes.{has_node, mode_of}
 use Rattle.flattening.specs.ExprLines.{is_lent_at}
 use Rattle.flattening.specs.Numbering.{type_number, width, width_at, widths, arm_count, selector_from, behind_selector, width_in, width_of}
 
@@ -49,13 +49,26 @@ head_from While t = suc t
 head_from (Count variable inclusive) t = suc t
 head_from (Each variable) t = suc t + 2
 
+-- the value of a node waits there, where it is one that may and has hooks
+abbrev pub waits_by : (may hooked : Bool) → (node : ℕ) → Option ℕ
+waits_by true true node = Some node
+waits_by may hooked node = None
+
 module _ (types : List Ty) (facts : Facts) (modes : (proc position : ℕ) → Mode) where
-  abbrev pub place : (number : ℕ) → (at : Place) → PlaceKind → Ty → FlatPlace
-  place number at kind ty =
-      record { number = number; at = at; kind = kind; ty = type_number types ty; hooked = is_hooked facts ty; resource = false; copies = true }
+  abbrev pub place : (waits : Option ℕ) → (number : ℕ) → (at : Place) → PlaceKind → Ty → FlatPlace
+  place waits number at kind ty = record {
+    number = number;
+    at = at;
+    kind = kind;
+    ty = type_number types ty;
+    hooked = is_hooked facts ty;
+    resource = false;
+    copies = true;
+    waits = waits;
+  }
 
   abbrev pub of_declared : PlaceKind → Declared → FlatPlace
-  of_declared kind d = place d.number d.at kind d.of
+  of_declared kind d = place None d.number d.at kind d.of
 
   abbrev pub all_declared : (Declared → PlaceKind) → List Declared → List FlatPlace
   all_declared kind [] = []
@@ -74,20 +87,25 @@ module _ (types : List Ty) (facts : Facts) (modes : (proc position : ℕ) → Mo
 
   -- ---- temporaries of expressions, whose numbers begin with t
 
+  -- where a value is or a path leads
   abbrev pub temporary : Node → Option Ty → PlaceKind → (t : ℕ) → List FlatPlace
   temporary node None kind t = []
-  temporary node (Some ty) kind t = place t node.at kind ty ∷ []
+  temporary node (Some ty) kind t = place None t node.at kind ty ∷ []
 
-  -- the value at a path that is read
-  abbrev pub read_place : Path → (t : ℕ) → List FlatPlace
-  read_place path t = temporary (node_at path) (type_at path) K.Temp t
+  abbrev pub value_at : (may_wait : Bool) → Node → Option Ty → (t : ℕ) → List FlatPlace
+  value_at may node None t = []
+  value_at may node (Some ty) t = place (waits_by may (is_hooked facts ty) node.number) t node.at K.Temp ty ∷ []
+
+  -- the value at a path that is read; that of a selector is only looked at
+  abbrev pub read_place : (may_wait : Bool) → Path → (t : ℕ) → List FlatPlace
+  read_place may path t = value_at may (node_at path) (type_at path) t
 
   abbrev pub location : Path → (t : ℕ) → List FlatPlace
   location path t = temporary (node_at path) (type_at path) (kind_of_path path) t
 
   -- the value of a selector that is read in place
   abbrev pub selector_place : Args → (s : ℕ) → List FlatPlace
-  selector_place (ByPath path rest) s = read_place path s
+  selector_place (ByPath path rest) s = read_place false path s
   selector_place parts s = []
 
   abbrev pub lent_place : Act → Use → Expr → (t : ℕ) → List FlatPlace
@@ -95,13 +113,13 @@ module _ (types : List Ty) (facts : Facts) (modes : (proc position : ℕ) → Mo
 
   abbrev mutual
     pub expr_places : Expr → (t : ℕ) → List FlatPlace
-    expr_places (Apply node ty act operands) t = temporary node ty K.Temp t ++ operand_places act operands (use_of modes act) 0 (suc t)
-    expr_places (Read path) t = read_place path t ++ path_places path (suc t)
+    expr_places (Apply node ty act operands) t = value_at true node ty t ++ operand_places act operands (use_of modes act) 0 (suc t)
+    expr_places (Read path) t = read_place (has_node path) path t ++ path_places path (suc t)
     expr_places (Early node ty short left right) t =
-        temporary node (Some ty) K.Temp t ++ (expr_places left (suc t) ++ expr_places right (suc t + width left))
-    expr_places (Choose node ty ByConditions parts) t = temporary node ty K.Temp t ++ part_places parts (suc t)
+        value_at true node (Some ty) t ++ (expr_places left (suc t) ++ expr_places right (suc t + width left))
+    expr_places (Choose node ty ByConditions parts) t = value_at true node ty t ++ part_places parts (suc t)
     expr_places (Choose node ty (ByLabels labels) parts) t =
-        temporary node ty K.Temp t
+        value_at true node ty t
         ++ (selector_place parts (suc t + arm_count (ByLabels labels))
         ++ part_places parts (selector_from parts (suc t + arm_count (ByLabels labels))))
 
@@ -134,7 +152,10 @@ module _ (types : List Ty) (facts : Facts) (modes : (proc position : ℕ) → Mo
 
   abbrev pub loop_places : Node → Kind → Args → (t : ℕ) → List FlatPlace
   loop_places node (Each variable) head t =
-      place t node.at (element_kind variable head) variable.of ∷ place (suc t) node.at K.Counter int ∷ place (suc (suc t)) node.at K.Counter int ∷ []
+      place None t node.at (element_kind variable head) variable.of
+      ∷ place None (suc t) node.at K.Counter int
+      ∷ place None (suc (suc t)) node.at K.Counter int
+      ∷ []
   loop_places node kind head t = []
 
   -- the one value of a declaration

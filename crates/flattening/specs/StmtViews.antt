@@ -14,7 +14,8 @@ use Rattle.flattening.specs.declared.ways.Ways.TheVariants as W
 use Rattle.flattening.specs.declared.numbers.Purpose.TheVariants.{End, Next, Arm, Turn}
 use Rattle.flattening.specs.Numbering.{type_number, label}
 use Rattle.flattening.specs.ExprLines.{value_ends}
-use Rattle.flattening.specs.StmtLines.{Exits, ending, in_loop, in_scope, outermost, returned, place_end, test_lines, test_ends, look_up, fill_lines, element_lines}
+use Rattle.flattening.specs.StmtLines.{Exits, ending, in_loop, in_scope, outermost, returned, place_end, test_lines, test_ends, look_up, fill_lines}
+use Rattle.flattening.specs.StmtLines.{element_lines}
 use Rattle.flattening.specs.StmtLines.{lines_in, lines_of}
 use Rattle.flattening.specs.Views.{own_lines, place_owns}
 

@@ -89,7 +89,8 @@ module _ (types : List Ty) (facts : Facts) (modes : (proc position : ℕ) → Mo
   -- the value of a branch, which becomes that of the whole
   abbrev pub branch_lines : Expr → Option Ty → UseAt → (t from : ℕ) → List Line → List Line
   branch_lines value ty how t from k =
-      lines types facts modes value (branch_use types facts modes value) from (branch_ends types facts modes value (handed_on types facts modes t from how ty ∷ k))
+      lines types facts modes value (branch_use types facts modes value) from
+      (branch_ends types facts modes value (handed_on types facts modes t from how ty ∷ k))
 
   -- what is done for a value that a path begins with
   abbrev pub fresh_lines : Expr → (t : ℕ) → List Line → List Line

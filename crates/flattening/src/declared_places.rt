@@ -31,7 +31,7 @@ fn put_declared(
     ensures { IsPut places.old places.new (one (of_declared (types_of around.now) (facts_of around.now) (modes_of around.now) kind
         (declared_of (types_of around.now) place.now))) }
 {
-    put_place(places, around, place.number, place.at, kind, place.ty)
+    put_place(places, around, place.number, place.at, kind, place.ty, None)
 }
 
 // How a parameter takes its argument that is declared so, under a plan.

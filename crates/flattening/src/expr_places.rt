@@ -11,13 +11,13 @@ ghost use Rattle.flattening.specs.Written.{IsPut, GoesOnAt};
 ghost use Rattle.flattening.specs.PlaceViews.{in_front};
 
 use crate::around::{Around, Uses};
-use crate::known::use_at;
+use crate::known::{has_node, use_at};
 use crate::spans::{
     behind_operand, behind_path, behind_picks, behind_selector, behind_value, next, selector_from,
 };
-use crate::temporaries::{put_lent, put_location, put_read, put_selector, put_temporary};
+use crate::temporaries::{put_lent, put_location, put_read, put_selector, put_value};
 use crate::written::Written;
-use flat_code::{FlatPlace, PlaceKind};
+use flat_code::FlatPlace;
 use nim_program::{Choice, Expr, Operand, Path, Pick, Use};
 
 /// Adds the temporaries of an expression, whose numbers begin with t.
@@ -37,7 +37,7 @@ pub fn list_expr(places: &mut Written<FlatPlace>, around: &Around, expr: &Expr, 
             operands,
             ..
         } => {
-            put_temporary(places, around, *node, *ty, PlaceKind::Temp, t);
+            put_value(places, around, true, *node, *ty, t);
             list_operands(places, around, operands, Uses::Of(*operation), u)
         }
         Expr::Call {
@@ -47,7 +47,7 @@ pub fn list_expr(places: &mut Written<FlatPlace>, around: &Around, expr: &Expr, 
             operands,
             ..
         } => {
-            put_temporary(places, around, *node, *ty, PlaceKind::Temp, t);
+            put_value(places, around, true, *node, *ty, t);
             list_operands(places, around, operands, Uses::OfParams(*proc), u)
         }
         Expr::Construct {
@@ -56,14 +56,12 @@ pub fn list_expr(places: &mut Written<FlatPlace>, around: &Around, expr: &Expr, 
             operands,
             ..
         } => {
-            put_temporary(places, around, *node, Some(*ty), PlaceKind::Temp, t);
+            put_value(places, around, true, *node, Some(*ty), t);
             list_operands(places, around, operands, Uses::All(Use::Held), u)
         }
-        Expr::Constant { node, ty, .. } => {
-            put_temporary(places, around, *node, Some(*ty), PlaceKind::Temp, t)
-        }
+        Expr::Constant { node, ty, .. } => { put_value(places, around, true, *node, Some(*ty), t) }
         Expr::Read { path } => {
-            put_read(places, around, path, t);
+            put_read(places, around, has_node(path), path, t);
             list_path(places, around, path, u)
         }
         Expr::Early { .. } => list_early(places, around, expr, t, u),
@@ -73,7 +71,7 @@ pub fn list_expr(places: &mut Written<FlatPlace>, around: &Around, expr: &Expr, 
             branches,
             otherwise,
         } => {
-            put_temporary(places, around, *node, *ty, PlaceKind::Temp, t);
+            put_value(places, around, true, *node, *ty, t);
             let Some(v) = list_choices(places, around, branches, u) else {
                 return;
             };
@@ -103,7 +101,7 @@ fn list_early(places: &mut Written<FlatPlace>, around: &Around, expr: &Expr, t: 
             let Some(v) = behind_value(around, u, left) else {
                 return places.lose();
             };
-            put_temporary(places, around, *node, Some(*ty), PlaceKind::Temp, t);
+            put_value(places, around, true, *node, Some(*ty), t);
             list_expr(places, around, left, u);
             list_expr(places, around, right, v)
         }
@@ -136,7 +134,7 @@ fn list_case(places: &mut Written<FlatPlace>, around: &Around, expr: &Expr, t: u
             let Some(v) = behind_selector(around, s, selector) else {
                 return places.lose();
             };
-            put_temporary(places, around, *node, *ty, PlaceKind::Temp, t);
+            put_value(places, around, true, *node, *ty, t);
             put_selector(places, around, selector, s);
             list_operand(places, around, selector, from);
             let Some(w) = list_picks(places, around, branches, v) else {

@@ -17,6 +17,7 @@ ghost use Rattle.flat_code.specs.Codes.{flat_plain, procs_of, hooks_of, AreNone}
 ghost use Rattle.flat_code.specs.Fits.{code_fits, start_places};
 ghost use Rattle.flat_code.specs.Scene.{Known, known_in};
 ghost use Rattle.flat_code.specs.Sizes.{code_weight, globals_bytes, code_texts};
+ghost use Rattle.flat_code.specs.Waits.{AllWaitOnce, AllWaitRight};
 ghost use Rattle.flat_code.specs.Whole.{label_in, are_whole};
 ghost use Rattle.flattening.specs.declared.laws.TheConstants.{FLAT_PACE, NODE_WEIGHT};
 ghost use Rattle.flattening.specs.declared.laws.TheConstants.{PAIR_WEIGHT};
@@ -67,6 +68,10 @@ pub fn fits()
     ensures fits { (table : List TypeDef) (program : Program) → program.facts ≡ facts_in table →
         IsTyped program → is_numbered_program program ≡ true → IsPlain program → (plan : Plan) →
         code_fits flat_plain (known_of program) (flat_procs program plan) ≡ true }
+    // What waits does so in the temporary of its node.
+    ensures waits { (table : List TypeDef) (program : Program) → program.facts ≡ facts_in table →
+        IsTyped program → is_numbered_program program ≡ true → IsPlain program → (plan : Plan) →
+        AllWaitRight (known_of program) (flat_procs program plan) }
     ensures hooks { (table : List TypeDef) (program : Program) → program.facts ≡ facts_in table →
         IsTyped program → IsPlain program → (plan : Plan) → AreNone (hooks_of (flat_of program plan)) }
 {}
@@ -91,6 +96,9 @@ pub fn sizes()
 pub fn may_be_lowered()
     ensures alike { (table : List TypeDef) (program : Program) → program.facts ≡ facts_in table →
         IsTyped program → (plan : Plan) → AllAlike (flat_procs program plan) }
+    // At each node the value of one temporary waits at most.
+    ensures once { (table : List TypeDef) (program : Program) → program.facts ≡ facts_in table →
+        IsTyped program → is_numbered_program program ≡ true → (plan : Plan) → AllWaitOnce (flat_procs program plan) }
     // Places and lines are plain, and few where the sums of its bodies are small.
     ensures plain { (table : List TypeDef) (program : Program) → program.facts ≡ facts_in table →
         IsTyped program → is_numbered_program program ≡ true → IsPlain program →

@@ -1,5 +1,5 @@
 // The temporaries of statements, by their numbers.
-ghost use Rattle.std.specs.Prelude.{◌≡◌, suc, List, IfSome};
+ghost use Rattle.std.specs.Prelude.{◌≡◌, suc, None, List, IfSome};
 ghost use Rattle.nim_types.specs.Types.{Ty, int};
 ghost use Rattle.nim_program.specs.Program.{Empty, Stmts};
 ghost use Rattle.nim_program.specs.View.{declared_of, stmt_before, stmts_of, operands_of, kind_of, if_value};
@@ -158,7 +158,7 @@ fn put_counters(
         return places.lose();
     };
     let element = element_kind(around, variable, head);
-    put_place(places, around, t, node.at, element, variable.ty);
+    put_place(places, around, t, node.at, element, variable.ty, None);
     put_counter(places, around, node, counter);
     put_counter(places, around, node, length)
 }
@@ -166,7 +166,7 @@ fn put_counters(
 // A number that a loop keeps.
 fn put_counter(places: &mut Written<FlatPlace>, around: &Around, node: Node, t: u32)
     ensures { IsPut places.old places.new
-        (one (place (types_of around.now) (facts_of around.now) (modes_of around.now) t node.at PlaceKind.Counter int)) }
+        (one (place (types_of around.now) (facts_of around.now) (modes_of around.now) None t node.at PlaceKind.Counter int)) }
 {
     places.put(FlatPlace {
         number: t,
@@ -176,6 +176,7 @@ fn put_counter(places: &mut Written<FlatPlace>, around: &Around, node: Node, t: 
         hooked: false,
         resource: false,
         copies: true,
+        waits: None,
     })
 }
 

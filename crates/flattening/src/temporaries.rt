@@ -5,7 +5,7 @@ ghost use Rattle.nim_types.specs.Table.{type_at};
 ghost use Rattle.nim_program.specs.Program.{is_written};
 ghost use Rattle.nim_program.specs.Program.{NoArg};
 ghost use Rattle.nim_program.specs.View.{path_of, operand_before, if_type};
-ghost use Rattle.flattening.specs.Places.{kind_of_path, place, temporary, read_place, location};
+ghost use Rattle.flattening.specs.Places.{kind_of_path, waits_by, place, temporary, value_at, read_place, location};
 ghost use Rattle.flattening.specs.Places.{selector_place};
 ghost use Rattle.flattening.specs.Views.{types_of, facts_of, modes_of, act_of};
 ghost use Rattle.flattening.specs.PlaceViews.{in_front, lent_first};
@@ -27,8 +27,9 @@ pub fn put_place(
     at: Place,
     kind: PlaceKind,
     ty: TypeId,
+    waits: Option<u32>,
 )
-    ensures { IsPut places.old places.new (one (place (types_of around.now) (facts_of around.now) (modes_of around.now) number at kind
+    ensures { IsPut places.old places.new (one (place (types_of around.now) (facts_of around.now) (modes_of around.now) waits number at kind
         (type_at (types_of around.now) ty))) }
 {
     places.put(FlatPlace {
@@ -39,10 +40,17 @@ pub fn put_place(
         hooked: is_hooked(around, ty),
         resource: false,
         copies: true,
+        waits,
     })
 }
 
-/// The value of a node, or where a path leads, where that has a type.
+fn waits_by(may: bool, hooked: bool, node: u32) -> Option<u32>
+    ensures { result ≡ waits_by may hooked node }
+{
+    if may && hooked { Some(node) } else { None }
+}
+
+/// Where a path leads, where that has a type.
 pub fn put_temporary(
     places: &mut Written<FlatPlace>,
     around: &Around,
@@ -56,7 +64,28 @@ pub fn put_temporary(
 {
     match ty {
         None => {}
-        Some(ty) => put_place(places, around, t, node.at, kind, ty),
+        Some(ty) => put_place(places, around, t, node.at, kind, ty, None),
+    }
+}
+
+/// The value of a node, which may wait there, where it has a type.
+pub fn put_value(
+    places: &mut Written<FlatPlace>,
+    around: &Around,
+    may_wait: bool,
+    node: Node,
+    ty: Option<TypeId>,
+    t: u32,
+)
+    ensures { IsPut places.old places.new (in_front (value_at (types_of around.now) (facts_of around.now) (modes_of around.now) may_wait node
+        (if_type (types_of around.now) ty) t)) }
+{
+    match ty {
+        None => {}
+        Some(ty) => {
+            let waits = waits_by(may_wait, is_hooked(around, ty), node.number);
+            put_place(places, around, t, node.at, PlaceKind::Temp, ty, waits)
+        }
     }
 }
 
@@ -84,11 +113,17 @@ pub fn kind_of_path(path: &Path) -> PlaceKind
 }
 
 /// The value at a path that is read.
-pub fn put_read(places: &mut Written<FlatPlace>, around: &Around, path: &Path, t: u32)
-    ensures { IsPut places.old places.new (in_front (read_place (types_of around.now) (facts_of around.now) (modes_of around.now)
+pub fn put_read(
+    places: &mut Written<FlatPlace>,
+    around: &Around,
+    may_wait: bool,
+    path: &Path,
+    t: u32,
+)
+    ensures { IsPut places.old places.new (in_front (read_place (types_of around.now) (facts_of around.now) (modes_of around.now) may_wait
         (path_of (types_of around.now) path.now) t)) }
 {
-    put_temporary(places, around, path.node(), path.ty(), PlaceKind::Temp, t)
+    put_value(places, around, may_wait, path.node(), path.ty(), t)
 }
 
 /// Where a path leads.
@@ -113,7 +148,7 @@ pub fn put_selector(places: &mut Written<FlatPlace>, around: &Around, selector: 
 {
     match selector {
         Operand::Value(_) => {}
-        Operand::At(path) => put_read(places, around, path, s),
+        Operand::At(path) => put_read(places, around, false, path, s),
     }
 }
 

@@ -10,7 +10,8 @@ use Rattle.flat_code.specs.declared.block.BlockLine.{BlockLine}
 use Rattle.flat_code.specs.declared.block.BlockLine.TheVariants.{Plain}
 use Rattle.flat_code.specs.Scene.{known_in}
 use Rattle.flat_code.specs.Codes.{each_line, by_lines, owned_plain, owned_label, owned_does, owned_meaning, block_plain, block_label, block_does, block_meaning}
-use Rattle.flat_code.proofs.ForCallers.{same_agrees, same_pace, runs_by_lines, form_by_lines}
+use Rattle.flat_code.specs.Codes.{owned_within, block_within}
+use Rattle.flat_code.proofs.ForCallers.{same_agrees, same_pace, runs_by_lines, within_by_lines, form_by_lines}
 use Rattle.goto_exceptions.specs.Branches.{IsBranched}
 
 pub same : (table : List TypeDef) (owned : Code OwnedLine) (heap : ℕ) (input : List ℕ) (n : ℕ) →
@@ -18,6 +19,12 @@ pub same : (table : List TypeDef) (owned : Code OwnedLine) (heap : ℕ) (input :
 same table owned heap input n =
     let known = known_in table in
     runs_by_lines Plain owned_label block_label (λ line. refl) (owned_does known) (block_does known) (λ x line. refl) known owned heap input n
+
+pub same_within : (table : List TypeDef) (owned : Code OwnedLine) (units heap : ℕ) (input : List ℕ) (n : ℕ) →
+    block_within table (by_lines Plain owned) units heap input n ≡ owned_within table owned units heap input n
+same_within table owned units heap input n =
+    let known = known_in table in
+    within_by_lines Plain owned_label block_label (λ line. refl) (owned_does known) (block_does known) (λ x line. refl) known owned units heap input n
 
 abbrev blocks_with : List (CodeProc BlockLine) → Code BlockLine
 blocks_with procs = record { procs = procs }

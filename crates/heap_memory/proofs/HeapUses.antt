@@ -17,7 +17,7 @@ use Rattle.rv32_isa.proofs.ForCallers.{length-word_bytes}
 use Rattle.word_code.specs.Memory.{Memory, number_at, bytes_at}
 use Rattle.word_code.specs.RoutineTable.{Beside, IsRewritten, trap_line}
 use Rattle.word_code.proofs.ForCallers.{Sized}
-use Rattle.heap_memory.specs.declared.numbers.TheConstants.{HEAP_WORD_BYTES, HEAP_DATA}
+use Rattle.heap_memory.specs.declared.numbers.TheConstants.{HEAP_WORD_BYTES, HEAP_SCRATCH}
 use Rattle.heap_memory.specs.HeapBlocks.{size_at, Block, first_word, block_size, IsBlock, all_bytes, all_size, first_place, block_from, block_in}
 use Rattle.heap_memory.specs.HeapState.{Standing, Stands, with_block, held_block, AreHeld, IsAway, free_block, AreKept, HasHeapData, IsHeap}
 use Rattle.heap_memory.specs.HeapUse.{IsThere, AreDistant, IsRefilled, IsElsewhere}
@@ -267,7 +267,7 @@ module _ (at : ℕ) (classes : List Class) (stands : Stands) (m : Memory) (h : I
         low = h.words.low
 
         high : at + (HEAP_WORD_BYTES + length (trap_line OutOfMemory)) ≤ statics_at + length m.statics
-        high = h.words.high
+        high = let e = h.words.high in omega (arith, e)
 
         data_same : (b n : ℕ) → statics_at ≤ b → b + n ≤ statics_at + length m.statics → bytes_at other b n ≡ bytes_at m b n
         data_same b n from to =
@@ -311,7 +311,7 @@ module _ (at : ℕ) (classes : List Class) (stands : Stands) (m : Memory) (h : I
         as_beside (inl x) = inl (omega (arith, x))
         as_beside (inr x) = inr (omega (arith, x))
 
-        own_beside : (i k : ℕ) → i + k ≤ HEAP_DATA → Beside at HEAP_DATA a n → Beside (at + i) k a n
+        own_beside : (i k : ℕ) → i + k ≤ HEAP_SCRATCH → Beside at HEAP_SCRATCH a n → Beside (at + i) k a n
         own_beside i k few (inl x) = inl (omega (arith, x, few))
         own_beside i k few (inr x) = inr (omega (arith, x, few))
 

@@ -10,13 +10,13 @@ use Rattle.word_code.specs.RoutineTable.{trap_line}
 use Rattle.word_code.specs.Routines.{Routine}
 use Rattle.heap_memory.specs.declared.numbers.TheConstants.{CONTENTS_KIND}
 use Rattle.heap_memory.specs.declared.numbers.TheConstants.{MOVE_BYTE}
-use Rattle.heap_memory.specs.declared.numbers.TheConstants.{APPEND, APPEND_LINES, RESIZE, RESIZE_LINES, ZERO_BYTE, RELEASE, RELEASE_LINES}
+use Rattle.heap_memory.specs.declared.numbers.TheConstants.{APPEND, APPEND_LINES, JOIN, JOIN_LINES, RESIZE, RESIZE_LINES, ZERO_BYTE, RELEASE, RELEASE_LINES}
 use Rattle.heap_memory.specs.HeapState.{Standing, Stands, with_block, IsHeap}
 use Rattle.heap_memory.specs.HeapUse.{IsElsewhere}
 use Rattle.heap_memory.specs.HeapRoutines.{class_of, IsBesideHeap}
 use Rattle.heap_memory.specs.TextRoutines.{AreBytes}
 use Rattle.heap_memory.specs.GrowRoutine.{Owned, Growing, place_of, room_of, holds_it, may_grow, IsPresent, MayGrow, classes_then, stands_then, kept_of}
-use Rattle.heap_memory.specs.GrowRoutine.{grow_work}
+use Rattle.heap_memory.specs.GrowRoutine.{NewBlock, new_growth, grow_work}
 
 -- ---- the text in its block
 
@@ -105,6 +105,38 @@ appends at = record {
   reads = λ u input. input;
   gives = λ u other place. IsFilled (holds_it u.growth.present u.growth.wanted) at u.growth (appended u) other place;
   lines = λ u. APPEND_LINES + (grow_work u.growth + MOVE_BYTE * length (source_bytes u.source));
+}
+
+-- ---- a text is made of two
+
+pub record Joining : Type 0 where
+  pub first : Source
+  pub second : Source
+  pub new : NewBlock
+
+abbrev pub joined : Joining → List ℕ
+joined u = source_bytes u.first ++ source_bytes u.second
+
+abbrev pub joining_growth : Joining → Growing
+joining_growth u = new_growth u.new (length (source_bytes u.first) + length (source_bytes u.second))
+
+pub record MayJoin (at : ℕ) (u : Joining) (m : Memory) : Type 0 where
+  pub growth : MayGrow at (joining_growth u) m
+  pub first : IsSource at (joining_growth u) m u.first
+  pub second : IsSource at (joining_growth u) m u.second
+
+abbrev pub joins : (at : ℕ) → Routine
+joins at = record {
+  number = JOIN;
+  Use = Joining;
+  takes = λ u. source_at u.first ∷ length (source_bytes u.first) ∷ source_at u.second ∷ length (source_bytes u.second) ∷ [];
+  may = λ u m. MayJoin at u m;
+  shows = λ u. if may_grow (joining_growth u) then [] else writes Err (trap_line OutOfMemory);
+  ends = λ u. if may_grow (joining_growth u) then None else Some 1;
+  leaves = λ u m other. GrowthLeaves (may_grow (joining_growth u)) at m other;
+  reads = λ u input. input;
+  gives = λ u other place. IsFilled (holds_it None (joining_growth u).wanted) at (joining_growth u) (joined u) other place;
+  lines = λ u. JOIN_LINES + (grow_work (joining_growth u) + MOVE_BYTE * (joining_growth u).wanted);
 }
 
 -- ---- a text gets another length

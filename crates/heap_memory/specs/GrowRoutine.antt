@@ -29,6 +29,18 @@ pub record Growing : Type 0 where
   pub classes : List Class
   pub stands : Stands
 
+-- a new block, whose identity nothing has; the bytes of the heap, how many blocks are and were live, and those that are
+pub record NewBlock : Type 0 where
+  pub identity : ℕ
+  pub room : ℕ
+  pub classes : List Class
+  pub stands : Stands
+
+-- where none is there yet
+abbrev pub new_growth : NewBlock → (wanted : ℕ) → Growing
+new_growth new wanted =
+    record { present = None; kept = 0; wanted = wanted; identity = new.identity; room = new.room; classes = new.classes; stands = new.stands }
+
 -- the take of the new block
 abbrev pub taking : Growing → Taking
 taking u = record { class = class_of u.wanted; identity = u.identity; room = u.room; classes = u.classes; stands = u.stands }

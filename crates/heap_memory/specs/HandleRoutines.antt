@@ -1,20 +1,26 @@
 -- The routines on handles. A text or a sequence stands as two words, its length and the place of its contents; these routines are given the addresses
 -- of such handles.
-use Rattle.std.specs.Prelude.{◌≡◌, ◌<◌, ℕ, ◌+◌, ◌^◌, Bool, true, false, List, [], ◌∷◌, length, None, Some, Ok, if◌then◌else◌}
+use Rattle.std.specs.Prelude.{◌≡◌, ◌<◌, ℕ, ◌+◌, ◌-◌, ◌*◌, ◌^◌, Bool, true, false, List, [], ◌∷◌, length, None, Some, Ok, if◌then◌else◌}
+use Rattle.std.specs.Fmt.{signed_decimal}
 use Rattle.arc_base.specs.declared.outside.Stream.TheVariants.{Out, Err}
 use Rattle.arc_base.specs.Event.{writes}
 use Rattle.rv32_isa.specs.declared.micro_op.Size.TheVariants.{Word}
+use Rattle.rv32_isa.specs.Image.{heap_at}
+use Rattle.rv32_isa.specs.Regions.{KeepsSizes}
 use Rattle.rv32_isa.specs.Values.{signed}
 use Rattle.nim_program.specs.Traps.{OutOfMemory}
 use Rattle.nim_meaning.specs.OwnedRows.{order, text_to}
-use Rattle.word_code.specs.Memory.{Memory, number_at, may_put, bytes_at}
-use Rattle.word_code.specs.RoutineTable.{IsRewritten, trap_line}
+use Rattle.word_code.specs.declared.routine.TheConstants.{DIGIT_LINES}
+use Rattle.word_code.specs.Memory.{Memory, as_state, number_at, may_put, bytes_at}
+use Rattle.word_code.specs.RoutineTable.{Beside, IsRewritten, trap_line}
 use Rattle.word_code.specs.Routines.{Routine}
 use Rattle.heap_memory.specs.declared.numbers.TheConstants.{TEXT_ORDER, TEXT_WRITE, TEXT_COPY, TEXT_APPEND, TEXT_RESIZE, HANDLE_LINES}
-use Rattle.heap_memory.specs.HeapRoutines.{IsBesideHeap}
+use Rattle.heap_memory.specs.declared.numbers.TheConstants.{TEXT_JOIN, TEXT_OF_NUMBER, HEAP_DATA, APPEND_LINES, DIGITS_LINES, MOVE_BYTE}
+use Rattle.heap_memory.specs.HeapState.{IsHeap}
 use Rattle.heap_memory.specs.TextRoutines.{Comparing, MayCompare, orders}
-use Rattle.heap_memory.specs.GrowRoutine.{Growing, place_of, holds_it, may_grow, MayGrow, kept_of}
+use Rattle.heap_memory.specs.GrowRoutine.{Growing, NewBlock, new_growth, place_of, holds_it, may_grow, MayGrow, kept_of, grow_work}
 use Rattle.heap_memory.specs.AppendRoutine.{IsFilled, source_at, source_bytes, Appending, appended, MayAppend, appends, resizes}
+use Rattle.heap_memory.specs.AppendRoutine.{Joining, joined, joining_growth, MayJoin, joins}
 
 -- ---- handles
 
@@ -93,17 +99,27 @@ pub record Putting : Type 0 where
   pub growth : Growing
   pub bytes : List ℕ
 
+-- all beside the heap and the data of its routines is as it was
+pub record IsBesideData (at : ℕ) (m other : Memory) : Type 0 where
+  pub sizes : KeepsSizes (as_state m) (as_state other)
+  pub beside : (b n : ℕ) → Beside b n at HEAP_DATA → Beside b n heap_at (length m.heap) → bytes_at other b n ≡ bytes_at m b n
+
 -- The block stands in the middle, where nothing beside the heap is other than before; behind that only the handle is put.
 pub record AreContentsPut (at : ℕ) (u : Putting) (m other : Memory) : Type 0 where
   pub middle : Memory
   pub place : ℕ
-  pub rest : IsBesideHeap at m middle
+  pub rest : IsBesideData at m middle
   pub filled : IsFilled (holds_it u.growth.present u.growth.wanted) at u.growth u.bytes middle place
   pub put : IsHandlePut middle other u.to u.length place
 
+-- or the same blocks stand as before
+pub record AreBlocksKept (at : ℕ) (u : Growing) (m other : Memory) : Type 0 where
+  pub rest : IsBesideData at m other
+  pub heap : IsHeap at u.classes u.stands other
+
 abbrev pub PutLeaves : (grows : Bool) → (at : ℕ) → Putting → (m other : Memory) → Type 0
 PutLeaves true at u m other = AreContentsPut at u m other
-PutLeaves false at u m other = other ≡ m
+PutLeaves false at u m other = AreBlocksKept at u.growth m other
 
 -- the word that is given, by the place that the handle has
 pub record IsOfPlace (u : Putting) (word_for : (place : ℕ) → ℕ) (other : Memory) (word : ℕ) : Type 0 where
@@ -158,6 +174,54 @@ pub record MayCopyText (at : ℕ) (u : AppendingText) (m : Memory) : Type 0 wher
 abbrev pub copies_text : (at : ℕ) → Routine
 copies_text at = puts at TEXT_COPY AppendingText (λ u. u.to ∷ u.from ∷ []) (λ u m. MayCopyText at u m) appended_text
     (λ u place. place) (λ u. HANDLE_LINES + (appends at).lines u.appending)
+
+-- ---- a text is made of two
+
+-- where its handle goes, and the addresses of theirs
+pub record JoiningTexts : Type 0 where
+  pub to : ℕ
+  pub left : ℕ
+  pub right : ℕ
+  pub joining : Joining
+
+abbrev pub joined_text : JoiningTexts → Putting
+joined_text u =
+    record { to = u.to; length = (joining_growth u.joining).wanted; growth = joining_growth u.joining; bytes = joined u.joining }
+
+pub record MayJoinTexts (at : ℕ) (u : JoiningTexts) (m : Memory) : Type 0 where
+  pub left : HasHandle m u.left (length (source_bytes u.joining.first)) (source_at u.joining.first)
+  pub right : HasHandle m u.right (length (source_bytes u.joining.second)) (source_at u.joining.second)
+  pub has : MayHave m u.to
+  pub joining : MayJoin at u.joining m
+
+abbrev pub joins_texts : (at : ℕ) → Routine
+joins_texts at = puts at TEXT_JOIN JoiningTexts (λ u. u.to ∷ u.left ∷ u.right ∷ []) (λ u m. MayJoinTexts at u m) joined_text
+    (λ u place. place) (λ u. HANDLE_LINES + (joins at).lines u.joining)
+
+-- ---- a text is made of a number
+
+-- its word
+pub record NumberText : Type 0 where
+  pub to : ℕ
+  pub word : ℕ
+  pub new : NewBlock
+
+abbrev pub characters_of : NumberText → List ℕ
+characters_of u = signed_decimal (signed u.word)
+
+abbrev pub number_text : NumberText → Putting
+number_text u =
+    record { to = u.to; length = length (characters_of u); growth = new_growth u.new (length (characters_of u)); bytes = characters_of u }
+
+pub record MayPutNumber (at : ℕ) (u : NumberText) (m : Memory) : Type 0 where
+  pub word : u.word < 2 ^ 32
+  pub has : MayHave m u.to
+  pub growth : MayGrow at (new_growth u.new (length (characters_of u))) m
+
+abbrev pub puts_number : (at : ℕ) → Routine
+puts_number at = puts at TEXT_OF_NUMBER NumberText (λ u. u.to ∷ u.word ∷ []) (λ u m. MayPutNumber at u m) number_text (λ u place. place)
+    (λ u. HANDLE_LINES + (DIGITS_LINES + (DIGIT_LINES * (length (characters_of u) - 1) + (APPEND_LINES
+    + (grow_work (new_growth u.new (length (characters_of u))) + MOVE_BYTE * length (characters_of u))))))
 
 -- ---- a text gets another length
 

@@ -9,7 +9,7 @@ use Rattle.rv32_isa.specs.Image.{statics_at, heap_at}
 use Rattle.rv32_isa.specs.Words.{little}
 use Rattle.word_code.specs.Memory.{Memory, number_at, bytes_at, own_data_at}
 use Rattle.word_code.specs.RoutineTable.{trap_line}
-use Rattle.heap_memory.specs.declared.numbers.TheConstants.{HEAP_WORD_BYTES}
+use Rattle.heap_memory.specs.declared.numbers.TheConstants.{HEAP_WORD_BYTES, HEAP_DATA}
 use Rattle.heap_memory.specs.HeapBlocks.{size_at, Holder, Nobody, Held, Block, AreBlocks, all_bytes, all_size, block_in}
 
 -- ---- blocks by their identities
@@ -101,11 +101,11 @@ pub record AreKept (classes : List Class) (stands : Stands) (blocks : List Block
 
 -- ---- memory
 
--- The heap's words and the line of its trap stand at an address in the data of routines.
+-- The heap's words, the line of its trap and scratch bytes stand at an address in the data of routines.
 pub record HasHeapData (at : ℕ) (m : Memory) : Type 0 where
   pub whole : at % 4 ≡ 0
   pub low : own_data_at ≤ at
-  pub high : at + (HEAP_WORD_BYTES + length (trap_line OutOfMemory)) ≤ statics_at + length m.statics
+  pub high : at + HEAP_DATA ≤ statics_at + length m.statics
   pub line : bytes_at m (at + HEAP_WORD_BYTES) (length (trap_line OutOfMemory)) ≡ Some (trap_line OutOfMemory)
 
 -- So memory is where so many blocks of each size are and were live, and these stand: the heap has blocks, and zeros behind them. Its words are

@@ -5,7 +5,7 @@ use Rattle.nim_meaning.specs.Heap.{Class, size_count}
 use Rattle.rv32_isa.specs.Image.{statics_at, heap_at}
 use Rattle.word_code.specs.Memory.{Memory, bytes_at, may_fill}
 use Rattle.word_code.specs.RoutineTable.{Beside}
-use Rattle.heap_memory.specs.declared.numbers.TheConstants.{HEAP_DATA}
+use Rattle.heap_memory.specs.declared.numbers.TheConstants.{HEAP_SCRATCH}
 use Rattle.heap_memory.specs.HeapBlocks.{size_at}
 use Rattle.heap_memory.specs.HeapState.{Standing, Stands, with_block, IsHeap}
 
@@ -29,8 +29,8 @@ pub record IsRefilled (at : ℕ) (classes : List Class) (stands : Stands) (k : �
   pub long : length payload ≡ length s.payload
   pub heap : IsHeap at classes (with_block stands k (record s { payload = payload })) other
 
--- a range in which nothing belongs to the heap
+-- a range in which nothing belongs to the heap; it may be that of the scratch bytes
 pub record IsElsewhere (at : ℕ) (m : Memory) (a n : ℕ) : Type 0 where
   pub heap : Beside heap_at (length m.heap) a n
-  pub words : Beside at HEAP_DATA a n
+  pub words : Beside at HEAP_SCRATCH a n
   pub room : Beside statics_at 4 a n

@@ -9,4 +9,5 @@ pub mod AppendRoutine
 pub mod LineRoutine
 pub mod HandleRoutines
 pub mod SequenceRoutines
+pub mod TextReading
 pub mod HeapRuntime

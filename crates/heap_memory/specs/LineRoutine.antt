@@ -115,9 +115,16 @@ block_of_class (Some class) identity place payload = Some (record { identity = i
 abbrev pub block_under_way : (first place : ℕ) → List ℕ → UnderWay → Option Owned
 block_under_way first place payload w = block_of_class w.class (first + w.takes - 1) place payload
 
+-- its block, if it has one, has room for so many characters, and an identity of its own
+abbrev pub HasBlock : (class : Option ℕ) → (long takes : ℕ) → (payload : List ℕ) → Type 0
+HasBlock None long takes payload = long ≡ 0
+HasBlock (Some class) long takes payload = (long ≤ length payload) × (1 ≤ takes)
+
 -- It stands there, with these characters.
 pub record IsUnderWay (at : ℕ) (u : Reading) (w : UnderWay) (text : List ℕ) (other : Memory) (place : ℕ) : Type 0 where
   pub payload : List ℕ
+  pub long : length text ≡ w.length
+  pub has : HasBlock w.class w.length w.takes payload
   pub front : take (length text) payload ≡ text
   pub there : place_of (block_under_way u.first place payload w) ≡ place
   pub heap : IsHeap at w.classes (with_owned (block_under_way u.first place payload w) u.stands) other

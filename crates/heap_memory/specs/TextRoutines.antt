@@ -1,5 +1,5 @@
 -- Routines on the bytes of texts: a row for each, with all that it promises.
-use Rattle.std.specs.Prelude.{◌≡◌, ◌<◌, ℕ, ◌+◌, ◌-◌, ◌*◌, ◌^◌, List, [], ◌∷◌, length, Some, None, true}
+use Rattle.std.specs.Prelude.{◌≡◌, ◌<◌, ◌≤◌, ℕ, ◌+◌, ◌-◌, ◌*◌, ◌^◌, List, [], ◌∷◌, length, Some, None, true}
 use Rattle.std.specs.Fmt.{signed_decimal}
 use Rattle.nim_meaning.specs.OwnedRows.{order}
 use Rattle.word_code.specs.declared.routine.TheConstants.{SCRATCH_BYTES, DIGIT_LINES}
@@ -61,6 +61,7 @@ spelled u = signed_decimal (signed u.word)
 -- The text begins at a place, and ends with those bytes.
 pub record IsSpelled (u : Spelling) (other : Memory) (place : ℕ) : Type 0 where
   pub are : AreBytes (spelled u)
+  pub low : u.to ≤ place
   pub ends : place + length (spelled u) ≡ u.to + SCRATCH_BYTES
   pub there : bytes_at other place (length (spelled u)) ≡ Some (spelled u)
 

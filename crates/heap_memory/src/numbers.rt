@@ -32,13 +32,16 @@ pub const CLASS_LINES: u32 = 9;
 pub const FURTHER_LINES: u32 = 4;
 
 /// How many lines and procedures the heap's routines have.
-pub const HEAP_WEIGHT: u32 = 370;
+pub const HEAP_WEIGHT: u32 = 445;
 
 /// How many of their calls may stand in a chain.
 pub const HEAP_CHAIN: u32 = 4;
 
 /// How many bytes of data they have.
-pub const HEAP_DATA: u32 = 116;
+pub const HEAP_DATA: u32 = 128;
+
+/// Where in it their scratch bytes begin, behind the heap's words and the line of its trap.
+pub const HEAP_SCRATCH: u32 = 116;
 
 /// Copies bytes.
 pub const MOVE: u32 = 16;
@@ -103,35 +106,50 @@ pub const LINE_LINES: u32 = 23;
 /// The lines for each character, beside those of the growth.
 pub const CHAR_LINES: u32 = 20;
 
+/// Makes a text of two others.
+pub const JOIN: u32 = 24;
+
+/// The lines of it, with the call, beside those of the growth and for each byte.
+pub const JOIN_LINES: u32 = 44;
+
 /// Compares the texts of two handles.
-pub const TEXT_ORDER: u32 = 24;
+pub const TEXT_ORDER: u32 = 25;
 
 /// Writes the text of a handle.
-pub const TEXT_WRITE: u32 = 25;
+pub const TEXT_WRITE: u32 = 26;
 
 /// Puts a copy of a handle's text to an address.
-pub const TEXT_COPY: u32 = 26;
+pub const TEXT_COPY: u32 = 27;
 
 /// Puts the text of a handle behind that of another one.
-pub const TEXT_APPEND: u32 = 27;
+pub const TEXT_APPEND: u32 = 28;
 
 /// Gives the text of a handle another length.
-pub const TEXT_RESIZE: u32 = 28;
+pub const TEXT_RESIZE: u32 = 29;
 
-/// The lines of a routine on handles, with the call, beside those of the routine that it calls.
-pub const HANDLE_LINES: u32 = 16;
+/// Puts a text to an address that two handles' texts make.
+pub const TEXT_JOIN: u32 = 30;
+
+/// Puts the text of a number to an address.
+pub const TEXT_OF_NUMBER: u32 = 31;
+
+/// Reads a line of the input into the text of a handle.
+pub const TEXT_READ: u32 = 32;
+
+/// The lines of a routine on handles, with the call, beside those of the routines that it calls.
+pub const HANDLE_LINES: u32 = 17;
 
 /// Puts a new sequence to an address.
-pub const SEQ_NEW: u32 = 29;
+pub const SEQ_NEW: u32 = 33;
 
 /// Makes room for one more element in the sequence of a handle.
-pub const SEQ_ADD: u32 = 30;
+pub const SEQ_ADD: u32 = 34;
 
 /// Gives the sequence of a handle another length.
-pub const SEQ_RESIZE: u32 = 31;
+pub const SEQ_RESIZE: u32 = 35;
 
 /// Takes the last element from the sequence of a handle.
-pub const SEQ_POP: u32 = 32;
+pub const SEQ_POP: u32 = 36;
 
 /// The lines of a routine that counts the bytes of elements, with the call, beside those of the routine that it calls.
 pub const SEQUENCE_LINES: u32 = 20;

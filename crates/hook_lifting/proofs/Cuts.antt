@@ -1,12 +1,12 @@
 -- A sequence is made shorter.
-use Rattle.std.proofs.Common.{◌≡◌, ℕ, zero, suc, ◌+◌, ◌*◌, false, List, [], ◌∷◌, Option, Some, None, refl, sym, ap, ◌∙◌, arith}
+use Rattle.std.proofs.Common.{◌≡◌, ℕ, zero, suc, ◌+◌, ◌*◌, false, List, [], ◌∷◌, Some, None, refl, sym, ap, ◌∙◌, arith}
 use Rattle.std.specs.Prelude.{◌-◌, ℤ, pos, unsigned_abs}
 use Rattle.nim_types.specs.Forms.{Form}
-use Rattle.nim_meaning.specs.Heap.{Contents, Elements}
+use Rattle.nim_meaning.specs.Heap.{Elements}
 use Rattle.nim_meaning.specs.Values.{Value, Number, Handle, number_of, block_of, first_of, length_of, item_of, Location}
 use Rattle.nim_meaning.specs.State.{World, load, elements_of}
-use Rattle.nim_meaning.specs.Deeds.{Deed, Works, Stores, changed, perform, ◌>>◌, ◌>>=◌, give, costs, looks}
-use Rattle.nim_meaning.specs.Lifted.{ends_at, each_element, refills}
+use Rattle.nim_meaning.specs.Deeds.{Deed, Works, perform, ◌>>◌, ◌>>=◌, give, costs, looks, sees, sets, refills}
+use Rattle.nim_meaning.specs.Lifted.{ends_at, each_element}
 use Rattle.nim_meaning.specs.OwnedRows.{cut}
 use Rattle.flat_code.specs.declared.line.Line.TheVariants as L
 use Rattle.flat_code.specs.Scene.{Known, Did, Passes, Temps, with_value}
@@ -16,15 +16,10 @@ use Rattle.hook_lifting.specs.declared.lifted.LiftedLine.{LiftedLine}
 use Rattle.hook_lifting.specs.declared.lifted.LiftedLine.TheVariants as O
 use Rattle.hook_lifting.specs.Lifted.{turn_lines, cut_lines}
 use Rattle.hook_lifting.specs.Lifting.{hook_deed, does_by, place_and_count}
-use Rattle.hook_lifting.proofs.Deeds.{Tame}
-use Rattle.hook_lifting.proofs.Follows.{at, scene, Follows, weaker, alike, goes, does_last, returns}
+use Rattle.hook_lifting.proofs.Follows.{at, scene, Follows, weaker, alike, goes, does, looks_first, does_last, returns}
 use Rattle.hook_lifting.proofs.Loops.{keeps_none, keeps_number, each_of, test_follows}
 use Rattle.hook_lifting.proofs.Steps.{element_leads}
-use Rattle.hook_lifting.proofs.Walks.{ok_hook}
-
-ok_refills : (k : Option ℕ) (contents : Contents) → Tame false (λ u. Unit {0}) (refills k contents)
-ok_refills None contents = tt
-ok_refills (Some k) contents = tt
+use Rattle.hook_lifting.proofs.Walks.{ok_hook, ok_sets, ok_refills}
 
 module _ (known : Known) (level of : ℕ) (place : Location) (n : ℕ) (world : World) where
   abbrev form : Form
@@ -62,11 +57,11 @@ module _ (known : Known) (level of : ℕ) (place : Location) (n : ℕ) (world : 
       let is_it : does_by known x (O.Forget 6 8) ≡ Passes (perform (Works 1 forgets >>= (λ u. give now)) new) =
       ap (λ o. using o (λ v. using_number now 8 (λ z. act v z))) has ∙ ap (λ o. using o (λ u. act v (number_of u))) counted in
       does_last known lines level false 1 (O.Forget 6 8) last now new forgets is_it
-      (λ world. ok_refills (block_of v) (Elements (first_of n (elements_of world v)))) (λ new. returns known lines level [] now new)
+      (λ world. ok_refills false (block_of v) (Elements (first_of n (elements_of world v)))) (λ new. returns known lines level [] now new)
 
-  pub cut_follows : Follows known (13 + 5 * (length_of v - n)) 0 (perform (cut form n place v) world) (at lines level lines (place_and_count place n) world)
+  pub cut_follows : Follows known (13 + 5 * (length_of v - n)) 0 (perform (sees place (λ world v. cut form n place v)) world)
+      (at lines level lines (place_and_count place n) world)
   cut_follows =
-      let world1 = changed (Stores place (Handle n (block_of v))) world in
       let temps1 = with_value 6 (place_and_count place n) v in
       let temps2 = with_value 5 temps1 (Number (pos (length_of v))) in
       let temps3 = with_value 4 temps2 (Number (pos n)) in
@@ -74,9 +69,13 @@ module _ (known : Known) (level of : ℕ) (place : Location) (n : ℕ) (world : 
       let behind1 = O.Plain (L.Beyond 4 5 false 0) ∷ turns in
       let l : ℕ = length_of v - n in
       weaker {p = 1 + (1 + (1 + (1 + (1 + (5 * l + 3)))))} {q = 0} (omega arith) (omega arith)
-      (goes 1 (at lines level (O.Shorten 0 6 8 ∷ O.Count 5 6 ∷ O.Copy 4 8 ∷ behind1) temps1 world) refl
-      (goes 1 (at lines level (O.Count 5 6 ∷ O.Copy 4 8 ∷ behind1) temps1 world1) refl
-      (goes 1 (at lines level (O.Copy 4 8 ∷ behind1) temps2 world1) refl
+      (looks_first known lines level (O.Load 6 0) (O.Shorten 0 6 8 ∷ O.Count 5 6 ∷ O.Copy 4 8 ∷ behind1) (place_and_count place n) world place
+      (λ v. with_value 6 (place_and_count place n) v) (λ v. cut form n place v) refl
+      (does known lines level false (λ u. Unit {0}) 1 (O.Shorten 0 6 8) (O.Count 5 6 ∷ O.Copy 4 8 ∷ behind1) temps1 world
+      (sets place (Handle n (block_of v))) (λ u. temps1) (λ u. each_element l (λ to from. ends_at form to) n v place v place >> forgets) refl
+      (ok_sets false place (Handle n (block_of v)))
+      (λ u ok world1.
+      goes 1 (at lines level (O.Copy 4 8 ∷ behind1) temps2 world1) refl
       (goes 1 (at lines level behind1 temps3 world1) refl
       (alike (each_element l (λ to from. ends_at form to) n v place v place >> forgets) (each_of ends_one l n >> forgets) world1
       (λ world. ap (λ (d : Deed (Unit {0})). perform (d >> forgets) world) (sym (each_is l n)))

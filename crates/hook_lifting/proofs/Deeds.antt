@@ -1,10 +1,11 @@
--- What deeds come to: one behind another, and that they neither end the run nor err but for want of heap.
+-- What deeds come to: one behind another, and that they don't end the run but for want of heap.
 use Rattle.std.proofs.Common.{◌≡◌, ℕ, ◌+◌, Bool, true, false, List, [], ◌++◌, length, refl, sym, ap, ap₂, ◌∙◌, append_assoc, append-nil, add_assoc, arith}
 use Rattle.arc_base.specs.Event.{Event}
 use Rattle.nim_meaning.specs.Heap.{has_room}
-use Rattle.nim_meaning.specs.State.{World}
+use Rattle.nim_meaning.specs.Values.{Value, Location}
+use Rattle.nim_meaning.specs.State.{World, load, is_seen}
 use Rattle.nim_meaning.specs.Deeds.{changed, with_block, Deed, Gives, Ends, Errs, Works, Says, Looks, Changes, Takes, give}
-use Rattle.nim_meaning.specs.Deeds.{Done, Answers, Finishes, Fails, behind, took, perform, ◌>>=◌, ◌>>◌}
+use Rattle.nim_meaning.specs.Deeds.{Done, Answers, Finishes, Fails, behind, took, perform, ◌>>=◌, ◌>>◌, unless_gone, sees}
 
 -- ---- one behind another
 
@@ -90,12 +91,31 @@ ended_done (Fails es n world) = refl
 pub nothing_later : (deed : Deed (Unit {0})) → Same (deed >> give tt) deed
 nothing_later deed world = performs_then deed (λ u. give tt) world ∙ ended_done (perform deed world)
 
--- ---- neither the end of the run, but for want of heap where a block is taken, nor an error; something holds of answers
+-- ---- what looks at a location, behind which comes something more
+
+gone_then : {A B : Type 0} (there : Bool) (deed : Deed A) (rest : A → Deed B) → Same (unless_gone there deed >>= rest) (unless_gone there (deed >>= rest))
+gone_then true deed rest world = refl
+gone_then false deed rest world = refl
+
+gone_same : {A : Type 0} (there : Bool) (a b : Deed A) → Same a b → Same (unless_gone there a) (unless_gone there b)
+gone_same true a b same = same
+gone_same false a b same = λ world. refl
+
+pub sees_then : {A B : Type 0} (location : Location) (go : World → Value → Deed A) (rest : A → Deed B) →
+    Same (sees location go >>= rest) (sees location (λ world v. go world v >>= rest))
+sees_then location go rest world = gone_then (is_seen world location) (go world (load world location)) rest world
+
+pub sees_same : {A : Type 0} (location : Location) (go other : World → Value → Deed A) → ((world : World) (v : Value) → Same (go world v) (other world v)) →
+    Same (sees location go) (sees location other)
+sees_same location go other same world =
+    gone_same (is_seen world location) (go world (load world location)) (other world (load world location)) (same world (load world location)) world
+
+-- ---- no end of the run, but for want of heap where a block is taken; something holds of answers
 
 abbrev pub Tame : {A : Type 0} → (takes : Bool) → (A → Type 0) → Deed A → Type 0
 Tame takes Q (Gives x) = Q x
 Tame takes Q (Ends status) = ⊥
-Tame takes Q Errs = ⊥
+Tame takes Q Errs = Unit {0}
 Tame takes Q (Works n rest) = Tame takes Q rest
 Tame takes Q (Says es rest) = Tame takes Q rest
 Tame takes Q (Looks rest) = (world : World) → Tame takes Q (rest world)
@@ -109,7 +129,7 @@ pub tame_then : {A B : Type 0} (takes : Bool) (P : A → Type 0) (Q : B → Type
     ((x : A) → P x → Tame takes Q (rest x)) → Tame takes Q (deed >>= rest)
 tame_then takes P Q (Gives x) rest h g = g x h
 tame_then takes P Q (Ends status) rest h g = absurd h
-tame_then takes P Q Errs rest h g = absurd h
+tame_then takes P Q Errs rest h g = tt
 tame_then takes P Q (Works n deed) rest h g = tame_then takes P Q deed rest h g
 tame_then takes P Q (Says es deed) rest h g = tame_then takes P Q deed rest h g
 tame_then takes P Q (Looks deed) rest h g = λ world. tame_then takes P Q (deed world) rest (h world) g
@@ -119,7 +139,7 @@ tame_then takes P Q (Takes class contents deed) rest h g = (h.0, λ k. tame_then
 abbrev pub TameDone : {A : Type 0} → Bool → (A → Type 0) → Done A → Type 0
 TameDone takes Q (Answers es n x world) = Q x
 TameDone takes Q (Finishes es n status world) = (takes ≡ true) × (status ≡ 1)
-TameDone takes Q (Fails es n world) = ⊥
+TameDone takes Q (Fails es n world) = Unit {0}
 
 module _ {A : Type 0} (takes : Bool) (Q : A → Type 0) where
   tame_behind : (es : List Event) (n : ℕ) (d : Done A) → TameDone takes Q d → TameDone takes Q (behind es n d)
@@ -134,7 +154,7 @@ module _ {A : Type 0} (takes : Bool) (Q : A → Type 0) where
   pub tame_done : (deed : Deed A) → Tame takes Q deed → (world : World) → TameDone takes Q (perform deed world)
   tame_done (Gives x) h world = h
   tame_done (Ends status) h world = absurd h
-  tame_done Errs h world = absurd h
+  tame_done Errs h world = tt
   tame_done (Works n rest) h world = tame_behind [] n (perform rest world) (tame_done rest h world)
   tame_done (Says es rest) h world = tame_behind es 0 (perform rest world) (tame_done rest h world)
   tame_done (Looks rest) h world = tame_done (rest world) (h world) world

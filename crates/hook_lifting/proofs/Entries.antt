@@ -46,7 +46,7 @@ near_alike p (Answers gs m x w) None h = absurd h
 near_alike p (Finishes gs m x w) (Some (Answers hs j y v)) h = absurd h
 near_alike p (Finishes gs m x w) (Some (Fails hs j v)) h = absurd h
 near_alike p (Finishes gs m x w) None h = absurd h
-near_alike p (Fails gs m w) came h = absurd h
+near_alike p (Fails gs m w) came h = tt
 
 module _ (table : List TypeDef) where
   abbrev known : Known

@@ -1,12 +1,13 @@
 -- How the lines of a hook follow deeds.
-use Rattle.std.proofs.Common.{◌≡◌, ℕ, zero, suc, ◌+◌, ◌*◌, ◌≤◌, Bool, false, List, [], ◌∷◌, ◌++◌, Option, Some, None, refl, sym, ap, ap₂, ◌∙◌, subst}
+use Rattle.std.proofs.Common.{◌≡◌, ℕ, zero, suc, ◌+◌, ◌*◌, ◌≤◌, Bool, true, false, List, [], ◌∷◌, ◌++◌, Option, Some, None, refl, sym, ap, ap₂, ◌∙◌, subst}
 use Rattle.std.proofs.Common.{append-nil, arith}
 use Rattle.std.proofs.lemmas.Bool.{false≢true}
 use Rattle.std.specs.Prelude.{option_map}
 use Rattle.arc_base.specs.Event.{Event}
 use Rattle.arc_base.specs.Stepping.{Goes}
-use Rattle.nim_meaning.specs.State.{World}
-use Rattle.nim_meaning.specs.Deeds.{Deed, Works, Done, Answers, Finishes, Fails, behind, perform, ◌>>=◌, give}
+use Rattle.nim_meaning.specs.Values.{Value, Location}
+use Rattle.nim_meaning.specs.State.{World, load, is_seen}
+use Rattle.nim_meaning.specs.Deeds.{Deed, Works, Done, Answers, Finishes, Fails, behind, perform, ◌>>=◌, give, unless_gone, sees}
 use Rattle.flat_code.specs.declared.line.Line.TheVariants as L
 use Rattle.flat_code.specs.Scene.{Known, Scene, Passes, Temps}
 use Rattle.flat_code.specs.Running.{Machine, settled}
@@ -22,6 +23,7 @@ M = Machine LiftedLine
 abbrev pub Near : (p q : ℕ) → Done (Unit {0}) → Option (Done (Unit {0})) → Type 0
 Near p q (Answers es n x world) (Some (Answers fs m y other)) = (fs ≡ es) × (other ≡ world) × (m + q ≤ 3 * n + p)
 Near p q (Finishes es n status world) (Some (Finishes fs m other left)) = (fs ≡ es) × (other ≡ status) × (m ≤ 3 * n + p)
+Near p q (Fails es n world) came = Unit {0}
 Near p q d came = ⊥
 
 -- ---- behind what was shown and worked before
@@ -36,7 +38,7 @@ near_behind p q c es fs n k e le (Answers gs m x w) None h = absurd h
 near_behind p q c es fs n k e le (Finishes gs m x w) (Some (Answers hs j y v)) h = absurd h
 near_behind p q c es fs n k e le (Finishes gs m x w) (Some (Fails hs j v)) h = absurd h
 near_behind p q c es fs n k e le (Finishes gs m x w) None h = absurd h
-near_behind p q c es fs n k e le (Fails gs m w) came h = absurd h
+near_behind p q c es fs n k e le (Fails gs m w) came h = tt
 
 near_later : (p q c : ℕ) (d : Done (Unit {0})) (came : Option (Done (Unit {0}))) → Near p q d came → Near (c + p) q d (option_map (behind [] c) came)
 near_later p q c (Answers gs m x w) (Some (Answers hs j y v)) h = (h.0, h.1, omega (arith, h.2))
@@ -47,7 +49,7 @@ near_later p q c (Answers gs m x w) None h = absurd h
 near_later p q c (Finishes gs m x w) (Some (Answers hs j y v)) h = absurd h
 near_later p q c (Finishes gs m x w) (Some (Fails hs j v)) h = absurd h
 near_later p q c (Finishes gs m x w) None h = absurd h
-near_later p q c (Fails gs m w) came h = absurd h
+near_later p q c (Fails gs m w) came h = tt
 
 near_earned : (p q c : ℕ) (d : Done (Unit {0})) (came : Option (Done (Unit {0}))) → Near (3 * c + p) q d came → Near p q (behind [] c d) came
 near_earned p q c (Answers gs m x w) (Some (Answers hs j y v)) h = (h.0, h.1, omega (arith, h.2))
@@ -58,7 +60,7 @@ near_earned p q c (Answers gs m x w) None h = absurd h
 near_earned p q c (Finishes gs m x w) (Some (Answers hs j y v)) h = absurd h
 near_earned p q c (Finishes gs m x w) (Some (Fails hs j v)) h = absurd h
 near_earned p q c (Finishes gs m x w) None h = absurd h
-near_earned p q c (Fails gs m w) came h = absurd h
+near_earned p q c (Fails gs m w) came h = tt
 
 near_weaker : (p q p' q' : ℕ) → p ≤ p' → q' ≤ q → (d : Done (Unit {0})) (came : Option (Done (Unit {0}))) → Near p q d came → Near p' q' d came
 near_weaker p q p' q' less more (Answers gs m x w) (Some (Answers hs j y v)) h = (h.0, h.1, omega (arith, h.2, less, more))
@@ -69,7 +71,7 @@ near_weaker p q p' q' less more (Answers gs m x w) None h = absurd h
 near_weaker p q p' q' less more (Finishes gs m x w) (Some (Answers hs j y v)) h = absurd h
 near_weaker p q p' q' less more (Finishes gs m x w) (Some (Fails hs j v)) h = absurd h
 near_weaker p q p' q' less more (Finishes gs m x w) None h = absurd h
-near_weaker p q p' q' less more (Fails gs m w) came h = absurd h
+near_weaker p q p' q' less more (Fails gs m w) came h = tt
 
 near_shifted : (p q c : ℕ) (d : Done (Unit {0})) (came : Option (Done (Unit {0}))) → Near p q d came → Near (c + p) (c + q) d came
 near_shifted p q c (Answers gs m x w) (Some (Answers hs j y v)) h = (h.0, h.1, omega (arith, h.2))
@@ -80,7 +82,7 @@ near_shifted p q c (Answers gs m x w) None h = absurd h
 near_shifted p q c (Finishes gs m x w) (Some (Answers hs j y v)) h = absurd h
 near_shifted p q c (Finishes gs m x w) (Some (Fails hs j v)) h = absurd h
 near_shifted p q c (Finishes gs m x w) None h = absurd h
-near_shifted p q c (Fails gs m w) came h = absurd h
+near_shifted p q c (Fails gs m w) came h = tt
 
 -- what is left at the end pays for what came before, where the run doesn't end inside
 near_paid : (p q c : ℕ) (Q : Unit {0} → Type 0) (d : Done (Unit {0})) → TameDone false Q d → (came : Option (Done (Unit {0}))) →
@@ -90,7 +92,7 @@ near_paid p q c Q (Answers gs m x w) ok (Some (Finishes hs j y v)) h = absurd h
 near_paid p q c Q (Answers gs m x w) ok (Some (Fails hs j v)) h = absurd h
 near_paid p q c Q (Answers gs m x w) ok None h = absurd h
 near_paid p q c Q (Finishes gs m x w) ok came h = absurd (false≢true ok.0)
-near_paid p q c Q (Fails gs m w) ok came h = absurd ok
+near_paid p q c Q (Fails gs m w) ok came h = tt
 
 -- before these lines, of all those of a hook
 abbrev pub at : (whole : List LiftedLine) → (level : ℕ) → List LiftedLine → Temps → World → M
@@ -181,7 +183,32 @@ module _ (known : Known) (whole : List LiftedLine) (level : ℕ) where
             (subst (λ d. Near (c + p) q d (Some (Finishes es (c + n) (suc status) world))) (sym (meant (Finishes es n (suc status) new) e))
             (refl, refl, omega arith));
       }
-      on (Fails es n new) e ok = absurd ok
+      on (Fails es n new) e ok =
+          record { count = 0; near = subst (λ d. Near (c + p) q d (comes_to known 0 m)) (sym (meant (Fails es n new) e)) tt }
+
+  -- one that gets the value at a location, which is looked at
+  pub looks_first : {p q : ℕ} (line : LiftedLine) (k : List LiftedLine) (temps : Temps) (world : World) (location : Location) (temps_of : Value → Temps)
+      (go : Value → Deed (Unit {0})) →
+      does_by known (scene level temps world) line ≡ Passes (perform (Works 1 (sees location (λ world v. give v)) >>= (λ v. give (temps_of v))) world) →
+      Follows known p q (perform (go (load world location)) world) (at whole level k (temps_of (load world location)) world) →
+      Follows known (1 + p) q (perform (sees location (λ world v. go v)) world) (at whole level (line ∷ k) temps world)
+  looks_first {p} {q} line k temps world location temps_of go is more = on (is_seen world location) refl
+    where
+      v : Value
+      v = load world location
+
+      m : M
+      m = at whole level (line ∷ k) temps world
+
+      Comes : Bool → Type 0
+      Comes there = Follows known (1 + p) q (perform (unless_gone there (go v)) world) m
+
+      on : (there : Bool) → is_seen world location ≡ there → Comes (is_seen world location)
+      on true e =
+          subst Comes (sym e) (goes 1 (at whole level k (temps_of v) world)
+          (ap (λ did. settled label_of (does_by known) [] m k did)
+          (is ∙ ap (λ there. Passes (perform (Works 1 (unless_gone there (give v)) >>= (λ v. give (temps_of v))) world)) e)) more)
+      on false e = subst Comes (sym e) (record { count = 0; near = tt })
 
   -- the last of its deeds
   pub does_last : {p q : ℕ} (takes : Bool) (c : ℕ) (line : LiftedLine) (k : List LiftedLine) (temps : Temps) (world : World) (deed : Deed (Unit {0})) →

@@ -8,12 +8,10 @@ use Rattle.nim_types.specs.declared.types.TypeDef.{TypeDef}
 use Rattle.nim_meaning.specs.Heap.{Elements, class_for}
 use Rattle.nim_meaning.specs.Values.{Value, Number, Handle, Vacant, length_of, item_of, Location, vacant, repeated, block_of}
 use Rattle.nim_meaning.specs.State.{World, load}
-use Rattle.nim_meaning.specs.Deeds.{Deed, Works, Takes, Stores, changed, perform, ◌>>◌, ◌>>=◌, give, costs, looks}
-use Rattle.nim_meaning.specs.Deeds.{does as changes}
-use Rattle.nim_meaning.specs.Lifted.{walk, each_element, fresh, frees, left_vacant, copying, ending}
+use Rattle.nim_meaning.specs.Deeds.{Deed, Works, Takes, perform, ◌>>◌, ◌>>=◌, give, costs, looks, sets, frees}
+use Rattle.nim_meaning.specs.Lifted.{walk, each_element, fresh, left_vacant, copying, copied_elements, ending}
 use Rattle.nim_meaning.specs.OwnedRows.{element_of}
 use Rattle.flat_code.specs.declared.line.Line.TheVariants as L
-use Rattle.flat_code.specs.Running.{settled}
 use Rattle.flat_code.specs.Scene.{Known, Did, Passes, Located, location_at, Temps, with_value}
 use Rattle.flat_code.specs.Lines.{form_in, using, gives, acts}
 use Rattle.hook_lifting.specs.declared.lifted.Hook.{Hook}
@@ -21,12 +19,12 @@ use Rattle.hook_lifting.specs.declared.lifted.Hook.TheVariants.{Copies, Ends}
 use Rattle.hook_lifting.specs.declared.lifted.LiftedLine.{LiftedLine}
 use Rattle.hook_lifting.specs.declared.lifted.LiftedLine.TheVariants as O
 use Rattle.hook_lifting.specs.Lifted.{loop_lines, sequence_lines, has_hooks}
-use Rattle.hook_lifting.specs.Lifting.{walk_of, hook_deed, does_by, label_of, taken_for, both_places}
-use Rattle.hook_lifting.proofs.Deeds.{behind_twice, nothing_later, tame_done}
-use Rattle.hook_lifting.proofs.Follows.{at, scene, Follows, weaker, earns, shifted, pays_back, alike, goes, does, does_last, returns}
+use Rattle.hook_lifting.specs.Lifting.{walk_of, hook_deed, does_by, taken_for, both_places}
+use Rattle.hook_lifting.proofs.Deeds.{behind_twice, nothing_later, regrouped, same_later, tame_done}
+use Rattle.hook_lifting.proofs.Follows.{at, scene, Follows, weaker, earns, shifted, pays_back, alike, goes, does, looks_first, does_last, returns}
 use Rattle.hook_lifting.proofs.Loops.{keeps_none, each_of, loop_follows}
 use Rattle.hook_lifting.proofs.Steps.{element_leads}
-use Rattle.hook_lifting.proofs.Walks.{ok_hook, ok_left, no_ends}
+use Rattle.hook_lifting.proofs.Walks.{ok_hook, ok_left, ok_put, no_ends}
 
 -- ---- what a value takes is four bytes at least
 
@@ -113,7 +111,7 @@ module _ (known : Known) (table : List TypeDef) (level ty of : ℕ) (to from : L
   -- with a new block
   taken_copies : form_in known ty ≡ elements form → (w : Value) (n : ℕ) → length_of w ≡ n → (world : World) →
       Follows known 30 0
-      (perform (fresh n (n * size form) (Elements (repeated n (vacant form))) >>= (λ v. changes (Stores to v) >> elements_of Copies n 0 v to w from)) world)
+      (perform (fresh n (n * size form) (Elements (repeated n (vacant form))) >>= (λ v. sets to v >> elements_of Copies n 0 v to w from)) world)
       (at copies level (O.Take ty 6 0 7 ∷ copying_each) (with_value 7 places w) world)
   taken_copies is w n long world = on n long
     where
@@ -125,36 +123,45 @@ module _ (known : Known) (table : List TypeDef) (level ty of : ℕ) (to from : L
 
       on : (n : ℕ) → length_of w ≡ n →
           Follows known 30 0
-          (perform (fresh n (n * size form) (Elements (repeated n (vacant form))) >>= (λ v. changes (Stores to v) >> elements_of Copies n 0 v to w from)) world)
+          (perform (fresh n (n * size form) (Elements (repeated n (vacant form))) >>= (λ v. sets to v >> elements_of Copies n 0 v to w from)) world)
           (at copies level (O.Take ty 6 0 7 ∷ copying_each) temps world)
       on zero long =
-          let m = at copies level (O.Take ty 6 0 7 ∷ copying_each) temps world in
           let v = Handle 0 None in
           weaker {p = 1 + (5 + 5 * 0)} {q = 0} (omega arith) (omega arith)
-          (goes 1 (at copies level copying_each (with_value 6 temps v) (changed (Stores to v) world))
-          (ap (λ n. settled label_of (does_by known) [] m copying_each (takes (element_of (form_in known ty)) n)) long)
-          (copied_each w 0 long v refl (changed (Stores to v) world)))
+          (alike (sets to v >> elements_of Copies 0 0 v to w from) ((sets to v >> give v) >>= (λ v. elements_of Copies 0 0 v to w from)) world
+          (λ world. sym (regrouped (sets to v) (λ u. give v) (λ v. elements_of Copies 0 0 v to w from) world))
+          (does known copies level true (λ v. length_of v ≡ 0) 1 (O.Take ty 6 0 7) copying_each temps world (sets to v >> give v) (λ v. with_value 6 temps v)
+          (λ v. elements_of Copies 0 0 v to w from) (ap (takes (element_of (form_in known ty))) long)
+          (ok_put true (λ v. length_of v ≡ 0) to v v refl)
+          (λ v same new. copied_each w 0 long v same new)))
       on (suc n) long =
           let b : ℕ = suc n * size form in
           let h : suc n * 4 ≤ b = words (suc n) form in
           let contents = Elements (repeated (suc n) (vacant form)) in
           let takes_it : Deed Value = looks (λ world. Takes (class_for b world.heap.classes) contents (λ k. give (Handle (suc n) (Some k)))) in
-          let puts : Deed Value = takes_it >>= (λ v. changes (Stores to v) >> give v) in
+          let puts : Deed Value = takes_it >>= (λ v. sets to v >> give v) in
+          let each : Value → Deed (Unit {0}) = λ v. elements_of Copies (suc n) 0 v to w from in
           let is_it : takes (element_of (form_in known ty)) (length_of w) ≡ Passes (perform (Works (1 + b) puts >>= (λ v. give (with_value 6 temps v))) world) =
           ap (λ f. takes (element_of f) (length_of w)) is
           ∙ (ap (λ n. takes form n) long ∙ ap (λ d. Passes d) (behind_twice [] [] 1 b (perform (puts >>= (λ v. give (with_value 6 temps v))) world))) in
           earns {p = 30} {q = 0} b
           (weaker {p = 1 + b + (5 + 5 * suc n)} {q = 0} (omega (arith, h)) (omega arith)
+          (alike (takes_it >>= (λ v. sets to v >> each v)) (puts >>= each) world
+          (λ world.
+          sym (regrouped takes_it (λ v. sets to v >> give v) each world
+          ∙ same_later takes_it (λ v. (sets to v >> give v) >>= each) (λ v. sets to v >> each v) (λ v. regrouped (sets to v) (λ u. give v) each) world))
           (does known copies level true (λ v. length_of v ≡ suc n) (1 + b) (O.Take ty 6 0 7) copying_each temps world puts (λ v. with_value 6 temps v)
-          (λ v. elements_of Copies (suc n) 0 v to w from) is_it (λ world. (refl, λ k. refl))
-          (λ v same new. copied_each w (suc n) long v same new)))
+          each is_it
+          (λ world. (refl, λ k. ok_put true (λ v. length_of v ≡ suc n) to (Handle (suc n) (Some k)) (Handle (suc n) (Some k)) refl))
+          (λ v same new. copied_each w (suc n) long v same new))))
 
   pub copies_follow : form_in known ty ≡ elements form → (world : World) →
       Follows known 8 0 (perform (walk copying (elements form) to from) world) (at copies level copies places world)
   copies_follow is world =
       let w = load world from in
       weaker {p = 1 + 7} {q = 0} (omega arith) (omega arith)
-      (goes 1 (at copies level (O.Take ty 6 0 7 ∷ copying_each) (with_value 7 places w) world) refl
+      (looks_first known copies level (O.Load 7 1) (O.Take ty 6 0 7 ∷ copying_each) places world from (λ w. with_value 7 places w)
+      (λ w. costs 8 (copied_elements form (walk copying form) to w from)) refl
       (earns {p = 7} {q = 0} 8 (weaker {p = 30} {q = 0} (omega arith) (omega arith) (taken_copies is w (length_of w) refl world))))
 
   -- ---- ends
@@ -178,7 +185,7 @@ module _ (known : Known) (table : List TypeDef) (level ty of : ℕ) (to from : L
   gives_back is whole v temps world has leads_to =
       let b : ℕ = bytes_of v in
       let x = scene level temps world in
-      let frees_it : Deed (Unit {0}) = changes (Stores to Vacant) >> frees (block_of v) in
+      let frees_it : Deed (Unit {0}) = sets to Vacant >> frees (block_of v) in
       let act : Form → Value → Location → Did = λ f v a. acts x (costs 1 (left_vacant (8 + length_of v * size (element_of f)) a v)) in
       let is_it : does_by known x (O.GiveBack ty 0 6) ≡ Passes (perform (Works (1 + b) frees_it >>= (λ u. give temps)) world) =
       ap (λ o. using o (λ v. using (temps.places 0) (λ place. act (form_in known ty) v (location_at temps place)))) has
@@ -212,7 +219,8 @@ module _ (known : Known) (table : List TypeDef) (level ty of : ℕ) (to from : L
       pays_back {p = 7} {q = 0} (5 * length_of v)
       (tame_done false (λ u. Unit {0}) (walk ending (elements form) to from) (ok_hook Ends (elements form) to from) world)
       (weaker {p = 1 + (1 + (2 + (5 * length_of v + 3)))} {q = 2 * bytes_of v} (omega arith) (omega (arith, h))
-      (goes 1 (at whole level (ending_by true) temps world) refl
+      (looks_first known whole level (O.Load 6 0) (ending_by true) places world to (λ v. with_value 6 places v)
+      (λ v. elements_of Ends (length_of v) 0 v to v to >> left_vacant (bytes_of v) to v) refl
       (goes 1 (at whole level (loop_lines Ends of (O.Element 2 6 0 4) (O.Element 3 6 0 4) giving) now world) refl
       (alike (elements_of Ends (length_of v) 0 v to v to >> rest) (each >> rest) world
       (λ world. ap (λ (d : Deed (Unit {0})). perform (d >> rest) world) (sym (each_is Ends v to v to (length_of v) 0)))
@@ -229,7 +237,8 @@ module _ (known : Known) (table : List TypeDef) (level ty of : ℕ) (to from : L
   ended is false e world =
       let v = load world to in
       let rest : Deed (Unit {0}) = left_vacant (bytes_of v) to v in
-      goes {p = 2} {q = 0} 1 (at (ends_by false) level giving (with_value 6 places v) world) refl
+      looks_first known (ends_by false) level {p = 2} {q = 0} (O.Load 6 0) giving places world to (λ v. with_value 6 places v)
+      (λ v. elements_of Ends (length_of v) 0 v to v to >> left_vacant (bytes_of v) to v) refl
       (alike (elements_of Ends (length_of v) 0 v to v to >> rest) rest world
       (λ world. ap (λ (d : Deed (Unit {0})). perform (d >> rest) world) (no_ends (length_of v) form e 0 v to v to))
       (weaker {p = 2} {q = 2 * bytes_of v} (omega arith) (omega arith) (gives_back is (ends_by false) v (with_value 6 places v) world refl refl)))

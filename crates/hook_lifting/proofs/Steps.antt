@@ -1,5 +1,5 @@
 -- Lines that lead to parts, and the hooks that are a few lines one after another.
-use Rattle.std.proofs.Common.{◌≡◌, ℕ, ◌<◌, true, false, List, [], ◌∷◌, Some, None, refl, ap, ◌∙◌, arith}
+use Rattle.std.proofs.Common.{◌≡◌, ℕ, ◌<◌, true, false, List, [], ◌∷◌, Some, None, refl, sym, ap, ◌∙◌, arith}
 use Rattle.std.specs.Prelude.{ℤ, pos, unsigned_abs, nat_lt, ◌&&◌}
 use Rattle.std.proofs.lemmas.Bool.{le-leb, lt-ltb}
 use Rattle.nim_types.specs.Forms.{Form}
@@ -7,10 +7,10 @@ use Rattle.nim_program.specs.Ints.{inside}
 use Rattle.nim_meaning.specs.Acts.{branch}
 use Rattle.nim_meaning.specs.Values.{Value, Number, number_of, length_of, item_of, deeper, Location, vacant}
 use Rattle.nim_meaning.specs.State.{World, load}
-use Rattle.nim_meaning.specs.Deeds.{Deed, Stores, Pushes, Pops, changed, Answers, perform, ◌>>◌, ◌>>=◌, give, costs, looks}
+use Rattle.nim_meaning.specs.Deeds.{Deed, Pushes, Pops, changed, Answers, perform, ◌>>◌, ◌>>=◌, give, costs, looks, sees, sets}
 use Rattle.nim_meaning.specs.Deeds.{does as changes}
 use Rattle.nim_meaning.specs.Places.{to_part}
-use Rattle.nim_meaning.specs.Lifted.{walk, copying, ends_at, in_hand, copied, replaced, sunk}
+use Rattle.nim_meaning.specs.Lifted.{walk, copying, ends_at, in_hand, copied, given_up, replaced, sunk}
 use Rattle.flat_code.specs.declared.line.Line.TheVariants as L
 use Rattle.flat_code.specs.Scene.{Known, Did, Passes, Fails, Located, location_at, Temps, with_value, with_place}
 use Rattle.flat_code.specs.Lines.{form_in, using, using_number, leads}
@@ -19,9 +19,9 @@ use Rattle.hook_lifting.specs.declared.lifted.LiftedLine.{LiftedLine}
 use Rattle.hook_lifting.specs.declared.lifted.LiftedLine.TheVariants as O
 use Rattle.hook_lifting.specs.Lifted.{assigning_lines, sinking_lines}
 use Rattle.hook_lifting.specs.Lifting.{does_by, both_places}
-use Rattle.hook_lifting.proofs.Deeds.{regrouped}
+use Rattle.hook_lifting.proofs.Deeds.{Same, Tame, regrouped, sees_then, sees_same}
 use Rattle.hook_lifting.proofs.Follows.{at, scene, Follows, weaker, earns, alike, goes, does, does_last, returns}
-use Rattle.hook_lifting.proofs.Walks.{ok_hook}
+use Rattle.hook_lifting.proofs.Walks.{both, ok_sees, ok_sets, ok_put, ok_hook}
 
 module _ (known : Known) (level : ℕ) where
   -- ---- to parts
@@ -59,6 +59,35 @@ module _ (known : Known) (level : ℕ) where
 
 -- ---- a value comes to a place in place of another one
 
+exchanged : (to : Location) (v : Value) (rest : Value → Deed (Unit {0})) →
+    Same (sees to (λ world old. sets to v >> rest old)) (sees to (λ world old. sets to v >> give old) >>= rest)
+exchanged to v rest world =
+    sym (sees_then to (λ world old. sets to v >> give old) rest world
+    ∙ sees_same to (λ world old. (sets to v >> give old) >>= rest) (λ world old. sets to v >> rest old)
+    (λ world old. regrouped (sets to v) (λ u. give old) rest) world)
+
+-- the values at two locations trade places
+abbrev traded : (to from : Location) → Deed (Unit {0})
+traded to from = sees to (λ world old. sees from (λ world new. sets to new >> sets from old))
+
+traded_then : (to from : Location) (rest : Deed (Unit {0})) →
+    Same (sees to (λ world old. sees from (λ world new. sets to new >> (sets from old >> rest)))) (traded to from >> rest)
+traded_then to from rest world =
+    sym (sees_then to (λ world old. sees from (λ world new. sets to new >> sets from old)) (λ u. rest) world
+    ∙ sees_same to (λ world old. sees from (λ world new. sets to new >> sets from old) >> rest)
+    (λ world old. sees from (λ world new. sets to new >> (sets from old >> rest)))
+    (λ world old now.
+    sees_then from (λ world new. sets to new >> sets from old) (λ u. rest) now
+    ∙ sees_same from (λ world new. (sets to new >> sets from old) >> rest) (λ world new. sets to new >> (sets from old >> rest))
+    (λ world new. regrouped (sets to new) (λ u. sets from old) (λ u. rest)) now)
+    world)
+
+ok_traded : (to from : Location) → Tame false (λ u. Unit {0}) (traded to from)
+ok_traded to from =
+    ok_sees false (λ u. Unit {0}) to (λ world old. sees from (λ world new. sets to new >> sets from old))
+    (λ world old. ok_sees false (λ u. Unit {0}) from (λ world new. sets to new >> sets from old)
+    (λ world new. both false (sets to new) (sets from old) (ok_sets false to new) (ok_sets false from old)))
+
 module _ (known : Known) (whole : List LiftedLine) (level ty : ℕ) (to from : Location) where
   abbrev form : Form
   form = form_in known ty
@@ -83,29 +112,36 @@ module _ (known : Known) (whole : List LiftedLine) (level ty : ℕ) (to from : L
       let v = load world2 h in
       let world3 = changed Pops world2 in
       let temps2 = with_value 7 temps1 v in
-      let old = load world3 to in
-      let world4 = changed (Stores to v) world3 in
+      let exchange : Deed Value = sees to (λ world old. sets to v >> give old) in
+      goes 1 (at whole level (O.Exchange 6 0 7 ∷ lines3) temps2 world3) refl
+      (earns {p = 5} {q = 0} 8
+      (weaker {p = 5} {q = 0} (omega arith) (omega arith)
+      (alike (sees to (λ world old. sets to v >> given_up form old)) (exchange >>= given_up form) world3
+      (exchanged to v (given_up form))
+      (does known whole level false (λ u. Unit {0}) 1 (O.Exchange 6 0 7) lines3 temps2 world3 exchange (λ old. with_value 6 temps2 old)
+      (given_up form) refl
+      (ok_sees false (λ u. Unit {0}) to (λ world old. sets to v >> give old) (λ world old. ok_put false (λ u. Unit {0}) to v old tt))
+      (λ old ok world4.
       let temps3 = with_value 6 temps2 old in
       let h2 = in_hand world4 in
       let temps4 = with_place 2 temps3 (Located h2) in
       let world5 = changed (Pushes old) world4 in
-      goes 1 (at whole level (O.Exchange 6 0 7 ∷ lines3) temps2 world3) refl
-      (earns {p = 5} {q = 0} 8
-      (weaker {p = 5} {q = 0} (omega arith) (omega arith)
-      (goes 1 (at whole level lines3 temps3 world4) refl
-      (goes 1 (at whole level (O.Hook Ends ty 2 2 ∷ O.Pop 6 2 ∷ last) temps4 world5) refl
+      goes 1 (at whole level (O.Hook Ends ty 2 2 ∷ O.Pop 6 2 ∷ last) temps4 world5) refl
       (does known whole level false (λ u. Unit {0}) 1 (O.Hook Ends ty 2 2) (O.Pop 6 2 ∷ last) temps4 world5 (ends_at form h2) (λ u. temps4)
       (λ u. changes Pops) refl (ok_hook Ends form h2 h2)
       (λ u ok world6.
       goes 1 (at whole level last (with_value 6 temps4 (load world6 h2)) (changed Pops world6)) refl
-      (returns known whole level [] (with_value 6 temps4 (load world6 h2)) (changed Pops world6)))))))))))
+      (returns known whole level [] (with_value 6 temps4 (load world6 h2)) (changed Pops world6))))))))))))
 
   pub sinking_follows : (world : World) → Follows known 3 0 (perform (sunk form to from) world)
       (at whole level (sinking_lines ty last) (both_places to from) world)
   sinking_follows world =
-      let world1 = changed (Stores from (load world to)) (changed (Stores to (load world from)) world) in
       earns {p = 3} {q = 0} 8
       (weaker {p = 3} {q = 0} (omega arith) (omega arith)
-      (goes 1 (at whole level (O.Hook Ends ty 1 1 ∷ last) (both_places to from) world1) refl
-      (does_last known whole level false 1 (O.Hook Ends ty 1 1) last (both_places to from) world1 (ends_at form from) refl (ok_hook Ends form from from)
-      (λ new. returns known whole level [] (both_places to from) new))))
+      (alike (sees to (λ world old. sees from (λ world new. sets to new >> (sets from old >> ends_at form from)))) (traded to from >> ends_at form from) world
+      (traded_then to from (ends_at form from))
+      (does known whole level false (λ u. Unit {0}) 1 (O.Trade 0 1) (O.Hook Ends ty 1 1 ∷ last) (both_places to from) world (traded to from)
+      (λ u. both_places to from) (λ u. ends_at form from) refl (ok_traded to from)
+      (λ u ok world1.
+      does_last known whole level false 1 (O.Hook Ends ty 1 1) last (both_places to from) world1 (ends_at form from) refl (ok_hook Ends form from from)
+      (λ new. returns known whole level [] (both_places to from) new)))))

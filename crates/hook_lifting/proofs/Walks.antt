@@ -1,13 +1,13 @@
--- Walks neither end the run, but for want of heap, nor err; ends take no block.
-use Rattle.std.proofs.Common.{◌≡◌, ℕ, zero, suc, ◌*◌, Bool, true, false, Option, Some, None, refl, sym, ap, ◌∙◌}
+-- Walks don't end the run but for want of heap; ends take no block.
+use Rattle.std.proofs.Common.{◌≡◌, ℕ, zero, suc, ◌+◌, ◌*◌, Bool, true, false, Option, Some, None, refl, sym, ap, ◌∙◌}
 use Rattle.std.proofs.lemmas.Bool.{false≢true}
 use Rattle.nim_types.specs.Forms.{Form, plain, reference, block, elements, row, parts, resource, wrapped, Forms, no_forms, forms, of_some, hooked, hooked_any}
 use Rattle.nim_types.specs.Forms.{size}
 use Rattle.nim_meaning.specs.Heap.{Contents, Elements}
-use Rattle.nim_meaning.specs.Values.{Value, Location, block_of, item_of, deeper, repeated, length_of, vacant}
-use Rattle.nim_meaning.specs.State.{load, text_of}
-use Rattle.nim_meaning.specs.Deeds.{Deed, ◌>>◌, give, branch}
-use Rattle.nim_meaning.specs.Lifted.{Walk, each_part, walk, walk_all, each_element, fresh, fresh_text, frees, left_vacant}
+use Rattle.nim_meaning.specs.Values.{Value, Vacant, Location, block_of, item_of, deeper, repeated, length_of, vacant, bytes}
+use Rattle.nim_meaning.specs.State.{World, load, text_of, is_seen, is_there, is_live}
+use Rattle.nim_meaning.specs.Deeds.{Stores, Refills, Frees, Deed, ◌>>=◌, ◌>>◌, give, branch, costs, does, unless_gone, sees, sets, frees, refills}
+use Rattle.nim_meaning.specs.Lifted.{Walk, each_part, walk, walk_all, each_element, fresh, fresh_text, left_vacant, bits, copied_elements}
 use Rattle.nim_meaning.specs.Lifted.{ending, ends_at, in_hand, given_up, copying, copied, replaced, sunk, sinking, assigning}
 use Rattle.hook_lifting.specs.declared.lifted.Hook.{Hook}
 use Rattle.hook_lifting.specs.declared.lifted.Hook.TheVariants.{Copies, Assigns, Sinks, Ends}
@@ -23,19 +23,46 @@ module _ (takes : Bool) where
   abbrev Ok : Deed (Unit {0}) → Type 0
   Ok deed = Tame takes (λ u. Unit {0}) deed
 
-  both : (deed rest : Deed (Unit {0})) → Ok deed → Ok rest → Ok (deed >> rest)
+  pub both : (deed rest : Deed (Unit {0})) → Ok deed → Ok rest → Ok (deed >> rest)
   both deed rest h g = tame_then takes _ _ deed (λ x. rest) h (λ x ok. g)
 
   ok_branch : (b : Bool) (holds fails : Deed (Unit {0})) → Ok holds → Ok fails → Ok (branch b holds fails)
   ok_branch true holds fails h g = h
   ok_branch false holds fails h g = g
 
+  -- ---- what is looked at may be gone
+
+  abbrev Answering : {A : Type 0} → (A → Type 0) → Deed A → Type 0
+  Answering Q deed = Tame takes Q deed
+
+  ok_gone : {A : Type 0} (Q : A → Type 0) (there : Bool) (deed : Deed A) → Answering Q deed → Answering Q (unless_gone there deed)
+  ok_gone Q true deed h = h
+  ok_gone Q false deed h = tt
+
+  pub ok_sees : {A : Type 0} (Q : A → Type 0) (location : Location) (go : World → Value → Deed A) →
+      ((world : World) (v : Value) → Answering Q (go world v)) → Answering Q (sees location go)
+  ok_sees Q location go h = λ world. ok_gone Q (is_seen world location) (go world (load world location)) (h world (load world location))
+
+  pub ok_sets : (location : Location) (v : Value) → Ok (sets location v)
+  ok_sets location v = λ world. ok_gone (λ u. Unit {0}) (is_there world location) (does (Stores location v)) tt
+
   ok_frees : (k : Option ℕ) → Ok (frees k)
   ok_frees None = tt
-  ok_frees (Some k) = tt
+  ok_frees (Some k) = λ world. ok_gone (λ u. Unit {0}) (is_live world k) (does (Frees k)) tt
+
+  pub ok_refills : (k : Option ℕ) (contents : Contents) → Ok (refills k contents)
+  ok_refills None contents = tt
+  ok_refills (Some k) contents = λ world. ok_gone (λ u. Unit {0}) (is_live world k) (does (Refills k contents)) tt
 
   pub ok_left : (bytes : ℕ) (location : Location) (v : Value) → Ok (left_vacant bytes location v)
-  ok_left bytes location v = ok_frees (block_of v)
+  ok_left bytes location v = both (sets location Vacant) (frees (block_of v)) (ok_sets location Vacant) (ok_frees (block_of v))
+
+  -- a value comes to a location and is given on
+  pub ok_put : (Q : Value → Type 0) (location : Location) (v answer : Value) → Q answer → Answering Q (sets location v >> give answer)
+  ok_put Q location v answer h = tame_then takes (λ u. Unit {0}) Q (sets location v) (λ u. give answer) (ok_sets location v) (λ u ok. h)
+
+  ok_bits : (to from : Location) → Ok (bits to from)
+  ok_bits to from = ok_sees (λ u. Unit {0}) from (λ world v. costs (bytes v) (sets to v)) (λ world v. ok_sets to v)
 
   -- ---- part by part
 
@@ -77,9 +104,11 @@ module _ (takes : Bool) where
   ok_ending : OkWalk ending
   ok_ending = record {
     plainly = λ to from. tt;
-    text = λ to from world. ok_frees (block_of (load world to));
-    sequence = λ of element h to from world. let v = load world to in
-        both (each_element (length_of v) element 0 v to v to) _ (ok_elements (length_of v) element h 0 v to v to) (ok_frees (block_of v));
+    text = λ to from. ok_sees (λ u. Unit {0}) to (λ world v. left_vacant (8 + length_of v) to v) (λ world v. ok_left (8 + length_of v) to v);
+    sequence = λ of element h to from.
+        ok_sees (λ u. Unit {0}) to (λ world v. each_element (length_of v) element 0 v to v to >> left_vacant (8 + length_of v * size of) to v)
+        (λ world v. both (each_element (length_of v) element 0 v to v to) (left_vacant (8 + length_of v * size of) to v)
+        (ok_elements (length_of v) element h 0 v to v to) (ok_left (8 + length_of v * size of) to v));
   }
 
   pub ok_ends : (f : Form) → Each (walk ending f)
@@ -94,12 +123,15 @@ ok_fresh (suc n) bytes contents = λ world. (refl, λ k. tt)
 
 ok_copying : OkWalk true copying
 ok_copying = record {
-  plainly = λ to from world. tt;
-  text = λ to from world. tame_then true (λ x. Unit {0}) (λ x. Unit {0}) (fresh_text (text_of world (load world from))) _ (ok_fresh _ _ _) (λ v ok. tt);
-  sequence = λ of element h to from world. let w = load world from in
-      tame_then true (λ x. Unit {0}) (λ x. Unit {0}) (fresh (length_of w) (length_of w * size of) (Elements (repeated (length_of w) (vacant of)))) _
-      (ok_fresh _ _ _)
-      (λ v ok. ok_elements true (length_of w) element h 0 v to w from);
+  plainly = ok_bits true;
+  text = λ to from. ok_sees true (λ u. Unit {0}) from (λ world v. costs 8 (fresh_text (text_of world v)) >>= sets to)
+      (λ world v. tame_then true (λ x. Unit {0}) (λ x. Unit {0}) (fresh_text (text_of world v)) (sets to) (ok_fresh _ _ _) (λ w ok. ok_sets true to w));
+  sequence = λ of element h to from. ok_sees true (λ u. Unit {0}) from (λ world w. costs 8 (copied_elements of element to w from))
+      (λ world w.
+      tame_then true (λ x. Unit {0}) (λ x. Unit {0}) (fresh (length_of w) (length_of w * size of) (Elements (repeated (length_of w) (vacant of))))
+      (λ v. sets to v >> each_element (length_of w) element 0 v to w from) (ok_fresh _ _ _)
+      (λ v ok. both true (sets to v) (each_element (length_of w) element 0 v to w from) (ok_sets true to v)
+      (ok_elements true (length_of w) element h 0 v to w from)));
 }
 
 ok_copied : (f : Form) (from : Location) → Answer (copied f from)
@@ -110,21 +142,26 @@ ok_given_up : (f : Form) (v : Value) → Answer (given_up f v)
 ok_given_up f v = λ world. both true (ends_at f (in_hand world)) _ (ok_ends true f (in_hand world) (in_hand world)) tt
 
 ok_replaced : (f : Form) (to : Location) (v : Value) → Answer (replaced f to v)
-ok_replaced f to v = λ world. ok_given_up f (load world to)
+ok_replaced f to v = ok_sees true (λ u. Unit {0}) to (λ world old. sets to v >> given_up f old)
+    (λ world old. both true (sets to v) (given_up f old) (ok_sets true to v) (ok_given_up f old))
 
 ok_sunk : (f : Form) → Each true (sunk f)
-ok_sunk f to from = λ world. ok_ends true f from from
+ok_sunk f to from =
+    ok_sees true (λ u. Unit {0}) to (λ world old. sees from (λ world new. sets to new >> (sets from old >> ends_at f from)))
+    (λ world old. ok_sees true (λ u. Unit {0}) from (λ world new. sets to new >> (sets from old >> ends_at f from))
+    (λ world new. both true (sets to new) (sets from old >> ends_at f from) (ok_sets true to new)
+    (both true (sets from old) (ends_at f from) (ok_sets true from old) (ok_ends true f from from))))
 
 ok_sinking : OkWalk true sinking
 ok_sinking = record {
-  plainly = λ to from world. tt;
+  plainly = ok_bits true;
   text = ok_sunk block;
   sequence = λ of element h. ok_sunk (elements of);
 }
 
 ok_assigning : OkWalk true assigning
 ok_assigning = record {
-  plainly = λ to from world. tt;
+  plainly = ok_bits true;
   text = λ to from. tame_then true (λ x. Unit {0}) (λ x. Unit {0}) (copied block from) _ (ok_copied block from) (λ v ok. ok_replaced block to v);
   sequence = λ of element h to from. tame_then true (λ x. Unit {0}) (λ x. Unit {0}) (copied (elements of) from) _ (ok_copied (elements of) from)
       (λ v ok. ok_replaced (elements of) to v);

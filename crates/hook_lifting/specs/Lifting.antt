@@ -9,8 +9,9 @@ use Rattle.nim_program.specs.Ints.{inside}
 use Rattle.nim_meaning.specs.Values.{Value, Number, Handle, length_of, block_of, first_of, repeated, vacant, item_of, deeper, Location}
 use Rattle.nim_meaning.specs.Heap.{Elements}
 use Rattle.nim_meaning.specs.State.{World, load, elements_of}
-use Rattle.nim_meaning.specs.Deeds.{Deed, Stores, Pushes, Pops, Done, Answers, Finishes, behind, perform, does, give, ◌>>=◌, ◌>>◌, costs, looks}
-use Rattle.nim_meaning.specs.Lifted.{Walk, walk, copying, assigning, sinking, ending, fresh, refills, left_vacant, in_hand}
+use Rattle.nim_meaning.specs.Deeds.{Deed, Pushes, Pops, Done, Answers, Finishes, behind, perform, does, give, ◌>>=◌, ◌>>◌, costs, looks}
+use Rattle.nim_meaning.specs.Deeds.{Fails as At_fault, sees, sets, refills}
+use Rattle.nim_meaning.specs.Lifted.{Walk, walk, copying, assigning, sinking, ending, fresh, left_vacant, in_hand}
 use Rattle.nim_meaning.specs.OwnedRows.{element_of, cut}
 use Rattle.nim_meaning.specs.Acts.{branch}
 use Rattle.flat_code.specs.Scene.{Known, Scene, Did, Passes, Located, Temps, no_temps, with_value, with_place}
@@ -48,13 +49,13 @@ begins x to v = Passes (perform (costs 1 (does (Pushes v)) >> give (begun_at x t
 
 -- a sequence of so many elements, which has a block of its own
 abbrev pub taken_for : (of : Form) → (count : ℕ) → Location → Deed Value
-taken_for of n at = fresh n (n * size of) (Elements (repeated n (vacant of))) >>= (λ v. does (Stores at v) >> give v)
+taken_for of n at = fresh n (n * size of) (Elements (repeated n (vacant of))) >>= (λ v. sets at v >> give v)
 
 abbrev pub does_by : Known → Scene → LiftedLine → Did
 does_by known x (O.Plain line) = lines.does known no_plan x line
 does_by known x (O.Hook hook ty to from) =
     using_place x.temps to (λ _ a. using_place x.temps from (λ _ b. acts x (costs 1 (hook_deed known hook ty a b))))
-does_by known x (O.Load to at) = using_place x.temps at (λ _ a. gives x to (costs 1 (looks (λ world. give (load world a)))))
+does_by known x (O.Load to at) = using_place x.temps at (λ _ a. gives x to (costs 1 (sees a (λ world v. give v))))
 does_by known x (O.Count to of) = using (x.temps.values of) (λ v. gives x to (costs 1 (give (Number (pos (length_of v))))))
 does_by known x (O.Number to n) = gives x to (costs 1 (give (Number (pos n))))
 does_by known x (O.Element to of at index) =
@@ -70,16 +71,16 @@ does_by known x (O.GiveBack ty at of) =
     (costs 1 (left_vacant (8 + length_of v * size (element_of (form_in known ty))) a v))))
 does_by known x (O.Trade to from) =
     using_place x.temps to (λ _ a. using_place x.temps from (λ _ b. acts x
-    (costs 1 (looks λ world. does (Stores a (load world b)) >> does (Stores b (load world a))))))
+    (costs 1 (sees a (λ world old. sees b (λ world new. sets a new >> sets b old))))))
 does_by known x (O.Begin ty to) = begins x to (vacant (form_in known ty))
 does_by known x (O.Push to of) = using (x.temps.values of) (λ v. begins x to v)
 does_by known x (O.Pop to at) = using_place x.temps at (λ _ a. gives x to (costs 1 (looks λ world. does Pops >> give (load world a))))
 does_by known x (O.Exchange to at of) =
-    using (x.temps.values of) (λ v. using_place x.temps at (λ _ a. gives x to (costs 1 (looks λ world. does (Stores a v) >> give (load world a)))))
+    using (x.temps.values of) (λ v. using_place x.temps at (λ _ a. gives x to (costs 1 (sees a (λ world old. sets a v >> give old)))))
 does_by known x (O.Copy to of) = using (x.temps.values of) (λ v. gives x to (costs 1 (give v)))
 does_by known x (O.Shorten at of count) =
     using (x.temps.values of) (λ v. using_place x.temps at (λ _ a. using_number x.temps count (λ z. acts x (costs 1
-    (does (Stores a (Handle (unsigned_abs z) (block_of v))))))))
+    (sets a (Handle (unsigned_abs z) (block_of v)))))))
 does_by known x (O.Forget of count) =
     using (x.temps.values of) (λ v. using_number x.temps count (λ z. acts x (costs 1
     (looks λ world. refills (block_of v) (Elements (first_of (unsigned_abs z) (elements_of world v)))))))
@@ -121,10 +122,12 @@ abbrev pub comes_to : Known → (lines : ℕ) → Machine LiftedLine → Option 
 comes_to known zero m = None
 comes_to known (suc n) m = by_next m (lines_step known m) (comes_to known n)
 
--- The same is shown, and it comes to the same world, or to the same end for want of heap, with at most three times the work and so much more.
+-- The same is shown, and it comes to the same world, or to the same end for want of heap, with at most three times the work and so much more. Of what is
+-- at a fault nothing is said.
 abbrev pub Alike : (more : ℕ) → Done (Unit {0}) → Option (Done (Unit {0})) → Type 0
 Alike more (Answers es n x world) (Some (Answers fs m y other)) = (fs ≡ es) × (other ≡ world) × (m ≤ 3 * n + more)
 Alike more (Finishes es n status world) (Some (Finishes fs m other left)) = (fs ≡ es) × (other ≡ status) × (m ≤ 3 * n + more)
+Alike more (At_fault es n world) came = Unit {0}
 Alike more d came = ⊥
 
 -- an array has as many turns as elements
@@ -132,8 +135,8 @@ abbrev pub turns_of : TypeDef → ℕ
 turns_of (D.Array n of) = n
 turns_of d = 0
 
--- In each world a hook with lines does what the meaning does with the values, its walk. Beside three times that it works once for each of its lines, and
--- five times for each element of an array.
+-- In each world in which its walk isn't at a fault a hook with lines does what the meaning does with the values, its walk. Beside three times that it
+-- works once for each of its lines, and five times for each element of an array.
 abbrev pub Does_hook : Known → Hook → (ty : ℕ) → TypeDef → List LiftedLine → Type 0
 Does_hook known hook ty d lines =
     (level : ℕ) (to from : Location) (world : World) →
@@ -145,10 +148,10 @@ Does_hook known hook ty d lines =
 abbrev pub place_and_count : (at : Location) → (count : ℕ) → Temps
 place_and_count at n = with_value 8 (with_place 0 no_temps (Located at)) (Number (pos n))
 
--- In each world these lines do what the meaning does where a sequence of such elements keeps n of them. Beside three times that they work once for each of
--- them, and five times for each element that ends.
+-- In each world in which the meaning isn't at a fault these lines do what it does where a sequence of such elements keeps n of them. Beside three times
+-- that they work once for each of them, and five times for each element that ends.
 abbrev pub Does_cut : Known → (of : ℕ) → List LiftedLine → Type 0
 Does_cut known of lines =
     (level : ℕ) (at : Location) (n : ℕ) (world : World) →
-    (count : ℕ) × Alike (length lines + 5 * (length_of (load world at) - n)) (perform (cut (form_in known of) n at (load world at)) world)
+    (count : ℕ) × Alike (length lines + 5 * (length_of (load world at) - n)) (perform (sees at (λ world v. cut (form_in known of) n at v)) world)
     (comes_to known count (begun_with (place_and_count at n) lines level world))

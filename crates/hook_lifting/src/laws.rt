@@ -9,7 +9,8 @@ ghost use Rattle.hook_lifting.specs.Lifted.{has_hooks, is_routine, lines_of, cut
 ghost use Rattle.hook_lifting.specs.Lifting.{Does_hook, Does_cut};
 
 /// The lines of each hook of a type do, in each world, what the meaning does with the values: the
-/// walk over the form of the type, with little more work.
+/// walk over the form of the type, with little more work. Where the walk is at a fault, nothing is
+/// said.
 pub fn lifting()
     ensures { (table : List Entry) → IsTable table → HaveForms table → (hook : HookKind) (ty : ℕ)
         (entry : Entry) → slice_get table ty ≡ Some entry → has_hooks table ty ≡ true →
@@ -18,7 +19,8 @@ pub fn lifting()
 {}
 
 /// In each world the lines that make a sequence shorter do what the meaning does: it has so many
-/// elements, those behind end, and its block forgets them.
+/// elements, those behind end, and its block forgets them. Where the meaning is at a fault, nothing is
+/// said.
 pub fn cutting()
     ensures { (known : Known) (of : ℕ) → Does_cut known of (cut_lines of) }
 {}

@@ -30,8 +30,7 @@ mod Once
 mod Asked
 mod Keeps
 mod Parts
-mod DeedErrs
-mod LiftedRows
+mod Mild
 mod Rows
 mod Tame
 mod TameParts

@@ -1,6 +1,7 @@
 -- What rows of the table do with places: they read and write what their operands lead to, and nothing else.
 use Rattle.std.proofs.Common.{◌≡◌, refl, sym, ap, ap₂, subst, ◌∙◌, inl, inr, ◌⊎◌, ℕ, zero, suc, Bool, true, false, ◌||◌, List, [], ◌∷◌, ◌++◌, length}
-use Rattle.std.proofs.Common.{Option, Some, None}
+use Rattle.std.proofs.Common.{◌&&◌, Option, Some, None}
+use Rattle.std.specs.Prelude.{slice_get}
 use Rattle.std.proofs.lemmas.Bool.{false≢true}
 use Rattle.arc_base.specs.declared.outside.Stream.TheVariants.{Out as Output}
 use Rattle.nim_types.specs.Types.{Ty, Facts, text}
@@ -15,21 +16,21 @@ use Rattle.nim_program.specs.Ints.{Checked, Fine, Trapped, applied, applied_to, 
 use Rattle.nim_program.specs.Program as T
 use Rattle.nim_program.specs.Program.{Doing, Building, Giving, Literal}
 use Rattle.nim_meaning.specs.Values.{Value, Number, Parts, Handle, Fixed, Ref, Resource, Gone, Vacant, nothing, number_of, length_of, text_in, bytes, Location}
-use Rattle.nim_meaning.specs.Values.{Operand, location, location_of, literal_value}
-use Rattle.nim_meaning.specs.Heap.{block_at}
-use Rattle.nim_meaning.specs.State.{World, load, text_of, contents_value}
+use Rattle.nim_meaning.specs.Values.{Base, Standing, Waiting, InBlock, InHand, InException, Made, Operand, value, location, location_of, literal_value}
+use Rattle.nim_meaning.specs.Heap.{Heap, block_at}
+use Rattle.nim_meaning.specs.State.{World, load, text_of, contents_value, is_so_in, has_as_many, has_item, is_whole, leads_from, is_there, is_seen}
 use Rattle.nim_meaning.specs.Acts.{line_of}
-use Rattle.nim_meaning.specs.Texts.{value_text, text_at, texts_of}
+use Rattle.nim_meaning.specs.Texts.{value_text, text_at, texts_of, are_seen}
 use Rattle.nim_meaning.specs.ActTree.{Path, Operands, Operate}
 use Rattle.nim_meaning.specs.Here.{gives_hooked, any_hooked, form_for}
-use Rattle.nim_meaning.specs.Deeds.{Deed, Gives, Works, Changes, Stores, ◌>>=◌, ◌>>◌, give, branch, write}
+use Rattle.nim_meaning.specs.Deeds.{Deed, Gives, Works, Changes, Stores, ◌>>=◌, ◌>>◌, give, branch, looks, unless_gone, sees, sets, write}
 use Rattle.nim_meaning.specs.Places.{Destination, taken_by, text_for, made_by, fetched, put, exchanged}
 use Rattle.nim_meaning.specs.OwnedRows.{owned}
-use Rattle.nim_meaning.specs.Table.{outcome, default_for, limit_for, converted, measured, step_by, operate, does, constant_for, acts}
+use Rattle.nim_meaning.specs.Table.{outcome, default_for, limit_for, converted, measured, step_by, operate, does, constant_for, literal_bytes, acts}
 use Rattle.nim_meaning.specs.ActsOf.{path_of, act_by}
 use Rattle.nim_meaning.specs.Meaning.{row, got_by, handed_by}
-use Rattle.nim_meaning.specs.AtPoints.{Alike, Within, Writes, answers, ends_run, works, says, loads, looks_at_all, stores, At_none, At_first, At_any, DoneAs}
-use Rattle.nim_meaning.specs.AtPoints.{operates, looks_at, gives_to, writes_first, writes_there}
+use Rattle.nim_meaning.specs.AtPoints.{Alike, Within, Writes, answers, ends_run, at_fault, works, says, looks_at_all, stores, At_none, At_first, At_any, DoneAs}
+use Rattle.nim_meaning.specs.AtPoints.{operates, looks_at, gives_to, writes_first, looks_at_blocks, never_goes_on, writes_there}
 use Rattle.nim_meaning.specs.AtPoints.{paths_among}
 
 -- the paths of operands by path, each at its position
@@ -48,10 +49,38 @@ abbrev is_assign : Operation → Bool
 is_assign O.Assign = true
 is_assign o = false
 
+abbrev is_measure : Operation → Bool
+is_measure (O.Measure measure) = true
+is_measure o = false
+
 -- a value without hooks waits nowhere
 within_made : (reads writes : Location → Type 0) (hook : Bool) (to : Destination) (v : Value) → hook ≡ false → Within Value reads writes (made_by hook to v)
 within_made reads writes true to v e = absurd (false≢true (sym e))
 within_made reads writes false to v e = answers
+
+-- ---- blocks are the same
+
+leads_alike : (base : Base) (path : List ℕ) (a b : World) → a.heap ≡ b.heap → leads_from a base path ≡ leads_from b base path
+leads_alike (InBlock k) path a b e = ap (λ (heap : Heap). is_so_in (has_item path) (slice_get heap.blocks k)) e
+leads_alike (Standing level number) path a b e = refl
+leads_alike (Waiting level node) path a b e = refl
+leads_alike (InHand i) path a b e = refl
+leads_alike (InException i) path a b e = refl
+leads_alike (Made v) path a b e = refl
+
+there_alike : (l : Location) (a b : World) → a.heap ≡ b.heap → is_there a l ≡ is_there b l
+there_alike l a b e = leads_alike l.base l.path a b e
+
+whole_alike : (v : Value) (a b : World) → a.heap ≡ b.heap → is_whole a v ≡ is_whole b v
+whole_alike (Handle n (Some k)) a b e = ap (λ (heap : Heap). is_so_in (has_as_many n) (slice_get heap.blocks k)) e
+whole_alike (Handle n None) a b e = refl
+whole_alike (Number z) a b e = refl
+whole_alike (Parts all) a b e = refl
+whole_alike (Fixed t) a b e = refl
+whole_alike (Ref object) a b e = refl
+whole_alike (Resource all identity) a b e = refl
+whole_alike (Gone v final) a b e = refl
+whole_alike Vacant a b e = refl
 
 module _ (reads writes : Location → Type 0) where
   abbrev W : {A : Type 0} → Deed A → Type 0
@@ -62,7 +91,7 @@ module _ (reads writes : Location → Type 0) where
   within_then (ends_run) g = ends_run
   within_then (works w) g = works (within_then w g)
   within_then (says w) g = says (within_then w g)
-  within_then (loads {location = location} {rest = rest} h w) g = loads {location = location} h (λ v. within_then (w v) g)
+  within_then at_fault g = at_fault
   within_then {go = go} (looks_at_all {rest = rest} same w) g =
       looks_at_all {rest = λ world. rest world >>= go} (λ a b h. ap (λ deed. deed >>= go) (same a b h)) (λ world. within_then (w world) g)
   within_then (stores h w) g = stores h (within_then w g)
@@ -76,8 +105,31 @@ module _ (reads writes : Location → Type 0) where
   within_converted None v = answers
   within_converted (Some values) v = within_outcome (within values (number_of v))
 
-  within_exchanged : (location : Location) (v : Value) → reads location → writes location → W (exchanged location v)
-  within_exchanged location v r w = works (loads {location = location} {rest = λ u. Changes (Stores location v) (Gives u)} r (λ u. stores w answers))
+  -- ---- what is there
+
+  guarded : {A : Type 0} {deed : Deed A} (b : Bool) → W deed → W (unless_gone b deed)
+  guarded true w = w
+  guarded false w = at_fault
+
+  seen_alike : (l : Location) (a b : World) → Alike reads a b → reads l → is_seen a l ≡ is_seen b l
+  seen_alike l a b h r = ap₂ (λ x y. x && y) (there_alike l a b h.0) (whole_alike (load a l) a b h.0 ∙ ap (is_whole b) (h.1 l r))
+
+  within_sees : {A : Type 0} (l : Location) (go : Value → Deed A) → reads l → ((v : Value) → W (go v)) → W (sees l (λ world. go))
+  within_sees l go r w =
+      looks_at_all {rest = λ world. unless_gone (is_seen world l) (go (load world l))}
+      (λ a b h. ap₂ (λ s v. unless_gone s (go v)) (seen_alike l a b h r) (h.1 l r)) (λ world. guarded (is_seen world l) (w (load world l)))
+
+  within_sets : (l : Location) (v : Value) → writes l → W (sets l v)
+  within_sets l v w =
+      looks_at_all {rest = λ world. unless_gone (is_there world l) (Changes (Stores l v) (Gives tt))}
+      (λ a b h. ap (λ s. unless_gone s (Changes (Stores l v) (Gives tt))) (there_alike l a b h.0)) (λ world. guarded (is_there world l) (stores w answers))
+
+  within_put : (l : Location) (v : Value) → writes l → W (put l v)
+  within_put l v w = works (within_then {go = λ u. give nothing} (within_sets l v w) (λ u. answers {x = nothing}))
+
+  within_exchanged : (l : Location) (v : Value) → reads l → writes l → W (exchanged l v)
+  within_exchanged l v r w =
+      works (within_sees l (λ old. sets l v >> give old) r (λ old. within_then {go = λ u. give old} (within_sets l v w) (λ u. answers {x = old})))
 
   -- a row, and what becomes of its value
   pub within_row : (facts : Facts) (act : T.Act) (to : Destination) (ty : Option Ty) (of : List (Option Ty)) (xs : List Operand) →
@@ -86,7 +138,7 @@ module _ (reads writes : Location → Type 0) where
 
 -- the bits at a location are read there
 pub within_fetched : (location : Location) → Within Value (λ l. l ≡ location) At_none (fetched location)
-within_fetched location = loads {location = location} {rest = λ v. Works (bytes v) (Gives v)} refl (λ v. works answers)
+within_fetched location = within_sees (λ l. l ≡ location) At_none location (λ v. Works (bytes v) (Gives v)) refl (λ v. works answers)
 
 taken_within : (hook : Bool) (f : Form) (to : Destination) (act : Option Act) (location : Location) → hook ≡ false →
     Within Value (λ l. l ≡ location) At_none (taken_by hook f to act location)
@@ -133,6 +185,11 @@ texts_alike facts (ty ∷ of) (x ∷ xs) a b h =
     ap₂ (λ t u. t ++ u) (at_alike facts ty (load a (location_of x)) a b h.0 ∙ ap (text_at facts b ty) (h.1 (location_of x) (inl refl)))
     (texts_alike facts of xs a b (h.0, (λ l r. h.1 l (inr r))))
 
+seen_any : (xs : List Operand) (a b : World) → Alike (At_any xs) a b → are_seen a xs ≡ are_seen b xs
+seen_any [] a b h = refl
+seen_any (x ∷ xs) a b h =
+    ap₂ (λ s t. s && t) (seen_alike (At_any (x ∷ xs)) At_none (location_of x) a b h (inl refl)) (seen_any xs a b (h.0, (λ l r. h.1 l (inr r))))
+
 -- ---- operations
 
 module _ (xs : List Operand) (facts : Facts) (ty : Option Ty) (of : List (Option Ty)) where
@@ -146,30 +203,40 @@ module _ (xs : List Operand) (facts : Facts) (ty : Option Ty) (of : List (Option
   does_any (O.Compare comparison) = works answers
   does_any O.Convert = within_then (At_any xs) (At_any xs) (within_converted (At_any xs) (At_any xs) (limit_for facts ty) _) (λ v. works answers)
   does_any O.Make = works answers
-  does_any (O.Measure measure) = loads {location = location xs 0} {rest = λ v. Gives (Number (measured measure (length_of v)))} (at_any xs 0) (λ v. answers)
+  does_any (O.Measure measure) =
+      within_sees (At_any xs) (At_any xs) (location xs 0) (λ v. Gives (Number (measured measure (length_of v)))) (at_any xs 0) (λ v. answers)
   does_any O.Echo =
-      looks_at_all {rest = λ world. write Output (line_of (texts_of facts world of xs)) >> give nothing}
-      (λ a b h. ap (λ t. write Output (line_of t) >> give nothing) (texts_alike facts of xs a b h)) (λ world. works (says answers))
+      within_then (At_any xs) (At_any xs) {go = λ u. give nothing}
+      (looks_at_all {rest = λ world. unless_gone (are_seen world xs) (write Output (line_of (texts_of facts world of xs)))}
+      (λ a b h. ap₂ (λ s t. unless_gone s (write Output (line_of t))) (seen_any xs a b h) (texts_alike facts of xs a b h))
+      (λ world. guarded (At_any xs) (At_any xs) (are_seen world xs) (works (says answers)))) (λ u. answers {x = nothing})
   does_any O.Quit = ends_run
-  does_any O.Assign = works (stores (at_any xs 0) answers)
+  does_any O.Assign = within_put (At_any xs) (At_any xs) (location xs 0) (value xs 1) (at_any xs 0)
   does_any (O.Update operator) =
-      loads {location = location xs 0} {rest = λ v. Works (bytes v) (operate operator (number_of v) (step_by xs) >>= put (location xs 0))} (at_any xs 0)
+      within_sees (At_any xs) (At_any xs) (location xs 0) (λ v. Works (bytes v) (operate operator (number_of v) (step_by xs) >>= put (location xs 0)))
+      (at_any xs 0)
       (λ v. works (within_then (At_any xs) (At_any xs) (within_outcome (At_any xs) (At_any xs) (applied operator (number_of v) (step_by xs)))
-      (λ u. works (stores (at_any xs 0) answers))))
+      (λ u. within_put (At_any xs) (At_any xs) (location xs 0) u (at_any xs 0))))
   does_any O.Move = within_exchanged (At_any xs) (At_any xs) (location xs 0) (default_for facts ty) (at_any xs 0) (at_any xs 0)
   does_any O.Swap =
-      loads {location = location xs 0} {rest = λ v. exchanged (location xs 1) v >>= (λ u. exchanged (location xs 0) u >> give nothing)} (at_any xs 0)
-      (λ v. within_then (At_any xs) (At_any xs) (within_exchanged (At_any xs) (At_any xs) (location xs 1) v (at_any xs 1) (at_any xs 1))
-      (λ u. within_then (At_any xs) (At_any xs) (within_exchanged (At_any xs) (At_any xs) (location xs 0) u (at_any xs 0) (at_any xs 0))
-      (λ w. answers {x = nothing})))
+      within_then (At_any xs) (At_any xs) {go = λ u. exchanged (location xs 0) u >> give nothing}
+      (within_sees (At_any xs) (At_any xs) (location xs 0) (λ v. exchanged (location xs 1) v) (at_any xs 0)
+      (λ v. within_exchanged (At_any xs) (At_any xs) (location xs 1) v (at_any xs 1) (at_any xs 1)))
+      (λ u. within_then (At_any xs) (At_any xs) {go = λ w. give nothing}
+      (within_exchanged (At_any xs) (At_any xs) (location xs 0) u (at_any xs 0) (at_any xs 0))
+      (λ w. answers {x = nothing}))
   does_any operation = answers
 
   -- one without hooks; and `echo`, whose row is the same with them
   operates_any : (operation : Operation) (b : Bool) → b ≡ false ⊎ (operation ≡ O.Echo) →
-      Any (branch b (owned operation facts ty of xs (does operation facts ty of xs)) (does operation facts ty of xs))
+      Any (branch b (looks (λ world. unless_gone (are_seen world xs) (owned operation facts ty of xs (does operation facts ty of xs))))
+      (does operation facts ty of xs))
   operates_any operation true (inl e) = absurd (false≢true (sym e))
   operates_any operation true (inr e) =
-      subst (λ operation. Any (owned operation facts ty of xs (does operation facts ty of xs))) (sym e) (does_any O.Echo)
+      looks_at_all {rest = λ world. unless_gone (are_seen world xs) (owned operation facts ty of xs (does operation facts ty of xs))}
+      (λ a b h. ap (λ s. unless_gone s (owned operation facts ty of xs (does operation facts ty of xs))) (seen_any xs a b h))
+      (λ world. guarded (At_any xs) (At_any xs) (are_seen world xs)
+      (subst (λ operation. Any (owned operation facts ty of xs (does operation facts ty of xs))) (sym e) (does_any O.Echo)))
   operates_any operation false h = does_any operation
 
   acts_any : (operation : Operation) → ((gives_hooked facts ty || any_hooked facts of) ≡ false) ⊎ (operation ≡ O.Echo) →
@@ -183,24 +250,25 @@ building_as facts fields to ty of on zs plain e =
     operates e (λ xs. within_row (At_any xs) (At_any xs) facts (Building fields) to ty of xs plain (works (works answers)))
 
 -- the value of a constant without hooks, and a literal that is written
-constant_within : (reads writes : Location → Type 0) (hook : Bool) (f : Form) (v : Value) → hook ≡ false → Within Value reads writes (constant_for hook f v)
-constant_within reads writes true f v e = absurd (false≢true (sym e))
-constant_within reads writes false f v e = answers
+constant_within : (reads writes : Location → Type 0) (hook : Bool) (f : Form) (n : ℕ) (v : Value) → hook ≡ false →
+    Within Value reads writes (constant_for hook f n v)
+constant_within reads writes true f n v e = absurd (false≢true (sym e))
+constant_within reads writes false f n v e = works answers
 
 pub giving_as : (facts : Facts) (literal : Literal) (to : Destination) (ty : Option Ty) (of : List (Option Ty)) (on : Operands) (zs : List (Option Path)) →
     gives_hooked facts ty ≡ false → on.alters ≡ paths_among zs → DoneAs (Operate on) zs (λ xs. row facts (Giving literal) to ty of xs)
 giving_as facts literal to ty of on zs plain e =
     operates e (λ xs. within_row (At_any xs) (At_any xs) facts (Giving literal) to ty of xs plain
-    (works (works (constant_within (At_any xs) (At_any xs) (gives_hooked facts ty) (form_for facts ty) (literal_value literal) plain))))
+    (works (constant_within (At_any xs) (At_any xs) (gives_hooked facts ty) (form_for facts ty) (literal_bytes literal) (literal_value literal) plain)))
 
 -- a literal text that is lent has no block, whether its type has hooks or not
 pub literal_as : (facts : Facts) (t : List ℕ) (to : Destination) (ty : Option Ty) (on : Operands) (zs : List (Option Path)) → to.how ≡ Lent →
     on.alters ≡ paths_among zs → DoneAs (Operate on) zs (λ xs. row facts (Giving (T.Characters t)) to ty [] xs)
 literal_as facts t to ty on zs lent e =
-    operates e (λ xs. works (works (given xs (gives_hooked facts ty))))
+    operates e (λ xs. works (given xs (gives_hooked facts ty)))
   where
-    given : (xs : List Operand) (b : Bool) → Within Value (At_any xs) (At_any xs) (constant_for b (form_for facts ty) (Fixed t) >>= made_by b to)
-    given xs false = answers
+    given : (xs : List Operand) (b : Bool) → Within Value (At_any xs) (At_any xs) (constant_for b (form_for facts ty) 0 (Fixed t) >>= made_by b to)
+    given xs false = works answers
     given xs true = subst (λ how. Within Value (At_any xs) (At_any xs) (text_for how to t)) (sym lent) answers
 
 -- what an operation does, as its act
@@ -209,22 +277,38 @@ pub done_as : (facts : Facts) (to : Destination) (ty : Option Ty) (of : List (Op
     DoneAs (act_by operation operands on) (paths_in operands) (λ xs. row facts (Doing operation) to ty of xs)
 done_as facts to ty of O.Assign (T.ByPath path rest) on plain h e =
     gives_to (λ xs. subst (λ b. Writes Value (At_first xs) (by_types xs b O.Assign)) (sym (all_plain h))
-    (writes_first (writes_first (writes_there refl (within_made At_none (At_first xs) (gives_hooked facts ty) to nothing plain)))))
+    (writes_first (writes_first (looks_at_blocks {rest = λ world. set xs (is_there world (location xs 0))}
+    (λ a b h. ap (set xs) (there_alike (location xs 0) a b h)) (λ world. if_there xs (is_there world (location xs 0)))))))
   where
     by_types : List Operand → Bool → Operation → Deed Value
-    by_types xs b o = Works 1 (branch b (owned o facts ty of xs (does o facts ty of xs)) (does o facts ty of xs)) >>= made_by (gives_hooked facts ty) to
+    by_types xs b o =
+        Works 1 (branch b (looks (λ world. unless_gone (are_seen world xs) (owned o facts ty of xs (does o facts ty of xs)))) (does o facts ty of xs))
+        >>= made_by (gives_hooked facts ty) to
+
+    set : List Operand → Bool → Deed Value
+    set xs b = (unless_gone b (Changes (Stores (location xs 0) (value xs 1)) (Gives (tt {0}))) >> give nothing) >>= made_by (gives_hooked facts ty) to
+
+    if_there : (xs : List Operand) (b : Bool) → Writes Value (At_first xs) (set xs b)
+    if_there xs true = writes_there refl (within_made At_none (At_first xs) (gives_hooked facts ty) to nothing plain)
+    if_there xs false = never_goes_on
 
     all_plain : (any_hooked facts of ≡ false) ⊎ (O.Assign ≡ O.Echo) → (gives_hooked facts ty || any_hooked facts of) ≡ false
     all_plain (inl f) = ap₂ (λ a b. a || b) plain f
     all_plain (inr f) = absurd (false≢true (sym (ap is_assign f)))
 done_as facts to ty of (O.Measure measure) (T.ByPath path rest) on plain h e =
     looks_at (λ xs. within_row (At_first xs) At_none facts (Doing (O.Measure measure)) to ty of xs plain
-    (works (measures xs (gives_hooked facts ty || any_hooked facts of))))
+    (works (measures xs (gives_hooked facts ty || any_hooked facts of) (all_plain h))))
   where
-    measures : (xs : List Operand) (b : Bool) → Within Value (At_first xs) At_none
-        (branch b (owned (O.Measure measure) facts ty of xs (does (O.Measure measure) facts ty of xs)) (does (O.Measure measure) facts ty of xs))
-    measures xs true = loads {location = location xs 0} {rest = λ v. Gives (Number (measured measure (length_of v)))} refl (λ v. answers)
-    measures xs false = loads {location = location xs 0} {rest = λ v. Gives (Number (measured measure (length_of v)))} refl (λ v. answers)
+    all_plain : (any_hooked facts of ≡ false) ⊎ (O.Measure measure ≡ O.Echo) → (gives_hooked facts ty || any_hooked facts of) ≡ false
+    all_plain (inl f) = ap₂ (λ a b. a || b) plain f
+    all_plain (inr f) = absurd (false≢true (sym (ap is_measure f)))
+
+    measures : (xs : List Operand) (b : Bool) → b ≡ false → Within Value (At_first xs) At_none
+        (branch b (looks (λ world. unless_gone (are_seen world xs) (owned (O.Measure measure) facts ty of xs (does (O.Measure measure) facts ty of xs))))
+        (does (O.Measure measure) facts ty of xs))
+    measures xs true e = absurd (false≢true (sym e))
+    measures xs false e =
+        within_sees (At_first xs) At_none (location xs 0) (λ v. Gives (Number (measured measure (length_of v)))) refl (λ v. answers)
 done_as facts to ty of operation operands on plain h e =
     operates e (λ xs. within_row (At_any xs) (At_any xs) facts (Doing operation) to ty of xs plain (acts_any xs facts ty of operation (either h)))
   where

@@ -16,9 +16,9 @@ use Rattle.nim_meaning.specs.ActTree.{Named, Begins, Does as Done_by, Fills, Loo
 use Rattle.nim_meaning.specs.ActTree.{Act, Pass, Lend, Fill, Acts, Done, Then, Do, Loop, Index, whole}
 use Rattle.nim_meaning.specs.Ways.{At, Exits, Graph, Raises, turn_begins, in_condition, loop_goes_on, loop_ends, in_turn, doing, here as at_here, later}
 use Rattle.nim_meaning.specs.Ways.{onto, looped}
-use Rattle.nim_meaning.specs.Values.{Value, Number, Fixed, nothing, number_of, length_of, default_of, item_of}
-use Rattle.nim_meaning.specs.State.{load, text_of}
-use Rattle.nim_meaning.specs.Acts.{Does, give, ◌>>=◌, ◌>>◌, branch, costs, again, no_more, looks, loop}
+use Rattle.nim_meaning.specs.Values.{Value, Number, Fixed, nothing, number_of, default_of}
+use Rattle.nim_meaning.specs.State.{text_of, is_whole}
+use Rattle.nim_meaning.specs.Acts.{Does, wrong, give, ◌>>=◌, ◌>>◌, branch, costs, again, no_more, looks, loop}
 use Rattle.nim_meaning.specs.Here.{Here, is_hooked, gives_hooked}
 use Rattle.nim_meaning.specs.Shapes.{is_read, is_given, selector_type, is_covered, is_last_block}
 use Rattle.nim_meaning.specs.Waiting.{waiting_first}
@@ -28,6 +28,8 @@ use Rattle.nim_meaning.specs.ActsOf.{head_acts, site_at, path_before, path_of}
 use Rattle.nim_meaning.specs.ActsOf.{loop_acts, selector_acts, stmt_acts, stmts_acts, first_block_acts, block_arms}
 use Rattle.nim_meaning.specs.Meaning as M
 use Rattle.nim_meaning.specs.Meaning.{at_node, waits_of, waits_in, ended_value, selecting, element_for, is_fresh, eval, fill, scoped, while_turn, limit}
+use Rattle.nim_meaning.specs.Deeds.{carry}
+use Rattle.nim_meaning.specs.Places.{length_at, item_at}
 use Rattle.nim_meaning.specs.Meaning.{count_turn, still, element_at, each_turn, result_gets}
 use Rattle.nim_meaning.specs.Aims.{Aim, ItemOf, find}
 use Rattle.nim_meaning.specs.Meaning.{head_values, ready_operand, ready_rest, ready_aim, test_of, selector_of, loop_over, exec, exec_all, first_block}
@@ -74,7 +76,8 @@ module _ (raises : Raises) (E : Graph) (at_call : ℕ → ℕ → Mode) (here : 
   plainly_chosen : {a : Answer} {b : Acts} (ty : Option Ty) (x : Value) (go : Value → Does (answer a)) → gives_hooked here.facts ty ≡ false →
       B a b (go x) → B a b (selecting here ty x go)
   plainly_chosen {a} {b} ty x go e f =
-      subst (λ c. B a b (branch c (looks (λ world. costs (length (text_of world x)) (go (Fixed (text_of world x))))) (go x))) (sym e) f
+      subst (λ c. B a b (branch c (looks (λ world. branch (is_whole world x) (costs (length (text_of world x)) (go (Fixed (text_of world x)))) wrong)) (go x)))
+      (sym e) f
 
   -- the scope of a place without hooks does nothing
   in_scope : {b : Acts} {act : Does (Unit {0})} (place : Declared) (last : ℕ) → hooked place.of ≡ false → B Nothing b act →
@@ -120,7 +123,7 @@ module _ (raises : Raises) (E : Graph) (at_call : ℕ → ℕ → Mode) (here : 
       abbrev turn_by : Bool → ℕ → ℕ → Does (Turn ℕ (Unit {0}))
       turn_by hook len x =
           find aim >>= (λ found. still found len >> branch hook
-          (at_node n Done_by (looks (λ world. give (item_of (load world found) found x)))
+          (at_node n Done_by (carry (item_at found x))
           >>= (λ item. at_node n Fills (element_for here place borrows item) >> again (scoped here place last body) (suc x)))
           (at_node n Done_by (element_at found x)
           >>= (λ v. at_node n Fills (fill here place.number v) >> again (scoped here place last body) (suc x))))
@@ -149,7 +152,7 @@ module _ (raises : Raises) (E : Graph) (at_call : ℕ → ℕ → Mode) (here : 
   -- the elements are counted where they are looked up
   counted_part : {F : Acts → Acts} {go : ℕ → Does (Unit {0})} (n : ℕ) (d : Act) (aim : Aim) → makes d ≡ [] → LooksFor here d aim →
       ((len : ℕ) → P Nothing F (go len)) →
-      P Nothing (λ rest. Then (Do n Looks_up d) (F rest)) (at_node n Looks_up (find aim) >>= (λ found. looks (λ world. go (length_of (load world found)))))
+      P Nothing (λ rest. Then (Do n Looks_up d) (F rest)) (at_node n Looks_up (find aim) >>= (λ found. carry (length_at found) >>= go))
   counted_part {F} {go} n d aim none l g = record {
     keeps = λ rest k p c q x. later ((g 0).keeps rest k p c q x);
     makes = λ rest. subst (λ ns. ns ++ all_made (F rest) ≡ all_made rest) (sym none) ((g 0).makes rest);
@@ -233,7 +236,7 @@ module _ (raises : Raises) (E : Graph) (at_call : ℕ → ℕ → Mode) (here : 
       (λ rest. Then (Do n Looks_up (looked_up head []))
       (Then (Loop n Done (Then (Do n Done_by (looked_up head (Index None ∷ []))) (Then (Do n Fills a) (scope hooked at_call variable last b)))) rest))
       (at_node n Looks_up (find (ready_aim ready))
-      >>= (λ found. looks (λ world. loop (each_turn n here variable (is_fresh head) last body (ready_aim ready) (length_of (load world found))) 0))))
+      >>= (λ found. carry (length_at found) >>= (λ len. loop (each_turn n here variable (is_fresh head) last body (ready_aim ready) len) 0))))
       (sym (element_fills variable head plain))
       (counted_part n (looked_up head []) (ready_aim ready) (looked_makes_none head []) (head_looks here head l)
       (λ len. each_part n variable last (looked_up head (Index None ∷ [])) plain f (ready_aim ready)

@@ -5,18 +5,16 @@ use Rattle.arc_base.specs.BigStep.{Res, Got, Over, Going, Errs, then_do, Turn}
 use Rattle.nim_program.specs.Program.{Declared, Calling}
 use Rattle.nim_program.specs.declared.stmt.Leaving.{Leaving}
 use Rattle.nim_program.specs.declared.stmt.Leaving.TheVariants as K
-use Rattle.nim_program.specs.Traps.{LengthChanged}
-use Rattle.std.specs.Prelude.{nat_eq}
 use Rattle.nim_meaning.specs.ActTree.{On as On_flow, Pass, Fill, Give, Named, whole, Invoke, Look}
 use Rattle.nim_meaning.specs.Ways.{Point, Exits, Graph, onto}
-use Rattle.nim_meaning.specs.State.{State, load}
-use Rattle.nim_meaning.specs.Values.{Value, Location, length_of}
+use Rattle.nim_meaning.specs.State.{State}
+use Rattle.nim_meaning.specs.Values.{Value, Location}
 use Rattle.nim_meaning.specs.Acts.{Outcome, On, Out as LeftBy, Does, give, exit_of, left_as, leaving_scope, as_before, onward, ◌>>=◌, ◌>>◌, branch, costs}
-use Rattle.nim_meaning.specs.Acts.{worked, passing, looks}
-use Rattle.nim_meaning.specs.Acts.{leave, loop, stop}
+use Rattle.nim_meaning.specs.Acts.{worked, passing}
+use Rattle.nim_meaning.specs.Acts.{leave, loop}
 use Rattle.nim_meaning.specs.Deeds.{carry}
 use Rattle.nim_meaning.specs.Here.{Here, is_hooked}
-use Rattle.nim_meaning.specs.Places.{place_at, put, fetched, item_of}
+use Rattle.nim_meaning.specs.Places.{place_at, put, fetched, length_at, fetched_item, as_long}
 use Rattle.nim_meaning.specs.Aims.{find, settle}
 use Rattle.nim_meaning.specs.Meaning.{carried, fill, place_ends, ends, scoped, still, element_at, exit_by}
 use Rattle.nim_meaning.specs.AtPoints.{Answer, answer, Known, Counter, counter, flow_by, DoesBy, TurnsBy, gives, hands_on, works_first, follows_on, same_way}
@@ -25,7 +23,7 @@ use Rattle.nim_meaning.specs.AtPoints.{passes, leaves, loops, in_scope, reads, r
 use Rattle.nim_meaning.specs.AtPoints.{turn_follows, turn_passes, turn_again, turn_ends, turn_reads}
 use Rattle.nim_meaning.proofs.RunLemmas.{AreElsewhere, Still, Answers, past, gone_none, gone_one, Goes, goes_same, then_goes, goes_still, goes_past, past_still}
 use Rattle.nim_meaning.proofs.RunLoops.{TurnGoes, then_turn, turn_past, turn_anew, goes_round}
-use Rattle.nim_meaning.proofs.StillLemmas.{still_give, still_looks, still_branch, still_stop, still_carry, still_find, still_settle, still_carried}
+use Rattle.nim_meaning.proofs.StillLemmas.{still_carry, still_find, still_settle, still_carried}
 
 -- nothing is claimed of what it goes on with
 any : {A : Type 0} (r : Res State (Outcome A)) → Answers (λ x. Unit {0}) r
@@ -65,9 +63,8 @@ module _ (E : Graph) (here : Here) where
   known (fills v e) s = tt
   known (gives_result {p = p} {place = place} v e) s = any (passing p (carry (put (place_at here.level place) v)) s)
   known (counts {b = b} {p = p} {aim = aim} {go = go} e l g) s =
-      then_answers (λ x. Unit {0}) (Known here b) (find aim (past p s)) (λ found. looks (λ world. go (length_of (load world found))))
-      (any (find aim (past p s)))
-      (λ found u t. known (g (length_of (load t.world found))) t)
+      then_answers (λ x. Unit {0}) (Known here b) (find aim (past p s)) (λ found. carry (length_at found) >>= go) (any (find aim (past p s)))
+      (λ found u t. then_answers (λ x. Unit {0}) (Known here b) (carry (length_at found) t) go (any (carry (length_at found) t)) (λ len u t. known (g len) t))
 
   module _ (elsewhere : List Point → Type 0) (apart : AreElsewhere elsewhere here.calls) where
     abbrev G : {A : Type 0} → Point → Exits → List Point → Res State (Outcome A) → Type 0
@@ -102,12 +99,10 @@ module _ (E : Graph) (here : Here) where
     still_fill place v = record { at = λ s. refl }
 
     still_same : (found : Location) (n : ℕ) → Still elsewhere (still found n)
-    still_same found n =
-        still_looks elsewhere _ (λ world. still_branch elsewhere (nat_eq (length_of (load world found)) n) (give tt) (stop LengthChanged)
-        (still_give elsewhere tt) (still_stop elsewhere LengthChanged))
+    still_same found n = still_carry elsewhere (as_long found n)
 
     still_element : (found : Location) (i : ℕ) → Still elsewhere (element_at found i)
-    still_element found i = still_looks elsewhere _ (λ world. still_carry elsewhere (fetched (item_of (load world found) found i)))
+    still_element found i = still_carry elsewhere (fetched_item found i)
 
     -- what passes no point, and then more
     still_then : {A B : Type 0} (p : Point) (k : Exits) (act : Does A) (go : A → Does B) → Still elsewhere act →
@@ -152,9 +147,9 @@ module _ (E : Graph) (here : Here) where
           past_still E elsewhere p (Give (whole (Named place))) k (carry (put (place_at here.level place) v)) e
           (still_carry elsewhere (put (place_at here.level place) v)) s
       goes (counts {p = p} {q = q} {k = k} {d = d} {aim = aim} {go = go} e l g) s =
-          then_goes E elsewhere (λ x. Unit {0}) p q k s.trail (passing p (find aim) s) (λ found. looks (λ world. go (length_of (load world found))))
+          then_goes E elsewhere (λ x. Unit {0}) p q k s.trail (passing p (find aim) s) (λ found. carry (length_at found) >>= go)
           (any (passing p (find aim) s)) (past_still E elsewhere p d (onto q k) (find aim) e (still_find elsewhere aim) s)
-          (λ found u t. goes (g (length_of (load t.world found))) t)
+          (λ found u t. still_then q k (carry (length_at found)) go (still_carry elsewhere (length_at found)) (λ len t. goes (g len) t) t)
 
       turn_goes : {c : Counter} {p next after : Point} {k : Exits} {act : Does (Turn (counter c) (Unit {0}))} → TurnsBy E here c p next after k act →
           (s : State) → TurnGoes E elsewhere p next after k s.trail (act s)

@@ -162,7 +162,8 @@ module _ (raises : Raises) (program : Program) (plan : Plan) where
   still_end here params last flow h =
       still_both other (params_end here params (exit_of last flow)) _ (still_params here params (exit_of last flow))
       (still_looks other _
-      (λ world. still_both other (change (down_to here.level)) _ (still_change other (down_to here.level)) (still_costs other _ (handing flow (result_of here.result here.level world)) (h _))))
+      (λ world. still_both other (change (down_to here.level)) _ (still_change other (down_to here.level))
+      (still_costs other _ (handing flow (result_of here.result here.level world)) (h _))))
 
   body_returns : (proc : ℕ) (here : Here) (params : List Param) (last : ℕ) (r : Res State (Outcome (Unit {0}))) →
       GoesBy (procedure_graph raises plan.sinks program proc) (first_point_of raises plan.sinks program proc) Stop other [] r →

@@ -18,8 +18,8 @@ use Rattle.nim_program.specs.Ints.{is_true}
 use Rattle.nim_meaning.specs.ActTree.{Root, Path, Operands, Does as Done_by, Chooses, Asks, Decides, Look, Operate, Acts, Done, Then, Do}
 use Rattle.nim_meaning.specs.Ways.{Graph, Raises}
 use Rattle.nim_meaning.specs.Values.{Value, Fixed, Made, Location, nothing, number_of, literal_value, Operand, At}
-use Rattle.nim_meaning.specs.State.{State, text_of}
-use Rattle.nim_meaning.specs.Acts.{Outcome, On, Out as LeftBy, Does, give, onward, ◌>>=◌, branch, costs, looks}
+use Rattle.nim_meaning.specs.State.{State, text_of, is_whole}
+use Rattle.nim_meaning.specs.Acts.{Outcome, On, Out as LeftBy, Does, wrong, give, onward, ◌>>=◌, branch, costs, looks}
 use Rattle.nim_meaning.specs.Deeds.{Deed, carry}
 use Rattle.nim_meaning.specs.Here.{Here, gives_hooked, any_hooked, form_for, is_hooked as type_hooked, act_at}
 use Rattle.nim_meaning.specs.Places.{taken_by, fetched}
@@ -137,12 +137,14 @@ module _ (raises : Raises) (E : Graph) (at_call : ℕ → ℕ → Mode) (here : 
   IsPlainOf act of = Unit {0}
 
   done_part : (n : ℕ) (act : T.Act) (operands : Args) (on : Operands) (how : Use) (ty : Option Ty) (ready : List Ready) →
-      gives_hooked here.facts ty ≡ false → IsPlainOf act (types_in operands) → on.alters ≡ paths_among (paths_in operands) → AllLead here (paths_in operands) ready →
+      gives_hooked here.facts ty ≡ false → IsPlainOf act (types_in operands) → on.alters ≡ paths_among (paths_in operands) →
+      AllLead here (paths_in operands) ready →
       P A_value (λ r. Then (done_by n act operands on) r) (settle ready >>= (λ xs. at_node n Done_by (carried here n act how ty operands xs)))
   done_part n (T.Doing operation) operands on how ty ready plain h e l =
       let to = destination here how n in
       part_do raises E here n Done_by (act_by operation operands on) (act_makes_none operation operands on)
-      (λ k i. works_there {deed = λ xs. row here.facts (T.Doing operation) to ty (types_in operands) xs} i (done_as here.facts to ty (types_in operands) operation operands on plain h e) l)
+      (λ k i. works_there {deed = λ xs. row here.facts (T.Doing operation) to ty (types_in operands) xs} i
+      (done_as here.facts to ty (types_in operands) operation operands on plain h e) l)
   done_part n (T.Building fields) operands on how ty ready plain h e l =
       let to = destination here how n in
       part_do raises E here n Done_by (Operate on) refl
@@ -206,7 +208,8 @@ module _ (raises : Raises) (E : Graph) (at_call : ℕ → ℕ → Mode) (here : 
   pub plainly_selected : {a : Answer} {F : Acts → Acts} (ty : Option Ty) (x : Value) (go : Value → Does (answer a)) → gives_hooked here.facts ty ≡ false →
       P a F (go x) → P a F (selecting here ty x go)
   plainly_selected {a} {F} ty x go e f =
-      subst (λ b. P a F (branch b (looks (λ world. costs (length (text_of world x)) (go (Fixed (text_of world x))))) (go x))) (sym e) f
+      subst (λ b. P a F (branch b (looks (λ world. branch (is_whole world x) (costs (length (text_of world x)) (go (Fixed (text_of world x)))) wrong)) (go x)))
+      (sym e) f
 
   -- what doesn't wait makes no temporary
   not_waiting : {F : Acts → Acts} {act : Does Value} (b : Bool) (n : ℕ) → P A_value F act → P A_value (λ r. F (used (b && false) n r)) act

@@ -15,7 +15,7 @@ use Rattle.nim_meaning.proofs.Parts.{Said, Closed, taking, ends_is}
 use Rattle.nim_meaning.proofs.Calls.{ClosedCalls, whole_program}
 
 abbrev pub tame : Said
-tame = record { of = Tame; turn = TameTurn; errs = Unit {0} }
+tame = record { of = Tame; turn = TameTurn; mild = ⊥ }
 
 tame_takes : {A : Type 0} (class : ℕ) (contents : Contents) (rest : World → Does A) (fails : Does A) → ((world : World) → Tame (rest world)) → Tame fails →
     Tame (taking class contents rest fails)
@@ -29,13 +29,13 @@ pub closed : Closed tame
 closed = record {
   got = tame_got;
   ended = tame_end;
-  errs = λ e. tame_wrong;
+  errs = λ free. tame_wrong;
   then = tame_then;
   costs = tame_costs;
   says = tame_says;
-  looks = tame_looks;
+  looks = λ act h. tame_looks act (λ world. h world (λ never. absurd never));
   changes = λ c. tame_change (changed c);
-  takes = tame_takes;
+  takes = λ free. tame_takes;
   passes = tame_passing;
   turn_again = turn_again;
   turn_last = turn_last;
@@ -81,4 +81,4 @@ calls = record {
 }
 
 pub tame_program : (program : Program) (plan : Plan) → Tame (goes_through program plan)
-tame_program program plan = whole_program (λ level. tame) calls program plan
+tame_program program plan = whole_program (λ level. tame) calls program plan (λ level never. absurd never)

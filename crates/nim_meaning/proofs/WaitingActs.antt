@@ -48,7 +48,8 @@ module _ (facts : Facts) (modes : (proc position : ℕ) → Mode) where
   hooked_is (Some ty) = refl
 
   -- a value that waits
-  used_makes : (b w : Bool) (n : ℕ) (ty : Option Ty) (f : Form) (rest : Acts) → all_made (used (b && w) n rest) ≡ nodes_of (wait_if (b && w) n ty f) ++ all_made rest
+  used_makes : (b w : Bool) (n : ℕ) (ty : Option Ty) (f : Form) (rest : Acts) →
+      all_made (used (b && w) n rest) ≡ nodes_of (wait_if (b && w) n ty f) ++ all_made rest
   used_makes true true n ty f rest = refl
   used_makes true false n ty f rest = refl
   used_makes false w n ty f rest = refl

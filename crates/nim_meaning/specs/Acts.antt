@@ -51,7 +51,7 @@ give x s = Got (On x) s
 abbrev pub leave : {A : Type 0} → Exit → Does A
 leave exit s = Got (Out exit) s
 
--- a run that the plan has made wrong
+-- a run that did what no rule allows
 abbrev pub wrong : {A : Type 0} → Does A
 wrong s = Errs s
 

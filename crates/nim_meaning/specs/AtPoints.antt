@@ -13,13 +13,13 @@ use Rattle.nim_program.specs.Program.{Declared, Calling}
 use Rattle.nim_meaning.specs.ActTree.{Root, Named, Temporary, Literal, Step, Field, Index, Path, whole, Operands}
 use Rattle.nim_meaning.specs.ActTree.{Flow, On, Out, Turn_over, Back, Act, Pass, Look, Fill, Give, Operate, Invoke}
 use Rattle.nim_meaning.specs.Ways.{Point, Exits, Graph, onto, looped}
-use Rattle.nim_meaning.specs.Values.{Value, length_of, Standing, Made, Location, nowhere, Operand, location_of, location}
+use Rattle.nim_meaning.specs.Values.{Value, Standing, Made, Location, nowhere, Operand, location_of, location}
 use Rattle.nim_meaning.specs.State.{World, State, load}
-use Rattle.nim_meaning.specs.Acts.{Does, give, leave, ◌>>=◌, ◌>>◌, costs, looks, passing, loop, again, no_more}
-use Rattle.nim_meaning.specs.Deeds.{Stores, Deed, Gives, Ends, Works, Says, Looks, Changes, carry}
+use Rattle.nim_meaning.specs.Acts.{Does, give, leave, ◌>>=◌, ◌>>◌, costs, passing, loop, again, no_more}
+use Rattle.nim_meaning.specs.Deeds.{Stores, Deed, Gives, Ends, Errs, Works, Says, Looks, Changes, carry}
 use Rattle.nim_meaning.specs.Here.{Here, level_of, is_hooked}
 use Rattle.nim_meaning.specs.Aims.{Aim, Root as At_root, Value_of, PartOf, ItemOf, ObjectOf, find, fresh_root, Ready, Evaluated, Aimed, operand_for, settle}
-use Rattle.nim_meaning.specs.Places.{place_at, put, fetched}
+use Rattle.nim_meaning.specs.Places.{place_at, put, fetched, length_at}
 use Rattle.nim_meaning.specs.Shapes.{has_node}
 use Rattle.nim_meaning.specs.ActsOf.{path_of}
 use Rattle.nim_meaning.specs.Meaning.{carried, fill, scoped, still, element_at, exit_by}
@@ -68,10 +68,9 @@ Alike reads a b = (a.heap ≡ b.heap) × ((l : Location) → reads l → load a 
 pub data Within (A : Type 0) (reads writes : Location → Type 0) : Deed A → Type 0 where
   answers : {x : A} → Within A reads writes (Gives x)
   ends_run : {status : ℕ} → Within A reads writes (Ends status)
+  at_fault : Within A reads writes Errs
   works : {n : ℕ} {rest : Deed A} → Within A reads writes rest → Within A reads writes (Works n rest)
   says : {events : List Event} {rest : Deed A} → Within A reads writes rest → Within A reads writes (Says events rest)
-  loads : {location : Location} {rest : Value → Deed A} → reads location → ((v : Value) → Within A reads writes (rest v)) →
-      Within A reads writes (Looks (λ world. rest (load world location)))
   looks_at_all : {rest : World → Deed A} → ((a b : World) → Alike reads a b → rest a ≡ rest b) → ((world : World) → Within A reads writes (rest world)) →
       Within A reads writes (Looks rest)
   stores : {location : Location} {v : Value} {rest : Deed A} → writes location → Within A reads writes rest →
@@ -91,6 +90,9 @@ At_any (x ∷ xs) l = (l ≡ location_of x) ⊎ At_any xs l
 -- it goes on only where it has written one, and it reads none
 pub data Writes (A : Type 0) (writes : Location → Type 0) : Deed A → Type 0 where
   writes_first : {n : ℕ} {rest : Deed A} → Writes A writes rest → Writes A writes (Works n rest)
+  looks_at_blocks : {rest : World → Deed A} → ((a b : World) → a.heap ≡ b.heap → rest a ≡ rest b) → ((world : World) → Writes A writes (rest world)) →
+      Writes A writes (Looks rest)
+  never_goes_on : Writes A writes Errs
   writes_there : {location : Location} {v : Value} {rest : Deed A} → writes location → Within A At_none writes rest →
       Writes A writes (Changes (Stores location v) rest)
 
@@ -193,7 +195,7 @@ module _ (E : Graph) (here : Here) where
       -- elements are counted
       counts : {b : Answer} {p q : Point} {k : Exits} {d : Act} {aim : Aim} {go : ℕ → Does (answer b)} → E p d q → LooksFor here d aim →
           ((len : ℕ) → DoesBy b q k (go len)) →
-          DoesBy b p k (passing p (find aim) >>= (λ found. looks (λ world. go (length_of (load world found)))))
+          DoesBy b p k (passing p (find aim) >>= (λ found. carry (length_at found) >>= go))
 
     -- A turn of a loop leads from p to where the next one begins, or to what follows.
     pub data TurnsBy : (c : Counter) → (p next after : Point) → Exits → Does (Turn (counter c) (Unit {0})) → Type 0 where

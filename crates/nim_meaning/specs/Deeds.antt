@@ -8,6 +8,7 @@ use Rattle.nim_program.specs.Traps.{Trap, OutOfMemory, trap_text}
 use Rattle.nim_meaning.specs.Values.{Value, Location, Slot}
 use Rattle.nim_meaning.specs.Heap.{Contents, Block, Class, has_room, taken, given, block_at, with_contents}
 use Rattle.nim_meaning.specs.State.{OfBlock, Took, Gave, Born, Ended, World, with_slot, with_one_waiting, with_none_waiting, pushed, popped, reading_on, store}
+use Rattle.nim_meaning.specs.State.{is_live, is_there, is_seen, load}
 use Rattle.nim_meaning.specs.Acts as Acts
 use Rattle.nim_meaning.specs.Acts.{Does, line_of}
 
@@ -65,7 +66,7 @@ with_block class contents world = record world {
 pub data Deed (A : Type 0) : Type 0 where
   Gives : (answer : A) → Deed A
   Ends : (status : ℕ) → Deed A
-  -- the plan has made the run wrong
+  -- what is looked at is gone
   Errs : Deed A
   Works : (work : ℕ) (rest : Deed A) → Deed A
   Says : (events : List Event) (rest : Deed A) → Deed A
@@ -149,6 +150,25 @@ looks deed = Looks deed
 
 abbrev pub does : Change → Deed (Unit {0})
 does change = Changes change (Gives tt)
+
+-- Who looks at what is gone is at a fault.
+abbrev pub unless_gone : {A : Type 0} → (there : Bool) → Deed A → Deed A
+unless_gone there go = branch there go Errs
+
+-- the value at a location is looked at, with what it has in a block
+abbrev pub sees : {A : Type 0} → Location → (World → Value → Deed A) → Deed A
+sees location go = Looks (λ world. unless_gone (is_seen world location) (go world (load world location)))
+
+abbrev pub sets : Location → Value → Deed (Unit {0})
+sets location v = Looks (λ world. unless_gone (is_there world location) (does (Stores location v)))
+
+abbrev pub frees : Option ℕ → Deed (Unit {0})
+frees None = give tt
+frees (Some k) = Looks (λ world. unless_gone (is_live world k) (does (Frees k)))
+
+abbrev pub refills : Option ℕ → Contents → Deed (Unit {0})
+refills None contents = give tt
+refills (Some k) contents = Looks (λ world. unless_gone (is_live world k) (does (Refills k contents)))
 
 -- bytes are written, each as a work
 abbrev pub write : Stream → List ℕ → Deed (Unit {0})

@@ -4,20 +4,20 @@ use Rattle.arc_base.specs.BigStep.{Res, Got, Over, Going, Errs}
 use Rattle.nim_meaning.specs.Heap.{Class, Block, block_at, demand}
 use Rattle.nim_meaning.specs.State.{Happening, Took, Gave, Born, Ended, OfBlock, OfResource, World, State}
 
--- it isn't wrong; at an answer the world is as J says, and where the run has ended, or goes on without a unit, as K says
-abbrev pub Meets : {A : Type 0} → (K : World → Type 0) → (J : A → World → Type 0) → Res State A → Type 0
-Meets K J (Got x s) = J x s.world
-Meets K J (Over status live s) = K s.world
-Meets K J (Going s) = K s.world
-Meets K J (Errs s) = ⊥
+-- At an answer the world is as J says; where the run has ended, or goes on without a unit, as K says; and where it is wrong, as W says.
+abbrev pub Meets : {A : Type 0} → (W K : World → Type 0) → (J : A → World → Type 0) → Res State A → Type 0
+Meets W K J (Got x s) = J x s.world
+Meets W K J (Over status live s) = K s.world
+Meets W K J (Going s) = K s.world
+Meets W K J (Errs s) = W s.world
 
--- it isn't wrong, and at an answer the world is so
+-- at an answer the world is so
 abbrev pub IsKept : {A : Type 0} → (A → World → Type 0) → Res State A → Type 0
-IsKept J r = Meets (λ world. Unit {0}) J r
+IsKept J r = Meets (λ world. Unit {0}) (λ world. Unit {0}) J r
 
--- it isn't wrong, and wherever it stands the world is so
+-- wherever it stands the world is so
 abbrev pub IsAlways : {A : Type 0} → (World → Type 0) → Res State A → Type 0
-IsAlways K r = Meets K (λ x. K) r
+IsAlways K r = Meets K K (λ x. K) r
 
 -- as many frames as calls are active, and that of the start code
 abbrev pub Framed : ℕ → World → Type 0

@@ -2,12 +2,12 @@
 use Rattle.std.specs.Prelude.{ℕ, zero, suc, ◌+◌, ◌*◌, Bool, true, false, nat_le, List, length, Option, Some, None}
 use Rattle.nim_types.specs.Forms.{Form, plain, reference, block, elements, row, parts, resource, wrapped, Forms, no_forms, forms, of_some, hooked, hooked_any}
 use Rattle.nim_types.specs.Forms.{size}
-use Rattle.nim_meaning.specs.Values.{Value, Handle, Parts, Vacant, nothing, Values, Nil, More, count, length_of, text_in, parts_of, block_of, repeated, vacant}
+use Rattle.nim_meaning.specs.Values.{Value, Handle, Vacant, nothing, Values, count, length_of, block_of, repeated, vacant}
 use Rattle.nim_meaning.specs.Values.{bytes}
 use Rattle.nim_meaning.specs.Values.{InHand, Waiting, Location, deeper, item_of, at_base, Slot, Holds, Stands, Lends, Operand, Given, At}
 use Rattle.nim_meaning.specs.Heap.{Contents, Characters, Elements, Block, class_for, block_at}
 use Rattle.nim_meaning.specs.State.{World, load, text_of, temporary_at}
-use Rattle.nim_meaning.specs.Deeds.{Deed, Takes, Stores, Leaves, Pushes, Pops, Refills, Frees, does, give, ◌>>=◌, ◌>>◌, branch, costs, looks}
+use Rattle.nim_meaning.specs.Deeds.{Deed, Takes, Leaves, Pushes, Pops, does, give, ◌>>=◌, ◌>>◌, branch, costs, looks, sees, sets, frees, refills}
 
 -- ---- part by part
 
@@ -58,14 +58,6 @@ fresh_text text = fresh (length text) (length text) (Characters text)
 abbrev pub fresh_sequence : (of : Form) → Values → Deed Value
 fresh_sequence of vs = fresh (count vs) (count vs * size of) (Elements vs)
 
-abbrev pub frees : Option ℕ → Deed (Unit {0})
-frees None = give tt
-frees (Some k) = does (Frees k)
-
-abbrev pub refills : Option ℕ → Contents → Deed (Unit {0})
-refills None contents = give tt
-refills (Some k) contents = does (Refills k contents)
-
 -- whether so many bytes fit into a block
 abbrev pub holds_class : Option Block → (class : ℕ) → Bool
 holds_class None class = false
@@ -79,22 +71,22 @@ has_place world (Some k) (suc n) = holds_class (block_at world.heap k) (class_fo
 -- The text or sequence at a location gets other contents, of so many elements and bytes: in its block, or in the smallest one that holds them, and then
 -- the present one is given back.
 abbrev pub resized : (length bytes : ℕ) → Contents → Location → Deed (Unit {0})
-resized n bytes contents location = looks λ world. branch (has_place world (block_of (load world location)) bytes)
-    (refills (block_of (load world location)) contents >> does (Stores location (Handle n (block_of (load world location)))))
-    (fresh n bytes contents >>= (λ new. does (Stores location new) >> frees (block_of (load world location))))
+resized n bytes contents location = sees location (λ world v. branch (has_place world (block_of v) bytes)
+    (refills (block_of v) contents >> sets location (Handle n (block_of v)))
+    (fresh n bytes contents >>= (λ new. sets location new >> frees (block_of v))))
 
 -- ---- ends
 
 -- what is left where a text or a sequence was, whose block is given back
 abbrev pub left_vacant : (bytes : ℕ) → Location → Value → Deed (Unit {0})
-left_vacant bytes location v = costs bytes (does (Stores location Vacant) >> frees (block_of v))
+left_vacant bytes location v = costs bytes (sets location Vacant >> frees (block_of v))
 
 abbrev pub ending : Walk
 ending = record {
   plainly = λ to from. give tt;
-  text = λ to from. looks (λ world. left_vacant (8 + length_of (load world to)) to (load world to));
-  sequence = λ of element to from. looks (λ world. each_element (length_of (load world to)) element 0 (load world to) to (load world to) to
-      >> left_vacant (8 + length_of (load world to) * size of) to (load world to));
+  text = λ to from. sees to (λ world v. left_vacant (8 + length_of v) to v);
+  sequence = λ of element to from.
+      sees to (λ world v. each_element (length_of v) element 0 v to v to >> left_vacant (8 + length_of v * size of) to v);
 }
 
 -- The value at a location ends: its parts and elements in order, and then the block is given back.
@@ -118,19 +110,19 @@ given_up f v = looks λ world. does (Pushes v) >> (ends_at f (in_hand world) >> 
 -- ---- copies
 
 abbrev pub bits : (to from : Location) → Deed (Unit {0})
-bits to from = looks λ world. costs (bytes (load world from)) (does (Stores to (load world from)))
+bits to from = sees from (λ world v. costs (bytes v) (sets to v))
 
 abbrev pub copied_elements : (of : Form) → (element : (to from : Location) → Deed (Unit {0})) → (to : Location) → Value → (from : Location) → Deed (Unit {0})
 copied_elements of element to w from = do
   v ← fresh (length_of w) (length_of w * size of) (Elements (repeated (length_of w) (vacant of)))
-  does (Stores to v) >> each_element (length_of w) element 0 v to w from
+  sets to v >> each_element (length_of w) element 0 v to w from
 
 -- A place in which nothing stands gets a copy. A text takes its block; a sequence takes its own before those of its elements.
 abbrev pub copying : Walk
 copying = record {
   plainly = bits;
-  text = λ to from. looks λ world. costs 8 (fresh_text (text_of world (load world from))) >>= (λ v. does (Stores to v));
-  sequence = λ of element to from. looks λ world. costs 8 (copied_elements of element to (load world from) from);
+  text = λ to from. sees from (λ world v. costs 8 (fresh_text (text_of world v)) >>= sets to);
+  sequence = λ of element to from. sees from (λ world v. costs 8 (copied_elements of element to v from));
 }
 
 abbrev pub copied : Form → (from : Location) → Deed Value
@@ -140,11 +132,11 @@ copied f from = under_way (vacant f) (λ to. walk copying f to from)
 
 -- the new value is put in the place, and then the old one ends
 abbrev pub replaced : Form → (to : Location) → (new : Value) → Deed (Unit {0})
-replaced f to new = costs 8 (looks (λ world. does (Stores to new) >> given_up f (load world to)))
+replaced f to new = costs 8 (sees to (λ world old. sets to new >> given_up f old))
 
 -- The values of two places trade places, and then what the second one got ends: so each has a place all the time.
 abbrev pub sunk : Form → (to from : Location) → Deed (Unit {0})
-sunk f to from = costs 8 (looks (λ world. does (Stores to (load world from)) >> (does (Stores from (load world to)) >> ends_at f from)))
+sunk f to from = costs 8 (sees to (λ world old. sees from (λ world new. sets to new >> (sets from old >> ends_at f from))))
 
 -- a place gets the value of another one, which is left without it
 abbrev pub sinking : Walk
@@ -183,27 +175,3 @@ slot_ends f location (Some (Lends v from seen)) = give tt
 abbrev pub temporary_ends : Form → (level node : ℕ) → Deed (Unit {0})
 temporary_ends f level node =
     costs 1 (looks (λ world. slot_ends f (at_base (Waiting level node)) (temporary_at world level node)) >> does (Leaves level node))
-
--- ---- constants
-
--- each value by the same
-abbrev pub each_value : (Value → Deed Value) → Values → Deed Values
-each_value act Nil = give Nil
-each_value act (More v vs) = act v >>= (λ x. each_value act vs >>= (λ xs. give (More x xs)))
-
--- a value of its own from one that stands in a constant: what is in a sequence takes its blocks before it
-abbrev mutual
-  pub built : Form → Value → Deed Value
-  built plain v = give v
-  built reference v = give v
-  built block v = fresh_text (text_in v)
-  built (elements f) v = each_value (built f) (parts_of v) >>= fresh_sequence f
-  built (row n f) v = each_value (built f) (parts_of v) >>= (λ vs. give (Parts vs))
-  built (parts fs) v = built_all fs (parts_of v) >>= (λ vs. give (Parts vs))
-  built (resource fs) v = give v
-  built (wrapped f) v = built f v
-
-  pub built_all : Forms → Values → Deed Values
-  built_all no_forms vs = give Nil
-  built_all (forms f fs) Nil = give Nil
-  built_all (forms f fs) (More v vs) = built f v >>= (λ x. built_all fs vs >>= (λ xs. give (More x xs)))

@@ -1,5 +1,5 @@
 -- What a program does: a meaning over its tree, which knows nothing of machines.
-use Rattle.std.specs.Prelude.{ℕ, zero, suc, ◌+◌, ◌-◌, ℤ, pos, ◌+ℤ◌, Bool, true, false, ◌&&◌, int_lt, nat_eq, nat_lt}
+use Rattle.std.specs.Prelude.{ℕ, zero, suc, ◌+◌, ◌-◌, ℤ, pos, ◌+ℤ◌, Bool, true, false, ◌&&◌, int_lt, nat_lt}
 use Rattle.std.specs.Prelude.{List, [], ◌∷◌, ◌++◌, length, replicate, map, Option, Some, None, slice_get}
 use Rattle.arc_base.specs.Event.{Event, Hook}
 use Rattle.arc_base.specs.Behaviour.{Behaviour}
@@ -21,9 +21,9 @@ use Rattle.nim_program.specs.Sizes.{if_place_bytes, body_sum}
 use Rattle.nim_program.specs.declared.operation.Use.{Use}
 use Rattle.nim_program.specs.declared.operation.Use.TheVariants.{Owned, Given as ToPlace, Looked}
 use Rattle.nim_program.specs.Uses.{use_of}
-use Rattle.nim_program.specs.Traps.{LengthChanged, CallDepth}
+use Rattle.nim_program.specs.Traps.{CallDepth}
 use Rattle.nim_program.specs.Ints.{is_true}
-use Rattle.nim_meaning.specs.Values.{Value, Number, nothing, number_of, length_of, bytes, default_of, literal_value, vacant, item_of, nowhere}
+use Rattle.nim_meaning.specs.Values.{Value, Number, nothing, number_of, bytes, default_of, literal_value, vacant, nowhere}
 use Rattle.nim_meaning.specs.Values.{Standing, Made, Location, Slot, Holds, Stands, Given, At, value_of}
 use Rattle.nim_meaning.specs.State.{Frame, World, State, live, load, slot_at, with_frame, down_to, world_of}
 use Rattle.nim_meaning.specs.ActTree as points
@@ -36,7 +36,7 @@ use Rattle.nim_meaning.specs.Lifted.{walk, copying, assigned, assigns, slot_ends
 use Rattle.nim_meaning.specs.Here.{Calls, Here, level_of, is_hooked, gives_hooked}
 use Rattle.nim_meaning.specs.Waiting.{waiting_first, held_from}
 use Rattle.nim_meaning.specs.Aims.{Aim, Root, Value_of, PartOf, ItemOf, ObjectOf, find, fresh_root, Ready, Evaluated, Aimed, is_lent_own, operand_for, settle}
-use Rattle.nim_meaning.specs.Places.{place_at, fetched, put}
+use Rattle.nim_meaning.specs.Places.{place_at, fetched, length_at, item_at, fetched_item, as_long, put}
 use Rattle.nim_meaning.specs.Shapes.{selector_type, is_covered, is_last_value, is_last_block, modes_in}
 pub use Rattle.nim_meaning.specs.Steps.{at_node, at_path, all_end, ended, grouped, waits_of, waits_in, ended_value, destination, row, taking_up, left_at}
 pub use Rattle.nim_meaning.specs.Steps.{carried, got_by, got, gets_copy, early, is_same, fits_text, fits_label, label_work, picked, selecting, handed_by}
@@ -190,10 +190,10 @@ count_turn node here place last body limit i =
 
 -- the elements are still as many
 abbrev pub still : Location → ℕ → Does (Unit {0})
-still location n = looks (λ world. branch (nat_eq (length_of (load world location)) n) (give tt) (stop LengthChanged))
+still location n = carry (as_long location n)
 
 abbrev pub element_at : Location → ℕ → Does Value
-element_at location i = looks (λ world. carry (fetched (item_of (load world location) location i)))
+element_at location i = carry (fetched_item location i)
 
 -- The place of a loop gets an element: a copy of it, or, where the head is a value of its own, the place stands for it.
 abbrev pub element_for : Here → Declared → (borrows : Bool) → Location → Does (Unit {0})
@@ -208,7 +208,7 @@ each_turn node here place borrows last body aim len i =
       still location len
       branch (is_hooked here.facts place.of)
           (do
-            item ← at_node node Done_by (looks (λ world. give (item_of (load world location) location i)))
+            item ← at_node node Done_by (carry (item_at location i))
             at_node node Fills (element_for here place borrows item)
             again (scoped here place last body) (suc i))
           (do
@@ -286,7 +286,8 @@ loop_over (Count place inclusive) node head last body here = grouped here node (
 loop_over (Each place) node head last body here = grouped here node (waits_in here head) do
   ready ← head_values head here
   location ← at_node node Looks_up (find (ready_aim ready))
-  looks (λ world. loop (each_turn node here place (is_fresh head) last body (ready_aim ready) (length_of (load world location))) 0)
+  len ← carry (length_at location)
+  loop (each_turn node here place (is_fresh head) last body (ready_aim ready) len) 0
 
 -- A statement's work is one, and comes first; that of one that is an expression is its node's.
 abbrev mutual

@@ -14,8 +14,8 @@ use Rattle.nim_meaning.specs.Heap.{Characters, Elements}
 use Rattle.nim_meaning.specs.State.{World, load, text_of, elements_of}
 use Rattle.nim_meaning.specs.Texts.{shown}
 use Rattle.nim_meaning.specs.Here.{form_for}
-use Rattle.nim_meaning.specs.Deeds.{Deed, Stores, Reads, does, give, ◌>>=◌, ◌>>◌, branch, costs, looks, stop}
-use Rattle.nim_meaning.specs.Lifted.{fresh, fresh_text, fresh_sequence, refills, resized, each_element, ends_at, under_way, replaced, assigns}
+use Rattle.nim_meaning.specs.Deeds.{Deed, Reads, does, give, ◌>>=◌, ◌>>◌, branch, costs, looks, sets, refills, stop}
+use Rattle.nim_meaning.specs.Lifted.{fresh, fresh_text, fresh_sequence, resized, each_element, ends_at, under_way, replaced, assigns}
 
 -- ---- types
 
@@ -66,7 +66,7 @@ abbrev pub shortened : Form → ℕ → Location → World → Deed Value
 shortened of zero location world = stop IndexOutOfBounds
 shortened of (suc n) location world = costs (size of)
     (refills (block_of (load world location)) (Elements (first_of n (elements_of world (load world location))))
-    >> (does (Stores location (Handle n (block_of (load world location)))) >> give (nth (elements_of world (load world location)) n)))
+    >> (sets location (Handle n (block_of (load world location))) >> give (nth (elements_of world (load world location)) n)))
 
 -- a number that is a length
 abbrev pub counted : ℤ → (ℕ → Deed Value) → Deed Value
@@ -80,7 +80,7 @@ text_to n t = take n t ++ replicate (n - length t) 0
 
 -- The elements behind a length end, in order; the block stays.
 abbrev pub cut : Form → ℕ → Location → Value → Deed (Unit {0})
-cut of n location v = does (Stores location (Handle n (block_of v)))
+cut of n location v = sets location (Handle n (block_of v))
     >> (each_element (length_of v - n) (λ to from. ends_at of to) n v location v location
     >> looks (λ world. refills (block_of v) (Elements (first_of n (elements_of world v)))))
 

@@ -1,7 +1,7 @@
 -- How places are found, read and written.
-use Rattle.std.specs.Prelude.{ℕ, ℤ, unsigned_abs, Bool, true, false, List, [], Option, Some, None}
+use Rattle.std.specs.Prelude.{ℕ, ℤ, unsigned_abs, nat_eq, Bool, true, false, List, [], Option, Some, None}
 use Rattle.nim_plan.specs.declared.plan.Act.{Act}
-use Rattle.nim_program.specs.Traps.{IndexOutOfBounds, NilDereference}
+use Rattle.nim_program.specs.Traps.{IndexOutOfBounds, NilDereference, LengthChanged}
 use Rattle.nim_program.specs.Ints.{inside}
 use Rattle.nim_program.specs.declared.operation.Use.{Use}
 use Rattle.nim_program.specs.declared.operation.Use.TheVariants.{Owned, Given, Lent, Looked}
@@ -11,7 +11,7 @@ pub use Rattle.nim_meaning.specs.Values.{item_of}
 use Rattle.nim_meaning.specs.Values.{deeper, nowhere, through}
 use Rattle.nim_meaning.specs.State.{World, slot_at, temporary_at, load}
 use Rattle.nim_meaning.specs.Values.{Slot, Holds}
-use Rattle.nim_meaning.specs.Deeds.{Deed, Gives, Stores, Waits, does, give, ◌>>=◌, ◌>>◌, branch, costs, looks, stop}
+use Rattle.nim_meaning.specs.Deeds.{Deed, Gives, Waits, does, give, ◌>>=◌, ◌>>◌, branch, costs, looks, sees, sets, stop}
 use Rattle.nim_meaning.specs.Lifted.{fresh_text, copied}
 
 -- ---- paths
@@ -44,8 +44,8 @@ abbrev pub to_part : Location → ℕ → Deed Location
 to_part location i = costs 1 (give (deeper location i))
 
 abbrev pub to_item : Location → ℤ → Deed Location
-to_item location z = costs 1 (looks (λ world. branch (inside z (length_of (load world location)))
-    (give (item_of (load world location) location (unsigned_abs z))) (stop IndexOutOfBounds)))
+to_item location z =
+    costs 1 (sees location (λ world v. branch (inside z (length_of v)) (give (item_of v location (unsigned_abs z))) (stop IndexOutOfBounds)))
 
 abbrev pub to_object : Location → Deed Location
 to_object location = looks (λ world. object_of (load world location))
@@ -62,7 +62,20 @@ from_heap = give nothing
 
 -- the bits at a location
 abbrev pub fetched : Location → Deed Value
-fetched location = looks (λ world. costs (bytes (load world location)) (give (load world location)))
+fetched location = sees location (λ world v. costs (bytes v) (give v))
+
+-- The elements of what stands at a location: how many there are, where one is, and what it is; and that they are still as many.
+abbrev pub length_at : Location → Deed ℕ
+length_at location = sees location (λ world v. give (length_of v))
+
+abbrev pub item_at : Location → ℕ → Deed Location
+item_at location i = sees location (λ world v. give (item_of v location i))
+
+abbrev pub fetched_item : Location → ℕ → Deed Value
+fetched_item location i = sees location (λ world v. fetched (item_of v location i))
+
+abbrev pub as_long : Location → ℕ → Deed (Unit {0})
+as_long location n = sees location (λ world v. branch (nat_eq (length_of v) n) (give tt) (stop LengthChanged))
 
 -- What the value of a node is for, and where it waits if it does: in the call at a level, at the node.
 pub record Destination : Type 0 where
@@ -108,8 +121,8 @@ made_by true to v = kept to v
 
 -- a value becomes that at a location, where one without hooks stood
 abbrev pub put : Location → Value → Deed Value
-put location v = costs (bytes v) (does (Stores location v) >> give nothing)
+put location v = costs (bytes v) (sets location v >> give nothing)
 
 -- the value at a location is taken, and another one put in its place
 abbrev pub exchanged : Location → Value → Deed Value
-exchanged location v = costs (bytes v) (looks (λ world. does (Stores location v) >> give (load world location)))
+exchanged location v = costs (bytes v) (sees location (λ world old. sets location v >> give old))

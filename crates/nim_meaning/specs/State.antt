@@ -1,10 +1,12 @@
 -- The state of a run.
-use Rattle.std.specs.Prelude.{ℕ, ◌-◌, nat_eq, if◌then◌else◌, List, [], ◌∷◌, ◌++◌, length, take, drop, Option, Some, None, option_map, slice_get, slice_set}
+use Rattle.std.specs.Prelude.{ℕ, ◌-◌, nat_eq, nat_lt, Bool, true, false, ◌&&◌, if◌then◌else◌, List, [], ◌∷◌, ◌++◌, length, take, drop}
+use Rattle.std.specs.Prelude.{Option, Some, None, option_map, slice_get, slice_set}
 use Rattle.arc_base.specs.Event.{Event}
 use Rattle.arc_base.specs.Behaviour.{Live, no_objects}
 use Rattle.arc_base.specs.BigStep.{Meter}
 use Rattle.nim_types.specs.Types.{Ty}
-use Rattle.nim_meaning.specs.Values.{Value, Parts, Handle, Fixed, Values, More, Nil, nothing, nth, parts_of, text_in, part, put_part, Base, Standing, Waiting}
+use Rattle.nim_meaning.specs.Values.{Value, Parts, Handle, Fixed, Values, More, Nil, nothing, nth, count, parts_of, text_in, part, put_part, Base, Standing}
+use Rattle.nim_meaning.specs.Values.{Waiting}
 use Rattle.nim_meaning.specs.Values.{InBlock, InHand}
 use Rattle.nim_meaning.specs.Values.{InException, Made, Location, Slot, Holds, value_in}
 use Rattle.nim_meaning.specs.Heap.{Contents, Characters, Elements, Object, Heap, block_at, Block, with_contents, heap_of}
@@ -188,6 +190,48 @@ text_of world v = text_in v
 abbrev pub elements_of : World → Value → Values
 elements_of world (Handle n (Some k)) = parts_of (contents_value (block_at world.heap k))
 elements_of world v = parts_of v
+
+-- ---- what is gone
+
+-- What is asked of the contents of a block. It isn't so of one that was given back; and a block that was never taken stands nowhere.
+abbrev pub is_so_in : (Contents → Bool) → Option (Option Block) → Bool
+is_so_in asked None = true
+is_so_in asked (Some None) = false
+is_so_in asked (Some (Some block)) = asked block.contents
+
+-- there are so many characters or elements
+abbrev pub has_as_many : ℕ → Contents → Bool
+has_as_many n (Characters text) = nat_eq (length text) n
+has_as_many n (Elements all) = nat_eq (count all) n
+has_as_many n (Object of v) = false
+
+-- the character or element where a path begins is one of them
+abbrev pub has_item : (path : List ℕ) → Contents → Bool
+has_item [] contents = true
+has_item (i ∷ path) (Characters text) = nat_lt i (length text)
+has_item (i ∷ path) (Elements all) = nat_lt i (count all)
+has_item (i ∷ path) (Object of v) = true
+
+-- a block wasn't given back
+abbrev pub is_live : World → ℕ → Bool
+is_live world k = is_so_in (λ contents. true) (slice_get world.heap.blocks k)
+
+-- what a text or a sequence has in its block is there, and as long as it
+abbrev pub is_whole : World → Value → Bool
+is_whole world (Handle n (Some k)) = is_so_in (has_as_many n) (slice_get world.heap.blocks k)
+is_whole world v = true
+
+abbrev pub leads_from : World → Base → (path : List ℕ) → Bool
+leads_from world (InBlock k) path = is_so_in (has_item path) (slice_get world.heap.blocks k)
+leads_from world base path = true
+
+-- a location leads to what is there: a block that it leads into wasn't given back, and has the element
+abbrev pub is_there : World → Location → Bool
+is_there world location = leads_from world location.base location.path
+
+-- and so does what stands at it
+abbrev pub is_seen : World → Location → Bool
+is_seen world location = is_there world location && is_whole world (load world location)
 
 abbrev pub new_contents : Contents → Value → Contents
 new_contents (Characters text) v = Characters (text_in v)

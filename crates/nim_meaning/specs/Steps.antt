@@ -15,11 +15,11 @@ use Rattle.nim_program.specs.declared.operation.Use.TheVariants.{Owned, Held}
 use Rattle.nim_program.specs.Ints.{truth}
 use Rattle.nim_meaning.specs.Values.{Value, Number, Fixed, number_of, bytes}
 use Rattle.nim_meaning.specs.Values.{Location, Operand, slots_for}
-use Rattle.nim_meaning.specs.State.{text_of}
+use Rattle.nim_meaning.specs.State.{text_of, is_whole}
 use Rattle.nim_meaning.specs.ActTree as points
 use Rattle.nim_meaning.specs.ActTree.{Begins, Does as Done_by, Leaves}
 use Rattle.nim_meaning.specs.Ways.{At as Spot}
-use Rattle.nim_meaning.specs.Acts.{Broke, Continued, Returned, Raised, Outcome, On, Out, Does, give, leave, as_before, ◌>>=◌, ◌>>◌, at_exit}
+use Rattle.nim_meaning.specs.Acts.{Broke, Continued, Returned, Raised, Outcome, On, Out, Does, give, leave, wrong, as_before, ◌>>=◌, ◌>>◌, at_exit}
 use Rattle.nim_meaning.specs.Acts.{left_as, branch, costs, looks, change, passing, leaving_scope}
 use Rattle.nim_meaning.specs.Deeds as deeds
 use Rattle.nim_meaning.specs.Deeds.{Deed, Leaves, changed, carry, ◌>>=◌ as then_deed}
@@ -148,7 +148,7 @@ picked (label ∷ labels) x holds fails = costs (label_work label) (branch (fits
 -- what labels are compared with: a number, or the text that a selector is now
 abbrev pub selecting : {A : Type 0} → Here → Option Ty → Value → (Value → Does A) → Does A
 selecting here ty x go = branch (gives_hooked here.facts ty)
-    (looks (λ world. costs (length (text_of world x)) (go (Fixed (text_of world x))))) (go x)
+    (looks (λ world. branch (is_whole world x) (costs (length (text_of world x)) (go (Fixed (text_of world x)))) wrong)) (go x)
 
 -- The value of a branch, with the temporaries of the branch. One with hooks waits at its node while they end, as what an operation takes does, and is
 -- then taken up: so it has a holder all the time.

@@ -12,15 +12,14 @@ use Rattle.nim_program.specs.Ints.{Checked, Fine, Trapped, applied, applied_to, 
 use Rattle.nim_program.specs.Program.{Act, Doing, Building, Giving, Calling, Literal}
 use Rattle.nim_program.specs.Program as P
 use Rattle.nim_meaning.specs.Values.{Value, Number, Parts, Fixed, Values, Nil, More, nothing, number_of, length_of, with_part, bytes, default_of, literal_value}
-use Rattle.nim_meaning.specs.Values.{Operand, Location, value, number, location, value_of, values_in}
-use Rattle.nim_meaning.specs.State.{load}
+use Rattle.nim_meaning.specs.Values.{Operand, Location, Made, at_base, value, number, location, value_of, values_in}
 use Rattle.nim_meaning.specs.Acts.{line_of}
-use Rattle.nim_meaning.specs.Texts.{texts_of}
+use Rattle.nim_meaning.specs.Texts.{texts_of, are_seen}
 use Rattle.nim_meaning.specs.Here.{gives_hooked, any_hooked, form_for}
-use Rattle.nim_meaning.specs.Lifted.{built}
+use Rattle.nim_meaning.specs.Lifted.{copied}
 use Rattle.nim_meaning.specs.Places.{from_heap, put, exchanged}
 use Rattle.nim_meaning.specs.OwnedRows.{owned}
-use Rattle.nim_meaning.specs.Deeds.{Deed, give, ◌>>=◌, ◌>>◌, branch, costs, looks, write, end, stop}
+use Rattle.nim_meaning.specs.Deeds.{Deed, give, ◌>>=◌, ◌>>◌, branch, costs, looks, unless_gone, sees, write, end, stop}
 
 -- ---- what rows are made of
 
@@ -71,7 +70,7 @@ step_by (x ∷ y ∷ rest) = number_of (value_of y)
 -- the number at a location becomes another one
 abbrev pub updated : Location → (ℤ → Deed Value) → Deed Value
 updated location next =
-    looks (λ world. costs (bytes (load world location)) (next (number_of (load world location)) >>= put location))
+    sees location (λ world v. costs (bytes v) (next (number_of v) >>= put location))
 
 -- `quit` without a status ends with 0
 abbrev pub status_of : List Operand → ℕ
@@ -81,7 +80,7 @@ status_of (x ∷ xs) = low_byte (number_of (value_of x))
 -- the values of two locations trade places
 abbrev pub swapped : Location → Location → Deed Value
 swapped left right =
-    looks (λ world. exchanged right (load world left)) >>= (λ v. exchanged left v >> give nothing)
+    sees left (λ world v. exchanged right v) >>= (λ v. exchanged left v >> give nothing)
 
 -- ---- operations
 
@@ -99,9 +98,9 @@ does O.Show facts ty of xs = from_heap
 does O.Make facts ty of xs = costs (bytes (Parts (values_in xs))) (give (Parts (values_in xs)))
 does O.Sequence facts ty of xs = from_heap
 does O.NewSequence facts ty of xs = from_heap
-does (O.Measure measure) facts ty of xs = looks (λ world. give (Number (measured measure (length_of (load world (location xs 0))))))
+does (O.Measure measure) facts ty of xs = sees (location xs 0) (λ world v. give (Number (measured measure (length_of v))))
 does O.IsNil facts ty of xs = from_heap
-does O.Echo facts ty of xs = looks (λ world. write Output (line_of (texts_of facts world of xs))) >> give nothing
+does O.Echo facts ty of xs = looks (λ world. unless_gone (are_seen world xs) (write Output (line_of (texts_of facts world of xs)))) >> give nothing
 does O.Quit facts ty of xs = end (status_of xs)
 does O.ReadLine facts ty of xs = from_heap
 does O.ReadLineInto facts ty of xs = from_heap
@@ -133,16 +132,17 @@ with_fields v (field ∷ fields) (More new vs) = with_fields (with_part v field 
 -- What is done with an operation's operands, by their types.
 abbrev pub operates : Operation → Facts → Option Ty → List (Option Ty) → List Operand → Deed Value
 operates operation facts ty of xs =
-    branch (gives_hooked facts ty || any_hooked facts of) (owned operation facts ty of xs (does operation facts ty of xs)) (does operation facts ty of xs)
+    branch (gives_hooked facts ty || any_hooked facts of)
+    (looks (λ world. unless_gone (are_seen world xs) (owned operation facts ty of xs (does operation facts ty of xs)))) (does operation facts ty of xs)
 
--- A constant that has texts or sequences in it gets blocks for them. A text alone does as its use asks, and so waits for that.
-abbrev pub constant_for : (hooked : Bool) → Form → Value → Deed Value
-constant_for false f v = give v
-constant_for true f (Fixed t) = give (Fixed t)
-constant_for true f v = built f v
+-- A constant that has texts or sequences in it is a copy of what stands in the program. A text alone does as its use asks, and so waits for that.
+abbrev pub constant_for : (hooked : Bool) → Form → (bytes : ℕ) → Value → Deed Value
+constant_for false f n v = costs n (give v)
+constant_for true f n (Fixed t) = give (Fixed t)
+constant_for true f n v = copied f (at_base (Made v))
 
 abbrev pub constant_row : Facts → Option Ty → (bytes : ℕ) → Value → Deed Value
-constant_row facts ty n v = costs 1 (costs n (constant_for (gives_hooked facts ty) (form_for facts ty) v))
+constant_row facts ty n v = costs 1 (constant_for (gives_hooked facts ty) (form_for facts ty) n v)
 
 -- All that is done with operands but calls, of which the meaning takes care. A node is a work of one.
 abbrev pub acts : Act → Facts → Option Ty → List (Option Ty) → List Operand → Deed Value

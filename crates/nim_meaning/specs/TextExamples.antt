@@ -405,8 +405,8 @@ reading_lines_turns =
 
 abbrev pub constants_turns : List Turn
 constants_turns =
-    takes 16 ∷ gives 0 ∷ takes 16 ∷ gives 1 ∷ takes 16 ∷ gives 2 ∷ takes 16 ∷ takes 16 ∷ takes 32 ∷ takes 16 ∷ takes 16 ∷ gives 7
-    ∷ gives 6 ∷ gives 3 ∷ gives 4 ∷ gives 5 ∷ []
+    takes 16 ∷ gives 0 ∷ takes 16 ∷ gives 1 ∷ takes 16 ∷ gives 2 ∷ takes 32 ∷ takes 16 ∷ takes 16 ∷ takes 16 ∷ takes 16 ∷ gives 7
+    ∷ gives 6 ∷ gives 4 ∷ gives 5 ∷ gives 3 ∷ []
 
 abbrev pub branches_turns : List Turn
 branches_turns =

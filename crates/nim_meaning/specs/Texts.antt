@@ -1,10 +1,10 @@
 -- The text of a value, as `echo` writes it.
-use Rattle.std.specs.Prelude.{ℕ, List, [], ◌∷◌, ◌++◌, length, Option, Some, None}
+use Rattle.std.specs.Prelude.{ℕ, Bool, true, ◌&&◌, List, [], ◌∷◌, ◌++◌, length, Option, Some, None}
 use Rattle.nim_types.specs.Types.{Ty, text, Facts}
 use Rattle.nim_program.specs.Kinds.{below_distinct}
 use Rattle.nim_program.specs.Texts.{plain_text}
 use Rattle.nim_meaning.specs.Values.{Value, number_of, Operand, location_of}
-use Rattle.nim_meaning.specs.State.{World, load, text_of}
+use Rattle.nim_meaning.specs.State.{World, load, text_of, is_seen}
 
 -- a text as it is, and all else by its number
 abbrev pub value_text : Facts → World → Ty → Value → List ℕ
@@ -24,3 +24,8 @@ abbrev pub texts_of : Facts → World → List (Option Ty) → List Operand → 
 texts_of facts world [] xs = []
 texts_of facts world (ty ∷ tys) [] = []
 texts_of facts world (ty ∷ tys) (x ∷ xs) = shown facts world ty x ++ texts_of facts world tys xs
+
+-- operands are there, with what they have in blocks
+abbrev pub are_seen : World → List Operand → Bool
+are_seen world [] = true
+are_seen world (x ∷ xs) = is_seen world (location_of x) && are_seen world xs

@@ -1,8 +1,9 @@
 -- Values, and where they stand.
-use Rattle.std.specs.Prelude.{ℕ, zero, suc, ◌+◌, ℤ, pos, Bool, if◌then◌else◌, List, [], ◌∷◌, ◌++◌, length, unsigned_abs, slice_set, Option, Some, None}
+use Rattle.std.specs.Prelude.{ℕ, zero, suc, ◌+◌, ℤ, pos, Bool, if◌then◌else◌, List, [], ◌∷◌, ◌++◌, length, slice_set, Option, Some, None}
 use Rattle.nim_types.specs.Types.{Ty, Facts}
 use Rattle.nim_types.specs.Forms.{Form, plain, reference, block, elements, row, parts, resource, wrapped, Forms, no_forms, forms, or_word, form_of}
 use Rattle.nim_types.specs.Forms.{of_some, hooked, hooked_any}
+use Rattle.nim_program.specs.Ints.{low_byte}
 use Rattle.nim_program.specs.Program.{Literal, Number as Ordinal, Characters, NoObject, PartsOf, ElementsOf, Literals, NoLiteral, ALiteral}
 
 mutual
@@ -88,7 +89,7 @@ with_nth (More first rest) (suc i) new = More first (with_nth rest i new)
 abbrev pub with_part : Value → ℕ → Value → Value
 with_part (Parts all) i new = Parts (with_nth all i new)
 with_part (Resource all identity) i new = Resource (with_nth all i new) identity
-with_part (Fixed text) i new = Fixed (slice_set text i (unsigned_abs (number_of new)))
+with_part (Fixed text) i new = Fixed (slice_set text i (low_byte (number_of new)))
 with_part v i new = v
 
 -- the part at a path

@@ -2,7 +2,7 @@
 use Rattle.std.proofs.Common.{◌≡◌, ◌≢◌, ℕ, ◌+◌, ◌^◌, ◌<◌, ◌≤◌, inl, inr, List, [], ◌∷◌, length, take, Option, Some, None}
 use Rattle.std.proofs.Common.{Bool, true, false, refl, sym, ap, subst, ◌∙◌, arith, not}
 use Rattle.std.specs.Prelude.{if◌then◌else◌}
-use Rattle.std.proofs.lemmas.Bool.{eq-eqb, ne_eqb, cases_Bool, cases_eq, cases_lt}
+use Rattle.std.proofs.lemmas.Bool.{eq-eqb, ne_eqb, cases_Bool, cases_eq}
 use Rattle.std.proofs.lemmas.List.{length-take, take-take}
 use Rattle.std.proofs.lemmas.Option.{none-some, same_Some}
 use Rattle.arc_base.specs.Event.{writes}
@@ -21,14 +21,13 @@ use Rattle.word_code.specs.RoutineTable.{Beside, IsRewritten, trap_line}
 use Rattle.word_code.specs.Routines.{ComesBack, Comes, IsCalling, goes_on}
 use Rattle.word_code.proofs.ForCallers.{MemoryLaw, Sized, Runs, then_runs, Within, at as state_at, run_label, run_copy, run_compute, run_argument}
 use Rattle.word_code.proofs.ForCallers.{run_past, run_off, got, got_sum}
-use Rattle.heap_memory.specs.declared.numbers.TheConstants.{HEAP_WORD_BYTES, HEAP_DATA}
 use Rattle.heap_memory.specs.declared.numbers.TheConstants.{MOVE}
 use Rattle.heap_memory.specs.declared.numbers.TheConstants.{APPEND}
 use Rattle.heap_memory.specs.HeapUse.{IsThere, AreDistant}
 use Rattle.heap_memory.specs.HeapRoutines.{IsBesideHeap, IsKeptThere}
 use Rattle.heap_memory.specs.TextRoutines.{AreBytes, Copying, moves_bytes}
-use Rattle.heap_memory.specs.GrowRoutine.{Owned, Growing, place_of, room_of, holds_it, may_grow, IsPresent, kept_of, grows}
-use Rattle.heap_memory.specs.AppendRoutine.{IsFilled, block_then, classes_behind, stands_behind, GrowthLeaves, Source, Outside, Inside, source_at}
+use Rattle.heap_memory.specs.GrowRoutine.{Owned, Growing, place_of, holds_it, may_grow, IsPresent, kept_of, grows}
+use Rattle.heap_memory.specs.AppendRoutine.{IsFilled, block_then, GrowthLeaves, Source, Outside, Inside, source_at}
 use Rattle.heap_memory.specs.AppendRoutine.{source_bytes}
 use Rattle.heap_memory.specs.AppendRoutine.{IsSource, Appending, MayAppend, appends}
 use Rattle.refc_runtime.specs.LineCode.{put_behind_lines, append_lines}
@@ -38,10 +37,11 @@ use Rattle.refc_runtime.proofs.Coming.{calling_state, comes_back, ends_behind}
 use Rattle.refc_runtime.proofs.GrowFacts.{beside_more}
 use Rattle.refc_runtime.proofs.GrowRuns.{call_runs}
 use Rattle.refc_runtime.proofs.Grew.{growing_lines, Grew, grew, full}
-use Rattle.refc_runtime.proofs.Fills.{kept_length, front_read, heap_with, block_there, place_is, ends_low, open_at, front_part, stood, not_other, others_stay}
+use Rattle.refc_runtime.proofs.Fills.{kept_length, ends_low, open_at, front_part}
 use Rattle.refc_runtime.proofs.Fills.{Filled, fills}
 use Rattle.heap_memory.proofs.ForCallers.{is_there, distant}
 use Rattle.refc_runtime.proofs.Pieces.{read_far}
+use Rattle.refc_runtime.proofs.SourceReads.{IsOther, source_reads}
 
 -- ---- what comes behind a text
 
@@ -150,82 +150,20 @@ module _ (own : ℕ) (u : Appending) (m : Memory) (sized : Sized m) (may : MayAp
           }
 
       other_readable : source_at u.source ≢ place_of g.present → Readable (source_at u.source)
-      other_readable differ = let x = by u.source may.source differ total in record { here = x.0; small = x.1; apart = x.2 }
+      other_readable differ =
+          let t = total in
+          let l = kept_long in
+          let x = source_reads own g m may.growth m1 sized1 rest (kept_of g.present g.kept) place b f u.source may.source (other u.source may.source differ)
+          (omega (arith, t, l)) in
+          record {
+            here = x.here;
+            small = x.small;
+            apart = subst (λ i. Beside (place + i) (length bytes) (source_at u.source) (length bytes)) l x.apart;
+          }
         where
-          -- nothing is put, or into a block
-          put_apart : (a count : ℕ) → g.kept + count ≡ g.wanted
-              → ((o : Owned) → block ≡ Some o → IsThere m1 o.block → Beside (place + g.kept) count a count) → Beside (place + g.kept) count a count
-          put_apart a count all in_block = with_block block refl
-            where
-              with_block : (p : Option Owned) → block ≡ p → Beside (place + g.kept) count a count
-              with_block None is =
-                  let r : room_of block ≡ 0 = ap room_of is in
-                  let room = f.room in
-                  elim (cases_lt a (place + g.kept)) [ inl less ↦ inr (omega (arith, less, r, room, all)) | inr more ↦ inl (omega (arith, more, r, room, all)) ]
-              with_block (Some o) is =
-                  in_block o is (block_there own g may.growth.unused may.growth.present m1 sized1 (kept_of g.present g.kept) place b f o is)
-
-          room_is : (o : Owned) → block ≡ Some o → room_of block ≡ length o.block.payload
-          room_is o is = ap room_of is
-
-          where_is : (o : Owned) → block ≡ Some o → o.block.place ≡ place
-          where_is o is = place_is own g may.growth.unused may.growth.present m1 sized1 (kept_of g.present g.kept) place b f o is
-
-          by : (x : Source) → IsSource own g m x → source_at x ≢ place_of g.present → g.kept + length (source_bytes x) ≡ g.wanted
-              → (bytes_at m1 (source_at x) (length (source_bytes x)) ≡ Some (source_bytes x)) × (source_at x < 2 ^ 32)
-              × Beside (place + g.kept) (length (source_bytes x)) (source_at x) (length (source_bytes x))
-          by (Outside a xs) is not_own all = (
-            rest.beside a (length xs) (words is.3.words) (heap is.3.heap) ∙ is.2,
-            is.1,
-            put_apart a (length xs) all (λ o same there. outside o same there is.3.heap),
-          )
-            where
-              words : Beside own HEAP_DATA a (length xs) → Beside a (length xs) own HEAP_WORD_BYTES
-              words (inl h) = inr (omega (arith, h))
-              words (inr h) = inl h
-
-              heap : Beside heap_at (length m.heap) a (length xs) → Beside a (length xs) heap_at (length m.heap)
-              heap (inl h) = inr h
-              heap (inr h) = inl h
-
-              outside : (o : Owned) → block ≡ Some o → IsThere m1 o.block → Beside heap_at (length m.heap) a (length xs)
-                  → Beside (place + g.kept) (length xs) a (length xs)
-              outside o same there (inl far) =
-                  let high = there.high in
-                  let r = room_is o same in
-                  let w = where_is o same in
-                  let room = f.room in
-                  let size = rest.sizes.heap in
-                  inl (omega (arith, far, high, r, w, room, all, size))
-              outside o same there (inr near) = let low = there.low in let w = where_is o same in inr (omega (arith, near, low, w))
-          by (Inside x count) is not_own all =
-              let differs : (y : Owned) → g.present ≡ Some y → x.identity ≢ y.identity = no_same x is.0 not_own in
-              let heap1 = f.heap in
-              let stands1
-              = others_stay own g may.growth.unused may.growth.present m1 sized1 (kept_of g.present g.kept) place b f x is.0 differs in
-              let there = is_there own (classes_behind b g) (stands_behind b g block) m1 heap1 x.identity x.block stands1 sized1 in
-              let few = is.1 in
-              let l : length (take count x.block.payload) ≡ count = length-take count x.block.payload ∙ omega (arith, few) in
-              let high = there.high in
-              let most = sized1.heap_most in (
-                ap (bytes_at m1 x.block.place) l ∙ front_read m1 sized1 x.block there 0 count (omega (arith, few)) there.bytes refl,
-                omega (arith, high, most),
-                put_apart x.block.place (length (take count x.block.payload)) all (λ o same there_o.
-                    sides o same l few (distant own (classes_behind b g) (stands_behind b g (Some o)) m1
-                    (heap_with own g may.growth.unused may.growth.present m1 sized1 (kept_of g.present g.kept) place b f (Some o) same) o.identity x.identity
-                    o.block x.block (stood own g may.growth.unused may.growth.present m1 sized1 (kept_of g.present g.kept) place b f o same)
-                    (subst (λ q. stands_behind b g q x.identity ≡ Some x.block) same stands1)
-                    (λ e. not_other own g may.growth.unused may.growth.present m1 sized1 (kept_of g.present g.kept) place b f x is.0 differs o same (sym e)))),
-              )
-            where
-              sides : (o : Owned) → block ≡ Some o → length (take count x.block.payload) ≡ count → count ≤ length x.block.payload → AreDistant o.block x.block
-                  → Beside (place + g.kept) (length (take count x.block.payload)) x.block.place (length (take count x.block.payload))
-              sides o same l few (inl d) =
-                  let r = room_is o same in
-                  let w = where_is o same in
-                  let room = f.room in
-                  inl (omega (arith, d, r, w, room, all))
-              sides o same l few (inr d) = let w = where_is o same in inr (omega (arith, d, w, l, few))
+          other : (x : Source) → IsSource own g m x → source_at x ≢ place_of g.present → IsOther g x
+          other (Outside a xs) is apart = tt
+          other (Inside x count) is apart = no_same x is.0 apart
 
 -- ---- its lines
 

@@ -1,6 +1,6 @@
 -- Handles are read and put.
 use Rattle.std.proofs.Common.{◌≡◌, ℕ, ◌+◌, ◌%◌, ◌^◌, ◌<◌, ◌≤◌, ◌⊎◌, inl, inr, List, ◌∷◌, Option, Some, None, Ok, Err, true}
-use Rattle.std.proofs.Common.{refl, sym, ap, ◌∙◌, ⊎_elim, arith}
+use Rattle.std.proofs.Common.{refl, sym, ap, subst, ◌∙◌, ⊎_elim, arith}
 use Rattle.std.specs.Prelude.{◌==◌, ◌&&◌, if◌then◌else◌}
 use Rattle.std.proofs.lemmas.Bool.{and_parts, cases_Bool, cases_lt, cond-true, cond-false}
 use Rattle.std.proofs.lemmas.Option.{none-some}
@@ -8,6 +8,8 @@ use Rattle.rv32_isa.specs.declared.micro_op.Size.TheVariants.{Word}
 use Rattle.rv32_isa.specs.declared.machine.FaultKind.{FaultKind}
 use Rattle.rv32_isa.specs.declared.machine.FaultKind.TheVariants.{Misaligned, OutOfRange}
 use Rattle.rv32_isa.specs.Hooks.{code_at}
+use Rattle.rv32_isa.specs.Image.{heap_at}
+use Rattle.rv32_isa.specs.Regions.{KeepsSizes}
 use Rattle.rv32_isa.specs.Machine.{Lives}
 use Rattle.rv32_isa.specs.Steps.{number_of}
 use Rattle.word_code.specs.declared.word.WordInstr.{WordInstr}
@@ -16,17 +18,18 @@ use Rattle.word_code.specs.declared.word.WordProc.{WordProc}
 use Rattle.word_code.specs.Memory.{Memory, as_state, number_at, may_put, with_number, bytes_at, may_fill}
 use Rattle.word_code.specs.Words.{Vars, no_words, put}
 use Rattle.word_code.specs.RoutineTable.{Beside, IsRewritten}
-use Rattle.word_code.proofs.ForCallers.{MemoryLaw, Sized, sizes_more, store_rewritten, put_sized, put_here, Runs, then_runs, Within, at as state_at}
+use Rattle.word_code.proofs.ForCallers.{MemoryLaw, Sized, sizes_same, sizes_more, store_rewritten, put_sized, put_here, Runs, then_runs, Within, at as state_at}
 use Rattle.word_code.proofs.ForCallers.{run_sum, run_load, run_store, got}
 use Rattle.heap_memory.specs.HeapRoutines.{IsBesideHeap}
-use Rattle.heap_memory.specs.HandleRoutines.{HasHandle, MayHave, IsHandlePut}
+use Rattle.heap_memory.specs.declared.numbers.TheConstants.{HEAP_WORD_BYTES, HEAP_DATA}
+use Rattle.heap_memory.specs.HandleRoutines.{HasHandle, MayHave, IsHandlePut, IsBesideData}
 use Rattle.heap_memory.proofs.ForCallers.{read_in, written_in, nothing_below}
 use Rattle.refc_runtime.specs.HandleCode.{handle_lines, put_handle_lines}
 
 -- ---- where a handle stands
 
 -- a word that is read ends below the end of all addresses
-word_low : (m : Memory) (sized : Sized m) (b w : ℕ) → number_at m b Word ≡ Ok w → b + 4 < 2 ^ 32
+pub word_low : (m : Memory) (sized : Sized m) (b w : ℕ) → number_at m b Word ≡ Ok w → b + 4 < 2 ^ 32
 word_low m sized b w reads = elim (cases_Bool (b % 4 == 0)) [
   | inl even ↦ by (bytes_at m b 4) refl (sym (cond-true (b % 4 == 0) (number_of (bytes_at m b 4)) (Err Misaligned) even) ∙ reads)
   | inr odd ↦ absurd (err_ok Misaligned w (sym (cond-false (b % 4 == 0) (number_of (bytes_at m b 4)) (Err Misaligned) odd) ∙ reads))
@@ -54,11 +57,28 @@ open_low m sized b may =
     omega (arith, e, h)
 
 -- one may still be put, whatever the heap has
-pub may_still : (law : MemoryLaw) (m other : Memory) (a : ℕ) {at : ℕ} → IsBesideHeap at m other → MayHave m a → MayHave other a
-may_still law m other a rest may = (still a may.0, still (a + 4) may.1)
+pub may_still : (law : MemoryLaw) (m other : Memory) (a : ℕ) → KeepsSizes (as_state m) (as_state other) → MayHave m a → MayHave other a
+may_still law m other a sizes may = (still a may.0, still (a + 4) may.1)
   where
     still : (b : ℕ) → may_put m b Word ≡ true → may_put other b Word ≡ true
-    still b is = ap (λ x. (b % 4 == 0) && x) (law.stores (as_state m) (as_state other) b 4 rest.sizes) ∙ is
+    still b is = ap (λ x. (b % 4 == 0) && x) (law.stores (as_state m) (as_state other) b 4 sizes) ∙ is
+
+-- ---- all beside the heap and the data of its routines
+
+pub data_same : (at : ℕ) (m : Memory) → IsBesideData at m m
+data_same at m = record { sizes = sizes_same m; beside = λ b n away heap. refl }
+
+pub data_more : (at : ℕ) (m middle other : Memory) → IsBesideData at m middle → IsBesideHeap at middle other → IsBesideData at m other
+data_more at m middle other x y = record {
+  sizes = sizes_more m middle other x.sizes y.sizes;
+  beside = λ b n away heap.
+      let same = x.sizes.heap in
+      y.beside b n (words b n away) (subst (λ l. Beside b n heap_at l) (sym same) heap) ∙ x.beside b n away heap;
+}
+  where
+    words : (b n : ℕ) → Beside b n at HEAP_DATA → Beside b n at HEAP_WORD_BYTES
+    words b n (inl h) = inl h
+    words b n (inr h) = inr (omega (arith, h))
 
 -- ---- lines that read one
 

@@ -19,12 +19,14 @@ use Rattle.word_code.proofs.ForCallers.{MemoryLaw, Sized, AlwaysSteps, AlwaysSto
 use Rattle.word_code.proofs.ForCallers.{run_constant, run_copy, run_compute, run_argument, run_write, got, got_sum}
 use Rattle.heap_memory.specs.declared.numbers.TheConstants.{ORDER, APPEND, RESIZE}
 use Rattle.heap_memory.specs.declared.numbers.TheConstants.{TEXT_ORDER, TEXT_WRITE, TEXT_COPY, TEXT_APPEND, TEXT_RESIZE, HANDLE_LINES}
+use Rattle.heap_memory.specs.HeapState.{IsHeap}
 use Rattle.heap_memory.specs.HeapRoutines.{IsBesideHeap, IsKeptThere}
 use Rattle.heap_memory.specs.TextRoutines.{Comparing, orders}
 use Rattle.heap_memory.specs.GrowRoutine.{Owned, Growing, place_of, holds_it, may_grow, IsPresent, MayGrow}
-use Rattle.heap_memory.specs.AppendRoutine.{IsFilled, GrowthLeaves, Source, Outside, Inside, source_at, source_bytes, IsSource, MayAppend}
-use Rattle.heap_memory.specs.AppendRoutine.{appends, resizes}
-use Rattle.heap_memory.specs.HandleRoutines.{MayHave, Ordering, orders_texts, Writing, writes_text, Putting, PutLeaves, puts}
+use Rattle.heap_memory.specs.AppendRoutine.{IsFilled, GrowthLeaves, Source, Outside, Inside, source_at, source_bytes, IsSource, Appending}
+use Rattle.heap_memory.specs.AppendRoutine.{appended, MayAppend, appends, resizes}
+use Rattle.heap_memory.specs.HandleRoutines.{MayHave, Ordering, orders_texts, Writing, writes_text, Putting, IsBesideData, AreBlocksKept}
+use Rattle.heap_memory.specs.HandleRoutines.{PutLeaves, puts}
 use Rattle.heap_memory.specs.HandleRoutines.{AppendingText, appended_text, appends_text, copies_text, ResizingText, resized_text, resizes_text}
 use Rattle.heap_memory.proofs.ForCallers.{is_there}
 use Rattle.refc_runtime.specs.HandleCode.{put_handle_lines, put_last_lines, append_behind_lines, text_append_lines, text_copy_lines, text_resize_lines, text_order_lines}
@@ -34,7 +36,7 @@ use Rattle.refc_runtime.proofs.Coming.{calling_state, comes_back, ends_behind}
 use Rattle.refc_runtime.proofs.Fills.{ends_low}
 use Rattle.refc_runtime.proofs.GrowRuns.{call_runs}
 use Rattle.refc_runtime.proofs.Pieces.{range_small}
-use Rattle.refc_runtime.proofs.HandleMemory.{run_handle, may_still, with_handle, handle_put, run_put_handle}
+use Rattle.refc_runtime.proofs.HandleMemory.{run_handle, may_still, data_same, data_more, with_handle, handle_put, run_put_handle}
 
 -- ---- texts are compared
 
@@ -188,14 +190,24 @@ pub record Fills (at : ℕ) (q : Putting) (most : ℕ) (m : Memory) (r : Routine
       → IsFilled (holds_it q.growth.present q.growth.wanted) at q.growth q.bytes other word
   pub few : r.lines call ≤ most
 
+-- memory before that call: nothing beside the heap and the data is other, and the same blocks stand
+pub record IsReady (at : ℕ) (g : Growing) (m before : Memory) : Type 0 where
+  pub regions : Sized before
+  pub rest : IsBesideData at m before
+  pub heap : IsHeap at g.classes g.stands before
+
+pub at_once : (at : ℕ) (g : Growing) (m : Memory) → Sized m → IsHeap at g.classes g.stands m → IsReady at g m m
+at_once at g m sized heap = record { regions = sized; rest = data_same at m; heap = heap }
+
 module _ (law : MemoryLaw) (live : Lives) (procs : List WordProc) (n : ℕ) (number : ℕ) (Use : Type 0) (takes : Use → List ℕ)
     (may_call : Use → Memory → Type 0) (putting : Use → Putting) (word_for : Use → ℕ → ℕ) (lines : Use → ℕ) (u : Use) (s : WordState) (to : ℕ)
-    (rest : List WordInstr) (next : s.frame.left ≡ Call to number ∷ rest) (sized : Sized s.memory) (p : WordProc)
+    (rest : List WordInstr) (next : s.frame.left ≡ Call to number ∷ rest) (m0 : Memory) (awaits0 : ℕ)
+    (ready : IsReady (own_data_at + n) (putting u).growth s.memory m0) (p : WordProc)
     (unused : (putting u).growth.stands (putting u).growth.identity ≡ None)
     (present : IsPresent (putting u).growth.stands (putting u).growth.kept (putting u).growth.present)
     (has : MayHave s.memory (putting u).to) (small : (putting u).length < 2 ^ 32)
     (r : Routine) (call : r.Use) (v g : Vars) (e0 : v 0 ≡ Some (putting u).to) (e2 : v 2 ≡ Some (putting u).length) (l most e : ℕ)
-    (fills : Fills (own_data_at + n) (putting u) most s.memory r call) (few : l + (most + (3 + e)) ≤ lines u)
+    (fills : Fills (own_data_at + n) (putting u) most m0 r call) (few : l + (most + (3 + e)) ≤ lines u)
   where
     abbrev row : Routine
     row = puts (own_data_at + n) number Use takes may_call putting word_for lines
@@ -215,7 +227,7 @@ module _ (law : MemoryLaw) (live : Lives) (procs : List WordProc) (n : ℕ) (num
         → Runs live procs e (state_at (pc 3) m k (put (put v 3 place) 4 (q.to + 4)) no_words) (goes_on s to (word_for u place) rest m s.input))
       where
         abbrev before : WordState
-        before = state_at (pc 0) s.memory (Call 3 r.number ∷ put_handle_lines k) v g
+        before = state_at (pc awaits0) m0 (Call 3 r.number ∷ put_handle_lines k) v g
 
         module _ (to_call : Runs live procs l (calling_state live procs s to rest row u next) before)
             (comes : Comes live procs r call before 3 (put_handle_lines k) (r.ends call))
@@ -225,15 +237,16 @@ module _ (law : MemoryLaw) (live : Lives) (procs : List WordProc) (n : ℕ) (num
                 let x : ComesBack live procs r call before 3 (put_handle_lines k)
                 = subst (λ o. Comes live procs r call before 3 (put_handle_lines k) o) (fills.ended ∙ ap (λ b. if b then None else Some 1) does) comes in
                 let silent : r.shows call ≡ [] = fills.shown ∙ ap (λ b. if b then [] else writes Err (trap_line OutOfMemory)) does in
-                let rest_is : IsBesideHeap at s.memory x.memory
-                = subst (λ b. GrowthLeaves b at s.memory x.memory) does (fills.left x.memory x.leaves) in
-                let sized1 : Sized x.memory = law.regions (as_state s.memory) (as_state x.memory) sized rest_is.sizes in
+                let rest_then : IsBesideHeap at m0 x.memory
+                = subst (λ b. GrowthLeaves b at m0 x.memory) does (fills.left x.memory x.leaves) in
+                let rest_is : IsBesideData at s.memory x.memory = data_more at s.memory m0 x.memory ready.rest rest_then in
+                let sized1 : Sized x.memory = law.regions (as_state m0) (as_state x.memory) ready.regions rest_then.sizes in
                 let f = fills.filled x.memory x.word x.leaves x.gives in
                 let low = ends_low at q.growth unused present x.memory sized1 q.bytes x.word (holds_it q.growth.present q.growth.wanted) f in
                 let room = f.room in
                 let low_word : x.word < 2 ^ 32 = omega (arith, low) in
                 let low_end : x.word + q.growth.wanted < 2 ^ 32 = omega (arith, low, room) in
-                let has1 : MayHave x.memory q.to = may_still law s.memory x.memory q.to rest_is has in
+                let has1 : MayHave x.memory q.to = may_still law s.memory x.memory q.to rest_is.sizes has in
                 let done = handle_put law x.memory sized1 q.to q.length x.word has1 small low_word in
                 let few0 = fills.few in
                 let few1 = x.few in
@@ -244,7 +257,7 @@ module _ (law : MemoryLaw) (live : Lives) (procs : List WordProc) (n : ℕ) (num
                 (record { middle = x.memory; place = x.word; rest = rest_is; filled = f; put = done }))
                 (record { place = x.word; handle = done.handle; is = refl }) (l + (x.lines + (3 + e))) (omega (arith, few, few0, few1))
                 (then_runs live procs to_call (then_runs live procs
-                (call_runs live procs r call (pc 0) s.memory v g 3 (put_handle_lines k) silent (fills.input s.input) x) (then_runs live procs
+                (call_runs live procs r call (pc awaits0) m0 v g 3 (put_handle_lines k) silent (fills.input s.input) x) (then_runs live procs
                 (run_put_handle law x.memory sized1 q.to q.length x.word has1 small low_word live procs (pc 3) k (put v 3 x.word) e0 e2 (got x.word low_word))
                 (final (with_handle law x.memory sized1 q.to q.length x.word has1 small low_word) x.word low_end))))
 
@@ -252,7 +265,7 @@ module _ (law : MemoryLaw) (live : Lives) (procs : List WordProc) (n : ℕ) (num
             is_full out =
                 let x : EndsProgram live procs r call before 1
                 = subst (λ o. Comes live procs r call before 3 (put_handle_lines k) o) (fills.ended ∙ ap (λ b. if b then None else Some 1) out) comes in
-                let same : x.memory ≡ s.memory = subst (λ b. GrowthLeaves b at s.memory x.memory) out (fills.left x.memory x.leaves) in
+                let same : x.memory ≡ m0 = subst (λ b. GrowthLeaves b at m0 x.memory) out (fills.left x.memory x.leaves) in
                 let shown : r.shows call ≡ writes Err (trap_line OutOfMemory)
                 = fills.shown ∙ ap (λ b. if b then [] else writes Err (trap_line OutOfMemory)) out in
                 let stops0 : AlwaysStops (step live procs) before (r.shows call) (r.lines call) 1 (live (as_state x.memory)) = x.stops in
@@ -260,7 +273,8 @@ module _ (law : MemoryLaw) (live : Lives) (procs : List WordProc) (n : ℕ) (num
                 = subst (λ es. AlwaysStops (step live procs) before es (r.lines call) 1 (live (as_state x.memory))) shown stops0 in
                 let few0 = fills.few in
                 ends_behind live procs s to rest row u next 1 (ap (λ b. if b then None else Some 1) out) x.memory
-                (subst (λ b. PutLeaves b at q s.memory x.memory) (sym out) same) l (r.lines call) (omega (arith, few, few0)) before to_call
+                (subst (λ b. PutLeaves b at q s.memory x.memory) (sym out)
+                (subst (λ y. AreBlocksKept at q.growth s.memory y) (sym same) (record { rest = ready.rest; heap = ready.heap }))) l (r.lines call) (omega (arith, few, few0)) before to_call
                 (writes Err (trap_line OutOfMemory)) (ap (λ b. if b then [] else writes Err (trap_line OutOfMemory)) out) stops1
 
             pub puts_comes : Comes live procs row u s to rest (row.ends u)
@@ -289,7 +303,7 @@ present_small at g m sized may = by g.present may.present
         let few = is.3 in
         (omega (arith, high, most), omega (arith, high, most, few))
 
-source_small : (at : ℕ) (g : Growing) (m : Memory) → Sized m → MayGrow at g m → (x : Source) → IsSource at g m x → source_at x < 2 ^ 32
+pub source_small : (at : ℕ) (g : Growing) (m : Memory) → Sized m → MayGrow at g m → (x : Source) → IsSource at g m x → source_at x < 2 ^ 32
 source_small at g m sized may (Outside a bytes) is = is.1
 source_small at g m sized may (Inside x count) is =
     let there = is_there at g.classes g.stands m may.heap x.identity x.block is.0 sized in
@@ -298,29 +312,32 @@ source_small at g m sized may (Inside x count) is =
     omega (arith, high, most)
 
 module _ (law : MemoryLaw) (live : Lives) (procs : List WordProc) (n : ℕ) (append_kept : IsKeptThere live procs (appends (own_data_at + n))) (number : ℕ)
-    (may_call : AppendingText → Memory → Type 0) (u : AppendingText) (s : WordState) (to : ℕ) (rest : List WordInstr)
-    (next : s.frame.left ≡ Call to number ∷ rest) (sized : Sized s.memory) (p : WordProc) (no_room : p.room ≡ 0) (has : MayHave s.memory u.to)
-    (may : MayAppend (own_data_at + n) u.appending s.memory)
+    (Use : Type 0) (takes : Use → List ℕ) (may_call : Use → Memory → Type 0) (putting : Use → Putting) (lines : Use → ℕ) (u : Use) (a : Appending)
+    (same : putting u ≡ record { to = (putting u).to; length = a.growth.wanted; growth = a.growth; bytes = appended a }) (s : WordState) (to : ℕ)
+    (rest : List WordInstr) (next : s.frame.left ≡ Call to number ∷ rest) (p : WordProc) (no_room : p.room ≡ 0) (has : MayHave s.memory (putting u).to)
+    (m0 : Memory) (awaits0 : ℕ) (ready : IsReady (own_data_at + n) a.growth s.memory m0) (may : MayAppend (own_data_at + n) a m0)
   where
     abbrev behind_row : Routine
-    behind_row = puts (own_data_at + n) number AppendingText (λ x. x.to ∷ x.from ∷ []) may_call appended_text (λ x place. place)
-        (λ x. HANDLE_LINES + (appends (own_data_at + n)).lines x.appending)
+    behind_row = puts (own_data_at + n) number Use takes may_call putting (λ x place. place) lines
 
     abbrev grow : Growing
-    grow = u.appending.growth
+    grow = a.growth
 
     abbrev from_at : ℕ
-    from_at = source_at u.appending.source
+    from_at = source_at a.source
 
     abbrev more : ℕ
-    more = length (source_bytes u.appending.source)
+    more = length (source_bytes a.source)
 
     abbrev bc : Within
-    bc = inside s p to rest
+    bc = record (inside s p to rest) { awaits = awaits0 }
 
-    module _ (l : ℕ) (l_few : l ≤ 7) (v : Vars) (v0 : v 0 ≡ Some u.to) (v2 : v 2 ≡ Some more) (v3 : v 3 ≡ Some from_at) (v4 : v 4 ≡ Some grow.kept)
+    abbrev q_is : Putting
+    q_is = record { to = (putting u).to; length = a.growth.wanted; growth = a.growth; bytes = appended a }
+
+    module _ (l : ℕ) (few : l + 5 + ((appends (own_data_at + n)).lines a + (3 + 1)) ≤ lines u) (v : Vars) (v0 : v 0 ≡ Some (putting u).to) (v2 : v 2 ≡ Some more) (v3 : v 3 ≡ Some from_at) (v4 : v 4 ≡ Some grow.kept)
         (v5 : v 5 ≡ Some (place_of grow.present))
-        (to_lines : Runs live procs l (calling_state live procs s to rest behind_row u next) (state_at bc s.memory append_behind_lines v no_words))
+        (to_lines : Runs live procs l (calling_state live procs s to rest behind_row u next) (state_at bc m0 append_behind_lines v no_words))
       where
         abbrev b1 : List WordInstr
         b1 = Argument 1 4 ∷ Argument 2 3 ∷ Argument 3 2 ∷ Compute 2 operation.Add 4 2 ∷ Call 3 APPEND ∷ put_last_lines
@@ -349,37 +366,42 @@ module _ (law : MemoryLaw) (live : Lives) (procs : List WordProc) (n : ℕ) (app
         wanted_is : bv 2 ≡ Some grow.wanted
         wanted_is = let w = may.wanted in let h = may.growth.word in got_sum grow.kept more (omega (arith, w, h)) ∙ ap Some (sym w)
 
-        to_append : Runs live procs (l + 5) (calling_state live procs s to rest behind_row u next) (state_at bc s.memory b5 bv bg)
+        to_append : Runs live procs (l + 5) (calling_state live procs s to rest behind_row u next) (state_at bc m0 b5 bv bg)
         to_append =
             then_runs live procs to_lines (then_runs live procs
-            (run_argument live procs bc s.memory b1 v no_words 0 5 v5) (then_runs live procs
-            (run_argument live procs bc s.memory b2 v (put no_words 0 (place_of grow.present)) 1 4 v4) (then_runs live procs
-            (run_argument live procs bc s.memory b3 v (put (put no_words 0 (place_of grow.present)) 1 grow.kept) 2 3 v3) (then_runs live procs
-            (run_argument live procs bc s.memory b4 v (put (put (put no_words 0 (place_of grow.present)) 1 grow.kept) 2 from_at) 3 2 v2)
-            (run_compute live procs bc s.memory b5 v bg 2 operation.Add 4 2 v4 v2)))))
+            (run_argument live procs bc m0 b1 v no_words 0 5 v5) (then_runs live procs
+            (run_argument live procs bc m0 b2 v (put no_words 0 (place_of grow.present)) 1 4 v4) (then_runs live procs
+            (run_argument live procs bc m0 b3 v (put (put no_words 0 (place_of grow.present)) 1 grow.kept) 2 3 v3) (then_runs live procs
+            (run_argument live procs bc m0 b4 v (put (put (put no_words 0 (place_of grow.present)) 1 grow.kept) 2 from_at) 3 2 v2)
+            (run_compute live procs bc m0 b5 v bg 2 operation.Add 4 2 v4 v2)))))
 
-        appends_it : Comes live procs (appends (own_data_at + n)) u.appending (state_at bc s.memory b5 bv bg) 3 put_last_lines
-            ((appends (own_data_at + n)).ends u.appending)
+        appends_it : Comes live procs (appends (own_data_at + n)) a (state_at bc m0 b5 bv bg) 3 put_last_lines
+            ((appends (own_data_at + n)).ends a)
         appends_it =
-            let smalls = present_small (own_data_at + n) grow s.memory sized may.growth in
-            let from_small = source_small (own_data_at + n) grow s.memory sized may.growth u.appending.source may.source in
-            append_kept u.appending (state_at bc s.memory b5 bv bg) 3 put_last_lines
+            let smalls = present_small (own_data_at + n) grow m0 ready.regions may.growth in
+            let from_small = source_small (own_data_at + n) grow m0 ready.regions may.growth a.source may.source in
+            append_kept a (state_at bc m0 b5 bv bg) 3 put_last_lines
             (record {
               next = refl;
               given = (
                 got (place_of grow.present) smalls.0,
                 (got grow.kept smalls.1, (got from_at from_small, (got more more_small, tt))),
               );
-            }) sized may
+            }) ready.regions may
+
+        fills : Fills (own_data_at + n) q_is ((appends (own_data_at + n)).lines a) m0 (appends (own_data_at + n)) a
+        fills = record { shown = refl; ended = refl; input = λ i. refl; left = λ other x. x; filled = λ other w y x. x; few = omega arith }
 
         pub behind_comes : Comes live procs behind_row u s to rest (behind_row.ends u)
         behind_comes =
-            puts_comes law live procs n number AppendingText (λ x. x.to ∷ x.from ∷ []) may_call appended_text
-            (λ x place. place) (λ x. HANDLE_LINES + (appends (own_data_at + n)).lines x.appending) u s to rest next sized p may.growth.unused may.growth.present has
-            may.growth.word (appends (own_data_at + n)) u.appending bv bg v0 wanted_is (l + 5) ((appends (own_data_at + n)).lines u.appending) 1
-            (record { shown = refl; ended = refl; input = λ i. refl; left = λ other x. x; filled = λ other w y x. x; few = omega arith })
-            (omega (arith, l_few)) (Return 3 ∷ [])
-            (λ m place low. gives_place live procs s to rest p no_room bv (u.to + 4) grow.wanted m place low) to_append appends_it
+            puts_comes law live procs n number Use takes may_call putting (λ x place. place) lines u s to rest next m0 awaits0
+            (subst (λ q. IsReady (own_data_at + n) q.growth s.memory m0) (sym same) ready) p
+            (subst (λ q. q.growth.stands q.growth.identity ≡ None) (sym same) may.growth.unused)
+            (subst (λ q. IsPresent q.growth.stands q.growth.kept q.growth.present) (sym same) may.growth.present) has
+            (subst (λ q. q.length < 2 ^ 32) (sym same) may.growth.word) (appends (own_data_at + n)) a bv bg v0
+            (wanted_is ∙ ap (λ q. Some q.length) (sym same)) (l + 5) ((appends (own_data_at + n)).lines a) 1
+            (subst (λ q. Fills (own_data_at + n) q ((appends (own_data_at + n)).lines a) m0 (appends (own_data_at + n)) a) (sym same) fills) few (Return 3 ∷ [])
+            (λ m place low. gives_place live procs s to rest p no_room bv ((putting u).to + 4) (putting u).growth.wanted m place low) to_append appends_it
 
 module _ (law : MemoryLaw) (live : Lives) (procs : List WordProc) (n : ℕ) (append_kept : IsKeptThere live procs (appends (own_data_at + n)))
     (u : AppendingText) (s : WordState) (to : ℕ) (rest : List WordInstr) (others : List WordProc)
@@ -402,8 +424,9 @@ module _ (law : MemoryLaw) (live : Lives) (procs : List WordProc) (n : ℕ) (app
         let w = may.appending.wanted in
         let h = may.appending.growth.word in
         let most : more < 2 ^ 32 = omega (arith, w, h) in
-        behind_comes law live procs n append_kept TEXT_APPEND (λ y m. (appends_text (own_data_at + n)).may y m) u s to rest calling.next sized p refl may.has
-        may.appending 7 (omega arith) x2 calling.given.0 (got more most) (got from_at from_small) (got kept smalls.1) (got place smalls.0)
+        behind_comes law live procs n append_kept TEXT_APPEND AppendingText (λ y. y.to ∷ y.from ∷ []) (λ y m. (appends_text (own_data_at + n)).may y m)
+        appended_text (λ y. HANDLE_LINES + (appends (own_data_at + n)).lines y.appending) u u.appending refl s to rest calling.next p refl may.has s.memory 0
+        (at_once (own_data_at + n) u.appending.growth s.memory sized may.appending.growth.heap) may.appending 7 (omega arith) x2 calling.given.0 (got more most) (got from_at from_small) (got kept smalls.1) (got place smalls.0)
         (then_runs live procs (enters live procs s to rest n TEXT_APPEND 2 6 text_append_lines others stands) (then_runs live procs
         (run_handle live procs c s.memory sized (handle_lines 4 5 0 append_behind_lines) x0 no_words u.from more from_at may.from 2 3 1
         calling.given.1.0 calling.given.1.0 refl)
@@ -427,8 +450,9 @@ module _ (law : MemoryLaw) (live : Lives) (procs : List WordProc) (n : ℕ) (app
         let most : more < 2 ^ 32 = omega (arith, w, h) in
         let zero_kept : u.appending.growth.kept ≡ 0
         = subst (λ o. IsPresent u.appending.growth.stands u.appending.growth.kept o) may.none may.appending.growth.present in
-        behind_comes law live procs n append_kept TEXT_COPY (λ y m. (copies_text (own_data_at + n)).may y m) u s to rest calling.next sized p refl may.has
-        may.appending 6 (omega arith) x3 calling.given.0 (got more most) (got from_at from_small) (ap Some (sym zero_kept))
+        behind_comes law live procs n append_kept TEXT_COPY AppendingText (λ y. y.to ∷ y.from ∷ []) (λ y m. (copies_text (own_data_at + n)).may y m)
+        appended_text (λ y. HANDLE_LINES + (appends (own_data_at + n)).lines y.appending) u u.appending refl s to rest calling.next p refl may.has s.memory 0
+        (at_once (own_data_at + n) u.appending.growth s.memory sized may.appending.growth.heap) may.appending 6 (omega arith) x3 calling.given.0 (got more most) (got from_at from_small) (ap Some (sym zero_kept))
         (ap (λ o. Some (place_of o)) (sym may.none))
         (then_runs live procs (enters live procs s to rest n TEXT_COPY 2 6 text_copy_lines others stands) (then_runs live procs
         (run_handle live procs c s.memory sized (Constant 4 0 ∷ Constant 5 0 ∷ append_behind_lines) x0 no_words u.from more from_at may.from 2 3 1
@@ -501,7 +525,8 @@ module _ (law : MemoryLaw) (live : Lives) (procs : List WordProc) (n : ℕ) (res
     pub text_resize_comes : Comes live procs (resizes_text (own_data_at + n)) u s to rest ((resizes_text (own_data_at + n)).ends u)
     text_resize_comes =
         puts_comes law live procs n TEXT_RESIZE ResizingText (λ x. x.to ∷ x.growth.wanted ∷ []) (λ x m. (resizes_text (own_data_at + n)).may x m) resized_text
-        (λ x place. place) (λ x. HANDLE_LINES + (resizes (own_data_at + n)).lines x.growth) u s to rest calling.next sized rp may.growth.unused may.growth.present may.has
+        (λ x place. place) (λ x. HANDLE_LINES + (resizes (own_data_at + n)).lines x.growth) u s to rest calling.next s.memory 0
+        (at_once (own_data_at + n) rg s.memory sized may.growth.heap) rp may.growth.unused may.growth.present may.has
         may.growth.word (resizes (own_data_at + n)) rg y2 g3 calling.given.0 (got rg.wanted may.growth.word) 8 ((resizes (own_data_at + n)).lines rg) 1
         (record { shown = refl; ended = refl; input = λ i. refl; left = λ other x. x; filled = λ other w y x. x; few = omega arith }) (omega arith)
         (Return 3 ∷ []) (λ m place low. gives_place live procs s to rest rp refl y2 (u.to + 4) rg.wanted m place low) to_resize

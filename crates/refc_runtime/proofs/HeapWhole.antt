@@ -35,15 +35,19 @@ use Rattle.heap_memory.specs.declared.numbers.TheConstants.{MOVE, GROW, ORDER}
 use Rattle.heap_memory.specs.declared.numbers.TheConstants.{RELEASE, APPEND, RESIZE, DIGITS}
 use Rattle.heap_memory.specs.HeapRoutines.{IsKeptThere}
 use Rattle.refc_runtime.specs.TextCode.{move_lines, grow_lines, order_lines}
-use Rattle.refc_runtime.specs.LineCode.{release_lines, append_lines, resize_lines}
+use Rattle.refc_runtime.specs.LineCode.{release_lines, append_lines, join_lines, resize_lines}
 use Rattle.heap_memory.specs.LineRoutine.{reads_line, IsKeptOn}
+use Rattle.heap_memory.specs.TextReading.{reads_text}
 use Rattle.refc_runtime.specs.InputCode.{read_lines}
-use Rattle.heap_memory.specs.declared.numbers.TheConstants.{READ_LINE}
+use Rattle.heap_memory.specs.declared.numbers.TheConstants.{READ_LINE, JOIN, TEXT_JOIN, TEXT_OF_NUMBER, TEXT_READ}
 use Rattle.heap_memory.specs.declared.numbers.TheConstants.{TEXT_ORDER, TEXT_WRITE, TEXT_COPY, TEXT_APPEND, TEXT_RESIZE, SEQ_NEW, SEQ_ADD, SEQ_RESIZE, SEQ_POP}
 use Rattle.refc_runtime.specs.HandleCode.{text_order_lines, text_write_lines, text_copy_lines, text_append_lines, text_resize_lines}
+use Rattle.refc_runtime.specs.HandleCode.{text_join_lines, text_of_number_lines, text_read_lines}
 use Rattle.refc_runtime.specs.HandleCode.{seq_new_lines, seq_add_lines, seq_resize_lines, seq_pop_lines}
-use Rattle.heap_memory.specs.HeapRuntime.{HeapRoutineName, Takes, GivesBack, FindsClass, MovesBytes, Grows, Orders, Releases, Appends, Resizes, Spells}
-use Rattle.heap_memory.specs.HeapRuntime.{OrdersTexts, WritesText, CopiesText, AppendsText, ResizesText, PutsSequence, AddsElement, ResizesSequence, PopsElement}
+use Rattle.heap_memory.specs.HeapRuntime.{HeapRoutineName, Takes, GivesBack, FindsClass, MovesBytes, Grows, Orders, Releases, Appends, Joins}
+use Rattle.heap_memory.specs.HeapRuntime.{Resizes, Spells}
+use Rattle.heap_memory.specs.HeapRuntime.{OrdersTexts, WritesText, CopiesText, AppendsText, ResizesText, JoinsTexts, PutsNumber, PutsSequence}
+use Rattle.heap_memory.specs.HeapRuntime.{AddsElement, ResizesSequence, PopsElement}
 use Rattle.heap_memory.specs.HeapRuntime.{heap_routine, IsHeapRuntime}
 use Rattle.refc_runtime.specs.HeapCode.{take_lines, give_lines, class_lines, heap_routines, heap_statics}
 use Rattle.heap_memory.proofs.ForCallers.{data_part}
@@ -57,6 +61,9 @@ use Rattle.refc_runtime.proofs.ReadKept.{read_kept}
 use Rattle.refc_runtime.proofs.AppendRuns.{append_comes}
 use Rattle.refc_runtime.proofs.ResizeRuns.{resize_comes}
 use Rattle.refc_runtime.proofs.HandleRuns.{text_order_comes, text_write_comes, text_append_comes, text_copy_comes, text_resize_comes}
+use Rattle.refc_runtime.proofs.JoinRuns.{join_comes}
+use Rattle.refc_runtime.proofs.NumberHandles.{text_join_comes, text_of_number_comes}
+use Rattle.refc_runtime.proofs.ReadHandles.{text_read_kept}
 use Rattle.refc_runtime.proofs.SequenceRuns.{seq_new_comes, seq_add_comes, seq_resize_comes, seq_pop_comes}
 
 -- ---- no block was taken
@@ -96,7 +103,7 @@ abbrev line : List ℕ
 line = trap_line OutOfMemory
 
 abbrev padded : List ℕ
-padded = line ++ 0 ∷ 0 ∷ 0 ∷ []
+padded = line ++ replicate 15 0
 
 abbrev zeros : List ℕ
 zeros = replicate 88 0
@@ -104,7 +111,7 @@ zeros = replicate 88 0
 abbrev heads : List ℕ
 heads = zeros ++ padded
 
-statics_long : length heap_statics ≡ 116
+statics_long : length heap_statics ≡ 128
 unfolding word_bytes
 statics_long = refl
 
@@ -133,7 +140,7 @@ line_there =
     let e : HEAP_WORD_BYTES ≡ length (word_bytes heap_at) + length zeros = omega (arith, l, length-replicate {A = ℕ} 88 0) in
     ap (λ i. take (length line) (drop i heap_statics)) e
     ∙ ap (take (length line)) (drop-append-add (word_bytes heap_at) heads (length zeros) ∙ drop-append_seam zeros padded)
-    ∙ take-append_seam line (0 ∷ 0 ∷ 0 ∷ [])
+    ∙ take-append_seam line (replicate 15 0)
 
 abbrev code : WordCode
 code = record { procs = heap_routines; statics = heap_statics }
@@ -152,7 +159,7 @@ module _ (others : WordCode) (heap stack : ℕ) (input : List ℕ) where
   first_is = refl
 
   module _ (sized : Sized first) where
-    all_long : length first.statics ≡ 8 + (116 + length others.statics)
+    all_long : length first.statics ≡ 8 + (128 + length others.statics)
     all_long =
         let a = length-word_bytes heap in
         let b = length-word_bytes stack in
@@ -163,7 +170,7 @@ module _ (others : WordCode) (heap stack : ℕ) (input : List ℕ) where
         ∙ omega (arith, a, b, c)
 
     -- bytes of the routines' data
-    own_bytes : (i k : ℕ) → i + k ≤ 116 → bytes_at first (own_data_at + i) k ≡ Some (take k (drop i heap_statics))
+    own_bytes : (i k : ℕ) → i + k ≤ 128 → bytes_at first (own_data_at + i) k ≡ Some (take k (drop i heap_statics))
     own_bytes i k few =
         let a = length-word_bytes heap in
         let b = length-word_bytes stack in
@@ -183,7 +190,7 @@ module _ (others : WordCode) (heap stack : ℕ) (input : List ℕ) where
         front (suc i) k [] ys few = absurd (omega (arith, few))
         front (suc i) k (x ∷ xs) ys few = front i k xs ys (omega (arith, few))
 
-    own_word : (i : ℕ) → i % 4 ≡ 0 → i + 4 ≤ 116 → number_at first (own_data_at + i) Word ≡ Ok (little (take 4 (drop i heap_statics)))
+    own_word : (i : ℕ) → i % 4 ≡ 0 → i + 4 ≤ 128 → number_at first (own_data_at + i) Word ≡ Ok (little (take 4 (drop i heap_statics)))
     own_word i aligned few =
         cond-true ((own_data_at + i) % 4 == 0) (number_of (bytes_at first (own_data_at + i) 4)) (Err Misaligned)
         (eq-eqb ((own_data_at + i) % 4) 0 (omega (arith, aligned)))
@@ -274,6 +281,15 @@ module _ (law : MemoryLaw) (live : Lives) (others : WordCode) where
   resizes_there : IsKeptThere live procs (heap_routine own_data_at Resizes)
   resizes_there u s to rest calling sized may = resize_comes law live procs 0 grows_there u s to rest _ refl calling sized may
 
+  joins_there : IsKeptThere live procs (heap_routine own_data_at Joins)
+  joins_there u s to rest calling sized may = join_comes law live procs 0 grows_there moves_there u s to rest _ refl calling sized may
+
+  releases_there : IsKeptThere live procs (heap_routine own_data_at Releases)
+  releases_there u s to rest calling sized may = release_comes live procs 0 gives_there u s to rest _ refl calling sized may
+
+  spells_there : IsKeptThere live procs (heap_routine own_data_at Spells)
+  spells_there = digits_kept law live procs 0 _ refl
+
   all_kept : (name : HeapRoutineName) → IsKeptThere live procs (heap_routine own_data_at name)
   all_kept Takes = takes_there
   all_kept GivesBack = gives_there
@@ -281,14 +297,18 @@ module _ (law : MemoryLaw) (live : Lives) (others : WordCode) where
   all_kept MovesBytes = moves_there
   all_kept Grows = grows_there
   all_kept Orders = orders_there
-  all_kept Releases = λ u s to rest calling sized may. release_comes live procs 0 gives_there u s to rest _ refl calling sized may
+  all_kept Releases = releases_there
   all_kept Appends = appends_there
+  all_kept Joins = joins_there
   all_kept Resizes = resizes_there
-  all_kept Spells = digits_kept law live procs 0 _ refl
+  all_kept Spells = spells_there
   all_kept OrdersTexts = λ u s to rest calling sized may. text_order_comes live procs 0 orders_there u s to rest _ refl calling sized may
   all_kept WritesText = λ u s to rest calling sized may. text_write_comes live procs 0 u s to rest _ refl calling sized may
   all_kept CopiesText = λ u s to rest calling sized may. text_copy_comes law live procs 0 appends_there u s to rest _ refl calling sized may
   all_kept AppendsText = λ u s to rest calling sized may. text_append_comes law live procs 0 appends_there u s to rest _ refl calling sized may
+  all_kept JoinsTexts = λ u s to rest calling sized may. text_join_comes law live procs 0 joins_there u s to rest _ refl calling sized may
+  all_kept PutsNumber = λ u s to rest calling sized may.
+      text_of_number_comes law live procs 0 spells_there appends_there u s to rest _ refl calling sized may
   all_kept PutsSequence = λ u s to rest calling sized may. seq_new_comes law live procs 0 resizes_there u s to rest _ refl calling sized may
   all_kept AddsElement = λ u s to rest calling sized may. seq_add_comes law live procs 0 grows_there u s to rest _ refl calling sized may
   all_kept ResizesSequence = λ u s to rest calling sized may. seq_resize_comes law live procs 0 resizes_there u s to rest _ refl calling sized may
@@ -298,14 +318,21 @@ module _ (law : MemoryLaw) (live : Lives) (others : WordCode) where
   reads_there : (input : List ℕ) → IsKeptOn live procs input (reads_line own_data_at input)
   reads_there input = read_kept law live procs 0 grows_there _ refl input
 
--- those on handles
+  reads_texts_there : (input : List ℕ) → IsKeptOn live procs input (reads_text own_data_at input)
+  reads_texts_there input = text_read_kept law live procs 0 reads_there releases_there _ refl input
+
+-- those on handles, and the one that joins
 abbrev on_handles : List WordProc
 on_handles =
-    routine TEXT_ORDER 2 6 text_order_lines
+    routine JOIN 4 6 join_lines
+    ∷ routine TEXT_ORDER 2 6 text_order_lines
     ∷ routine TEXT_WRITE 1 6 text_write_lines
     ∷ routine TEXT_COPY 2 6 text_copy_lines
     ∷ routine TEXT_APPEND 2 6 text_append_lines
     ∷ routine TEXT_RESIZE 2 6 text_resize_lines
+    ∷ routine TEXT_JOIN 3 8 text_join_lines
+    ∷ routine TEXT_OF_NUMBER 2 6 text_of_number_lines
+    ∷ routine TEXT_READ 1 7 text_read_lines
     ∷ routine SEQ_NEW 3 7 seq_new_lines
     ∷ routine SEQ_ADD 2 8 seq_add_lines
     ∷ routine SEQ_RESIZE 3 7 seq_resize_lines
@@ -314,22 +341,37 @@ on_handles =
 
 on_handles_are : AreRoutines on_handles
 on_handles_are = (
-  is_routine TEXT_ORDER 2 6 text_order_lines (omega arith) (omega arith) (omega arith),
+  is_routine JOIN 4 6 join_lines (omega arith) (omega arith) (omega arith),
   (
-    is_routine TEXT_WRITE 1 6 text_write_lines (omega arith) (omega arith) (omega arith),
+    is_routine TEXT_ORDER 2 6 text_order_lines (omega arith) (omega arith) (omega arith),
     (
-      is_routine TEXT_COPY 2 6 text_copy_lines (omega arith) (omega arith) (omega arith),
+      is_routine TEXT_WRITE 1 6 text_write_lines (omega arith) (omega arith) (omega arith),
       (
-        is_routine TEXT_APPEND 2 6 text_append_lines (omega arith) (omega arith) (omega arith),
+        is_routine TEXT_COPY 2 6 text_copy_lines (omega arith) (omega arith) (omega arith),
         (
-          is_routine TEXT_RESIZE 2 6 text_resize_lines (omega arith) (omega arith) (omega arith),
+          is_routine TEXT_APPEND 2 6 text_append_lines (omega arith) (omega arith) (omega arith),
           (
-            is_routine SEQ_NEW 3 7 seq_new_lines (omega arith) (omega arith) (omega arith),
+            is_routine TEXT_RESIZE 2 6 text_resize_lines (omega arith) (omega arith) (omega arith),
             (
-              is_routine SEQ_ADD 2 8 seq_add_lines (omega arith) (omega arith) (omega arith),
+              is_routine TEXT_JOIN 3 8 text_join_lines (omega arith) (omega arith) (omega arith),
               (
-                is_routine SEQ_RESIZE 3 7 seq_resize_lines (omega arith) (omega arith) (omega arith),
-                (is_routine SEQ_POP 2 6 seq_pop_lines (omega arith) (omega arith) (omega arith), tt),
+                is_routine TEXT_OF_NUMBER 2 6 text_of_number_lines (omega arith) (omega arith) (omega arith),
+                (
+                  is_routine TEXT_READ 1 7 text_read_lines (omega arith) (omega arith) (omega arith),
+                  (
+                    is_routine SEQ_NEW 3 7 seq_new_lines (omega arith) (omega arith) (omega arith),
+                    (
+                      is_routine SEQ_ADD 2 8 seq_add_lines (omega arith) (omega arith) (omega arith),
+                      (
+                        is_routine SEQ_RESIZE 3 7 seq_resize_lines (omega arith) (omega arith) (omega arith),
+                        (
+                          is_routine SEQ_POP 2 6 seq_pop_lines (omega arith) (omega arith) (omega arith),
+                          tt,
+                        ),
+                      ),
+                    ),
+                  ),
+                ),
               ),
             ),
           ),
@@ -352,7 +394,28 @@ on_handles_ranked = (
           λ uncounted. omega arith,
           (
             λ uncounted. omega arith,
-            (λ uncounted. omega arith, (λ uncounted. omega arith, (calls_nothing (routine SEQ_POP 2 6 seq_pop_lines) refl (omega arith), tt))),
+            (
+              λ uncounted. omega arith,
+              (
+                λ uncounted. omega arith,
+                (
+                  λ uncounted. omega arith,
+                  (
+                    λ uncounted. omega arith,
+                    (
+                      λ uncounted. omega arith,
+                      (
+                        λ uncounted. omega arith,
+                        (
+                          calls_nothing (routine SEQ_POP 2 6 seq_pop_lines) refl (omega arith),
+                          tt,
+                        ),
+                      ),
+                    ),
+                  ),
+                ),
+              ),
+            ),
           ),
         ),
       ),
@@ -434,13 +497,13 @@ is_heap_runtime law = record {
   );
   chain = rank_most;
   weight = omega arith;
-  whole = ap (λ n. n % 4) statics_long;
-  data_most = omega (arith, statics_long);
+  long = statics_long;
   starts = λ others heap stack input sized.
       subst (IsHeap own_data_at (heap_of heap).classes none_stands) (first_is others heap stack input)
       (starts_so others heap stack input (subst (λ m. Sized m) (sym (first_is others heap stack input)) sized));
   kept = λ live others name. all_kept law live others name;
   reads = λ live others input. reads_there law live others input;
+  reads_texts = λ live others input. reads_texts_there law live others input;
 }
 
 pub heap_runtime_is : MemoryLaw → (all : List WordProc) (bytes : List ℕ) → all ≡ heap_routines → bytes ≡ heap_statics

@@ -19,7 +19,10 @@ mod GiveRuns
 mod ClassRuns
 mod HeapKept
 mod HandleMemory
+mod Scratch
 mod HandleRuns
+mod NumberHandles
+mod ReadHandles
 mod SequenceRuns
 mod HeapWhole
 mod Pieces
@@ -33,7 +36,9 @@ mod Fills
 mod Grew
 mod ByteStores
 mod ReleaseRuns
+mod SourceReads
 mod AppendRuns
+mod JoinRuns
 mod ResizeRuns
 mod Inputs
 mod LineTexts

@@ -20,7 +20,7 @@ use Rattle.word_code.specs.Words.{computed, Vars, no_words, put, WordState, step
 use Rattle.word_code.specs.RoutineTable.{Beside, IsRewritten, trap_line}
 use Rattle.word_code.proofs.ForCallers.{MemoryLaw, Sized, sizes_more, AlwaysStops, stops_on, Runs, then_runs, Within, at as state_at, run_label}
 use Rattle.word_code.proofs.ForCallers.{run_sum, run_compute, run_store, got, got_sum}
-use Rattle.heap_memory.specs.declared.numbers.TheConstants.{HEAP_DATA}
+use Rattle.heap_memory.specs.declared.numbers.TheConstants.{HEAP_SCRATCH}
 use Rattle.heap_memory.specs.declared.numbers.TheConstants.{READ_LINE}
 use Rattle.heap_memory.specs.HeapUse.{IsElsewhere}
 use Rattle.heap_memory.specs.HeapRoutines.{IsBesideHeap, IsKeptThere}
@@ -80,7 +80,7 @@ module _ (law : MemoryLaw) (live : Lives) (procs : List WordProc) (n : ℕ) (gro
     pub still_elsewhere : (m : Memory) → BesideText m → (i k : ℕ) → i + k ≤ 8 → IsElsewhere own m (u.to + i) k
     still_elsewhere m x i k few =
         let e = may.elsewhere in
-        record { heap = near heap_at (length m.heap) (heap_same e.heap); words = near own HEAP_DATA e.words; room = near_room e.room }
+        record { heap = near heap_at (length m.heap) (heap_same e.heap); words = near own HEAP_SCRATCH e.words; room = near_room e.room }
       where
         near : (a l : ℕ) → Beside a l u.to 8 → Beside a l (u.to + i) k
         near a l (inl h) = inl (omega (arith, h))

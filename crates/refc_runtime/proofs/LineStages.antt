@@ -16,17 +16,12 @@ use Rattle.heap_memory.specs.GrowRoutine.{Growing, place_of, room_of, holds_it, 
 use Rattle.heap_memory.specs.GrowRoutine.{grow_work}
 use Rattle.heap_memory.specs.AppendRoutine.{with_owned, with_payload, new_block, IsFilled}
 use Rattle.heap_memory.specs.LineRoutine.{UnderWay, capacity, has_capacity, without_class, one_longer, may_get, char_work, Reading, block_of_class}
-use Rattle.heap_memory.specs.LineRoutine.{block_under_way, IsUnderWay}
+use Rattle.heap_memory.specs.LineRoutine.{block_under_way, HasBlock, IsUnderWay}
 use Rattle.heap_memory.proofs.ForCallers.{if_same, if_other}
 use Rattle.heap_memory.proofs.ForCallers.{same_stands}
 use Rattle.heap_memory.proofs.ForCallers.{is_there}
 
 module _ (own : ℕ) (u : Reading) (unused : (k : ℕ) → u.first ≤ k → u.stands k ≡ None) where
-  -- its block, if it has one, has room for its characters, and an identity of its own
-  abbrev pub HasBlock : Option ℕ → (long takes : ℕ) → List ℕ → Type 0
-  HasBlock None long takes payload = long ≡ 0
-  HasBlock (Some class) long takes payload = (long ≤ length payload) × (1 ≤ takes)
-
   pub record Stage (w : UnderWay) (text : List ℕ) (m : Memory) (place : ℕ) : Type 0 where
     pub regions : Sized m
     pub all : length m.heap ≡ u.room
@@ -39,7 +34,7 @@ module _ (own : ℕ) (u : Reading) (unused : (k : ℕ) → u.first ≤ k → u.s
     pub heap : IsHeap own w.classes (with_owned (block_under_way u.first place payload w) u.stands) m
 
   pub is_under_way : (w : UnderWay) (text : List ℕ) (m : Memory) (place : ℕ) → Stage w text m place → IsUnderWay own u w text m place
-  is_under_way w text m place x = record { payload = x.payload; front = x.front; there = x.there; heap = x.heap }
+  is_under_way w text m place x = record { payload = x.payload; long = x.long; has = x.has; front = x.front; there = x.there; heap = x.heap }
 
   -- ---- it is to get one more
 

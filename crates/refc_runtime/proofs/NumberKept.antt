@@ -126,7 +126,7 @@ digits_kept law live procs n others stands u s to rest calling sized may =
       memory = x.memory;
       word = u.to + x.at;
       leaves = x.shown.rewritten;
-      gives = record { are = spelled_bytes u.word may.0; ends = omega (arith, ends); there = x.shown.bytes };
+      gives = record { are = spelled_bytes u.word may.0; low = omega arith; ends = omega (arith, ends); there = x.shown.bytes };
       lines = 1 + (x.lines + 1);
       few = omega (arith, few);
       steps = (from_call live procs s to rest DIGITS [] _ _ _ calling.next (then_runs live procs called (then_runs live procs x.runs

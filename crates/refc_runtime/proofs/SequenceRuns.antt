@@ -31,7 +31,7 @@ use Rattle.refc_runtime.proofs.Calls.{later, inside, enters, returns_awaiting}
 use Rattle.refc_runtime.proofs.Coming.{calling_state, comes_back}
 use Rattle.refc_runtime.proofs.Fills.{grown_filled}
 use Rattle.refc_runtime.proofs.HandleMemory.{run_handle}
-use Rattle.refc_runtime.proofs.HandleRuns.{present_small, puts_comes, gives_place}
+use Rattle.refc_runtime.proofs.HandleRuns.{at_once, present_small, puts_comes, gives_place}
 
 -- what a growth leaves
 grow_left : (at : ℕ) (h f : Bool) (m other : Memory) → GrowLeaves h f at m other → GrowthLeaves (h || f) at m other
@@ -153,8 +153,8 @@ module _ (law : MemoryLaw) (live : Lives) (procs : List WordProc) (n : ℕ) (gro
     pub seq_add_comes : Comes live procs (adds_element (own_data_at + n)) u s to rest ((adds_element (own_data_at + n)).ends u)
     seq_add_comes =
         puts_comes law live procs n SEQ_ADD AddingElement (λ x. x.to ∷ x.size ∷ []) (λ x m. (adds_element (own_data_at + n)).may x m) element_added
-        (λ x place. place + x.growth.kept) (λ x. HANDLE_LINES + (grows (own_data_at + n)).lines x.growth) u s to rest calling.next sized ap_proc
-        may.growth.unused may.growth.present may.has may.few (grows (own_data_at + n)) g v4 g3 calling.given.0 long_is 10
+        (λ x place. place + x.growth.kept) (λ x. HANDLE_LINES + (grows (own_data_at + n)).lines x.growth) u s to rest calling.next s.memory 0
+        (at_once (own_data_at + n) g s.memory sized may.growth.heap) ap_proc may.growth.unused may.growth.present may.has may.few (grows (own_data_at + n)) g v4 g3 calling.given.0 long_is 10
         ((grows (own_data_at + n)).lines g) 2
         (record {
           shown = refl;
@@ -356,7 +356,8 @@ module _ (law : MemoryLaw) (live : Lives) (procs : List WordProc) (n : ℕ) (res
         sequence_comes =
             let c_few = x.few in
             puts_comes law live procs n number ResizingSequence (λ y. y.to ∷ y.length ∷ y.size ∷ []) may_call sequence_resized (λ y place. place)
-            (λ y. SEQUENCE_LINES + (resizes (own_data_at + n)).lines y.growth) u s to rest next sized p grow.unused grow.present has few
+            (λ y. SEQUENCE_LINES + (resizes (own_data_at + n)).lines y.growth) u s to rest next s.memory 0
+            (at_once (own_data_at + n) tg s.memory sized grow.heap) p grow.unused grow.present has few
             (resizes (own_data_at + n)) tg z2 q3 (x.zero ∙ v0) (got u.length few) (l + (x.count + 5)) ((resizes (own_data_at + n)).lines tg) 1
             (record { shown = refl; ended = refl; input = λ i. refl; left = λ other y. y; filled = λ other w y z. z; few = omega arith })
             (omega (arith, l_few, c_few)) (Return 3 ∷ [])

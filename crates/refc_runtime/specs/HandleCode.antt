@@ -5,9 +5,9 @@ use Rattle.rv32_isa.specs.declared.micro_op.Size.TheVariants.{Word as whole}
 use Rattle.word_code.specs.declared.word.WordOperation.TheVariants as operation
 use Rattle.word_code.specs.declared.word.Test.TheVariants as test
 use Rattle.word_code.specs.declared.word.WordInstr.{WordInstr}
-use Rattle.word_code.specs.declared.word.WordInstr.TheVariants.{Label, Constant, Copy, Sum, Compute, Load, Store, Branch, Argument, Call, Return}
+use Rattle.word_code.specs.declared.word.WordInstr.TheVariants.{Label, Constant, Copy, Sum, Compute, Datum, Load, Store, Branch, Argument, Call, Return}
 use Rattle.word_code.specs.declared.word.WordInstr.TheVariants.{Write}
-use Rattle.heap_memory.specs.declared.numbers.TheConstants.{GROW, ORDER, APPEND, RESIZE}
+use Rattle.heap_memory.specs.declared.numbers.TheConstants.{GROW, ORDER, APPEND, JOIN, RESIZE, RELEASE, DIGITS, READ_LINE, HEAP_DATA, HEAP_SCRATCH}
 use Rattle.refc_runtime.specs.declared.routines.TheConstants.{ONE_LESS}
 
 -- the length and the place that stand at an address
@@ -32,6 +32,39 @@ text_append_lines = handle_lines 2 3 1 (handle_lines 4 5 0 append_behind_lines)
 
 abbrev pub text_copy_lines : List WordInstr
 text_copy_lines = handle_lines 2 3 1 (Constant 4 0 ∷ Constant 5 0 ∷ append_behind_lines)
+
+abbrev pub text_join_lines : List WordInstr
+text_join_lines =
+    handle_lines 4 5 1
+    (handle_lines 6 7 2
+    (Compute 2 operation.Add 4 6 ∷ Argument 0 5 ∷ Argument 1 4 ∷ Argument 2 7 ∷ Argument 3 6 ∷ Call 3 JOIN ∷ put_last_lines))
+
+-- the digits stand at the end of the scratch bytes, from the place in 3 on
+abbrev pub text_of_number_lines : List WordInstr
+text_of_number_lines =
+    Datum 4 HEAP_SCRATCH
+    ∷ Argument 0 1
+    ∷ Argument 1 4
+    ∷ Call 3 DIGITS
+    ∷ Datum 4 HEAP_DATA
+    ∷ Compute 2 operation.Subtract 4 3
+    ∷ Constant 4 0
+    ∷ Constant 5 0
+    ∷ append_behind_lines
+
+-- What is read is in 5, and the place of the text before in 6.
+abbrev pub text_read_lines : List WordInstr
+text_read_lines =
+    Sum 6 0 4
+    ∷ Load 6 6 whole
+    ∷ Datum 1 HEAP_SCRATCH
+    ∷ Argument 0 1
+    ∷ Call 5 READ_LINE
+    ∷ Constant 4 0
+    ∷ Branch test.Equal 5 4 0
+    ∷ Argument 0 6
+    ∷ Call 6 RELEASE
+    ∷ handle_lines 2 3 1 (put_handle_lines (Label 0 ∷ Return 5 ∷ []))
 
 abbrev pub text_resize_lines : List WordInstr
 text_resize_lines = handle_lines 4 5 0 (Argument 0 5 ∷ Argument 1 4 ∷ Argument 2 1 ∷ Copy 2 1 ∷ Call 3 RESIZE ∷ put_last_lines)

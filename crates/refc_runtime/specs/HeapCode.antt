@@ -15,13 +15,14 @@ use Rattle.heap_memory.specs.declared.numbers.TheConstants.{TAKE, GIVE, CLASS, H
 use Rattle.refc_runtime.specs.declared.heap.TheConstants.{HEADER_LESS, KIND_LESS}
 use Rattle.heap_memory.specs.declared.numbers.TheConstants.{MOVE, GROW, ORDER}
 use Rattle.heap_memory.specs.declared.numbers.TheConstants.{RELEASE, APPEND, RESIZE, DIGITS}
-use Rattle.heap_memory.specs.declared.numbers.TheConstants.{READ_LINE}
+use Rattle.heap_memory.specs.declared.numbers.TheConstants.{READ_LINE, JOIN, TEXT_JOIN, TEXT_OF_NUMBER, TEXT_READ}
 use Rattle.heap_memory.specs.declared.numbers.TheConstants.{TEXT_ORDER, TEXT_WRITE, TEXT_COPY, TEXT_APPEND, TEXT_RESIZE, SEQ_NEW, SEQ_ADD, SEQ_RESIZE, SEQ_POP}
 use Rattle.refc_runtime.specs.Code.{routine, digits_lines, ending_lines}
 use Rattle.refc_runtime.specs.TextCode.{move_lines, grow_lines, order_lines}
-use Rattle.refc_runtime.specs.LineCode.{release_lines, append_lines, resize_lines}
+use Rattle.refc_runtime.specs.LineCode.{release_lines, append_lines, join_lines, resize_lines}
 use Rattle.refc_runtime.specs.InputCode.{read_lines}
 use Rattle.refc_runtime.specs.HandleCode.{text_order_lines, text_write_lines, text_copy_lines, text_append_lines, text_resize_lines}
+use Rattle.refc_runtime.specs.HandleCode.{text_join_lines, text_of_number_lines, text_read_lines}
 use Rattle.refc_runtime.specs.HandleCode.{seq_new_lines, seq_add_lines, seq_resize_lines, seq_pop_lines}
 use Rattle.heap_memory.specs.HeapRoutines.{class_word}
 
@@ -123,17 +124,21 @@ heap_routines =
     ∷ routine RESIZE 3 7 resize_lines
     ∷ routine DIGITS 2 7 digits_lines
     ∷ routine READ_LINE 1 9 read_lines
+    ∷ routine JOIN 4 6 join_lines
     ∷ routine TEXT_ORDER 2 6 text_order_lines
     ∷ routine TEXT_WRITE 1 6 text_write_lines
     ∷ routine TEXT_COPY 2 6 text_copy_lines
     ∷ routine TEXT_APPEND 2 6 text_append_lines
     ∷ routine TEXT_RESIZE 2 6 text_resize_lines
+    ∷ routine TEXT_JOIN 3 8 text_join_lines
+    ∷ routine TEXT_OF_NUMBER 2 6 text_of_number_lines
+    ∷ routine TEXT_READ 1 7 text_read_lines
     ∷ routine SEQ_NEW 3 7 seq_new_lines
     ∷ routine SEQ_ADD 2 8 seq_add_lines
     ∷ routine SEQ_RESIZE 3 7 seq_resize_lines
     ∷ routine SEQ_POP 2 6 seq_pop_lines
     ∷ []
 
--- the heap's words, where no block was taken, and the line of the trap, up to a whole number of words
+-- the heap's words, where no block was taken, the line of the trap up to a whole number of words, and scratch bytes
 abbrev pub heap_statics : List ℕ
-heap_statics = word_bytes heap_at ++ (replicate 88 0 ++ (trap_line OutOfMemory ++ 0 ∷ 0 ∷ 0 ∷ []))
+heap_statics = word_bytes heap_at ++ (replicate 88 0 ++ (trap_line OutOfMemory ++ replicate 15 0))

@@ -36,6 +36,27 @@ append_lines =
     ∷ Copy 2 4
     ∷ put_behind_lines
 
+-- Of the text at the address in 0, with as many bytes as 1 says, and that at the address in 2, with as many as 3 says: the new block is in 4.
+abbrev pub join_lines : List WordInstr
+join_lines =
+    Compute 4 operation.Add 1 3
+    ∷ Constant 5 0
+    ∷ Argument 0 5
+    ∷ Argument 1 5
+    ∷ Argument 2 4
+    ∷ Call 4 GROW
+    ∷ Argument 0 4
+    ∷ Argument 1 0
+    ∷ Argument 2 1
+    ∷ Call 5 MOVE
+    ∷ Compute 5 operation.Add 4 1
+    ∷ Argument 0 5
+    ∷ Argument 1 2
+    ∷ Argument 2 3
+    ∷ Call 5 MOVE
+    ∷ Return 4
+    ∷ []
+
 -- zeros from the address in 4 to that in 5, of which there is at least one
 abbrev pub zero_lines : List WordInstr
 zero_lines = Label 1 ∷ Store 4 6 Byte ∷ Sum 4 4 1 ∷ Branch test.Unequal 4 5 1 ∷ Return 3 ∷ []

@@ -6,11 +6,11 @@ ghost use Rattle.refc_runtime.specs.HeapCode.{heap_routines, heap_statics};
 ghost use Rattle.heap_memory.specs.HeapRuntime.{IsHeapRuntime};
 
 use crate::handles::{
-    text_append_routine, text_copy_routine, text_order_routine, text_resize_routine,
-    text_write_routine,
+    text_append_routine, text_copy_routine, text_join_routine, text_of_number_routine,
+    text_order_routine, text_resize_routine, text_write_routine,
 };
-use crate::input::read_line_routine;
-use crate::lines::{append_routine, digits_routine, release_routine, resize_routine};
+use crate::input::{read_line_routine, text_read_routine};
+use crate::lines::{append_routine, digits_routine, join_routine, release_routine, resize_routine};
 use crate::routines::{branch, compute, constant, datum, load, routine, store, sum_with};
 use crate::sequences::{seq_add_routine, seq_new_routine, seq_pop_routine, seq_resize_routine};
 use crate::texts::{grow_routine, move_routine, order_routine};
@@ -26,12 +26,12 @@ pub const HEADER_LESS: u32 = 4_294_967_288;
 /// The word by whose addition the first word of a text's or sequence's block becomes its index.
 pub const KIND_LESS: u32 = 4_294_967_168;
 
-// Where the next byte is that no block has, the first free block of each size and of none, and the
-// line of the trap up to a whole number of words.
+// Where the next byte is that no block has, the first free block of each size and of none, the line
+// of the trap up to a whole number of words, and scratch bytes.
 const STATICS: &[u8] = b"\0\0\x20\0\
 \0\0\0\0\0\0\0\0\0\0\0\0\0\0\0\0\0\0\0\0\0\0\0\0\0\0\0\0\0\0\0\0\0\0\0\0\0\0\0\0\0\0\0\0\
 \0\0\0\0\0\0\0\0\0\0\0\0\0\0\0\0\0\0\0\0\0\0\0\0\0\0\0\0\0\0\0\0\0\0\0\0\0\0\0\0\0\0\0\0\
-Error: out of memory\n\0\0\0";
+Error: out of memory\n\0\0\0\0\0\0\0\0\0\0\0\0\0\0\0";
 
 fn take_routine(alloc: Global) -> Result<WordProc, Memory>
     ensures { IfOk result (λ p. p ≡ routine TAKE 1 6 take_lines) }
@@ -154,11 +154,15 @@ fn heap_routines(alloc: Global) -> Result<Items<WordProc>, Memory>
     procs.push(resize_routine(alloc)?)?;
     procs.push(digits_routine(alloc)?)?;
     procs.push(read_line_routine(alloc)?)?;
+    procs.push(join_routine(alloc)?)?;
     procs.push(text_order_routine(alloc)?)?;
     procs.push(text_write_routine(alloc)?)?;
     procs.push(text_copy_routine(alloc)?)?;
     procs.push(text_append_routine(alloc)?)?;
     procs.push(text_resize_routine(alloc)?)?;
+    procs.push(text_join_routine(alloc)?)?;
+    procs.push(text_of_number_routine(alloc)?)?;
+    procs.push(text_read_routine(alloc)?)?;
     procs.push(seq_new_routine(alloc)?)?;
     procs.push(seq_add_routine(alloc)?)?;
     procs.push(seq_resize_routine(alloc)?)?;

@@ -1,13 +1,13 @@
 // The routines by which texts get more characters and other lengths, each as a procedure of word code.
 ghost use Rattle.std.specs.Prelude.{◌≡◌, IfOk};
 ghost use Rattle.refc_runtime.specs.Code.{routine};
-ghost use Rattle.refc_runtime.specs.LineCode.{append_lines, resize_lines, release_lines};
+ghost use Rattle.refc_runtime.specs.LineCode.{append_lines, join_lines, resize_lines, release_lines};
 ghost use Rattle.refc_runtime.specs.Code.{digits_lines};
 
 use crate::routines::{branch, compute, constant, routine, spelling_routine, store, sum_with};
 use crate::texts::{argument, call};
 use arc_base::Memory;
-use heap_memory::{APPEND, DIGITS, GIVE, GROW, MOVE, RELEASE, RESIZE};
+use heap_memory::{APPEND, DIGITS, GIVE, GROW, JOIN, MOVE, RELEASE, RESIZE};
 use rv32_isa::Size;
 use std::alloc::Global;
 use word_code::{SCRATCH_BYTES, Test, WordInstr, WordOperation, WordProc};
@@ -56,6 +56,36 @@ pub fn append_routine(alloc: Global) -> Result<WordProc, Memory>
             branch(Test::Unequal, 0, 2, 0),
             copy(2, 4),
             WordInstr::Label { name: 0 },
+            compute(5, WordOperation::Add, 4, 1),
+            argument(0, 5),
+            argument(1, 2),
+            argument(2, 3),
+            call(5, MOVE),
+            WordInstr::Return { from: 4 },
+        ],
+    )
+}
+
+/// That makes a text of two others.
+pub fn join_routine(alloc: Global) -> Result<WordProc, Memory>
+    ensures { IfOk result (λ p. p ≡ routine JOIN 4 6 join_lines) }
+{
+    routine(
+        alloc,
+        JOIN,
+        4,
+        6,
+        &[
+            compute(4, WordOperation::Add, 1, 3),
+            constant(5, 0),
+            argument(0, 5),
+            argument(1, 5),
+            argument(2, 4),
+            call(4, GROW),
+            argument(0, 4),
+            argument(1, 0),
+            argument(2, 1),
+            call(5, MOVE),
             compute(5, WordOperation::Add, 4, 1),
             argument(0, 5),
             argument(1, 2),

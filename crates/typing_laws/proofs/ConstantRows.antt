@@ -22,7 +22,7 @@ use Rattle.nim_program.specs.Fitting.{built, is_built, are_distinct, places_in}
 use Rattle.nim_program.specs.Typed.{are_placed}
 use Rattle.nim_meaning.specs.Values as V
 use Rattle.nim_meaning.specs.Values.{Value, Operand, Given, At, Made, at_base, number, location, length_of, literal_value, literal_values, bytes}
-use Rattle.nim_meaning.specs.State.{load}
+use Rattle.nim_meaning.specs.State.{World, is_whole}
 use Rattle.nim_meaning.specs.Acts.{Does, give, ◌>>=◌}
 use Rattle.nim_meaning.specs.Deeds as deeds
 use Rattle.nim_meaning.specs.Deeds.{Deed, carry, ◌>>=◌ as then_deed}
@@ -39,7 +39,7 @@ use Rattle.expr_rules.specs.Constants.{comes_to, if_fine, limited, alone, in_pai
 use Rattle.expr_rules.specs.Constants.{measure_of, converted, among, of_literal, if_computed, computing, with_values}
 use Rattle.expr_rules.specs.Constants.{values_in, field_literals, fields_of, object_of}
 use Rattle.typing_laws.specs.Sound.{AreSound}
-use Rattle.typing_laws.specs.Given.{AlwaysGives}
+use Rattle.typing_laws.specs.Given.{Gives, AlwaysGives}
 use Rattle.typing_laws.proofs.Tests.{never, ever}
 use Rattle.typing_laws.proofs.Measures.{come_one, limited_is}
 use Rattle.typing_laws.proofs.Giving.{given, after, branching, costing}
@@ -119,7 +119,8 @@ module _ (run : Here) where
       (ap (λ b. b && (is_given (uses i) && is_read e)) m.plain)
       (after (eval e (uses i) run) (λ v. ready_all rest uses (suc i) run >>= last v) (literal_value l) all (m.value (uses i))
       (after (ready_all rest uses (suc i) run) (last (literal_value l)) (readies ls rest) all (all_ready more uses (suc i))
-      (subst (λ b. AlwaysGives (give (Evaluated (operand_for (b && (is_lent (uses i) && not (is_text e))) run.level (node_of e).number (literal_value l)) ∷ readies ls rest)) all)
+      (subst (λ b. AlwaysGives (give (Evaluated (operand_for (b && (is_lent (uses i) && not (is_text e))) run.level (node_of e).number (literal_value l))
+      ∷ readies ls rest)) all)
       (sym m.plain)
       (given all))))
   all_ready (by_path e l {rest = rest} {ls = ls} m more) uses i =
@@ -317,15 +318,30 @@ module _ (run : Here) where
   length_is m (PartsOf all) l e = ap (λ z. P.Number z) (ap (T.measured m) (as_many all) ∙ measured_same m (C.count all)) ∙ come_one e
   length_is m (ElementsOf all) l e = ap (λ z. P.Number z) (ap (T.measured m) (as_many all) ∙ measured_same m (C.count all)) ∙ come_one e
 
+  -- what a constant is made of is never gone
+  whole : (a : Literal) (world : World) → is_whole world (literal_value a) ≡ true
+  whole (P.Number x) world = refl
+  whole (Characters bytes) world = refl
+  whole NoObject world = refl
+  whole (PartsOf all) world = refl
+  whole (ElementsOf all) world = refl
+
   measuring : (m : Measure) {operands : Args} {ls : Literals} (l : Literal) → Come run operands ls → are_placed 1 operands ≡ true
       → alone (measure_of m) ls ≡ comes_to l
-      → Done (deeds.looks (λ world. deeds.give (V.Number (T.measured m (length_of (load world (location (taken ls operands) 0))))))) l
+      → Done (deeds.sees (location (taken ls operands) 0) (λ world v. deeds.give (V.Number (T.measured m (length_of v))))) l
   measuring m l no_more p e = cc
   measuring m l (by_value a x n more) p e = never p
   measuring m l (by_path a x n no_more) p e =
       let q = length_is m x l e in
-      let d = a_number (T.measured m (length_of (literal_value x))) l q in
-      record { gives = λ s. d.gives s; no_text = d.no_text }
+      let z : ℤ = T.measured m (length_of (literal_value x)) in
+      let d = a_number z l q in
+      record {
+        gives = λ s. subst
+            (λ b. Gives (carry (then_deed (deeds.unless_gone b (deeds.give (V.Number z))) (λ v. deeds.give v)) s) (literal_value l) s.world s.meter.units
+            s.meter.out)
+            (sym (whole x s.world)) (d.gives s);
+        no_text = d.no_text;
+      }
   measuring m l (by_path a x n (by_value b y o more)) p e = cc
   measuring m l (by_path a x n (by_path b y o more)) p e = cc
 
@@ -381,7 +397,7 @@ module _ (run : Here) where
   pub literal : (sound : AreSound facts) (ty : Option Ty) (x l : Literal) → for_some ty (λ t. is_constant facts t x) ≡ true → gives_hooked facts ty ≡ false
       → of_literal x ≡ comes_to l → Done (T.constant_row facts ty (T.literal_bytes x) (literal_value x)) l
   literal sound ty x l c u e =
-      subst (λ b. Done (deeds.costs 1 (deeds.costs (T.literal_bytes x) (T.constant_for b (form_for facts ty) (literal_value x)))) l) (sym u)
+      subst (λ b. Done (deeds.costs 1 (T.constant_for b (form_for facts ty) (T.literal_bytes x) (literal_value x))) l) (sym u)
       (by_sort ty x c u e)
     where
       no_hooks : (x : Literal) → is_characters x ≡ false → ◌≡◌ {A = C.Evaluated Literal} (comes_to x) (comes_to l)

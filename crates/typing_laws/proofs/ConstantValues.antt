@@ -27,6 +27,7 @@ use Rattle.nim_meaning.specs.ActTree.{Chooses, Does as Done_by}
 use Rattle.nim_meaning.specs.Acts.{Does, give, ◌>>=◌}
 use Rattle.nim_meaning.specs.Acts as Acts
 use Rattle.nim_meaning.specs.Deeds as deeds
+use Rattle.nim_meaning.specs.Texts.{are_seen}
 use Rattle.nim_meaning.specs.Deeds.{Deed, carry, ◌>>=◌ as then_deed}
 use Rattle.nim_meaning.specs.Here.{Here, any_hooked, form_for, gives_hooked}
 use Rattle.nim_meaning.specs.OwnedRows.{owned}
@@ -147,8 +148,8 @@ module _ (run : Here) (around : Scope) (sound : AreSound run.facts) (closed : Cl
           let p = (and_parts (fits of_run o ty (types_in operands)) _ f).1 in
           meant node ty (Doing o) operands ls l (come ls c) u
           (working 1 (operates o of_run ty (types_in operands) (taken ls operands)) l
-          (subst (λ b. Done (deeds.branch b
-          (owned o of_run ty (types_in operands) (taken ls operands) (does o of_run ty (types_in operands) (taken ls operands)))
+          (subst (λ b. Done (deeds.branch b (deeds.looks (λ world. deeds.unless_gone (are_seen world (taken ls operands))
+          (owned o of_run ty (types_in operands) (taken ls operands) (does o of_run ty (types_in operands) (taken ls operands)))))
           (does o of_run ty (types_in operands) (taken ls operands))) l)
           (sym (ap (λ b. b || any_hooked of_run (types_in operands)) u ∙ none_hooked run (come ls c)))
           (doing run o ty (types_in operands) l (come ls c) (and_parts (are_placed (places_in o) operands) _ p).0 b e))) (λ how. refl)
@@ -322,16 +323,13 @@ constant_given closed closed_one around run same sound e l h n c how =
 -- a text that is only read, whether its type has hooks or not
 text_row : (run : Here) (node : ℕ) (ty : Option Ty) (text : List ℕ) (how : Use)
     → ((hooked : Bool) → made_by hooked (destination run how node) (V.Fixed text) ≡ deeds.give (V.Fixed text)) → (hooked : Bool)
-    → AlwaysGives (carry (then_deed (deeds.costs 1 (deeds.costs 0 (constant_for hooked (form_for run.facts ty) (V.Fixed text))))
+    → AlwaysGives (carry (then_deed (deeds.costs 1 (constant_for hooked (form_for run.facts ty) 0 (V.Fixed text)))
     (made_by hooked (destination run how node)))) (V.Fixed text)
-text_row run node ty text how read hooked =
-    subst (λ (d : Deed Value). AlwaysGives (carry d) (V.Fixed text)) (is hooked)
-    (costing 1 (Acts.costs 0 (give (V.Fixed text))) (V.Fixed text) (costing 0 (give (V.Fixed text)) (V.Fixed text) (given (V.Fixed text))))
-  where
-    is : (hooked : Bool) → deeds.costs 1 (deeds.costs 0 (deeds.give (V.Fixed text)))
-        ≡ then_deed (deeds.costs 1 (deeds.costs 0 (constant_for hooked (form_for run.facts ty) (V.Fixed text)))) (made_by hooked (destination run how node))
-    is true = ap (λ (d : Deed Value). deeds.costs 1 (deeds.costs 0 d)) (sym (read true))
-    is false = refl
+text_row run node ty text how read true =
+    subst (λ (d : Deed Value). AlwaysGives (carry (deeds.costs 1 d)) (V.Fixed text)) (sym (read true))
+    (costing 1 (give (V.Fixed text)) (V.Fixed text) (given (V.Fixed text)))
+text_row run node ty text how read false =
+    costing 1 (Acts.costs 0 (give (V.Fixed text))) (V.Fixed text) (costing 0 (give (V.Fixed text)) (V.Fixed text) (given (V.Fixed text)))
 
 text_read : (run : Here) (node : Node) (ty : Option Ty) (text : List ℕ) (how : Use)
     → ((hooked : Bool) → made_by hooked (destination run how node.number) (V.Fixed text) ≡ deeds.give (V.Fixed text))

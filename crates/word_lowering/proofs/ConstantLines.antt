@@ -335,7 +335,7 @@ module _ (x : Basis) (labels : LabelsLead x) (g : Both) (rest : List BlockLine) 
       let u = are_of (value_type x g line rest y to) (Some to_type) f.1 in
       let t = target x g line rest y to to_type refl (ap (text_alias (texts_behind x g line rest y)) no_text) (u.is ∙ sym u.is_other) in
       subst (λ b. Settles x (starts g line rest) rest (gives (scene_of (high x.table x.blocks (starts g line rest))) to
-      (costs 1 (costs (pieces_bytes pieces) (constant_for b (form_of (facts_in x.table) to_type) v)) >>= made_by b (bound_for g how)))) (sym t.unhooked)
+      (costs 1 (constant_for b (form_of (facts_in x.table) to_type) (pieces_bytes pieces) v) >>= made_by b (bound_for g how)))) (sym t.unhooked)
       (subst (λ n. Settles x (starts g line rest) rest (Passes (Answers [] (1 + (n + 0)) (with_value to g.call.temps v) g.world))) (sym long)
       (built_settles x g line rest y to t.there pieces v (words_are pieces p.0) (values_of_numbers v (shape_of (facts_in x.table) to_type) t.numbers p.1)
       (ap of_numbers t.look ∙ t.numbers) (subst (λ s. has_shape v s ≡ true) (sym t.look) p.1)

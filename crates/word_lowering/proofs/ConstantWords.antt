@@ -120,7 +120,7 @@ module _ (x : Basis) (labels : LabelsLead x) (g : Both) (rest : List BlockLine) 
       = ap (λ p. constant_at (house g.call.site (of_value to)) p (P.Ordinal z ∷ []) (code_next x g line rest y)) w.spot
       ∙ ap (λ u. Constant u (word z) ∷ code_next x g line rest y) (sym w.is) in
       subst (λ b. Settles x (starts g line rest) rest (gives (scene_of (high x.table x.blocks (starts g line rest))) to
-      (costs 1 (costs 0 (constant_for b (form_of (facts_in x.table) to_type) (Number z))) >>= made_by b (bound_for g how)))) (sym t.unhooked)
+      (costs 1 (constant_for b (form_of (facts_in x.table) to_type) 0 (Number z)) >>= made_by b (bound_for g how)))) (sym t.unhooked)
       (gives_settles x g line rest y to z (1 + (0 + 0)) (omega arith) n
       (subst (λ l. Given x.live (all_procs x) (within x.table x.blocks g) g.memory g.words l g.call.vars (variable x g line rest y to) (word z)
       (code_next x g line rest y)) (sym code) (constant_given x g line rest y to z n)))
@@ -208,7 +208,7 @@ module _ (x : Basis) (labels : LabelsLead x) (g : Both) (rest : List BlockLine) 
       where
         made_text : (b : Bool) (use_here : Use) → is_lent use_here ≡ true → Passes (Answers [] 1 text_temps g.world)
             ≡ gives (scene_of (high x.table x.blocks (starts g naming rest))) to
-            (costs 1 (costs 0 (constant_for b (form_of (facts_in x.table) to_type) (Fixed text)))
+            (costs 1 (constant_for b (form_of (facts_in x.table) to_type) 0 (Fixed text))
             >>= made_by b (record { how = use_here; level = g.call.site.level; node = how.node }))
         made_text false use_here h = refl
         made_text true uses.Lent h = refl

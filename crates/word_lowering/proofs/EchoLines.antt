@@ -11,10 +11,10 @@ use Rattle.nim_program.specs.Fitting.{are_shown, plain as plain_of}
 use Rattle.nim_program.specs.Kinds.{is_shown, same_value}
 use Rattle.nim_program.specs.View.{if_type}
 use Rattle.nim_meaning.specs.Acts.{line_of}
-use Rattle.nim_meaning.specs.Deeds.{Answers, costs, give, looks, write, ◌>>=◌, ◌>>◌}
+use Rattle.nim_meaning.specs.Deeds.{Answers, costs, give, looks, unless_gone, write, ◌>>=◌, ◌>>◌}
 use Rattle.nim_meaning.specs.Places.{made_by}
 use Rattle.nim_meaning.specs.State.{World}
-use Rattle.nim_meaning.specs.Texts.{text_at, texts_of}
+use Rattle.nim_meaning.specs.Texts.{are_seen, text_at, texts_of}
 use Rattle.nim_meaning.specs.Values.{Operand, nothing, value_of}
 use Rattle.flat_code.specs.declared.block.BlockLine.{BlockLine}
 use Rattle.flat_code.specs.declared.line.From.{From}
@@ -32,7 +32,7 @@ use Rattle.word_lowering.proofs.AllOperands.{Have, given_load, given_value, usin
 use Rattle.word_lowering.proofs.ApplyFits.{applies, RowHere}
 use Rattle.word_lowering.proofs.ControlLines.{plain, value_type}
 use Rattle.word_lowering.proofs.LineFits.{no_type, same_type}
-use Rattle.word_lowering.proofs.Lines.{Basis, IsGood, Settles, known, starts, bound_for}
+use Rattle.word_lowering.proofs.Lines.{Basis, IsGood, Settles, known, starts, bound_for, where_there}
 use Rattle.word_lowering.proofs.Related.{Both, body_of, high}
 use Rattle.word_lowering.proofs.Settling.{LabelsLead, code_next}
 use Rattle.word_lowering.proofs.ShapeFacts.{never}
@@ -107,9 +107,12 @@ module _ (x : Basis) (labels : LabelsLead x) (said : Writing x) (g : Both) (rest
       let texts : List Operand → List ℕ = λ xs. line_of (texts_of (facts_in x.table) g.world (map (if_type (known x).types) of) xs) in
       using_all_settles x (starts g line rest) rest g.call.temps from
       (λ xs. gives (scene_of (high x.table x.blocks (starts g line rest))) to
-      (costs 1 (looks (λ world. write Out (line_of (texts_of (facts_in x.table) world (map (if_type (known x).types) of) xs))) >> give nothing)
-      >>= made_by false (bound_for g how)))
-      (λ xs have. subst (λ es. Settles x (starts g line rest) rest (Passes (Answers es (1 + (length (texts xs) + 0)) temps g.world)))
+      (costs 1 (looks (λ world. unless_gone (are_seen world xs)
+      (write Out (line_of (texts_of (facts_in x.table) world (map (if_type (known x).types) of) xs)))) >> give nothing) >>= made_by false (bound_for g how)))
+      (λ xs have. where_there x (starts g line rest) rest (are_seen g.world xs)
+      (λ b. gives (scene_of (high x.table x.blocks (starts g line rest))) to
+      (costs 1 (unless_gone b (write Out (texts xs)) >> give nothing) >>= made_by false (bound_for g how))) (λ before. tt)
+      (λ seen. subst (λ es. Settles x (starts g line rest) rest (Passes (Answers es (1 + (length (texts xs) + 0)) temps g.world)))
       (sym (append-nil (writes Out (texts xs))))
       (tells_settles x said.least g line rest y temps same_at (texts xs)
-      (line_tells x said line rest g.world g y (code_next x g line rest y) of from xs have f.typed f.row f.placed) (1 + (length (texts xs) + 0)) (omega arith)))
+      (line_tells x said line rest g.world g y (code_next x g line rest y) of from xs have f.typed f.row f.placed) (1 + (length (texts xs) + 0)) (omega arith))))

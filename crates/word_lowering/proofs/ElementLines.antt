@@ -10,10 +10,11 @@ use Rattle.nim_types.specs.Types.{Ty}
 use Rattle.nim_program.specs.Ints.{fits as is_int_number, inside}
 use Rattle.nim_program.specs.Kinds.{TypeKind, element_of, is_int, is_of, kind_if}
 use Rattle.nim_meaning.specs.Acts.{branch}
-use Rattle.nim_meaning.specs.Deeds.{Answers, costs}
+use Rattle.nim_meaning.specs.Deeds.{Answers, costs, give, unless_gone}
 use Rattle.nim_meaning.specs.Places.{fetched}
-use Rattle.nim_meaning.specs.State.{load}
-use Rattle.nim_meaning.specs.Values.{Value, Number, Parts, Handle, Fixed, Ref, Resource, Gone, Vacant, Values, bytes, deeper, length_of, number_of}
+use Rattle.nim_meaning.specs.State.{is_seen, load}
+use Rattle.nim_meaning.specs.Values.{Value, Number, Parts, Handle, Fixed, Ref, Resource, Gone, Vacant, Values, bytes, deeper, item_of, length_of}
+use Rattle.nim_meaning.specs.Values.{number_of}
 use Rattle.flat_code.specs.declared.block.BlockLine.{BlockLine}
 use Rattle.flat_code.specs.declared.line.Line.TheVariants as L
 use Rattle.flat_code.specs.Fits.{is_location}
@@ -45,7 +46,7 @@ use Rattle.word_lowering.proofs.ItemLines.{item_deeper}
 use Rattle.word_lowering.proofs.LineFits.{are_of, elements_shape, number_fits, row_length, single_is, some_kind, has_words}
 use Rattle.word_lowering.proofs.Lines.{Basis, IsGood, Settles, all_procs, all_sites, branch_settles}
 use Rattle.word_lowering.proofs.Lines.{changed, data_there, fits_here, good_between, goes_on, reaches}
-use Rattle.word_lowering.proofs.Lines.{stands_next, starts, using_settles, with_vars}
+use Rattle.word_lowering.proofs.Lines.{stands_next, starts, using_settles, where_there, with_vars}
 use Rattle.word_lowering.proofs.Located.{IsReadAt, led_located}
 use Rattle.word_lowering.proofs.LocationHouses.{location_house}
 use Rattle.word_lowering.proofs.Moves.{From, IsHigh, ToMemory, ToVariable, address_runs, is_single, number_to_variable, parts_to_memory, same_first, same_more}
@@ -322,9 +323,14 @@ module _ (x : Basis) (labels : LabelsLead x) (g : Both) (rest : List BlockLine) 
           ∙ ap (λ n. element_code FIFTH at_is.home index_variable n moving) (each_is (omega (arith, less)))) in
           subst (λ l. Settles x (starts g element_here rest) rest
           (gives (scene_of (high x.table x.blocks (starts g element_here rest))) to (costs 1 (fetched l)))) (deeper_is there i)
-          (element_settles (at_is.address + i * each) (subst (λ l. InFifth l moving (at_is.address + i * each)) code f) (deeper_in g.call.temps there i)
+          (let found : Value = load g.world (location_at g.call.temps (deeper_in g.call.temps there i)) in
+          where_there x (starts g element_here rest) rest (is_seen g.world (location_at g.call.temps (deeper_in g.call.temps there i)))
+          (λ b. gives (scene_of (high x.table x.blocks (starts g element_here rest))) to (costs 1 (unless_gone b (costs (bytes found) (give found)))))
+          (λ before. tt)
+          (λ seen. element_settles (at_is.address + i * each) (subst (λ l. InFifth l moving (at_is.address + i * each)) code f)
+          (deeper_in g.call.temps there i)
           (leads_on x (all_sites x g element_here rest y) g.call.site g.world g.call.temps g.call.temps (λ t v h. h) there at_is.address (i * each)
-          (looked x.table g.call.site (of_location from)) (looked x.table g.call.site (of_value to)) i step at_is.leads_to))
+          (looked x.table g.call.site (of_location from)) (looked x.table g.call.site (of_value to)) i step at_is.leads_to)))
         where
           deeper_is : (there : Where) (i : ℕ) → location_at g.call.temps (deeper_in g.call.temps there i) ≡ deeper (location_at g.call.temps there) i
           deeper_is (Located l) i = refl
@@ -364,7 +370,10 @@ module _ (x : Basis) (labels : LabelsLead x) (g : Both) (rest : List BlockLine) 
           let shaped : has_shape v (row count (looked x.table g.call.site (of_value to))) ≡ true
           = subst (λ s. has_shape v s ≡ true) look (read_location x g element_here rest y from there named_from e).shaped in
           let long : length_of v ≡ count = row_length v count (looked x.table g.call.site (of_value to)) shaped in
-          subst (λ l. Settles x (starts g element_here rest) rest
+          where_there x (starts g element_here rest) rest (is_seen g.world (location_at g.call.temps there))
+          (λ b. gives (scene_of (high x.table x.blocks (starts g element_here rest))) to
+          (costs 1 (unless_gone b (fetched (item_of v (location_at g.call.temps there) (unsigned_abs (number_of w))))))) (λ before. tt)
+          (λ seen. subst (λ l. Settles x (starts g element_here rest) rest
           (gives (scene_of (high x.table x.blocks (starts g element_here rest))) to (costs 1 (fetched l))))
           (sym (item_deeper v count (looked x.table g.call.site (of_value to)) (location_at g.call.temps there) (unsigned_abs (number_of w)) shaped))
-          (found_at y t place there e named_from count look w o (number_of w) refl (subst (λ n. inside (number_of w) n ≡ true) long h))
+          (found_at y t place there e named_from count look w o (number_of w) refl (subst (λ n. inside (number_of w) n ≡ true) long h)))

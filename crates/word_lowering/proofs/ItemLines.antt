@@ -25,7 +25,7 @@ use Rattle.word_lowering.specs.Spots.{address}
 use Rattle.word_lowering.specs.LineCode.{behind_code, item_code, location, variable_of}
 use Rattle.nim_types.specs.Forms.{or_word}
 use Rattle.word_lowering.proofs.ControlLines.{plain, FollowedHere, int_read, kind_at}
-use Rattle.word_lowering.proofs.Lines.{Basis, IsGood, all_procs, starts, Settles, all_sites, fits_here, using_settles}
+use Rattle.word_lowering.proofs.Lines.{Basis, IsGood, all_procs, starts, Settles, all_sites, fits_here, using_settles, where_there}
 use Rattle.word_lowering.proofs.Moves.{IsHigh, address_runs, same_first, same_more, same_second}
 use Rattle.word_lowering.proofs.OpRuns.{gives_computed, behind_branch, behind_computed, behind_constant, leads_constant, leads_off, same_but}
 use Rattle.word_lowering.proofs.OrdinalRuns.{AllSame, Gives, put_low}
@@ -41,8 +41,8 @@ use Rattle.flat_code.specs.Lines.{leads, using_number}
 use Rattle.flat_code.specs.Running.{scene_of}
 use Rattle.flat_code.specs.Scene.{Passes, Where, location_at, with_place}
 use Rattle.nim_meaning.specs.Acts.{line_of}
-use Rattle.nim_meaning.specs.Deeds.{Answers, Finishes, costs, give, stop}
-use Rattle.nim_meaning.specs.State.{load}
+use Rattle.nim_meaning.specs.Deeds.{Answers, Finishes, costs, give, stop, unless_gone}
+use Rattle.nim_meaning.specs.State.{is_seen, load}
 use Rattle.nim_program.specs.Ints.{inside}
 use Rattle.nim_program.specs.Kinds.{TypeKind, element_of, is_int, is_of, kind_if}
 use Rattle.nim_program.specs.Traps.{IndexOutOfBounds, trap_text}
@@ -317,9 +317,13 @@ module _ (x : Basis) (traps : TrapsStop x) (labels : LabelsLead x) (g : Both) (r
           let deep : item_of v (location_at g.call.temps there) (unsigned_abs (number_of w)) ≡ deeper (location_at g.call.temps there)
           (unsigned_abs (number_of w)) = item_deeper v count (looked x.table g.call.site (of_location to)) (location_at g.call.temps there)
           (unsigned_abs (number_of w)) shaped in
-          subst (λ n. Settles x (starts g item_here rest) rest (leads (scene_of (high x.table x.blocks (starts g item_here rest))) to there
+          where_there x (starts g item_here rest) rest (is_seen g.world (location_at g.call.temps there))
+          (λ b. leads (scene_of (high x.table x.blocks (starts g item_here rest))) to there
+          (costs 1 (unless_gone b (deeds.branch (inside (number_of w) (length_of v))
+          (give (item_of v (location_at g.call.temps there) (unsigned_abs (number_of w)))) (stop IndexOutOfBounds))))) (λ before. tt)
+          (λ seen. subst (λ n. Settles x (starts g item_here rest) rest (leads (scene_of (high x.table x.blocks (starts g item_here rest))) to there
           (costs 1 (deeds.branch (inside (number_of w) n)
           (give (item_of v (location_at g.call.temps there) (unsigned_abs (number_of w)))) (stop IndexOutOfBounds))))) (sym long)
           (subst (λ l. Settles x (starts g item_here rest) rest (leads (scene_of (high x.table x.blocks (starts g item_here rest))) to there
           (costs 1 (deeds.branch (inside (number_of w) count) (give l) (stop IndexOutOfBounds))))) (sym deep)
-          (item_by y there e named_from there_to count look as_base w o (inside (number_of w) count) refl))
+          (item_by y there e named_from there_to count look as_base w o (inside (number_of w) count) refl)))

@@ -263,6 +263,12 @@ module _ (x : Basis) where
   branch_settles g rest true yes_did no_did h k = h refl
   branch_settles g rest false yes_did no_did h k = k refl
 
+  -- a line is at a fault where something isn't there: of that nothing is said
+  pub where_there : (g : Both) (rest : List BlockLine) (there : Bool) (did : Bool → Did) → Settles g rest (did false)
+      → (there ≡ true → Settles g rest (did true)) → Settles g rest (did there)
+  where_there g rest true did fault h = h refl
+  where_there g rest false did fault h = fault
+
   -- so many silent lines
   pub goes_on : (g g' : Both) (rest : List BlockLine) (good : IsGood g') (n w : ℕ) (temps : Temps) (world : World)
       → Runs x.live (all_procs x) n (low x.table x.blocks g) (low x.table x.blocks g') → 0 < n → n ≤ 16 * w

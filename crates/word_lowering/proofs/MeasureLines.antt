@@ -10,7 +10,7 @@ use Rattle.word_code.specs.Words.{put, from_label}
 use Rattle.word_code.proofs.ForCallers.{at, none, got}
 use Rattle.flat_code.specs.declared.line.From.{From}
 use Rattle.flat_code.specs.Lines.{still, gives, acts, using_number}
-use Rattle.nim_meaning.specs.Deeds.{stop, Answers, costs, give, ◌>>=◌, looks, Finishes}
+use Rattle.nim_meaning.specs.Deeds.{stop, Answers, costs, give, ◌>>=◌, sees, unless_gone, Finishes}
 use Rattle.nim_program.specs.declared.operation.Measure.{Measure}
 use Rattle.nim_program.specs.declared.operation.Measure.TheVariants.{Len, High}
 use Rattle.nim_program.specs.Ints.{fits as is_int_number}
@@ -24,8 +24,8 @@ use Rattle.flat_code.specs.Fits.{is_location}
 use Rattle.flat_code.specs.Running.{scene_of}
 use Rattle.flat_code.specs.Scene.{Passes, Where, location_at, with_value}
 use Rattle.nim_meaning.specs.Here.{gives_hooked}
-use Rattle.nim_meaning.specs.Places.{made_by}
-use Rattle.nim_meaning.specs.State.{load}
+use Rattle.nim_meaning.specs.Places.{length_at, made_by}
+use Rattle.nim_meaning.specs.State.{is_seen, load}
 use Rattle.nim_meaning.specs.Table.{measured}
 use Rattle.nim_meaning.specs.Values.{Number, length_of, At, location_of, Value, number_of, nothing}
 use Rattle.nim_program.specs.Kinds.{has_length, is_int, kind_if, same_value}
@@ -37,6 +37,7 @@ use Rattle.word_lowering.proofs.Arithmetic.{fits_signed, signed_fits, equal_is}
 use Rattle.word_lowering.proofs.ControlLines.{FollowedHere, kind_at, plain, value_type, int_read}
 use Rattle.word_lowering.proofs.LineFits.{int_shape, same_type, some_kind}
 use Rattle.word_lowering.proofs.Lines.{Basis, IsGood, Settles, all_procs, fits_here, known, mapped_settles, starts, using_settles, lower, bound_for}
+use Rattle.word_lowering.proofs.Lines.{where_there}
 use Rattle.word_lowering.proofs.LocationHouses.{RowAt, row_at}
 use Rattle.word_lowering.proofs.NumberLines.{constant_given, getting, int_target, variable}
 use Rattle.word_lowering.proofs.OperandLines.{value_type_by}
@@ -99,9 +100,12 @@ module _ (x : Basis) (labels : LabelsLead x) (g : Both) (rest : List BlockLine) 
       (fits_here x.table x.blocks (body_of g) line rest y.stands) in
       using_settles x (starts g line rest) rest (g.call.temps.places from)
       (λ there. gives (scene_of (high x.table x.blocks (starts g line rest))) to
-      (costs 1 (looks (λ world. give (Number (pos (length_of (load world (location_at g.call.temps there)))))))))
+      (costs 1 (length_at (location_at g.call.temps there) >>= (λ n. give (Number (pos n))))))
       (λ there e. let r = row_at x g line rest y from there kinds.1 e in
-      measured_settles x g line rest y to Len from there r (int_target x g line rest y to refl refl kinds.0 (pos r.count) r.fits) refl)
+      where_there x (starts g line rest) rest (is_seen g.world (location_at g.call.temps there))
+      (λ b. gives (scene_of (high x.table x.blocks (starts g line rest))) to
+      (costs 1 (unless_gone b (give (length_of (load g.world (location_at g.call.temps there)))) >>= (λ n. give (Number (pos n)))))) (λ before. tt)
+      (λ seen. measured_settles x g line rest y to Len from there r (int_target x g line rest y to refl refl kinds.0 (pos r.count) r.fits) refl))
 
   pub measure_line : (m : Measure) (to : ℕ) (how : UseAt) (ty a : Option ℕ) (from : ℕ)
       → RowHere x g rest to (O.Measure m) how ty (a ∷ []) (F.Place from ∷ [])
@@ -118,14 +122,18 @@ module _ (x : Basis) (labels : LabelsLead x) (g : Both) (rest : List BlockLine) 
       let long = subst (λ o. has_length (kind_if (facts_in x.table) o) ≡ true) (sym v) kinds.1 in
       mapped_settles x (starts g line rest) rest (g.call.temps.places from) (λ place. At (location_at g.call.temps place))
       (λ u. gives (scene_of (high x.table x.blocks (starts g line rest))) to
-      (costs 1 (looks (λ world. give (Number (measured m (length_of (load world (location_of u)))))))
+      (costs 1 (sees (location_of u) (λ world v. give (Number (measured m (length_of v)))))
       >>= made_by (gives_hooked (facts_in x.table) (if_type (known x).types ty)) (bound_for g how)))
       (λ there e. let r = row_at x g line rest y from there long e in
       subst (λ b. Settles x (starts g line rest) rest (gives (scene_of (high x.table x.blocks (starts g line rest))) to
-      (costs 1 (looks (λ world. give (Number (measured m (length_of (load world (location_at g.call.temps there)))))))
+      (costs 1 (sees (location_at g.call.temps there) (λ world v. give (Number (measured m (length_of v)))))
       >>= made_by b (bound_for g how)))) (sym (ap (gives_hooked (facts_in x.table)) s.1 ∙ t.unhooked))
-      (measured_settles x g line rest y to m from there r
-      (getting x g line rest y to s.0 None (measured m r.count) t (int_shape (facts_in x.table) s.0 s.2) (measured_fits m r.count r.fits)) refl))
+      (where_there x (starts g line rest) rest (is_seen g.world (location_at g.call.temps there))
+      (λ b. gives (scene_of (high x.table x.blocks (starts g line rest))) to
+      (costs 1 (unless_gone b (give (Number (measured m (length_of (load g.world (location_at g.call.temps there)))))))
+      >>= made_by false (bound_for g how))) (λ before. tt)
+      (λ seen. measured_settles x g line rest y to m from there r
+      (getting x g line rest y to s.0 None (measured m r.count) t (int_shape (facts_in x.table) s.0 s.2) (measured_fits m r.count r.fits)) refl)))
 
 -- ---- a length that a loop checks
 
@@ -213,8 +221,12 @@ module _ (x : Basis) (traps : TrapsStop x) (labels : LabelsLead x) (g : Both) (r
       (λ there e. using_settles x (starts g still_here rest) rest (g.call.temps.values len)
       (λ w. acts (scene_of (high x.table x.blocks (starts g still_here rest))) (costs 1 (still (location_at g.call.temps there) (number_of w))))
       (λ w f. let r = row_at x g still_here rest y from there kinds.0 e in
-      subst (λ n. Still_does y (int_eq (pos n) (number_of w))) (sym r.long)
-      (still_by y there r w (int_read x g still_here rest y len w kinds.1 f) (int_eq (pos r.count) (number_of w)) refl)))
+      where_there x (starts g still_here rest) rest (is_seen g.world (location_at g.call.temps there))
+      (λ b. acts (scene_of (high x.table x.blocks (starts g still_here rest))) (costs 1 (unless_gone b
+      (deeds.branch (int_eq (pos (length_of (load g.world (location_at g.call.temps there)))) (number_of w)) (give nothing) (stop LengthChanged)))))
+      (λ before. tt)
+      (λ seen. subst (λ n. Still_does y (int_eq (pos n) (number_of w))) (sym r.long)
+      (still_by y there r w (int_read x g still_here rest y len w kinds.1 f) (int_eq (pos r.count) (number_of w)) refl))))
 
 -- ---- the row, whatever stands in the line
 

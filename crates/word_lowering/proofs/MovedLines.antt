@@ -10,8 +10,8 @@ use Rattle.nim_program.specs.declared.program.Mode.TheVariants.{Plain, Sink, Var
 use Rattle.nim_program.specs.View.{if_type}
 use Rattle.nim_program.specs.Kinds.{is_of}
 use Rattle.nim_meaning.specs.Values.{Value, bytes, Holds}
-use Rattle.nim_meaning.specs.State.{World, load, with_slot}
-use Rattle.nim_meaning.specs.Deeds.{Answers, costs}
+use Rattle.nim_meaning.specs.State.{World, is_seen, load, with_slot}
+use Rattle.nim_meaning.specs.Deeds.{Answers, costs, give, unless_gone}
 use Rattle.nim_meaning.specs.Here.{gives_hooked, form_for}
 use Rattle.nim_meaning.specs.Places.{fetched, taken_by, place_at, put}
 use Rattle.flat_code.specs.declared.block.BlockLine.{BlockLine}
@@ -34,6 +34,7 @@ use Rattle.word_lowering.proofs.LineFits.{are_of, single_is, single_number}
 use Rattle.word_lowering.proofs.Targets.{Target, target, pointed}
 use Rattle.word_lowering.proofs.Related.{high, within, Both, body_of}
 use Rattle.word_lowering.proofs.Lines.{known, Basis, IsGood, Settles, all_sites, changed, fits_here, goes_on, stands_next, starts, using_settles, bound_for}
+use Rattle.word_lowering.proofs.Lines.{where_there}
 use Rattle.word_lowering.proofs.ReadFacts.{Read, ValueRead, read_value, read_location}
 use Rattle.word_lowering.proofs.ControlLines.{FollowedHere, plain}
 use Rattle.word_lowering.proofs.Settling.{code_here, code_next, LabelsLead}
@@ -190,8 +191,10 @@ module _ (x : Basis) (g : Both) (line : BlockLine) (rest : List BlockLine) (y : 
       let r = read_location x g line rest y from there p.named e in
       let v = load g.world (location_at g.call.temps there) in
       let some = bytes_some v (values_of_numbers v (shape_of (facts_in x.table) ty) t.numbers (subst (λ s. has_shape v s ≡ true) p.look r.shaped)) in
-      moved_value to ty v t (subst (λ s. has_shape v s ≡ true) p.look r.shaped) (location (around x.table x.blocks (body_of g)) from) r.all r.read code
-      (bytes v + 0) (omega (arith, some))
+      where_there x (starts g line rest) rest (is_seen g.world (location_at g.call.temps there))
+      (λ b. gives (scene_of (high x.table x.blocks (starts g line rest))) to (unless_gone b (costs (bytes v) (give v)))) (λ before. tt)
+      (λ seen. moved_value to ty v t (subst (λ s. has_shape v s ≡ true) p.look r.shaped) (location (around x.table x.blocks (body_of g)) from) r.all r.read
+      code (bytes v + 0) (omega (arith, some)))
 
   pub taken_settles : (to : ℕ) (ty : Ty) (o : Option Ty) (how : UseAt) (act : Option Act) (from : ℕ) (there : Where) → Target x g line rest y to ty
       → o ≡ Some ty

@@ -2,7 +2,7 @@
 use Rattle.std.proofs.Common.{◌≡◌, ℕ, ◌+◌, ◌≤◌, List, [], true, pos, refl, sym, ap, ap₂, subst, ◌∙◌, arith, None, Option, Some, false, ◌*◌, ◌∷◌}
 use Rattle.nim_program.specs.declared.operation.Operation.TheVariants as O
 use Rattle.nim_meaning.specs.Values.{Value, Number, Parts, Handle, Fixed, Ref, Resource, Gone, Vacant, bytes, Location, At, default_of, location_of}
-use Rattle.nim_meaning.specs.State.{load, store}
+use Rattle.nim_meaning.specs.State.{is_seen, is_there, load, store}
 use Rattle.flat_code.specs.declared.block.BlockLine.{BlockLine}
 use Rattle.flat_code.specs.declared.line.From.TheVariants as F
 use Rattle.flat_code.specs.declared.line.Line.TheVariants as L
@@ -23,7 +23,7 @@ use Rattle.word_lowering.proofs.Gets.{Gets, SameTemps, good_place, gets_moved, g
 use Rattle.word_lowering.proofs.InMemory.{AllZero, blank_zero, bytes_some}
 use Rattle.word_lowering.proofs.Lines.{reaches, Basis, IsGood, all_procs, all_sites, changed, data_there, stands_next, starts, Settles, goes_on, known}
 use Rattle.word_lowering.proofs.Lines.{bound_for}
-use Rattle.word_lowering.proofs.Lines.{mapped_settles}
+use Rattle.word_lowering.proofs.Lines.{mapped_settles, where_there}
 use Rattle.word_lowering.proofs.Located.{place_located}
 use Rattle.word_lowering.proofs.MovedLines.{own_plain}
 use Rattle.word_lowering.proofs.Moves.{ToMemory, is_single, zero_to_memory, zeros_to_memory}
@@ -38,7 +38,7 @@ use Rattle.flat_code.specs.Fits.{if_kind, is_location, is_standing, place_named}
 use Rattle.flat_code.specs.Lines.{gives}
 use Rattle.flat_code.specs.Running.{scene_of}
 use Rattle.flat_code.specs.declared.line.From.{From}
-use Rattle.nim_meaning.specs.Deeds.{Answers, costs, ◌>>=◌}
+use Rattle.nim_meaning.specs.Deeds.{Answers, Stores, costs, does, give, sets, unless_gone, ◌>>=◌, ◌>>◌}
 use Rattle.nim_meaning.specs.Here.{gives_hooked}
 use Rattle.nim_meaning.specs.Places.{exchanged, made_by}
 use Rattle.nim_program.specs.Kinds.{is_of, same_value}
@@ -213,7 +213,15 @@ module _ (x : Basis) (labels : LabelsLead x) (g : Both) (rest : List BlockLine) 
         (costs 1 (exchanged (location_of l) start_value) >>= made_by (gives_hooked (facts_in x.table) (Some to_type)) (bound_for g how)))
         (λ there e. subst (λ b. Settles x (starts g moving rest) rest (gives (scene_of (high x.table x.blocks (starts g moving rest))) to
         (costs 1 (exchanged (location_at g.call.temps there) start_value) >>= made_by b (bound_for g how)))) (sym t.unhooked)
-        (moved_out y there e typed from_typed may.0))
+        (where_there x (starts g moving rest) rest (is_seen g.world (location_at g.call.temps there))
+        (λ b. gives (scene_of (high x.table x.blocks (starts g moving rest))) to (costs 1 (costs (bytes start_value)
+        (unless_gone b (sets (location_at g.call.temps there) start_value >> give (load g.world (location_at g.call.temps there)))))
+        >>= made_by false (bound_for g how))) (λ before. tt)
+        (λ seen. where_there x (starts g moving rest) rest (is_there g.world (location_at g.call.temps there))
+        (λ b. gives (scene_of (high x.table x.blocks (starts g moving rest))) to (costs 1 (costs (bytes start_value)
+        (unless_gone b (does (Stores (location_at g.call.temps there) start_value)) >> give (load g.world (location_at g.call.temps there))))
+        >>= made_by false (bound_for g how))) (λ before. tt)
+        (λ h. moved_out y there e typed from_typed may.0))))
 
   pub move_line : (ty : Option ℕ) (of : List (Option ℕ)) (from : List From) → RowHere x g rest to O.Move how ty of from
   move_line (Some ty) (a ∷ []) (F.Place from ∷ []) y = move_value ty a from y

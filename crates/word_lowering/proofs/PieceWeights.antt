@@ -27,10 +27,9 @@ use Rattle.word_lowering.specs.declared.homes.Home.TheVariants.{Variable, Placed
 use Rattle.word_lowering.specs.declared.homes.Housed.{Housed}
 use Rattle.word_lowering.specs.declared.spots.Spot.{Spot}
 use Rattle.word_lowering.specs.declared.spots.Spot.TheVariants.{Held, Lies}
-use Rattle.word_lowering.specs.LineCode.{Around, proc_number}
 use Rattle.word_lowering.specs.LineCode as lines
 use Rattle.word_lowering.specs.Operations as operations
-use Rattle.word_lowering.specs.Operations.{word, trap_label}
+use Rattle.word_lowering.specs.Operations.{word}
 use Rattle.word_lowering.specs.Spots.{spot_of, shifted, address, moved, passes, cleared, starts, handed}
 
 -- ---- moves and operations

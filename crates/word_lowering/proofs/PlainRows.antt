@@ -7,22 +7,24 @@ use Rattle.nim_program.specs.declared.operation.Operation.{Operation}
 use Rattle.nim_program.specs.declared.operation.Operation.TheVariants as O
 use Rattle.flat_code.specs.declared.line.UseAt.{UseAt}
 use Rattle.nim_program.specs.View.{if_type}
-use Rattle.nim_meaning.specs.Deeds.{branch, costs, ◌>>=◌}
+use Rattle.nim_meaning.specs.Deeds.{Deed, branch, costs, looks, unless_gone, ◌>>=◌}
 use Rattle.nim_meaning.specs.Here.{any_hooked, gives_hooked}
 use Rattle.nim_meaning.specs.OwnedRows.{owned}
 use Rattle.nim_meaning.specs.Places.{made_by}
 use Rattle.nim_meaning.specs.Table.{does}
+use Rattle.nim_meaning.specs.Texts.{are_seen}
+use Rattle.nim_meaning.specs.Values.{Operand, Value}
 use Rattle.flat_code.specs.declared.block.BlockLine.{BlockLine}
 use Rattle.flat_code.specs.declared.line.From.{From}
 use Rattle.flat_code.specs.declared.line.Line.TheVariants as L
-use Rattle.flat_code.specs.Lines.{gives, using_all}
+use Rattle.flat_code.specs.Lines.{fetch, gives, traded, using, using_all, without_all}
 use Rattle.flat_code.specs.Running.{scene_of}
-use Rattle.flat_code.specs.Scene.{Did}
+use Rattle.flat_code.specs.Scene.{Did, Temps}
 use Rattle.word_lowering.specs.MayLower.{is_echo, is_hooked}
 use Rattle.word_lowering.specs.MayLower as may
 use Rattle.word_lowering.proofs.ApplyFits.{RowHere, applies, apply_line, gets_type, of_types}
 use Rattle.word_lowering.proofs.ControlLines.{FollowedHere, value_type}
-use Rattle.word_lowering.proofs.Lines.{Basis, IsGood, Settles, bound_for, known, starts}
+use Rattle.word_lowering.proofs.Lines.{Basis, IsGood, Settles, bound_for, known, starts, where_there}
 use Rattle.word_lowering.proofs.OperandLines.{value_type_by}
 use Rattle.word_lowering.proofs.Related.{Both, high}
 use Rattle.word_lowering.proofs.Settling.{LabelsLead}
@@ -32,6 +34,19 @@ use Rattle.word_lowering.proofs.Targets.{plain_operands, target}
 neither : (a b : Bool) → (a || b) ≡ false → (a ≡ false) × (b ≡ false)
 neither true b h = never (sym h)
 neither false b h = (refl, h)
+
+using_all_mapped : (x : Basis) (g : Both) (rest : List BlockLine) (temps : Temps) (from : List From) (go other : List Operand → Did)
+    → ((xs : List Operand) → Settles x g rest (go xs) → Settles x g rest (other xs)) → Settles x g rest (using_all temps from go)
+    → Settles x g rest (using_all temps from other)
+using_all_mapped x g rest temps [] go other h s = h [] s
+using_all_mapped x g rest temps (f ∷ from) go other h s =
+    by (λ z. using_all_mapped x g rest temps from (λ xs. go (z ∷ xs)) (λ xs. other (z ∷ xs)) (λ xs. h (z ∷ xs))) (fetch temps f) s
+  where
+    by : ((z : Operand) → Settles x g rest (using_all temps from (λ xs. go (z ∷ xs))) → Settles x g rest (using_all temps from (λ xs. other (z ∷ xs))))
+        → (o : Option Operand) → Settles x g rest (using o (λ z. using_all temps from (λ xs. go (z ∷ xs))))
+        → Settles x g rest (using o (λ z. using_all temps from (λ xs. other (z ∷ xs))))
+    by more None s = s
+    by more (Some z) s = more z s
 
 any_unhooked : (x : Basis) (of : List (Option ℕ)) → may.any_hooked x.table of ≡ false
     → any_hooked (facts_in x.table) (map (if_type (known x).types) of) ≡ false
@@ -47,13 +62,15 @@ module _ (x : Basis) (labels : LabelsLead x) (g : Both) (rest : List BlockLine) 
   has_hooks operation = gives_hooked (facts_in x.table) (gets_type x g rest to operation how ty of from)
       || any_hooked (facts_in x.table) (of_types x g rest to operation how ty of from)
 
-  -- what the line does, by whether a type of it has hooks
-  abbrev does_by : Operation → Bool → Did
-  does_by operation b = using_all g.call.temps from (λ xs.
-      gives (scene_of (high x.table x.blocks (starts g (apply_line x g rest to operation how ty of from) rest))) to
-      (costs 1 (branch b
+  -- what the line does, by whether an operand of it has hooks, and a type of it
+  abbrev does_by : Operation → (operands any : Bool) → Did
+  does_by operation operands any = using_all g.call.temps from (λ xs.
+      gives (without_all (traded operands operation from)
+      (scene_of (high x.table x.blocks (starts g (apply_line x g rest to operation how ty of from) rest)))) to
+      (costs 1 (branch any
+      (looks (λ world. unless_gone (are_seen world xs)
       (owned operation (facts_in x.table) (if_type (known x).types ty) (map (if_type (known x).types) of) xs
-      (does operation (facts_in x.table) (if_type (known x).types ty) (map (if_type (known x).types) of) xs))
+      (does operation (facts_in x.table) (if_type (known x).types ty) (map (if_type (known x).types) of) xs))))
       (does operation (facts_in x.table) (if_type (known x).types ty) (map (if_type (known x).types) of) xs))
       >>= made_by (gives_hooked (facts_in x.table) (if_type (known x).types ty)) (bound_for g how)))
 
@@ -66,17 +83,38 @@ module _ (x : Basis) (labels : LabelsLead x) (g : Both) (rest : List BlockLine) 
         (applies x g rest to operation how ty of from y).given (ap (if_type (known x).types) e) in
         (target x g line rest y to (type_at (known x).types n) refl refl typed).unhooked
 
-    none_hooked : is_echo operation ≡ false → has_hooks operation ≡ false
-    none_hooked e =
-        ap (λ b. b || any_hooked (facts_in x.table) (map (if_type (known x).types) of)) (value_unhooked ty refl)
-        ∙ any_unhooked x of (not-true (may.any_hooked x.table of) (subst (λ b. (b || not (may.any_hooked x.table of)) ≡ true) e
+    none_operands : is_echo operation ≡ false → any_hooked (facts_in x.table) (map (if_type (known x).types) of) ≡ false
+    none_operands e = any_unhooked x of (not-true (may.any_hooked x.table of) (subst (λ b. (b || not (may.any_hooked x.table of)) ≡ true) e
         (plain_operands x g (apply_line x g rest to operation how ty of from) rest y)))
 
+    none_hooked : is_echo operation ≡ false → has_hooks operation ≡ false
+    none_hooked e =
+        ap (λ b. b || any_hooked (facts_in x.table) (map (if_type (known x).types) of)) (value_unhooked ty refl) ∙ none_operands e
+
   pub as_row : (operation : Operation) → RowHere x g rest to operation how ty of from → FollowedHere x labels g rest (L.Apply to operation how ty of from)
-  as_row O.Echo row y = by (has_hooks O.Echo)
+  as_row O.Echo row y = by (any_hooked (facts_in x.table) (map (if_type (known x).types) of)) (has_hooks O.Echo)
     where
-      by : (b : Bool) → Settles x (starts g (apply_line x g rest to O.Echo how ty of from) rest) rest (does_by O.Echo b)
-      by true = row y
-      by false = row y
-  as_row operation row y = subst (λ b. Settles x (starts g (apply_line x g rest to operation how ty of from) rest) rest (does_by operation b))
-      (sym (none_hooked operation y refl)) (row y)
+      here : Both
+      here = starts g (apply_line x g rest to O.Echo how ty of from) rest
+
+      echoed : List Operand → Deed Value
+      echoed xs = does O.Echo (facts_in x.table) (if_type (known x).types ty) (map (if_type (known x).types) of) xs
+
+      gives_by : (b : Bool) → List Operand → Did
+      gives_by b xs = gives (scene_of (high x.table x.blocks here)) to
+          (costs 1 (unless_gone b (echoed xs)) >>= made_by (gives_hooked (facts_in x.table) (if_type (known x).types ty)) (bound_for g how))
+
+      seen : Settles x here rest (using_all g.call.temps from (λ xs. gives_by (are_seen g.world xs) xs))
+      seen = using_all_mapped x here rest g.call.temps from (gives_by true) (λ xs. gives_by (are_seen g.world xs) xs)
+          (λ xs s. where_there x here rest (are_seen g.world xs) (λ b. gives_by b xs) (λ before. tt) (λ h. s)) (row y)
+
+      by : (operands any : Bool) → Settles x here rest (does_by O.Echo operands any)
+      by true true = seen
+      by false true = seen
+      by true false = row y
+      by false false = row y
+  as_row operation row y =
+      let line = apply_line x g rest to operation how ty of from in
+      subst (λ b. Settles x (starts g line rest) rest (does_by operation (any_hooked (facts_in x.table) (map (if_type (known x).types) of)) b))
+      (sym (none_hooked operation y refl))
+      (subst (λ b. Settles x (starts g line rest) rest (does_by operation b false)) (sym (none_operands operation y refl)) (row y))

@@ -1,5 +1,5 @@
 -- A call returns to its caller, which gets the value that it gives, where it has a place for it.
-use Rattle.std.proofs.Common.{◌≡◌, ◌⊎◌, inl, inr, ℕ, suc, ◌+◌, ◌^◌, ◌<◌, ◌≤◌, List, ◌∷◌, Some, true, false}
+use Rattle.std.proofs.Common.{◌≡◌, ◌⊎◌, inl, inr, ℕ, suc, ◌+◌, ◌≤◌, List, ◌∷◌, Some, true, false}
 use Rattle.std.proofs.Common.{refl, sym, ap, ap₂, subst, ◌∙◌, arith}
 use Rattle.nim_meaning.specs.Values.{Value, bytes}
 use Rattle.flat_code.specs.declared.block.BlockLine.{BlockLine}

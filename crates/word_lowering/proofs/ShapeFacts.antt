@@ -3,10 +3,10 @@ use Rattle.std.proofs.Common.{◌≡◌, ℕ, zero, suc, ◌+◌, ◌*◌, ◌<�
 use Rattle.std.proofs.Common.{◌∙◌, arith, mul-suc, mul_comm}
 use Rattle.std.specs.Prelude.{◌&&◌}
 use Rattle.std.proofs.lemmas.Bool.{and_parts, true≢false}
-use Rattle.nim_types.specs.declared.types.TheConstants.{WORD_BYTES, LIST_BYTES}
 use Rattle.nim_types.specs.Forms.{or_word}
 use Rattle.nim_meaning.specs.Values.{Value, Number, Parts, Handle, Fixed, Ref, Resource, Gone, Vacant, Values, Nil, More, bytes, bytes_all}
 use Rattle.flat_code.specs.Shapes.{Shape, number, reference, block, elements, row, parts, resource, Shapes, no_shapes, shapes, has_shape, are_rows, have_shapes}
+pub use Rattle.word_lowering.specs.ShapeBytes.{shape_bytes, shapes_bytes}
 use Rattle.word_lowering.proofs.InMemory.{OfNumbers, AllOfNumbers}
 
 pub never : {A : Type 0} → false ≡ true → A
@@ -17,20 +17,6 @@ abbrev pub nth_shape : Shapes → ℕ → Option Shape
 nth_shape no_shapes i = None
 nth_shape (shapes s ss) zero = Some s
 nth_shape (shapes s ss) (suc i) = nth_shape ss i
-
-abbrev mutual
-  pub shape_bytes : Shape → ℕ
-  shape_bytes (number values) = WORD_BYTES
-  shape_bytes reference = WORD_BYTES
-  shape_bytes block = LIST_BYTES
-  shape_bytes (elements s) = LIST_BYTES
-  shape_bytes (row n s) = or_word (n * shape_bytes s)
-  shape_bytes (parts ss) = or_word (shapes_bytes ss)
-  shape_bytes (resource ss) = or_word (shapes_bytes ss)
-
-  pub shapes_bytes : Shapes → ℕ
-  shapes_bytes no_shapes = 0
-  shapes_bytes (shapes s ss) = shape_bytes s + shapes_bytes ss
 
 abbrev mutual
   pub of_numbers : Shape → Bool

@@ -4,6 +4,7 @@ use Rattle.std.proofs.lemmas.Bool.{and_parts}
 use Rattle.std.specs.Prelude.{option_map, ◌&&◌}
 use Rattle.nim_program.specs.declared.operation.Operation.TheVariants as O
 use Rattle.nim_meaning.specs.Values.{Value, bytes, nothing, At, Given, value_of, location_of, Location}
+use Rattle.nim_meaning.specs.State.{is_there}
 use Rattle.nim_meaning.specs.Places.{put, made_by}
 use Rattle.flat_code.specs.declared.block.BlockLine.{BlockLine}
 use Rattle.flat_code.specs.declared.line.From.{From}
@@ -15,7 +16,7 @@ use Rattle.word_lowering.specs.LineCode.{location}
 use Rattle.flat_code.specs.Lines.{gives, using}
 use Rattle.flat_code.specs.Running.{scene_of}
 use Rattle.flat_code.specs.Shapes.{has_shape, shape_of}
-use Rattle.nim_meaning.specs.Deeds.{costs, ◌>>=◌, give}
+use Rattle.nim_meaning.specs.Deeds.{Stores, costs, does, give, unless_gone, ◌>>=◌, ◌>>◌}
 use Rattle.nim_program.specs.Kinds.{same_value}
 use Rattle.nim_program.specs.View.{if_type}
 use Rattle.flat_code.specs.declared.line.UseAt.{UseAt}
@@ -31,6 +32,7 @@ use Rattle.word_lowering.specs.Spots.{moves, passes}
 use Rattle.flat_code.specs.Codes.{block_does}
 use Rattle.word_lowering.proofs.LineFits.{are_of, no_type, ordinal_shape, same_type, type_there}
 use Rattle.word_lowering.proofs.Lines.{Basis, IsGood, Settles, known, mapped_settles, starts, all_settles, fits_here, using_settles, bound_for}
+use Rattle.word_lowering.proofs.Lines.{where_there}
 use Rattle.word_lowering.proofs.MovedLines.{value_read, moved_value, moved_word}
 use Rattle.word_lowering.proofs.OutPlaces.{Written, stored_settles, written_at}
 use Rattle.word_lowering.proofs.Related.{Both, body_of, high}
@@ -96,9 +98,12 @@ module _ (x : Basis) (labels : LabelsLead x) (g : Both) (rest : List BlockLine) 
         let r = value_read x g assign rest y from z w.ty from_typed s.numbers h in
         subst (λ l. Settles x (starts g assign rest) rest (gives (scene_of (high x.table x.blocks (starts g assign rest))) to
         (costs 1 (put l z) >>= made_by false (bound_for g how)))) (sym s.is)
-        (stored_settles x g assign rest y (location (around x.table x.blocks (body_of g)) at) s.at (shape_of (facts_in x.table) w.ty) z r.1
+        (where_there x (starts g assign rest) rest (is_there g.world s.at)
+        (λ b. gives (scene_of (high x.table x.blocks (starts g assign rest))) to
+        (costs 1 (costs (bytes z) (unless_gone b (does (Stores s.at z)) >> give nothing)) >>= made_by false (bound_for g how))) (λ before. tt)
+        (λ seen. stored_settles x g assign rest y (location (around x.table x.blocks (body_of g)) at) s.at (shape_of (facts_in x.table) w.ty) z r.1
         (house g.call.site (of_value from)) r.0.read refl (with_value to g.call.temps nothing) (none_temps x g assign rest y to none)
-        (1 + (bytes z + 0)) (omega arith) s.written)))
+        (1 + (bytes z + 0)) (omega arith) s.written))))
 
   pub assign_line : (ty : Option ℕ) (of : List (Option ℕ)) (from : List From) → RowHere x g rest to O.Assign how ty of from
   assign_line None (a ∷ b ∷ []) (F.Place at ∷ F.Value from ∷ []) y = assign_values a b at from y

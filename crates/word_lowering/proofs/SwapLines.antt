@@ -10,9 +10,9 @@ use Rattle.flat_code.specs.declared.line.UseAt.{UseAt}
 use Rattle.nim_program.specs.Kinds.{same_value}
 use Rattle.nim_program.specs.View.{if_type}
 use Rattle.nim_meaning.specs.Values.{Value, bytes, nothing, Location, At, location_of}
-use Rattle.nim_meaning.specs.State.{World, load, store}
-use Rattle.nim_meaning.specs.Deeds.{Answers, costs, ◌>>=◌}
-use Rattle.nim_meaning.specs.Places.{made_by}
+use Rattle.nim_meaning.specs.State.{World, is_seen, is_there, load, store}
+use Rattle.nim_meaning.specs.Deeds.{Answers, Deed, Stores, behind, costs, does, give, perform, sets, unless_gone, ◌>>=◌, ◌>>◌}
+use Rattle.nim_meaning.specs.Places.{exchanged, made_by}
 use Rattle.nim_meaning.specs.Table.{swapped}
 use Rattle.flat_code.specs.declared.block.BlockLine.{BlockLine}
 use Rattle.flat_code.specs.declared.line.From.{From}
@@ -22,7 +22,7 @@ use Rattle.flat_code.specs.Codes.{block_plain}
 use Rattle.flat_code.specs.Fits.{if_kind, is_location, is_standing, place_named}
 use Rattle.flat_code.specs.Lines.{gives, using}
 use Rattle.flat_code.specs.Running.{scene_of}
-use Rattle.flat_code.specs.Scene.{Where, Temps, Passes, location_at, with_value}
+use Rattle.flat_code.specs.Scene.{Where, Temps, Did, Passes, location_at, with_value}
 use Rattle.flat_code.specs.Shapes.{Shape, shape_of}
 use Rattle.word_code.specs.declared.word.WordInstr.{WordInstr}
 use Rattle.word_code.specs.Memory.{Memory}
@@ -41,7 +41,7 @@ use Rattle.word_lowering.proofs.InMemory.{IsAt, bytes_whole, bytes_some, copied_
 use Rattle.word_lowering.proofs.Keeping.{number_cases, same_numbers}
 use Rattle.word_lowering.proofs.LineFits.{are_of, no_type, same_type, has_words}
 use Rattle.word_lowering.proofs.Lines.{Basis, IsGood, Settles, all_procs, all_sites, changed, data_there, goes_on, known, mapped_settles, reaches, bound_for}
-use Rattle.word_lowering.proofs.Lines.{stands_next, starts}
+use Rattle.word_lowering.proofs.Lines.{stands_next, starts, where_there}
 use Rattle.word_lowering.proofs.Located.{IsThereAt, place_located}
 use Rattle.word_lowering.proofs.Moves.{IsHigh, all_same, words_of}
 use Rattle.word_lowering.proofs.OutPlaces.{written_at, written_stands}
@@ -316,6 +316,43 @@ module _ (x : Basis) (labels : LabelsLead x) (g : Both) (rest : List BlockLine) 
     abbrev may_write : ℕ → Bool
     may_write t = if_kind is_standing (place_named is_location (body_of g).proc.places t)
 
+    -- what the line does, by a deed, and what it does behind the first of both
+    abbrev given : Deed Value → Did
+    given deed = gives (scene_of (high x.table x.blocks (starts g swapping rest))) to (costs 1 deed >>= made_by false (bound_for g how))
+
+    abbrev given_then : (first second : Value) → World → Deed Value → Did
+    given_then first second world_then deed = Passes (behind [] 1 (behind [] (bytes first) (perform
+        (((costs (bytes second) deed >> give nothing) >>= made_by false (bound_for g how)) >>= (λ u. give (with_value to g.call.temps u))) world_then)))
+
+    -- both are there all the time, or the meaning is at a fault
+    module _ (one other : Location) where
+      abbrev first : Value
+      first = load g.world one
+
+      abbrev second : Value
+      second = load g.world other
+
+      abbrev world_then : World
+      world_then = store g.world other first
+
+      abbrev Done : Did → Type 0
+      Done did = Settles x (starts g swapping rest) rest did
+
+      where_seen : Done (Passes (Answers [] (1 + (bytes first + (bytes second + 0))) (with_value to g.call.temps nothing) (store world_then one second)))
+          → Done (given (swapped one other))
+      where_seen d =
+          where_there x (starts g swapping rest) rest (is_seen g.world one)
+          (λ b. given (unless_gone b (exchanged other first) >>= (λ u. exchanged one u >> give nothing))) (λ before. tt)
+          (λ h. where_there x (starts g swapping rest) rest (is_seen g.world other)
+          (λ b. given (costs (bytes first) (unless_gone b (sets other first >> give second)) >>= (λ u. exchanged one u >> give nothing))) (λ before. tt)
+          (λ h. where_there x (starts g swapping rest) rest (is_there g.world other)
+          (λ b. given (costs (bytes first) (unless_gone b (does (Stores other first)) >> give second) >>= (λ u. exchanged one u >> give nothing)))
+          (λ before. tt)
+          (λ h. where_there x (starts g swapping rest) rest (is_seen world_then one)
+          (λ b. given_then first second world_then (unless_gone b (sets one second >> give (load world_then one)))) (λ before. tt)
+          (λ h. where_there x (starts g swapping rest) rest (is_there world_then one)
+          (λ b. given_then first second world_then (unless_gone b (does (Stores one second)) >> give (load world_then one))) (λ before. tt) (λ h. d)))))
+
     swap_values : RowHere x g rest to O.Swap how None (a ∷ b ∷ []) (F.Place left ∷ F.Place right ∷ [])
     swap_values y =
         let f = applies x g rest to O.Swap how None (a ∷ b ∷ []) (F.Place left ∷ F.Place right ∷ []) y in
@@ -342,7 +379,7 @@ module _ (x : Basis) (labels : LabelsLead x) (g : Both) (rest : List BlockLine) 
         (costs 1 (swapped k (location_at g.call.temps there)) >>= made_by false (bound_for g how)))) (sym l.is)
         (subst (λ k. Settles x (starts g swapping rest) rest (gives (scene_of (high x.table x.blocks (starts g swapping rest))) to
         (costs 1 (swapped l.at_location k) >>= made_by false (bound_for g how)))) (sym m.is)
-        (both_settle x g swapping rest y w.ty left right here there l m (with_value to g.call.temps nothing) none refl))))
+        (where_seen l.at_location m.at_location (both_settle x g swapping rest y w.ty left right here there l m (with_value to g.call.temps nothing) none refl)))))
 
   pub swap_line : (ty : Option ℕ) (of : List (Option ℕ)) (from : List From) → RowHere x g rest to O.Swap how ty of from
   swap_line None (a ∷ b ∷ []) (F.Place left ∷ F.Place right ∷ []) y = swap_values a b left right y

@@ -18,9 +18,9 @@ use Rattle.nim_program.specs.Kinds.{is_int, kind_if, same_value}
 use Rattle.nim_program.specs.Traps.{trap_text}
 use Rattle.nim_program.specs.View.{if_type}
 use Rattle.nim_meaning.specs.Acts.{line_of}
-use Rattle.nim_meaning.specs.Deeds.{Answers, Finishes, behind, costs, give, perform, ◌>>=◌}
+use Rattle.nim_meaning.specs.Deeds.{Answers, Finishes, Stores, behind, costs, does, give, perform, unless_gone, ◌>>=◌, ◌>>◌}
 use Rattle.nim_meaning.specs.Places.{made_by, place_at, put as put_to}
-use Rattle.nim_meaning.specs.State.{held, load, slot_at, store, with_slot}
+use Rattle.nim_meaning.specs.State.{held, is_seen, is_there, load, slot_at, store, with_slot}
 use Rattle.nim_meaning.specs.Table.{operate, outcome, updated}
 use Rattle.nim_meaning.specs.Values.{At, Given, Holds, Location, Number, Value, bytes, location_of, nothing, number_of, value_of}
 use Rattle.flat_code.specs.declared.block.BlockLine.{BlockLine}
@@ -59,7 +59,7 @@ use Rattle.word_lowering.proofs.InMemory.{IsAt}
 use Rattle.word_lowering.proofs.Keeping.{nowhere, points_there, spot_held, spot_memory}
 use Rattle.word_lowering.proofs.LineFits.{int_shape, no_type, number_fits, number_value, same_type, some_kind}
 use Rattle.word_lowering.proofs.Lines.{Basis, IsGood, Settles, all_procs, all_sites, changed, goes_on, known, lower, mapped_settles, stands_next, starts}
-use Rattle.word_lowering.proofs.Lines.{bound_for}
+use Rattle.word_lowering.proofs.Lines.{bound_for, where_there}
 use Rattle.word_lowering.proofs.Located.{IsThereAt, place_located}
 use Rattle.word_lowering.proofs.MovedLines.{own_plain}
 use Rattle.word_lowering.proofs.Moves.{IsHigh, address_runs, all_same, points_same, same_more, same_second}
@@ -374,7 +374,10 @@ module _ (x : Basis) (traps : TrapsStop x) (labels : LabelsLead x) (g : Both) (r
     as_deed : (r : Checked) (old : Value) (l : Location) (same_at : SameTemps x g line rest y temps) → Outcome x g line rest y traps temps same_at old l r
         → Settles x (starts g line rest) rest (Passes (behind [] 1 (behind [] (bytes old) (perform
         (((outcome r >>= put_to l) >>= made_by false (bound_for g how)) >>= (λ u. give (with_value to g.call.temps u))) g.world))))
-    as_deed (Fine z) old l same_at d = d
+    as_deed (Fine z) old l same_at d =
+        where_there x (starts g line rest) rest (is_there g.world l) (λ b. Passes (behind [] 1 (behind [] (bytes old) (perform
+        (((costs 4 (unless_gone b (does (Stores l (Number z))) >> give nothing)) >>= made_by false (bound_for g how))
+        >>= (λ u. give (with_value to g.call.temps u))) g.world)))) (λ before. tt) (λ seen. d)
     as_deed (Trapped trap) old l same_at d =
         subst (λ e. Settles x (starts g line rest) rest e)
         (ap (λ es. Passes (Finishes es (1 + bytes old + length (line_of (trap_text trap))) 1 g.world))
@@ -403,8 +406,11 @@ module _ (x : Basis) (traps : TrapsStop x) (labels : LabelsLead x) (g : Both) (r
         let at_word = word_at x g line rest y h w.at (subst (λ q. Written x g line rest y h w.at q) (int_shape (facts_in x.table) s.0 s.2) w.written) in
         subst (λ l. Settles x (starts g line rest) rest (gives (scene_of (high x.table x.blocks (starts g line rest))) to
         (costs 1 (updated l (λ n. operate operator n step)) >>= made_by false (bound_for g how)))) (sym w.is)
-        (as_deed (applied operator (number_of (load g.world w.at)) step) (load g.world w.at) w.at same_at
-        (update_settles x g line rest y traps temps same_at h operator up label by high_by step step_fits v same step_is front short runs shown w.at at_word))
+        (where_there x (starts g line rest) rest (is_seen g.world w.at) (λ b. gives (scene_of (high x.table x.blocks (starts g line rest))) to
+        (costs 1 (unless_gone b (costs (bytes (load g.world w.at)) (operate operator (number_of (load g.world w.at)) step >>= put_to w.at)))
+        >>= made_by false (bound_for g how))) (λ before. tt)
+        (λ seen. as_deed (applied operator (number_of (load g.world w.at)) step) (load g.world w.at) w.at same_at
+        (update_settles x g line rest y traps temps same_at h operator up label by high_by step step_fits v same step_is front short runs shown w.at at_word)))
 
   -- by 1
   module _ (a : Option ℕ) (t : ℕ) where

@@ -1,4 +1,5 @@
 pub mod Stored
+pub mod ShapeBytes
 pub mod Aliases
 pub mod Survey
 pub mod Lookups

@@ -22,7 +22,7 @@ returns-clause-means g c = λ bytes.
 pub returns-clause-ends : goal.returns-clause-ends
 returns-clause-ends g c =
     let meant = meaning (program_in c.args.program.now) c.args.plan.now c.args.heap [] in
-    ends meant (c.meanings.ensures.sound (program_in c.args.program.now) c.args.plan.now c.args.heap []) c.args.n _ _ c.mean.result
+    ends meant (c.in-Ok.ensures.sound c.args.heap []) c.args.n _ _ c.mean.result
     (comes_means (by_units c.args.program.now.types c.args.plan.now c.in-Ok.flat c.args.heap [] c.args.n)
     (meant c.args.n) c.mean.result _ _ (c.in-Ok.ensures.exact c.args.heap [] c.args.n) (c.mean.ensures.means []))
 

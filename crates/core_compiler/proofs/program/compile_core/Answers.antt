@@ -53,7 +53,7 @@ returns-in-Ok-clause-answers c =
       length image.code,
       code_fits program (length image.code) c.in_ok-within_core.ensures image.code_most,
       λ small. has_code c.agreement.ensures.law c.agreement.ensures.pace program c.args.program.now.types c.args.plan.now c.in_ok-flat.flat c.in_ok-words.words
-          (λ heap input. c.meanings.ensures.sound program c.args.plan.now heap input) c.in_ok-flat.ensures c.in_ok-words.ensures
+          c.in_ok-flat.ensures c.in_ok-words.ensures
           (length image.code) c.in-Ok.ensures.is.from,
       refl,
     )
@@ -62,7 +62,7 @@ pub returns-in-Ok-clause-does : goal.returns-in-Ok-clause-does
 returns-in-Ok-clause-does c =
     let program = program_in c.args.program.now in
     does_program c.agreement.ensures.law c.agreement.ensures.pace program c.args.program.now.types c.args.plan.now c.in_ok-flat.flat c.in_ok-words.words
-    (λ heap input. c.meanings.ensures.sound program c.args.plan.now heap input) c.in_ok-flat.ensures c.in_ok-words.ensures
+    c.in_ok-flat.ensures c.in_ok-words.ensures
     c.args.heap c.requires.heap (image_of c.in-Ok.image) c.in-Ok.ensures.is
 
 -- ---- the code is too large
@@ -73,7 +73,7 @@ returns-in-Err-TooLarge-clause-answers c =
     let bytes = c.in-Err-TooLarge.field-0-0 in
     let large = subst (IsTooLarge c.in_ok-words.words) c.in-Err-TooLarge.field-0-is c.in-Err-TooLarge.ensures.fault in
     let has = has_code c.agreement.ensures.law c.agreement.ensures.pace program c.args.program.now.types c.args.plan.now c.in_ok-flat.flat c.in_ok-words.words
-    (λ heap input. c.meanings.ensures.sound program c.args.plan.now heap input) c.in_ok-flat.ensures c.in_ok-words.ensures bytes large.1 in (
+    c.in_ok-flat.ensures c.in_ok-words.ensures bytes large.1 in (
       bytes,
       refuses (λ (image : RustImage). tt) (build_limits bytes program) TooLarge beginning c.too_large.result c.too_large.ensures
           (code_large program bytes c.in_ok-within_core.ensures large.0),

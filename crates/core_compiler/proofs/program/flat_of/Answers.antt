@@ -17,9 +17,9 @@ returns c =
     let numbered = c.requires.numbered in
     let plain = plain_within program c.requires.within in
     let formed = c.formed.ensures program typed numbered in
-    let sound = λ (heap : ℕ) (input : List ℕ). c.meanings.ensures.sound program plan heap input in
+    let sound = λ (heap : ℕ) (input : List ℕ). c.meanings.ensures.sound program plan heap input (c.without_hooks.ensures program typed plain) in
     let table = c.args.program.now.types in
-    is_flat_of c.args.program.now plan c.in_ok-flat.flat c.in_ok-flat.ensures.procs c.in_ok-flat.ensures.code
+    is_flat_of c.args.program.now plan c.in_ok-flat.flat c.in_ok-flat.ensures.procs c.in_ok-flat.ensures.code sound
     (λ heap input. c.flat_code.ensures.agrees program formed plan heap input (sound heap input))
     (λ heap input. c.flat_code.ensures.paced program formed plan heap input (sound heap input))
     (λ heap input units. c.flat_code.ensures.exact program formed plan heap input (sound heap input) units)

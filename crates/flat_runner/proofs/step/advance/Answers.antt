@@ -10,6 +10,7 @@ use Rattle.flat_runner.specs.View.{lines_at, lines_of, machine_is}
 use Rattle.flat_runner.proofs.Bare.{plain_at, plain_line}
 use Rattle.flat_runner.proofs.Machines.{got}
 use Rattle.flat_runner.proofs.StepRows.{no_line, one_line}
+use Rattle.flat_runner.proofs.Seen.{all_here}
 use Rattle.flat_runner.proofs.PieceRows.{drop_at, drop_all}
 use Rattle.flat_runner.proofs.step.advance.Goals as goal
 
@@ -46,5 +47,6 @@ returns-in-Some-at_once-clause-brief c =
     one_line types plan flat m (machine_is flat w c.settle_brief.new.run) line (drop (run.now.at + 1) (lines_at flat run.now.proc))
     (bare (plainly known plan (scene_of m) line)) run.units c.settle_brief.new.run.units (step_of c.settle_brief.result)
     (subst (λ (i : ℕ). m.now.rest ≡ line ∷ drop i (lines_at flat run.now.proc)) n (drop_at (lines_at flat run.now.proc) run.now.at line here))
-    (plain_line known plan (scene_of m) line (plain_at known flat.procs run.now.proc run.now.at line c.requires.plain here))
+    (plain_line known plan (scene_of m) line (all_here w run.frames.items run.now.temps)
+    (plain_at known flat.procs run.now.proc run.now.at line c.requires.plain here))
     (c.settle_brief.ensures types flat plan w (bare (plainly known plan (scene_of m) line)) lines (c.in-Some-at_once.ensures plan w))

@@ -8,6 +8,7 @@ use Rattle.flat_runner.specs.View.{lines_at, lines_of, machine_is}
 use Rattle.flat_runner.proofs.Bare.{plain_at, plain_line}
 use Rattle.flat_runner.proofs.Machines.{got}
 use Rattle.flat_runner.proofs.StepRows.{no_line, one_line}
+use Rattle.flat_runner.proofs.Seen.{all_here}
 use Rattle.flat_runner.proofs.PieceRows.{drop_at, drop_all}
 use Rattle.flat_runner.proofs.step.carry.Goals as goal
 
@@ -40,5 +41,6 @@ returns-in-Ok c =
     one_line types plan flat m (machine_is flat w c.settle.new.run) line (drop (run.now.at + 1) (lines_at flat run.now.proc))
     (bare (plainly known plan (scene_of m) line)) run.units c.settle.new.run.units c.settle.result
     (subst (λ (i : ℕ). m.now.rest ≡ line ∷ drop i (lines_at flat run.now.proc)) n (drop_at (lines_at flat run.now.proc) run.now.at line here))
-    (plain_line known plan (scene_of m) line (plain_at known flat.procs run.now.proc run.now.at line c.requires.plain here))
+    (plain_line known plan (scene_of m) line (all_here w run.frames.items run.now.temps)
+    (plain_at known flat.procs run.now.proc run.now.at line c.requires.plain here))
     (c.settle.ensures plan w (bare (plainly known plan (scene_of m) line)) (c.in-Ok.ensures plan w))

@@ -40,7 +40,8 @@ declare_stmt-returns-in-Loop t c =
     let modes = modes_of c.args.around.now in
     let given = c.in-Loop in
     let whole = ap (λ s. stmt_before ts s Empty) given.is ∙ repeated ts given.node Empty given.kind given.head given.body in
-    listed_as _ _ (ap (declared_first ts facts modes (marked c.args.globals.now.items)) whole) (joined _ _ c.put_variable.ensures c.declare_block-in-Loop.ensures)
+    listed_as _ _ (ap (declared_first ts facts modes (marked c.args.globals.now.items)) whole)
+    (joined _ _ c.put_variable.ensures c.declare_block-in-Loop.ensures)
 
 pub declare_stmt-returns-in-Try : goal.declare_stmt-returns-in-Try
 declare_stmt-returns-in-Try t c =

@@ -24,7 +24,8 @@ invariant-declare_branches-loop-branch l =
     let ts = types_of l.around in
     let facts = facts_of l.around in
     let modes = modes_of l.around in
-    let all = λ (branches : List Branch) (last : Stmts). in_front (declared_in_blocks ts facts modes (marked l.globals.items) (branch_blocks ts branches last)) in
+    let all = λ (branches : List Branch) (last : Stmts). in_front
+    (declared_in_blocks ts facts modes (marked l.globals.items) (branch_blocks ts branches last)) in
     (last : Stmts) (new : Option (List FlatPlace)) → IsPut l.places new (all (drop l.branch-index l.branches.items) last) →
     IsPut l.fn.places new (all l.branches.items last)
 
@@ -33,7 +34,8 @@ invariant-declare_cases-loop-branch l =
     let ts = types_of l.around in
     let facts = facts_of l.around in
     let modes = modes_of l.around in
-    let all = λ (branches : List CaseBranch) (last : Stmts). in_front (declared_in_blocks ts facts modes (marked l.globals.items) (case_blocks ts branches last)) in
+    let all = λ (branches : List CaseBranch) (last : Stmts). in_front
+    (declared_in_blocks ts facts modes (marked l.globals.items) (case_blocks ts branches last)) in
     (last : Stmts) (new : Option (List FlatPlace)) → IsPut l.places new (all (drop l.branch-index l.branches.items) last) →
     IsPut l.fn.places new (all l.branches.items last)
 

@@ -1,4 +1,4 @@
-use Rattle.std.proofs.Common.{◌+◌, List, [], ◌++◌, length, Some, drop, refl, sym, ap, ap₂, ◌∙◌, arith}
+use Rattle.std.proofs.Common.{true, ◌+◌, List, [], ◌++◌, length, Some, drop, refl, sym, ap, ap₂, ◌∙◌, arith}
 use Rattle.std.specs.Prelude.{map, option_map}
 use Rattle.nim_types.specs.Table.{type_at}
 use Rattle.nim_program.specs.declared.expr.Choice.{Choice}
@@ -8,8 +8,7 @@ use Rattle.nim_program.specs.Program as T
 use Rattle.nim_program.specs.Program.{NoArg, ByValue, Doing, Building, Calling, ByConditions, ByLabels}
 use Rattle.nim_program.specs.View.{expr_of, path_of, operand_before, operands_of, choices_of, picks_of, pick_labels, if_value, if_type}
 use Rattle.nim_program.proofs.ForCallers.{applied, called, constructed, chosen, selected}
-use Rattle.flat_code.specs.declared.place.PlaceKind.TheVariants as K
-use Rattle.flattening.specs.Places.{temporary, location, expr_places, path_places, operand_places, part_places}
+use Rattle.flattening.specs.Places.{value_at, read_place, location, expr_places, path_places, operand_places, part_places}
 use Rattle.flattening.specs.Views.{types_of, facts_of, modes_of, uses_of, act_of}
 use Rattle.flattening.specs.PlaceViews.{first_places, lent_first}
 use Rattle.flattening.proofs.ExprPuts.{drop_turn, drop_end, pick_count}
@@ -26,8 +25,9 @@ list_expr-returns-in-Apply t c =
     let given = c.in-Apply in
     let whole = ap (expr_of ts) given.is ∙ applied ts given.node given.ty given.operation given.operands in
     exprs_as ts facts modes _ _ c.args.t whole
-    (listed_as _ _ (applied_list ts facts modes given.node (if_type ts given.ty) (Doing given.operation) (Doing given.operation) refl (operands_of ts given.operands.items) c.args.t c.in-Some.u
-    c.in-Some.ensures) (joined _ _ c.put_temporary.ensures c.list_operands.ensures))
+    (listed_as _ _ (applied_list ts facts modes given.node (if_type ts given.ty) (Doing given.operation) (Doing given.operation) refl
+    (operands_of ts given.operands.items) c.args.t c.in-Some.u
+    c.in-Some.ensures) (joined _ _ c.put_value.ensures c.list_operands.ensures))
 
 pub list_expr-returns-in-Call : goal.list_expr-returns-in-Call
 list_expr-returns-in-Call t c =
@@ -37,9 +37,10 @@ list_expr-returns-in-Call t c =
     let given = c.in-Call in
     let whole = ap (expr_of ts) given.is ∙ called ts given.node given.ty given.proc given.types given.operands in
     exprs_as ts facts modes _ _ c.args.t whole
-    (listed_as _ _ (applied_list ts facts modes given.node (if_type ts given.ty) (Calling given.proc (map (type_at ts) given.types)) (Calling given.proc []) refl
+    (listed_as _ _ (applied_list ts facts modes given.node (if_type ts given.ty) (Calling given.proc (map (type_at ts) given.types))
+    (Calling given.proc []) refl
     (operands_of ts given.operands.items) c.args.t c.in-Some.u c.in-Some.ensures)
-    (joined _ _ c.put_temporary-in-Call.ensures c.list_operands-in-Call.ensures))
+    (joined _ _ c.put_value-in-Call.ensures c.list_operands-in-Call.ensures))
 
 pub list_expr-returns-in-Construct : goal.list_expr-returns-in-Construct
 list_expr-returns-in-Construct t c =
@@ -49,8 +50,9 @@ list_expr-returns-in-Construct t c =
     let given = c.in-Construct in
     let whole = ap (expr_of ts) given.is ∙ constructed ts given.node given.ty given.fields given.operands in
     exprs_as ts facts modes _ _ c.args.t whole
-    (listed_as _ _ (applied_list ts facts modes given.node (Some (type_at ts given.ty)) (Building given.fields) (Building []) refl (operands_of ts given.operands.items) c.args.t
-    c.in-Some.u c.in-Some.ensures) (joined (temporary ts facts modes given.node (Some (type_at ts given.ty)) K.Temp c.args.t) _ c.put_temporary-in-Construct.ensures
+    (listed_as _ _ (applied_list ts facts modes given.node (Some (type_at ts given.ty)) (Building given.fields) (Building []) refl
+    (operands_of ts given.operands.items) c.args.t
+    c.in-Some.u c.in-Some.ensures) (joined (value_at ts facts modes true given.node (Some (type_at ts given.ty)) c.args.t) _ c.put_value-in-Construct.ensures
     c.list_operands-in-Construct.ensures))
 
 pub list_expr-returns-in-Constant : goal.list_expr-returns-in-Constant
@@ -58,7 +60,7 @@ list_expr-returns-in-Constant t c =
     let ts = types_of c.args.around.now in
     let facts = facts_of c.args.around.now in
     let modes = modes_of c.args.around.now in
-    exprs_as ts facts modes _ _ c.args.t (ap (expr_of ts) c.in-Constant.is) c.put_temporary-in-Constant.ensures
+    exprs_as ts facts modes _ _ c.args.t (ap (expr_of ts) c.in-Constant.is) c.put_value-in-Constant.ensures
 
 pub list_expr-returns-in-Read : goal.list_expr-returns-in-Read
 list_expr-returns-in-Read t c =
@@ -66,7 +68,9 @@ list_expr-returns-in-Read t c =
     let facts = facts_of c.args.around.now in
     let modes = modes_of c.args.around.now in
     exprs_as ts facts modes _ (T.Read (path_of ts c.in-Read.path)) c.args.t (ap (expr_of ts) c.in-Read.is)
-    (listed_as _ _ (read_list ts facts modes (path_of ts c.in-Read.path) c.args.t c.in-Some.u c.in-Some.ensures) (joined _ _ c.put_read.ensures c.list_path.ensures))
+    (listed_as _ _ (read_list ts facts modes (path_of ts c.in-Read.path) c.args.t c.in-Some.u c.in-Some.ensures) (joined _ _
+    (listed_as _ _ (ap (λ b. read_place ts facts modes b (path_of ts c.in-Read.path) c.args.t) (c.has_node.ensures ts)) c.put_read.ensures)
+    c.list_path.ensures))
 
 pub list_path-returns-in-Fresh : goal.list_path-returns-in-Fresh
 list_path-returns-in-Fresh t c =
@@ -89,9 +93,11 @@ list_early-returns t c begins =
     let whole = ap (expr_of ts) given.is
     ∙ ap₂ (λ x y. T.Early given.node (type_at ts given.ty) given.short (expr_of ts x) (expr_of ts y)) (sym c.deref-left.ensures) (sym c.deref-right.ensures) in
     exprs_as ts facts modes _ _ c.args.t whole
-    (listed_as _ _ (early_list ts facts modes given.node (type_at ts given.ty) given.short (expr_of ts c.deref-left.result.now) (expr_of ts c.deref-right.result.now)
+    (listed_as _ _ (early_list ts facts modes given.node (type_at ts given.ty) given.short (expr_of ts c.deref-left.result.now)
+    (expr_of ts c.deref-right.result.now)
     c.args.t c.args.u c.in-Some.v begins c.in-Some.ensures)
-    (three (temporary ts facts modes given.node (Some (type_at ts given.ty)) K.Temp c.args.t) _ _ c.put_temporary.ensures c.list_expr.ensures c.list_expr-in-Early.ensures))
+    (three (value_at ts facts modes true given.node (Some (type_at ts given.ty)) c.args.t) _ _ c.put_value.ensures c.list_expr.ensures
+    c.list_expr-in-Early.ensures))
 
 pub list_expr-returns-in-Some-list_choices : goal.list_expr-returns-in-Some-list_choices
 list_expr-returns-in-Some-list_choices t c =
@@ -104,8 +110,9 @@ list_expr-returns-in-Some-list_choices t c =
     ∙ ap (λ e. T.Choose given.node (if_type ts given.ty) ByConditions (choices_of ts given.branches.items (ByValue (expr_of ts e) NoArg)))
     (sym c.deref.ensures) in
     exprs_as ts facts modes _ _ c.args.t whole
-    (listed_as _ _ (chosen_list ts facts modes given.node (if_type ts given.ty) (choices_of ts given.branches.items last) c.args.t c.in-Some.u c.in-Some.ensures)
-    (joined _ _ c.put_temporary-in-If.ensures
+    (listed_as _ _ (chosen_list ts facts modes given.node (if_type ts given.ty) (choices_of ts given.branches.items last) c.args.t c.in-Some.u
+    c.in-Some.ensures)
+    (joined _ _ c.put_value-in-If.ensures
     (c.in-Some-list_choices.ensures last _ (listed_as _ _ (last_list ts facts modes (expr_of ts c.deref.result.now) c.in-Some-list_choices.v)
     c.list_expr.ensures))))
 
@@ -125,7 +132,7 @@ list_case-returns t c begins =
     (picks_of ts given.branches.items last) (length given.branches.items) c.args.t c.args.u c.in-Some.s c.in-Some-selector_from.from
     c.in-Some-behind_selector.v begins c.in-Some.ensures (sym (pick_count given.branches.items)) (c.in-Some-selector_from.ensures ts)
     c.in-Some-behind_selector.ensures)
-    (joined _ _ c.put_temporary.ensures
+    (joined _ _ c.put_value.ensures
     (three _ _ _ c.put_selector.ensures c.list_operand.ensures (c.in-Some-list_picks.ensures last _ c.list_else.ensures))))
 
 pub list_path-returns-in-Field : goal.list_path-returns-in-Field
@@ -163,7 +170,8 @@ list_path-returns-in-Some-behind_path t c =
     ∙ ap₂ (λ x y. T.Element given.node (type_at ts given.ty) (path_of ts x) (expr_of ts y) given.constant) (sym c.deref-base-in-Element.ensures)
     (sym c.deref-index.ensures) in
     listed_as _ _ (ap (λ p. path_places ts facts modes p c.args.t) whole
-    ∙ element_list ts facts modes given.node (type_at ts given.ty) (path_of ts c.deref-base-in-Element.result.now) (expr_of ts c.deref-index.result.now) given.constant
+    ∙ element_list ts facts modes given.node (type_at ts given.ty) (path_of ts c.deref-base-in-Element.result.now) (expr_of ts c.deref-index.result.now)
+    given.constant
     c.args.t c.in-Some.u c.in-Some-behind_path.v c.in-Some.ensures c.in-Some-behind_path.ensures)
     (three
     (location ts facts modes (T.Element given.node (type_at ts given.ty) (path_of ts c.deref-base-in-Element.result.now) (expr_of ts c.deref-index.result.now)

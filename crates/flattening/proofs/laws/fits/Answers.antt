@@ -11,7 +11,11 @@ returns-clause-given c = λ program typed plan. code_given program plan typed
 
 pub returns-clause-fits : goal.returns-clause-fits
 returns-clause-fits c = λ table program said typed numbered plain plan.
-    program_fits program plan typed numbered plain (subst AreSorted (sym said) (sorted_table table))
+    (program_fits program plan typed numbered plain (subst AreSorted (sym said) (sorted_table table))).0
+
+pub returns-clause-waits : goal.returns-clause-waits
+returns-clause-waits c = λ table program said typed numbered plain plan.
+    (program_fits program plan typed numbered plain (subst AreSorted (sym said) (sorted_table table))).1
 
 pub returns-clause-hooks : goal.returns-clause-hooks
 returns-clause-hooks c = λ table program said typed plain plan.

@@ -5,11 +5,16 @@ use Rattle.flattening.proofs.AlikeLines.{all_alike}
 use Rattle.flattening.proofs.Shaped.{typed_shaped, undeclared_in}
 use Rattle.flattening.proofs.PlainPrograms.{all_plain}
 use Rattle.flattening.proofs.Unlent.{all_unlent}
+use Rattle.flattening.proofs.WaitNodes.{all_once}
 use Rattle.flattening.proofs.laws.may_be_lowered.Goals as goal
 
 pub returns-clause-alike : goal.returns-clause-alike
 returns-clause-alike c = λ table program said typed plan.
     all_alike program plan (typed_shaped program (ap (λ facts. base_in (fact_of facts int)) said ∙ undeclared_in table) typed)
+
+pub returns-clause-once : goal.returns-clause-once
+returns-clause-once c = λ table program said typed numbered plan.
+    all_once program plan numbered (typed_shaped program (ap (λ facts. base_in (fact_of facts int)) said ∙ undeclared_in table) typed)
 
 pub returns-clause-plain : goal.returns-clause-plain
 returns-clause-plain c = λ table program said typed numbered plain most sums plan.

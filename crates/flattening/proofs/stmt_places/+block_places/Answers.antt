@@ -31,7 +31,8 @@ list_stmt-returns-in-Some-list_branches t c =
     let last = stmts_of ts given.otherwise.items in
     let whole = ap (λ s. stmt_before ts s Empty) given.is ∙ decided ts given.node Empty given.branches given.otherwise in
     block_as ts facts modes _ _ c.args.t whole
-    (listed_as _ _ (decided_list ts facts modes given.node (branch_conditions ts given.branches.items) (branch_blocks ts given.branches.items last) c.args.t c.in-Some.u
+    (listed_as _ _ (decided_list ts facts modes given.node (branch_conditions ts given.branches.items) (branch_blocks ts given.branches.items last) c.args.t
+    c.in-Some.u
     c.in-Some.ensures) (c.in-Some-list_branches.ensures last _ c.list_block.ensures))
 
 pub list_stmt-returns-in-Some-list_arms : goal.list_stmt-returns-in-Some-list_arms
@@ -75,7 +76,8 @@ list_block-returns-then-is_defer t c =
     c.stmt-item.is in
     listed_end _ loop.places _ _ (block_places ts facts modes (stmts_of ts (drop loop.stmt-index c.args.block.now.items)) loop.u)
     (places_of_first ts facts modes (stmt_before ts x Empty) loop.u) loop.invariant
-    (ap (λ ys. block_places ts facts modes (stmts_of ts ys) loop.u) next ∙ stmts_end ts facts modes ts x left loop.u (sym c.is_defer.ensures ∙ c.if-is_defer.true))
+    (ap (λ ys. block_places ts facts modes (stmts_of ts ys) loop.u) next
+    ∙ stmts_end ts facts modes ts x left loop.u (sym c.is_defer.ensures ∙ c.if-is_defer.true))
     c.list_stmt.ensures
 
 pub list_branches-loop-branch-preserved : goal.list_branches-loop-branch-preserved
@@ -96,7 +98,8 @@ list_branches-loop-branch-preserved t c last =
     (branch_places ts facts modes (branch_conditions ts rest) (branch_blocks ts rest last) c.in-Some-behind_block.following) (loop.invariant last)
     (joined _ _ c.list_expr.ensures c.list_block.ensures)
     (ap (λ ys. branch_places ts facts modes (branch_conditions ts ys) (branch_blocks ts ys last) loop.u) next
-    ∙ branches_list ts facts modes (expr_of ts x.condition) (stmts_of ts x.body.items) (branch_conditions ts rest) (branch_blocks ts rest last) loop.u c.in-Some.v
+    ∙ branches_list ts facts modes (expr_of ts x.condition) (stmts_of ts x.body.items) (branch_conditions ts rest) (branch_blocks ts rest last) loop.u
+    c.in-Some.v
     c.in-Some-behind_block.following c.in-Some.ensures c.in-Some-behind_block.ensures)
 
 pub list_block-returns : goal.list_block-returns
@@ -145,7 +148,8 @@ list_arms-loop-branch-preserved t c last =
     c.loop-branch-test.true
     c.branch-item.is in
     listed_more _ loop.places _ _ (arm_places ts facts modes (case_blocks ts (drop loop.branch-index c.args.branches.now.items) last) loop.u)
-    (block_places ts facts modes (stmts_of ts x.body.items) loop.u) (arm_places ts facts modes (case_blocks ts rest last) c.in-Some.following) (loop.invariant last)
+    (block_places ts facts modes (stmts_of ts x.body.items) loop.u) (arm_places ts facts modes (case_blocks ts rest last) c.in-Some.following)
+    (loop.invariant last)
     c.list_block.ensures
     (ap (λ ys. arm_places ts facts modes (case_blocks ts ys last) loop.u) next
     ∙ arms_list ts facts modes (stmts_of ts x.body.items) (case_blocks ts rest last) loop.u c.in-Some.following c.in-Some.ensures)

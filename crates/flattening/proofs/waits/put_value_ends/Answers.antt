@@ -11,4 +11,5 @@ returns-in-Ok c =
     let a = c.args.around.now in
     let waits = waiting (facts_of a) (modes_of a) (expr_of (types_of a) c.args.value.now) c.args.how in
     puts_as (own_lines c.as_slice.result.now) _ c.put_ends.ensures
-    (λ k. ap (λ es. own_lines es k) (c.as_slice.ensures ∙ c.in-Ok.ensures ∙ ap (λ es. es ++ waits_own (types_of a) waits) c.new-ends.ensures) ∙ ap (λ g. g k) (waits_end (types_of a) waits))
+    (λ k. ap (λ es. own_lines es k) (c.as_slice.ensures ∙ c.in-Ok.ensures ∙ ap (λ es. es ++ waits_own (types_of a) waits) c.new-ends.ensures)
+    ∙ ap (λ g. g k) (waits_end (types_of a) waits))

@@ -2,7 +2,7 @@ use Rattle.std.proofs.Common.{ℕ, ◌+◌, ◌*◌, length}
 use Rattle.std.specs.Prelude.{◌-◌}
 use Rattle.nim_meaning.specs.Values.{length_of}
 use Rattle.nim_meaning.specs.State.{load}
-use Rattle.nim_meaning.specs.Deeds.{perform}
+use Rattle.nim_meaning.specs.Deeds.{perform, sees}
 use Rattle.nim_meaning.specs.OwnedRows.{cut}
 use Rattle.flat_code.specs.Lines.{form_in}
 use Rattle.hook_lifting.specs.Lifted.{cut_lines}
@@ -17,6 +17,6 @@ returns c = λ known of level at n world.
     let v = load world at in
     let more : ℕ = length (cut_lines of) + 5 * (length_of v - n) in (
       f.count,
-      near_alike more (perform (cut (form_in known of) n at v) world)
+      near_alike more (perform (sees at (λ world v. cut (form_in known of) n at v)) world)
           (comes_to known f.count (begun_with (place_and_count at n) (cut_lines of) level world)) f.near,
     )
