@@ -1,0 +1,95 @@
+-- What has one holder is there: no guard is met where values have their forms.
+use Rattle.std.proofs.Common.{◌≡◌, refl, sym, ap, ap₂, subst, ◌∙◌, ℕ, Bool, true, ◌&&◌, List, [], ◌∷◌, length, Some}
+use Rattle.std.specs.Prelude.{slice_get}
+use Rattle.std.proofs.lemmas.Bool.{eq-eqb, lt-ltb}
+use Rattle.nim_types.specs.Forms.{Form}
+use Rattle.nim_meaning.specs.Heap.{Contents, Block, block_at}
+use Rattle.nim_meaning.specs.Values.{Value, Base, InBlock, Location, count, part}
+use Rattle.nim_meaning.specs.State.{World, load, is_so_in, has_as_many, has_item, is_live, is_whole, leads_from, is_there}
+use Rattle.nim_meaning.specs.Deeds.{Stores, Frees, Refills, Deed, changed, does, sees, sets, frees, refills, unless_gone}
+use Rattle.holders.specs.Owned.{IsBase, at_place, at_node, in_hand, in_row, in_text, in_program, HasPart, whole, row_part, Reaches, here, in_part, a_character}
+use Rattle.holders.specs.Owned.{At, From, Extent, Has}
+use Rattle.holders.specs.Owned.{a_number, no_number, no_text, a_text, gone_text, constant_text, no_sequence, a_sequence, gone_sequence, constant_sequence}
+use Rattle.holders.specs.Owned.{a_row, gone_row, some_parts, gone_parts, of_wrapped}
+use Rattle.holders.specs.Sure.{Sure}
+use Rattle.holders.proofs.Bases.{block_position, loaded}
+
+-- a block that is there, with contents of which this is so
+so_there : (world : World) (k : ℕ) (block : Block) (asked : Contents → Bool) → block_at world.heap k ≡ Some block → asked block.contents ≡ true →
+    is_so_in asked (slice_get world.heap.blocks k) ≡ true
+so_there world k block asked e h = ap (is_so_in asked) (block_position world.heap.blocks k block e) ∙ h
+
+pub base_live : {world : World} {k : ℕ} {x : Value} → IsBase world (InBlock k) x → is_live world k ≡ true
+base_live {world} {k} (in_row block e f) = so_there world k block (λ contents. true) e refl
+base_live {world} {k} (in_text block e f) = so_there world k block (λ contents. true) e refl
+
+pub reached : {w : Value} {path : List ℕ} → HasPart w path → Reaches w path
+reached whole = here
+reached (row_part le h) = in_part le (reached h)
+
+pub part_is_there : {world : World} (l : Location) {w : Value} → IsBase world l.base w → Reaches w l.path → is_there world l ≡ true
+part_is_there {world} l {w} base there = by l.base w l.path base there
+  where
+    by : (base : Base) (w : Value) (path : List ℕ) → IsBase world base w → Reaches w path → leads_from world base path ≡ true
+    by _ _ path (at_place frame e le f) h = refl
+    by _ _ path (at_node frame e f) h = refl
+    by _ _ path (in_hand e) h = refl
+    by _ _ path in_program h = refl
+    by _ _ _ (in_row {k = k} block e f) here = so_there world k block (has_item []) e refl
+    by _ _ _ (in_text {k = k} block e f) here = so_there world k block (has_item []) e refl
+    by _ _ _ (in_row {k = k} {all = all} block e f) (in_part {i = i} {path = path} le h) =
+        so_there world k block (has_item (i ∷ path)) e (ap (has_item (i ∷ path)) f ∙ lt-ltb i (count all) le)
+    by _ _ _ (in_text {k = k} {t = t} block e f) (a_character {i = i} le) =
+        so_there world k block (has_item (i ∷ [])) e (ap (has_item (i ∷ [])) f ∙ lt-ltb i (length t) le)
+
+pub at_is_there : {world : World} {l : Location} {w : Value} → At world l w → is_there world l ≡ true
+at_is_there {l = l} at = part_is_there l at.base (reached at.part)
+
+-- a value of a form has its blocks
+pub has_whole : {world : World} {x : Extent} {f : Form} {v : Value} {bs : List ℕ} → Has world x f v bs → is_whole world v ≡ true
+has_whole a_number = refl
+has_whole no_number = refl
+has_whole no_text = refl
+has_whole {world} (a_text {n = n} {k = k} {t = t} same (in_text block e f)) =
+    so_there world k block (has_as_many n) e (ap (has_as_many n) f ∙ eq-eqb (length t) n same)
+has_whole gone_text = refl
+has_whole constant_text = refl
+has_whole no_sequence = refl
+has_whole {world} (a_sequence {k = k} {all = all} (in_row block e f) each) =
+    so_there world k block (has_as_many (count all)) e (ap (has_as_many (count all)) f ∙ eq-eqb (count all) (count all) refl)
+has_whole gone_sequence = refl
+has_whole (constant_sequence each) = refl
+has_whole (a_row n each) = refl
+has_whole (gone_row e) = refl
+has_whole (some_parts all) = refl
+has_whole (gone_parts e) = refl
+has_whole (of_wrapped h) = has_whole h
+
+-- ---- deeds
+
+-- what is read is there
+pub sure_reads : {A : Type 0} {world : World} {l : Location} {u v : Value} {x : Extent} {f : Form} {bs : List ℕ} (go : World → Value → Deed A)
+    (P : A → World → Type 0) → From world l u v → Has world x f v bs → Sure (go world v) P world → Sure (sees l go) P world
+sure_reads {A} {world} {l} {u} go P from has h =
+    let e = loaded world l u from.base ∙ from.is in
+    let there = ap₂ (λ a b. a && b) (part_is_there l from.base from.there) (ap (is_whole world) e ∙ has_whole has) in
+    subst (λ b. Sure (unless_gone b (go world (load world l))) P world) (sym there) (subst (λ v. Sure (go world v) P world) (sym e) h)
+
+pub read_at : {world : World} {l : Location} {w v : Value} → At world l w → part w l.path ≡ v → From world l w v
+read_at at e = record { base = at.base; there = reached at.part; is = e }
+
+pub sure_sees : {A : Type 0} {world : World} {l : Location} {w v : Value} {x : Extent} {f : Form} {bs : List ℕ} (go : World → Value → Deed A)
+    (P : A → World → Type 0) → At world l w → part w l.path ≡ v → Has world x f v bs → Sure (go world v) P world → Sure (sees l go) P world
+sure_sees go P at e has h = sure_reads go P (read_at at e) has h
+
+pub sure_sets : {world : World} {l : Location} {w : Value} (v : Value) (P : Unit {0} → World → Type 0) → At world l w →
+    P tt (changed (Stores l v) world) → Sure (sets l v) P world
+sure_sets {world} {l} v P at h = subst (λ b. Sure (unless_gone b (does (Stores l v))) P world) (sym (at_is_there at)) h
+
+pub sure_frees : {world : World} {k : ℕ} {x : Value} (P : Unit {0} → World → Type 0) → IsBase world (InBlock k) x → P tt (changed (Frees k) world) →
+    Sure (frees (Some k)) P world
+sure_frees {world} {k} P b h = subst (λ s. Sure (unless_gone s (does (Frees k))) P world) (sym (base_live b)) h
+
+pub sure_refills : {world : World} {k : ℕ} {x : Value} (contents : Contents) (P : Unit {0} → World → Type 0) → IsBase world (InBlock k) x →
+    P tt (changed (Refills k contents) world) → Sure (refills (Some k) contents) P world
+sure_refills {world} {k} contents P b h = subst (λ s. Sure (unless_gone s (does (Refills k contents))) P world) (sym (base_live b)) h

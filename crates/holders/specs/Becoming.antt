@@ -1,0 +1,57 @@
+-- A location gets another value of its form.
+use Rattle.std.specs.Prelude.{◌≡◌, ℕ, ◌+◌, ◌≤◌, ◌⊎◌, List, length}
+use Rattle.nim_types.specs.Forms.{Form}
+use Rattle.nim_meaning.specs.Values.{Value, Base, Location, put_part}
+use Rattle.nim_meaning.specs.Marks.{Member, Distinct}
+use Rattle.nim_meaning.specs.State.{World}
+use Rattle.nim_meaning.specs.Heap.{block_at}
+use Rattle.nim_meaning.specs.Kept.{one_if_there}
+use Rattle.holders.specs.Holders.{held_in_world}
+use Rattle.holders.specs.Owned.{IsBase, Full, Has, Elsewhere}
+
+-- how many blocks were taken so far
+abbrev pub taken_in : World → ℕ
+taken_in world = length world.heap.blocks
+
+-- Its blocks are some of the old ones, of those that were given with a value, and new ones. All else is as it was, and as many values are under way.
+pub record Becomes (f : Form) (l : Location) (w : Value) (given old : List ℕ) (world after : World) : Type 0 where
+  pub now : Value
+  pub blocks : List ℕ
+  pub has : Has after Full f now blocks
+  pub distinct : Distinct blocks
+  pub came : (k : ℕ) → Member k blocks → Member k old ⊎ (Member k given ⊎ (taken_in world ≤ k))
+  pub grows : taken_in world ≤ taken_in after
+  pub is : IsBase after l.base (put_part w l.path now)
+  pub elsewhere : Elsewhere world after l.base old
+  pub hand : length after.hand ≡ length world.hand
+
+-- A value comes to be, which nobody has yet. All else is as it was.
+pub record Gives (f : Form) (x : Value) (given : List ℕ) (world after : World) : Type 0 where
+  pub blocks : List ℕ
+  pub has : Has after Full f x blocks
+  pub distinct : Distinct blocks
+  pub came : (k : ℕ) → Member k blocks → Member k given ⊎ (taken_in world ≤ k)
+  pub grows : taken_in world ≤ taken_in after
+  pub elsewhere : (b : Base) (y : Value) → IsBase world b y → IsBase after b y
+  pub hand : length after.hand ≡ length world.hand
+
+-- the blocks given with a value are no others
+abbrev pub Strange : List ℕ → List ℕ → Type 0
+Strange given bs = (k : ℕ) → Member k given → Member k bs → ⊥
+
+-- ---- holders
+
+-- each live block has one holder, with whoever else holds blocks
+abbrev pub HeldOnce : (others : ℕ → ℕ) → World → Type 0
+HeldOnce others world = (k : ℕ) → held_in_world k world + others k ≡ one_if_there (block_at world.heap k)
+
+-- and so it is afterwards, where something comes from others, and something goes to them
+abbrev pub KeepsHolders : (comes goes : ℕ → ℕ) → (world after : World) → Type 0
+KeepsHolders comes goes world after = (others : ℕ → ℕ) → HeldOnce (λ k. comes k + others k) world → HeldOnce (λ k. goes k + others k) after
+
+abbrev pub none : ℕ → ℕ
+none k = 0
+
+-- it is another value then, and each block has one holder
+abbrev pub Turns : (comes goes : ℕ → ℕ) → Form → (l : Location) → (w : Value) → (given old : List ℕ) → (world after : World) → Type 0
+Turns comes goes f l w given old world after = Becomes f l w given old world after × KeepsHolders comes goes world after

@@ -1,0 +1,21 @@
+-- What stands in a cell is a cell too, and what becomes of it becomes of the whole.
+use Rattle.std.specs.Prelude.{ℕ, List}
+use Rattle.nim_types.specs.Forms.{Form}
+use Rattle.nim_meaning.specs.Values.{Value, Location}
+use Rattle.nim_meaning.specs.Marks.{Member}
+use Rattle.nim_meaning.specs.State.{World}
+use Rattle.holders.specs.Owned.{Cell}
+use Rattle.holders.specs.Becoming.{Strange, Becomes}
+
+-- from a location to one in what stands there
+pub record Leads (f : Form) (l : Location) (w : Value) (bs : List ℕ) (g : Form) (m : Location) (u : Value) (mine : List ℕ) (world : World) : Type 0 where
+  pub within : (k : ℕ) → Member k mine → Member k bs
+  pub outward : (given : List ℕ) (after : World) → Strange given bs → Becomes g m u given mine world after → Becomes f l w given bs world after
+
+-- a part of a cell
+pub record PartOf (f : Form) (l : Location) (w : Value) (bs : List ℕ) (g : Form) (m : Location) (world : World) : Type 0 where
+  pub stands_in : Value
+  pub value : Value
+  pub mine : List ℕ
+  pub cell : Cell g m stands_in value mine world
+  pub leads : Leads f l w bs g m stands_in mine world

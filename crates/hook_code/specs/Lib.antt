@@ -1,0 +1,2 @@
+pub mod HookCode
+pub mod Emission

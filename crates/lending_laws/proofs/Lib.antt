@@ -1,0 +1,5 @@
+mod Sure
+mod ApartRules
+mod ApartExprs
+mod ApartStmts
+mod ApartPrograms
