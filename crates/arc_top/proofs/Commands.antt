@@ -12,9 +12,8 @@ use Rattle.arc_base.specs.Refusal.{Answers}
 use Rattle.elf32.specs.Elf.{File}
 use Rattle.nim_program.specs.Program.{Program}
 use Rattle.nim_meaning.specs.Meaning.{meaning}
-use Rattle.flat_runner.specs.declared.mean.MeanEnd.{MeanEnd}
-use Rattle.flat_runner.specs.declared.mean.MeanEnd.TheVariants as mean_end
-use Rattle.flat_runner.specs.Mean.{Means}
+use Rattle.word_runner.specs.declared.mean.MeanEnd.{MeanEnd}
+use Rattle.word_runner.specs.declared.mean.MeanEnd.TheVariants as mean_end
 use Rattle.rv32_isa.specs.Image.{Image}
 use Rattle.rv32_isa.specs.State.{State, first_state}
 use Rattle.rv32_runner.specs.declared.runner.RunEnd.{RunEnd}
@@ -24,7 +23,7 @@ use Rattle.rv32_runner.specs.Runs.{Ran}
 use Rattle.source_compiler.specs.declared.compiler.NotCompiled.{NotCompiled}
 use Rattle.source_compiler.specs.declared.compiler.NotCompiled.TheVariants as why
 use Rattle.core_compiler.specs.Compile.{live_objects}
-use Rattle.core_compiler.specs.Mean.{IsEnd}
+use Rattle.core_compiler.specs.Mean.{CameTo, IsEnd}
 use Rattle.source_compiler.specs.Source.{alone, Reads}
 use Rattle.program_limits.specs.Limits.{tree_limits}
 use Rattle.core_compiler.specs.Limits.{build_limits}
@@ -146,10 +145,10 @@ module _ (sees : Sees) (shows : Shows) (main source : List ℕ) (heap steps : �
 -- ---- meanings
 
 module _ (main source : List ℕ) (heap steps : ℕ) (program : Program) (old new : FilesState) (before after : Streams)
-    (gives : Gives old new main source_most source) (reads : Reads (alone main source) program) (taken : tree_limits program ≡ Ok tt)
-    (same : after.input ≡ before.input) where
+    (gives : Gives old new main source_most source) (reads : Reads (alone main source) program) (taken : tree_limits program ≡ Ok tt) where
   abbrev Ends : MeanEnd → Type 0
-  Ends e = (input : List ℕ) → Means (meaning program empty_plan heap input steps) e (told before.out after.out) (told before.err after.err)
+  Ends e = CameTo (λ (input : List ℕ). meaning program empty_plan heap input steps) before.input e after.input
+      (told before.out after.out) (told before.err after.err)
 
   means_so : (e : MeanEnd) → IsEnd e → Ends e → MeansProgram main heap steps (meant steps e) (world old before) (world new after)
   means_so e is means = record {
@@ -159,10 +158,9 @@ module _ (main source : List ℕ) (heap steps : ℕ) (program : Program) (old ne
     reads = reads;
     taken = taken;
     end = e;
-    means = means;
+    came = means;
     ends = is;
     answers = refl;
-    input = same;
   }
 
   meaning_ended : (e : MeanEnd) → IsEnd e → Ends e → RunsMeaning main heap steps (meant steps e) (world old before) (world new after)
@@ -170,7 +168,7 @@ module _ (main source : List ℕ) (heap steps : ℕ) (program : Program) (old ne
   meaning_ended mean_end.Going is means = means_so mean_end.Going is means
   meaning_ended mean_end.Wrong is means = absurd is
   meaning_ended mean_end.Faulted is means = absurd is
-  meaning_ended mean_end.ReadFault is means = absurd (means [])
+  meaning_ended mean_end.ReadFault is means = inr (means_so mean_end.ReadFault is means)
   meaning_ended (mean_end.WriteFault stream) is means = means_so (mean_end.WriteFault stream) is means
   meaning_ended mean_end.Memory is means = inr (means_so mean_end.Memory is means)
 
@@ -179,7 +177,7 @@ pub mean_told : (main source : List ℕ) (heap steps : ℕ) (program : Program) 
     → (answer : Answer) → IsMeant program heap steps answer before after → RunsMeaning main heap steps answer (world old before) (world new after)
 mean_told main source heap steps program old new before after gives reads taken answer is =
     subst (λ a. RunsMeaning main heap steps a (world old before) (world new after)) (sym is.answers)
-    (meaning_ended main source heap steps program old new before after gives reads taken is.input is.end is.ends is.means)
+    (meaning_ended main source heap steps program old new before after gives reads taken is.end is.ends is.came)
 
 -- ---- lines
 

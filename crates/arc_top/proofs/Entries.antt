@@ -1,13 +1,15 @@
 -- What an answer says of the entry that the command read.
-use Rattle.std.proofs.Common.{◌≡◌, ℕ, ◌<◌, List, [], length, Option, Some, None, ◌⊎◌, inl, inr, refl, sym, subst, arith}
+use Rattle.std.proofs.Common.{◌≡◌, ℕ, ◌<◌, List, ◌++◌, length, Option, Some, None, ◌⊎◌, inl, inr, refl, sym, subst, arith}
 use Rattle.arc_base.specs.Outside.{Held, Rose, Writes}
 use Rattle.arc_base.specs.declared.outside.Stream.TheVariants.{Out, Err}
 use Rattle.arc_base.specs.declared.place.Place.{Place}
 use Rattle.arc_base.specs.declared.place.Code.{Code}
 use Rattle.command_words.specs.Command.{Command, check, build, run, mean, exec, file_of}
-use Rattle.flat_runner.specs.declared.mean.MeanEnd.{MeanEnd}
-use Rattle.flat_runner.specs.declared.mean.MeanEnd.TheVariants as mean_end
-use Rattle.flat_runner.specs.Mean.{Means}
+use Rattle.word_runner.specs.declared.mean.MeanEnd.{MeanEnd}
+use Rattle.word_runner.specs.declared.mean.MeanEnd.TheVariants as mean_end
+use Rattle.word_runner.specs.Mean.{Failed}
+use Rattle.core_compiler.specs.Mean.{Means}
+use Rattle.arc_top.proofs.Meaning.{some_rest}
 use Rattle.nim_meaning.specs.Meaning.{meaning}
 use Rattle.elf32.specs.Elf.{File}
 use Rattle.program_limits.specs.Limits.{tree_limits}
@@ -27,7 +29,7 @@ use Rattle.arc_top.specs.declared.answer.Answer.TheVariants.{WriteFault, StoreFa
 use Rattle.arc_top.specs.Loads.{FilesState, OnEntry, Gives}
 use Rattle.arc_top.specs.Report.{report_of}
 use Rattle.arc_top.specs.Runs.{HasRun, answer_of}
-use Rattle.arc_top.specs.Top.{IsTurnedDown, Stops, World, RunsProgram, Runs, told as of_sink, meant, MeansProgram, RunsFile, Executes, Answered, Carries}
+use Rattle.arc_top.specs.Top.{IsTurnedDown, Stops, World, RunsProgram, Runs, told as of_sink, meant, MeansProgram, RunsMeaning, RunsFile, Executes, Answered, Carries}
 use Rattle.arc_top.specs.Top.{before_line, modules_of, limits_of, MakesCode, file_most}
 use Rattle.arc_top.specs.Due.{NothingFails, TellsEntry, WasAnswered, ReadsSource, IsCarriedOut, most_of, IsDue, lacks, long, refused, accepted, bad, executed}
 use Rattle.arc_top.specs.Due.{wanting}
@@ -80,22 +82,24 @@ named causes steps image answer old new ran =
     subst (λ a. Named a old new) (sym ran.answers) (named_by steps ran.end old new (causes steps old (first_state image) ran.end ran.last new ran.ran))
 
 -- running a meaning
-named_by_meaning : (steps : ℕ) (e : MeanEnd) (seen : _) (old new : Streams) → Means seen e (of_sink old.out new.out) (of_sink old.err new.err)
-    → Named (meant steps e) old new
-named_by_meaning steps (mean_end.Ended status) seen old new means = tt
-named_by_meaning steps mean_end.Going seen old new means = tt
-named_by_meaning steps mean_end.Wrong seen old new means = tt
-named_by_meaning steps mean_end.Faulted seen old new means = tt
-named_by_meaning steps mean_end.ReadFault seen old new means = absurd means
-named_by_meaning steps (mean_end.WriteFault Out) seen old new means = means.0
-named_by_meaning steps (mean_end.WriteFault Err) seen old new means = means.0
-named_by_meaning steps mean_end.Memory seen old new means = tt
+named_by_meaning : (steps : ℕ) (e : MeanEnd) (seen : _) (old new : Streams) → Failed e old.input new.input
+    → Means seen e (of_sink old.out new.out) (of_sink old.err new.err) → Named (meant steps e) old new
+named_by_meaning steps (mean_end.Ended status) seen old new failed means = tt
+named_by_meaning steps mean_end.Going seen old new failed means = tt
+named_by_meaning steps mean_end.Wrong seen old new failed means = tt
+named_by_meaning steps mean_end.Faulted seen old new failed means = tt
+named_by_meaning steps mean_end.ReadFault seen old new failed means = failed
+named_by_meaning steps (mean_end.WriteFault Out) seen old new failed means = means.0
+named_by_meaning steps (mean_end.WriteFault Err) seen old new failed means = means.0
+named_by_meaning steps mean_end.Memory seen old new failed means = tt
 
 named_mean : (main : List ℕ) (heap steps : ℕ) (answer : Answer) (old new : World) → MeansProgram main heap steps answer old new
     → Named answer old.streams new.streams
 named_mean main heap steps answer old new m =
+    let rest = some_rest new.streams.input.left new.streams.input.ended in
     subst (λ a. Named a old.streams new.streams) (sym m.answers)
-    (named_by_meaning steps m.end (meaning m.program empty_plan heap [] steps) old.streams new.streams (m.means []))
+    (named_by_meaning steps m.end (meaning m.program empty_plan heap (m.came.given ++ rest.0) steps) old.streams new.streams m.came.failed
+    (m.came.means rest.0 rest.1))
 
 -- ---- entries
 
@@ -197,6 +201,10 @@ module _ (causes : CausesLaw) (entry : Option (List ℕ)) (old new : World) (fin
   due_read main heap steps (inl fails) = absurd (fine.loads fails.0.loads)
   due_read main heap steps (inr ran) = absurd (fine.streams.input (named causes steps ran.file.image ReadFault old.streams new.streams ran.ran))
 
+  due_mean_read : (main : List ℕ) (heap steps : ℕ) → RunsMeaning main heap steps ReadFault old new → IsDueBy (mean main heap steps) entry ReadFault
+  due_mean_read main heap steps (inl fails) = absurd (fine.loads fails.0.loads)
+  due_mean_read main heap steps (inr ran) = absurd (fine.streams.input (named_mean main heap steps ReadFault old new ran))
+
   due_exec_read : (name : List ℕ) (steps : ℕ) → Executes name steps ReadFault old new → IsDueBy (exec name steps) entry ReadFault
   due_exec_read name steps (inl fails) = absurd (fine.loads fails.0.loads)
   due_exec_read name steps (inr ran) = absurd (fine.streams.input (named causes steps ran.file.image ReadFault old.streams new.streams ran.ran))
@@ -264,7 +272,7 @@ module _ (causes : CausesLaw) (entry : Option (List ℕ)) (old new : World) (fin
   due (mean main heap steps) (MachineFault kind pc word) told is =
       mean_stopped main heap steps told (MachineFault kind pc word) is.0
   due (mean main heap steps) (StepsSpent n) told is = due_meaning main heap steps (StepsSpent n) told tt is
-  due (mean main heap steps) ReadFault told is = mean_stopped main heap steps told ReadFault is.0
+  due (mean main heap steps) ReadFault told is = due_mean_read main heap steps is
   due (mean main heap steps) (WriteFault Out) told is = absurd (fine.streams.out (named_mean main heap steps (WriteFault Out) old new is))
   due (mean main heap steps) (WriteFault Err) told is = absurd (fine.streams.err (named_mean main heap steps (WriteFault Err) old new is))
   due (mean main heap steps) StoreFault told is = mean_stopped main heap steps told StoreFault is.0

@@ -7,9 +7,8 @@ use Rattle.source_compiler.specs.declared.compiler.NotCompiled.TheVariants as wh
 use Rattle.source_compiler.specs.Compile.{empty_plan}
 use Rattle.nim_program.specs.Program.{Program}
 use Rattle.nim_meaning.specs.Meaning.{meaning}
-use Rattle.flat_runner.specs.declared.mean.MeanEnd.{MeanEnd}
-use Rattle.flat_runner.specs.Mean.{Means}
-use Rattle.core_compiler.specs.Mean.{IsEnd}
+use Rattle.word_runner.specs.declared.mean.MeanEnd.{MeanEnd}
+use Rattle.core_compiler.specs.Mean.{CameTo, IsEnd}
 use Rattle.rv32_isa.specs.Image.{Image}
 use Rattle.rv32_runner.specs.Streams.{Streams}
 use Rattle.arc_top.specs.declared.answer.Answer.{Answer}
@@ -39,10 +38,9 @@ IsRefusal why.Memory answer = answer ≡ Memory
 -- the meaning of a program ran, on these streams
 pub record IsMeant (program : Program) (heap steps : ℕ) (answer : Answer) (old new : Streams) : Type 0 where
   pub end : MeanEnd
-  pub means : (input : List ℕ) → Means (meaning program empty_plan heap input steps) end (told old.out new.out) (told old.err new.err)
+  pub came : CameTo (λ (input : List ℕ). meaning program empty_plan heap input steps) old.input end new.input (told old.out new.out) (told old.err new.err)
   pub ends : IsEnd end
   pub answers : answer ≡ meant steps end
-  pub input : new.input ≡ old.input
 
 -- there was no memory for a machine, or it ran
 abbrev pub RunsOrWants : (steps : ℕ) → Image → Answer → (old new : Streams) → Type 0

@@ -3,7 +3,7 @@
 --     MAIN ──load──> source ──compile──> file ──write──> bytes ──store──> OUT
 --                       └── Reads: a program ─┐   └─ Elf ─┘
 --                                  meaning  ──┼── Agrees ── the machine on the file's image
---                                             └── Means ─── `mean`
+--                                             └── CameTo ── `mean`
 use Rattle.std.specs.Prelude.{◌≡◌, ℕ, List, [], ◌∷◌, ◌++◌, length, ⊤, ◌⊎◌, Some, Ok}
 use Rattle.arc_base.specs.FileCalls.{load, store}
 use Rattle.arc_base.specs.Outside.{Rose, KeepsOthers, Stores, Writes}
@@ -16,15 +16,15 @@ use Rattle.elf32.specs.Faults.{HasFault}
 use Rattle.nim_program.specs.Program.{Program}
 use Rattle.nim_meaning.specs.Meaning.{meaning}
 use Rattle.rv32_runner.specs.Streams.{Streams, Tally}
-use Rattle.flat_runner.specs.declared.mean.MeanEnd.{MeanEnd}
-use Rattle.flat_runner.specs.declared.mean.MeanEnd.TheVariants as end
-use Rattle.flat_runner.specs.Mean.{Means, Told}
+use Rattle.word_runner.specs.declared.mean.MeanEnd.{MeanEnd}
+use Rattle.word_runner.specs.declared.mean.MeanEnd.TheVariants as end
+use Rattle.word_runner.specs.Sinks.{Told}
 use Rattle.command_words.specs.Command.{Command, check, build, run, mean, exec}
 use Rattle.source_compiler.specs.Source.{Module, alone, Reads}
 use Rattle.program_limits.specs.Limits.{tree_limits}
 use Rattle.core_compiler.specs.Limits.{build_limits, check_limits}
 use Rattle.core_compiler.specs.Compile.{HasImageWhereBuilt}
-use Rattle.core_compiler.specs.Mean.{IsEnd}
+use Rattle.core_compiler.specs.Mean.{CameTo, IsEnd}
 use Rattle.source_compiler.specs.Limits.{Limits, no_limits}
 use Rattle.source_compiler.specs.Compile.{Compiled, HaveCodeWhereWithin, IsProgram, IsNoProgram, source_most, empty_plan}
 use Rattle.arc_top.specs.declared.answer.Answer.{Answer}
@@ -162,7 +162,7 @@ meant steps (end.WriteFault stream) = WriteFault stream
 meant steps end.Memory = Memory
 
 -- A load of MAIN gave a source, which is a typed program whose meaning is built and whose procedures and data aren't too large. What
--- the sinks got is what that writes with so many units, on whatever input: none was taken.
+-- the sinks got is what that writes with so many units, on what the source gave.
 pub record MeansProgram (main : List ℕ) (heap steps : ℕ) (answer : Answer) (old new : World) : Type 0 where
   pub source : List ℕ
   pub gives : Gives old.files new.files main source_most source
@@ -170,18 +170,18 @@ pub record MeansProgram (main : List ℕ) (heap steps : ℕ) (answer : Answer) (
   pub reads : Reads (alone main source) program
   pub taken : tree_limits program ≡ Ok tt
   pub end : MeanEnd
-  pub means : (input : List ℕ) → Means (meaning program empty_plan heap input steps) end
+  pub came : CameTo (λ (input : List ℕ). meaning program empty_plan heap input steps) old.streams.input end new.streams.input
       (told old.streams.out new.streams.out) (told old.streams.err new.streams.err)
   pub ends : IsEnd end
   pub answers : answer ≡ meant steps end
-  pub input : new.streams.input ≡ old.streams.input
 
--- (no input is read yet, and no meaning is wrong or at a fault)
+-- (no meaning is wrong or at a fault)
 abbrev pub RunsMeaning : (main : List ℕ) (heap steps : ℕ) → Answer → (old new : World) → Type 0
 RunsMeaning main heap steps (Ended status) old new = MeansProgram main heap steps (Ended status) old new
 RunsMeaning main heap steps (StepsSpent n) old new = MeansProgram main heap steps (StepsSpent n) old new
 RunsMeaning main heap steps (WriteFault stream) old new = MeansProgram main heap steps (WriteFault stream) old new
 -- (before the run, or in it)
+RunsMeaning main heap steps ReadFault old new = OfFiles LoadFails old new ⊎ MeansProgram main heap steps ReadFault old new
 RunsMeaning main heap steps Memory old new =
     OfFiles (λ before after. Wants before after main) old new ⊎ MeansProgram main heap steps Memory old new
 RunsMeaning main heap steps answer old new = OfFiles (Stops (IsNoProgram tree_limits main) main answer) old new

@@ -27,13 +27,13 @@ use arc_base::{Bytes, FileFault, Files, Loaded, Sink, Source};
 use command_words::{Command, one_command, read_words};
 use core_compiler::{check_core, mean_core, within_core};
 use elf32::{ElfFile, ElfStop, read, write};
-use flat_runner::mean::MeanEnd;
 use nim_plan::Plan;
 use nim_program::Program;
 use rv32_isa::{Image, machines};
 use rv32_runner::{RunEnd, load, runs};
 use source_compiler::{NotCompiled, SOURCE_MOST, compile, one_answer, typed};
 use std::alloc::Global;
+use word_runner::MeanEnd;
 
 /// The longest file that is executed, in bytes.
 const FILE_MOST: u32 = 4_194_304;
@@ -124,6 +124,7 @@ fn read_within<F: Files>(alloc: Global, main: &str, files: &mut F) -> Result<Pro
         × (tree_limits (read_program program) ≡ Ok tt)) }
     ensures is_typed { IfOk result (λ program. IsTyped (program_in program)) }
     ensures is_numbered { IfOk result (λ program. is_numbered_program (program_in program) ≡ true) }
+    ensures is_named { IfOk result (λ program. MembersNamed (program_in program).facts) }
     ensures within { IfOk result (λ program. tree_limits (program_in program) ≡ Ok tt) }
     ensures stops { IfErr result (λ answer. StopsReading (IsNoProgram tree_limits main.now) main.now answer
         (files_state (F.held files.old) (F.load_faults files.old) (F.store_faults files.old) (F.calls files.old))
@@ -236,6 +237,8 @@ fn run_program<I: Source, O: Sink, E: Sink>(
 ) -> Answer
     requires typed { IsTyped (program_in program.now) }
     requires numbered { is_numbered_program (program_in program.now) ≡ true }
+    requires named { MembersNamed (program_in program.now).facts }
+    requires heap { heap ≤ 16777216 }
     requires within { tree_limits (program_in program.now) ≡ Ok tt }
     ensures ran { IsMeant (read_program program.now) heap steps result
         (streams (feed (I.left input.old) (I.ended input.old) (I.faults input.old) (I.gave input.old))
@@ -324,6 +327,7 @@ fn mean_main<F: Files, I: Source, O: Sink, E: Sink>(
     out: &mut O,
     err: &mut E,
 ) -> Answer
+    requires { heap ≤ 16777216 }
     ensures means { RunsMeaning main.now heap steps result
         (world (files_state (F.held files.old) (F.load_faults files.old) (F.store_faults files.old) (F.calls files.old))
         (streams (feed (I.left input.old) (I.ended input.old) (I.faults input.old) (I.gave input.old))

@@ -2,7 +2,7 @@
 use Rattle.std.proofs.Common.{◌≡◌, ◌≤◌, ℕ, ◌+◌, ◌*◌, List, [], ◌∷◌, map, length, refl, sym, ap, subst, ◌∙◌, arith, true, Result, Ok, Err, length-append}
 use Rattle.std.specs.Prelude.{IfOk, IfErr}
 use Rattle.arc_base.specs.Event.{Event}
-use Rattle.arc_base.specs.Behaviour.{Behaviour, Agrees, Sound}
+use Rattle.arc_base.specs.Behaviour.{Behaviour, Agrees, Seen, Sound}
 use Rattle.arc_base.specs.Pace.{PacedFrom}
 use Rattle.nim_types.specs.declared.types.TypeDef.{TypeDef}
 use Rattle.nim_plan.specs.declared.plan.Plan.{Plan}
@@ -16,10 +16,12 @@ use Rattle.flat_code.specs.declared.code.CodeProc.{CodeProc}
 use Rattle.flat_code.specs.declared.line.Line.{Line}
 use Rattle.flat_code.specs.declared.owned.OwnedLine.{OwnedLine}
 use Rattle.flat_code.specs.declared.block.BlockLine.{BlockLine}
+use Rattle.flat_code.specs.declared.block.BlockLine.TheVariants.{Plain}
 use Rattle.flat_code.specs.Codes.{flat_plain, flat_meaning, owned_meaning, block_meaning, hooks_of, AreNone}
+use Rattle.flat_code.specs.Codes.{block_within, by_lines, flat_within, owned_within, under}
 use Rattle.flat_code.specs.Fits.{code_fits}
 use Rattle.flat_code.specs.Scene.{known_in}
-use Rattle.word_code.specs.Words.{word_meaning, have_no_hooks, Fresh}
+use Rattle.word_code.specs.Words.{word_by_units, word_meaning, have_no_hooks, Fresh}
 use Rattle.word_code.specs.Memory.{data_of}
 use Rattle.word_code.specs.Joined.{joined}
 use Rattle.word_code.specs.Runtime.{IsRuntime}
@@ -34,7 +36,7 @@ use Rattle.core_compiler.specs.Limits.{code_bound}
 use Rattle.rv32_codegen.specs.declared.layout.LayFault.{LayFault}
 use Rattle.rv32_codegen.specs.declared.layout.LayFault.TheVariants.{TooLarge, Memory}
 use Rattle.program_limits.specs.Data.{data_counted}
-use Rattle.core_compiler.specs.Stages.{HasLines, IsTooLarge, IsImageOf, IsFlatOf, AreWordsOf, DoesWith}
+use Rattle.core_compiler.specs.Stages.{HasLines, IsTooLarge, IsImageOf, IsFlatOf, AreWordsOf, DoesWith, ShowsSame}
 use Rattle.core_compiler.proofs.Refusals.{bound_is}
 use Rattle.core_compiler.proofs.CodeSizes.{joined_bytes}
 use Rattle.core_compiler.proofs.InTime.{in_time}
@@ -45,6 +47,15 @@ AgreesLaw = (low mid high : Behaviour Event) → Agrees low mid → Agrees mid h
 abbrev pub PaceLaw : Type 0
 PaceLaw = (c d k l : ℕ) (low mid high : Behaviour Event) → 1 ≤ d → PacedFrom c k low mid → PacedFrom d l mid high →
     PacedFrom (c * d) (l + k) low high
+
+-- what passes show, also by units
+abbrev pub OwnedLaw : Type 0
+OwnedLaw = (table : List TypeDef) (plan : Plan) (flat : Code Line) (units heap : ℕ) (input : List ℕ) (n : ℕ)
+    → owned_within table (by_lines (under plan) flat) units heap input n ≡ flat_within table flat plan units heap input n
+
+abbrev pub BlockLaw : Type 0
+BlockLaw = (table : List TypeDef) (owned : Code OwnedLine) (units heap : ℕ) (input : List ℕ) (n : ℕ)
+    → block_within table (by_lines Plain owned) units heap input n ≡ owned_within table owned units heap input n
 
 pub of_three : {T E : Type 0} (r : Result T E) (P Q R S : T → Type 0) → ((x : T) → P x → Q x → R x → S x) →
     IfOk r P → IfOk r Q → IfOk r R → IfOk r S
@@ -81,6 +92,7 @@ module _ (law : AgreesLaw) (pace : PaceLaw) where
   -- joined with a runtime
   module _ (table : List TypeDef) (plan : Plan) (flat : Code Line) (owned : Code OwnedLine) (blocks : Code BlockLine) (own runtime : WordCode)
       (injected : IsOwned flat plan owned) (branched : IsBranched owned blocks) (lowered : LowersWithRuntime table blocks own) (routines : IsRuntime runtime)
+      (owned_so : OwnedLaw) (blocks_so : BlockLaw)
     where
       abbrev words : WordCode
       words = joined own runtime
@@ -125,10 +137,34 @@ module _ (law : AgreesLaw) (pace : PaceLaw) where
           (sound_low (blocks_owned heap input sound)) in
           pace 16 1 1 0 _ _ _ (omega arith) (pace 16 1 1 0 _ _ _ (omega arith) lower middle) upper
 
+      -- also by units
+      blocks_within : (units heap : ℕ) (input : List ℕ) (n : ℕ) → block_within table blocks units heap input n
+          ≡ flat_within table flat plan units heap input n
+      blocks_within units heap input n =
+          ap (λ ps. block_within table (record { procs = ps }) units heap input n) branched.each ∙ blocks_so table owned units heap input n
+          ∙ ap (λ ps. owned_within table (record { procs = ps }) units heap input n) injected.each ∙ owned_so table plan flat units heap input n
+
       pub words_of_flat : AreWordsOf table plan flat words
       words_of_flat = record {
         agrees = words_agree;
         paced = words_paced;
+        exact = λ fresh heap stack input few fits none sound units.
+            let e = low.exact live_objects fresh heap stack input (λ m. refl) few (blocks_fit fits) (silent blocks.procs (none_before none))
+            (sound_low (blocks_owned heap input sound)) units in (
+              e.0,
+              e.1,
+              λ more.
+                  let s = e.2 more in
+                  let b = blocks_within units heap input (e.1 + more) in
+                  record { events = s.0 ∙ ap (λ (z : Seen Event). z.events) b; phase = s.1 ∙ ap (λ (z : Seen Event). z.phase) b },
+            );
+        within = λ fresh heap stack input few fits none sound units n.
+            let e = low.bounded live_objects fresh heap stack input (λ m. refl) few (blocks_fit fits) (silent blocks.procs (none_before none))
+            (sound_low (blocks_owned heap input sound)) units n in (
+              e.0,
+              subst (λ (z : Seen Event). (word_by_units live_objects words fresh heap stack input units n).work ≤ 16 * (z.work + 1))
+                  (blocks_within units heap input e.0) e.1,
+            );
         can = record {
           formed = low.formed;
           no_circle = low.no_circle;
@@ -190,6 +226,34 @@ module _ (law : AgreesLaw) (pace : PaceLaw) where
 
     pub data_most : length words.statics ≤ data_counted program + 4092
     data_most = let few = middle.data_size in omega (arith, few, top.data_size)
+
+    -- with so many units
+    pub words_exact : (fresh : Fresh) (heap stack : ℕ) (input : List ℕ) → heap ≤ 16777216 → (units : ℕ) → (lines : ℕ)
+        × ((more : ℕ) → ShowsSame (word_by_units live_objects words fresh heap stack input units (lines + more)) (meaning program plan heap input units))
+    words_exact fresh heap stack input few units =
+        let w = middle.exact fresh heap stack input few top.fits top.hooks (sound_low (top.agrees heap input)) units in
+        let f = top.exact heap input units in (
+          w.0 + f.0,
+          λ more.
+              let low = subst (λ i. ShowsSame (word_by_units live_objects words fresh heap stack input units i)
+              (flat_within table flat plan units heap input (w.1 + (f.0 + more)))) (further w.0 f.0 more) (w.2 (f.0 + more)) in
+              let high = subst (λ i. ShowsSame (flat_within table flat plan units heap input i) (meaning program plan heap input units))
+              (crossed f.0 w.1 more) (f.1 (w.1 + more)) in
+              record { events = low.events ∙ high.events; phase = low.phase ∙ high.phase },
+        )
+      where
+        further : (a b c : ℕ) → a + (b + c) ≡ a + b + c
+        further a b c = omega arith
+
+        crossed : (a b c : ℕ) → a + (b + c) ≡ b + (a + c)
+        crossed a b c = omega arith
+
+    pub words_within : (fresh : Fresh) (heap stack : ℕ) (input : List ℕ) → heap ≤ 16777216 → (units n : ℕ) →
+        (word_by_units live_objects words fresh heap stack input units n).work ≤ 16 * (12 * ((meaning program plan heap input units).work + 1) + 2)
+    words_within fresh heap stack input few units n =
+        let w = middle.within fresh heap stack input few top.fits top.hooks (sound_low (top.agrees heap input)) units n in
+        let f = top.within heap input units w.0 in
+        omega (arith, w.1, f)
 
     abbrev pub has_code : (bytes : ℕ) → HasLines words bytes → HasCode program plan bytes
     has_code bytes has = record {

@@ -1,6 +1,7 @@
 -- Flat code that is that of a program does what the program means.
 use Rattle.std.proofs.Common.{◌≡◌, ◌≤◌, ◌<◌, ℕ, ◌+◌, ◌*◌, List, [], ◌∷◌, ◌++◌, length, sym, ap, subst, ◌∙◌, arith, true}
-use Rattle.arc_base.specs.Behaviour.{Agrees, Sound}
+use Rattle.arc_base.specs.Event.{Event}
+use Rattle.arc_base.specs.Behaviour.{Agrees, Seen, Sound}
 use Rattle.arc_base.specs.Pace.{Paced}
 use Rattle.nim_plan.specs.declared.plan.Plan.{Plan}
 use Rattle.nim_program.specs.declared.program.Program.{Program as RustProgram}
@@ -11,10 +12,10 @@ use Rattle.nim_meaning.specs.Meaning.{meaning}
 use Rattle.flat_code.specs.declared.code.Code.{Code}
 use Rattle.flat_code.specs.declared.code.CodeProc.{CodeProc}
 use Rattle.flat_code.specs.declared.line.Line.{Line}
-use Rattle.flat_code.specs.Codes.{flat_plain, procs_of, hooks_of, AreNone}
+use Rattle.flat_code.specs.Codes.{flat_plain, flat_within, procs_of, hooks_of, AreNone, places_of}
 use Rattle.flat_code.specs.Fits.{code_fits, start_places}
 use Rattle.flat_code.specs.Lines.{does}
-use Rattle.flat_code.specs.Running.{Proc, at_first, runs, run_by}
+use Rattle.flat_code.specs.Running.{Proc, ShowsAlike, at_first, runs, run_by}
 use Rattle.flat_code.specs.Scene.{Known, known_in}
 use Rattle.flat_code.specs.Sizes.{code_weight, code_texts, distinct_texts, data_bytes, globals_bytes}
 use Rattle.flat_code.specs.Whole.{label_in}
@@ -26,6 +27,7 @@ use Rattle.flattening.specs.Given.{flat_procs, flat_of}
 use Rattle.flattening.specs.Lent.{NoneLent}
 use Rattle.flat_code.specs.Alike.{AllAlike}
 use Rattle.flat_code.specs.PlainCode.{ArePlainProcs}
+use Rattle.flat_code.specs.Waits.{AllWaitRight, AllWaitOnce}
 use Rattle.core_compiler.specs.Stages.{ShowsSame, IsFlatOf}
 use Rattle.core_compiler.proofs.ProgramTexts.{distinct_most}
 use Rattle.core_compiler.proofs.TableNames.{names_count}
@@ -40,6 +42,12 @@ module _ (p : RustProgram) (plan : Plan) (flat : Code Line) (procs : flat.procs 
     (agrees : (heap : ℕ) (input : List ℕ) → Agrees (flat_meaning (program_in p) plan heap input) (meaning (program_in p) plan heap input))
     (paced : (heap : ℕ) (input : List ℕ) → Paced 12 (flat_meaning (program_in p) plan heap input) (meaning (program_in p) plan heap input))
     (exact : (heap : ℕ) (input : List ℕ) (units : ℕ) → IsExact (program_in p) plan heap input units)
+    (same : (units heap : ℕ) (input : List ℕ) (n : ℕ) → ShowsAlike (flat_within p.types flat plan units heap input n)
+    (run_by label_in (does (known_in p.types) plan) (procs_of (known_in p.types) flat) n
+    (at_first label_in (does (known_in p.types) plan) (procs_of (known_in p.types) flat) heap input) units [] 0))
+    (work : (units heap : ℕ) (input : List ℕ) (n k : ℕ) → n ≤ k → (flat_within p.types flat plan units heap input n).work
+    ≤ (run_by label_in (does (known_in p.types) plan) (procs_of (known_in p.types) flat) k
+    (at_first label_in (does (known_in p.types) plan) (procs_of (known_in p.types) flat) heap input) units [] 0).work + 1)
     (fits : code_fits flat_plain (known_of (program_in p)) (flat_procs (program_in p) plan) ≡ true)
     (hooks : AreNone (hooks_of (flat_of (program_in p) plan)))
     (weight : code_weight flat_plain (flat_procs (program_in p) plan) ≤ 33 * program_parts (program_in p)
@@ -50,6 +58,8 @@ module _ (p : RustProgram) (plan : Plan) (flat : Code Line) (procs : flat.procs 
     (forms : HaveForms p.types)
     (alike : AllAlike (flat_procs (program_in p) plan)) (plain : ArePlainProcs (known_of (program_in p)) 16384 (flat_procs (program_in p) plan))
     (lent : NoneLent (flat_procs (program_in p) plan))
+    (waits : AllWaitRight flat_plain (known_of (program_in p)) (flat_procs (program_in p) plan))
+    (once : AllWaitOnce (places_of (flat_of (program_in p) plan)))
     (few : data_counted (program_in p) ≤ 1040384)
   where
     abbrev program : Program
@@ -58,15 +68,37 @@ module _ (p : RustProgram) (plan : Plan) (flat : Code Line) (procs : flat.procs 
     abbrev known : Known
     known = known_in p.types
 
-    shown : (heap : ℕ) (input : List ℕ) (units : ℕ) → (lines : ℕ) × ((more : ℕ) → ShowsSame
-        (run_by label_in (does known plan) (procs_of known flat) (lines + more)
-        (at_first label_in (does known plan) (procs_of known flat) heap input) units [] 0) (meaning program plan heap input units))
+    abbrev sees : List (Proc Line) → (heap : ℕ) (input : List ℕ) (units n : ℕ) → Seen Event
+    sees ps heap input units n = run_by label_in (does known plan) ps n (at_first label_in (does known plan) ps heap input) units [] 0
+
+    shown : (heap : ℕ) (input : List ℕ) (units : ℕ) → (lines : ℕ) × ((more : ℕ) →
+        ((sees (procs_of known flat) heap input units (lines + more)).events ≡ (meaning program plan heap input units).events)
+        × ((sees (procs_of known flat) heap input units (lines + more)).phase ≡ (meaning program plan heap input units).phase)
+        × ((sees (procs_of known flat) heap input units (lines + more)).work ≤ 12 * ((meaning program plan heap input units).work + 1)))
     shown heap input units =
-        let e = exact heap input units in
-        subst (λ (ps : List (Proc Line)). (lines : ℕ) × ((more : ℕ) → ShowsSame
-        (run_by label_in (does known plan) ps (lines + more) (at_first label_in (does known plan) ps heap input) units [] 0)
-        (meaning program plan heap input units))) (sym code)
-        (e.0, λ more. record { events = (e.1 more).0; phase = (e.1 more).1 })
+        subst (λ (ps : List (Proc Line)). (lines : ℕ) × ((more : ℕ) →
+        ((sees ps heap input units (lines + more)).events ≡ (meaning program plan heap input units).events)
+        × ((sees ps heap input units (lines + more)).phase ≡ (meaning program plan heap input units).phase)
+        × ((sees ps heap input units (lines + more)).work ≤ 12 * ((meaning program plan heap input units).work + 1)))) (sym code) (exact heap input units)
+
+    exactly : (heap : ℕ) (input : List ℕ) (units : ℕ) → (lines : ℕ)
+        × ((more : ℕ) → ShowsSame (flat_within p.types flat plan units heap input (lines + more)) (meaning program plan heap input units))
+    exactly heap input units =
+        let e = shown heap input units in (
+          e.0,
+          λ more.
+              let s = same units heap input (e.0 + more) in
+              let t = e.1 more in
+              record { events = s.0 ∙ t.0; phase = s.1 ∙ t.1 },
+        )
+
+    bounded : (heap : ℕ) (input : List ℕ) (units n : ℕ) →
+        (flat_within p.types flat plan units heap input n).work ≤ 12 * ((meaning program plan heap input units).work + 1) + 1
+    bounded heap input units n =
+        let e = shown heap input units in
+        let w = work units heap input n (e.0 + n) (omega arith) in
+        let most = (e.1 n).2 in
+        omega (arith, w, most)
 
     fit : code_fits flat_plain known flat.procs ≡ true
     fit = ap (code_fits flat_plain known) procs ∙ fits
@@ -89,7 +121,8 @@ module _ (p : RustProgram) (plan : Plan) (flat : Code Line) (procs : flat.procs 
           (sym code) (agrees heap input);
       paced = λ heap input. subst (λ (ps : List (Proc Line)). Paced 12 (runs label_in (does known plan) ps heap input) (meaning program plan heap input))
           (sym code) (paced heap input);
-      exact = shown;
+      exact = exactly;
+      within = bounded;
       fits = fit;
       weight = subst (λ ps. code_weight flat_plain ps ≤ 33 * program_parts program + 5 * program_pairs (modes_of program plan) program) (sym procs) weight;
       data_size = data_most;
@@ -100,6 +133,8 @@ module _ (p : RustProgram) (plan : Plan) (flat : Code Line) (procs : flat.procs 
         plain = subst (λ ps. ArePlainProcs known 16384 ps) (sym procs) plain;
         lent = subst NoneLent (sym procs) lent;
         fits = fit;
+        waits = subst (λ ps. AllWaitRight flat_plain known ps) (sym procs) waits;
+        once = subst (λ ps. AllWaitOnce (places_of (record { procs = ps }))) (sym procs) once;
         hooks = none;
         data_few = let most = data_most in omega (arith, most, few);
       };

@@ -12,7 +12,7 @@ mod TableNames
 mod FrameSums
 mod LineNames
 mod LinesAgree
-mod LinesPlain
+mod AnyLive
 mod LayoutRooms
 mod EnumMembers
 mod MayLower

@@ -19,13 +19,12 @@ use Rattle.rv32_isa.specs.Machine.{machine}
 use Rattle.word_code.specs.declared.word.WordCode.{WordCode}
 use Rattle.flat_code.specs.declared.code.Code.{Code}
 use Rattle.flat_code.specs.declared.line.Line.{Line}
-use Rattle.flat_code.specs.Codes.{flat_plain, flat_meaning, hooks_of, AreNone}
+use Rattle.flat_code.specs.Codes.{flat_plain, flat_meaning, flat_within, hooks_of, AreNone, places_of}
 use Rattle.flat_code.specs.Fits.{code_fits}
 use Rattle.flat_code.specs.Scene.{known_in}
 use Rattle.flat_code.specs.Sizes.{code_weight, data_bytes}
 use Rattle.word_code.specs.Sizes.{longest_chain, has_no_circle}
-use Rattle.word_code.specs.Words.{word_meaning, is_word_code, have_no_hooks, Fresh}
-use Rattle.flat_runner.specs.Mean.{by_units}
+use Rattle.word_code.specs.Words.{word_meaning, word_by_units, is_word_code, have_no_hooks, Fresh}
 use Rattle.program_limits.specs.Frames.{beginning}
 use Rattle.flattening.specs.declared.laws.TheConstants.{FLAT_PACE, NODE_WEIGHT, PAIR_WEIGHT}
 use Rattle.flat_code.specs.Alike.{AllAlike}
@@ -33,6 +32,7 @@ use Rattle.flattening.specs.Counted.{program_parts, program_pairs}
 use Rattle.flattening.specs.Flattened.{modes_of}
 use Rattle.flattening.specs.Lent.{NoneLent}
 use Rattle.flat_code.specs.PlainCode.{ArePlainProcs}
+use Rattle.flat_code.specs.Waits.{AllWaitRight, AllWaitOnce}
 use Rattle.program_limits.specs.Data.{data_counted}
 use Rattle.rv32_codegen.specs.declared.label_code.TheConstants.{BYTES_OF_LINE, CODE_PACE}
 use Rattle.rv32_codegen.specs.declared.layout.TheConstants.{LAYOUT_PACE, MOST_CODE_BYTES}
@@ -56,24 +56,30 @@ pub record ShowsSame (low high : Seen Event) : Type 0 where
   pub events : low.events ≡ high.events
   pub phase : low.phase ≡ high.phase
 
--- what word code rests on beside that flat code fits: it has the module's code, it has no heap, no procedure is too large, and neither are its data
+-- what word code rests on beside that flat code fits, and that values wait where lines say: it has the module's code, it has no heap, no procedure is too
+-- large, and neither are its data
 pub record MayBeLowered (table : List TypeDef) (flat : Code Line) : Type 0 where
   pub some : 0 < length flat.procs
   pub alike : AllAlike flat.procs
   pub plain : ArePlainProcs (known_in table) MOST_BYTES flat.procs
   pub lent : NoneLent flat.procs
   pub fits : code_fits flat_plain (known_in table) flat.procs ≡ true
+  pub waits : AllWaitRight flat_plain (known_in table) flat.procs
+  pub once : AllWaitOnce (places_of flat)
   pub hooks : AreNone (hooks_of flat)
   pub data_few : data_bytes flat_plain table flat.procs ≤ MOST_DATA_BYTES
 
--- The program is never wrong, and flat code does what it means under the plan, and with so many units shows the same after some number of lines and ever after; its lines
+-- The program is never wrong, and flat code does what it means under the plan, and with so many units shows the same after some number of lines and
+-- ever after, within so much work; its lines
 -- fit the types of its places; it weighs as much as the program's parts and pairs, and has the data that count. No type of the table contains itself.
 pub record IsFlatOf (table : List TypeDef) (program : Program) (plan : Plan) (flat : Code Line) : Type 0 where
   pub sound : (heap : ℕ) (input : List ℕ) → Sound (meaning program plan heap input)
   pub agrees : (heap : ℕ) (input : List ℕ) → Agrees (flat_meaning table flat plan heap input) (meaning program plan heap input)
   pub paced : (heap : ℕ) (input : List ℕ) → Paced FLAT_PACE (flat_meaning table flat plan heap input) (meaning program plan heap input)
   pub exact : (heap : ℕ) (input : List ℕ) (units : ℕ) → (lines : ℕ)
-      × ((more : ℕ) → ShowsSame (by_units table plan flat heap input units (lines + more)) (meaning program plan heap input units))
+      × ((more : ℕ) → ShowsSame (flat_within table flat plan units heap input (lines + more)) (meaning program plan heap input units))
+  pub within : (heap : ℕ) (input : List ℕ) (units n : ℕ) →
+      (flat_within table flat plan units heap input n).work ≤ FLAT_PACE * ((meaning program plan heap input units).work + 1) + 1
   pub fits : code_fits flat_plain (known_in table) flat.procs ≡ true
   pub weight : code_weight flat_plain flat.procs ≤ NODE_WEIGHT * program_parts program + PAIR_WEIGHT * program_pairs (modes_of program plan) program
   pub data_size : data_bytes flat_plain table flat.procs ≤ data_counted program
@@ -101,6 +107,14 @@ pub record AreWordsOf (table : List TypeDef) (plan : Plan) (flat : Code Line) (w
   pub paced : (fresh : Fresh) (heap stack : ℕ) (input : List ℕ) → heap ≤ MOST_HEAP → code_fits flat_plain (known_in table) flat.procs ≡ true →
       AreNone (hooks_of flat) → Sound (flat_meaning table flat plan heap input) →
       PacedFrom WORD_PACE 1 (word_meaning live_objects words fresh heap stack input) (flat_meaning table flat plan heap input)
+  -- with so many units it shows from some moment on what flat code shows from some moment on, and never does more work than so many times that of
+  -- flat code at some moment
+  pub exact : (fresh : Fresh) (heap stack : ℕ) (input : List ℕ) → heap ≤ MOST_HEAP → code_fits flat_plain (known_in table) flat.procs ≡ true →
+      AreNone (hooks_of flat) → Sound (flat_meaning table flat plan heap input) → (units : ℕ) → (from lines : ℕ) × ((more : ℕ) →
+      ShowsSame (word_by_units live_objects words fresh heap stack input units (from + more)) (flat_within table flat plan units heap input (lines + more)))
+  pub within : (fresh : Fresh) (heap stack : ℕ) (input : List ℕ) → heap ≤ MOST_HEAP → code_fits flat_plain (known_in table) flat.procs ≡ true →
+      AreNone (hooks_of flat) → Sound (flat_meaning table flat plan heap input) → (units n : ℕ) → (m : ℕ) ×
+      ((word_by_units live_objects words fresh heap stack input units n).work ≤ WORD_PACE * ((flat_within table flat plan units heap input m).work + 1))
   pub can : CanLayOut words
   pub code_most : most_bytes words.procs ≤ BYTES_OF_LINE * code_weight flat_plain flat.procs + BYTES_OF_ALL
   pub data_size : length words.statics ≤ data_bytes flat_plain table flat.procs + (MORE_DATA + RUNTIME_DATA)

@@ -16,11 +16,11 @@ ghost use Rattle.core_compiler.specs.Stages.{IsFlatOf, MayBeLowered, AreWordsOf,
 
 use crate::image::image_of_words;
 use arc_base::{Code, Memory, Place, Stop, agreement};
-use destructor_injection::owned_of;
-use flat_code::Flat;
+use destructor_injection::{owned_codes, owned_of};
+use flat_code::{Flat, Line, by_units};
 use flattening::{fits, flat_code, flatten, may_be_lowered, sizes};
 use formed_programs::{formed, table_forms, without_hooks};
-use goto_exceptions::branches;
+use goto_exceptions::{block_codes, branches};
 use nim_meaning::meanings;
 use nim_plan::Plan;
 use nim_program::Program;
@@ -83,14 +83,20 @@ pub fn flat_of(alloc: Global, program: &Program, plan: &Plan) -> Result<Flat, Me
     without_hooks();
     meanings();
     flat_code();
+    by_units::<Line>();
     fits();
     may_be_lowered();
     sizes();
     Ok(flat)
 }
 
-// Flat code without its plan and its exceptions, as word code with its runtime.
-fn words_of(alloc: Global, types: &TypeTable, plan: &Plan, flat: &Flat) -> Result<WordCode, Memory>
+/// Flat code without its plan and its exceptions, as word code with its runtime.
+pub fn words_of(
+    alloc: Global,
+    types: &TypeTable,
+    plan: &Plan,
+    flat: &Flat,
+) -> Result<WordCode, Memory>
     requires forms { HaveForms types.now }
     requires ordered { IsInOrder plan.now }
     requires enums { defs_may types.now ≡ true }
@@ -98,6 +104,8 @@ fn words_of(alloc: Global, types: &TypeTable, plan: &Plan, flat: &Flat) -> Resul
     ensures { IfOk result (λ words. AreWordsOf types.now plan.now flat.now words) }
 {
     agreement();
+    owned_codes();
+    block_codes();
     let owned = owned_of(alloc, flat, plan)?;
     let blocks = branches(alloc, &owned)?;
     let words = words(alloc, &blocks, types)?;

@@ -1,5 +1,5 @@
 -- Code that runs by units shows what it shows line by line, up to where a unit is missing.
-use Rattle.std.proofs.Common.{◌≡◌, ℕ, zero, suc, ◌+◌, Bool, true, false, List, [], ◌++◌, Option, Some, None, refl, sym, ap, ap₂, subst, ◌∙◌, append-nil, arith}
+use Rattle.std.proofs.Common.{◌≡◌, ◌≤◌, ℕ, zero, suc, ◌+◌, Bool, true, false, List, [], ◌++◌, Option, Some, None, refl, sym, ap, ap₂, subst, ◌∙◌, append-nil, arith}
 use Rattle.arc_base.specs.Event.{Event}
 use Rattle.arc_base.specs.Behaviour.{Seen, Running, Sound, Steady}
 use Rattle.arc_base.specs.Stepping.{Next, Goes, Ends, Faults, Errs, next_map, seen, after, run}
@@ -65,6 +65,53 @@ module _ {L : Type 0} (label_of : L → Option ℕ) (does : Scene → L → Did)
   pub same_within : (units heap : ℕ) (input : List ℕ) (n : ℕ) →
       Same (runs_within label_of does procs units heap input n) (run_by label_of does procs n (at_first label_of does procs heap input) units [] 0)
   same_within units heap input n = same_by n units (at_first label_of does procs heap input) [] 0
+
+  -- ---- with no more work, but where a unit is missing
+
+  least_next : (n units : ℕ) → ((m : Machine L) (out : List Event) (work : ℕ) → work ≤ (by n units m out work).work) → (x : Next Event (Machine L))
+      (out : List Event) (work : ℕ) → work ≤ (after x (by n units) out work).work
+  least_next n units h (Goes es w m) out work = let i = h m (out ++ es) (work + w) in omega (arith, i)
+  least_next n units h (Ends es w status live) out work = omega arith
+  least_next n units h Faults out work = omega arith
+  least_next n units h Errs out work = omega arith
+
+  least_step : (n : ℕ) → ((units : ℕ) (m : Machine L) (out : List Event) (work : ℕ) → work ≤ (by n units m out work).work) → (m : Machine L)
+      (out : List Event) (work : ℕ) (b : Bool) (units : ℕ) →
+      work ≤ (with_units label_of does procs (unit_left label_of does procs b units) (λ left. after (next m) (by n left) out work) (seen out Running work)).work
+  least_step n h m out work false units = least_next n units (h units) (next m) out work
+  least_step n h m out work true zero = omega arith
+  least_step n h m out work true (suc units) = least_next n units (h units) (next m) out work
+
+  least_by : (n units : ℕ) (m : Machine L) (out : List Event) (work : ℕ) → work ≤ (by n units m out work).work
+  least_by zero units m out work = omega arith
+  least_by (suc n) units m out work = least_step n (least_by n) m out work (spends_at m) units
+
+  abbrev Works : (n k units : ℕ) → Type 0
+  Works n k units = (m : Machine L) (out : List Event) (work : ℕ) → (run counts n (Going (Some units) m) out work).work ≤ (by k units m out work).work + 1
+
+  works_next : (n k units : ℕ) → Works n k units → (x : Next Event (Machine L)) (out : List Event) (work : ℕ) →
+      (after (next_map (Going (Some units)) x) (run counts n) out work).work ≤ (after x (by k units) out work).work + 1
+  works_next n k units h (Goes es w m) out work = h m (out ++ es) (work + w)
+  works_next n k units h (Ends es w status live) out work = omega arith
+  works_next n k units h Faults out work = omega arith
+  works_next n k units h Errs out work = omega arith
+
+  works_step : (n k : ℕ) → ((units : ℕ) → Works n k units) → (m : Machine L) (out : List Event) (work : ℕ) (b : Bool) (units : ℕ) →
+      (after (within b (Some units) (next m)) (run counts n) out work).work
+      ≤ (with_units label_of does procs (unit_left label_of does procs b units) (λ left. after (next m) (by k left) out work) (seen out Running work)).work + 1
+  works_step n k h m out work false units = works_next n k units (h units) (next m) out work
+  works_step n k h m out work true zero =
+      let e = ap (λ (s : Seen Event). s.work) (standing_shows n (out ++ []) (work + 1)) in omega (arith, e)
+  works_step n k h m out work true (suc units) = works_next n k units (h units) (next m) out work
+
+  works_by : (n k : ℕ) → n ≤ k → (units : ℕ) → Works n k units
+  works_by zero k le units m out work = let l = least_by k units m out work in omega (arith, l)
+  works_by (suc n) zero le units m out work = absurd (omega (arith, le))
+  works_by (suc n) (suc k) le units m out work = works_step n k (works_by n k (omega (arith, le))) m out work (spends_at m) units
+
+  pub works_within : (units heap : ℕ) (input : List ℕ) (n k : ℕ) → n ≤ k → (runs_within label_of does procs units heap input n).work
+      ≤ (run_by label_of does procs k (at_first label_of does procs heap input) units [] 0).work + 1
+  works_within units heap input n k le = works_by n k le units (at_first label_of does procs heap input) [] 0
 
   -- ---- with as many units as there are
 

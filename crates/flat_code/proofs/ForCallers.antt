@@ -1,7 +1,9 @@
 -- The lemmas that proofs of other crates may cite.
 
-pub use Rattle.flat_code.proofs.Same.{same_agrees, same_pace}
+pub use Rattle.flat_code.proofs.Same.{same_agrees, same_pace, agrees_as, paced_as, sound_as}
 pub use Rattle.flat_code.proofs.ByLines.{runs_by_lines, within_by_lines}
+pub use Rattle.flat_code.proofs.ByUnits.{sound_within, unbounded}
+pub use Rattle.flat_code.proofs.Standstill.{stands_still}
 pub use Rattle.flat_code.proofs.KeptForms.{form_by_lines}
 -- ---- shapes of types that have forms
 pub use Rattle.flat_code.proofs.ShapeDepths.{IsSorted, AreSorted}

@@ -15,6 +15,7 @@ use Rattle.flat_code.specs.Running.{from_label, before_last}
 use Rattle.flat_code.specs.Whole.{label_in, target, back_to, falls, is_found, is_followed, stands, all_lead, are_whole}
 use Rattle.flat_code.specs.Fits.{Signature, signature_of, fits, all_fit, has_lines_for, start_places, in_order, signatures, each_fits, code_fits}
 use Rattle.flat_code.specs.Fits.{are_none, params_at, results_at}
+use Rattle.flat_code.specs.Waits.{waits_right, all_wait_right, AllWaitRight}
 use Rattle.flat_code.specs.Sizes.{summed, weight, proc_weight, texts_in, lines_texts, code_weight, code_texts, data_bytes, globals_bytes, names_bytes}
 use Rattle.flat_code.specs.Codes.{proc_of, lines_in, each_line, by_lines, KeepsForm}
 use Rattle.flat_code.proofs.LineMaps.{in_proc, before_last_map, label_map}
@@ -139,6 +140,16 @@ module _ {L M : Type 0} (f : L → M) (plain : L → Line) (plain' : M → Line)
         ∙ ap (λ b. are_none (params_at (start_places procs) ++ results_at (start_places procs)) && b)
         (procs_fit (signatures plain known (before_last procs)) (start_places procs) procs)
 
+    -- ---- what waits
+
+    line_waits : (places : List FlatPlace) (lines : List L) → all_wait_right plain' known places (map f lines) ≡ all_wait_right plain known places lines
+    line_waits places [] = refl
+    line_waits places (l ∷ lines) = ap₂ (λ a b. a && b) (ap (waits_right known places) (is l)) (line_waits places lines)
+
+    procs_wait : (procs : List (CodeProc L)) → AllWaitRight plain known procs → AllWaitRight plain' known (map (each_line f) procs)
+    procs_wait [] h = tt
+    procs_wait (p ∷ procs) h = (line_waits p.places p.lines ∙ h.0, procs_wait procs h.1)
+
   -- ---- all of it
 
   at_most : {m n : ℕ} → m ≡ n → m ≤ n
@@ -157,4 +168,5 @@ module _ {L M : Type 0} (f : L → M) (plain : L → Line) (plain' : M → Line)
     whole = λ known e.
         ap (are_whole (λ line. label_in (plain' line)) plain') (procs_by_lines f known code.procs) ∙ wholes known code.procs ∙ e;
     fits = λ known e. codes_fit known code.procs ∙ e;
+    waits = λ known h. procs_wait known code.procs h;
   }

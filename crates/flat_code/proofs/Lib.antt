@@ -10,3 +10,4 @@ mod ConstantShapes
 mod SortedTables
 pub mod ForCallers
 mod LineWeights
+mod Waiters

@@ -28,6 +28,7 @@ use Rattle.flat_code.specs.Lines.{destination, does, gives, using_place}
 use Rattle.flat_code.specs.Running.{Proc, runs, runs_within}
 use Rattle.flat_code.specs.Whole.{label_in, are_whole}
 use Rattle.flat_code.specs.Fits.{code_fits}
+use Rattle.flat_code.specs.Waits.{AllWaitRight}
 use Rattle.flat_code.specs.Sizes.{code_weight, data_bytes}
 
 -- ---- what codes have in common
@@ -72,7 +73,8 @@ abbrev pub by_lines : {L M : Type 0} → (L → M) → Code L → Code M
 by_lines f code = record { procs = map (each_line f) code.procs }
 
 -- What passes promise of a code's form, where these are what their lines are in flat code: at most so many lines for each line of the other code, which
--- weigh no more and have no more data; each procedure has its places, and is a hook where it was; and lines lead somewhere and fit where they did.
+-- weigh no more and have no more data; each procedure has its places, and is a hook where it was; and lines lead somewhere, fit, and let values wait
+-- where they did.
 pub record KeepsForm {L M : Type 0} (plain : L → Line) (plain' : M → Line) (lines_each : ℕ) (other : Code L) (code : Code M) : Type 0 where
   pub lines : lines_in code.procs ≤ lines_each * lines_in other.procs
   pub weight : code_weight plain' code.procs ≤ code_weight plain other.procs
@@ -82,6 +84,7 @@ pub record KeepsForm {L M : Type 0} (plain : L → Line) (plain' : M → Line) (
   pub whole : (known : Known) → are_whole (λ line. label_in (plain line)) plain (procs_of known other) ≡ true →
       are_whole (λ line. label_in (plain' line)) plain' (procs_of known code) ≡ true
   pub fits : (known : Known) → code_fits plain known other.procs ≡ true → code_fits plain' known code.procs ≡ true
+  pub waits : (known : Known) → AllWaitRight plain known other.procs → AllWaitRight plain' known code.procs
 
 -- ---- flat code: its lines are under a plan
 

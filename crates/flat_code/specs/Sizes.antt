@@ -124,8 +124,8 @@ abbrev pub weight : Line → ℕ
 weight (L.Apply to operation how ty of from) = weight_of operation (length from)
 weight (L.Construct to how ty fields from) = clear_weight + move_weight * length from
 weight (L.Constant to how ty pieces) = clear_weight + pieces_weight pieces
--- the test of how many calls are active, and the result
-weight (L.Call to how ty proc from) = 5 + move_weight + argument_weight * length from
+-- the unit, the test of how many calls are active, and the result
+weight (L.Call to how ty proc from) = 6 + move_weight + argument_weight * length from
 weight (L.Get to from how ty) = move_weight
 weight (L.Look to from) = move_weight
 weight (L.Root to place global) = 1
@@ -151,9 +151,9 @@ weight (L.Jump to) = 1
 weight (L.Unless from to) = 2
 weight (L.Fits from these to) = label_weight these
 weight L.Enter = 1
-weight (L.Turn to) = 1
-weight (L.TurnIf from to) = 2
-weight (L.CountTurn counter last inclusive to) = 6
+weight (L.Turn to) = 2
+weight (L.TurnIf from to) = 3
+weight (L.CountTurn counter last inclusive to) = 7
 weight (L.Return result) = 3
 
 -- ---- data

@@ -1,5 +1,5 @@
 -- What waits: the value of a temporary whose type has hooks may wait at a node of its own, and lines name the nodes of such.
-use Rattle.std.specs.Prelude.{◌≡◌, ℕ, nat_eq, Bool, true, false, not, ◌&&◌, ◌||◌, List, [], ◌∷◌, Option, Some, None}
+use Rattle.std.specs.Prelude.{◌≡◌, ℕ, nat_eq, Bool, true, false, not, ◌&&◌, ◌||◌, if◌then◌else◌, List, [], ◌∷◌, Option, Some, None}
 use Rattle.nim_types.specs.Types.{Ty, same}
 use Rattle.nim_types.specs.Table.{type_at}
 use Rattle.nim_program.specs.declared.operation.Use.{Use}
@@ -32,6 +32,11 @@ is_node node (Some other) = nat_eq other node
 abbrev pub any_waits : (holds : FlatPlace → Bool) → (node : ℕ) → List FlatPlace → Bool
 any_waits holds node [] = false
 any_waits holds node (p ∷ places) = (is_node node p.waits && holds p) || any_waits holds node places
+
+-- the first of these whose value waits at a node
+abbrev pub waiter : (node : ℕ) → List FlatPlace → Option FlatPlace
+waiter node [] = None
+waiter node (p ∷ places) = if is_node node p.waits then Some p else waiter node places
 
 abbrev pub if_waits : ℕ → Option FlatPlace → Bool
 if_waits node None = false
@@ -89,16 +94,19 @@ module _ (known : Known) (places : List FlatPlace) where
   waits_right (L.Own what from) = owning_waits what from
   waits_right line = true
 
-  abbrev pub all_wait_right : List Line → Bool
-  all_wait_right [] = true
-  all_wait_right (line ∷ lines) = waits_right line && all_wait_right lines
-
 -- ---- procedures
 
-abbrev pub AllWaitOnce : List (CodeProc Line) → Type 0
-AllWaitOnce [] = Unit {0}
-AllWaitOnce (p ∷ procs) = (wait_once p.places ≡ true) × AllWaitOnce procs
+-- where these are what lines are in flat code
+module _ {L : Type 0} (plain : L → Line) (known : Known) where
+  abbrev pub all_wait_right : (places : List FlatPlace) → List L → Bool
+  all_wait_right places [] = true
+  all_wait_right places (line ∷ lines) = waits_right known places (plain line) && all_wait_right places lines
 
-abbrev pub AllWaitRight : Known → List (CodeProc Line) → Type 0
-AllWaitRight known [] = Unit {0}
-AllWaitRight known (p ∷ procs) = (all_wait_right known p.places p.lines ≡ true) × AllWaitRight known procs
+  abbrev pub AllWaitRight : List (CodeProc L) → Type 0
+  AllWaitRight [] = Unit {0}
+  AllWaitRight (p ∷ procs) = (all_wait_right p.places p.lines ≡ true) × AllWaitRight procs
+
+-- of the places of each procedure
+abbrev pub AllWaitOnce : List (List FlatPlace) → Type 0
+AllWaitOnce [] = Unit {0}
+AllWaitOnce (places ∷ all) = (wait_once places ≡ true) × AllWaitOnce all

@@ -1,5 +1,5 @@
 // The laws of the codes.
-ghost use Rattle.std.specs.Prelude.{◌≡◌, ◌≤◌, ◌+◌, ℕ, List, [], Option};
+ghost use Rattle.std.specs.Prelude.{◌≡◌, ◌≤◌, ◌+◌, ℕ, List, [], Option, Bool, true, ◌&&◌, Some};
 ghost use Rattle.arc_base.specs.Behaviour.{Sound, Steady};
 ghost use Rattle.nim_types.specs.declared.types.TypeDef.{TypeDef};
 ghost use Rattle.nim_plan.specs.declared.plan.Plan.{Plan};
@@ -10,8 +10,12 @@ ghost use Rattle.flat_code.specs.declared.block.BlockLine.{BlockLine};
 ghost use Rattle.flat_code.specs.Codes.{flat_meaning, owned_meaning, block_meaning, lines_in};
 ghost use Rattle.flat_code.specs.Codes.{flat_plain, owned_plain, block_plain};
 ghost use Rattle.flat_code.specs.Running.{Proc, ShowsAlike, at_first, runs, run_by, runs_within};
-ghost use Rattle.flat_code.specs.Scene.{Scene, Did};
+ghost use Rattle.flat_code.specs.Scene.{Scene, Did, Known};
+ghost use Rattle.flat_code.specs.declared.place.FlatPlace.{FlatPlace};
+ghost use Rattle.flat_code.specs.Fits.{is_value, place_named};
+ghost use Rattle.flat_code.specs.PlainCode.{is_temporary};
 ghost use Rattle.flat_code.specs.Sizes.{code_weight};
+ghost use Rattle.flat_code.specs.Waits.{any_waits, waiter, wait_once, waits_in};
 
 /// What flat, owned and block code have shown only grows, and what is over stays so.
 pub fn codes()
@@ -23,13 +27,17 @@ pub fn codes()
         (input : List ℕ) → Steady (block_meaning table blocks heap input) }
 {}
 
-/// Code of lines `L` that may spend so many units shows what it shows by units. That is what it shows
+/// Code of lines `L` that may spend so many units shows what it shows by units, with no more work but
+/// for a unit that is missing. That is what it shows
 /// after some number of lines, so it is sound where the code is; it only grows; and it comes to a
 /// standstill.
 pub fn by_units<L>()
     ensures same { (label_of : L → Option ℕ) (does : Scene → L → Did) (procs : List (Proc L))
         (units heap : ℕ) (input : List ℕ) (n : ℕ) → ShowsAlike (runs_within label_of does procs units heap input n)
         (run_by label_of does procs n (at_first label_of does procs heap input) units [] 0) }
+    ensures work { (label_of : L → Option ℕ) (does : Scene → L → Did) (procs : List (Proc L))
+        (units heap : ℕ) (input : List ℕ) (n k : ℕ) → n ≤ k → (runs_within label_of does procs units heap input n).work
+        ≤ (run_by label_of does procs k (at_first label_of does procs heap input) units [] 0).work + 1 }
     ensures front { (label_of : L → Option ℕ) (does : Scene → L → Did) (procs : List (Proc L))
         (units heap : ℕ) (input : List ℕ) (n : ℕ) → (k : ℕ) ×
         ShowsAlike (runs_within label_of does procs units heap input n) (runs label_of does procs heap input k) }
@@ -50,4 +58,18 @@ pub fn weights()
         lines_in owned.procs ≤ code_weight owned_plain owned.procs }
     ensures blocks { (blocks : Code BlockLine) →
         lines_in blocks.procs ≤ code_weight block_plain blocks.procs }
+{}
+
+/// Where no node is that of two temporaries, a node leads to the temporary whose value waits there.
+pub fn waits()
+    // What holds of one that waits there holds of it.
+    ensures found { (holds : FlatPlace → Bool) (node : ℕ) (places : List FlatPlace) →
+        wait_once places ≡ true → any_waits holds node places ≡ true →
+        (p : FlatPlace) × ((waiter node places ≡ Some p) × (holds p ≡ true)) }
+    ensures temporary { (known : Known) (places : List FlatPlace) (t node : ℕ) →
+        wait_once places ≡ true → waits_in known places t node ≡ true →
+        waiter node places ≡ place_named is_value places t }
+    ensures hooked { (places : List FlatPlace) (node : ℕ) (p : FlatPlace) →
+        wait_once places ≡ true → waiter node places ≡ Some p →
+        is_temporary p.kind && p.hooked ≡ true }
 {}

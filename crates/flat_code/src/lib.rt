@@ -16,7 +16,7 @@ pub use code::{Code, CodeProc};
 pub use copy::copied;
 pub use examples::{flat_examples, form_examples};
 pub use flat::Flat;
-pub use laws::{by_units, codes, weights};
+pub use laws::{by_units, codes, waits, weights};
 pub use line::{From, Line, Owning, Piece, UseAt};
 pub use owned::{Owned, OwnedLine};
 pub use place::{FlatPlace, PlaceKind};

@@ -9,6 +9,7 @@ use Rattle.flat_code.specs.declared.line.Line.TheVariants as L
 use Rattle.flat_code.specs.declared.line.Owning.TheVariants as W
 use Rattle.flat_code.specs.declared.place.FlatPlace.{FlatPlace}
 use Rattle.flat_code.specs.Scene.{Known}
+use Rattle.flat_code.specs.Codes.{flat_plain}
 use Rattle.flat_code.specs.Fits.{Signature, fits, all_fit}
 use Rattle.flat_code.specs.Waits.{waits_right, all_wait_right}
 use Rattle.flattening.specs.ExprLines.{taken_lines, end_lines}
@@ -31,7 +32,7 @@ abbrev pub waiting_right : Among → Line → Bool
 waiting_right x line = waits_right x.known x.places line
 
 abbrev pub all_waiting : Among → List Line → Bool
-all_waiting x lines = all_wait_right x.known x.places lines
+all_waiting x lines = all_wait_right flat_plain x.known x.places lines
 
 abbrev pub all_fitting : Among → List Line → Bool
 all_fitting x lines = all_fit x.known x.procs x.globals x.places lines

@@ -150,10 +150,10 @@ module _ (program : Program) (plan : Plan) where
 
   -- a procedure, and procedures, that fit and let values wait where they say
   abbrev ProcRight : CodeProc Line → Type 0
-  ProcRight p = (proc_fits flat_plain known sigs start p ≡ true) × (all_wait_right known p.places p.lines ≡ true)
+  ProcRight p = (proc_fits flat_plain known sigs start p ≡ true) × (all_wait_right flat_plain known p.places p.lines ≡ true)
 
   abbrev EachRight : List (CodeProc Line) → Type 0
-  EachRight procs = (each_fits flat_plain known sigs start procs ≡ true) × AllWaitRight known procs
+  EachRight procs = (each_fits flat_plain known sigs start procs ≡ true) × AllWaitRight flat_plain known procs
 
   one_right : (p : CodeProc Line) (procs : List (CodeProc Line)) → ProcRight p → EachRight procs → EachRight (p ∷ procs)
   one_right p procs right rest = (and_from _ _ right.0 rest.0, (right.1, rest.1))
@@ -437,7 +437,7 @@ module _ (program : Program) (plan : Plan) where
   start_none (Some d) e h = nothing (sym e)
 
   pub program_fits : IsTyped program → is_numbered_program program ≡ true → IsPlain program →
-      AreSorted facts → (code_fits flat_plain known (flat_procs program plan) ≡ true) × AllWaitRight known (flat_procs program plan)
+      AreSorted facts → (code_fits flat_plain known (flat_procs program plan) ≡ true) × AllWaitRight flat_plain known (flat_procs program plan)
   program_fits typed numbered plain sorted =
       let t = and_parts (are_typed_procs program program.procs) (is_typed_start program program.start)
       (and_parts (are_declared facts types) _ typed.typed).1 in

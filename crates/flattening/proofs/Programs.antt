@@ -136,8 +136,11 @@ module _ (program : Program) (plan : Plan) (formed : IsFormed program) (heap : �
         let s = shown n in (
           s.lines,
           λ i.
-              let e = ap (λ k. by_units x k (flat_start program plan heap input) n [] 0) (sym (ahead_is s.lines i)) ∙ s.by i 0 in
-              (ap (λ (s : Seen Event). s.events) e, ap (λ (s : Seen Event). s.phase) e),
+              let e = ap (λ k. by_units x k (flat_start program plan heap input) n [] 0) (sym (ahead_is s.lines i)) ∙ s.by i 0 in (
+                ap (λ (s : Seen Event). s.events) e,
+                ap (λ (s : Seen Event). s.phase) e,
+                subst (λ (z : Seen Event). z.work ≤ 12 * ((high n).work + 1)) (sym e) (omega (arith, s.paid)),
+              ),
         )
 
     met : (n : ℕ) → (m : ℕ) × (n ≤ m) × Same (flat_meaning program plan heap input m) (high n) ×

@@ -24,6 +24,7 @@ use Rattle.nim_meaning.specs.Here.{is_hooked}
 use Rattle.flat_code.specs.declared.place.PlaceKind.{PlaceKind}
 use Rattle.flat_code.specs.declared.place.PlaceKind.TheVariants as K
 use Rattle.flat_code.specs.declared.place.FlatPlace.{FlatPlace}
+use Rattle.flat_code.specs.Codes.{places_of}
 use Rattle.flat_code.specs.PlainCode.{is_temporary}
 use Rattle.flat_code.specs.Waits.{is_node, any_waits, waits_alone, wait_once, AllWaitOnce}
 use Rattle.flat_code.specs.declared.code.CodeProc.{CodeProc}
@@ -34,7 +35,7 @@ use Rattle.flattening.specs.Places.{kind_of_path, head_from, waits_by, temporary
 use Rattle.flattening.specs.Places.{operand_places, part_places, loop_places, value_places, behind_value, stmt_places, block_places, branch_places, arm_places}
 use Rattle.flattening.specs.Places.{own_declared, param_places, result_places, body_places}
 use Rattle.flattening.specs.Flattened.{modes_of}
-use Rattle.flattening.specs.Given.{flat_body, flat_proc, flat_procs}
+use Rattle.flattening.specs.Given.{flat_body, flat_proc, flat_of}
 use Rattle.flattening.proofs.AlikeLines.{IsShaped, AreShaped, AreShapedBlocks, IfShaped, ProcsShaped, ProgramShaped}
 use Rattle.flattening.proofs.Declared.{Likes, block_like}
 use Rattle.flattening.proofs.Parts.{Each}
@@ -380,14 +381,17 @@ module _ (program : Program) (plan : Plan) where
   proc_once hook params None numbered shaped = refl
   proc_once hook params (Some body) numbered shaped = start_once hook params body numbered shaped
 
-  procs_once : (procs : List Proc) (more : List (CodeProc Line)) → are_numbered procs ≡ true → ProcsShaped procs → AllWaitOnce more →
-      AllWaitOnce (map (λ (p : Proc). flat_proc program plan p.hook p.params p.body) procs ++ more)
+  abbrev Once : List (CodeProc Line) → Type 0
+  Once procs = AllWaitOnce (map (λ (p : CodeProc Line). p.places) procs)
+
+  procs_once : (procs : List Proc) (more : List (CodeProc Line)) → are_numbered procs ≡ true → ProcsShaped procs → Once more →
+      Once (map (λ (p : Proc). flat_proc program plan p.hook p.params p.body) procs ++ more)
   procs_once [] more numbered shaped rest = rest
   procs_once (p ∷ procs) more numbered shaped rest =
       let n = and_parts (is_numbered_if p.params p.body) (are_numbered procs) numbered in
       (proc_once p.hook p.params p.body n.0 shaped.0, procs_once procs more n.1 shaped.1 rest)
 
-  pub all_once : is_numbered_program program ≡ true → ProgramShaped program → AllWaitOnce (flat_procs program plan)
+  pub all_once : is_numbered_program program ≡ true → ProgramShaped program → AllWaitOnce (places_of (flat_of program plan))
   all_once numbered shaped =
       let n = and_parts (are_numbered program.procs) (is_numbered [] program.start) numbered in
       procs_once program.procs (flat_body program plan None [] program.start ∷ []) n.0 shaped.0

@@ -1,5 +1,5 @@
 -- The flat code of a program.
-use Rattle.std.specs.Prelude.{◌≡◌, ℕ, ◌+◌, List, [], ◌∷◌, ◌++◌, map, Option, Some, None}
+use Rattle.std.specs.Prelude.{◌≡◌, ◌≤◌, ℕ, ◌+◌, ◌*◌, List, [], ◌∷◌, ◌++◌, map, Option, Some, None}
 use Rattle.arc_base.specs.Event.{Event}
 use Rattle.arc_base.specs.Behaviour.{Behaviour, Seen}
 use Rattle.nim_plan.specs.declared.plan.Plan.{Plan}
@@ -14,6 +14,7 @@ use Rattle.flat_code.specs.Scene.{Known}
 use Rattle.flat_code.specs.Lines.{does}
 use Rattle.flat_code.specs.Running.{Proc, Machine, at_first, runs, run_by}
 use Rattle.flat_code.specs.Whole.{label_in}
+use Rattle.flattening.specs.declared.laws.TheConstants.{FLAT_PACE}
 use Rattle.flattening.specs.StmtLines.{body_lines}
 
 abbrev pub known_of : Program → Known
@@ -55,8 +56,9 @@ flat_by_units program plan heap input units n =
     run_by label_in (does (known_of program) plan) (code_of program plan) n (flat_start program plan heap input) units [] 0
 
 -- With so many units it comes to what the program shows with as many, after some number of lines and ever after: the same events, and the same end
--- or none.
+-- or none, with at most so many times the work.
 abbrev pub IsExact : Program → Plan → (heap : ℕ) → (input : List ℕ) → (units : ℕ) → Type 0
 IsExact program plan heap input units =
     (lines : ℕ) × ((more : ℕ) → ((flat_by_units program plan heap input units (lines + more)).events ≡ (meaning program plan heap input units).events)
-    × ((flat_by_units program plan heap input units (lines + more)).phase ≡ (meaning program plan heap input units).phase))
+    × ((flat_by_units program plan heap input units (lines + more)).phase ≡ (meaning program plan heap input units).phase)
+    × ((flat_by_units program plan heap input units (lines + more)).work ≤ FLAT_PACE * ((meaning program plan heap input units).work + 1)))

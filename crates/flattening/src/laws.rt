@@ -13,7 +13,7 @@ ghost use Rattle.nim_program.specs.Sizes.{globals_size};
 ghost use Rattle.nim_program.specs.Typed.{IsTyped};
 ghost use Rattle.nim_meaning.specs.LeftOut.{IsPlain};
 ghost use Rattle.nim_meaning.specs.Meaning.{meaning};
-ghost use Rattle.flat_code.specs.Codes.{flat_plain, procs_of, hooks_of, AreNone};
+ghost use Rattle.flat_code.specs.Codes.{flat_plain, places_of, procs_of, hooks_of, AreNone};
 ghost use Rattle.flat_code.specs.Fits.{code_fits, start_places};
 ghost use Rattle.flat_code.specs.Scene.{Known, known_in};
 ghost use Rattle.flat_code.specs.Sizes.{code_weight, globals_bytes, code_texts};
@@ -71,7 +71,7 @@ pub fn fits()
     // What waits does so in the temporary of its node.
     ensures waits { (table : List TypeDef) (program : Program) → program.facts ≡ facts_in table →
         IsTyped program → is_numbered_program program ≡ true → IsPlain program → (plan : Plan) →
-        AllWaitRight (known_of program) (flat_procs program plan) }
+        AllWaitRight flat_plain (known_of program) (flat_procs program plan) }
     ensures hooks { (table : List TypeDef) (program : Program) → program.facts ≡ facts_in table →
         IsTyped program → IsPlain program → (plan : Plan) → AreNone (hooks_of (flat_of program plan)) }
 {}
@@ -98,7 +98,7 @@ pub fn may_be_lowered()
         IsTyped program → (plan : Plan) → AllAlike (flat_procs program plan) }
     // At each node the value of one temporary waits at most.
     ensures once { (table : List TypeDef) (program : Program) → program.facts ≡ facts_in table →
-        IsTyped program → is_numbered_program program ≡ true → (plan : Plan) → AllWaitOnce (flat_procs program plan) }
+        IsTyped program → is_numbered_program program ≡ true → (plan : Plan) → AllWaitOnce (places_of (flat_of program plan)) }
     // Places and lines are plain, and few where the sums of its bodies are small.
     ensures plain { (table : List TypeDef) (program : Program) → program.facts ≡ facts_in table →
         IsTyped program → is_numbered_program program ≡ true → IsPlain program →

@@ -16,6 +16,7 @@ use Rattle.holders.specs.Owned.{a_sequence, HasEach, Apart}
 use Rattle.holders.specs.Sure.{Sure}
 use Rattle.holders.specs.Becoming.{taken_in, Gives, KeepsHolders, none}
 use Rattle.holders.specs.Becoming.{Turns}
+use Rattle.holders.proofs.Staying.{stays_same, taken_stays}
 use Rattle.holders.proofs.HolderCounts.{taken_counts}
 use Rattle.holders.proofs.BaseChanges.{taken_elsewhere, taken_text, taken_row}
 use Rattle.holders.proofs.Sure.{sure_then, sure_weaker}
@@ -46,7 +47,7 @@ nothing_given f x given world h = record {
   came = λ k m. elim m [ ];
   grows = omega arith;
   elsewhere = λ b y is. is;
-  hand = refl;
+  stays = stays_same world;
 }
 
 pub text_made : (t : List ℕ) (world : World) →
@@ -62,7 +63,7 @@ text_made t world =
         came = λ k m. only k m;
         grows = omega (arith, one_more_length world.heap.blocks (Some (record { class = class; contents = Characters t })));
         elsewhere = λ b y is. taken_elsewhere world class (Characters t) is;
-        hand = refl;
+        stays = taken_stays world class (Characters t);
       },
       λ others is k. omega (arith, is k, taken_counts k class (Characters t) world, taken_live world k class (Characters t)),
     ))
@@ -87,7 +88,7 @@ sequence_made f vs ds n world each d =
         came = λ k m. of_new k m;
         grows = omega (arith, one_more_length world.heap.blocks (Some (record { class = class; contents = Elements vs })));
         elsewhere = λ b y is. taken_elsewhere world class (Elements vs) is;
-        hand = refl;
+        stays = taken_stays world class (Elements vs);
       },
       λ others is k. omega (arith, is k, taken_counts k class (Elements vs) world, taken_live world k class (Elements vs)),
     ))
@@ -142,7 +143,7 @@ line_made input world =
         came = t.0.came;
         grows = t.0.grows;
         elsewhere = λ b y is. t.0.elsewhere b y (reading_stays (up_to_feed input) is);
-        hand = t.0.hand;
+        stays = record { hand = t.0.stays.hand; frames = t.0.stays.frames };
       },
       λ others is. t.1 others is,
     ))

@@ -15,9 +15,10 @@ use Rattle.holders.specs.Becoming.{taken_in, Becomes, Gives, HeldOnce, KeepsHold
 use Rattle.holders.specs.Becoming.{Strange, Turns}
 use Rattle.holders.specs.Owned.{PartForm, first_part, next_part}
 use Rattle.holders.specs.Walks.{GivenUp}
+use Rattle.holders.proofs.Staying.{stays_same, stays_then, stored_stays}
 use Rattle.holders.proofs.Sure.{sure_then, sure_weaker}
 use Rattle.holders.proofs.PathLemmas.{part_of_put, put_same, has_deeper}
-use Rattle.holders.proofs.Ledger.{stored_hand, stored_counts, stored_live}
+use Rattle.holders.proofs.Ledger.{stored_counts, stored_live}
 use Rattle.holders.proofs.Owning.{in_first, in_second, Stay, has_stays, from_full, has_none, plain_none, plain_anywhere, distinct_second, distinct_first}
 use Rattle.holders.proofs.Guards.{sure_reads, sure_sees, sure_sets, read_at}
 use Rattle.holders.proofs.Ending.{same_number, may_deeper}
@@ -55,7 +56,7 @@ replaces f to w v0 x old new world at e h0 h d dn both apart apart_new =
         grows = omega (arith, t.1, stored_length world to.base (put_part (whole_at world to.base) to.path x));
         is = t.0.elsewhere to.base (put_part w to.path x) (is_put to w world at x) (λ k q m. apart k q m);
         elsewhere = λ b y is q far. t.0.elsewhere b y (put_elsewhere to w world at x b y is q) far;
-        hand = t.0.hand ∙ stored_hand world to.base (put_part (whole_at world to.base) to.path x);
+        stays = stays_then (stored_stays world (put_part (whole_at world to.base) to.path x) at.base) t.0.stays;
       },
       λ others is. add_none others after (t.0.once others (λ k. omega (
         arith,
@@ -92,7 +93,7 @@ module _ (f : Form) (x : Value) (to : Location) (w v0 : Value) (old : List ℕ) 
           grows = omega (arith, c.0.grows, t.0.grows);
           is = t.0.is;
           elsewhere = λ b y is q far. t.0.elsewhere b y (c.0.elsewhere b y is) q far;
-          hand = t.0.hand ∙ c.0.hand;
+          stays = stays_then c.0.stays t.0.stays;
         },
         λ others is. t.1 others (c.1 others is),
       ))
@@ -146,7 +147,7 @@ bits_assigned f to from w u v0 v old bs world bare at e h0 source h =
         grows = omega (arith, stored_length world to.base (put_part (whole_at world to.base) to.path v));
         is = is_put to w world at v;
         elsewhere = λ b y is q far. put_elsewhere to w world at v b y is q;
-        hand = stored_hand world to.base (put_part (whole_at world to.base) to.path v);
+        stays = stored_stays world (put_part (whole_at world to.base) to.path v) at.base;
       },
       λ others is k. omega (
         arith,
@@ -173,7 +174,7 @@ nothing_turns f l w v old world at e h d = (
     grows = omega arith;
     is = subst (λ x. IsBase world l.base x) (sym (ap (put_part w l.path) (sym e) ∙ put_same at.part)) at.base;
     elsewhere = λ b y is q far. is;
-    hand = refl;
+    stays = stays_same world;
   },
   λ others is. is,
 )

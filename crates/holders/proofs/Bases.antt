@@ -13,7 +13,7 @@ use Rattle.holders.specs.Owned.{IsBase, at_place, at_node, in_hand, in_row, in_t
 
 -- ---- lists
 
-get_set : {A : Type 0} (xs : List A) (i : ℕ) (x y : A) → slice_get xs i ≡ Some x → slice_get (slice_set xs i y) i ≡ Some y
+pub get_set : {A : Type 0} (xs : List A) (i : ℕ) (x y : A) → slice_get xs i ≡ Some x → slice_get (slice_set xs i y) i ≡ Some y
 get_set [] i x y e = absurd (none-some x e)
 get_set (z ∷ xs) zero x y e = refl
 get_set (z ∷ xs) (suc i) x y e = get_set xs i x y e
@@ -68,7 +68,7 @@ loaded world l w h = ap (λ v. part v l.path) (whole_is world l.base w h)
 
 -- ---- a value is stored
 
-same_or_not : (m n : ℕ) → (m ≡ n) ⊎ (m ≡ n → ⊥)
+pub same_or_not : (m n : ℕ) → (m ≡ n) ⊎ (m ≡ n → ⊥)
 same_or_not m n = by (nat_eq m n) refl
   where
     by : (b : Bool) → nat_eq m n ≡ b → (m ≡ n) ⊎ (m ≡ n → ⊥)

@@ -24,12 +24,13 @@ use Rattle.holders.specs.Sure.{Sure}
 use Rattle.holders.specs.Becoming.{taken_in}
 use Rattle.holders.specs.Holders.{held_by, held_in, held_in_contents}
 use Rattle.holders.specs.Walks.{KeepsOnce}
+use Rattle.holders.proofs.Staying.{stays_then, stored_stays, taken_stays}
 use Rattle.holders.proofs.HolderCounts.{taken_counts}
 use Rattle.holders.proofs.Bases.{whole_is, stored_there, stored_elsewhere}
 use Rattle.holders.proofs.BaseChanges.{taken_elsewhere, taken_text, taken_row}
 use Rattle.holders.proofs.Sure.{sure_then, sure_weaker}
 use Rattle.holders.proofs.PathLemmas.{count_with, nth_with, nth_without, part_of_put, put_twice, has_put, put_deeper, put_same}
-use Rattle.holders.proofs.Ledger.{keeps_none, keeps_then, stored_hand, stored_counts, stored_live, taken_live}
+use Rattle.holders.proofs.Ledger.{keeps_none, keeps_then, stored_counts, stored_live, taken_live}
 use Rattle.holders.proofs.Owning.{in_first, in_second, has_stays, each_stays, all_stays}
 use Rattle.holders.proofs.Owning.{has_none, plain_none, plain_anywhere}
 use Rattle.holders.proofs.Guards.{sure_reads, sure_sets}
@@ -177,7 +178,7 @@ module _ (to : Location) (w : Value) (world : World) (at : At world to w) (none 
         stored_counts world k to x at.base at.part at.may,
         stored_live world k to.base (put_part (whole_at world to.base) to.path x),
       );
-      hand = stored_hand world to.base (put_part (whole_at world to.base) to.path x);
+      stays = stored_stays world (put_part (whole_at world to.base) to.path x) at.base;
     };
   }
 
@@ -233,7 +234,7 @@ module _ (to : Location) (w : Value) (world : World) (at : At world to w) (none 
       stored_live taken_world j to.base (put_part (whole_at taken_world to.base) to.path (Handle n (Some new))),
       taken_live world j class contents,
     );
-    hand = stored_hand taken_world to.base (put_part (whole_at taken_world to.base) to.path (Handle n (Some new)));
+    stays = stays_then (taken_stays world class contents) (stored_stays taken_world (put_part (whole_at taken_world to.base) to.path (Handle n (Some new))) at_taken.base);
   }
 
 -- ---- texts

@@ -20,12 +20,13 @@ use Rattle.holders.specs.Owned.{of_wrapped, HasEach, none_more, one_more, HasAll
 use Rattle.holders.specs.Sure.{Sure}
 use Rattle.holders.specs.Holders.{held_by, held_in_contents}
 use Rattle.holders.specs.Walks.{Ended, KeepsOnce}
+use Rattle.holders.proofs.Staying.{stays_then, stored_stays, freed_stays}
 use Rattle.holders.proofs.HolderCounts.{freed_counts}
 use Rattle.holders.proofs.Bases.{whole_is, stored_there, stored_elsewhere}
 use Rattle.holders.proofs.BaseChanges.{freed_elsewhere}
 use Rattle.holders.proofs.Sure.{sure_then, sure_weaker}
 use Rattle.holders.proofs.PathLemmas.{count_with, nth_with, nth_without, part_of_put, put_twice, has_put, has_deeper, part_deeper, put_deeper, put_same}
-use Rattle.holders.proofs.Ledger.{keeps_none, keeps_then, stored_hand, freed_hand, stored_counts, stored_live, freed_live}
+use Rattle.holders.proofs.Ledger.{keeps_none, keeps_then, stored_counts, stored_live, freed_live}
 use Rattle.holders.proofs.Owning.{in_first, in_second, distinct_first, distinct_second}
 use Rattle.holders.proofs.Owning.{distinct_apart, Stay, has_stays, each_stays, all_stays, each_same, all_same, row_none, plain_none}
 use Rattle.holders.proofs.Guards.{sure_sees, sure_sets, sure_frees}
@@ -74,7 +75,7 @@ module _ (l : Location) (w : Value) (world : World) (at : At world l w) where
         stored_counts world k l Vacant at.base at.part at.may,
         stored_live world k l.base (put_part (whole_at world l.base) l.path Vacant),
       );
-      hand = stored_hand world l.base (put_part (whole_at world l.base) l.path Vacant);
+      stays = stored_stays world (put_part (whole_at world l.base) l.path Vacant) at.base;
     };
   }
 
@@ -98,7 +99,8 @@ module _ (l : Location) (w : Value) (world : World) (at : At world l w) where
             freed_counts j k vacant_world it.found it.there,
             freed_live vacant_world j k it.found it.there,
           );
-          hand = freed_hand vacant_world k (block_at vacant_world.heap k) ∙ stored_hand world l.base (put_part (whole_at world l.base) l.path Vacant);
+          stays = stays_then (stored_stays world (put_part (whole_at world l.base) l.path Vacant) at.base)
+              (freed_stays vacant_world k (block_at vacant_world.heap k));
         };
       }
 

@@ -12,26 +12,14 @@ use Rattle.holders.specs.Owned.{IsBase, at_place, at_node, in_hand, in_row, in_t
 use Rattle.holders.specs.Holders.{held_by, held_in, held_in_contents, held_in_block, held_in_world}
 use Rattle.holders.specs.Walks.{KeepsOnce}
 use Rattle.holders.proofs.HolderCounts.{part_put, slot_counts, temporary_counts, total_set}
+use Rattle.holders.proofs.Staying.{stays_same, stays_then}
 use Rattle.holders.proofs.Bases.{whole_is, block_position}
 
 pub keeps_none : (world : World) → KeepsOnce world world
-keeps_none world = record { held = λ others h. h; hand = refl }
+keeps_none world = record { held = λ others h. h; stays = stays_same world }
 
 pub keeps_then : {a b c : World} → KeepsOnce a b → KeepsOnce b c → KeepsOnce a c
-keeps_then h g = record { held = λ others x. g.held others (h.held others x); hand = g.hand ∙ h.hand }
-
-length_set : {A : Type 0} (xs : List A) (i : ℕ) (y : A) → length (slice_set xs i y) ≡ length xs
-length_set [] i y = refl
-length_set (x ∷ xs) zero y = refl
-length_set (x ∷ xs) (suc i) y = ap suc (length_set xs i y)
-
-pub stored_hand : (world : World) (base : Base) (v : Value) → length (stored world base v).hand ≡ length world.hand
-stored_hand world (InHand i) v = length_set world.hand i v
-stored_hand world base v = refl
-
-pub freed_hand : (world : World) (k : ℕ) (found : Option Block) → length (freed world k found).hand ≡ length world.hand
-freed_hand world k None = refl
-freed_hand world k (Some b) = refl
+keeps_then h g = record { held = λ others x. g.held others (h.held others x); stays = stays_then h.stays g.stays }
 
 -- ---- blocks by position
 

@@ -1,5 +1,6 @@
 mod HolderCounts
 mod Bases
+mod Staying
 mod BaseChanges
 mod Sure
 mod PathLemmas

@@ -8,6 +8,7 @@ use Rattle.holders.specs.Owned.{IsBase, At, Full, Has, a_sequence, of_wrapped, H
 use Rattle.holders.specs.Becoming.{taken_in, Becomes}
 use Rattle.holders.specs.Becoming.{Strange}
 use Rattle.holders.specs.Owned.{PartForm, first_part, next_part}
+use Rattle.holders.proofs.Staying.{stays_then}
 use Rattle.holders.proofs.PathLemmas.{count_with, nth_with, nth_without, put_twice, has_put, put_deeper, put_same}
 use Rattle.holders.proofs.Owning.{in_first, in_second, distinct_first, distinct_second, distinct_apart, same_or_later, Stay, has_stays, each_stays, all_stays}
 use Rattle.holders.proofs.Owning.{each_same, all_same}
@@ -21,7 +22,7 @@ assoc [] cs ds = refl
 assoc (b ∷ bs) cs ds = ap (λ es. b ∷ es) (assoc bs cs ds)
 
 -- others in the middle
-middle_distinct : (before mine behind new : List ℕ) → Distinct (before ++ (mine ++ behind)) → Distinct new → ((k : ℕ) → Member k new → Member k before → ⊥) →
+pub middle_distinct : (before mine behind new : List ℕ) → Distinct (before ++ (mine ++ behind)) → Distinct new → ((k : ℕ) → Member k new → Member k before → ⊥) →
     ((k : ℕ) → Member k new → Member k behind → ⊥) → Distinct (before ++ (new ++ behind))
 middle_distinct before mine behind new d n not_before not_behind =
     distinct_both before (new ++ behind) (distinct_first before (mine ++ behind) d)
@@ -202,7 +203,7 @@ part_becomes rest g f world after l w i all bs given s at e make d below strange
   is = subst (λ v. IsBase after l.base v) (put_deeper i all b.now at.part e) b.is;
   elsewhere = λ c x h q far. b.elsewhere c x h q
       (λ k e m. far k e (of_mine rest world f i all bs given s d below strange (deeper l i) w after b apart k m));
-  hand = b.hand;
+  stays = b.stays;
 }
 
 -- of an element in the block of a sequence
@@ -266,7 +267,7 @@ module _ (f : Form) (world after : World) (l : Location) (w : Value) (i k : ℕ)
     is = subst (λ v. IsBase after l.base v) (sym (ap (put_part w l.path) (sym e) ∙ put_same at.part))
         (b.elsewhere l.base w at.base (λ q. apart k q (inl refl)) (λ j q m. apart j q (inr (inside j m))));
     elsewhere = λ c x h q far. b.elsewhere c x h (λ z. far k z (inl refl)) (λ j z m. far j z (inr (inside j m)));
-    hand = b.hand;
+    stays = b.stays;
   }
 
 pub wrapped_becomes : (f : Form) (l : Location) (w : Value) (given bs : List ℕ) (world after : World) → Becomes f l w given bs world after →
@@ -280,7 +281,7 @@ wrapped_becomes f l w given bs world after b = record {
   grows = b.grows;
   is = b.is;
   elsewhere = b.elsewhere;
-  hand = b.hand;
+  stays = b.stays;
 }
 
 -- ---- one change after another
@@ -301,7 +302,7 @@ becomes_then {f} {l} {w} {old} {world} {middle} {last} at b c = record {
   grows = omega (arith, b.grows, c.grows);
   is = subst (λ v. IsBase last l.base v) (put_twice b.now c.now at.part) c.is;
   elsewhere = λ x y h q far. c.elsewhere x y (b.elsewhere x y h q far) q (λ k e m. not_taken x y h k e (b.came k m) far);
-  hand = c.hand ∙ b.hand;
+  stays = stays_then b.stays c.stays;
 }
   where
     further : (k : ℕ) → taken_in middle ≤ k → taken_in world ≤ k

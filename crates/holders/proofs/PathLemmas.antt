@@ -91,3 +91,17 @@ reaches_beside x (row_part {all = all} {i = i} {path = path} le h) (further_on {
 pub ways_deeper : {path other : List ℕ} (i j : ℕ) → PartWays path other → PartWays (path ++ i ∷ []) (other ++ j ∷ [])
 ways_deeper i j (here_apart d) = here_apart d
 ways_deeper i j (further_on apart) = further_on (ways_deeper i j apart)
+
+pub has_beside : {w : Value} {path other : List ℕ} (x : Value) → HasPart w path → PartWays path other → HasPart w other → HasPart (put_part w path x) other
+has_beside x whole apart r = elim apart [ ]
+has_beside x (row_part {all = all} {i = i} {path = path} le h) (here_apart {j = j} {other = other} d) (row_part less r) =
+    let new = put_part (nth all i) path x in
+    row_part (subst (λ n. j < n) (sym (count_with all i new)) less) (subst (λ v. HasPart v other) (sym (nth_without all i j new d)) r)
+has_beside x (row_part {all = all} {i = i} {path = path} le h) (further_on {other = other} apart) (row_part less r) =
+    let new = put_part (nth all i) path x in
+    row_part (subst (λ n. i < n) (sym (count_with all i new)) less)
+    (subst (λ v. HasPart v other) (sym (nth_with all i new le)) (has_beside x h apart r))
+
+pub ways_back : {path other : List ℕ} → PartWays path other → PartWays other path
+ways_back (here_apart d) = here_apart (λ e. d (sym e))
+ways_back (further_on w) = further_on (ways_back w)

@@ -14,11 +14,12 @@ use Rattle.holders.specs.Owned.{IsBase, at_place, at_node, in_hand, in_row, in_t
 use Rattle.holders.specs.Sure.{Sure}
 use Rattle.holders.specs.Becoming.{taken_in}
 use Rattle.holders.specs.Becoming.{Turns}
+use Rattle.holders.proofs.Staying.{stays_then, stored_stays, freed_stays, taken_stays, frames_same}
 use Rattle.holders.proofs.HolderCounts.{taken_counts, freed_counts}
 use Rattle.holders.proofs.Bases.{block_filled, block_elsewhere}
 use Rattle.holders.proofs.BaseChanges.{get_last, taken_elsewhere, freed_elsewhere}
 use Rattle.holders.proofs.Sure.{sure_then}
-use Rattle.holders.proofs.Ledger.{stored_hand, freed_hand, same_there, filled_counts, stored_counts, stored_live, freed_live, taken_live}
+use Rattle.holders.proofs.Ledger.{same_there, filled_counts, stored_counts, stored_live, freed_live, taken_live}
 use Rattle.holders.proofs.Owning.{Stay}
 use Rattle.holders.proofs.Guards.{sure_sets, sure_frees, sure_refills}
 use Rattle.holders.proofs.Ending.{Found, found_block, same_number}
@@ -123,7 +124,7 @@ module _ (f : Form) (l : Location) (w : Value) (n bytes : ℕ) (contents : Conte
             grows = omega (arith, stored_length world l.base (put_part (whole_at world l.base) l.path (Handle n None)));
             is = is_put l w world at (Handle n None);
             elsewhere = λ b y h d far. put_elsewhere l w world at (Handle n None) b y h d;
-            hand = stored_hand world l.base (put_part (whole_at world l.base) l.path (Handle n None));
+            stays = stored_stays world (put_part (whole_at world l.base) l.path (Handle n None)) at.base;
           },
           λ others h j. omega (
             arith,
@@ -152,7 +153,8 @@ module _ (f : Form) (l : Location) (w : Value) (n bytes : ℕ) (contents : Conte
         );
         is = is_put l w (taken_world class) (at_taken class) (Handle n (Some (new class)));
         elsewhere = λ b y h d far. held_elsewhere class b y h d;
-        hand = stored_hand (taken_world class) l.base (put_part (whole_at (taken_world class) l.base) l.path (Handle n (Some (new class))));
+        stays = stays_then (taken_stays world class contents)
+            (stored_stays (taken_world class) (put_part (whole_at (taken_world class) l.base) l.path (Handle n (Some (new class)))) (at_taken class).base);
       },
       λ others h j. omega (
         arith,
@@ -226,8 +228,9 @@ module _ (f : Form) (l : Location) (w : Value) (n bytes : ℕ) (contents : Conte
         );
         is = is_put l w (refilled_world world k contents) at_refilled (Handle n (Some k));
         elsewhere = λ b y h d far. kept_elsewhere b y h d (λ q. far k q in_old);
-        hand = stored_hand (refilled_world world k contents) l.base
-            (put_part (whole_at (refilled_world world k contents) l.base) l.path (Handle n (Some k)));
+        stays = stays_then (record { hand = refl; frames = frames_same world.frames })
+            (stored_stays (refilled_world world k contents) (put_part (whole_at (refilled_world world k contents) l.base) l.path (Handle n (Some k)))
+            at_refilled.base);
       },
       λ others h j. omega (
         arith,
@@ -280,8 +283,9 @@ module _ (f : Form) (l : Location) (w : Value) (n bytes : ℕ) (contents : Conte
               );
               is = moved_stays (is_put l w (taken_world class) (at_taken class) (Handle n (Some (new class)))) apart;
               elsewhere = λ b y h d far. moved_stays (held_elsewhere class b y h d) (λ q. far k q in_old);
-              hand = freed_hand (held_world class) k (block_at (held_world class).heap k)
-                  ∙ stored_hand (taken_world class) l.base (put_part (whole_at (taken_world class) l.base) l.path (Handle n (Some (new class))));
+              stays = stays_then (stays_then (taken_stays world class contents)
+                  (stored_stays (taken_world class) (put_part (whole_at (taken_world class) l.base) l.path (Handle n (Some (new class)))) (at_taken class).base))
+                  (freed_stays (held_world class) k (block_at (held_world class).heap k));
             },
             λ others h j. omega (
               arith,

@@ -23,9 +23,10 @@ use Rattle.holders.specs.Becoming.{taken_in, none}
 use Rattle.holders.specs.Becoming.{Strange, Turns}
 use Rattle.holders.specs.Owned.{HasBlocksAlone}
 use Rattle.holders.specs.Walks.{Popped}
+use Rattle.holders.proofs.Staying.{stays_then, stored_stays, frames_same}
 use Rattle.holders.proofs.Bases.{loaded, block_filled}
 use Rattle.holders.proofs.Sure.{sure_then, sure_weaker}
-use Rattle.holders.proofs.Ledger.{stored_hand, stored_counts, stored_live, same_there, filled_counts}
+use Rattle.holders.proofs.Ledger.{stored_counts, stored_live, same_there, filled_counts}
 use Rattle.holders.proofs.Owning.{in_first, in_second, distinct_first, distinct_second, distinct_apart, Stay, each_stays, has_stays, each_from_full}
 use Rattle.holders.proofs.Owning.{each_none}
 use Rattle.holders.proofs.Owning.{has_none}
@@ -232,7 +233,7 @@ set_turns f l w v x new world at e h d apart = (
     grows = omega (arith, stored_length world l.base (put_part (whole_at world l.base) l.path x));
     is = is_put l w world at x;
     elsewhere = λ b y is q far. put_elsewhere l w world at x b y is q;
-    hand = stored_hand world l.base (put_part (whole_at world l.base) l.path x);
+    stays = stored_stays world (put_part (whole_at world l.base) l.path x) at.base;
   },
   λ others is j. omega (
     arith,
@@ -317,7 +318,8 @@ module _ (f : Form) (n k : ℕ) (all : Values) (bs : List ℕ) (l : Location) (w
             is = to_last l.base (put_part w l.path (Handle n (Some k))) (is_put l w world at (Handle n (Some k))) (λ q. apart k q (inl refl))
                 (λ j q z. apart j q (inr (of_rest j z)));
             elsewhere = λ x y h q far. to_last x y (stays_first x y h q) (λ z. far k z (inl refl)) (λ j z i. far j z (inr (of_rest j i)));
-            hand = t.once.hand ∙ stored_hand world l.base (put_part (whole_at world l.base) l.path (Handle n (Some k)));
+            stays = stays_then (stored_stays world (put_part (whole_at world l.base) l.path (Handle n (Some k))) at.base)
+                (stays_then t.once.stays (record { hand = refl; frames = frames_same middle.frames }));
           },
           λ others is. λ j. omega (
             arith,

@@ -13,10 +13,11 @@ use Rattle.holders.specs.Owned.{Apart}
 use Rattle.holders.specs.Sure.{Sure}
 use Rattle.holders.specs.Holders.{held_by}
 use Rattle.holders.specs.Walks.{Ended, KeepsOnce}
+use Rattle.holders.proofs.Staying.{stays_then, stored_stays}
 use Rattle.holders.proofs.Bases.{whole_is, stored_there, stored_elsewhere}
 use Rattle.holders.proofs.Sure.{sure_then, sure_weaker}
 use Rattle.holders.proofs.PathLemmas.{count_with, nth_with, nth_without, part_of_put, put_twice, has_put, put_deeper, put_same}
-use Rattle.holders.proofs.Ledger.{keeps_none, keeps_then, stored_hand, stored_counts, stored_live}
+use Rattle.holders.proofs.Ledger.{keeps_none, keeps_then, stored_counts, stored_live}
 use Rattle.holders.proofs.Owning.{in_first, in_second, distinct_first, distinct_second}
 use Rattle.holders.proofs.Owning.{distinct_apart, Stay, has_stays, each_stays, all_stays, each_same, all_same, from_full, has_none, plain_none, plain_anywhere}
 use Rattle.holders.proofs.Guards.{sure_sees, sure_sets}
@@ -103,8 +104,8 @@ module _ (f : Form) (to from : Location) (w u v0 v : Value) (old new : List ℕ)
       stored_counts first_world k from v0 from_in_first.base from_in_first.part from_in_first.may,
       stored_live first_world k from.base (put_part (whole_at first_world from.base) from.path v0),
     );
-    hand = stored_hand first_world from.base (put_part (whole_at first_world from.base) from.path v0)
-        ∙ stored_hand world to.base (put_part (whole_at world to.base) to.path v);
+    stays = stays_then (stored_stays world (put_part (whole_at world to.base) to.path v) at.base)
+        (stored_stays first_world (put_part (whole_at first_world from.base) from.path v0) from_in_first.base);
   }
 
   -- and then what the second one got ends
@@ -169,7 +170,7 @@ plainly_sunk f to from w u v0 v old new world at at_from e0 e bare h0 h two =
           stored_counts world k to v at.base at.part at.may,
           stored_live world k to.base (put_part (whole_at world to.base) to.path v),
         );
-        hand = stored_hand world to.base (put_part (whole_at world to.base) to.path v);
+        stays = stored_stays world (put_part (whole_at world to.base) to.path v) at.base;
       };
     }))
 

@@ -1,8 +1,9 @@
 -- What is sure of a deed holds where the meaning has carried it out.
 use Rattle.std.proofs.Common.{Bool, true, false, length}
+use Rattle.arc_base.specs.BigStep.{Res, Got, Over, Going, Errs as Wrong, then_do}
 use Rattle.nim_meaning.specs.Heap.{has_room}
 use Rattle.nim_meaning.specs.State.{World, State}
-use Rattle.nim_meaning.specs.Acts.{branch, worked, said, change, stop, ◌>>◌}
+use Rattle.nim_meaning.specs.Acts.{Outcome, On, Out, Does, onward, ◌>>=◌, branch, worked, said, change, stop, ◌>>◌}
 use Rattle.nim_meaning.specs.Deeds.{Deed, Gives, Ends, Errs, Works, Says, Looks, Changes, Takes, changed, with_block, carry}
 use Rattle.nim_program.specs.Traps.{OutOfMemory}
 use Rattle.holders.specs.Sure.{Sure, Answered}
@@ -23,3 +24,15 @@ sure_runs {A} (Takes class contents rest) P s h =
         Answered P (branch b (change (with_block class contents) >> carry (rest (length s.world.heap.blocks))) (stop {A = A} OutOfMemory) s)
     room true h = h
     room false h = tt
+
+-- one thing after another
+pub answered_then : {A B : Type 0} (act : Does A) (rest : A → Does B) (P : A → World → Type 0) (Q : B → World → Type 0) (s : State) → Answered P (act s) →
+    ((x : A) (now : State) → P x now.world → Answered Q (rest x now)) → Answered Q ((act >>= rest) s)
+answered_then {A} {B} act rest P Q s h g = by (act s) h
+  where
+    by : (r : Res State (Outcome A)) → Answered P r → Answered Q (then_do r (onward rest))
+    by (Got (On x) now) h = g x now h
+    by (Got (Out way) now) h = elim h [ ]
+    by (Over status live now) h = tt
+    by (Going now) h = tt
+    by (Wrong now) h = elim h [ ]

@@ -98,14 +98,14 @@ gives_up f v bs world h d =
     (ends f (in_hand world) v v bs (pushed world v) (at_hand world v) refl
     (has_stays world (pushed world v) (λ k x m is. pushed_elsewhere world v is) h) d (λ k e m. no_block (length world.hand) k e))
     (λ u after t. record {
-      hand = popped_hand world after v t.now t.is t.once.hand;
+      stays = record { hand = popped_hand world after v t.now t.is t.once.stays.hand; frames = t.once.stays.frames };
       elsewhere = λ b x is far.
-          popped_stays world after v t.now t.is t.once.hand b x
+          popped_stays world after v t.now t.is t.once.stays.hand b x
           (t.elsewhere b x (pushed_elsewhere world v is) (not_next world b x is) far) (not_next world b x is);
       once = λ others q k. omega (
         arith,
         has_none refl t.has k,
-        popped_once world after v t.now t.is t.once.hand others (t.once.held others (pushed_once others world v q)) k,
+        popped_once world after v t.now t.is t.once.stays.hand others (t.once.held others (pushed_once others world v q)) k,
       );
     })
 
@@ -126,16 +126,16 @@ copy_given f from u v bs world source h =
     subst (λ x. Gives f x [] world (popped after) × KeepsHolders none (λ k. held_by k x) world (popped after)) (sym (loaded after to t.now t.is)) (
       record {
         blocks = t.blocks;
-        has = has_stays after (popped after) (λ k x m is. popped_stays world after (vacant f) t.now t.is t.once.hand (InBlock k) x is
+        has = has_stays after (popped after) (λ k x m is. popped_stays world after (vacant f) t.now t.is t.once.stays.hand (InBlock k) x is
             (λ e. no_block (length world.hand) k (sym e))) t.has;
         distinct = t.distinct;
         came = λ k m. inr (t.fresh k m);
         grows = t.grows;
-        elsewhere = λ b y is. popped_stays world after (vacant f) t.now t.is t.once.hand b y
+        elsewhere = λ b y is. popped_stays world after (vacant f) t.now t.is t.once.stays.hand b y
             (t.elsewhere b y (pushed_elsewhere world (vacant f) is) (not_next world b y is)) (not_next world b y is);
-        hand = popped_hand world after (vacant f) t.now t.is t.once.hand;
+        stays = record { hand = popped_hand world after (vacant f) t.now t.is t.once.stays.hand; frames = t.once.stays.frames };
       },
-      λ others q. popped_once world after (vacant f) t.now t.is t.once.hand others
+      λ others q. popped_once world after (vacant f) t.now t.is t.once.stays.hand others
           (t.once.held others (pushed_once others world (vacant f) (λ k. omega (arith, q k, vacant_none f k)))),
     ))
 
@@ -155,16 +155,16 @@ under_way_gives f v becomes world h =
     (sym (loaded after to t.0.now t.0.is)) (
       record {
         blocks = t.0.blocks;
-        has = has_stays after (popped after) (λ k x m is. popped_stays world after v t.0.now t.0.is t.0.hand (InBlock k) x is
+        has = has_stays after (popped after) (λ k x m is. popped_stays world after v t.0.now t.0.is t.0.stays.hand (InBlock k) x is
             (λ e. no_block (length world.hand) k (sym e))) t.0.has;
         distinct = t.0.distinct;
         came = λ k m. new_one k (t.0.came k m);
         grows = t.0.grows;
-        elsewhere = λ b y is. popped_stays world after v t.0.now t.0.is t.0.hand b y
+        elsewhere = λ b y is. popped_stays world after v t.0.now t.0.is t.0.stays.hand b y
             (t.0.elsewhere b y (pushed_elsewhere world v is) (not_next world b y is) (λ k e m. elim m [ ])) (not_next world b y is);
-        hand = popped_hand world after v t.0.now t.0.is t.0.hand;
+        stays = record { hand = popped_hand world after v t.0.now t.0.is t.0.stays.hand; frames = t.0.stays.frames };
       },
-      λ others q. popped_once world after v t.0.now t.0.is t.0.hand others
+      λ others q. popped_once world after v t.0.now t.0.is t.0.stays.hand others
           (λ k. omega (arith, t.1 others (λ j. omega (arith, pushed_once others world v q j)) k)),
     ))
   where
@@ -191,14 +191,14 @@ assigns_given f to w v0 v old new world at e h0 h clear =
     (sinks f to from w v v0 v old new start (record { base = pushed_elsewhere world v at.base; part = at.part; may = at.may }) (at_hand world v) e refl
     (has_stays world start (λ k x m is. pushed_elsewhere world v is) h0) (has_stays world start (λ k x m is. pushed_elsewhere world v is) h) clear)
     (λ u after t. record {
-      has = has_stays after (popped after) (λ k x m is. popped_stays world after v t.left t.behind t.once.hand (InBlock k) x is
+      has = has_stays after (popped after) (λ k x m is. popped_stays world after v t.left t.behind t.once.stays.hand (InBlock k) x is
           (λ q. no_block (length world.hand) k (sym q))) t.has;
-      there = popped_stays world after v t.left t.behind t.once.hand to.base (put_part w to.path v) t.there clear.two;
-      elsewhere = λ b x is d far. popped_stays world after v t.left t.behind t.once.hand b x
+      there = popped_stays world after v t.left t.behind t.once.stays.hand to.base (put_part w to.path v) t.there clear.two;
+      elsewhere = λ b x is d far. popped_stays world after v t.left t.behind t.once.stays.hand b x
           (t.elsewhere b x (pushed_elsewhere world v is) d (not_next world b x is) far) (not_next world b x is);
       once = λ others q k. omega (
         arith,
         has_none refl t.nothing k,
-        popped_once world after v t.left t.behind t.once.hand others (t.once.held others (pushed_once others world v q)) k,
+        popped_once world after v t.left t.behind t.once.stays.hand others (t.once.held others (pushed_once others world v q)) k,
       );
     })

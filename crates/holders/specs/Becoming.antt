@@ -7,7 +7,7 @@ use Rattle.nim_meaning.specs.State.{World}
 use Rattle.nim_meaning.specs.Heap.{block_at}
 use Rattle.nim_meaning.specs.Kept.{one_if_there}
 use Rattle.holders.specs.Holders.{held_in_world}
-use Rattle.holders.specs.Owned.{IsBase, Full, Has, Elsewhere}
+use Rattle.holders.specs.Owned.{IsBase, Full, Has, Elsewhere, Stays}
 
 -- how many blocks were taken so far
 abbrev pub taken_in : World → ℕ
@@ -23,7 +23,7 @@ pub record Becomes (f : Form) (l : Location) (w : Value) (given old : List ℕ) 
   pub grows : taken_in world ≤ taken_in after
   pub is : IsBase after l.base (put_part w l.path now)
   pub elsewhere : Elsewhere world after l.base old
-  pub hand : length after.hand ≡ length world.hand
+  pub stays : Stays world after
 
 -- A value comes to be, which nobody has yet. All else is as it was.
 pub record Gives (f : Form) (x : Value) (given : List ℕ) (world after : World) : Type 0 where
@@ -33,7 +33,7 @@ pub record Gives (f : Form) (x : Value) (given : List ℕ) (world after : World)
   pub came : (k : ℕ) → Member k blocks → Member k given ⊎ (taken_in world ≤ k)
   pub grows : taken_in world ≤ taken_in after
   pub elsewhere : (b : Base) (y : Value) → IsBase world b y → IsBase after b y
-  pub hand : length after.hand ≡ length world.hand
+  pub stays : Stays world after
 
 -- the blocks given with a value are no others
 abbrev pub Strange : List ℕ → List ℕ → Type 0

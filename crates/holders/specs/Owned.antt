@@ -1,7 +1,7 @@
 -- What stands where in a world, and which blocks a value of a form has: its own, and those of what is in them.
 use Rattle.std.specs.Prelude.{◌≡◌, ◌<◌, ◌≤◌, ℕ, suc, ◌-◌, false, List, [], ◌∷◌, ◌++◌, length, Some, None, slice_get}
 use Rattle.nim_types.specs.Forms.{Form, plain, reference, block, elements, row, parts, resource, wrapped, Forms, no_forms, forms, of_some, hooked, hooked_any}
-use Rattle.nim_meaning.specs.Values.{Value, Number, Handle, Parts, Fixed, Vacant, Values, nth, count, Holds, part, Base, Standing, Waiting, InBlock, InHand}
+use Rattle.nim_meaning.specs.Values.{Value, Number, Handle, Parts, Fixed, Vacant, Values, nth, count, Holds, Stands, part, Base, Standing, Waiting, InBlock, InHand}
 use Rattle.nim_meaning.specs.Values.{Made, Location}
 use Rattle.nim_meaning.specs.Heap.{Characters, Elements, Block, block_at}
 use Rattle.nim_meaning.specs.Marks.{Member, Distinct}
@@ -129,6 +129,29 @@ Apart base bs = (k : ℕ) → base ≡ InBlock k → Member k bs → ⊥
 abbrev pub Elsewhere : (world after : World) → Base → List ℕ → Type 0
 Elsewhere world after base bs =
     (b : Base) (x : Value) → IsBase world b x → (b ≡ base → ⊥) → ((k : ℕ) → b ≡ InBlock k → Member k bs → ⊥) → IsBase after b x
+
+-- a place that is another name for a location
+pub data IsName (frames : List Frame) : (level n : ℕ) → Location → Type 0 where
+  a_name : {level n : ℕ} {l : Location} (frame : Frame) → slice_get frames level ≡ Some frame → frame.first ≤ n →
+      slice_get frame.slots (n - frame.first) ≡ Some (Some (Stands l)) → IsName frames level n l
+
+-- a call is active, with its places
+pub record Active (frames : List Frame) (level first places : ℕ) : Type 0 where
+  pub frame : Frame
+  pub there : slice_get frames level ≡ Some frame
+  pub first_is : frame.first ≡ first
+  pub places_are : length frame.slots ≡ places
+
+-- calls stay active, as many, and names stand for what they did
+pub record FramesStay (frames after : List Frame) : Type 0 where
+  pub names : (level n : ℕ) (l : Location) → IsName frames level n l → IsName after level n l
+  pub active : (level first places : ℕ) → Active frames level first places → Active after level first places
+  pub count : length after ≡ length frames
+
+-- and as many values are under way
+pub record Stays (world after : World) : Type 0 where
+  pub hand : length after.hand ≡ length world.hand
+  pub frames : FramesStay world.frames after.frames
 
 -- ---- what has its blocks by itself
 

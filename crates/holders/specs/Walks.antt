@@ -5,13 +5,13 @@ use Rattle.nim_meaning.specs.Values.{Value, Base, InBlock, Location, put_part}
 use Rattle.nim_meaning.specs.Marks.{Member, Distinct}
 use Rattle.nim_meaning.specs.State.{World}
 use Rattle.holders.specs.Holders.{held_by}
-use Rattle.holders.specs.Owned.{IsBase, Full, Gaps, Has, Elsewhere}
+use Rattle.holders.specs.Owned.{IsBase, Full, Gaps, Has, Elsewhere, Stays}
 use Rattle.holders.specs.Becoming.{HeldOnce, none, Turns}
 
 -- nothing was given away or got lost, and as many values are under way
 pub record KeepsOnce (world after : World) : Type 0 where
   pub held : (others : ℕ → ℕ) → HeldOnce others world → HeldOnce others after
-  pub hand : length after.hand ≡ length world.hand
+  pub stays : Stays world after
 
 -- what is left has nothing
 pub record Ended (f : Form) (l : Location) (w : Value) (bs : List ℕ) (world after : World) : Type 0 where
@@ -23,7 +23,7 @@ pub record Ended (f : Form) (l : Location) (w : Value) (bs : List ℕ) (world af
 
 -- a value that no place has ends
 pub record GivenUp (v : Value) (bs : List ℕ) (world after : World) : Type 0 where
-  pub hand : length after.hand ≡ length world.hand
+  pub stays : Stays world after
   pub elsewhere : (b : Base) (x : Value) → IsBase world b x → ((k : ℕ) → b ≡ InBlock k → Member k bs → ⊥) → IsBase after b x
   pub once : (others : ℕ → ℕ) → HeldOnce (λ k. held_by k v + others k) world → HeldOnce others after
 

@@ -21,7 +21,7 @@ later n number params vars lines = moved n (routine number params vars lines)
 
 -- what a state has beside memory, variables and lines
 abbrev pub within : WordState → Within
-within s = record { input = s.input; proc = s.frame.proc; base = s.frame.base; awaits = s.frame.awaits; callers = s.callers }
+within s = record { units = s.units; input = s.input; proc = s.frame.proc; base = s.frame.base; awaits = s.frame.awaits; callers = s.callers }
 
 -- the caller's frame
 abbrev pub caller_of : WordState → (to : ℕ) → List WordInstr → WordFrame
@@ -30,6 +30,7 @@ caller_of s to rest = record { proc = s.frame.proc; left = rest; vars = s.frame.
 -- what the routine's call has
 abbrev pub inside : WordState → WordProc → (to : ℕ) → List WordInstr → Within
 inside s p to rest = record {
+  units = s.units;
   input = s.input;
   proc = p;
   base = added s.frame.base s.frame.proc.room;

@@ -3,8 +3,8 @@
 -- A variable is alive at lines where a way from them comes to a line that reads it, over lines that don't set it.
 use Rattle.std.specs.Prelude.{◌≡◌, ℕ, true, false, List, ◌∷◌, ◌⊎◌, Option, Some, None}
 use Rattle.word_code.specs.declared.word.WordInstr.{WordInstr}
-use Rattle.word_code.specs.declared.word.WordInstr.TheVariants.{Label, Constant, Copy, Compute, Sum, Place, Datum, Load, Store, Jump, Branch}
-use Rattle.word_code.specs.declared.word.WordInstr.TheVariants.{Argument, Call, Return, Read, Write, Exit}
+use Rattle.word_code.specs.declared.word.WordInstr.TheVariants.{Label, Spend, SpendIf, Constant, Copy, Compute, Sum, Place, Datum, Load, Store, Jump}
+use Rattle.word_code.specs.declared.word.WordInstr.TheVariants.{Branch, Argument, Call, Return, Read, Write, Exit}
 use Rattle.word_code.specs.Words.{from_label}
 use Rattle.reg_scan.specs.declared.effects.Effect.{Effect}
 
@@ -15,6 +15,8 @@ passing first second to = record { first = first; second = second; to = to; labe
 -- what a line does to variables, and where control goes from it
 abbrev pub effect_of : WordInstr → Effect
 effect_of (Label name) = passing None None None
+effect_of Spend = passing None None None
+effect_of (SpendIf test left right) = passing (Some left) (Some right) None
 effect_of (Constant to value) = passing None None (Some to)
 effect_of (Copy to from) = passing (Some from) None (Some to)
 effect_of (Compute to operation left right) = passing (Some left) (Some right) (Some to)

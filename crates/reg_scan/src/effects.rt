@@ -40,6 +40,8 @@ pub(crate) fn effect_of(line: WordInstr) -> Effect
 {
     match line {
         WordInstr::Label { .. } => passing(None, None, None),
+        WordInstr::Spend => passing(None, None, None),
+        WordInstr::SpendIf { left, right, .. } => passing(Some(left), Some(right), None),
         WordInstr::Constant { to, .. } => passing(None, None, Some(to)),
         WordInstr::Copy { to, from } => passing(Some(from), None, Some(to)),
         WordInstr::Compute {

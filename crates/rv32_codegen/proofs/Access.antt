@@ -34,7 +34,7 @@ use Rattle.word_code.specs.declared.word.WordInstr.TheVariants as word
 use Rattle.word_code.specs.Memory.{Memory, as_state, memory_of, number_at, may_put, bytes_at, may_fill}
 use Rattle.reg_scan.specs.Alive.{Alive, read_by}
 use Rattle.reg_scan.specs.Homes.{home_of}
-use Rattle.word_code.specs.Words.{put as put_var, WordState, scene_of, loads, shows, on}
+use Rattle.word_code.specs.Words.{put as put_var, WordState, scene_of, settled, does as word_does, loads, shows, on}
 use Rattle.rv32_codegen.specs.Code.{does, save, fetch, store, stream_number, move, give, is_call_or_label, only_calls, left_of, right_of, argument_at}
 use Rattle.rv32_codegen.specs.Code.{move_range}
 use Rattle.rv32_codegen.proofs.StackWords.{words, word_in, put_word, length-put_word, word_put_same, word_put_other}
@@ -72,6 +72,7 @@ module _ (g : Setting) where
     leaf = λ leaf some. same 1 refl ∙ f.leaf leaf (returns some);
     deep = f.deep;
     roomy = subst (λ n. rooms (t.frame ∷ t.callers) ≤ n) (sym (places_kept regs t.memory ws a bytes may)) f.roomy;
+    units = f.units;
   }
 
   loaded_sim : (bytes : List ℕ) (t : WordState) (r : LabelRun) (rest : List WordInstr) (to : ℕ) (o : Result ℕ FaultKind) →
@@ -206,6 +207,7 @@ module _ (g : Setting) where
         leaf = λ leaf more. same 1 refl ∙ f.leaf leaf (and_right (is_call_or_label l) (only_calls rest) more) ∙ sym (past j (omega arith));
         deep = f.deep;
         roomy = f.roomy;
+        units = f.units;
       }
     where
       given_one : (x w : ℕ) → put_var t.frame.given i a x ≡ Some w → (x ≡ i) ⊎ (x ≡ i → ⊥) → MOST_ARGUMENTS ≤ j →
@@ -387,9 +389,17 @@ module _ (g : Setting) where
         inl (omega arith),
       ))))
 
-  pub read_sim : (to address len : ℕ) → Line_sim g (word.Read to address len)
+  -- of a state with as many lines left
+  as_many : (r : LabelRun) (t t' u : WordState) → length t'.frame.left ≡ length t.frame.left → Sim g r t' (on u) → Sim g r t (on u)
+  as_many r t t' u same (s, least, steps, rel, inl some) = (s, least, steps, rel, inl some)
+  as_many r t t' u same (s, least, steps, rel, inr less) = (s, least, steps, rel, inr (subst (λ n. length u.frame.left < n) same less))
+
+  pub read_sim : (to address len : ℕ) (t : WordState) (rest : List WordInstr) (regs ws : List ℕ) (j : ℕ)
+      (f : True g t (word.Read to address len ∷ rest) regs ws j) → t.frame.left ≡ word.Read to address len ∷ rest
+      → Sim g (Here g t (word.Read to address len) rest regs ws j f) t
+      (settled g.live g.procs ws t rest (word_does (scene_of t) (word.Read to address len)))
   unfolding memory_true
-  read_sim to address len t rest regs ws j f =
+  read_sim to address len t rest regs ws j f lines =
       let l = word.Read to address len in
       let p = t.frame.proc in
       let m = t.memory in
@@ -424,9 +434,10 @@ module _ (g : Setting) where
       let t' = record (at_lines t (l ∷ rest)) { memory = m'; input = left } in
       let alike : Alike regs last = λ r kept. z.other r (kept_apart r 10 kept refl) ∙ q.alike r kept in
       let f' = memory_true t (l ∷ rest) (l ∷ rest) regs last ws j f a bytes left may f.sits z.kept alike (λ v alive. alive) (λ more. more) in
-      sets_from g t' l rest last ws j f' r 5 9 to count last (record { goes = refl; is = refl }) (ltb-true to p.vars named.0) (omega arith)
+      as_many r t t' (setting t' rest to count) (sym (ap length lines))
+      (sets_from g t' l rest last ws j f' r 5 9 to count last (record { goes = refl; is = refl }) (ltb-true to p.vars named.0) (omega arith)
       (λ r kept ne. refl) f'.kept 10 (omega arith) (λ e. omega (arith, e))
-      (then_goes g.live (whole g) g.at 4 1 8 1 r mid next x.1 reading) z.same)
+      (then_goes g.live (whole g) g.at 4 1 8 1 r mid next x.1 reading) z.same))
       (λ h. tt)))
 
   -- steps, and then the end

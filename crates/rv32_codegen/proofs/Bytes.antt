@@ -63,6 +63,8 @@ module _ (n : ℕ) (h : Homes) (p : WordProc) (r : Reaches n h p) where
 
   line_bytes : (l : WordInstr) (k : List LabelLine) → size all_far (line_code h p l k) ≤ 12 + 12 * n + size all_far k
   line_bytes (word.Label name) k = omega arith
+  line_bytes word.Spend k = omega arith
+  line_bytes (word.SpendIf test left right) k = omega arith
   line_bytes (word.Constant to value) k = omega (arith, keep_bytes 2 to (constant (target h to) value) k (few_constant (target h to) value))
   line_bytes (word.Copy to from) k = omega (arith, keep_bytes n to (move (target h to) (home_of h from)) k (few_move (target h to) from))
   line_bytes (word.Compute to o left right) k =

@@ -162,6 +162,7 @@ module _ (g : Setting) where
 
   called_state : Memory → WordState → List WordInstr → ℕ → WordProc → WordState
   called_state m t rest to q = record {
+    units = t.units;
     memory = m;
     input = t.input;
     frame = record { proc = q; left = q.lines; vars = params_of q t.frame.given; given = no_words; base = places_end t.frame; awaits = 0 };
@@ -359,6 +360,7 @@ module _ (g : Setting) where
           leaf = λ leaf more. one ∙ sym here;
           deep = room.deep;
           roomy = omega (arith, roomy, grows);
+          units = f.units;
         },
         refl,
       )

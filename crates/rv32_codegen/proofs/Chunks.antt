@@ -112,6 +112,8 @@ keep_long h n to is k few = omega (arith, few, length-does is (keep h to k), len
 
 pub line_long : (h : Homes) (p : WordProc) (l : WordInstr) (k : List LabelLine) → length (line_code h p l k) ≤ 12 + length k
 line_long h p (word.Label name) k = omega arith
+line_long h p word.Spend k = omega arith
+line_long h p (word.SpendIf test left right) k = omega arith
 line_long h p (word.Constant to value) k = omega (arith, keep_long h 2 to (constant (target h to) value) k (few_constant (target h to) value))
 line_long h p (word.Copy to from) k = omega (arith, keep_long h 3 to (move (target h to) (home_of h from)) k (few_move (target h to) (home_of h from)))
 line_long h p (word.Compute to o left right) k =
@@ -198,6 +200,8 @@ leave_append h p xs k =
 
 pub line_split : (h : Homes) (p : WordProc) (l : WordInstr) (k : List LabelLine) → line_code h p l k ≡ line_code h p l [] ++ k
 line_split h p (word.Label name) k = refl
+line_split h p word.Spend k = refl
+line_split h p (word.SpendIf test left right) k = refl
 line_split h p (word.Constant to value) k = does_two (constant (target h to) value) (settle (home_of h to)) k
 line_split h p (word.Copy to from) k = does_two (move (target h to) (home_of h from)) (settle (home_of h to)) k
 line_split h p (word.Compute to o left right) k =
@@ -299,6 +303,8 @@ pub line_look : (name : ℕ) (h : Homes) (p : WordProc) (l : WordInstr) (k : Lis
 line_look name h p (word.Label other) k =
     let own : (p.number == p.number) ≡ true = eq-eqb p.number p.number refl in
     ap (λ b. if b && (other == name) then Some (Label (Inner p.number other) None ∷ k) else from_label (Inner p.number name) k) own
+line_look name h p word.Spend k = refl
+line_look name h p (word.SpendIf test left right) k = refl
 line_look name h p (word.Constant to value) k = skip_does _ (constant (target h to) value) _ ∙ skip_does _ (settle (home_of h to)) k
 line_look name h p (word.Copy to from) k = skip_does _ (move (target h to) (home_of h from)) _ ∙ skip_does _ (settle (home_of h to)) k
 line_look name h p (word.Compute to o left right) k =
@@ -350,6 +356,8 @@ own_two n a b k g = own_does n a (does b k) (own_does n b k g)
 
 own_line : (h : Homes) (p : WordProc) (l : WordInstr) → AllOwn p.number (line_code h p l [])
 own_line h p (word.Label name) = (refl, tt)
+own_line h p word.Spend = tt
+own_line h p (word.SpendIf test left right) = tt
 own_line h p (word.Constant to value) = own_two _ (constant (target h to) value) (settle (home_of h to)) [] tt
 own_line h p (word.Copy to from) = own_two _ (move (target h to) (home_of h from)) (settle (home_of h to)) [] tt
 own_line h p (word.Compute to o left right) =

@@ -1,6 +1,6 @@
 -- The label code of word code does what the word code does, where new places have the bytes that the machine's stack has there.
 use Rattle.std.proofs.Common.{◌≡◌, ℕ, zero, suc, ◌+◌, ◌*◌, ◌≤◌, inl, inr, List, [], ◌∷◌, ◌++◌}
-use Rattle.std.proofs.Common.{Option, Some, None, refl, sym, ap, subst, ◌∙◌, arith, append-nil, add_assoc}
+use Rattle.std.proofs.Common.{Option, Some, None, refl, sym, ap, subst, ◌∙◌, arith, append-nil, add_assoc, length}
 use Rattle.std.specs.Prelude.{replicate}
 use Rattle.arc_base.specs.Event.{Event}
 use Rattle.arc_base.specs.Behaviour.{Live, Ended, Faulted, Agrees, Sound, Behaviour}
@@ -81,7 +81,7 @@ module _ (g : Setting) where
 
   arrive : (start : Pair) (r s : LabelRun) (n : ℕ) (t : WordState) (k : ℕ) (x : Next Event WordState) →
       Steps (step g.live (whole g) g.at) k r [] 16 s → HasWork x → (h : Sim g s t x) → pair_at start (suc n) ≡ next_pair s t x h →
-      Does (step g.live (whole g) g.at) (Arrives start) (λ _. 0) 32 r (n, t) (numbered n x)
+      Does (step g.live (whole g) g.at) (Arrives start) (λ x. length x.1.frame.left) 32 r (n, t) (numbered n x)
   unfolding Arrives
   arrive start r s n t k (Goes es w t') ran some (s', least, st, rel, inl pos) at =
       let all = steps_on (step g.live (whole g) g.at) k least 16 (16 * w) r s s' [] es ran st in (
@@ -91,19 +91,27 @@ module _ (g : Setting) where
         (s', 0, steps_none (step g.live (whole g) g.at) s' 16, rel, at),
         inl (omega (arith, pos)),
       )
-  arrive start r s n t k (Goes es w t') ran some (s', least, st, rel, inr less) at = absurd (omega (arith, less))
+  arrive start r s n t k (Goes es w t') ran some (s', least, st, rel, inr less) at =
+      let all = steps_on (step g.live (whole g) g.at) k least 16 (16 * w) r s s' [] es ran st in (
+        s',
+        k + least,
+        record { work = all.work; within = omega (arith, all.within, some); by = all.by },
+        (s', 0, steps_none (step g.live (whole g) g.at) s' 16, rel, at),
+        inr less,
+      )
   arrive start r s n t k (Ends es w status live) ran some st at = stops_after k r s es w status live some ran st
   arrive start r s n t k Faults ran some st at = tt
   arrive start r s n t k Errs ran some st at = tt
 
   arrives_on : (start : Pair) (r : LabelRun) (x : ℕ × WordState) → Arrives start r x →
-      Does (step g.live (whole g) g.at) (Arrives start) (λ _. 0) 32 r x (step_of g.live g.procs (fresh_of start) x)
+      Does (step g.live (whole g) g.at) (Arrives start) (λ x. length x.1.frame.left) 32 r x (step_of g.live g.procs (fresh_of start) x)
   unfolding Arrives fresh_of
   arrives_on start r (n, t) (s, k, ran, rel, at) =
       let next = words.step g.live g.procs rel.ws t in
       let gift : fresh_of start n ≡ rel.ws = ap behind_places at in
-      subst (λ bytes. Does (step g.live (whole g) g.at) (Arrives start) (λ _. 0) 32 r (n, t) (numbered n (words.step g.live g.procs bytes t))) (sym gift)
-      (arrive start r s n t k next ran (works g rel.ws t) (all_sim g s t rel) (ap pair_after at))
+      subst (λ bytes. Does (step g.live (whole g) g.at) (Arrives start) (λ x. length x.1.frame.left) 32 r (n, t)
+      (numbered n (words.step g.live g.procs bytes t))) (sym gift)
+      (arrive start r s n t k next ran (works g rel.ws t rel.facts.units) (all_sim g s t rel) (ap pair_after at))
 
   -- ---- the whole
 
@@ -129,6 +137,7 @@ module _ (g : Setting) where
       first_same : first g own heap stack input room q tail found ≡ high_start
       unfolding words.start
       first_same = ap (λ l. record {
+        units = None;
         memory = record {
           statics = data_of heap stack own;
           heap = replicate heap 0;
@@ -158,9 +167,9 @@ module _ (g : Setting) where
 
       followed : Sound (high_meaning (fresh_of start)) → Follows (fresh_of start)
       followed ok = record {
-        agrees = agrees_by_simulation (step g.live (whole g) g.at) (step_of g.live g.procs (fresh_of start)) (Arrives start) (λ _. 0) 32
+        agrees = agrees_by_simulation (step g.live (whole g) g.at) (step_of g.live g.procs (fresh_of start)) (Arrives start) (λ x. length x.1.frame.left) 32
             (arrives_on start) _ _ start_arrives ok;
-        paced = paced_by_simulation (step g.live (whole g) g.at) (step_of g.live g.procs (fresh_of start)) (Arrives start) (λ _. 0) 32
+        paced = paced_by_simulation (step g.live (whole g) g.at) (step_of g.live g.procs (fresh_of start)) (Arrives start) (λ x. length x.1.frame.left) 32
             (arrives_on start) _ _ start_arrives ok;
       }
 
@@ -170,6 +179,7 @@ module _ (g : Setting) where
     no_start fresh e = ap (λ l. (run (step_of g.live g.procs fresh) 1 (
       0,
       record {
+        units = None;
         memory = record {
           statics = data_of heap stack own;
           heap = replicate heap 0;

@@ -1,6 +1,6 @@
 -- Word code's calls, and their frames in the machine's stack, in the bytes behind the places.
 use Rattle.std.proofs.Common.{◌≡◌, ◌≢◌, ℕ, suc, ◌+◌, ◌-◌, ◌*◌, ◌/◌, ◌%◌, ◌^◌, ◌<◌, ◌≤◌, ◌⊎◌, inl, inr}
-use Rattle.std.proofs.Common.{List, [], ◌∷◌, ◌++◌, length, get_or, Some, true, refl}
+use Rattle.std.proofs.Common.{List, [], ◌∷◌, ◌++◌, length, get_or, Some, None, true, refl}
 use Rattle.std.proofs.Common.{sym, ap, subst, ◌∙◌, arith, append_assoc}
 use Rattle.std.specs.Prelude.{◌==◌, false}
 use Rattle.std.proofs.lemmas.Bool.{cases_eq, cases_Bool, eq-eqb, ne_eqb, and_parts, cond-true, cond-false}
@@ -325,6 +325,7 @@ module _ (lay : Layout) where
 
       -- what is true of word code's state and the words of frames, where the running call's frame begins at word j
       pub record Facts (t : WordState) (lines : List WordInstr) (regs ws : List ℕ) (j : ℕ) : Type 0 where
+        pub units : t.units ≡ None
         pub fits : Fits t.memory ws
         pub kept : Regs regs (word_place t.memory j) (places_end t.frame)
         pub sits : Sits t.frame.proc lines
@@ -423,4 +424,4 @@ module _ (g : Setting) where
 
   -- label code does what comes of a line
   abbrev pub Sim : LabelRun → WordState → Next Event WordState → Type 0
-  Sim r t x = Does (step g.live whole g.at) Rel (λ _. 0) 16 r t x
+  Sim r t x = Does (step g.live whole g.at) Rel (λ t. length t.frame.left) 16 r t x

@@ -289,6 +289,8 @@ module _ (h : Homes) (p : WordProc) (good : (v : ℕ) → IsApart (home_of h v))
 
   own_line : (l : WordInstr) (k : List LabelLine) → Own k → Own (line_code h p l k)
   own_line (word.Label name) k g = labelled g
+  own_line word.Spend k g = g
+  own_line (word.SpendIf test left right) k g = g
   own_line (word.Constant to value) k g =
       own_does (constant (target h to) value) _ (on_constant (target h to) value (target_apart to)) (own_keep to k g)
   own_line (word.Copy to from) k g =

@@ -4,7 +4,7 @@ use Rattle.std.proofs.Common.{◌∷◌, length, get_or, Bool, true, false}
 use Rattle.std.proofs.Common.{Option, Some, None, refl, sym, ap, subst, ◌∙◌, arith}
 use Rattle.std.specs.Prelude.{◌&&◌, nat_lt, if◌then◌else◌}
 use Rattle.std.proofs.lemmas.Bool.{and_parts, and_right, ltb-true}
-use Rattle.arc_base.proofs.ForCallers.{steps_one}
+use Rattle.arc_base.proofs.ForCallers.{steps_one, steps_none}
 use Rattle.rv32_isa.specs.declared.label.LabelLine.{LabelLine}
 use Rattle.rv32_isa.specs.declared.label.LabelLine.TheVariants.{Do}
 use Rattle.rv32_isa.specs.Values.{added}
@@ -17,7 +17,8 @@ use Rattle.word_code.specs.declared.word.WordOperation.TheVariants as operation
 use Rattle.word_code.specs.declared.word.WordInstr.{WordInstr}
 use Rattle.word_code.specs.declared.word.WordInstr.TheVariants as word
 use Rattle.word_code.specs.Memory.{Memory}
-use Rattle.word_code.specs.Words.{put as put_var, WordState, computed, WordDid, scene_of, onward, using, on, settled}
+use Rattle.word_code.specs.declared.word.Test.{Test}
+use Rattle.word_code.specs.Words.{put as put_var, holds, WordState, computed, WordDid, scene_of, onward, using, on, settled, spent}
 use Rattle.word_code.specs.Words.{does as word_does}
 use Rattle.word_code.specs.Words.{are_named}
 use Rattle.reg_scan.specs.declared.homes.Home.{Home}
@@ -225,6 +226,7 @@ module _ (g : Setting) where
             ∙ sym (saved_outside ws j (size h) inside j home value there (inl (omega arith)));
         deep = f.deep;
         roomy = f.roomy;
+        units = f.units;
       }
 
   -- registers that lines keep, but the one that is computed into, are as they were, and others still
@@ -294,6 +296,7 @@ module _ (g : Setting) where
     leaf = λ leaf some. same 1 refl ∙ f.leaf leaf (returns some);
     deep = f.deep;
     roomy = f.roomy;
+    units = f.units;
   }
 
   -- a line from which control goes on to the next one, and which sets nothing
@@ -319,6 +322,61 @@ module _ (g : Setting) where
             (λ v lives. passes_alive l t.frame.proc.lines rest v (record { goes = refl; none = refl }) lives) (λ more. more);
         is = refl;
       })
+
+  -- no instruction stands for a unit that is spent
+  pub spend_sim : (t : WordState) (rest : List WordInstr) (regs ws : List ℕ) (j : ℕ) (f : True g t (word.Spend ∷ rest) regs ws j)
+      → t.frame.left ≡ word.Spend ∷ rest
+      → Sim g (Here t word.Spend rest regs ws j f) t (settled g.live g.procs ws t rest (word_does (scene_of t) word.Spend))
+  unfolding same_true
+  spend_sim t rest regs ws j f e =
+      let k = Behind t word.Spend rest regs ws j f in
+      let long : length t.frame.left ≡ suc (length rest) = ap length e in
+      let less : length rest < length t.frame.left = omega (arith, long) in
+      subst (λ o. Sim g (Here t word.Spend rest regs ws j f) t (spent o (at_lines t rest) t)) (sym f.units) (
+        run_at regs t.memory ws t.input k,
+        0,
+        steps_none (step g.live (whole g) g.at) (run_at regs t.memory ws t.input k) 16,
+        record {
+          regs = regs;
+          ws = ws;
+          j = j;
+          facts = same_true t (word.Spend ∷ rest) rest regs regs ws j f (sits_next g.lay g.procs t.frame.proc word.Spend rest f.sits) f.kept (alike_refl regs)
+              (λ v lives. passes_alive word.Spend t.frame.proc.lines rest v (record { goes = refl; none = refl }) lives) (λ more. refl);
+          is = refl;
+        },
+        inr less,
+      )
+
+  -- nor for one that may be
+  pub spend_if_sim : (test : Test) (left right : ℕ) (t : WordState) (rest : List WordInstr) (regs ws : List ℕ) (j : ℕ)
+      (f : True g t (word.SpendIf test left right ∷ rest) regs ws j) → t.frame.left ≡ word.SpendIf test left right ∷ rest
+      → Sim g (Here t (word.SpendIf test left right) rest regs ws j f) t
+      (settled g.live g.procs ws t rest (word_does (scene_of t) (word.SpendIf test left right)))
+  unfolding same_true
+  spend_if_sim test left right t rest regs ws j f e =
+      let l = word.SpendIf test left right in
+      let k = Behind t l rest regs ws j f in
+      let r = Here t l rest regs ws j f in
+      let long : length t.frame.left ≡ suc (length rest) = ap length e in
+      let less : length rest < length t.frame.left = omega (arith, long) in
+      let stays : Sim g r t (on (at_lines t rest)) = (
+        run_at regs t.memory ws t.input k,
+        0,
+        steps_none (step g.live (whole g) g.at) (run_at regs t.memory ws t.input k) 16,
+        record {
+          regs = regs;
+          ws = ws;
+          j = j;
+          facts = same_true t (l ∷ rest) rest regs regs ws j f (sits_next g.lay g.procs t.frame.proc l rest f.sits) f.kept (alike_refl regs)
+              (λ v lives. passes_alive l t.frame.proc.lines rest v (record { goes = refl; none = refl }) lives) (λ more. refl);
+          is = refl;
+        },
+        inr less,
+      ) in
+      using_sim ws r t rest (t.frame.vars left) _ (λ a here.
+      using_sim ws r t rest (t.frame.vars right) _ (λ b there.
+      if_sim ws r t rest (holds test a b) _ _
+      (λ h. subst (λ o. Sim g r t (spent o (at_lines t rest) t)) (sym f.units) stays) (λ h. stays)))
 
   -- behind the front of a line, what puts a word to its home and what follows
   pub keep_quiet : (t : WordState) (l : WordInstr) (rest : List WordInstr) (regs ws : List ℕ) (j : ℕ) (f : True g t (l ∷ rest) regs ws j) (to : ℕ) →

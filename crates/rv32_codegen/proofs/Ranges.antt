@@ -172,6 +172,8 @@ module _ (h : Homes) (good : (v : ℕ) → IsSmall (home_of h v)) where
 
   fields_line : (p : WordProc) (l : WordInstr) (k : List LabelLine) → AreLines k → AreLines (line_code h p l k)
   fields_line p (word.Label name) k g = (tt, g)
+  fields_line p word.Spend k g = g
+  fields_line p (word.SpendIf test left right) k g = g
   fields_line p (word.Constant to value) k g =
       fields_does (constant (target h to) value) _ (in_constant (target h to) value (small_target to)) (fields_keep to k g)
   fields_line p (word.Copy to from) k g =

@@ -148,6 +148,7 @@ module _ (g : Setting) where
         deep = subst (λ i. 4 * MOST_ARGUMENTS + (g.need c.proc + g.total * (most_calls - counted (c ∷ cs))) ≤ i)
             (let s : 4 * n + (0 + room) ≡ 4 * k = omega (arith, bytes) in s) x.deep;
         roomy = omega (arith, roomy, less);
+        units = f.units;
       }
     where
       at_frame : (n d s : ℕ) → (d ≡ 0) ⊎ (s ≤ d) → (n + d ≤ n) ⊎ (n + s ≤ n + d)

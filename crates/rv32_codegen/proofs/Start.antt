@@ -31,7 +31,8 @@ use Rattle.word_code.specs.declared.word.WordProc.{WordProc}
 use Rattle.word_code.specs.Memory.{Memory, data_of}
 use Rattle.word_code.specs.Words.{WordFrame, WordState, no_words, most_calls, from_proc, from_label as from_word_label, first_of, is_counted}
 use Rattle.word_code.specs.Words.{is_full}
-use Rattle.word_code.specs.Words.{WordScene, WordDid, Passes, Leaps, Calls, Returns, Exits, Fails, scene_of, does as word_does, jumped, entered, returned}
+use Rattle.word_code.specs.Words.{WordScene, WordDid, Passes, Spends, Leaps, Calls, Returns, Exits, Fails, scene_of, onward, spent, does as word_does, jumped}
+use Rattle.word_code.specs.Words.{entered, returned}
 use Rattle.word_code.specs.Words.{settled}
 use Rattle.word_code.specs.Words.{step_lines}
 use Rattle.word_code.specs.Words as words
@@ -41,7 +42,7 @@ use Rattle.rv32_codegen.proofs.Machine.{state_of, run_at, Fits, word_place, put_
 use Rattle.rv32_codegen.proofs.Chunks.{quiet_entry}
 use Rattle.rv32_codegen.proofs.Lookups.{procs_code, behind, none_some, number_is, code_from, entry_is}
 use Rattle.rv32_codegen.proofs.Frames.{size, IsLaid, code_here, Setting, whole, True, Rel, Sim}
-use Rattle.rv32_codegen.proofs.LineRuns.{Line_sim, label_sim, constant_sim, datum_sim, copy_sim, compute_sim, sum_sim, place_sim}
+use Rattle.rv32_codegen.proofs.LineRuns.{spend_sim, spend_if_sim, label_sim, constant_sim, datum_sim, copy_sim, compute_sim, sum_sim, place_sim}
 use Rattle.rv32_codegen.proofs.JumpRuns.{jump_sim, branch_sim}
 use Rattle.rv32_codegen.proofs.Access.{load_sim, store_sim, argument_sim, write_sim, read_sim, exit_sim}
 use Rattle.rv32_codegen.proofs.Calls.{seen_is, enters, call_sim}
@@ -80,49 +81,54 @@ zeros_split a b = sym (replicate-append-replicate a b 0)
 -- ---- any line
 
 module _ (g : Setting) where
-  works_settled : (bytes : List ℕ) (t : WordState) (rest : List WordInstr) (d : WordDid) → HasWork (settled g.live g.procs bytes t rest d)
-  works_settled bytes t rest (Passes shown x) = omega arith
-  works_settled bytes t rest (Leaps name x) = works_jumped t x (from_word_label name t.frame.proc.lines)
-  works_settled bytes t rest (Calls to callee x) = works_entered bytes t rest x to (from_proc callee g.procs)
-  works_settled bytes t rest (Returns word) = works_returned t word t.callers
-  works_settled bytes t rest (Exits status) = omega arith
-  works_settled bytes t rest Fails = tt
+  works_settled : (bytes : List ℕ) (t : WordState) (rest : List WordInstr) (d : WordDid) → t.units ≡ None → HasWork (settled g.live g.procs bytes t rest d)
+  works_settled bytes t rest (Passes shown x) free = omega arith
+  works_settled bytes t rest (Spends x) free = subst (λ o. HasWork (spent o (onward t rest x) t)) (sym free) (omega arith)
+  works_settled bytes t rest (Leaps name x) free = works_jumped t x (from_word_label name t.frame.proc.lines)
+  works_settled bytes t rest (Calls to callee x) free = works_entered bytes t rest x to (from_proc callee g.procs)
+  works_settled bytes t rest (Returns word) free = works_returned t word t.callers
+  works_settled bytes t rest (Exits status) free = omega arith
+  works_settled bytes t rest Fails free = tt
 
-  works_lines : (bytes : List ℕ) (t : WordState) (lines : List WordInstr) → HasWork (step_lines g.live g.procs bytes t lines)
-  works_lines bytes t [] = tt
-  works_lines bytes t (l ∷ rest) = works_settled bytes t rest (word_does (scene_of t) l)
+  works_lines : (bytes : List ℕ) (t : WordState) (lines : List WordInstr) → t.units ≡ None → HasWork (step_lines g.live g.procs bytes t lines)
+  works_lines bytes t [] free = tt
+  works_lines bytes t (l ∷ rest) free = works_settled bytes t rest (word_does (scene_of t) l) free
 
-  pub works : (bytes : List ℕ) (t : WordState) → HasWork (words.step g.live g.procs bytes t)
-  works bytes t = works_lines bytes t t.frame.left
+  pub works : (bytes : List ℕ) (t : WordState) → t.units ≡ None → HasWork (words.step g.live g.procs bytes t)
+  works bytes t free = works_lines bytes t t.frame.left free
 
-  line_sim : (l : WordInstr) → Line_sim g l
-  line_sim (word.Label name) = label_sim g name
-  line_sim (word.Constant to value) = constant_sim g to value
-  line_sim (word.Copy to from) = copy_sim g to from
-  line_sim (word.Compute to o left right) = compute_sim g to o left right
-  line_sim (word.Sum to from value) = sum_sim g to from value
-  line_sim (word.Place to a) = place_sim g to a
-  line_sim (word.Datum to a) = datum_sim g to a
-  line_sim (word.Load to address s) = load_sim g to address s
-  line_sim (word.Store address from s) = store_sim g address from s
-  line_sim (word.Jump to) = jump_sim g to
-  line_sim (word.Branch test left right to) = branch_sim g test left right to
-  line_sim (word.Argument index from) = argument_sim g index from
-  line_sim (word.Call to callee) = call_sim g to callee
-  line_sim (word.Return from) = return_sim g from
-  line_sim (word.Read to address len) = read_sim g to address len
-  line_sim (word.Write stream address len) = write_sim g stream address len
-  line_sim (word.Exit status) = exit_sim g status
+  line_sim : (l : WordInstr) (t : WordState) (rest : List WordInstr) (regs ws : List ℕ) (j : ℕ) (f : True g t (l ∷ rest) regs ws j)
+      → t.frame.left ≡ l ∷ rest
+      → Sim g (run_at regs t.memory ws t.input (code_here g.lay g.procs t.frame.proc (l ∷ rest) f.sits)) t (step_lines g.live g.procs ws t (l ∷ rest))
+  line_sim word.Spend t rest regs ws j f e = spend_sim g t rest regs ws j f e
+  line_sim (word.SpendIf test left right) t rest regs ws j f e = spend_if_sim g test left right t rest regs ws j f e
+  line_sim (word.Label name) t rest regs ws j f e = label_sim g name t rest regs ws j f
+  line_sim (word.Constant to value) t rest regs ws j f e = constant_sim g to value t rest regs ws j f
+  line_sim (word.Copy to from) t rest regs ws j f e = copy_sim g to from t rest regs ws j f
+  line_sim (word.Compute to o left right) t rest regs ws j f e = compute_sim g to o left right t rest regs ws j f
+  line_sim (word.Sum to from value) t rest regs ws j f e = sum_sim g to from value t rest regs ws j f
+  line_sim (word.Place to a) t rest regs ws j f e = place_sim g to a t rest regs ws j f
+  line_sim (word.Datum to a) t rest regs ws j f e = datum_sim g to a t rest regs ws j f
+  line_sim (word.Load to address s) t rest regs ws j f e = load_sim g to address s t rest regs ws j f
+  line_sim (word.Store address from s) t rest regs ws j f e = store_sim g address from s t rest regs ws j f
+  line_sim (word.Jump to) t rest regs ws j f e = jump_sim g to t rest regs ws j f
+  line_sim (word.Branch test left right to) t rest regs ws j f e = branch_sim g test left right to t rest regs ws j f
+  line_sim (word.Argument index from) t rest regs ws j f e = argument_sim g index from t rest regs ws j f
+  line_sim (word.Call to callee) t rest regs ws j f e = call_sim g to callee t rest regs ws j f
+  line_sim (word.Return from) t rest regs ws j f e = return_sim g from t rest regs ws j f
+  line_sim (word.Read to address len) t rest regs ws j f e = read_sim g to address len t rest regs ws j f e
+  line_sim (word.Write stream address len) t rest regs ws j f e = write_sim g stream address len t rest regs ws j f
+  line_sim (word.Exit status) t rest regs ws j f e = exit_sim g status t rest regs ws j f
 
-  lines_sim : (t : WordState) (lines : List WordInstr) (regs ws : List ℕ) (j : ℕ) (f : True g t lines regs ws j) →
+  lines_sim : (t : WordState) (lines : List WordInstr) (regs ws : List ℕ) (j : ℕ) (f : True g t lines regs ws j) → t.frame.left ≡ lines →
       Sim g (run_at regs t.memory ws t.input (code_here g.lay g.procs t.frame.proc lines f.sits)) t (step_lines g.live g.procs ws t lines)
-  lines_sim t [] regs ws j f = tt
-  lines_sim t (l ∷ rest) regs ws j f = line_sim l t rest regs ws j f
+  lines_sim t [] regs ws j f e = tt
+  lines_sim t (l ∷ rest) regs ws j f e = line_sim l t rest regs ws j f e
 
   -- where new places have what stands behind those that are there
   pub all_sim : (r : LabelRun) (t : WordState) (h : Rel g r t) → Sim g r t (words.step g.live g.procs h.ws t)
   all_sim r t h =
-      subst (λ x. Sim g x t (step_lines g.live g.procs h.ws t t.frame.left)) (sym h.is) (lines_sim t t.frame.left h.regs h.ws h.j h.facts)
+      subst (λ x. Sim g x t (step_lines g.live g.procs h.ws t t.frame.left)) (sym h.is) (lines_sim t t.frame.left h.regs h.ws h.j h.facts refl)
 
   -- ---- the start
 
@@ -217,6 +223,7 @@ module _ (g : Setting) where
 
     abbrev pub first : WordState
     first = record {
+      units = None;
       memory = memory;
       input = input;
       frame = record { proc = q; left = q.lines; vars = no_words; given = no_words; base = stack_at; awaits = 0 };
@@ -334,6 +341,7 @@ module _ (g : Setting) where
           deep = subst (λ n. 4 * MOST_ARGUMENTS + (g.need q + g.total * n) ≤ 4 * k) (sym fewer)
               (omega (arith, least, all, split, in_words, total, frame, under));
           roomy = omega (arith, long_places);
+          units = refl;
         } in (
           s,
           then_goes g.live (whole g) g.at 5 3 5 8 _ there s (then_goes g.live (whole g) g.at 4 1 4 1 _ mid there x.1 e) w.1,

@@ -226,6 +226,8 @@ return_code h p leaf from k = does (move 10 (home_of h from)) (does (restore lea
 
 abbrev pub line_code : Homes → WordProc → WordInstr → List LabelLine → List LabelLine
 line_code h p (word.Label name) k = Label (Inner p.number name) None ∷ k
+line_code h p word.Spend k = k
+line_code h p (word.SpendIf test left right) k = k
 line_code h p (word.Constant to value) k = does (constant (target h to) value) (keep h to k)
 line_code h p (word.Copy to from) k = does (move (target h to) (home_of h from)) (keep h to k)
 line_code h p (word.Compute to operation left right) k =

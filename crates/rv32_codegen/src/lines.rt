@@ -363,6 +363,7 @@ fn emit_line(
                 hook: None,
             },
         ),
+        WordInstr::Spend | WordInstr::SpendIf { .. } => Ok(()),
         WordInstr::Constant { to, value } => emit_set(lines, homes, to, value),
         WordInstr::Copy { to, from } => emit_copy(lines, homes, to, from),
         WordInstr::Compute {

@@ -1,3 +1,4 @@
+pub mod ForCallers
 mod Carrying
 mod Filling
 mod Calling

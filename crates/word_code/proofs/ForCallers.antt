@@ -4,7 +4,8 @@
 pub use Rattle.word_code.proofs.Chains.{longest_times, levels_most}
 -- ---- how lines of word code run
 pub use Rattle.word_code.proofs.WordRuns.{AlwaysSteps, AlwaysStops, one, none, on, ends_one, stops_on, got, got_sum, Runs, then_runs, Within, at}
-pub use Rattle.word_code.proofs.WordRuns.{run_label, run_constant, run_place, run_datum, run_copy, run_sum, run_compute, run_load, run_store}
+pub use Rattle.word_code.proofs.WordRuns.{run_label, spends_if, run_unspent, run_constant, run_place, run_datum, run_copy}
+pub use Rattle.word_code.proofs.WordRuns.{run_sum, run_compute, run_load, run_store}
 pub use Rattle.word_code.proofs.WordRuns.{run_argument, run_past, run_off, run_jump, run_write}
 -- ---- numbers in memory
 pub use Rattle.word_code.proofs.Cells.{MemoryLaw, Sized, sizes_same, sizes_more, store_rewritten, store_sized, store_here, put_sized, put_here}

@@ -49,6 +49,11 @@ word_returned : (s : WordState) (w : ℕ) (callers : List WordFrame) → IsFine 
 word_returned s w [] = tt
 word_returned s w (caller ∷ callers) = tt
 
+word_spent : (units : Option ℕ) (next now : WordState) → IsFine (word.spent units next now)
+word_spent None next now = tt
+word_spent (Some zero) next now = tt
+word_spent (Some (suc n)) next now = tt
+
 -- the same step with other states
 map_fine : {E S T : Type 0} (f : T → S) (x : Next E T) → IsFine x → IsFine (next_map f x)
 map_fine f (Goes es w t) h = tt
@@ -59,6 +64,7 @@ map_fine f Errs h = h
 module _ (live : Lives) (procs : List WordProc) where
   word_settled : (bytes : List ℕ) (s : WordState) (rest : List WordInstr) (d : WordDid) → IsFine (word.settled live procs bytes s rest d)
   word_settled bytes s rest (word.Passes shown x) = tt
+  word_settled bytes s rest (word.Spends x) = word_spent s.units (word.onward s rest x) s
   word_settled bytes s rest (word.Leaps name x) = word_jumped s x _
   word_settled bytes s rest (word.Calls to callee x) = word_entered bytes s rest x to _
   word_settled bytes s rest (word.Returns w) = word_returned s w s.callers

@@ -1,5 +1,5 @@
 -- How lines of word code run, one at a time and one after another.
-use Rattle.std.proofs.Common.{◌≡◌, ℕ, suc, ◌+◌, ◌%◌, ◌^◌, ◌<◌, List, [], ◌∷◌, ◌++◌, Some, Ok, Bool, true, false, refl}
+use Rattle.std.proofs.Common.{◌≡◌, ℕ, suc, ◌+◌, ◌%◌, ◌^◌, ◌<◌, List, [], ◌∷◌, ◌++◌, Option, Some, Ok, Bool, true, false, refl}
 use Rattle.std.proofs.Common.{ap, ap₂, ◌∙◌, arith, append_assoc, add_assoc}
 use Rattle.std.specs.Prelude.{if◌then◌else◌}
 use Rattle.arc_base.specs.declared.outside.Stream.{Stream}
@@ -13,12 +13,14 @@ use Rattle.rv32_isa.specs.Machine.{Lives}
 use Rattle.word_code.specs.declared.word.WordOperation.{WordOperation}
 use Rattle.word_code.specs.declared.word.Test.{Test}
 use Rattle.word_code.specs.declared.word.WordInstr.{WordInstr}
-use Rattle.word_code.specs.declared.word.WordInstr.TheVariants.{Label, Constant, Copy, Compute, Sum, Place, Datum, Load, Store, Jump, Branch}
+use Rattle.word_code.specs.declared.word.WordInstr.TheVariants.{Label, SpendIf, Constant, Copy, Compute, Sum, Place, Datum, Load, Store, Jump}
+use Rattle.word_code.specs.declared.word.WordInstr.TheVariants.{Branch}
 use Rattle.word_code.specs.declared.word.WordInstr.TheVariants.{Argument, Write}
 use Rattle.word_code.specs.declared.word.WordProc.{WordProc}
 use Rattle.word_code.specs.Memory.{Memory, number_at, may_put, with_number, bytes_at, own_data_at}
-use Rattle.word_code.specs.Words.{computed, holds, Vars, put, WordScene, WordDid, Passes, Leaps, Fails, using, sets, loads, does, WordFrame, WordState}
-use Rattle.word_code.specs.Words.{scene_of, onward, jumped, from_label, shows, settled, step}
+use Rattle.word_code.specs.Words.{computed, holds, Vars, put, WordScene, WordDid, Passes, Spends, Leaps, Fails, using, sets, loads, does, WordFrame}
+use Rattle.word_code.specs.Words.{WordState}
+use Rattle.word_code.specs.Words.{scene_of, onward, jumped, from_label, shows, settled, spent, step}
 
 -- ---- runs
 
@@ -95,6 +97,7 @@ module _ (live : Lives) (procs : List WordProc) where
 
 -- what a call has that its lines don't change
 pub record Within : Type 0 where
+  pub units : Option ℕ
   pub input : List ℕ
   pub proc : WordProc
   pub base : ℕ
@@ -103,6 +106,7 @@ pub record Within : Type 0 where
 
 abbrev pub at : Within → Memory → List WordInstr → Vars → Vars → WordState
 at c m lines vars given = record {
+  units = c.units;
   memory = m;
   input = c.input;
   frame = record { proc = c.proc; left = lines; vars = vars; given = given; base = c.base; awaits = c.awaits };
@@ -112,6 +116,21 @@ at c m lines vars given = record {
 module _ (live : Lives) (procs : List WordProc) (c : Within) (m : Memory) (k : List WordInstr) (v g : Vars) where
   pub run_label : (name : ℕ) → Runs live procs 1 (at c m (Label name ∷ k) v g) (at c m k v g)
   run_label name = one (step live procs) (λ bytes. refl)
+
+  -- a unit that may be spent
+  pub spends_if : {a b : ℕ} (test : Test) (left right : ℕ) → v left ≡ Some a → v right ≡ Some b → (x : Bool) → holds test a b ≡ x
+      → does (scene_of (at c m (SpendIf test left right ∷ k) v g)) (SpendIf test left right)
+      ≡ (if x then Spends (scene_of (at c m (SpendIf test left right ∷ k) v g)) else Passes [] (scene_of (at c m (SpendIf test left right ∷ k) v g)))
+  spends_if {a} {b} test left right e f x h =
+      let s : WordScene = scene_of (at c m (SpendIf test left right ∷ k) v g) in
+      ap₂ (λ o p. using o (λ a. using p (λ b. if holds test a b then Spends s else Passes [] s))) e f
+      ∙ ap (λ y. if y then Spends s else Passes [] s) h
+
+  pub run_unspent : {a b : ℕ} (test : Test) (left right : ℕ) → v left ≡ Some a → v right ≡ Some b → holds test a b ≡ false
+      → Runs live procs 1 (at c m (SpendIf test left right ∷ k) v g) (at c m k v g)
+  run_unspent test left right e f h =
+      let s : WordState = at c m (SpendIf test left right ∷ k) v g in
+      one (step live procs) (λ bytes. ap (settled live procs bytes s k) (spends_if test left right e f false h))
 
   pub run_constant : (to n : ℕ) → Runs live procs 1 (at c m (Constant to n ∷ k) v g) (at c m k (put v to n) g)
   run_constant to n = one (step live procs) (λ bytes. refl)

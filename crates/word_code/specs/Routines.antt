@@ -48,6 +48,7 @@ pub record IsCalling (number : ℕ) (words : List ℕ) (to : ℕ) (rest : List W
 -- the caller goes on with a word, and its other variables as they were
 abbrev pub goes_on : WordState → (to word : ℕ) → (rest : List WordInstr) → Memory → (input : List ℕ) → WordState
 goes_on s to word rest memory input = record {
+  units = s.units;
   memory = memory;
   input = input;
   frame = record s.frame { left = rest; vars = put s.frame.vars to word; given = no_words; awaits = to };

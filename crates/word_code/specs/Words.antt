@@ -20,7 +20,8 @@ use Rattle.word_code.specs.declared.word.WordOperation.TheVariants.{Less as IsLe
 use Rattle.word_code.specs.declared.word.Test.{Test}
 use Rattle.word_code.specs.declared.word.Test.TheVariants as test
 use Rattle.word_code.specs.declared.word.WordInstr.{WordInstr}
-use Rattle.word_code.specs.declared.word.WordInstr.TheVariants.{Label, Constant, Copy, Compute, Sum, Place, Datum, Load, Store, Jump, Branch}
+use Rattle.word_code.specs.declared.word.WordInstr.TheVariants.{Label, Spend, SpendIf, Constant, Copy, Compute, Sum, Place, Datum, Load, Store, Jump}
+use Rattle.word_code.specs.declared.word.WordInstr.TheVariants.{Branch}
 use Rattle.word_code.specs.declared.word.WordInstr.TheVariants.{Argument, Call, Return, Read, Write, Exit}
 use Rattle.word_code.specs.declared.word.ProcKind.{ProcKind}
 use Rattle.word_code.specs.declared.word.ProcKind.TheVariants as kind
@@ -81,9 +82,10 @@ pub record WordScene : Type 0 where
   pub base : ℕ
   pub data_at : ℕ
 
--- a line passes to the next one, or leaps to a label, calls, returns or exits; or it is at a fault
+-- a line passes to the next one, or spends a unit first, or leaps to a label, calls, returns or exits; or it is at a fault
 pub data WordDid : Type 0 where
   Passes : (shown : List Event) (next : WordScene) → WordDid
+  Spends : (next : WordScene) → WordDid
   Leaps : (name : ℕ) (next : WordScene) → WordDid
   Calls : (to callee : ℕ) (next : WordScene) → WordDid
   Returns : (word : ℕ) → WordDid
@@ -114,6 +116,8 @@ reads x to at count =
 
 abbrev pub does : WordScene → WordInstr → WordDid
 does x (Label name) = Passes [] x
+does x Spend = Spends x
+does x (SpendIf test left right) = using (x.vars left) (λ a. using (x.vars right) (λ b. if holds test a b then Spends x else Passes [] x))
 does x (Constant to value) = sets x to value
 does x (Copy to from) = using (x.vars from) (λ a. sets x to a)
 does x (Compute to operation left right) = using (x.vars left) (λ a. using (x.vars right) (λ b. sets x to (computed operation a b)))
@@ -146,8 +150,10 @@ pub record WordFrame : Type 0 where
   pub base : ℕ
   pub awaits : ℕ
 
--- memory, the input that is left, the call that runs, and those that wait for a result, the last one first
+-- how many units may still be spent, None where there is no end of them; memory, the input that is left, the call that runs, and those that wait for a
+-- result, the last one first
 pub record WordState : Type 0 where
+  pub units : Option ℕ
   pub memory : Memory
   pub input : List ℕ
   pub frame : WordFrame
@@ -227,6 +233,7 @@ entered bytes s rest x to [] = Faults
 entered bytes s rest x to (p ∷ procs) =
     if is_full p (s.frame ∷ s.callers) then Faults else
     Goes (seen_call p.kind) 1 (record {
+      units = s.units;
       memory = with_places x.memory p.room bytes;
       input = x.input;
       frame = record { proc = p; left = p.lines; vars = params_of p x.given; given = no_words; base = added x.base s.frame.proc.room; awaits = 0 };
@@ -241,12 +248,19 @@ returned s word (caller ∷ callers) = on (record s {
   callers = callers;
 })
 
+-- a unit is spent where one is left; where none is, the run stands still for ever
+abbrev pub spent : (units : Option ℕ) → (next now : WordState) → Next Event WordState
+spent None next now = on next
+spent (Some zero) next now = Goes [] 0 now
+spent (Some (suc n)) next now = on (record next { units = Some n })
+
 -- ---- runs
 
 -- what a memory says of the objects that are still live is no matter of word code: it is said of the machine's state
 module _ (live : Lives) where
   abbrev pub settled : List WordProc → (bytes : List ℕ) → WordState → List WordInstr → WordDid → Next Event WordState
   settled procs bytes s rest (Passes shown x) = Goes shown 1 (onward s rest x)
+  settled procs bytes s rest (Spends x) = spent s.units (onward s rest x) s
   settled procs bytes s rest (Leaps name x) = jumped s x (from_label name s.frame.proc.lines)
   settled procs bytes s rest (Calls to callee x) = entered bytes s rest x to (from_proc callee procs)
   settled procs bytes s rest (Returns word) = returned s word s.callers
@@ -312,6 +326,8 @@ module _ (procs : List WordProc) where
 
 abbrev pub are_named : (vars : ℕ) → WordInstr → Bool
 are_named vars (Label name) = true
+are_named vars Spend = true
+are_named vars (SpendIf test left right) = nat_lt left vars && nat_lt right vars
 are_named vars (Constant to value) = nat_lt to vars
 are_named vars (Copy to from) = nat_lt to vars && nat_lt from vars
 are_named vars (Compute to operation left right) = nat_lt to vars && (nat_lt left vars && nat_lt right vars)
@@ -384,9 +400,10 @@ if_formed false b = at_fault
 
 -- ---- whole runs
 
--- The start code, before its first line. Behind its places there is room for the arguments of a call, as there is behind those of each call.
+-- The start code, before its first line, with no end of units. Behind its places there is room for the arguments of a call, as there is behind those of each call.
 unfoldable pub start : WordCode → (heap stack : ℕ) → (input : List ℕ) → WordState
 start code heap stack input = record {
+  units = None;
   memory = record {
     statics = data_of heap stack code.statics;
     heap = replicate heap 0;
@@ -404,7 +421,11 @@ start code heap stack input = record {
   callers = [];
 }
 
--- what is seen of word code after n lines, where nobody has written these bytes
+-- what is seen of word code after n lines, where nobody has written these bytes; and with so many units
 abbrev pub word_meaning : Lives → WordCode → Fresh → (heap stack : ℕ) → (input : List ℕ) → Behaviour Event
 word_meaning live code fresh heap stack input =
     if_formed (is_word_code code) (behaviour (step_of live code.procs fresh) (0, start code heap stack input))
+
+abbrev pub word_by_units : Lives → WordCode → Fresh → (heap stack : ℕ) → (input : List ℕ) → (units : ℕ) → Behaviour Event
+word_by_units live code fresh heap stack input units =
+    if_formed (is_word_code code) (behaviour (step_of live code.procs fresh) (0, record (start code heap stack input) { units = Some units }))

@@ -77,6 +77,15 @@ pub enum WordInstr {
     Label {
         name: u32,
     },
+    /// A unit is spent: a turn of a loop or a call of a procedure begins. The machine has no
+    /// instruction for it.
+    Spend,
+    /// The same where a comparison of two variables holds.
+    SpendIf {
+        test: Test,
+        left: u32,
+        right: u32,
+    },
     /// Puts a constant into a variable.
     Constant {
         to: u32,

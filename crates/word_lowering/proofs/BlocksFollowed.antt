@@ -1,10 +1,12 @@
 -- Word code does what the block code does that it comes from, and is as its callers want it.
-use Rattle.std.proofs.Common.{◌≡◌, ℕ, ◌+◌, ◌%◌, ◌≤◌, length, length-append, List, [], ◌∷◌, map, true, false, refl, sym, ap, subst, arith}
+use Rattle.std.proofs.Common.{◌≡◌, inl, inr, ℕ, suc, ◌+◌, ◌*◌, ◌%◌, ◌≤◌, length, length-append, List, [], ◌∷◌, map, Option, Some, None, true, false}
+use Rattle.std.proofs.Common.{refl, sym}
+use Rattle.std.proofs.Common.{ap, ap₂, subst, arith}
 use Rattle.arc_base.specs.Event.{Event}
 use Rattle.arc_base.specs.Behaviour.{Behaviour, Agrees, Sound}
 use Rattle.arc_base.specs.Pace.{Paced}
 use Rattle.arc_base.specs.Stepping.{Next, behaviour}
-use Rattle.arc_base.proofs.ForCallers.{agrees_by_pairs, paced_by_pairs}
+use Rattle.arc_base.proofs.ForCallers.{agrees_by_pairs, paced_by_pairs, steady, steps_one}
 use Rattle.rv32_isa.specs.Machine.{Lives}
 use Rattle.nim_types.specs.declared.types.TypeDef.{TypeDef}
 use Rattle.nim_types.specs.Table.{IsTable}
@@ -13,9 +15,10 @@ use Rattle.flat_code.specs.declared.code.CodeProc.{CodeProc}
 use Rattle.flat_code.specs.declared.code.Code.{Code}
 use Rattle.word_code.specs.Memory.{Memory}
 use Rattle.flat_code.specs.Scene.{Known, known_in}
-use Rattle.flat_code.specs.Codes.{block_label, block_does, proc_of, procs_of, block_meaning}
-use Rattle.flat_code.specs.Running.{Machine, step as block_step, at_first, runs}
-use Rattle.word_code.specs.Words.{WordState, if_formed, word_meaning, start as word_start, Fresh, step_of}
+use Rattle.flat_code.specs.Codes.{block_label, block_does, proc_of, procs_of, block_meaning, block_within}
+use Rattle.flat_code.specs.Running.{Machine, ShowsAlike, Counting, Going, counting_step, at_first, runs}
+use Rattle.flat_code.proofs.ForCallers.{agrees_as, paced_as, sound_as, sound_within, stands_still, unbounded}
+use Rattle.word_code.specs.Words.{WordState, is_word_code, if_formed, word_meaning, word_by_units, start as word_start, Fresh, step_of}
 use Rattle.word_code.proofs.ForCallers.{MemoryLaw, Sized}
 use Rattle.word_code.specs.declared.routine.TheConstants.{RUNTIME_DATA}
 use Rattle.word_code.specs.declared.word.WordCode.{WordCode}
@@ -34,8 +37,10 @@ use Rattle.word_lowering.proofs.CodeWeights.{weight_is}
 use Rattle.word_lowering.proofs.DataSizes.{data_whole, data_sized, data_within}
 use Rattle.word_lowering.proofs.RoomBounds.{enums_may, start_most}
 use Rattle.word_lowering.proofs.FirstMemory.{first_memory, good_first, sized_first, start_room}
-use Rattle.word_lowering.proofs.Related.{Both, with_rest, MemoryGood, high, low}
-use Rattle.word_lowering.proofs.Lines.{Basis, IsGood, Follows, pairs, lines_left}
+use Rattle.word_lowering.proofs.Related.{Both, with_rest, MemoryGood, low}
+use Rattle.word_lowering.proofs.Bounded.{IsBounded, bounded_by_pairs}
+use Rattle.word_lowering.proofs.StandsAlike.{stands_alike}
+use Rattle.word_lowering.proofs.Lines.{Basis, IsGood, Pair, going, pairs, lines_left, machine}
 use Rattle.word_lowering.proofs.BasisOf.{basis_of}
 use Rattle.word_lowering.proofs.Traps.{traps_stop, labels_lead, own_labels, argument_labels}
 use Rattle.word_lowering.proofs.FirstWrites.{writing}
@@ -43,7 +48,7 @@ use Rattle.word_lowering.proofs.EachLine.{line_settles}
 use Rattle.word_lowering.proofs.StartState.{Begins, begins}
 use Rattle.word_lowering.proofs.Sites.{Site, next_base}
 use Rattle.rv32_isa.specs.Image.{stack_at}
-use Rattle.arc_base.specs.Simulation.{Steps}
+use Rattle.arc_base.specs.Simulation.{Does, AreOf, Steps}
 
 -- ---- code that is never at a fault
 
@@ -68,14 +73,18 @@ module _ (live : Lives) (none : HasNoObjects live) (table : List TypeDef) (block
   abbrev low_step : ℕ × WordState → Next Event (ℕ × WordState)
   low_step = step_of live code.procs fresh
 
-  abbrev low_first : ℕ × WordState
-  low_first = (0, word_start code heap stack input)
+  -- with so many units, or as many as there are
+  abbrev low_first : Option ℕ → ℕ × WordState
+  low_first units = (0, record (word_start code heap stack input) { units = units })
 
-  abbrev high_step : Machine BlockLine → Next Event (Machine BlockLine)
-  high_step = block_step block_label (block_does (known_in table)) (procs_of (known_in table) blocks)
+  abbrev block_first : Machine BlockLine
+  block_first = at_first block_label (block_does (known_in table)) (procs_of (known_in table) blocks) heap input
 
-  abbrev high_first : Machine BlockLine
-  high_first = at_first block_label (block_does (known_in table)) (procs_of (known_in table) blocks) heap input
+  abbrev high_step : Counting BlockLine → Next Event (Counting BlockLine)
+  high_step c = counting_step block_label (block_does (known_in table)) (procs_of (known_in table) blocks) c
+
+  abbrev high_first : Option ℕ → Counting BlockLine
+  high_first units = Going units block_first
 
   module _ (p : CodeProc BlockLine) (ps : List (CodeProc BlockLine)) (some : blocks.procs ≡ p ∷ ps) where
     abbrev x : Basis
@@ -91,52 +100,129 @@ module _ (live : Lives) (none : HasNoObjects live) (table : List TypeDef) (block
     not_empty = ap is_empty some
 
     -- one line
-    follows : (g : Both) → IsGood x g → Follows x g (high_step (high table blocks g))
-    follows g y = by g.rest y
+    follows_line : (g : Both) → IsGood x g → (before : ℕ) →
+        Does (machine x) (AreOf (pairs x)) (lines_left x) WORD_PACE (before, low table blocks g) (going x g) (high_step (going x g))
+    follows_line g y = by g.rest y
       where
-        by : (lines : List BlockLine) → IsGood x (with_rest g lines) → Follows x (with_rest g lines) (high_step (high table blocks (with_rest g lines)))
+        by : (lines : List BlockLine) → IsGood x (with_rest g lines) → (before : ℕ) →
+            Does (machine x) (AreOf (pairs x)) (lines_left x) WORD_PACE (before, low table blocks (with_rest g lines)) (going x (with_rest g lines))
+            (high_step (going x (with_rest g lines)))
         by [] z = λ before. tt
         by (line ∷ rest) z =
             line_settles x (labels_lead x) (traps_stop x) (own_labels x) (argument_labels x)
             (writing x heap stack refl is_table have not_empty (data_within table blocks may) (enums_may table blocks may)) g rest line z
 
-    first_lines : Begins table blocks runtime heap stack input live
-    first_lines = begins table blocks runtime heap stack input is_table have fits may p ps some memory live
+    -- and a run that stands still
+    follows : (y : Pair x) → Does (machine x) (AreOf (pairs x)) (lines_left x) WORD_PACE ((pairs x).low y) ((pairs x).high y) (high_step ((pairs x).high y))
+    follows (inl y) = follows_line y.0 y.1 y.2
+    follows (inr y) = (
+      (suc y.2, y.0),
+      1,
+      steps_one (machine x) (y.2, y.0) (suc y.2, y.0) [] 0 0 (y.1 y.2) (omega arith),
+      (inr (y.0, y.1, suc y.2), refl, refl),
+      inl (omega arith),
+    )
 
-    -- no line of word code comes before them
-    first_steps : (behind : ℕ) × Steps low_step 0 low_first [] 0 (behind, low table blocks first_lines.both)
-    first_steps = first_lines.runs.by fresh 0
+    module _ (units : Option ℕ) where
+      abbrev first_lines : Begins table blocks runtime units heap stack input live
+      first_lines = begins table blocks runtime units heap stack input is_table have fits may p ps some memory live
 
-    agrees_run : Sound (behaviour high_step high_first) → Agrees (behaviour low_step low_first) (behaviour high_step high_first)
-    agrees_run ok =
-        subst (λ t. Agrees (behaviour low_step low_first) (behaviour high_step t)) first_lines.same
-        (agrees_by_pairs low_step high_step (pairs x) (lines_left x) WORD_PACE 0 (λ y. follows y.0 y.1 y.2) (omega arith) low_first
-        (first_lines.both, first_lines.good, first_steps.0) 0 first_steps.1 (subst (λ t. Sound (behaviour high_step t)) (sym first_lines.same) ok))
+      -- no line of word code comes before them
+      abbrev first_steps : (behind : ℕ) × Steps low_step 0 (low_first units) [] 0 (behind, low table blocks first_lines.both)
+      first_steps = first_lines.runs.by fresh 0
 
-    paced_run : Sound (behaviour high_step high_first) → Paced WORD_PACE (behaviour low_step low_first) (behaviour high_step high_first)
-    paced_run ok =
-        subst (λ t. Paced WORD_PACE (behaviour low_step low_first) (behaviour high_step t)) first_lines.same
-        (paced_by_pairs low_step high_step (pairs x) (lines_left x) WORD_PACE 0 (λ y. follows y.0 y.1 y.2) (omega arith) low_first
-        (first_lines.both, first_lines.good, first_steps.0) 0 first_steps.1 (subst (λ t. Sound (behaviour high_step t)) (sym first_lines.same) ok))
+      abbrev first_pair : Pair x
+      first_pair = inl (first_lines.both, first_lines.good, first_steps.0)
+
+      first_same : (pairs x).high first_pair ≡ high_first units
+      first_same = ap₂ Going first_lines.units_are first_lines.same
+
+      abbrev Of : (Behaviour Event → Behaviour Event → Type 0) → Type 0
+      Of P = Sound (behaviour high_step (high_first units)) → P (behaviour low_step (low_first units)) (behaviour high_step (high_first units))
+
+      agrees_run : Of (λ a b. Agrees a b)
+      agrees_run ok =
+          subst (λ t. Agrees (behaviour low_step (low_first units)) (behaviour high_step t)) first_same
+          (agrees_by_pairs low_step high_step (pairs x) (lines_left x) WORD_PACE 0 follows (omega arith) (low_first units) first_pair 0 first_steps.1
+          (subst (λ t. Sound (behaviour high_step t)) (sym first_same) ok))
+
+      paced_run : Of (λ a b. Paced WORD_PACE a b)
+      paced_run ok =
+          subst (λ t. Paced WORD_PACE (behaviour low_step (low_first units)) (behaviour high_step t)) first_same
+          (paced_by_pairs low_step high_step (pairs x) (lines_left x) WORD_PACE 0 follows (omega arith) (low_first units) first_pair 0 first_steps.1
+          (subst (λ t. Sound (behaviour high_step t)) (sym first_same) ok))
+
+      bounded_run : Of (λ a b. IsBounded WORD_PACE a b)
+      bounded_run ok =
+          subst (λ t. IsBounded WORD_PACE (behaviour low_step (low_first units)) (behaviour high_step t)) first_same
+          (bounded_by_pairs low_step high_step (pairs x) (lines_left x) WORD_PACE follows (low_first units) first_pair 0 first_steps.1
+          (subst (λ t. Sound (behaviour high_step t)) (sym first_same) ok))
 
   -- the same of code that is well formed
-  if_sound : (P : Behaviour Event → Behaviour Event → Type 0)
+  if_formed_so : (units : Option ℕ) (P : Behaviour Event → Behaviour Event → Type 0)
       → ((p : CodeProc BlockLine) (ps : List (CodeProc BlockLine)) → blocks.procs ≡ p ∷ ps
-      → Sound (behaviour high_step high_first) → P (behaviour low_step low_first) (behaviour high_step high_first))
+      → P (behaviour low_step (low_first units)) (behaviour high_step (high_first units)))
       → Sound (block_meaning table blocks heap input)
-      → P (word_meaning live code fresh heap stack input) (block_meaning table blocks heap input)
-  if_sound P h ok =
+      → P (if_formed (is_word_code code) (behaviour low_step (low_first units))) (behaviour high_step (high_first units))
+  if_formed_so units P h ok =
       let some = some_procs (known_in table) blocks.procs heap input ok in
-      subst (λ b. P (if_formed b (behaviour low_step low_first)) (behaviour high_step high_first))
-      (sym (is_formed table blocks may runtime is.formed is.routines)) (h some.0 some.1 some.2 ok)
+      subst (λ b. P (if_formed b (behaviour low_step (low_first units))) (behaviour high_step (high_first units)))
+      (sym (is_formed table blocks may runtime is.formed is.routines)) (h some.0 some.1 some.2)
+
+  -- with as many units as there are it is the machine that doesn't count
+  free : (n : ℕ) → behaviour high_step (high_first None) n ≡ block_meaning table blocks heap input n
+  free n = unbounded block_label (block_does (known_in table)) (procs_of (known_in table) blocks) n block_first [] 0
+
+  sound_free : Sound (block_meaning table blocks heap input) → Sound (behaviour high_step (high_first None))
+  sound_free ok = sound_as (block_meaning table blocks heap input) (behaviour high_step (high_first None)) (λ n. sym (free n)) ok
+
+  sound_counted : (units : ℕ) → Sound (block_meaning table blocks heap input) → Sound (behaviour high_step (high_first (Some units)))
+  sound_counted units ok = sound_within block_label (block_does (known_in table)) (procs_of (known_in table) blocks) units heap input ok
 
   agrees : Sound (block_meaning table blocks heap input)
       → Agrees (word_meaning live code fresh heap stack input) (block_meaning table blocks heap input)
-  agrees ok = if_sound (λ a b. Agrees a b) agrees_run ok
+  unfolding word_start
+  agrees ok =
+      agrees_as (word_meaning live code fresh heap stack input) (behaviour high_step (high_first None)) (block_meaning table blocks heap input) free
+      (if_formed_so None (λ a b. Agrees a b) (λ p ps some. agrees_run p ps some None (sound_free ok)) ok)
 
   paced : Sound (block_meaning table blocks heap input)
       → Paced WORD_PACE (word_meaning live code fresh heap stack input) (block_meaning table blocks heap input)
-  paced ok = if_sound (λ a b. Paced WORD_PACE a b) paced_run ok
+  unfolding word_start
+  paced ok =
+      paced_as WORD_PACE 1 (word_meaning live code fresh heap stack input) (behaviour high_step (high_first None))
+      (block_meaning table blocks heap input) free
+      (if_formed_so None (λ a b. Paced WORD_PACE a b) (λ p ps some. paced_run p ps some None (sound_free ok)) ok)
+
+  -- where block code stands still
+  still : (units : ℕ) → (lines : ℕ) × ((more : ℕ) → behaviour high_step (high_first (Some units)) (lines + more)
+      ≡ behaviour high_step (high_first (Some units)) lines)
+  still units = stands_still block_label (block_does (known_in table)) (procs_of (known_in table) blocks) units heap input
+
+  abbrev IsExact : (low high : Behaviour Event) → Type 0
+  IsExact low high = (from lines : ℕ) × ((more : ℕ) → ShowsAlike (low (from + more)) (high (lines + more)))
+
+  exact_run : (p : CodeProc BlockLine) (ps : List (CodeProc BlockLine)) → blocks.procs ≡ p ∷ ps → (units : ℕ)
+      → Sound (block_meaning table blocks heap input)
+      → IsExact (behaviour low_step (low_first (Some units))) (behaviour high_step (high_first (Some units)))
+  exact_run p ps some units ok =
+      let low = behaviour low_step (low_first (Some units)) in
+      let high = behaviour high_step (high_first (Some units)) in
+      let s = still units in
+      let counted = sound_counted units ok in
+      let same = stands_alike low high (steady low_step (low_first (Some units))) (steady high_step (high_first (Some units))) counted
+      (agrees_run p ps some (Some units) counted) s.0 s.1 in
+      (same.0, s.0, λ more. subst (ShowsAlike (low (same.0 + more))) (sym (s.1 more)) (same.1 more))
+
+  exact_counted : (units : ℕ) → Sound (block_meaning table blocks heap input)
+      → IsExact (word_by_units live code fresh heap stack input units) (block_within table blocks units heap input)
+  exact_counted units ok = if_formed_so (Some units) IsExact (λ p ps some. exact_run p ps some units ok) ok
+
+  -- it does at most so many times the work of block code at some moment
+  bounded_counted : (units : ℕ) → Sound (block_meaning table blocks heap input)
+      → IsBounded WORD_PACE (word_by_units live code fresh heap stack input units) (block_within table blocks units heap input)
+  bounded_counted units ok =
+      if_formed_so (Some units) (λ a b. IsBounded WORD_PACE a b) (λ p ps some. bounded_run p ps some (Some units) (sound_counted units ok)) ok
 
 -- ---- the whole
 
@@ -148,6 +234,10 @@ module _ (table : List TypeDef) (blocks : Code BlockLine) (is_table : IsTable ta
         agrees live none table blocks is_table have may runtime is law fresh heap stack input most fits silent ok;
     paced = λ live fresh heap stack input none most fits silent ok.
         paced live none table blocks is_table have may runtime is law fresh heap stack input most fits silent ok;
+    exact = λ live fresh heap stack input none most fits silent ok units.
+        exact_counted live none table blocks is_table have may runtime is law fresh heap stack input most fits silent units ok;
+    bounded = λ live fresh heap stack input none most fits silent ok units.
+        bounded_counted live none table blocks is_table have may runtime is law fresh heap stack input most fits silent units ok;
     formed = is_formed table blocks may runtime is.formed is.routines;
     no_circle = no_circle table blocks runtime is;
     chain = chain_short table blocks runtime is;

@@ -25,11 +25,12 @@ use Rattle.flat_code.specs.Running.{callable, called, entered, found, gives_noth
 use Rattle.flat_code.specs.Scene.{Calls, with_value}
 use Rattle.flat_code.specs.Shapes.{shape_of}
 use Rattle.word_code.specs.declared.word.WordInstr.{WordInstr}
+use Rattle.word_code.specs.declared.word.WordInstr.TheVariants.{Spend}
 use Rattle.word_code.specs.Memory.{Memory}
-use Rattle.word_code.specs.Words.{Vars, from_label}
+use Rattle.word_code.specs.Words.{Vars, WordState, from_label}
 use Rattle.word_code.proofs.ForCallers.{Runs, at, then_runs, none as no_run}
 use Rattle.word_lowering.specs.Layouts.{params_in, is_empty}
-use Rattle.word_lowering.specs.LineCode.{Around, arguments_code, called_code, checked_code, label_before, layout_at, nothing_code, operand, operands}
+use Rattle.word_lowering.specs.LineCode.{Around, arguments_code, call_code, called_code, checked_code, label_before, layout_at, nothing_code, operand, operands}
 use Rattle.word_lowering.proofs.AllGiven.{GivesAll, all_given}
 use Rattle.word_lowering.proofs.AllOperands.{Have, using_all_settles}
 use Rattle.word_lowering.proofs.Arguments.{all_own, params_apart}
@@ -44,12 +45,12 @@ use Rattle.word_lowering.proofs.Gets.{good_with_temps}
 use Rattle.word_lowering.proofs.GivenLines.{between, good_between}
 use Rattle.word_lowering.proofs.Keeping.{call, nowhere}
 use Rattle.word_lowering.proofs.LineFits.{no_type, type_there, value_type}
-use Rattle.word_lowering.proofs.Lines.{Basis, Follows, IsGood, Settles, all_procs, changed, fits_here, goes_on, known, lower, stands_next, starts}
+use Rattle.word_lowering.proofs.Lines.{Basis, FollowsFrom, IsGood, all_procs, changed, fits_here, goes_from, good_units, known, lower, settles, spends_settles, stands_next, starts}
 use Rattle.word_lowering.proofs.Lines.{good_between as good_vars}
 use Rattle.word_lowering.proofs.Moves.{all_same}
-use Rattle.word_lowering.proofs.Related.{Answers, Both, MayAnswer, body_of, called_by, high, low, within}
+use Rattle.word_lowering.proofs.Related.{Answers, Both, MayAnswer, body_of, called_by, code_behind, high, low, with_units, within}
 use Rattle.word_lowering.proofs.Scenes.{IsNamed, of_value, site_of}
-use Rattle.word_lowering.proofs.Settling.{LabelsLead, TrapsStop, code_here, code_next, stops_after, stops_more}
+use Rattle.word_lowering.proofs.Settling.{LabelsLead, TrapsStop, code_next, stops_after, stops_more}
 use Rattle.word_lowering.proofs.ShapeFacts.{never}
 use Rattle.word_lowering.proofs.Sites.{Body, Site, around, globals_of, sigs, word_of}
 use Rattle.word_lowering.proofs.StoreLines.{none_temps}
@@ -87,18 +88,21 @@ without_type x None h = refl
 without_type x (Some t) h = never h
 
 module _ (x : Basis) (labels : LabelsLead x) (traps : TrapsStop x) (own : ArgumentLabels x) (g : Both) (rest : List BlockLine) (to : ℕ) (how : UseAt)
-    (ty : Option ℕ) (proc : ℕ) (from : List From) (y : IsGood x (starts g (plain (L.Call to how ty proc from)) rest)) where
+    (ty : Option ℕ) (proc : ℕ) (from : List From) (y : IsGood x (starts g (plain (L.Call to how ty proc from)) rest)) (calling : WordState)
+    (spends : Runs x.live (all_procs x) 1 calling (at (within x.table x.blocks g) g.memory (call_code (around x.table x.blocks (body_of g))
+    (label_before (map block_plain rest)) proc ty to from (code_behind x.table x.blocks (body_of g) rest)) g.call.vars g.words)) where
   abbrev line : BlockLine
   line = plain (L.Call to how ty proc from)
 
   abbrev here : Around
   here = around x.table x.blocks (body_of g)
 
-  abbrev code : List WordInstr
-  code = code_here x g line rest y
-
   abbrev label : ℕ
   label = label_before (map block_plain rest)
+
+  -- behind the unit that was spent
+  abbrev code : List WordInstr
+  code = call_code here label proc ty to from (code_next x g line rest y)
 
   abbrev start : Bool
   start = (body_of g).start
@@ -187,7 +191,7 @@ module _ (x : Basis) (labels : LabelsLead x) (traps : TrapsStop x) (own : Argume
   -- ---- no call may be active more
 
   abbrev Trapped : List Operand → Type 0
-  Trapped xs = Follows x (starts g line rest) (traps_by g.world (suc (handed_bytes xs)) CallDepth)
+  Trapped xs = FollowsFrom x calling (starts g line rest) (traps_by g.world (suc (handed_bytes xs)) CallDepth)
 
   -- no call waits for the start code
   all_left : start ≡ true → g.call.site.left ≡ ACTIVE_CALLS
@@ -208,10 +212,11 @@ module _ (x : Basis) (labels : LabelsLead x) (traps : TrapsStop x) (own : Argume
       let few_more = l.few in
       let long = line_long in
       let text = writes Err (line_of (trap_text CallDepth)) in
-      stops_more (lower x) (low x.table x.blocks (starts g line rest)) (q.steps + l.steps + 7)
+      stops_more (lower x) calling (1 + (q.steps + l.steps) + 7)
       (16 * (suc (handed_bytes xs) + length (line_of (trap_text CallDepth)))) 1 text (live g.world) (omega (arith, few, few_more, long))
-      (stops_after (lower x) (low x.table x.blocks (starts g line rest)) (at (within x.table x.blocks g) q.memory t.there l.leads.vars q.words)
-      (q.steps + l.steps) (q.steps + l.steps) 7 1 text (live g.world) runs (t.stops l.leads.vars q.words)) x.fresh
+      (stops_after (lower x) calling (at (within x.table x.blocks g) q.memory t.there l.leads.vars q.words)
+      (1 + (q.steps + l.steps)) (1 + (q.steps + l.steps)) 7 1 text (live g.world) (then_runs x.live (all_procs x) spends runs)
+      (t.stops l.leads.vars q.words)) x.fresh
 
   no_left : (xs : List Operand) (after : List WordInstr) → Checking xs after → g.call.site.left ≡ 0 → Trapped xs
   no_left xs after q e = by start refl
@@ -234,7 +239,7 @@ module _ (x : Basis) (labels : LabelsLead x) (traps : TrapsStop x) (own : Argume
 
   -- without lines: nothing comes of it
   quiet_goes : (xs : List Operand) (left : ℕ) → g.call.site.left ≡ suc left → callee.body.proc.lines ≡ []
-      → Follows x (starts g line rest)
+      → FollowsFrom x calling (starts g line rest)
       (gives_nothing (high x.table x.blocks (starts g line rest)) rest to (suc (handed_bytes xs)) (seen_call callee.body.proc.hook))
   quiet_goes xs left e is =
       let no_runs : callee.body.own.runs ≡ false = callee.runs ∙ ap (λ l. not (is_empty l)) is in
@@ -246,17 +251,17 @@ module _ (x : Basis) (labels : LabelsLead x) (traps : TrapsStop x) (own : Argume
       let silent : nothing_code here ty to next ≡ next = ap (λ o. nothing_code here o to next) none in
       let few = b.few in
       let temps = with_value to g.call.temps nothing in
-      subst (λ es. Follows x (starts g line rest) (gives_nothing (high x.table x.blocks (starts g line rest)) rest to (suc (handed_bytes xs)) es))
+      subst (λ es. FollowsFrom x calling (starts g line rest) (gives_nothing (high x.table x.blocks (starts g line rest)) rest to (suc (handed_bytes xs)) es))
       (sym (ap seen_call (callee.silent is)))
-      (goes_on x (starts g line rest) (changed g rest temps b.vars g.memory g.words g.awaits g.world) rest
+      (goes_from x calling (starts g line rest) (changed g rest temps b.vars g.memory g.words g.awaits g.world) rest
       (good_with_temps x g line rest y rest temps (none_temps x g line rest y to untyped) b.vars g.words g.awaits b.same
-      (stands_next x.table x.blocks (body_of g) line rest y.stands)) b.steps (suc (handed_bytes xs)) temps g.world
-      (subst (λ l. Runs x.live (all_procs x) b.steps (at (within x.table x.blocks g) g.memory l g.call.vars g.words)
+      (stands_next x.table x.blocks (body_of g) line rest y.stands)) (1 + b.steps) (suc (handed_bytes xs)) temps g.world
+      (then_runs x.live (all_procs x) spends (subst (λ l. Runs x.live (all_procs x) b.steps (at (within x.table x.blocks g) g.memory l g.call.vars g.words)
       (at (within x.table x.blocks g) g.memory next b.vars g.words)) (sym (code_quiet no_runs))
       (subst (λ l. Runs x.live (all_procs x) b.steps
       (at (within x.table x.blocks g) g.memory (checked_code start (nothing_code here ty to next)) g.call.vars g.words)
-      (at (within x.table x.blocks g) g.memory l b.vars g.words)) silent b.runs))
-      b.some (omega (arith, few)) refl)
+      (at (within x.table x.blocks g) g.memory l b.vars g.words)) silent b.runs)))
+      (omega arith) (omega (arith, few)) refl)
 
   -- the caller may get what the procedure gives
   answers : (vars : Vars) → Answers x.table x.blocks callee.body (record { call = call g.call.site g.call.temps vars; rest = rest; to = to; proc = proc })
@@ -281,7 +286,7 @@ module _ (x : Basis) (labels : LabelsLead x) (traps : TrapsStop x) (own : Argume
   -- with lines
   lines_go : (xs : List Operand) → Have g.call.temps from xs → (left : ℕ) → g.call.site.left ≡ suc left → (l : BlockLine) (ls : List BlockLine)
       → callee.body.proc.lines ≡ l ∷ ls
-      → Follows x (starts g line rest) (entered (high x.table x.blocks (starts g line rest)) rest to (slots_for xs) (suc (handed_bytes xs)) left
+      → FollowsFrom x calling (starts g line rest) (entered (high x.table x.blocks (starts g line rest)) rest to (slots_for xs) (suc (handed_bytes xs)) left
       (proc_of (known x) callee.body.proc) (l ∷ ls))
   lines_go xs have left e l ls is =
       let runs : callee.body.own.runs ≡ true = callee.runs ∙ ap (λ q. not (is_empty q)) is in
@@ -297,15 +302,15 @@ module _ (x : Basis) (labels : LabelsLead x) (traps : TrapsStop x) (own : Argume
       = subst (λ z. Runs x.live (all_procs x) a.steps (at (within x.table x.blocks g) g.memory z g.call.vars g.words)
       (at (within x.table x.blocks g) a.memory_then code_checked a.vars_then a.words_then)) (sym (code_running runs)) a.runs in
       entered_line x then line rest good callee (slots_for xs) a.gave left e to (answers b.vars) b.number l ls is
-      (low x.table x.blocks (starts g line rest)) (a.steps + b.steps) (suc (handed_bytes xs)) (omega (arith, few, few_more))
-      (then_runs x.live (all_procs x) here_runs b.runs)
+      calling (1 + (a.steps + b.steps)) (suc (handed_bytes xs)) (omega (arith, few, few_more))
+      (then_runs x.live (all_procs x) spends (then_runs x.live (all_procs x) here_runs b.runs))
 
-  pub called_settles : (xs : List Operand) → Have g.call.temps from xs
-      → Settles x (starts g line rest) rest (Calls to proc (slots_for xs) (suc (handed_bytes xs)))
-  called_settles xs have = by g.call.site.left refl
+  pub called_follows : (xs : List Operand) → Have g.call.temps from xs
+      → FollowsFrom x calling (starts g line rest) (settles x (starts g line rest) rest (Calls to proc (slots_for xs) (suc (handed_bytes xs))))
+  called_follows xs have = by g.call.site.left refl
     where
       by_lines : (left : ℕ) → g.call.site.left ≡ suc left → (lines : List BlockLine) → callee.body.proc.lines ≡ lines
-          → Follows x (starts g line rest) (entered (high x.table x.blocks (starts g line rest)) rest to (slots_for xs) (suc (handed_bytes xs)) left
+          → FollowsFrom x calling (starts g line rest) (entered (high x.table x.blocks (starts g line rest)) rest to (slots_for xs) (suc (handed_bytes xs)) left
           (proc_of (known x) callee.body.proc) lines)
       by_lines left e [] is = quiet_goes xs left e is
       by_lines left e (l ∷ ls) is = lines_go xs have left e l ls is
@@ -314,17 +319,24 @@ module _ (x : Basis) (labels : LabelsLead x) (traps : TrapsStop x) (own : Argume
       refused_so true runs e = no_left xs (code_called x g line rest y callee to) (running_checking xs runs (arguments xs have runs)) e
       refused_so false runs e = no_left xs (nothing_code here ty to (code_next x g line rest y)) (quiet_checking xs runs) e
 
-      by : (left : ℕ) → g.call.site.left ≡ left → Follows x (starts g line rest)
+      by : (left : ℕ) → g.call.site.left ≡ left → FollowsFrom x calling (starts g line rest)
           (called (high x.table x.blocks (starts g line rest)) rest to (slots_for xs) (suc (handed_bytes xs)) left
           (slice_get (callable (procs_of (known x) x.blocks)) proc))
       by zero e = refused_so callee.body.own.runs refl e
       by (suc left) e =
-          subst (λ o. Follows x (starts g line rest)
+          subst (λ o. FollowsFrom x calling (starts g line rest)
           (found (high x.table x.blocks (starts g line rest)) rest to (slots_for xs) (suc (handed_bytes xs)) left o)) (sym callee.block)
           (by_lines left e callee.body.proc.lines refl)
 
 pub call_line : (x : Basis) (labels : LabelsLead x) (traps : TrapsStop x) (own : ArgumentLabels x) (g : Both) (rest : List BlockLine) (to : ℕ) (how : UseAt)
     (ty : Option ℕ) (proc : ℕ) (from : List From) → FollowedHere x labels g rest (L.Call to how ty proc from)
 call_line x labels traps own g rest to how ty proc from y =
-    using_all_settles x (starts g (plain (L.Call to how ty proc from)) rest) rest g.call.temps from (λ xs. Calls to proc (slots_for xs) (suc (handed_bytes xs)))
-    (λ xs have. called_settles x labels traps own g rest to how ty proc from y xs have)
+    let line = plain (L.Call to how ty proc from) in
+    let start = low x.table x.blocks (starts g line rest) in
+    using_all_settles x (starts g line rest) rest g.call.temps from (λ xs. Calls to proc (slots_for xs) (suc (handed_bytes xs)))
+    (λ xs have.
+    spends_settles x (starts g line rest) rest (Calls to proc (slots_for xs) (suc (handed_bytes xs))) refl Spend
+    (call_code (around x.table x.blocks (body_of g)) (label_before (map block_plain rest)) proc ty to from (code_behind x.table x.blocks (body_of g) rest))
+    g.call.vars g.words refl 0 (omega arith) (no_run (lower x) start)
+    (λ units runs.
+    called_follows x labels traps own (with_units g units) rest to how ty proc from (good_units x (starts g line rest) units y) start runs xs have))

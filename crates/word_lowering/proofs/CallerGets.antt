@@ -18,13 +18,14 @@ use Rattle.word_lowering.proofs.Lines.{Basis, all_procs, starts, IsGood, Settles
 use Rattle.word_lowering.proofs.Moves.{single_word, same_first}
 use Rattle.word_lowering.proofs.Options.{some_same}
 use Rattle.word_lowering.proofs.OrdinalRuns.{put_other, put_here as put_same}
-use Rattle.word_lowering.proofs.Related.{Both, Waits, low, MemoryGood}
+use Rattle.word_lowering.proofs.Related.{Both, Waits, low, MemoryGood, store_with}
 use Rattle.word_lowering.proofs.Returned.{called, back, good_back, sites_left, linked_left, waits_lower, memory_left, good_left, left_read}
 use Rattle.word_lowering.proofs.ReturnLines.{place_high}
 use Rattle.word_lowering.proofs.Scenes.{At, Name, of_value, house, IsNamed, IsThere, looked, IsItem}
 use Rattle.word_lowering.proofs.Sites.{Site}
 use Rattle.word_lowering.proofs.SitesApart.{variables_apart}
-use Rattle.word_lowering.proofs.ValueFacts.{value_plain}
+use Rattle.word_lowering.proofs.ValueFacts.{value_plain, numbers_there}
+use Rattle.word_lowering.proofs.Items.{item_of}
 
 -- ---- temporaries of which one gets a value
 
@@ -62,7 +63,7 @@ module _ (x : Basis) (h : Both) (w : Waits) (ws : List Waits) (line : BlockLine)
         (r.0, low x.table x.blocks (go vars m words awaits)),
         n,
         record { work = r.1.work; within = omega (arith, r.1.within, few); by = r.1.by },
-        ((go vars m words awaits, good, r.0), refl, refl),
+        (inl (go vars m words awaits, good, r.0), refl, refl),
         inl some,
       )
 
@@ -116,12 +117,14 @@ module _ (x : Basis) (h : Both) (w : Waits) (ws : List Waits) (line : BlockLine)
           left = left;
         })
         (λ e. record {
-          item = λ u is k. subst (λ z. IsItem x.table m (call w.call.site temps_then vars) (of_value w.to) z) (with_here w.call.temps w.to v u k) (record {
-            there = there;
-            plain = value_plain (house w.call.site (of_value w.to)).kind there.kind;
-            shaped = shaped;
-            at = at_place;
-          });
+          item = λ u is k. subst (λ z. IsItem x.table (store_with h m) (call w.call.site temps_then vars) (of_value w.to) z)
+              (with_here w.call.temps w.to v u k) (item_of x.table (store_with h m) (call w.call.site temps_then vars) (of_value w.to) v
+              (numbers_there x w.call.site (of_value w.to) y.linked.5.0 there) (record {
+                there = there;
+                plain = value_plain (house w.call.site (of_value w.to)).kind there.kind;
+                shaped = shaped;
+                at = at_place;
+              }));
           text = λ u n k z f a b. own_text w.call.site (of_value u) n k (subst (IsThere w.call.site) (sym f) there) a;
           led = λ u where_it f named k. absurd (value_no_location w.to u (sym f));
           filled = λ n f k. absurd (value_no_place w.to n (sym f));

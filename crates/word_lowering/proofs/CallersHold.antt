@@ -7,12 +7,11 @@ use Rattle.nim_meaning.specs.Values.{Slot, Standing}
 use Rattle.nim_meaning.specs.State.{World, Frame, with_frame, with_slot, with_slot_of, slot_at, slot_of, frame_in, frame_at, joined}
 use Rattle.nim_meaning.specs.Places.{through_slot}
 use Rattle.nim_meaning.specs.Meaning.{filled}
-use Rattle.word_code.specs.Memory.{Memory}
 use Rattle.word_lowering.proofs.Keeping.{AmongCalls, Worlds, all_kept, Edit}
 use Rattle.word_lowering.proofs.Lines.{Basis}
 use Rattle.word_lowering.proofs.Options.{none_some}
 use Rattle.word_lowering.proofs.Related.{AllFrames}
-use Rattle.word_lowering.proofs.Scenes.{Call, of_value, site_of, AllHold}
+use Rattle.word_lowering.proofs.Scenes.{Call, of_value, site_of, AllHold, Store, IsLater}
 use Rattle.word_lowering.proofs.Sites.{Site, AmongSites, Linked}
 use Rattle.word_lowering.proofs.SitesApart.{site_at}
 
@@ -126,9 +125,9 @@ module _ (x : Basis) (calls : List Call) (linked : Linked x.table x.blocks (map 
       roots = λ s n i there h. ap (through_slot (Standing s.level n)) (slot_then s n i);
     }
 
-    pub callers_hold : (m m' : Memory) → Edit x.table x.blocks x.small sites linked lo (of_value 0) m m' → AllHold x.table x.blocks m w calls
-        → AllHold x.table x.blocks m' world_then calls
-    callers_hold m m' edit old = all_kept x.table x.blocks x.small sites linked lo (of_value 0) m m' edit w world_then worlds_then calls
+    pub callers_hold : (k k' : Store) → Edit x.table x.blocks x.small sites linked lo (of_value 0) k.memory k'.memory → IsLater k.ground k'.ground
+        → AllHold x.table x.blocks k w calls → AllHold x.table x.blocks k' world_then calls
+    callers_hold k k' edit later old = all_kept x.table x.blocks x.small sites linked lo (of_value 0) k k' edit later w world_then worlds_then calls
         (λ s i. i) (λ c from i e. absurd (apart c i e)) old
       where
         apart : (c : Call) → AmongCalls c calls → c.site.level ≢ lo.level

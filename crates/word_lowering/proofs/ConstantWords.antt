@@ -36,7 +36,7 @@ use Rattle.word_lowering.proofs.Lines.{Basis, Settles, all_procs, fits_here, kno
 use Rattle.word_lowering.proofs.Lines.{stays_on, waits_below}
 use Rattle.word_lowering.proofs.NumberLines.{constant_given, getting, variable}
 use Rattle.word_lowering.proofs.OperationRuns.{Given}
-use Rattle.word_lowering.proofs.Related.{Both, body_of, high, within}
+use Rattle.word_lowering.proofs.Related.{Both, body_of, high, within, store_of}
 use Rattle.word_lowering.proofs.Scenes.{house, of_value, IsLiteral, number_in}
 use Rattle.word_lowering.proofs.Settling.{LabelsLead, code_here, code_next, gives_settles}
 use Rattle.word_lowering.proofs.ShapeFacts.{never}
@@ -172,7 +172,7 @@ module _ (x : Basis) (labels : LabelsLead x) (g : Both) (rest : List BlockLine) 
         left = refl;
       }
 
-      new_text : New x.table x.blocks x.small (all_sites x g naming rest y) y.linked g.call.site (of_value to) g.memory g.world
+      new_text : New x.table x.blocks x.small (all_sites x g naming rest y) y.linked g.call.site (of_value to) (store_of g) g.world
           (all_sites x g naming rest y) (call g.call.site text_temps g.call.vars)
       new_text = record {
         item = λ u i h. own_text g.call.site (of_value to) behind_here (length text) i named_text;

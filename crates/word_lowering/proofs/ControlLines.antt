@@ -15,30 +15,31 @@ use Rattle.flat_code.specs.declared.line.Line.TheVariants as L
 use Rattle.flat_code.specs.Fits.{is_value}
 use Rattle.flat_code.specs.Lines.{leaps_where, turns_where}
 use Rattle.flat_code.specs.Running.{scene_of}
-use Rattle.flat_code.specs.Scene.{Temps, Passes}
+use Rattle.flat_code.specs.Scene.{Passes, Enters, Turns}
 use Rattle.flat_code.specs.Codes.{block_does}
 use Rattle.flat_code.specs.Shapes.{number, shape_of}
 use Rattle.word_code.specs.declared.word.Test.{Test}
 use Rattle.word_code.specs.declared.word.Test.TheVariants as test
 use Rattle.word_code.specs.declared.word.WordInstr.{WordInstr}
-use Rattle.word_code.specs.declared.word.WordInstr.TheVariants.{Constant, Jump, Branch}
+use Rattle.word_code.specs.declared.word.WordInstr.TheVariants.{Constant, Jump, Branch, Spend, SpendIf}
 use Rattle.word_code.specs.Words.{Vars, put, from_label, holds}
-use Rattle.word_code.proofs.ForCallers.{none, at, run_label, run_jump}
+use Rattle.word_code.proofs.ForCallers.{none, at, then_runs, run_constant, run_label, run_jump, run_past, run_unspent, spends_if}
 use Rattle.word_lowering.specs.declared.homes.TheConstants.{FIRST}
 use Rattle.word_lowering.specs.Operations.{word}
 use Rattle.word_lowering.specs.LineCode.{variable_of, own_label}
 use Rattle.word_lowering.proofs.OrdinalRuns.{put_low, Leads}
-use Rattle.word_lowering.proofs.OpRuns.{leads_off, leads_past, leads_constant}
+use Rattle.word_lowering.proofs.OpRuns.{leads_off, leads_past, leads_constant, same_put}
 use Rattle.word_lowering.proofs.OperationRuns.{Led}
 use Rattle.word_lowering.proofs.Arithmetic.{equal_is}
 use Rattle.word_lowering.proofs.Sites.{word_of}
 use Rattle.word_lowering.proofs.Scenes.{of_value, house}
-use Rattle.word_lowering.proofs.Related.{Both, body_of, within, high, code_behind}
-use Rattle.word_lowering.proofs.Lines.{Basis, all_procs, all_sites, fits_here, starts, IsGood, known, lower, Settles, using_settles}
+use Rattle.word_lowering.proofs.Related.{Both, body_of, with_units, within, high, low, code_behind, store_of}
+use Rattle.word_lowering.proofs.Lines.{Basis, all_procs, all_sites, changed, fits_here, goes_from, good_same, good_units, starts, stands_next, IsGood, known, lower}
+use Rattle.word_lowering.proofs.Lines.{Settles, spends_settles, using_settles}
 use Rattle.word_lowering.proofs.LineFits.{some_kind, int_shape, bool_shape, ordinal_shape}
-use Rattle.word_lowering.proofs.Gets.{SameTemps, same_temps}
+use Rattle.word_lowering.proofs.Gets.{same_temps}
 use Rattle.word_lowering.proofs.Moves.{all_same}
-use Rattle.word_lowering.proofs.Settling.{LabelsLead, leaps_settles, passes_settles, silent_settles, turns_settles, Comes}
+use Rattle.word_lowering.proofs.Settling.{LabelsLead, leaps_settles, passes_settles, turns_settles, Comes}
 use Rattle.word_lowering.proofs.ValueFacts.{operand, has_type, look_of, type_in, Operand}
 use Rattle.nim_meaning.specs.Values.{Value, number_of}
 
@@ -56,7 +57,7 @@ module _ (x : Basis) (g : Both) (line : BlockLine) (rest : List BlockLine) (y : 
       → g.call.temps.values t ≡ Some v → Operand x g.call t v
   number_read t v ty values typed shape e =
       let n = has_type x g.call.site (of_value t) ty y.linked.0 typed in
-      operand x g.memory g.world (all_sites x g line rest y) g.call t v values y.linked.0 y.hold.0 n.named e
+      operand x (store_of g) g.world (all_sites x g line rest y) g.call t v values y.linked.0 y.hold.0 n.named e
       (look_of x g.call.site (of_value t) ty n ∙ shape)
 
   abbrev pub kind_at : ℕ → TypeKind
@@ -88,17 +89,11 @@ module _ (x : Basis) (g : Both) (line : BlockLine) (rest : List BlockLine) (y : 
   where_settles labels true name h k = leaps_settles x g line rest y labels name (h refl)
   where_settles labels false name h k = k refl
 
-  pub turn_settles : LabelsLead x → (temps : Temps) → SameTemps x g line rest y temps → (holds : Bool) (name : ℕ)
-      → (holds ≡ true → (there : List WordInstr) → from_label (own_label name) (word_of x.table x.blocks (body_of g)).lines ≡ Some there
-      → Comes x g line rest y there)
+  pub turn_settles : (holds : Bool) (name : ℕ) → (holds ≡ true → Settles x (starts g line rest) rest (Turns g.call.temps name))
       → (holds ≡ false → Settles x (starts g line rest) rest (Passes (Answers [] 1 g.call.temps g.world)))
-      → Settles x (starts g line rest) rest (turns_where (scene_of (high x.table x.blocks (starts g line rest))) holds temps name)
-  turn_settles labels temps same true name h k = turns_settles x g line rest y labels temps same name (h refl)
-  turn_settles labels temps same false name h k = k refl
-
-  -- no more lines
-  pub stays_here : (k : List WordInstr) (w : Vars) → Leads x.live (all_procs x) (within x.table x.blocks g) g.memory g.words k w k 0
-  stays_here k w = record { vars = w; same = all_same w; runs = none (lower x) (at (within x.table x.blocks g) g.memory k w g.words) }
+      → Settles x (starts g line rest) rest (turns_where (scene_of (high x.table x.blocks (starts g line rest))) holds g.call.temps name)
+  turn_settles true name h k = h refl
+  turn_settles false name h k = k refl
 
 module _ (x : Basis) (labels : LabelsLead x) (g : Both) (rest : List BlockLine) where
   abbrev pub FollowedHere : Line → Type 0
@@ -121,7 +116,16 @@ module _ (x : Basis) (labels : LabelsLead x) (g : Both) (rest : List BlockLine) 
   })
 
   pub enter_line : FollowedHere L.Enter
-  enter_line y = silent_settles x g (plain L.Enter) rest y g.call.temps (same_temps x g (plain L.Enter) rest y) 1 refl
+  enter_line y =
+      let line = plain L.Enter in
+      spends_settles x (starts g line rest) rest Enters refl Spend k g.call.vars g.words refl 0 (omega arith)
+      (none (lower x) (low x.table x.blocks (starts g line rest)))
+      (λ units runs.
+      let h = with_units g units in
+      goes_from x (low x.table x.blocks (starts g line rest)) (starts h line rest)
+      (changed h rest g.call.temps g.call.vars g.memory g.words g.awaits g.world) rest
+      (good_same x h line rest (good_units x (starts g line rest) units y) g.call.vars g.words g.awaits rest (all_same g.call.vars)
+      (stands_next x.table x.blocks (body_of g) line rest y.stands)) 1 1 g.call.temps g.world runs (omega arith) (omega arith) refl)
 
   jump_led : (there : List WordInstr) (name : ℕ) → from_label (own_label name) (word_of x.table x.blocks (body_of g)).lines ≡ Some there
       → Led x.live (all_procs x) (within x.table x.blocks g) g.memory g.words (Jump (own_label name) ∷ k) g.call.vars there
@@ -139,10 +143,21 @@ module _ (x : Basis) (labels : LabelsLead x) (g : Both) (rest : List BlockLine) 
   pub jump_line : (name : ℕ) → FollowedHere (L.Jump name)
   jump_line name y = leaps_settles x g (plain (L.Jump name)) rest y labels name (λ there stands. jump_led there name stands)
 
+  -- the jump behind a unit that was spent
+  jumps : (k : List WordInstr) (vars : Vars) (units : Option ℕ) (there : List WordInstr) (name : ℕ)
+      → from_label (own_label name) (word_of x.table x.blocks (body_of g)).lines ≡ Some there
+      → Leads x.live (all_procs x) (within x.table x.blocks (with_units g units)) g.memory g.words (Jump (own_label name) ∷ k) vars there 1
+  jumps k vars units there name stands = record {
+    vars = vars;
+    same = all_same vars;
+    runs = run_jump x.live (all_procs x) (within x.table x.blocks (with_units g units)) g.memory k vars g.words (own_label name) there stands;
+  }
+
   pub turn_line : (name : ℕ) → FollowedHere (L.Turn name)
   turn_line name y =
-      turns_settles x g (plain (L.Turn name)) rest y labels g.call.temps (same_temps x g (plain (L.Turn name)) rest y) name
-      (λ there stands. jump_led there name stands)
+      let line = plain (L.Turn name) in
+      turns_settles x g line rest y labels name Spend (Jump (own_label name) ∷ k) g.call.vars refl 0 (omega arith) (all_same g.call.vars)
+      (none (lower x) (low x.table x.blocks (starts g line rest))) (λ units there stands. jumps k g.call.vars units there name stands)
 
   -- ---- by a bool
 
@@ -208,15 +223,58 @@ module _ (x : Basis) (labels : LabelsLead x) (g : Both) (rest : List BlockLine) 
       (λ h there stands. bool_leads from v o test.Equal name there (is ∙ h) stands)
       (λ h. passes_settles x g line rest y g.call.temps same 1 (omega arith) (bool_passes from v o test.Equal name (is ∙ h))))
 
-  pub turn_if_line : (from name : ℕ) → FollowedHere (L.TurnIf from name)
-  turn_if_line from name y =
-      let line = plain (L.TurnIf from name) in
-      let same = same_temps x g line rest y in
-      using_settles x (starts g line rest) rest (g.call.temps.values from)
-      (λ v. turns_where (scene_of (high x.table x.blocks (starts g line rest))) (is_true (number_of v)) g.call.temps name)
-      (λ v e.
-      let o = bool_read x g line rest y from v (fits_here x.table x.blocks (body_of g) line rest y.stands) e in
-      let is : holds test.Unequal (word (number_of v)) 0 ≡ is_true (number_of v) = ap not (zero_is from v o) in
-      turn_settles x g line rest y labels g.call.temps same (is_true (number_of v)) name
-      (λ h there stands. bool_leads from v o test.Unequal name there (is ∙ h) stands)
-      (λ h. passes_settles x g line rest y g.call.temps same 1 (omega arith) (bool_passes from v o test.Unequal name (is ∙ h))))
+  -- a turn, or none
+  module _ (from name : ℕ) where
+    abbrev turn_if : BlockLine
+    turn_if = plain (L.TurnIf from name)
+
+    module _ (y : IsGood x (starts g turn_if rest)) (v : Value) (o : Operand x g.call from v) where
+      abbrev at_variable : ℕ
+      at_variable = from_variable from v o
+
+      abbrev behind : List WordInstr
+      behind = Branch test.Unequal at_variable FIRST (own_label name) ∷ k
+
+      abbrev vars : Vars
+      vars = put g.call.vars FIRST 0
+
+      is : holds test.Unequal (word (number_of v)) 0 ≡ is_true (number_of v)
+      is = ap not (zero_is from v o)
+
+      turns_on : is_true (number_of v) ≡ true → Settles x (starts g turn_if rest) rest (Turns g.call.temps name)
+      turns_on h =
+          turns_settles x g turn_if rest y labels name (SpendIf test.Unequal at_variable FIRST) behind vars
+          (spends_if x.live (all_procs x) (within x.table x.blocks g) g.memory behind vars g.words test.Unequal at_variable FIRST (reads from v o) refl
+          true (is ∙ h)) 1 (omega arith) (same_put g.call.vars FIRST 0 (omega arith) (omega arith))
+          (run_constant x.live (all_procs x) (within x.table x.blocks g) g.memory (SpendIf test.Unequal at_variable FIRST ∷ behind) g.call.vars g.words
+          FIRST 0)
+          (λ units there stands.
+          leads_off x.live (all_procs x) (within x.table x.blocks (with_units g units)) g.memory g.words k there vars test.Unequal at_variable FIRST
+          (own_label name) (word (number_of v)) 0 (reads from v o) refl (is ∙ h) stands)
+
+      goes_past : is_true (number_of v) ≡ false → Comes x g turn_if rest y k
+      goes_past h = record {
+        steps = 1 + 1 + 1;
+        some = omega arith;
+        few = omega arith;
+        leads = record {
+          vars = vars;
+          same = same_put g.call.vars FIRST 0 (omega arith) (omega arith);
+          runs = then_runs x.live (all_procs x) (then_runs x.live (all_procs x)
+              (run_constant x.live (all_procs x) (within x.table x.blocks g) g.memory (SpendIf test.Unequal at_variable FIRST ∷ behind) g.call.vars
+              g.words FIRST 0)
+              (run_unspent x.live (all_procs x) (within x.table x.blocks g) g.memory behind vars g.words test.Unequal at_variable FIRST
+              (reads from v o) refl (is ∙ h)))
+              (run_past x.live (all_procs x) (within x.table x.blocks g) g.memory k vars g.words test.Unequal at_variable FIRST (own_label name)
+              (reads from v o) refl (is ∙ h));
+        };
+      }
+
+    pub turn_if_line : FollowedHere (L.TurnIf from name)
+    turn_if_line y =
+        using_settles x (starts g turn_if rest) rest (g.call.temps.values from)
+        (λ v. turns_where (scene_of (high x.table x.blocks (starts g turn_if rest))) (is_true (number_of v)) g.call.temps name)
+        (λ v e.
+        let o = bool_read x g turn_if rest y from v (fits_here x.table x.blocks (body_of g) turn_if rest y.stands) e in
+        turn_settles x g turn_if rest y (is_true (number_of v)) name (turns_on y v o)
+        (λ h. passes_settles x g turn_if rest y g.call.temps (same_temps x g turn_if rest y) 1 (omega arith) (goes_past y v o h)))

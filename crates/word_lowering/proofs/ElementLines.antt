@@ -56,7 +56,7 @@ use Rattle.word_lowering.proofs.OpRuns.{same_put}
 use Rattle.word_lowering.proofs.OrdinalRuns.{AllSame, put_here, put_low, put_other}
 use Rattle.word_lowering.proofs.PartLines.{deeper_in, leads_near, leads_on}
 use Rattle.word_lowering.proofs.ReadFacts.{each_call, read_location}
-use Rattle.word_lowering.proofs.Related.{Both, body_of, high, routines, within}
+use Rattle.word_lowering.proofs.Related.{Both, body_of, high, routines, within, store_of}
 use Rattle.word_lowering.proofs.Scenes.{IsNamed, Leads, Points, address_of, house, looked, of_location, of_value}
 use Rattle.word_lowering.proofs.Settling.{LabelsLead, code_here, code_next}
 use Rattle.word_lowering.proofs.ShapeFacts.{never, of_numbers, shape_bytes}
@@ -266,7 +266,7 @@ module _ (x : Basis) (labels : LabelsLead x) (g : Both) (rest : List BlockLine) 
           (with_value to g.call.temps (load g.world (location_at g.call.temps l))) g.world))
       element_settles l leads_there =
           let v : Value = load g.world (location_at g.call.temps l) in
-          let there = led_located x sites good_there.linked g.memory g.world (each_call x led element_here rest good_there) good_there.memory led.call
+          let there = led_located x sites good_there.linked (store_of g) g.world (each_call x led element_here rest good_there) good_there.memory led.call
           (inl refl)
           good_there.hold.0.items l a (looked x.table g.call.site (of_value to)) leads_there in
           let get = comes v there in

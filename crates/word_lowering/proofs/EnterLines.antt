@@ -3,7 +3,7 @@ use Rattle.std.proofs.Common.{◌≡◌, inl, ℕ, suc, ◌+◌, ◌*◌, ◌^�
 use Rattle.std.proofs.Common.{refl, sym, ap, subst, ◌∙◌, arith}
 use Rattle.std.specs.Prelude.{nat_lt, not}
 use Rattle.std.proofs.lemmas.Bool.{cond-true, lt-ltb}
-use Rattle.arc_base.specs.Simulation.{Does, AreOf, Steps}
+use Rattle.arc_base.specs.Simulation.{Steps}
 use Rattle.nim_program.specs.declared.program.HookOf.{HookOf}
 use Rattle.nim_meaning.specs.Meaning.{seen_call}
 use Rattle.nim_meaning.specs.Values.{Slot}
@@ -21,7 +21,7 @@ use Rattle.word_lowering.proofs.Callees.{Callee}
 use Rattle.word_lowering.proofs.EnterRuns.{code_called, within_then, enters, memory_then}
 use Rattle.word_lowering.proofs.FirstPlaces.{Gave, slots_of, gave_still}
 use Rattle.word_lowering.proofs.LabelsHere.{code_is}
-use Rattle.word_lowering.proofs.Lines.{Basis, all_procs, IsGood, known, lines_left, pairs, starts, machine}
+use Rattle.word_lowering.proofs.Lines.{Basis, FollowsFrom, all_procs, IsGood, known, starts, machine}
 use Rattle.word_lowering.proofs.NewCalls.{VarsThen, sites_then, linked_then}
 use Rattle.word_lowering.proofs.NewStates.{ended, ready, world_then}
 use Rattle.word_lowering.proofs.OrdinalRuns.{put_here, put_other}
@@ -96,7 +96,7 @@ module _ (x : Basis) (g : Both) (line : BlockLine) (rest : List BlockLine) (y : 
   pub entered_line : g.call.vars FIRST ≡ Some left → (l : BlockLine) (ls : List BlockLine) → c.body.proc.lines ≡ l ∷ ls
       → (t : WordState) (before work : ℕ) → before + 10 ≤ 16 * work
       → Runs x.live (all_procs x) before t (at (within x.table x.blocks g) g.memory (code_called x g line rest y c to) g.call.vars g.words)
-      → (done : ℕ) → Does (machine x) (AreOf (pairs x)) (lines_left x) 16 (done, t) (high x.table x.blocks (starts g line rest))
+      → FollowsFrom x t (starts g line rest)
       (entered (high x.table x.blocks (starts g line rest)) rest to slots work left (proc_of (known x) c.body.proc) (l ∷ ls))
   entered_line number l ls is t before work few_before runs_before done =
       let runs : c.body.own.runs ≡ true = c.runs ∙ ap (λ q. not (is_empty q)) is in
@@ -126,6 +126,6 @@ module _ (x : Basis) (g : Both) (line : BlockLine) (rest : List BlockLine) (y : 
         subst (λ es. Steps (machine x) (before + (2 + r.steps)) (done, t) es (16 * (work + slot_bytes (slots_of x.table c.body))) last)
             (no_more c.body.proc.hook)
             (record { work = r2.work; within = (let w = r2.within in omega (arith, w, less, few_before)); by = r2.by }),
-        ((then, r.good, r3.0), refl, refl),
+        (inl (then, r.good, r3.0), refl, refl),
         inl (omega arith),
       )

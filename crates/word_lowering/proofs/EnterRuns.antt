@@ -73,6 +73,7 @@ module _ (x : Basis) (g : Both) (line : BlockLine) (rest : List BlockLine) (y : 
   -- the new call
   abbrev pub within_then : Within
   within_then = record {
+    units = g.units;
     input = g.input;
     proc = word_of x.table x.blocks c.body;
     base = g.call.site.base + room (body_of g);

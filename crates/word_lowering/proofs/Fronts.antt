@@ -155,6 +155,9 @@ module _ (own many : ℕ) where
     turn_front counter last true label = record { is = λ k. refl; fine = (inr high, (first_label, tt)) }
     turn_front counter last false label = record { is = λ k. refl; fine = (inr high, (first_label, tt)) }
 
+  pub turn_if_front : (from label : ℕ) → 7 < label → IsFront own many (operations.turn_if_code from label)
+  turn_if_front from label far = record { is = λ k. refl; fine = (inr far, tt) }
+
   pub unary_front : (operator : UnaryOperator) (to from : ℕ) → IsFront own many (operations.unary_code operator to from)
   unary_front unary.Plus to from = record { is = λ k. refl; fine = tt }
   unary_front unary.Negate to from = record { is = λ k. refl; fine = (inl (omega arith), tt) }
@@ -174,9 +177,6 @@ module _ (own many : ℕ) where
 
   pub unless_front : (from label : ℕ) → 7 < label → IsFront own many (operations.unless_code from label)
   unless_front from label far = record { is = λ k. refl; fine = (inr far, tt) }
-
-  pub when_front : (from label : ℕ) → 7 < label → IsFront own many (operations.if_code from label)
-  when_front from label far = record { is = λ k. refl; fine = (inr far, tt) }
 
   pub beyond_front : (inclusive : Bool) (counter last label : ℕ) → 7 < label → IsFront own many (operations.beyond_code inclusive counter last label)
   beyond_front true counter last label far = record { is = λ k. refl; fine = (inr far, tt) }

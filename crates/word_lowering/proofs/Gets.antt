@@ -1,5 +1,6 @@
 -- A place of the running call gets a value: what is true then.
-use Rattle.std.proofs.Common.{◌≡◌, ◌≢◌, ◌⊎◌, inl, inr, ℕ, suc, ◌+◌, ◌*◌, ◌<◌, ◌≤◌, List, [], ◌∷◌, map, Bool, true, false, refl, sym, ap, subst, ◌∙◌, arith}
+use Rattle.std.proofs.Common.{◌≡◌, ◌≢◌, ◌⊎◌, inl, inr, ℕ, suc, ◌+◌, ◌*◌, ◌<◌, ◌≤◌, List, [], ◌∷◌, map, Bool, true, false, refl, sym, ap, subst, ◌∙◌}
+use Rattle.std.proofs.Common.{arith}
 use Rattle.std.proofs.Common.{Option, Some}
 use Rattle.nim_meaning.specs.Values.{Value, bytes, Slot, Holds, Standing}
 use Rattle.nim_meaning.specs.State.{World, held, with_slot, slot_at, frame_at, with_slot_of}
@@ -27,9 +28,10 @@ use Rattle.word_lowering.proofs.SitesApart.{houses, site_at, one_level, variable
 use Rattle.word_lowering.proofs.Keeping.{number_cases, spot_held, spot_memory, points_there, to_memory, value_no_location, value_no_place, outside_still}
 use Rattle.word_lowering.proofs.Keeping.{location_no_place, call, Edit, nowhere, somewhere, Worlds, worlds_same, Kept, New, same_numbers, away_cases}
 use Rattle.word_lowering.proofs.Keeping.{own_text, AmongCalls}
-use Rattle.word_lowering.proofs.Related.{Both, body_of, within, low, code_behind, StandAt, MemoryGood, AllFrames, called_by}
+use Rattle.word_lowering.proofs.Related.{Both, body_of, within, low, code_behind, StandAt, MemoryGood, AllFrames, called_by, store_with}
 use Rattle.word_lowering.proofs.Lines.{Basis, all_procs, changed, starts, IsGood, Settles, goes_on, all_sites, good_changed, waits_below, stands_next}
-use Rattle.word_lowering.proofs.ValueFacts.{different, value_plain, put_here, put_away, put_still}
+use Rattle.word_lowering.proofs.ValueFacts.{different, value_plain, put_here, put_away, put_still, numbers_there}
+use Rattle.word_lowering.proofs.Items.{item_of}
 use Rattle.word_lowering.proofs.Sources.{Lying, text_beside, lying_all, size_is, word_is, Source, number_of_single, to_word_by, to_bytes_by}
 use Rattle.nim_meaning.specs.Deeds.{Answers}
 use Rattle.nim_meaning.specs.Places.{root_of, through_slot}
@@ -92,6 +94,38 @@ module _ (x : Basis) (g : Both) (line : BlockLine) (rest : List BlockLine) (y : 
     pub few : steps ≤ most
     pub runs : Runs x.live (all_procs x) steps (at (within x.table x.blocks g) g.memory lines g.call.vars g.words)
         (at (awaiting (within x.table x.blocks g) awaits) memory k vars words)
+
+  -- the same, where it isn't said what stands there then
+  pub record Changes (lines k : List WordInstr) (f : Name) (most : ℕ) : Type 0 where
+    pub vars : Vars
+    pub memory : Memory
+    pub words : Vars
+    pub awaits : ℕ
+    pub good : MemoryGood x.table x.blocks sites x.first memory
+    pub edit : Edit x.table x.blocks x.small sites y.linked site f g.memory memory
+    pub variables : (h : Name) (u : ℕ) → IsThere site h → h ≢ f → (house site h).home ≡ Variable u → vars u ≡ g.call.vars u
+    pub left : vars LEFT ≡ g.call.vars LEFT
+    pub steps : ℕ
+    pub some : 0 < steps
+    pub few : steps ≤ most
+    pub runs : Runs x.live (all_procs x) steps (at (within x.table x.blocks g) g.memory lines g.call.vars g.words)
+        (at (awaiting (within x.table x.blocks g) awaits) memory k vars words)
+
+  abbrev pub changes_of : {lines k : List WordInstr} {f : Name} {v : Value} {most : ℕ} → Gets lines k f v most → Changes lines k f most
+  changes_of r = record {
+    vars = r.vars;
+    memory = r.memory;
+    words = r.words;
+    awaits = r.awaits;
+    good = r.good;
+    edit = r.edit;
+    variables = r.variables;
+    left = r.left;
+    steps = r.steps;
+    some = r.some;
+    few = r.few;
+    runs = r.runs;
+  }
 
   pub high_variable : (h : Name) (u : ℕ) → IsThere site h → (house site h).home ≡ Variable u → OWN_FROM ≤ u
   high_variable h u there home = by (houses x.table x.blocks site h y.linked.0 there).where_is
@@ -222,30 +256,48 @@ module _ (x : Basis) (g : Both) (line : BlockLine) (rest : List BlockLine) (y : 
       apart h (inl ne) e = ne refl
       apart h (inr ne) e = ne e
 
-  pub good_value : (after : List BlockLine) (stand : StandAt x.table x.blocks (body_of g) after) (lines k : List WordInstr) (t : ℕ) (v : Value) (most : ℕ)
-      → IsThere site (of_value t)
-      → has_shape v (looked x.table site (of_value t)) ≡ true → (r : Gets lines k (of_value t) v most)
+  -- what stands at a temporary's home may have blocks
+  pub good_item : (after : List BlockLine) (stand : StandAt x.table x.blocks (body_of g) after) (lines k : List WordInstr) (t : ℕ) (v : Value) (most : ℕ)
+      → IsThere site (of_value t) → (r : Changes lines k (of_value t) most)
+      → IsItem x.table (store_with g r.memory) (call site (with_value t g.call.temps v) r.vars) (of_value t) v
       → IsGood x (changed g after (with_value t g.call.temps v) r.vars r.memory r.words r.awaits g.world)
-  good_value after stand lines k t v most there shaped r =
+  good_item after stand lines k t v most there r item_then =
       good_changed x g line rest y after site (of_value t) (with_value t g.call.temps v) r.vars r.memory r.words r.awaits g.world r.good r.edit
       (worlds_same x.table x.blocks x.small sites y.linked site (of_value t) g.world)
       (kept_value t v r.vars r.variables r.left) (λ e. new)
       (λ c from i e. absurd (waits_below x g line rest y c i e)) y.frames y.levels stand
     where
-      new : New x.table x.blocks x.small (all_sites x g line rest y) y.linked g.call.site (of_value t) r.memory g.world (all_sites x g line rest y)
-          (call g.call.site (with_value t g.call.temps v) r.vars)
+      new : New x.table x.blocks x.small (all_sites x g line rest y) y.linked g.call.site (of_value t) (store_with g r.memory) g.world
+          (all_sites x g line rest y) (call g.call.site (with_value t g.call.temps v) r.vars)
       new = record {
-        item = λ u i h. subst (λ w. IsItem x.table r.memory (call g.call.site (with_value t g.call.temps v) r.vars) (of_value t) w)
-            (put_here x g line rest y t v u h) (record {
-              there = there;
-              plain = value_plain (house g.call.site (of_value t)).kind there.kind;
-              shaped = shaped;
-              at = r.at_place;
-            });
+        item = λ u i h. subst (λ w. IsItem x.table (store_with g r.memory) (call g.call.site (with_value t g.call.temps v) r.vars) (of_value t) w)
+            (put_here x g line rest y t v u h) item_then;
         text = λ u n j w e a h. own_text g.call.site (of_value u) n j (subst (IsThere g.call.site) (sym e) there) a;
         led = λ u other e n h. absurd (value_no_location t u (sym e));
         filled = λ n e h. absurd (value_no_place t n (sym e));
       }
+
+  pub good_value : (after : List BlockLine) (stand : StandAt x.table x.blocks (body_of g) after) (lines k : List WordInstr) (t : ℕ) (v : Value) (most : ℕ)
+      → IsThere site (of_value t)
+      → has_shape v (looked x.table site (of_value t)) ≡ true → (r : Gets lines k (of_value t) v most)
+      → IsGood x (changed g after (with_value t g.call.temps v) r.vars r.memory r.words r.awaits g.world)
+  good_value after stand lines k t v most there shaped r =
+      good_item after stand lines k t v most there (changes_of r)
+      (item_of x.table (store_with g r.memory) (call g.call.site (with_value t g.call.temps v) r.vars) (of_value t) v
+      (numbers_there x g.call.site (of_value t) y.linked.0 there) (record {
+        there = there;
+        plain = value_plain (house g.call.site (of_value t)).kind there.kind;
+        shaped = shaped;
+        at = r.at_place;
+      }))
+
+  pub item_settles : (t : ℕ) (v : Value) (most work : ℕ) → IsThere site (of_value t) → (r : Changes code_here code_next (of_value t) most)
+      → IsItem x.table (store_with g r.memory) (call site (with_value t g.call.temps v) r.vars) (of_value t) v → most ≤ 16 * work
+      → Settles x (starts g line rest) rest (Passes (Answers [] work (with_value t g.call.temps v) g.world))
+  item_settles t v most work there r item le =
+      goes_on x (starts g line rest) (changed g rest (with_value t g.call.temps v) r.vars r.memory r.words r.awaits g.world) rest
+      (good_item rest (stands_next x.table x.blocks (body_of g) line rest y.stands) code_here code_next t v most there r item) r.steps work
+      (with_value t g.call.temps v) g.world r.runs r.some (let h = r.few in omega (arith, h, le)) refl
 
   pub value_settles : (t : ℕ) (v : Value) (most work : ℕ) → IsThere site (of_value t) → has_shape v (looked x.table site (of_value t)) ≡ true
       → Gets code_here code_next (of_value t) v most → most ≤ 16 * work
@@ -371,22 +423,17 @@ module _ (x : Basis) (g : Both) (line : BlockLine) (rest : List BlockLine) (y : 
             (subst (λ k. root_of (Standing g.call.site.level k) filled_world ≡ root_of (Standing g.call.site.level k) g.world) (sym number)
             (ap (through_slot (Standing g.call.site.level n)) slot_is ∙ sym (ap (through_slot (Standing g.call.site.level n)) old.1)))
 
-    pub good_place : (after : List BlockLine) (stand : StandAt x.table x.blocks (body_of g) after) (temps : Temps) (same : SameTemps temps)
-        (lines k : List WordInstr) (most : ℕ)
-        → has_shape v (looked x.table site (of_place n)) ≡ true → is_address (house site (of_place n)).kind ≡ false
-        → (r : Gets lines k (of_place n) v most)
+    -- what it has may have blocks
+    pub good_item_place : (after : List BlockLine) (stand : StandAt x.table x.blocks (body_of g) after) (temps : Temps) (same : SameTemps temps)
+        (lines k : List WordInstr) (most : ℕ) (r : Changes lines k (of_place n) most)
+        → IsItem x.table (store_with g r.memory) (call site temps r.vars) (of_place n) v
         → IsGood x (changed g after temps r.vars r.memory r.words r.awaits filled_world)
-    good_place after stand temps same lines k most shaped plain r =
+    good_item_place after stand temps same lines k most r item_then =
         good_changed x g line rest y after site (of_place n) temps r.vars r.memory r.words r.awaits filled_world r.good r.edit
         place_worlds
         (kept_temps site (of_place n) temps r.vars same (λ f u other away home. r.variables f u other (apart f away) home) r.left)
         (λ e. record {
-          item = λ u i h. subst (λ w. IsItem x.table r.memory (call site temps r.vars) (of_place n) w) (held_is u h) (record {
-            there = there;
-            plain = plain;
-            shaped = shaped;
-            at = r.at_place;
-          });
+          item = λ u i h. subst (λ w. IsItem x.table (store_with g r.memory) (call site temps r.vars) (of_place n) w) (held_is u h) item_then;
           text = λ u a b w e f h. absurd (value_no_place u n e);
           led = λ u other e i k. absurd (location_no_place u n e);
           filled = λ m e k. subst (λ j. IsFilled x.table sites filled_world (call site temps r.vars) j)
@@ -406,3 +453,17 @@ module _ (x : Basis) (g : Both) (line : BlockLine) (rest : List BlockLine) (y : 
 
         held_is : (u : Value) → slot_at filled_world g.call.site.level n ≡ Some (Holds u) → v ≡ u
         held_is u e = ap held (sym slot_is ∙ e)
+
+    pub good_place : (after : List BlockLine) (stand : StandAt x.table x.blocks (body_of g) after) (temps : Temps) (same : SameTemps temps)
+        (lines k : List WordInstr) (most : ℕ)
+        → has_shape v (looked x.table site (of_place n)) ≡ true → is_address (house site (of_place n)).kind ≡ false
+        → (r : Gets lines k (of_place n) v most)
+        → IsGood x (changed g after temps r.vars r.memory r.words r.awaits filled_world)
+    good_place after stand temps same lines k most shaped plain r =
+        good_item_place after stand temps same lines k most (changes_of r)
+        (item_of x.table (store_with g r.memory) (call site temps r.vars) (of_place n) v (numbers_there x site (of_place n) y.linked.0 there) (record {
+          there = there;
+          plain = plain;
+          shaped = shaped;
+          at = r.at_place;
+        }))

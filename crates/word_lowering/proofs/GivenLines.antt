@@ -35,7 +35,7 @@ use Rattle.word_lowering.proofs.MovedLines.{value_read}
 use Rattle.word_lowering.proofs.Moves.{is_single, single_word, all_same, same_first, address_runs, single_small}
 use Rattle.word_lowering.proofs.OrdinalRuns.{put_here as put_same, AllSame}
 use Rattle.word_lowering.proofs.OutPlaces.{WrittenAt, written_at, written_stands}
-use Rattle.word_lowering.proofs.ReadFacts.{ValueRead, place_near}
+use Rattle.word_lowering.proofs.ReadFacts.{ValueRead, place_near, item_read}
 use Rattle.word_lowering.proofs.Related.{Both, body_of, called_by, within, MemoryGood}
 use Rattle.word_lowering.proofs.Scenes.{At, Call, site_of, of_value, of_location, house, looked, FromPlace, Leads, Points, of_a_place}
 use Rattle.word_lowering.proofs.ShapeFacts.{never, bytes_is, values_of_numbers}
@@ -138,7 +138,7 @@ module _ (x : Basis) (g : Both) (line : BlockLine) (rest : List BlockLine) (y : 
           = sym (single_is v (looked x.table g.call.site (of_value t)) (numbers_there x g.call.site (of_value t) y.linked.0 r.0.there) r.0.shaped)
           ∙ single in
           let z : InWord value_house = in_word x g.call.site t y.linked.0 r.0.there one in
-          let item = y.hold.0.items (of_value t) v r.0.there e in
+          let item = item_read x g line rest y (of_value t) v r.0.there e in
           let has : g.call.vars z.variable ≡ Some (single_word v) = subst (λ p. At g.memory g.call.site.base g.call.vars p v) z.spot item.at in
           let words : Vars = put g.words u (single_word v) in
           let code : argument_code here label h.home value_house k ≡ Argument u z.variable ∷ k

@@ -18,7 +18,7 @@ use Rattle.word_code.proofs.ForCallers.{Apart, SameOutside}
 use Rattle.word_code.specs.Words.{Vars}
 use Rattle.flat_code.specs.Scene.{Where, Located, Within, Temps}
 use Rattle.flat_code.specs.Shapes.{Shape}
-use Rattle.word_lowering.proofs.ShapeFacts.{never, bytes_is}
+use Rattle.word_lowering.proofs.ShapeFacts.{never}
 use Rattle.word_lowering.specs.declared.homes.TheConstants.{LEFT}
 use Rattle.word_lowering.specs.declared.homes.Alias.{Alias}
 use Rattle.word_lowering.specs.declared.homes.Alias.TheVariants as alias
@@ -31,12 +31,15 @@ use Rattle.word_lowering.specs.declared.may_lower.TheConstants.{MOST_DATA}
 use Rattle.word_lowering.specs.Layouts.{is_address}
 use Rattle.word_lowering.specs.Spots.{spot_by, spot_of}
 use Rattle.word_lowering.specs.LineCode.{variable_in, variable_of}
-use Rattle.word_lowering.proofs.InMemory.{IsAt, carried, carries}
+use Rattle.word_lowering.proofs.InMemory.{IsAt, Carries, carried}
+use Rattle.word_lowering.proofs.Blocks.{Stored}
+use Rattle.word_lowering.proofs.BlocksBorn.{later_same}
+use Rattle.word_lowering.proofs.StoredLater.{stored_kept}
 use Rattle.word_lowering.proofs.Sites.{room, Housing, in_variable, by_address, in_places, in_data, InMemory, Site, next_base, AmongSites, data_end, Linked}
 use Rattle.word_lowering.proofs.Scenes.{address_of, Points, At, Name, of_value, of_location, of_place, number_in, Call, house, Filled, HasValue}
 use Rattle.word_lowering.proofs.Scenes.{IsThere, IsNamed, IsLiteral, looked, IsItem, FromPlace, Leads, IsLedBy, IsLed}
 use Rattle.word_lowering.proofs.Scenes.{IsFilled, Holding}
-use Rattle.word_lowering.proofs.Scenes.{site_of, AllHold}
+use Rattle.word_lowering.proofs.Scenes.{site_of, AllHold, Ground, Store, is_fixed, StoredIn, IsLater, AtHome}
 use Rattle.word_lowering.proofs.SitesApart.{Beside, InRange, in_range, houses, ranges_apart, SiteAt, site_at, IsPlace}
 
 -- ---- spots of places
@@ -76,6 +79,22 @@ pub to_memory : (m : Memory) (base : ℕ) (vars : Vars) (h : Housed) (x : Value)
     → IsAt m (address_of base h.home) x → At m base vars (spot_of h) x
 to_memory m base vars h x plain inside at =
     subst (λ p. At m base vars p x) (sym (spot_memory h plain inside)) (address_of base h.home, points_there base vars h.home inside, at)
+
+-- one that may have blocks
+pub from_home : (k : Store) (base : ℕ) (vars : Vars) (s : Shape) (h : Housed) (x : Value) → is_address h.kind ≡ false → InMemory h.home
+    → AtHome k base vars s (spot_of h) x → StoredIn k (address_of base h.home) s x
+from_home k base vars s h x plain inside at =
+    let lies : AtHome k base vars s (Lies h.home) x = subst (λ p. AtHome k base vars s p x) (spot_memory h plain inside) at in
+    subst (λ a. StoredIn k a s x) (points_is base vars h.home lies.0 inside lies.1) lies.2
+
+pub to_home : (k : Store) (base : ℕ) (vars : Vars) (s : Shape) (h : Housed) (x : Value) → is_address h.kind ≡ false → InMemory h.home
+    → StoredIn k (address_of base h.home) s x → AtHome k base vars s (spot_of h) x
+to_home k base vars s h x plain inside at =
+    subst (λ p. AtHome k base vars s p x) (sym (spot_memory h plain inside)) (address_of base h.home, points_there base vars h.home inside, at)
+
+-- nothing becomes of blocks
+pub later_ground : (ground : Ground) → IsLater ground ground
+later_ground ground = record { blocks = later_same ground.blocks; fixed = refl }
 
 -- ---- memory beside a change
 
@@ -236,18 +255,18 @@ module _ (table : List TypeDef) (blocks : Code BlockLine) (small : data_end tabl
   }
 
   -- what is new of the place itself
-  pub record New (m : Memory) (w : World) (from : List Site) (c : Call) : Type 0 where
-    pub item : (x : Value) → IsThere c.site e → HasValue w c e x → IsItem table m c e x
+  pub record New (k : Store) (w : World) (from : List Site) (c : Call) : Type 0 where
+    pub item : (x : Value) → IsThere c.site e → HasValue w c e x → IsItem table k c e x
     pub text : (t behind bytes : ℕ) (x : Value) → of_value t ≡ e → (house c.site (of_value t)).alias ≡ alias.Text behind bytes
         → c.temps.values t ≡ Some x → IsLiteral c.site.body behind bytes x
     pub led : (t : ℕ) (there : Where) → of_location t ≡ e → IsNamed c.site (of_location t) → c.temps.places t ≡ Some there → IsLed table blocks from w c t there
     pub filled : (n : ℕ) → of_place n ≡ e → Filled w c.site.level n → IsFilled table from w c n
 
-  module _ (m m' : Memory) (edit : Edit m m') (w w' : World) (worlds : Worlds w w') where
-    -- a value in memory
-    at_away : (s : Site) (f : Name) (x : Value) → AmongSites s sites → IsThere s f → InMemory (house s f).home
-        → bytes x ≡ (house s f).bytes → Away s f → IsAt m (address_of s.base (house s f).home) x → IsAt m' (address_of s.base (house s f).home) x
-    at_away s f x i y inside size away at = by edit
+  module _ (k k' : Store) (edit : Edit k.memory k'.memory) (later : IsLater k.ground k'.ground) (w w' : World) (worlds : Worlds w w') where
+    -- words of a place
+    words_away : (s : Site) (f : Name) → AmongSites s sites → IsThere s f → InMemory (house s f).home → Away s f
+        → Carries k.memory k'.memory (address_of s.base (house s f).home) (address_of s.base (house s f).home) (house s f).bytes
+    words_away s f i y inside away = by edit
       where
         here : SiteAt table blocks sites s
         here = site_at table blocks sites s linked i
@@ -256,61 +275,62 @@ module _ (table : List TypeDef) (blocks : Code BlockLine) (small : data_end tabl
         range = in_range table blocks s (house s f) (houses table blocks s f (site_at table blocks sites s linked i).body y) inside
 
         before_next : InRange table blocks s (address_of s.base (house s f).home) (house s f).bytes
-            → address_of s.base (house s f).home + bytes x ≤ next_base sites
-        before_next (inl r) = let l = here.least in let n = here.most in omega (arith, r.2, small, l, n, size)
-        before_next (inr r) = let n = here.most in omega (arith, r.1, n, size)
+            → address_of s.base (house s f).home + (house s f).bytes ≤ next_base sites
+        before_next (inl r) = let l = here.least in let n = here.most in omega (arith, r.2, small, l, n)
+        before_next (inr r) = let n = here.most in omega (arith, r.1, n)
 
-        place_in : InRange table blocks s (address_of s.base (house s f).home) (house s f).bytes → (o : ℕ) → o + 4 ≤ bytes x
+        place_in : InRange table blocks s (address_of s.base (house s f).home) (house s f).bytes → (o : ℕ) → o + 4 ≤ (house s f).bytes
             → IsPlace table blocks (address_of s.base (house s f).home + o)
-        place_in (inl r) o within = inl (omega (arith, r.1), omega (arith, r.2, within, size))
+        place_in (inl r) o within = inl (omega (arith, r.1), omega (arith, r.2, within))
         place_in (inr r) o within = let l = here.least in inr (omega (arith, r.0, l))
 
-        by : Edit m m' → IsAt m' (address_of s.base (house s f).home) x
-        by (nowhere is) = subst (λ n. IsAt n (address_of s.base (house s f).home) x) is at
-        by (somewhere a n still j there within low high) =
+        by : Edit k.memory k'.memory → Carries k.memory k'.memory (address_of s.base (house s f).home) (address_of s.base (house s f).home) (house s f).bytes
+        by (nowhere is) o w inner whole read = subst (λ m. number_at m (address_of s.base (house s f).home + o) Word ≡ Ok w) is read
+        by (somewhere a n still j there within low high) o w inner whole read =
             let end = before_next range in
-            carries m m' (address_of s.base (house s f).home) (address_of s.base (house s f).home) x (λ o w inner is read.
             still (address_of s.base (house s f).home + o) w (omega (arith, end, inner))
-            (apart o inner (ranges_apart table blocks small sites s lo f e linked i j y there inside within away)) read) at
+            (apart (ranges_apart table blocks small sites s lo f e linked i j y there inside within away)) read
           where
-            apart : (o : ℕ) → o + 4 ≤ bytes x
-                → Beside (address_of s.base (house s f).home) (house s f).bytes (address_of lo.base (house lo e).home) (house lo e).bytes
+            apart : Beside (address_of s.base (house s f).home) (house s f).bytes (address_of lo.base (house lo e).home) (house lo e).bytes
                 → Apart (address_of s.base (house s f).home + o) a n
-            apart o inner (inl h) = inl (omega (arith, h, size, low, inner))
-            apart o inner (inr h) = inr (omega (arith, h, high))
-        by (beyond still) =
-            let end = before_next range in
-            carries m m' (address_of s.base (house s f).home) (address_of s.base (house s f).home) x (λ o w inner is read.
-            still (address_of s.base (house s f).home + o) w (omega (arith, end, inner)) read) at
-        by (aside same) =
-            carried m m' (address_of s.base (house s f).home) (address_of s.base (house s f).home) x (λ o inner is.
-            same (address_of s.base (house s f).home + o) (place_in range o inner)) at
+            apart (inl h) = inl (omega (arith, h, low, inner))
+            apart (inr h) = inr (omega (arith, h, high))
+        by (beyond still) o w inner whole read =
+            let end = before_next range in still (address_of s.base (house s f).home + o) w (omega (arith, end, inner)) read
+        by (aside same) o w inner whole read = same (address_of s.base (house s f).home + o) (place_in range o inner) ∙ read
+
+    -- a value in memory
+    at_away : (s : Site) (f : Name) (x : Value) → AmongSites s sites → IsThere s f → InMemory (house s f).home → Away s f
+        → StoredIn k (address_of s.base (house s f).home) (looked table s f) x → StoredIn k' (address_of s.base (house s f).home) (looked table s f) x
+    at_away s f x i y inside away at =
+        let a : ℕ = address_of s.base (house s f).home in
+        let size = (houses table blocks s f (site_at table blocks sites s linked i).body y).bytes in
+        subst (λ fixed. Stored (λ place text. fixed place text ≡ true) k'.ground.blocks k'.memory a (looked table s f) x) (sym later.fixed)
+        (stored_kept (is_fixed k.ground) k.ground.blocks k'.ground.blocks later.blocks k.memory k'.memory a a (looked table s f) x
+        (λ o w within whole read. words_away s f i y inside away o w (omega (arith, within, size)) whole read) at)
 
     pub item_kept : (s : Site) (temps temps' : Temps) (vars vars' : Vars) (f : Name) (x : Value) → AmongSites s sites
-        → Kept s temps temps' vars vars' → Away s f → IsItem table m (call s temps vars) f x → IsItem table m' (call s temps' vars') f x
-    item_kept s temps temps' vars vars' f x i k away item = record {
+        → Kept s temps temps' vars vars' → Away s f → IsItem table k (call s temps vars) f x → IsItem table k' (call s temps' vars') f x
+    item_kept s temps temps' vars vars' f x i kept away item = record {
       there = item.there;
       plain = item.plain;
       shaped = item.shaped;
       at = by (houses table blocks s f (site_at table blocks sites s linked i).body item.there).where_is;
     }
       where
-        size : bytes x ≡ (house s f).bytes
-        size = bytes_is x (looked table s f) (houses table blocks s f (site_at table blocks sites s linked i).body item.there).numbers item.shaped ∙
-            (houses table blocks s f (site_at table blocks sites s linked i).body item.there).bytes
+        stays : InMemory (house s f).home → AtHome k' s.base vars' (looked table s f) (spot_of (house s f)) x
+        stays inside = to_home k' s.base vars' (looked table s f) (house s f) x item.plain inside
+            (at_away s f x i item.there inside away (from_home k s.base vars (looked table s f) (house s f) x item.plain inside item.at))
 
-        stays : InMemory (house s f).home → At m' s.base vars' (spot_of (house s f)) x
-        stays inside = to_memory m' s.base vars' (house s f) x item.plain inside
-            (at_away s f x i item.there inside size away (from_memory m s.base vars (house s f) x item.plain inside item.at))
-
-        by : Housing (room s.body) FIXED_BYTES (data_end table blocks) s.body.start (house s f) → At m' s.base vars' (spot_of (house s f)) x
+        by : Housing (room s.body) FIXED_BYTES (data_end table blocks) s.body.start (house s f)
+            → AtHome k' s.base vars' (looked table s f) (spot_of (house s f)) x
         by (in_variable v is plain low is_word) =
             let spot : spot_of (house s f) ≡ Held v = spot_held (house s f) v plain is in
-            subst (λ p. At m' s.base vars' p x) (sym spot)
-            (k.variables f v item.there away is ∙ subst (λ p. At m s.base vars p x) spot item.at)
+            subst (λ p. AtHome k' s.base vars' (looked table s f) p x) (sym spot)
+            (kept.variables f v item.there away is ∙ subst (λ p. AtHome k s.base vars (looked table s f) p x) spot item.at)
         by (by_address v is address low) = absurd (false_true (sym item.plain ∙ address))
-        by (in_places a is plain whole within) = stays (subst InMemory (sym is) tt)
-        by (in_data a is plain whole low within start) = stays (subst InMemory (sym is) tt)
+        by (in_places at is plain whole within) = stays (subst InMemory (sym is) tt)
+        by (in_data at is plain whole low within start) = stays (subst InMemory (sym is) tt)
 
     from_kept : (from : List Site) → ((r : Site) → AmongSites r from → AmongSites r sites) → (location : Location) (a : ℕ) (t : Shape)
         → FromPlace table from w location a t → FromPlace table from w' location a t
@@ -386,28 +406,28 @@ module _ (table : List TypeDef) (blocks : Code BlockLine) (small : data_end tabl
 
     pub holding_kept : (from : List Site) (s : Site) (temps temps' : Temps) (vars vars' : Vars) → AmongSites s sites
         → ((r : Site) → AmongSites r from → AmongSites r sites)
-        → Kept s temps temps' vars vars' → (s.level ≡ lo.level → New m' w' from (call s temps' vars'))
-        → Holding table blocks m w from (call s temps vars) → Holding table blocks m' w' from (call s temps' vars')
-    holding_kept from s temps temps' vars vars' i up k new old = record {
+        → Kept s temps temps' vars vars' → (s.level ≡ lo.level → New k' w' from (call s temps' vars'))
+        → Holding table blocks k w from (call s temps vars) → Holding table blocks k' w' from (call s temps' vars')
+    holding_kept from s temps temps' vars vars' i up kept new old = record {
       items = items;
       texts = texts;
       led = led;
       filled = filled;
-      left = λ h. k.left ∙ old.left h;
+      left = λ h. kept.left ∙ old.left h;
     }
       where
         back : (f : Name) (x : Value) → IsThere s f → Away s f → HasValue w' (call s temps' vars') f x → HasValue w (call s temps vars) f x
-        back (of_value t) x there away h = sym (k.values t there away) ∙ h
+        back (of_value t) x there away h = sym (kept.values t there away) ∙ h
         back (of_location t) x there away h = absurd h
         back (of_place n) x there away h = sym (worlds.slots s n i there away) ∙ h
 
-        items : (f : Name) (x : Value) → IsThere s f → HasValue w' (call s temps' vars') f x → IsItem table m' (call s temps' vars') f x
+        items : (f : Name) (x : Value) → IsThere s f → HasValue w' (call s temps' vars') f x → IsItem table k' (call s temps' vars') f x
         items f x there h = by (away_cases s f)
           where
-            by : ((s.level ≡ lo.level) × (f ≡ e)) ⊎ Away s f → IsItem table m' (call s temps' vars') f x
-            by (inl y) = subst (λ g. IsItem table m' (call s temps' vars') g x) (sym y.1)
+            by : ((s.level ≡ lo.level) × (f ≡ e)) ⊎ Away s f → IsItem table k' (call s temps' vars') f x
+            by (inl y) = subst (λ g. IsItem table k' (call s temps' vars') g x) (sym y.1)
                 ((new y.0).item x (subst (λ g. IsThere s g) y.1 there) (subst (λ g. HasValue w' (call s temps' vars') g x) y.1 h))
-            by (inr away) = item_kept s temps temps' vars vars' f x i k away (old.items f x there (back f x there away h))
+            by (inr away) = item_kept s temps temps' vars vars' f x i kept away (old.items f x there (back f x there away h))
 
         texts : (t behind bytes : ℕ) (x : Value) → IsNamed s (of_value t) → (house s (of_value t)).alias ≡ alias.Text behind bytes
             → temps'.values t ≡ Some x → IsLiteral s.body behind bytes x
@@ -415,14 +435,14 @@ module _ (table : List TypeDef) (blocks : Code BlockLine) (small : data_end tabl
           where
             by : ((s.level ≡ lo.level) × (of_value t ≡ e)) ⊎ Away s (of_value t) → IsLiteral s.body behind bytes x
             by (inl y) = (new y.0).text t behind bytes x y.1 text h
-            by (inr away) = old.texts t behind bytes x named text (sym (k.texts t behind bytes named text away) ∙ h)
+            by (inr away) = old.texts t behind bytes x named text (sym (kept.texts t behind bytes named text away) ∙ h)
 
         led : (t : ℕ) (there : Where) → IsNamed s (of_location t) → temps'.places t ≡ Some there → IsLed table blocks from w' (call s temps' vars') t there
         led t there named h = by (away_cases s (of_location t))
           where
             by : ((s.level ≡ lo.level) × (of_location t ≡ e)) ⊎ Away s (of_location t) → IsLed table blocks from w' (call s temps' vars') t there
             by (inl y) = (new y.0).led t there y.1 named h
-            by (inr away) = led_kept from up s temps temps' vars vars' i k t there named away (old.led t there named (sym (k.places t away) ∙ h))
+            by (inr away) = led_kept from up s temps temps' vars vars' i kept t there named away (old.led t there named (sym (kept.places t away) ∙ h))
 
         filled : (n : ℕ) → IsThere s (of_place n) → Filled w' s.level n → IsFilled table from w' (call s temps' vars') n
         filled n there h = by (away_cases s (of_place n))
@@ -438,7 +458,7 @@ module _ (table : List TypeDef) (blocks : Code BlockLine) (small : data_end tabl
                     location = y.location;
                     slot = slots ∙ y.slot;
                     address = y.address;
-                    holds = variable_kept s temps temps' vars vars' (of_place n) y.address i k away there
+                    holds = variable_kept s temps temps' vars vars' (of_place n) y.address i kept away there
                         (declared_address (house s (of_place n)).kind there.kind other) y.holds;
                     leads = from_kept from up y.location y.address (looked table s (of_place n)) y.leads;
                   };
@@ -446,8 +466,8 @@ module _ (table : List TypeDef) (blocks : Code BlockLine) (small : data_end tabl
 
     -- calls that wait
     pub all_kept : (cs : List Call) → ((s : Site) → AmongSites s (map site_of cs) → AmongSites s sites)
-        → ((c : Call) (from : List Site) → AmongCalls c cs → c.site.level ≡ lo.level → New m' w' from c)
-        → AllHold table blocks m w cs → AllHold table blocks m' w' cs
+        → ((c : Call) (from : List Site) → AmongCalls c cs → c.site.level ≡ lo.level → New k' w' from c)
+        → AllHold table blocks k w cs → AllHold table blocks k' w' cs
     all_kept [] i new all = tt
     all_kept (c ∷ cs) i new all = (
       holding_kept (map site_of (c ∷ cs)) c.site c.temps c.temps c.vars c.vars (i c.site (inl refl)) i (kept_same c.site c.temps c.vars)

@@ -9,7 +9,8 @@ use Rattle.flat_code.specs.declared.line.Line.TheVariants as L
 use Rattle.flat_code.specs.Whole.{label_in}
 use Rattle.flat_code.specs.Running.{is_name, from_label as line_from}
 use Rattle.word_code.specs.declared.word.WordInstr.{WordInstr}
-use Rattle.word_code.specs.declared.word.WordInstr.TheVariants.{Label, Constant, Copy, Compute, Sum, Place, Datum, Load, Store, Jump, Branch}
+use Rattle.word_code.specs.declared.word.WordInstr.TheVariants.{Label, Spend, SpendIf, Constant, Copy, Compute, Sum, Place, Datum, Load, Store, Jump}
+use Rattle.word_code.specs.declared.word.WordInstr.TheVariants.{Branch}
 use Rattle.word_code.specs.declared.word.WordInstr.TheVariants.{Argument, Call, Return, Read, Write, Exit}
 use Rattle.word_code.specs.Words.{is_label, from_label}
 use Rattle.word_lowering.specs.LineCode as code
@@ -31,6 +32,8 @@ has_name n note = false
 
 label_noted : (n : ℕ) (line : WordInstr) → is_label n line ≡ has_name n (note line)
 label_noted n (Label name) = refl
+label_noted n Spend = refl
+label_noted n (SpendIf test left right) = refl
 label_noted n (Constant to value) = refl
 label_noted n (Copy to from) = refl
 label_noted n (Compute to operation left right) = refl
@@ -189,6 +192,8 @@ leads_to n note = false
 
 branch_noted : (n : ℕ) (line : WordInstr) → branches_to n line ≡ leads_to n (note line)
 branch_noted n (Label name) = refl
+branch_noted n Spend = refl
+branch_noted n (SpendIf test left right) = refl
 branch_noted n (Constant to value) = refl
 branch_noted n (Copy to from) = refl
 branch_noted n (Compute to operation left right) = refl

@@ -29,7 +29,7 @@ use Rattle.word_lowering.proofs.Lines.{Basis, IsGood, Settles, all_sites, branch
 use Rattle.word_lowering.proofs.Lines.{stays_on, using_settles, waits_below}
 use Rattle.word_lowering.proofs.Options.{some_same}
 use Rattle.word_lowering.proofs.ReadFacts.{start_site}
-use Rattle.word_lowering.proofs.Related.{Both, StandAt, body_of, called_by, high, within}
+use Rattle.word_lowering.proofs.Related.{Both, StandAt, body_of, called_by, high, within, store_of}
 use Rattle.word_lowering.proofs.Scenes.{Filled, IsLed, IsLedBy, IsThere, Name, house, number_in, of_location, of_place, site_of}
 use Rattle.word_lowering.proofs.Settling.{LabelsLead, code_here, code_next}
 use Rattle.word_lowering.proofs.ShapeFacts.{never}
@@ -84,7 +84,7 @@ module _ (x : Basis) (g : Both) (line : BlockLine) (rest : List BlockLine) (y : 
         different u (inl ne) e = ne refl
         different u (inr ne) e = ne (ap of_location e)
 
-    led_new : New x.table x.blocks x.small (all_sites x g line rest y) y.linked site (of_location to) g.memory g.world (all_sites x g line rest y)
+    led_new : New x.table x.blocks x.small (all_sites x g line rest y) y.linked site (of_location to) (store_of g) g.world (all_sites x g line rest y)
         (call g.call.site led_temps vars)
     led_new = record {
       item = λ u i h. absurd h;

@@ -7,7 +7,10 @@ mod Arguments
 mod Arithmetic
 mod BasisOf
 mod BitFacts
+mod Blocks
+mod BlocksBorn
 mod BlocksFollowed
+mod Bounded
 mod Bodies
 mod CallBranches
 mod CallLabels
@@ -59,6 +62,7 @@ mod HeapLines
 mod HomesApart
 mod InMemory
 mod ItemLines
+mod Items
 mod Keeping
 mod LabelFacts
 mod LabelsFirst
@@ -86,6 +90,7 @@ mod NextHome
 mod NextLayout
 mod NextLine
 mod NumberLines
+mod NumbersStored
 mod OpRuns
 mod OperandLines
 mod Operands
@@ -130,9 +135,11 @@ mod SmallWords
 mod Sources
 mod StandingLines
 mod StandingWords
+mod StandsAlike
 mod StartPair
 mod StartState
 mod StoreLines
+mod StoredLater
 mod Stores
 mod SwapLines
 mod SwapRuns

@@ -15,7 +15,7 @@ use Rattle.flat_code.specs.declared.line.Piece.{Piece}
 use Rattle.flat_code.specs.declared.line.Piece.TheVariants as P
 use Rattle.flat_code.specs.Whole.{label_in}
 use Rattle.word_code.specs.declared.word.WordInstr.{WordInstr}
-use Rattle.word_code.specs.declared.word.WordInstr.TheVariants.{Constant, Argument, Call, Return, Place, Load, Store}
+use Rattle.word_code.specs.declared.word.WordInstr.TheVariants.{Spend, Constant, Argument, Call, Return, Place, Load, Store}
 use Rattle.rv32_isa.specs.declared.micro_op.Size.TheVariants.{Word as whole}
 use Rattle.word_code.specs.declared.routine.TheConstants.{SWAP}
 use Rattle.word_lowering.specs.declared.homes.TheConstants.{LEFT, FIRST, SECOND, THIRD, FOURTH, FIFTH}
@@ -35,7 +35,7 @@ use Rattle.word_lowering.specs.Stored.{part_at, entry_at, base_at, limit_at}
 use Rattle.word_lowering.specs.LineCode as code
 use Rattle.word_lowering.specs.LineCode.{Around, arguments_of}
 use Rattle.word_lowering.proofs.Fronts.{Coding, IsFront, front_on, front_none, front_more, front_address, moved_front, cleared_front, handed_front}
-use Rattle.word_lowering.proofs.Fronts.{binary_front, turn_front, unary_front, compare_front, narrow_front, unless_front, when_front, beyond_front}
+use Rattle.word_lowering.proofs.Fronts.{binary_front, turn_front, turn_if_front, unary_front, compare_front, narrow_front, unless_front, beyond_front}
 use Rattle.word_lowering.proofs.Fronts.{fits_front}
 
 module _ (own many : ℕ) where
@@ -317,7 +317,8 @@ line_front x (L.Construct to how ty fields from) own high plain =
     (fields_front own 0 x (code.value x to).home ty fields (code.operands x from))
 line_front x (L.Constant to how ty pieces) own high plain = constant_front own 0 (text_in pieces) (code.value x to) pieces
 line_front x (L.Call to how ty proc from) own high plain =
-    called_front own (length from) x high (code.layout_at x proc).runs proc ty to (code.operands x from) (operands_few x from)
+    front_more own (length from) Spend (code.call_code x own proc ty to from) refl
+    (called_front own (length from) x high (code.layout_at x proc).runs proc ty to (code.operands x from) (operands_few x from))
 line_front x (L.Get to from how ty) own high plain = moves_front own 0 (code.value x to) (code.location x from)
 line_front x (L.Look to from) own high plain = moves_front own 0 (code.value x to) (code.location x from)
 line_front x (L.Root to p global) own high plain = front_none own 0
@@ -350,9 +351,9 @@ line_front x (L.Unless from to) own high plain = unless_front own 0 (code.held x
 line_front x (L.Fits from (C.Ordinals low most) to) own high plain = fits_front own 0 (code.held x from) (code.own_label to) low most (far to)
 line_front x (L.Fits from (C.Text text) to) own high plain = front_none own 0
 line_front x (L.Own what from) own high plain = front_none own 0
-line_front x L.Enter own high plain = front_none own 0
+line_front x L.Enter own high plain = record { is = λ k. refl; fine = tt }
 line_front x (L.Turn to) own high plain = record { is = λ k. refl; fine = tt }
-line_front x (L.TurnIf from to) own high plain = when_front own 0 (code.held x from) (code.own_label to) (far to)
+line_front x (L.TurnIf from to) own high plain = turn_if_front own 0 (code.held x from) (code.own_label to) (far to)
 line_front x (L.CountTurn counter last inclusive to) own high plain =
     turn_front own 0 high (code.held x counter) (code.held x last) inclusive (code.own_label to)
 line_front x (L.Return result) own high plain = return_front own 0 x x.setting.start result

@@ -1,12 +1,12 @@
 -- How lines of block code are followed, and what is true behind one that changes one place.
-use Rattle.std.proofs.Common.{◌≡◌, ◌≢◌, ◌⊎◌, inl, inr, ℕ, suc, ◌+◌, ◌*◌, ◌<◌, ◌≤◌, List, [], ◌∷◌, ◌++◌, length, drop}
+use Rattle.std.proofs.Common.{◌≡◌, ◌≢◌, ◌⊎◌, inl, inr, ℕ, zero, suc, ◌+◌, ◌*◌, ◌<◌, ◌≤◌, List, [], ◌∷◌, ◌++◌, length, drop}
 use Rattle.std.proofs.Common.{map, Option, Some, None, Bool, true, false}
 use Rattle.std.proofs.Common.{refl, sym, ap, subst, ◌∙◌, arith, append_assoc}
 use Rattle.std.specs.Prelude.{option_map, slice_get, ◌%◌, ◌==◌, ◌&&◌}
 use Rattle.std.proofs.lemmas.Bool.{and_parts}
 use Rattle.arc_base.specs.Event.{Event}
 use Rattle.arc_base.specs.Behaviour.{no_objects}
-use Rattle.arc_base.specs.Stepping.{Next}
+use Rattle.arc_base.specs.Stepping.{Next, Goes, next_map}
 use Rattle.arc_base.specs.Simulation.{Does, Pairs, AreOf}
 use Rattle.rv32_isa.specs.Image.{stack_at}
 use Rattle.rv32_isa.specs.Machine.{Lives}
@@ -44,13 +44,15 @@ use Rattle.word_code.specs.Routines.{HasData, IsKept}
 use Rattle.word_code.specs.RoutineTable.{RoutineName, Copies, Clears, Swaps, routine}
 use Rattle.word_code.specs.Memory.{Memory, as_state, may_put, own_data_at}
 use Rattle.word_code.specs.Words.{Vars, WordState, step, Fresh, step_of}
-use Rattle.word_code.proofs.ForCallers.{MemoryLaw, Runs}
+use Rattle.word_code.specs.Words.{spent, scene_of, onward as word_onward, does as word_does, settled as word_settled, Spends as WordSpends}
+use Rattle.word_code.proofs.ForCallers.{MemoryLaw, Runs, at, one, then_runs}
 use Rattle.nim_meaning.specs.Deeds.{Answers}
 use Rattle.flat_code.specs.Scene.{Temps, Did, Passes, Known, known_in}
 use Rattle.flat_code.specs.Lines.{using}
 use Rattle.flat_code.specs.Shapes.{has_shape, shape_of}
 use Rattle.flat_code.specs.Fits.{Signature, fits}
-use Rattle.flat_code.specs.Running.{Machine, onward, settled}
+use Rattle.flat_code.specs.Running.{Machine, Counting, Going, Standing, onward, settled, spends}
+use Rattle.flat_code.specs.Running.{within as within_units}
 use Rattle.flat_code.specs.Codes.{block_label, block_does, procs_of, block_plain}
 use Rattle.word_lowering.specs.declared.homes.TheConstants.{OWN_FROM}
 use Rattle.word_lowering.specs.declared.homes.Home.TheVariants.{Variable}
@@ -63,13 +65,14 @@ use Rattle.word_lowering.proofs.Sites.{Body, room, Housing, in_variable, by_addr
 use Rattle.word_lowering.proofs.Sites.{Linked, sigs, globals_of}
 use Rattle.word_lowering.proofs.Scenes.{Name, of_value, Call, site_of, house, IsThere, Holding}
 use Rattle.word_lowering.proofs.SitesApart.{houses, site_at}
-use Rattle.word_lowering.proofs.Keeping.{AmongCalls, call, Edit, nowhere, Worlds, worlds_same, Kept, New, holding_kept, all_kept}
+use Rattle.word_lowering.proofs.Keeping.{AmongCalls, call, Edit, nowhere, Worlds, worlds_same, Kept, New, holding_kept, all_kept, later_ground}
 use Rattle.word_lowering.proofs.OrdinalRuns.{AllSame}
 use Rattle.word_lowering.proofs.Callees.{Callee}
-use Rattle.word_lowering.proofs.Related.{Both, body_of, called_by, sites_of, with_rest, procs, low, high, IsClosed, routines, MemoryGood}
-use Rattle.word_lowering.proofs.Related.{StandAt, AllFrames, Good, StandsThere}
+use Rattle.word_lowering.proofs.Related.{Both, body_of, called_by, sites_of, with_rest, with_units, procs, low, high, within as call_within, IsClosed, routines, MemoryGood}
+use Rattle.word_lowering.proofs.Related.{StandAt, AllFrames, Good, StandsThere, store_of, store_with}
 use Rattle.rv32_isa.specs.Regions.{KeepsSizes}
-use Rattle.arc_base.proofs.ForCallers.{steps_none}
+use Rattle.arc_base.proofs.ForCallers.{steps_none, steps_one, steps_on}
+use Rattle.word_code.specs.declared.word.WordInstr.{WordInstr}
 use Rattle.flat_code.specs.declared.line.Piece.{Piece}
 use Rattle.word_lowering.proofs.SmallWords.{AllSmall}
 use Rattle.flat_code.specs.Pieces.{piece_words, standing_bytes}
@@ -187,6 +190,7 @@ module _ (table : List TypeDef) (blocks : Code BlockLine) (b : Body) (line : Blo
 -- with other temporaries and variables, other memory, another world
 abbrev pub changed : Both → List BlockLine → Temps → Vars → Memory → (words : Vars) → (awaits : ℕ) → World → Both
 changed g rest temps vars m words awaits w = record {
+  units = g.units;
   memory = m;
   input = g.input;
   world = w;
@@ -195,6 +199,7 @@ changed g rest temps vars m words awaits w = record {
   words = words;
   awaits = awaits;
   waiting = g.waiting;
+  ground = g.ground;
 }
 
 -- with other variables
@@ -212,13 +217,6 @@ module _ (x : Basis) where
   abbrev pub IsGood : Both → Type 0
   IsGood g = Good x.table x.blocks x.first g
 
-  -- with the number of lines of word code that were done
-  abbrev pub Pair : Type 0
-  Pair = (g : Both) × IsGood g × ℕ
-
-  abbrev pub pairs : Pairs Pair (ℕ × WordState) (Machine BlockLine)
-  pairs = record { low = λ y. (y.2, low x.table x.blocks y.0); high = λ y. high x.table x.blocks y.0 }
-
   -- a line of word code, where new places have these bytes
   abbrev pub lower : List ℕ → WordState → Next Event WordState
   lower = step x.live (all_procs x)
@@ -230,14 +228,49 @@ module _ (x : Basis) where
   abbrev pub known : Known
   known = known_in x.table
 
-  abbrev pub lines_left : Machine BlockLine → ℕ
-  lines_left m = length m.now.rest
+  -- word code that stands still where a unit is missing
+  abbrev pub StandsStill : WordState → Type 0
+  StandsStill s = (n : ℕ) → machine (n, s) ≡ Goes [] 0 (suc n, s)
+
+  -- with the number of lines of word code that were done
+  abbrev pub Pair : Type 0
+  Pair = ((g : Both) × IsGood g × ℕ) ⊎ ((s : WordState) × StandsStill s × ℕ)
+
+  abbrev low_of : Pair → ℕ × WordState
+  low_of (inl y) = (y.2, low x.table x.blocks y.0)
+  low_of (inr y) = (y.2, y.0)
+
+  abbrev pub going : Both → Counting BlockLine
+  going g = Going g.units (high x.table x.blocks g)
+
+  abbrev high_of : Pair → Counting BlockLine
+  high_of (inl y) = going y.0
+  high_of (inr y) = Standing
+
+  abbrev pub pairs : Pairs Pair (ℕ × WordState) (Counting BlockLine)
+  pairs = record { low = low_of; high = high_of }
+
+  abbrev pub lines_left : Counting BlockLine → ℕ
+  lines_left (Going units m) = length m.now.rest
+  lines_left Standing = 0
+
+  -- from a state of word code on
+  abbrev pub FollowsFrom : WordState → Both → Next Event (Machine BlockLine) → Type 0
+  FollowsFrom t g n = (before : ℕ) → Does machine (AreOf pairs) lines_left 16 (before, t) (going g) (next_map (Going g.units) n)
 
   abbrev pub Follows : Both → Next Event (Machine BlockLine) → Type 0
-  Follows g n = (before : ℕ) → Does machine (AreOf pairs) lines_left 16 (before, low x.table x.blocks g) (high x.table x.blocks g) n
+  Follows g n = FollowsFrom (low x.table x.blocks g) g n
+
+  -- what comes of what a line did
+  abbrev pub settles : Both → List BlockLine → Did → Next Event (Machine BlockLine)
+  settles g rest d = settled block_label (block_does known) (procs_of known x.blocks) (high x.table x.blocks g) rest d
+
+  abbrev pub is_spent : Did → Bool
+  is_spent d = spends block_label (block_does known) (procs_of known x.blocks) d
 
   abbrev pub Settles : Both → List BlockLine → Did → Type 0
-  Settles g rest d = Follows g (settled block_label (block_does known) (procs_of known x.blocks) (high x.table x.blocks g) rest d)
+  Settles g rest d = (before : ℕ) →
+      Does machine (AreOf pairs) lines_left 16 (before, low x.table x.blocks g) (going g) (within_units (is_spent d) g.units (settles g rest d))
 
   -- ---- what comes of a line
 
@@ -270,29 +303,109 @@ module _ (x : Basis) where
   where_there g rest false did fault h = fault
 
   -- so many silent lines
-  pub goes_on : (g g' : Both) (rest : List BlockLine) (good : IsGood g') (n w : ℕ) (temps : Temps) (world : World)
-      → Runs x.live (all_procs x) n (low x.table x.blocks g) (low x.table x.blocks g') → 0 < n → n ≤ 16 * w
-      → high x.table x.blocks g' ≡ onward (high x.table x.blocks g) rest temps world → Settles g rest (Passes (Answers [] w temps world))
-  goes_on g g' rest good n w temps world runs some few e = λ before.
+  pub goes_from : (t : WordState) (g g' : Both) (rest : List BlockLine) (good : IsGood g') (n w : ℕ) (temps : Temps) (world : World)
+      → Runs x.live (all_procs x) n t (low x.table x.blocks g') → 0 < n → n ≤ 16 * w
+      → going g' ≡ Going g.units (onward (high x.table x.blocks g) rest temps world)
+      → FollowsFrom t g (settles g rest (Passes (Answers [] w temps world)))
+  goes_from t g g' rest good n w temps world runs some few e = λ before.
       let r = runs.by x.fresh before in (
         (r.0, low x.table x.blocks g'),
         n,
         record { work = r.1.work; within = omega (arith, r.1.within, few); by = r.1.by },
-        ((g', good, r.0), refl, e),
+        (inl (g', good, r.0), refl, e),
         inl some,
       )
 
+  pub goes_on : (g g' : Both) (rest : List BlockLine) (good : IsGood g') (n w : ℕ) (temps : Temps) (world : World)
+      → Runs x.live (all_procs x) n (low x.table x.blocks g) (low x.table x.blocks g') → 0 < n → n ≤ 16 * w
+      → going g' ≡ Going g.units (onward (high x.table x.blocks g) rest temps world) → Settles g rest (Passes (Answers [] w temps world))
+  goes_on g g' rest good n w temps world runs some few e = goes_from (low x.table x.blocks g) g g' rest good n w temps world runs some few e
+
   -- no line at all
   pub stays_on : (g g' : Both) (rest : List BlockLine) (good : IsGood g') (w : ℕ) (temps : Temps) (world : World)
-      → low x.table x.blocks g' ≡ low x.table x.blocks g → high x.table x.blocks g' ≡ onward (high x.table x.blocks g) rest temps world
+      → low x.table x.blocks g' ≡ low x.table x.blocks g → going g' ≡ Going g.units (onward (high x.table x.blocks g) rest temps world)
       → length rest < length g.rest → Settles g rest (Passes (Answers [] w temps world))
   stays_on g g' rest good w temps world same e less = λ before. (
     (before, low x.table x.blocks g),
     0,
     steps_none machine (before, low x.table x.blocks g) (16 * w),
-    ((g', good, before), ap (λ s. (before, s)) same, e),
+    (inl (g', good, before), ap (λ s. (before, s)) same, e),
     inr less,
   )
+
+  -- ---- units
+
+  -- what is true doesn't ask for units
+  pub good_units : (g : Both) (units : Option ℕ) → IsGood g → IsGood (with_units g units)
+  good_units g units y = record {
+    linked = y.linked;
+    memory = y.memory;
+    hold = y.hold;
+    frames = y.frames;
+    levels = y.levels;
+    stands = y.stands;
+    waits = y.waits;
+    answers = y.answers;
+  }
+
+  -- in front of a line that spends one
+  module _ (g : Both) (l : WordInstr) (k : List WordInstr) (vars words : Vars) where
+    abbrev pub at_spend : WordState
+    at_spend = at (call_within x.table x.blocks g) g.memory (l ∷ k) vars words
+
+    abbrev pub IsSpending : Type 0
+    IsSpending = word_does (scene_of at_spend) l ≡ WordSpends (scene_of at_spend)
+
+    module _ (is : IsSpending) where
+      spend_is : (bytes : List ℕ) (units : Option ℕ) → g.units ≡ units
+          → lower bytes at_spend ≡ spent units (word_onward at_spend k (scene_of at_spend)) at_spend
+      spend_is bytes units e =
+          ap (word_settled x.live (all_procs x) bytes at_spend k) is ∙ ap (λ o. spent o (word_onward at_spend k (scene_of at_spend)) at_spend) e
+
+      stands_still : g.units ≡ Some 0 → StandsStill at_spend
+      stands_still e = λ n. ap (next_map (λ (t : WordState). (suc n, t))) (spend_is (x.fresh n) (Some 0) e)
+
+      spends_free : g.units ≡ None
+          → Runs x.live (all_procs x) 1 at_spend (at (call_within x.table x.blocks (with_units g None)) g.memory k vars words)
+      spends_free e =
+          subst (λ u. Runs x.live (all_procs x) 1 at_spend (at (call_within x.table x.blocks (with_units g u)) g.memory k vars words)) e
+          (one lower (λ bytes. spend_is bytes None e))
+
+      spends_one : (units : ℕ) → g.units ≡ Some (suc units)
+          → Runs x.live (all_procs x) 1 at_spend (at (call_within x.table x.blocks (with_units g (Some units))) g.memory k vars words)
+      spends_one units e = one lower (λ bytes. spend_is bytes (Some (suc units)) e)
+
+  abbrev Spends : Both → List BlockLine → Did → Option ℕ → Type 0
+  Spends g rest d units = (before : ℕ) →
+      Does machine (AreOf pairs) lines_left 16 (before, low x.table x.blocks g) (going g) (within_units true units (settles g rest d))
+
+  -- Behind some lines word code spends a unit, where block code does, and goes on with what is left; or it stands still.
+  pub spends_settles : (g : Both) (rest : List BlockLine) (d : Did) → is_spent d ≡ true → (l : WordInstr) (k : List WordInstr) (vars words : Vars)
+      → IsSpending g l k vars words → (n : ℕ) → n ≤ 15 → Runs x.live (all_procs x) n (low x.table x.blocks g) (at_spend g l k vars words)
+      → ((units : Option ℕ) → Runs x.live (all_procs x) (n + 1) (low x.table x.blocks g)
+      (at (call_within x.table x.blocks (with_units g units)) g.memory k vars words) → FollowsFrom (low x.table x.blocks g) (with_units g units) (settles g rest d))
+      → Settles g rest d
+  spends_settles g rest d is l k vars words spending n few runs then =
+      subst (λ b. (before : ℕ) → Does machine (AreOf pairs) lines_left 16 (before, low x.table x.blocks g) (going g)
+      (within_units b g.units (settles g rest d))) (sym is) (by g.units refl)
+    where
+      by : (units : Option ℕ) → g.units ≡ units → Spends g rest d units
+      by None e =
+          then None (then_runs x.live (all_procs x) runs (spends_free g l k vars words spending e))
+      by (Some zero) e = λ before.
+          let s = at_spend g l k vars words in
+          let r = runs.by x.fresh before in
+          let still = stands_still g l k vars words spending e in
+          let steps = steps_on machine n 1 n 0 (before, low x.table x.blocks g) (r.0, s) (suc r.0, s) [] [] r.1
+          (steps_one machine (r.0, s) (suc r.0, s) [] 0 0 (still r.0) (omega arith)) in (
+            (suc r.0, s),
+            n + 1,
+            record { work = steps.work; within = omega (arith, steps.within, few); by = steps.by },
+            (inr (s, still, suc r.0), refl, refl),
+            inl (omega arith),
+          )
+      by (Some (suc units)) e =
+          then (Some units) (then_runs x.live (all_procs x) runs (spends_one g l k vars words spending units e))
 
   -- ---- what is true behind a line that changes one place
 
@@ -305,18 +418,18 @@ module _ (x : Basis) where
         → Edit x.table x.blocks x.small all_sites y.linked lo e g.memory m
         → Worlds x.table x.blocks x.small all_sites y.linked lo e g.world w
         → Kept x.table x.blocks x.small all_sites y.linked lo e g.call.site g.call.temps temps g.call.vars vars
-        → (g.call.site.level ≡ lo.level → New x.table x.blocks x.small all_sites y.linked lo e m w all_sites (call g.call.site temps vars))
+        → (g.call.site.level ≡ lo.level → New x.table x.blocks x.small all_sites y.linked lo e (store_with g m) w all_sites (call g.call.site temps vars))
         → ((c : Call) (from : List Site) → AmongCalls c (map called_by g.waiting) → c.site.level ≡ lo.level
-        → New x.table x.blocks x.small all_sites y.linked lo e m w from c)
+        → New x.table x.blocks x.small all_sites y.linked lo e (store_with g m) w from c)
         → AllFrames x.table x.blocks w all_sites → length w.frames ≡ length all_sites → StandAt x.table x.blocks (body_of g) after
         → IsGood (changed g after temps vars m words awaits w)
     good_changed after lo e temps vars m words awaits w memory edit worlds kept new others frames levels stands = record {
       linked = y.linked;
       memory = memory;
       hold = (
-        holding_kept x.table x.blocks x.small all_sites y.linked lo e g.memory m edit g.world w worlds all_sites g.call.site g.call.temps temps
+        holding_kept x.table x.blocks x.small all_sites y.linked lo e (store_of g) (store_with g m) edit (later_ground g.ground) g.world w worlds all_sites g.call.site g.call.temps temps
             g.call.vars vars (inl refl) (λ r j. j) kept new y.hold.0,
-        all_kept x.table x.blocks x.small all_sites y.linked lo e g.memory m edit g.world w worlds (map called_by g.waiting)
+        all_kept x.table x.blocks x.small all_sites y.linked lo e (store_of g) (store_with g m) edit (later_ground g.ground) g.world w worlds (map called_by g.waiting)
             (λ s i. inr i) others y.hold.1,
       );
       frames = frames;
@@ -339,9 +452,10 @@ module _ (x : Basis) where
 
     -- where no variable of a place changes
     pub holding_same : (vars : Vars) → AllSame g.call.vars vars
-        → Holding x.table x.blocks g.memory g.world all_sites (call g.call.site g.call.temps vars)
+        → Holding x.table x.blocks (store_of g) g.world all_sites (call g.call.site g.call.temps vars)
     holding_same vars same =
-        holding_kept x.table x.blocks x.small all_sites y.linked above (of_value 0) g.memory g.memory (nowhere refl) g.world g.world
+        holding_kept x.table x.blocks x.small all_sites y.linked above (of_value 0) (store_of g) (store_of g) (nowhere refl) (later_ground g.ground) g.world
+        g.world
         (worlds_same x.table x.blocks x.small all_sites y.linked above (of_value 0) g.world) all_sites g.call.site g.call.temps g.call.temps
         g.call.vars vars (inl refl) (λ r j. j) kept (λ e. absurd (omega (arith, e))) y.hold.0
       where

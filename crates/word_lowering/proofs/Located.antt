@@ -14,9 +14,10 @@ use Rattle.word_lowering.specs.Layouts.{is_address}
 use Rattle.word_lowering.proofs.InMemory.{IsAt, of_numbers as are_numbers}
 use Rattle.word_lowering.proofs.PartsInMemory.{offset, part_within, offset_whole, part_at}
 use Rattle.word_lowering.proofs.ShapePaths.{PathTo, path_in, path_numbers}
-use Rattle.word_lowering.proofs.Sites.{room, Housing, in_variable, by_address, in_places, in_data, InMemory, Site, AmongSites, data_end, Linked}
+use Rattle.word_lowering.proofs.Sites.{room, Housing, in_variable, by_address, in_places, in_data, InMemory, Site, AmongSites, data_end, Linked, IsBody}
 use Rattle.word_lowering.proofs.Scenes.{address_of, Name, of_value, of_place, Call, site_of, house, HasValue, IsThere, looked, IsItem, FromPlace, FromValue}
-use Rattle.word_lowering.proofs.Scenes.{Filled, FromConstant, standing_from, Leads, Holding, AllHold}
+use Rattle.word_lowering.proofs.Scenes.{Filled, FromConstant, standing_from, Leads, Holding, AllHold, Store, IsNumbers}
+use Rattle.word_lowering.proofs.Items.{numbers_of}
 use Rattle.word_lowering.proofs.SitesApart.{houses, site_at}
 use Rattle.word_lowering.proofs.Keeping.{declared_address, from_memory}
 use Rattle.word_lowering.proofs.Lines.{Basis}
@@ -53,7 +54,7 @@ module _ (x : Basis) (sites : List Site) (linked : Linked x.table x.blocks sites
 
   -- a part of a value that is in memory
   pub part_there : (m : Memory) (c : Call) (f : Name) (v : Value) (path : List ℕ) (o : ℕ) (a : ℕ) (t : Shape) → AmongSites c.site sites
-      → IsItem x.table m c f v → InMemory (house c.site f).home → PathTo (looked x.table c.site f) path o t
+      → IsNumbers x.table m c f v → InMemory (house c.site f).home → PathTo (looked x.table c.site f) path o t
       → a ≡ address_of c.site.base (house c.site f).home + o → IsThereAt m (part v path) a t
   part_there m c f v path o a t i item inside to is =
       let place = houses x.table x.blocks c.site f (site_at x.table x.blocks sites c.site linked i).body item.there in
@@ -101,17 +102,17 @@ module _ (x : Basis) (sites : List Site) (linked : Linked x.table x.blocks sites
       by (inr h) = other (declared_address (house s (of_place n)).kind there.kind h)
 
   -- a call at a site
-  pub record CallAt (m : Memory) (w : World) (s : Site) : Type 0 where
+  pub record CallAt (k : Store) (w : World) (s : Site) : Type 0 where
     pub call : Call
     pub site : call.site ≡ s
     pub from : List Site
-    pub holding : Holding x.table x.blocks m w from call
+    pub holding : Holding x.table x.blocks k w from call
 
-  pub call_at : (m : Memory) (w : World) (cs : List Call) (s : Site) → AllHold x.table x.blocks m w cs → AmongSites s (map site_of cs)
-      → CallAt m w s
-  call_at m w [] s all i = absurd i
-  call_at m w (c ∷ cs) s all (inl e) = record { call = c; site = e; from = map site_of (c ∷ cs); holding = all.0 }
-  call_at m w (c ∷ cs) s all (inr i) = call_at m w cs s all.1 i
+  pub call_at : (k : Store) (w : World) (cs : List Call) (s : Site) → AllHold x.table x.blocks k w cs → AmongSites s (map site_of cs)
+      → CallAt k w s
+  call_at k w [] s all i = absurd i
+  call_at k w (c ∷ cs) s all (inl e) = record { call = c; site = e; from = map site_of (c ∷ cs); holding = all.0 }
+  call_at k w (c ∷ cs) s all (inr i) = call_at k w cs s all.1 i
 
   -- the value of a place that a location begins at
   pub record RootAt (m : Memory) (w : World) (s : Site) (n : ℕ) : Type 0 where
@@ -119,42 +120,49 @@ module _ (x : Basis) (sites : List Site) (linked : Linked x.table x.blocks sites
     pub temps : Temps
     pub value : Value
     pub slot : slot_at w s.level n ≡ Some (Holds value)
-    pub item : IsItem x.table m (record { site = s; temps = temps; vars = vars }) (of_place n) value
+    pub item : IsNumbers x.table m (record { site = s; temps = temps; vars = vars }) (of_place n) value
 
-  pub root_at : (m : Memory) (w : World) (s : Site) (n : ℕ) → AmongSites s sites → CallAt m w s → Filled w s.level n → IsThere s (of_place n)
-      → InMemory (house s (of_place n)).home → RootAt m w s n
-  root_at m w s n i k filled there inside = by k.call k.site k.holding
+  pub root_at : (k : Store) (w : World) (s : Site) (n : ℕ) → AmongSites s sites → CallAt k w s → Filled w s.level n → IsThere s (of_place n)
+      → InMemory (house s (of_place n)).home → RootAt k.memory w s n
+  root_at k w s n i at filled there inside = by at.call at.site at.holding
     where
-      by : (c : Call) → c.site ≡ s → Holding x.table x.blocks m w k.from c → RootAt m w s n
+      by : (c : Call) → c.site ≡ s → Holding x.table x.blocks k w at.from c → RootAt k.memory w s n
       by c e h =
           let was : Filled w c.site.level n = subst (λ z. Filled w z.level n) (sym e) filled in
           let here : IsThere c.site (of_place n) = subst (λ z. IsThere z (of_place n)) (sym e) there in
           let own : is_own (house c.site (of_place n)).kind ≡ true = subst (λ z. is_own (house z (of_place n)).kind ≡ true) (sym e)
           (own_place s n i there inside) in
           let v = (h.filled n here was).own own in
-          let item = h.items (of_place n) v.0 here v.1 in
-          subst (λ z. RootAt m w z n) e (record { vars = c.vars; temps = c.temps; value = v.0; slot = v.1; item = item })
+          let numbers = (houses x.table x.blocks c.site (of_place n) (subst (λ z. IsBody x.table x.blocks z.body) (sym e)
+          (site_at x.table x.blocks sites s linked i).body) here).numbers in
+          let item = numbers_of x.table k c (of_place n) v.0 numbers (h.items (of_place n) v.0 here v.1) in
+          subst (λ z. RootAt k.memory w z n) e (record { vars = c.vars; temps = c.temps; value = v.0; slot = v.1; item = item })
 
   -- ---- at a location
 
-  module _ (m : Memory) (w : World) (each : (s : Site) → AmongSites s sites → CallAt m w s) where
-    pub place_located : (location : Location) (a : ℕ) (t : Shape) → FromPlace x.table sites w location a t → IsThereAt m (load w location) a t
+  module _ (k : Store) (w : World) (each : (s : Site) → AmongSites s sites → CallAt k w s) where
+    abbrev m : Memory
+    m = k.memory
+
+    pub place_located : (location : Location) (a : ℕ) (t : Shape) → FromPlace x.table sites w location a t → IsThereAt k.memory (load w location) a t
     place_located location a t f =
-        let r = root_at m w f.site f.number f.among (each f.site f.among) f.filled f.there f.home in
+        let r = root_at k w f.site f.number f.among (each f.site f.among) f.filled f.there f.home in
         let value : whole_at w location.base ≡ r.value = ap (whole_at w) f.base ∙ ap held r.slot in
         subst (λ y. IsThereAt m (part y location.path) a t) (sym value)
         (part_there m (record { site = f.site; temps = r.temps; vars = r.vars })
         (of_place f.number) r.value location.path f.offset a t f.among r.item f.home f.path f.address)
 
     pub value_located : (c : Call) (temp : ℕ) (path : List ℕ) (a : ℕ) (t : Shape) → AmongSites c.site sites
-        → ((f : Name) (v : Value) → IsThere c.site f → HasValue w c f v → IsItem x.table m c f v)
-        → FromValue x.table c.site c.temps temp path a t → (v : Value) → c.temps.values temp ≡ Some v → IsThereAt m (part v path) a t
+        → ((f : Name) (v : Value) → IsThere c.site f → HasValue w c f v → IsItem x.table k c f v)
+        → FromValue x.table c.site c.temps temp path a t → (v : Value) → c.temps.values temp ≡ Some v → IsThereAt k.memory (part v path) a t
     value_located c temp path a t i items f v e =
-        part_there m c (of_value temp) v path f.offset a t i (items (of_value temp) v f.there e) f.home f.leads f.address
+        part_there m c (of_value temp) v path f.offset a t i (numbers_of x.table k c (of_value temp) v
+        (houses x.table x.blocks c.site (of_value temp) (site_at x.table x.blocks sites c.site linked i).body f.there).numbers
+        (items (of_value temp) v f.there e)) f.home f.leads f.address
 
     -- a part of a constant
-    constant_located : MemoryGood x.table x.blocks sites x.first m → (location : Location) (a : ℕ) (t : Shape) → FromConstant x.table x.blocks location a t
-        → IsReadAt m (load w location) a t
+    constant_located : MemoryGood x.table x.blocks sites x.first k.memory → (location : Location) (a : ℕ) (t : Shape) → FromConstant x.table x.blocks location a t
+        → IsReadAt k.memory (load w location) a t
     constant_located good location a t f =
         let v : Value = value_of f.pieces in
         let numbers = values_of_numbers v f.shape f.numbers f.shaped in
@@ -184,10 +192,10 @@ module _ (x : Basis) (sites : List Site) (linked : Linked x.table x.blocks sites
         from_base b low = omega (arith, low)
 
     -- what a line reads at a location
-    pub led_located : MemoryGood x.table x.blocks sites x.first m → (c : Call) → AmongSites c.site sites
-        → ((f : Name) (v : Value) → IsThere c.site f → HasValue w c f v → IsItem x.table m c f v)
+    pub led_located : MemoryGood x.table x.blocks sites x.first k.memory → (c : Call) → AmongSites c.site sites
+        → ((f : Name) (v : Value) → IsThere c.site f → HasValue w c f v → IsItem x.table k c f v)
         → (there : Where) (a : ℕ) (t : Shape) → Leads x.table x.blocks sites w c.site c.temps there a t
-        → IsReadAt m (load w (location_at c.temps there)) a t
+        → IsReadAt k.memory (load w (location_at c.temps there)) a t
     led_located good c i items (Located location) a t (inl l) = read_there m (load w location) a t good (place_located location a t l)
     led_located good c i items (Located location) a t (inr l) = constant_located good location a t l
     led_located good c i items (Within temp path) a t l =

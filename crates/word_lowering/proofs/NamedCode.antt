@@ -18,7 +18,8 @@ use Rattle.word_code.specs.declared.word.Test.TheVariants as test
 use Rattle.word_code.specs.declared.word.WordOperation.{WordOperation}
 use Rattle.word_code.specs.declared.word.WordOperation.TheVariants as operation
 use Rattle.word_code.specs.declared.word.WordInstr.{WordInstr}
-use Rattle.word_code.specs.declared.word.WordInstr.TheVariants.{Label, Constant, Copy, Compute, Sum, Place, Datum, Load, Store, Jump, Branch}
+use Rattle.word_code.specs.declared.word.WordInstr.TheVariants.{Label, Spend, SpendIf, Constant, Copy, Compute, Sum, Place, Datum, Load, Store, Jump}
+use Rattle.word_code.specs.declared.word.WordInstr.TheVariants.{Branch}
 use Rattle.word_code.specs.declared.word.WordInstr.TheVariants.{Argument, Call, Return, Write, Exit}
 use Rattle.word_code.specs.Words.{are_named, all_named}
 use Rattle.word_lowering.specs.declared.homes.TheConstants.{LEFT, FIRST, SECOND, THIRD, FOURTH, FIFTH, OWN_FROM}
@@ -112,8 +113,15 @@ module _ (vars : ℕ) (many : OWN_FROM ≤ vars) where
       → AllNamed vars (Store address from size ∷ k)
   store a f rest = more_named (and_from _ _ (lt-ltb _ vars a) (lt-ltb _ vars f)) rest
 
+  pub spend : {k : List WordInstr} → AllNamed vars k → AllNamed vars (Spend ∷ k)
+  spend rest = more_named refl rest
+
   pub jump : {to : ℕ} {k : List WordInstr} → AllNamed vars k → AllNamed vars (Jump to ∷ k)
   jump rest = more_named refl rest
+
+  pub spend_if : {test : Test} {left right : ℕ} {k : List WordInstr} → left < vars → right < vars → AllNamed vars k
+      → AllNamed vars (SpendIf test left right ∷ k)
+  spend_if l r rest = more_named (and_from _ _ (lt-ltb _ vars l) (lt-ltb _ vars r)) rest
 
   pub branch : {test : Test} {left right to : ℕ} {k : List WordInstr} → left < vars → right < vars → AllNamed vars k
       → AllNamed vars (Branch test left right to ∷ k)
@@ -237,8 +245,8 @@ module _ (vars : ℕ) (many : OWN_FROM ≤ vars) where
       by false true = constant first_is (branch f first_is rest)
       by false false = constant first_is (compute first_is f first_is (constant second_is (branch second_is first_is rest)))
 
-  pub if_named : (from to : ℕ) {k : List WordInstr} → from < vars → AllNamed vars k → AllNamed vars (operations.if_code from to k)
-  if_named from to f rest = constant first_is (branch f first_is rest)
+  pub turn_if_named : (from to : ℕ) {k : List WordInstr} → from < vars → AllNamed vars k → AllNamed vars (operations.turn_if_code from to k)
+  turn_if_named from to f rest = constant first_is (spend_if f first_is (branch f first_is rest))
 
   pub beyond_named : (inclusive : Bool) (counter last to : ℕ) {k : List WordInstr} → counter < vars → last < vars → AllNamed vars k
       → AllNamed vars (operations.beyond_code inclusive counter last to k)
@@ -252,7 +260,7 @@ module _ (vars : ℕ) (many : OWN_FROM ≤ vars) where
 
   pub turn_named : (own counter last : ℕ) (inclusive : Bool) (to : ℕ) {k : List WordInstr} → counter < vars → last < vars → AllNamed vars k
       → AllNamed vars (operations.turn_code own counter last inclusive to k)
-  turn_named own counter last inclusive to c l rest = less_named inclusive counter last own c l (sum c c (jump (label rest)))
+  turn_named own counter last inclusive to c l rest = less_named inclusive counter last own c l (spend (sum c c (jump (label rest))))
 
 -- lines behind lines
 pub named_on : {vars : ℕ} {k l : List WordInstr} → AllNamed vars k → AllNamed vars l → AllNamed vars (k ++ l)

@@ -35,7 +35,7 @@ use Rattle.word_lowering.specs.LineCode as lines
 use Rattle.word_lowering.proofs.HomesApart.{Each}
 use Rattle.word_lowering.proofs.LayoutBounds.{IsBelow, IsParamBelow, IsGlobalBelow, found_below, global_below, params_each}
 use Rattle.word_lowering.proofs.NamedCode.{AllNamed, IsSpotBelow, spot_below, shifted_below, first_is, second_is, third_is, fourth_is, fifth_is, left_is}
-use Rattle.word_lowering.proofs.NamedCode.{binary_named, unary_named, compare_named, narrow_named, unless_named, if_named}
+use Rattle.word_lowering.proofs.NamedCode.{binary_named, unary_named, compare_named, narrow_named, unless_named, turn_if_named}
 use Rattle.word_lowering.proofs.NamedCode.{fits_named, beyond_named, turn_named}
 use Rattle.word_lowering.proofs.NamedCode as named
 
@@ -421,7 +421,7 @@ module _ (vars : ℕ) (many : OWN_FROM ≤ vars) where
         (fields_named (lines.value x to).home ty fields (lines.operands x from) (value_below to) (operands_below from) k)
     line_named (L.Constant to how ty pieces) label k = constant_named (text_in pieces) (lines.value x to) pieces (value_below to) k
     line_named (L.Call to how ty proc from) label k =
-        called_named (lines.layout_at x proc).runs label proc ty to (lines.operands x from) (operands_below from) k
+        named.spend vars many (called_named (lines.layout_at x proc).runs label proc ty to (lines.operands x from) (operands_below from) k)
     line_named (L.Get to from how ty) label k = moves_named (lines.value x to) (lines.location x from) (value_below to) (location_below from) k
     line_named (L.Look to from) label k = moves_named (lines.value x to) (lines.location x from) (value_below to) (location_below from) k
     line_named (L.Root to p global) label k = k
@@ -453,9 +453,9 @@ module _ (vars : ℕ) (many : OWN_FROM ≤ vars) where
     line_named (L.Fits from (C.Ordinals low high) to) label k = fits_named vars many _ (lines.own_label to) low high (held_below from) k
     line_named (L.Fits from (C.Text text) to) label k = k
     line_named (L.Own what from) label k = k
-    line_named L.Enter label k = k
-    line_named (L.Turn to) label k = named.jump vars many k
-    line_named (L.TurnIf from to) label k = if_named vars many _ (lines.own_label to) (held_below from) k
+    line_named L.Enter label k = named.spend vars many k
+    line_named (L.Turn to) label k = named.spend vars many (named.jump vars many k)
+    line_named (L.TurnIf from to) label k = turn_if_named vars many _ (lines.own_label to) (held_below from) k
     line_named (L.CountTurn counter last inclusive to) label k =
         turn_named vars many label _ _ inclusive _ (held_below counter) (held_below last) k
     line_named (L.Return result) label k = return_named x.setting.start result k

@@ -27,13 +27,15 @@ use Rattle.word_lowering.proofs.Keeping.{call, declared_address, spot_held, to_m
 use Rattle.word_lowering.proofs.Lines.{Basis, IsGood, known, starts}
 use Rattle.word_lowering.proofs.MovedLines.{own_plain}
 use Rattle.word_lowering.proofs.Options.{none_some}
-use Rattle.word_lowering.proofs.Related.{AllFrames, Both, body_of, calls_of, sites_of}
+use Rattle.word_lowering.proofs.Related.{AllFrames, Both, body_of, calls_of, sites_of, store_with}
 use Rattle.word_lowering.proofs.Scenes.{address_of, At, Call, FromPlace, HasValue, Holding, house, IsFilled, IsItem, IsThere, looked, Name, of_location}
 use Rattle.word_lowering.proofs.Scenes.{of_place, of_value, StandsFor}
 use Rattle.word_lowering.proofs.ShapeFacts.{never}
 use Rattle.word_lowering.proofs.Sites.{Housing, by_address, in_data, in_places, in_variable, data_end, InMemory, Linked, room, Site}
 use Rattle.word_lowering.proofs.SitesApart.{houses}
 use Rattle.word_code.specs.Memory.{Memory}
+use Rattle.word_lowering.proofs.Items.{item_of}
+use Rattle.word_lowering.proofs.ValueFacts.{numbers_there}
 
 module _ (x : Basis) (g : Both) (line : BlockLine) (rest : List BlockLine) (y : IsGood x (starts g line rest)) {proc : ℕ} {s : Signature}
     (c : Callee x.table x.blocks proc s) (m : Memory) (slots : List Slot)
@@ -135,13 +137,14 @@ module _ (x : Basis) (g : Both) (line : BlockLine) (rest : List BlockLine) (y : 
     call_then = call site_then no_temps vars
 
     -- a parameter with a value of its own
-    value_item : (n : ℕ) (u : Value) → IsThere site_then (of_place n) → IsParameter n (Holds u) → IsItem x.table m call_then (of_place n) u
-    value_item n u there r = record {
+    value_item : (n : ℕ) (u : Value) → IsThere site_then (of_place n) → IsParameter n (Holds u)
+        → IsItem x.table (store_with g m) call_then (of_place n) u
+    value_item n u there r = item_of x.table (store_with g m) call_then (of_place n) u (numbers_there x site_then (of_place n) c.is there) (record {
       there = there;
       plain = r.gave_it.plain;
       shaped = r.gave_it.shaped;
       at = by r.gave_it.plain r.gave_it.given (houses x.table x.blocks site_then (of_place n) c.is there).where_is;
-    }
+    })
       where
         by : is_address (house site_then (of_place n)).kind ≡ false
             → GivenAt x.table m (sites_of g) g.world g.words (g.call.site.base + room (body_of g)) (house site_then (of_place n)).home u
@@ -210,7 +213,7 @@ module _ (x : Basis) (g : Both) (line : BlockLine) (rest : List BlockLine) (y : 
     }
     slot_filled n (Lends u from seen) there h r = absurd r.gave_it
 
-    pub holding_then : Holding x.table x.blocks m world_first sites_then call_then
+    pub holding_then : Holding x.table x.blocks (store_with g m) world_first sites_then call_then
     holding_then = record {
       items = items;
       texts = λ t behind size u named text h. absurd (none_some u h);
@@ -219,7 +222,7 @@ module _ (x : Basis) (g : Both) (line : BlockLine) (rest : List BlockLine) (y : 
       left = λ h. is.left_is;
     }
       where
-        items : (f : Name) (u : Value) → IsThere site_then f → HasValue world_first call_then f u → IsItem x.table m call_then f u
+        items : (f : Name) (u : Value) → IsThere site_then f → HasValue world_first call_then f u → IsItem x.table (store_with g m) call_then f u
         items (of_value t) u there h = absurd (none_some u h)
         items (of_location t) u there h = absurd h
         items (of_place n) u there h = value_item n u there (parameter n (Holds u) there h)

@@ -30,13 +30,13 @@ use Rattle.word_lowering.proofs.Clears.{gets_cleared}
 use Rattle.word_lowering.proofs.FirstPlaces.{FirstResult, Gave, ResultFirst, slots_of}
 use Rattle.word_lowering.proofs.Gets.{Gets, good_place, same_temps}
 use Rattle.word_lowering.proofs.InMemory.{AllZero, blank_zero, bytes_some}
-use Rattle.word_lowering.proofs.Keeping.{call, beyond}
+use Rattle.word_lowering.proofs.Keeping.{call, beyond, later_ground}
 use Rattle.word_lowering.proofs.Lines.{Basis, IsGood, all_procs, changed, known, lower, stands_next, starts}
 use Rattle.word_lowering.proofs.MovedLines.{own_plain}
 use Rattle.word_lowering.proofs.NewCalls.{VarsThen, all_frames_then, frame_with, holding_then, level_is, level_last, levels_then, linked_then, params_long}
 use Rattle.word_lowering.proofs.NewCalls.{sites_then}
 use Rattle.word_lowering.proofs.NewCalls.{site_then, slots_few, world_first}
-use Rattle.word_lowering.proofs.Related.{Answers, Both, StandAt, Waits, body_of, calls_of, sites_of, within, MemoryGood}
+use Rattle.word_lowering.proofs.Related.{Answers, Both, StandAt, Waits, body_of, calls_of, sites_of, within, MemoryGood, store_of, store_with}
 use Rattle.word_lowering.proofs.RoutineCalls.{awaiting}
 use Rattle.word_lowering.proofs.Scenes.{AllHold, IsThere, house, looked, of_place}
 use Rattle.word_lowering.proofs.ShapeFacts.{never, values_of_numbers}
@@ -73,6 +73,7 @@ module _ (x : Basis) (g : Both) (line : BlockLine) (rest : List BlockLine) (y : 
   -- behind the call, with these lines left
   abbrev pub begun : Vars → List BlockLine → Both
   begun vars lines = record {
+    units = g.units;
     memory = m;
     input = g.input;
     world = first_world;
@@ -81,14 +82,15 @@ module _ (x : Basis) (g : Both) (line : BlockLine) (rest : List BlockLine) (y : 
     words = no_words;
     awaits = 0;
     waiting = waits_then ∷ g.waiting;
+    ground = g.ground;
   }
 
   stand_then : (lines : List BlockLine) → c.body.proc.lines ≡ lines → StandAt x.table x.blocks c.body lines
   stand_then lines is = subst (StandAt x.table x.blocks c.body) is (record { before = []; whole = refl; fits = c.is.fits })
 
-  callers_then : AllHold x.table x.blocks m first_world (calls_of g)
-  callers_then = callers_hold x (calls_of g) y.linked g.world (frame []) y.levels here (level_is x g line rest y c m slots gave left e) g.memory m
-      (beyond still) y.hold
+  callers_then : AllHold x.table x.blocks (store_with g m) first_world (calls_of g)
+  callers_then = callers_hold x (calls_of g) y.linked g.world (frame []) y.levels here (level_is x g line rest y c m slots gave left e) (store_of g)
+      (store_with g m) (beyond still) (later_ground g.ground) y.hold
 
   module _ (vars : Vars) (is : VarsThen x g line rest y c m slots gave left e vars) where
     pub good_begun : (lines : List BlockLine) → c.body.proc.lines ≡ lines → IsGood x (begun vars lines)

@@ -12,14 +12,14 @@ use Rattle.nim_meaning.specs.Acts.{branch}
 use Rattle.nim_meaning.specs.Meaning.{limit}
 use Rattle.flat_code.specs.declared.block.BlockLine.{BlockLine}
 use Rattle.flat_code.specs.declared.line.Line.TheVariants as L
-use Rattle.flat_code.specs.Scene.{Did, Passes, Leaps, Fails, with_value, Temps}
+use Rattle.flat_code.specs.Scene.{Did, Passes, Leaps, Turns, Fails, with_value, Temps}
 use Rattle.flat_code.specs.Shapes.{number, has_shape, shape_of}
 use Rattle.flat_code.specs.Lines.{gives, using_number, turns_where}
 use Rattle.flat_code.specs.Running.{scene_of, from_label as line_from, jumped}
 use Rattle.flat_code.specs.Codes.{block_plain, block_label}
 use Rattle.word_code.specs.declared.word.WordInstr.{WordInstr}
-use Rattle.word_code.specs.declared.word.WordInstr.TheVariants.{Label, Constant, Sum, Jump}
-use Rattle.word_code.specs.Words.{from_label}
+use Rattle.word_code.specs.declared.word.WordInstr.TheVariants.{Label, Spend, Constant, Sum, Jump}
+use Rattle.word_code.specs.Words.{Vars, from_label}
 use Rattle.word_lowering.specs.declared.homes.TheConstants.{OWN_FROM}
 use Rattle.word_lowering.specs.declared.homes.Alias.TheVariants as alias
 use Rattle.word_lowering.specs.Operations.{word, turn_code}
@@ -31,13 +31,15 @@ use Rattle.word_lowering.proofs.OperationRuns.{Given}
 use Rattle.word_lowering.proofs.OpRuns.{gives_constant, same_but}
 use Rattle.word_lowering.proofs.ControlLines.{FollowedHere, plain, value_type, kind_at, int_read}
 use Rattle.word_lowering.proofs.CountRuns.{more_turns, below_fits, next_is_int, next_given, beyond_off, beyond_past, turns_past, turns_off}
-use Rattle.word_code.proofs.ForCallers.{run_jump, run_label, then_runs}
+use Rattle.word_code.proofs.ForCallers.{Runs, at, run_jump, run_label, then_runs}
 use Rattle.word_lowering.proofs.Arithmetic.{word_small}
 use Rattle.word_lowering.proofs.Gets.{same_temps}
 use Rattle.word_lowering.proofs.LineFits.{bool_shape, int_shape, number_fits, some_kind}
-use Rattle.word_lowering.proofs.Lines.{Basis, Follows, IsGood, Settles, all_procs, branch_settles, changed, fits_here, starts, using_settles}
+use Rattle.word_lowering.proofs.Lines.{Basis, FollowsFrom, IsGood, Settles, all_procs, branch_settles, changed, fits_here, good_units, spends_settles, starts}
+use Rattle.word_lowering.proofs.Lines.{using_settles}
 use Rattle.word_lowering.proofs.Moves.{all_same}
-use Rattle.word_lowering.proofs.Related.{high, Both, body_of, code_behind, low, within}
+use Rattle.word_lowering.proofs.OrdinalRuns.{AllSame}
+use Rattle.word_lowering.proofs.Related.{high, Both, body_of, code_behind, low, with_units, within}
 use Rattle.word_lowering.proofs.Scenes.{house, looked, of_value}
 use Rattle.word_lowering.proofs.Settling.{Comes, Getting, LabelsLead, OwnLabels, code_next, leaps_settles, passes_settles, gives_settles}
 use Rattle.word_lowering.proofs.Sites.{is_one_word, word_of}
@@ -201,7 +203,7 @@ module _ (x : Basis) (labels : LabelsLead x) (g : Both) (rest : List BlockLine) 
     own = label_before (map block_plain rest)
 
     abbrev turned : List WordInstr
-    turned = Sum counter_variable counter_variable 1 ∷ Jump (own_label to) ∷ Label own ∷ k
+    turned = Spend ∷ Sum counter_variable counter_variable 1 ∷ Jump (own_label to) ∷ Label own ∷ k
 
     module _ (owns : OwnLabels x) (y : IsGood x (starts g count rest)) (v w : Value) (o : Operand x g.call counter v) (p : Operand x g.call last w) where
       abbrev z : ℤ
@@ -217,32 +219,44 @@ module _ (x : Basis) (labels : LabelsLead x) (g : Both) (rest : List BlockLine) 
           own_found true = cond-true (own == own) (Some (Label own ∷ k)) (from_label own k) (eq-eqb own own refl)
           own_found false = cond-true (own == own) (Some (Label own ∷ k)) (from_label own k) (eq-eqb own own refl)
 
-      count_more : more_turns inclusive (number_of v) (number_of w) ≡ true → (o : Option (List BlockLine))
+      turned_on : (units : Option ℕ) (vars : Vars) (n : ℕ) → n ≤ 4 → AllSame g.call.vars vars
+          → Runs x.live (all_procs x) n (low x.table x.blocks (starts g count rest)) (at (within x.table x.blocks (with_units g units)) g.memory
+          (Sum counter_variable counter_variable 1 ∷ Jump (own_label to) ∷ Label own ∷ k) vars g.words)
+          → more_turns inclusive (number_of v) (number_of w) ≡ true → (o : Option (List BlockLine))
           → ((after : List BlockLine) → o ≡ Some after → line_from block_label to (body_of g).proc.lines ≡ Some after)
-          → Follows x (starts g count rest) (jumped (high x.table x.blocks (starts g count rest)) temps 1 o)
-      count_more h None first = λ before. tt
-      count_more h (Some after) first =
+          → FollowsFrom x (low x.table x.blocks (starts g count rest)) (starts (with_units g units) count rest)
+          (jumped (high x.table x.blocks (starts g count rest)) temps 1 o)
+      turned_on units vars n few same runs h None first = λ before. tt
+      turned_on units vars n few same runs h (Some after) first =
           let kinds = and_parts (is_int (kind_at x g count rest y counter)) (is_int (kind_at x g count rest y last))
           (fits_here x.table x.blocks (body_of g) count rest y.stands) in
+          let here = with_units g units in
           let l = labels g count rest after to y (first after refl) in
           let there = code_behind x.table x.blocks (body_of g) after in
           let f = next_is_int inclusive (number_of v) (number_of w) o.fits p.fits h in
-          let t = turns_past x.live (all_procs x) (within x.table x.blocks g) g.memory g.words g.call.vars counter_variable last_variable o.high p.high
-          (number_of v) (number_of w) o.fits p.fits o.word_is p.word_is k own turned inclusive h in
-          let s = next_given x.live (all_procs x) (within x.table x.blocks g) g.memory g.words g.call.vars counter_variable last_variable o.high p.high
-          (number_of v) (number_of w) o.fits p.fits o.word_is p.word_is (Jump (own_label to) ∷ Label own ∷ k) f t.vars t.same in
-          let j = run_jump x.live (all_procs x) (within x.table x.blocks g) g.memory (Label own ∷ k) s.vars g.words (own_label to) there l.0 in
-          let n = int_target x g count rest y counter refl refl kinds.0 z f in
-          let good = good_word x g count rest y after counter (Number z) s.vars n.there n.shaped n.one
-          (same_but g.call.vars t.vars s.vars counter_variable t.same s.but) s.given l.1 g.awaits in
-          let all = then_runs x.live (all_procs x) (then_runs x.live (all_procs x) t.runs s.runs) j in
+          let s = next_given x.live (all_procs x) (within x.table x.blocks here) g.memory g.words g.call.vars counter_variable last_variable o.high p.high
+          (number_of v) (number_of w) o.fits p.fits o.word_is p.word_is (Jump (own_label to) ∷ Label own ∷ k) f vars same in
+          let j = run_jump x.live (all_procs x) (within x.table x.blocks here) g.memory (Label own ∷ k) s.vars g.words (own_label to) there l.0 in
+          let n1 = int_target x g count rest y counter refl refl kinds.0 z f in
+          let good = good_word x here count rest (good_units x (starts g count rest) units y) after counter (Number z) s.vars n1.there n1.shaped n1.one
+          (same_but g.call.vars vars s.vars counter_variable same s.but) s.given l.1 g.awaits in
+          let all = then_runs x.live (all_procs x) (then_runs x.live (all_procs x) runs s.runs) j in
           λ before. let steps = all.by x.fresh before in (
-            (steps.0, low x.table x.blocks (changed g after temps s.vars g.memory g.words g.awaits g.world)),
-            t.steps + 1 + 1,
-            record { work = steps.1.work; within = (let q = steps.1.within in let r = t.few in omega (arith, q, r)); by = steps.1.by },
-            ((changed g after temps s.vars g.memory g.words g.awaits g.world, good, steps.0), refl, refl),
+            (steps.0, low x.table x.blocks (changed here after temps s.vars g.memory g.words g.awaits g.world)),
+            n + 1 + 1,
+            record { work = steps.1.work; within = (let q = steps.1.within in omega (arith, q, few)); by = steps.1.by },
+            (inl (changed here after temps s.vars g.memory g.words g.awaits g.world, good, steps.0), refl, refl),
             inl (omega arith),
           )
+
+      count_more : more_turns inclusive (number_of v) (number_of w) ≡ true → Settles x (starts g count rest) rest (Turns temps to)
+      count_more h =
+          let t = turns_past x.live (all_procs x) (within x.table x.blocks g) g.memory g.words g.call.vars counter_variable last_variable o.high p.high
+          (number_of v) (number_of w) o.fits p.fits o.word_is p.word_is k own turned inclusive h in
+          let few = t.few in
+          spends_settles x (starts g count rest) rest (Turns temps to) refl Spend
+          (Sum counter_variable counter_variable 1 ∷ Jump (own_label to) ∷ Label own ∷ k) t.vars g.words refl t.steps (omega (arith, few)) t.runs
+          (λ units runs. turned_on units t.vars (t.steps + 1) (omega (arith, few)) t.same runs h (line_from block_label to (body_of g).proc.lines) (λ after f. f))
 
       count_none : more_turns inclusive (number_of v) (number_of w) ≡ false → Comes x g count rest y k
       count_none h =
@@ -265,7 +279,7 @@ module _ (x : Basis) (labels : LabelsLead x) (g : Both) (rest : List BlockLine) 
         where
           by : (b : Bool) → more_turns inclusive (number_of v) (number_of w) ≡ b
               → Settles x (starts g count rest) rest (turns_where (scene_of (high x.table x.blocks (starts g count rest))) b temps to)
-          by true e = count_more e (line_from block_label to (body_of g).proc.lines) (λ after f. f)
+          by true e = count_more e
           by false e = passes_settles x g count rest y g.call.temps (same_temps x g count rest y) 1 (omega arith) (count_none e)
 
     pub count_line : OwnLabels x → FollowedHere x labels g rest (L.CountTurn counter last inclusive to)

@@ -29,7 +29,7 @@ use Rattle.word_lowering.proofs.MovedLines.{own_plain}
 use Rattle.word_lowering.proofs.Moves.{ToMemory, is_single, zero_to_memory, zeros_to_memory}
 use Rattle.word_lowering.proofs.OutPlaces.{Written, far_written, own_written, written_at}
 use Rattle.word_lowering.proofs.ReadFacts.{each_call, read_location}
-use Rattle.word_lowering.proofs.Related.{routines, Both, body_of, within, high}
+use Rattle.word_lowering.proofs.Related.{routines, Both, body_of, within, high, store_of}
 use Rattle.word_lowering.proofs.Scenes.{Points, house, looked, of_place, of_location, of_value}
 use Rattle.word_lowering.proofs.ShapeFacts.{bytes_is, never, values_of_numbers}
 use Rattle.word_lowering.proofs.Sources.{Lying, lying_area, lying_near, more_steps}
@@ -124,7 +124,7 @@ module _ (x : Basis) (g : Both) (line : BlockLine) (rest : List BlockLine) (y : 
         })
     cleared_there (far_written home spot up a points f) =
         let sites = all_sites x g line rest y in
-        let was = place_located x sites y.linked g.memory g.world (each_call x g line rest y) l a s f in
+        let was = place_located x sites y.linked (store_of g) g.world (each_call x g line rest y) l a s f in
         let size : bytes (load g.world l) ≡ bytes d = bytes_is (load g.world l) s was.numbers was.shaped ∙ sym (bytes_is d s was.numbers shaped) in
         let lying : Lying x sites y.linked a (bytes d) = subst (λ k. Lying x sites y.linked a k) size was.lying in
         let r = zeros_at home a points lying in

@@ -28,7 +28,7 @@ use Rattle.word_lowering.proofs.Located.{place_located}
 use Rattle.word_lowering.proofs.MovedLines.{own_plain}
 use Rattle.word_lowering.proofs.Moves.{IsHigh}
 use Rattle.word_lowering.proofs.ReadFacts.{Read, each_call, global_root, own_root}
-use Rattle.word_lowering.proofs.Related.{Both, body_of, within}
+use Rattle.word_lowering.proofs.Related.{Both, body_of, within, store_of}
 use Rattle.word_lowering.proofs.Scenes.{Leads, IsOfPlace, OfPlace, of_a_place, Filled, FromPlace, IsAddressed, IsFilled, IsLedBy, IsNamed, IsRoot, IsThere}
 use Rattle.word_lowering.proofs.Scenes.{Name, Points, address_of}
 use Rattle.word_lowering.proofs.Scenes.{house, looked, of_location, of_place}
@@ -210,7 +210,7 @@ module _ (x : Basis) (g : Both) (line : BlockLine) (rest : List BlockLine) (y : 
         get.steps work temps (with_slot g.world g.call.site.level n (Some (Holds v))) get.runs get.some (let f = get.few in omega (arith, f, le)) refl)
     stored_settles (far_written home spot high_is a points f) =
         let sites = all_sites x g line rest y in
-        let was = place_located x sites y.linked g.memory g.world (each_call x g line rest y) l a s f in
+        let was = place_located x sites y.linked (store_of g) g.world (each_call x g line rest y) l a s f in
         let size : bytes (load g.world l) ≡ bytes v = bytes_is (load g.world l) s was.numbers was.shaped ∙ sym (bytes_is v s was.numbers shaped) in
         let lying : Lying x sites y.linked a (bytes v) = subst (λ k. Lying x sites y.linked a k) size was.lying in
         let next = code_next x g line rest y in

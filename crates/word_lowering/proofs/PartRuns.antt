@@ -23,13 +23,16 @@ use Rattle.word_lowering.proofs.OrdinalRuns.{AllSame}
 use Rattle.word_lowering.proofs.Moves.{same_more}
 use Rattle.word_lowering.proofs.ShapeFacts.{of_numbers, values_of_numbers}
 use Rattle.word_lowering.proofs.Sites.{InMemory, around, next_base}
-use Rattle.word_lowering.proofs.Scenes.{address_of, Points, of_value, house, IsThere, IsItem}
+use Rattle.word_lowering.proofs.Scenes.{address_of, Points, of_value, house, IsThere, IsNumbers}
 use Rattle.word_lowering.proofs.Keeping.{call, somewhere, worlds_same, Kept, item_kept, at_beside, same_numbers, spot_memory, points_there, outside_still}
-use Rattle.word_lowering.proofs.Related.{Both, body_of, within, MemoryGood, sites_of}
+use Rattle.word_lowering.proofs.Keeping.{later_ground}
+use Rattle.word_lowering.proofs.Related.{Both, body_of, within, MemoryGood, sites_of, store_of, store_with}
 use Rattle.word_lowering.proofs.Lines.{Basis, all_procs, starts, IsGood, all_sites}
-use Rattle.word_lowering.proofs.ValueFacts.{value_plain}
+use Rattle.word_lowering.proofs.ValueFacts.{value_plain, numbers_there}
 use Rattle.word_lowering.proofs.Sources.{Lying, item_source, size_is, word_is, small_word, to_bytes_by}
 use Rattle.word_lowering.proofs.Gets.{memory_kept, high_variable}
+use Rattle.word_lowering.proofs.ReadFacts.{item_read}
+use Rattle.word_lowering.proofs.Items.{numbers_of}
 
 -- ---- changes of memory within a range
 
@@ -120,14 +123,15 @@ module _ (x : Basis) (g : Both) (line : BlockLine) (rest : List BlockLine) (y : 
 
   -- other temporaries have their values
   item_stays : (m : Memory) (vars : Vars) → Changed g.memory m start target.bytes → AllSame g.call.vars vars → (t : ℕ) (v : Value)
-      → g.call.temps.values t ≡ Some v → IsThere g.call.site (of_value t) → t ≢ to → IsItem x.table m (call g.call.site g.call.temps vars) (of_value t) v
+      → g.call.temps.values t ≡ Some v → IsThere g.call.site (of_value t) → t ≢ to → IsNumbers x.table m (call g.call.site g.call.temps vars) (of_value t) v
   item_stays m vars ch same t v e is_there ne =
-      item_kept x.table x.blocks x.small (all_sites x g line rest y) y.linked g.call.site (of_value to) g.memory m
+      numbers_of x.table (store_with g m) (call g.call.site g.call.temps vars) (of_value t) v (numbers_there x g.call.site (of_value t) y.linked.0 is_there)
+      (item_kept x.table x.blocks x.small (all_sites x g line rest y) y.linked g.call.site (of_value to) (store_of g) (store_with g m)
       (somewhere start target.bytes (outside_still (next_base (sites_of g)) g.memory m start target.bytes ch.outside) (inl refl) there inside (omega arith)
-      (omega arith)) g.world g.world
+      (omega arith)) (later_ground g.ground) g.world g.world
       (worlds_same x.table x.blocks x.small (all_sites x g line rest y) y.linked g.call.site (of_value to) g.world)
       g.call.site g.call.temps g.call.temps g.call.vars vars (of_value t) v (inl refl) kept
-      (inr (λ is. ne (same_numbers (of_value t) (of_value to) is))) (y.hold.0.items (of_value t) v is_there e)
+      (inr (λ is. ne (same_numbers (of_value t) (of_value to) is))) (y.hold.0.items (of_value t) v is_there e))
     where
       kept : Kept x.table x.blocks x.small (all_sites x g line rest y) y.linked g.call.site (of_value to) g.call.site g.call.temps g.call.temps
           g.call.vars vars
@@ -229,7 +233,7 @@ module _ (x : Basis) (g : Both) (line : BlockLine) (rest : List BlockLine) (y : 
   parts_moved (F.Value t ∷ from) (More v vs) come home in_memory a is low high whole lines k most s =
       let h : Housed = house g.call.site (of_value t) in
       let part = come.0.1 in
-      let item = y.hold.0.items (of_value t) v part.there part.has in
+      let item = item_read x g line rest y (of_value t) v part.there part.has in
       let size : h.bytes ≡ bytes v
       = size_is x (all_sites x g line rest y) y.linked g.call (inl refl) (of_value t) item.there item.plain v item.shaped in
       let n : ℕ = bytes v in

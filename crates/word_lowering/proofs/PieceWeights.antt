@@ -88,7 +88,7 @@ fits_weighs from to low high k = by (int_lt high low) (int_eq low high)
     by false false = omega arith
 
 pub turn_weighs : (own counter last : ℕ) (inclusive : Bool) (label : ℕ) (k : List WordInstr)
-    → length (operations.turn_code own counter last inclusive label k) ≤ 6 + length k
+    → length (operations.turn_code own counter last inclusive label k) ≤ 7 + length k
 turn_weighs own counter last true label k = omega arith
 turn_weighs own counter last false label k = omega arith
 

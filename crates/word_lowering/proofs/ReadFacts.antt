@@ -28,18 +28,19 @@ use Rattle.word_lowering.proofs.Moves.{is_single}
 use Rattle.word_lowering.proofs.LineFits.{single_is, has_words}
 use Rattle.word_lowering.proofs.Sites.{room, around, type_of, Housing, in_variable, by_address, in_places, in_data, InMemory, Site, AmongSites}
 use Rattle.word_lowering.proofs.Sites.{data_end, globals_of, IsHoused, IsGlobal, IsBody, Linked}
-use Rattle.word_lowering.proofs.Scenes.{address_of, Name, of_value, of_location, of_place, Call, site_of, house, Filled, IsNamed, IsThere, looked, IsItem}
-use Rattle.word_lowering.proofs.Scenes.{FromPlace, FromConstant, standing_from, FromValue, IsRoot, IsInValue, IsLedBy, IsFilled}
+use Rattle.word_lowering.proofs.Scenes.{address_of, Name, of_value, of_location, of_place, Call, site_of, house, Filled, IsNamed, IsThere, looked}
+use Rattle.word_lowering.proofs.Scenes.{FromPlace, FromConstant, standing_from, FromValue, IsRoot, IsInValue, IsLedBy, IsFilled, IsNumbers, HasValue}
 use Rattle.word_lowering.proofs.SitesApart.{houses, site_at}
 use Rattle.word_lowering.proofs.Keeping.{location_address, declared_address, spot_memory, spot_address, from_memory}
 use Rattle.word_lowering.proofs.Located.{IsReadAt, read_there, CallAt, call_at, RootAt, root_at, place_located, led_located}
 use Rattle.word_lowering.proofs.Sources.{Lying, lying_all, lying_near, lying_readable, Source, lies_at, item_source, size_is, word_is, small_word}
-use Rattle.word_lowering.proofs.Related.{Both, IsClosed, body_of, called_by, calls_of}
+use Rattle.word_lowering.proofs.Related.{Both, IsClosed, body_of, called_by, calls_of, store_of}
 use Rattle.word_lowering.proofs.PieceWords.{room_of, words_room, words_are}
 use Rattle.word_lowering.proofs.SmallWords.{AllSmall, small_words}
 use Rattle.flat_code.specs.Pieces.{value_of, piece_words}
 use Rattle.word_lowering.proofs.Lines.{Basis, starts, IsGood, all_sites}
-use Rattle.word_lowering.proofs.ValueFacts.{has_type, look_of, value_there, place_there, location_of_numbers}
+use Rattle.word_lowering.proofs.ValueFacts.{has_type, look_of, value_there, place_there, location_of_numbers, numbers_there}
+use Rattle.word_lowering.proofs.Items.{numbers_of}
 
 module _ (x : Basis) where
   -- the address of a location is one of the machine's
@@ -118,7 +119,11 @@ module _ (x : Basis) (g : Both) (line : BlockLine) (rest : List BlockLine) (y : 
     pub shaped : has_shape v (looked x.table g.call.site (of_value t)) ≡ true
     pub read : Read true (house g.call.site (of_value t)) v
 
-  pub read_item : (f : Name) (v : Value) → IsItem x.table g.memory g.call f v → Read true (house g.call.site f) v
+  -- a value of the call
+  pub item_read : (f : Name) (v : Value) → IsThere g.call.site f → HasValue g.world g.call f v → IsNumbers x.table g.memory g.call f v
+  item_read f v there has = numbers_of x.table (store_of g) g.call f v (numbers_there x g.call.site f y.linked.0 there) (y.hold.0.items f v there has)
+
+  pub read_item : (f : Name) (v : Value) → IsNumbers x.table g.memory g.call f v → Read true (house g.call.site f) v
   read_item f v item = record {
     word = word_is x sites y.linked g.call (inl refl) f item.there item.plain v item.shaped;
     size = size_is x sites y.linked g.call (inl refl) f item.there item.plain v item.shaped;
@@ -128,7 +133,7 @@ module _ (x : Basis) (g : Both) (line : BlockLine) (rest : List BlockLine) (y : 
 
   pub read_value : (t : ℕ) (v : Value) → IsThere g.call.site (of_value t) → g.call.temps.values t ≡ Some v → ValueRead t v
   read_value t v there e =
-      let item = y.hold.0.items (of_value t) v there e in
+      let item = item_read (of_value t) v there e in
       record { there = there; shaped = item.shaped; read = read_item (of_value t) v item }
 
   -- ---- at addresses
@@ -153,8 +158,8 @@ module _ (x : Basis) (g : Both) (line : BlockLine) (rest : List BlockLine) (y : 
             (λ no_all. never no_all);
       }
 
-  pub each_call : (s : Site) → AmongSites s sites → CallAt x sites y.linked g.memory g.world s
-  each_call s i = call_at x sites y.linked g.memory g.world (calls_of g) s y.hold i
+  pub each_call : (s : Site) → AmongSites s sites → CallAt x sites y.linked (store_of g) g.world s
+  each_call s i = call_at x sites y.linked (store_of g) g.world (calls_of g) s y.hold i
 
   -- ---- of declared places
 
@@ -183,7 +188,7 @@ module _ (x : Basis) (g : Both) (line : BlockLine) (rest : List BlockLine) (y : 
       owned : is_own (house g.call.site (of_place n)).kind ≡ true → PlaceRead g.call.site.level n false (looked x.table g.call.site (of_place n))
       owned own =
           let v = f.own own in
-          let item = y.hold.0.items (of_place n) v.0 there v.1 in
+          let item = item_read (of_place n) v.0 there v.1 in
           let same = sym (own_load g.call.site.level n v.0 v.1) in
           record {
             shaped = subst (λ u. has_shape u (looked x.table g.call.site (of_place n)) ≡ true) same item.shaped;
@@ -194,7 +199,7 @@ module _ (x : Basis) (g : Both) (line : BlockLine) (rest : List BlockLine) (y : 
       other : is_own (house g.call.site (of_place n)).kind ≡ false → PlaceRead g.call.site.level n false (looked x.table g.call.site (of_place n))
       other no_own =
           let s = f.other no_own in
-          let at = place_located x (all_sites x g line rest y) y.linked g.memory g.world each_call s.location s.address
+          let at = place_located x (all_sites x g line rest y) y.linked (store_of g) g.world each_call s.location s.address
           (looked x.table g.call.site (of_place n)) s.leads in
           let read = read_there x (all_sites x g line rest y) y.linked g.memory (load g.world s.location) s.address
           (looked x.table g.call.site (of_place n)) y.memory at in
@@ -236,7 +241,7 @@ module _ (x : Basis) (g : Both) (line : BlockLine) (rest : List BlockLine) (y : 
         there = there;
         home = home;
         filled = filled;
-        root = root_at x sites y.linked g.memory g.world s.site n s.among (each_call s.site s.among) filled there home;
+        root = root_at x sites y.linked (store_of g) g.world s.site n s.among (each_call s.site s.among) filled there home;
       }
 
   -- the same range, at an address in other words
@@ -353,7 +358,7 @@ module _ (x : Basis) (g : Both) (line : BlockLine) (rest : List BlockLine) (y : 
           → LocationRead t there
       by alias.Own is r =
           let there_is : IsThere g.call.site (of_location t) = record { among = n.among; number = n.number; kind = n.kind; own = is } in
-          let at = led_located x (all_sites x g line rest y) y.linked g.memory g.world each_call y.memory g.call (inl refl) y.hold.0.items there r.address
+          let at = led_located x (all_sites x g line rest y) y.linked (store_of g) g.world each_call y.memory g.call (inl refl) y.hold.0.items there r.address
           (looked x.table g.call.site (of_location t)) r.leads in
           record {
             shaped = at.shaped;

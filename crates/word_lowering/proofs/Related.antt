@@ -1,5 +1,5 @@
 -- The states of block code and of word code that belong together: both are made of one record, and what is true of it.
-use Rattle.std.proofs.Common.{◌≡◌, ◌⊎◌, inl, inr, arith, ℕ, ◌+◌, ◌%◌, ◌≤◌, List, [], ◌∷◌, ◌++◌, length, map, Some, true}
+use Rattle.std.proofs.Common.{◌≡◌, ◌⊎◌, inl, inr, arith, ℕ, ◌+◌, ◌%◌, ◌≤◌, List, [], ◌∷◌, ◌++◌, length, map, Option, Some, true}
 use Rattle.rv32_isa.specs.Image.{stack_at}
 use Rattle.nim_types.specs.declared.types.TypeDef.{TypeDef}
 use Rattle.nim_meaning.specs.State.{World}
@@ -33,7 +33,7 @@ use Rattle.word_lowering.proofs.Frames.{IsFrame}
 use Rattle.word_lowering.proofs.Sites.{Body, lines_of, looks, Site, data_end, around, word_of, Linked, sigs, globals_of, next_base}
 use Rattle.word_lowering.proofs.PieceWords.{WordsAt, room_of}
 use Rattle.word_lowering.proofs.Scenes.{standing_from}
-use Rattle.word_lowering.proofs.Scenes.{of_value, IsNamed, IsThere, looked, Call, site_of, AllHold}
+use Rattle.word_lowering.proofs.Scenes.{of_value, IsNamed, IsThere, looked, Call, site_of, AllHold, Ground, Store}
 use Rattle.word_code.specs.declared.word.TheConstants.{SPARE_ROOM}
 
 -- a call that waits: the lines that it goes on with, the temporary to which the result goes, and the procedure that it called
@@ -45,6 +45,8 @@ pub record Waits : Type 0 where
 
 -- both states
 pub record Both : Type 0 where
+  -- how many units may still be spent
+  pub units : Option ℕ
   pub memory : Memory
   pub input : List ℕ
   pub world : World
@@ -54,6 +56,15 @@ pub record Both : Type 0 where
   pub words : Vars
   pub awaits : ℕ
   pub waiting : List Waits
+  -- what is known of memory
+  pub ground : Ground
+
+-- with other memory
+abbrev pub store_with : Both → Memory → Store
+store_with g m = record { memory = m; ground = g.ground }
+
+abbrev pub store_of : Both → Store
+store_of g = store_with g g.memory
 
 abbrev pub body_of : Both → Body
 body_of g = g.call.site.body
@@ -66,6 +77,9 @@ calls_of g = g.call ∷ map called_by g.waiting
 
 abbrev pub sites_of : Both → List Site
 sites_of g = map site_of (calls_of g)
+
+abbrev pub with_units : Both → Option ℕ → Both
+with_units g units = record g { units = units }
 
 abbrev pub with_rest : Both → List BlockLine → Both
 with_rest g rest = record g { rest = rest }
@@ -110,6 +124,7 @@ module _ (table : List TypeDef) (blocks : Code BlockLine) where
 
   abbrev pub within : Both → Within
   within g = record {
+    units = g.units;
     input = g.input;
     proc = word_of table blocks (body_of g);
     base = g.call.site.base;
@@ -232,7 +247,7 @@ module _ (table : List TypeDef) (blocks : Code BlockLine) where
   pub record Good (first : Memory) (g : Both) : Type 0 where
     pub linked : Linked table blocks (sites_of g)
     pub memory : MemoryGood (sites_of g) first g.memory
-    pub hold : AllHold table blocks g.memory g.world (calls_of g)
+    pub hold : AllHold table blocks (store_of g) g.world (calls_of g)
     pub frames : AllFrames g.world (sites_of g)
     pub levels : length g.world.frames ≡ length (sites_of g)
     pub stands : StandAt (body_of g) g.rest

@@ -30,7 +30,7 @@ use Rattle.word_lowering.proofs.Options.{some_same}
 use Rattle.word_lowering.proofs.Related.{Both, Waits, low, code_behind, awaits_in, goes_on, MayAnswer, MemoryGood}
 use Rattle.word_lowering.proofs.Returned.{called, sites_left, linked_left, memory_left, good_left, left_read}
 use Rattle.word_lowering.proofs.ReturnLines.{place_high, after, HandsBack}
-use Rattle.word_lowering.proofs.Scenes.{address_of, of_value, of_place, house, looked, IsItem, IsNamed}
+use Rattle.word_lowering.proofs.Scenes.{address_of, of_value, of_place, house, looked, IsNumbers, IsNamed}
 use Rattle.word_lowering.proofs.ShapeFacts.{never}
 use Rattle.word_lowering.proofs.Sites.{room, looks, Housing, in_variable, by_address, in_places, in_data, InVariable, InMemory, data_end, around, IsHoused}
 use Rattle.word_lowering.proofs.Sites.{Linked}
@@ -108,7 +108,7 @@ module _ (x : Basis) (h : Both) (w : Waits) (ws : List Waits) (line : BlockLine)
 
   -- ---- it gets a value that is somewhere in the call that ends
 
-  module _ (p : ℕ) (item : IsItem x.table h.memory h.call (of_place p) v) (may : MayAnswer x.table x.blocks h.call.site.body w)
+  module _ (p : ℕ) (item : IsNumbers x.table h.memory h.call (of_place p) v) (may : MayAnswer x.table x.blocks h.call.site.body w)
       (result_is : result_in h.call.site.body.own.all ≡ Some (house h.call.site (of_place p))) (b : HandsBack x h w ws line rest y v code_here) where
     abbrev from : Housed
     from = house h.call.site (of_place p)

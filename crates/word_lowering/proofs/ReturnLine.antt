@@ -24,12 +24,12 @@ use Rattle.word_lowering.proofs.EndLines.{zero_exits}
 use Rattle.word_lowering.proofs.Lines.{Basis, fits_here, starts, IsGood, known, lower, Settles, branch_settles}
 use Rattle.word_lowering.proofs.MovedLines.{own_declared}
 use Rattle.word_lowering.proofs.Options.{none_some}
-use Rattle.word_lowering.proofs.ReadFacts.{read_item}
+use Rattle.word_lowering.proofs.ReadFacts.{read_item, item_read}
 use Rattle.word_lowering.proofs.Related.{Both, Waits, low, high, code_behind, within}
 use Rattle.word_lowering.proofs.Returned.{called}
 use Rattle.word_lowering.proofs.ReturnFollowed.{unwanted, wanted}
 use Rattle.word_lowering.proofs.ReturnLines.{HandsBack, hands_back, hands_nothing}
-use Rattle.word_lowering.proofs.Scenes.{IsItem, house, of_place}
+use Rattle.word_lowering.proofs.Scenes.{IsNumbers, house, of_place}
 use Rattle.word_lowering.proofs.Settling.{LabelsLead, stops_more}
 use Rattle.word_lowering.proofs.ShapeFacts.{never}
 use Rattle.word_lowering.proofs.Sites.{Among, Body, IsBody, ResultIs, There, around}
@@ -102,7 +102,7 @@ module _ (x : Basis) (h : Both) (rest : List BlockLine) where
       place_is = result_named x all p (result_at (known x) h.call.site.body.proc.places) (result_in all)
           (fits_here x.table x.blocks h.call.site.body line rest y.stands) y.linked.0.result
 
-      handed : (v : Value) → IsItem x.table h.memory h.call (of_place p) v
+      handed : (v : Value) → IsNumbers x.table h.memory h.call (of_place p) v
           → HandsBack x h w ws line rest y v (code_behind x.table x.blocks h.call.site.body (line ∷ rest))
       handed v item =
           let code : code_behind x.table x.blocks h.call.site.body (line ∷ rest)
@@ -112,7 +112,7 @@ module _ (x : Basis) (h : Both) (rest : List BlockLine) where
           subst (HandsBack x h w ws line rest y v) (sym code)
           (hands_back x h w ws line rest y (house h.call.site (of_place p)) v k (read_item x g line rest y (of_place p) v item))
 
-      finish : (v : Value) → IsItem x.table h.memory h.call (of_place p) v
+      finish : (v : Value) → IsNumbers x.table h.memory h.call (of_place p) v
           → Settles x (starts g line rest) rest (Returns v (suc (bytes v)))
       finish v item = by (type_in x is_value w.call.site.body w.to) refl
         where
@@ -134,7 +134,7 @@ module _ (x : Basis) (h : Both) (rest : List BlockLine) where
           (declared_there all p i.1 (y.linked.0.own p i.1) (own_declared (found is_declared p all).kind i.2)) in
           let u = (y.hold.0.filled p there (slot_there (slot_at h.world h.call.site.level p) has)).own i.2 in
           subst (λ z. Settles x (starts g line rest) rest (Returns z (suc (bytes z)))) (sym (ap held u.1))
-          (finish u.0 (y.hold.0.items (of_place p) u.0 there u.1)))
+          (finish u.0 (item_read x g line rest y (of_place p) u.0 there u.1)))
           (λ no before. tt)
 
   -- ---- the start code ends

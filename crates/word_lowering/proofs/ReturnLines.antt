@@ -46,6 +46,7 @@ module _ (x : Basis) (h : Both) (w : Waits) (ws : List Waits) (line : BlockLine)
   -- the call of the caller, as word code has it
   abbrev pub after : Within
   after = record {
+    units = h.units;
     input = h.input;
     proc = word_of x.table x.blocks w.call.site.body;
     base = w.call.site.base;

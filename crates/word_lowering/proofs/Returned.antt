@@ -9,9 +9,9 @@ use Rattle.flat_code.specs.Scene.{Temps}
 use Rattle.word_code.specs.Memory.{Memory, without_places, number_at}
 use Rattle.word_code.specs.Words.{Vars}
 use Rattle.word_lowering.proofs.Frames.{IsFrame}
-use Rattle.word_lowering.proofs.Keeping.{AmongCalls, call, Edit, Worlds, Kept, New, holding_kept, all_kept}
+use Rattle.word_lowering.proofs.Keeping.{AmongCalls, call, Edit, Worlds, Kept, New, holding_kept, all_kept, later_ground}
 use Rattle.word_lowering.proofs.Lines.{Basis, starts, IsGood}
-use Rattle.word_lowering.proofs.Related.{Both, Waits, called_by, MemoryGood, AllFrames, sites_of}
+use Rattle.word_lowering.proofs.Related.{Both, Waits, called_by, MemoryGood, AllFrames, sites_of, store_of, store_with}
 use Rattle.word_lowering.proofs.Scenes.{Call, Name, site_of}
 use Rattle.word_lowering.proofs.Sites.{Site, AmongSites, Linked, room, next_base}
 use Rattle.word_lowering.proofs.SitesApart.{site_at, next_least}
@@ -97,6 +97,7 @@ module _ (x : Basis) (h : Both) (w : Waits) (ws : List Waits) (line : BlockLine)
     -- the caller goes on
     abbrev pub back : Temps → Vars → Memory → (words : Vars) → (awaits : ℕ) → Both
     back temps vars m words awaits = record {
+      units = h.units;
       memory = m;
       input = h.input;
       world = world_left;
@@ -105,21 +106,22 @@ module _ (x : Basis) (h : Both) (w : Waits) (ws : List Waits) (line : BlockLine)
       words = words;
       awaits = awaits;
       waiting = ws;
+      ground = h.ground;
     }
 
     pub good_back : (lo : Site) (e : Name) (temps : Temps) (vars : Vars) (m : Memory) (words : Vars) (awaits : ℕ)
         → MemoryGood x.table x.blocks sites_left x.first m → Edit x.table x.blocks x.small sites_left linked_left lo e h.memory m
         → Kept x.table x.blocks x.small sites_left linked_left lo e w.call.site w.call.temps temps w.call.vars vars
-        → (w.call.site.level ≡ lo.level → New x.table x.blocks x.small sites_left linked_left lo e m world_left sites_left (call w.call.site temps vars))
+        → (w.call.site.level ≡ lo.level → New x.table x.blocks x.small sites_left linked_left lo e (store_with h m) world_left sites_left (call w.call.site temps vars))
         → ((c : Call) → AmongCalls c (map called_by ws) → c.site.level ≢ lo.level)
         → IsGood x (back temps vars m words awaits)
     good_back lo e temps vars m words awaits memory edit kept new others = record {
       linked = linked_left;
       memory = memory;
       hold = (
-        holding_kept x.table x.blocks x.small sites_left linked_left lo e h.memory m edit h.world world_left (worlds_down lo e) sites_left w.call.site
+        holding_kept x.table x.blocks x.small sites_left linked_left lo e (store_of h) (store_with h m) edit (later_ground h.ground) h.world world_left (worlds_down lo e) sites_left w.call.site
             w.call.temps temps w.call.vars vars (inl refl) (λ r j. j) kept new y.hold.1.0,
-        all_kept x.table x.blocks x.small sites_left linked_left lo e h.memory m edit h.world world_left (worlds_down lo e) (map called_by ws)
+        all_kept x.table x.blocks x.small sites_left linked_left lo e (store_of h) (store_with h m) edit (later_ground h.ground) h.world world_left (worlds_down lo e) (map called_by ws)
             (λ s i. inr i) (λ c from i k. absurd (others c i k)) y.hold.1.1,
       );
       frames = frames_down sites_left below y.frames.1;

@@ -35,6 +35,7 @@ use Rattle.word_lowering.specs.Operations.{word}
 use Rattle.word_lowering.specs.Texts.{texts_at, standing_place}
 use Rattle.word_lowering.specs.LineCode.{variable_of}
 use Rattle.word_lowering.proofs.InMemory.{IsAt}
+use Rattle.word_lowering.proofs.Blocks.{Blocks, AreLater, Stored}
 use Rattle.word_lowering.proofs.ShapeFacts.{of_numbers}
 use Rattle.word_lowering.proofs.ShapePaths.{PathTo}
 use Rattle.word_lowering.proofs.Sites.{Body, data_end, lines_of, Site, AmongSites, Among, looks, There, InMemory}
@@ -52,7 +53,33 @@ Points base vars (Variable v) a = vars v ≡ Some a
 Points base vars (Placed at) a = a ≡ base + at
 Points base vars (Static at) a = a ≡ own_data_at + at
 
--- a value is where a spot says
+-- blocks by their identities, and whether a text stands at a place of the data
+pub record Ground : Type 0 where
+  pub blocks : Blocks
+  pub fixed : (place : ℕ) → List ℕ → Bool
+
+-- memory, and what is known of it
+pub record Store : Type 0 where
+  pub memory : Memory
+  pub ground : Ground
+
+abbrev pub is_fixed : Ground → ℕ → List ℕ → Type 0
+is_fixed ground place text = ground.fixed place text ≡ true
+
+abbrev pub StoredIn : Store → ℕ → Shape → Value → Type 0
+StoredIn k a s x = Stored (is_fixed k.ground) k.ground.blocks k.memory a s x
+
+-- blocks that were born are as they were, or gone; and the data is as it was
+pub record IsLater (ground later : Ground) : Type 0 where
+  pub blocks : AreLater ground.blocks later.blocks
+  pub fixed : later.fixed ≡ ground.fixed
+
+-- a value of a shape is where a spot says
+abbrev pub AtHome : Store → (base : ℕ) → Vars → Shape → Spot → Value → Type 0
+AtHome k base vars s (Held v) x = vars v ≡ Some (word (number_of x))
+AtHome k base vars s (Lies home) x = (a : ℕ) × Points base vars home a × StoredIn k a s x
+
+-- and one that is made of numbers
 abbrev pub At : Memory → (base : ℕ) → Vars → Spot → Value → Type 0
 At m base vars (Held v) x = vars v ≡ Some (word (number_of x))
 At m base vars (Lies home) x = (a : ℕ) × Points base vars home a × IsAt m a x
@@ -133,7 +160,15 @@ module _ (table : List TypeDef) where
   looked s name = looks table (house s name)
 
   -- a value looks as its place says, and is there
-  pub record IsItem (m : Memory) (c : Call) (name : Name) (x : Value) : Type 0 where
+  pub record IsItem (k : Store) (c : Call) (name : Name) (x : Value) : Type 0 where
+    pub there : IsThere c.site name
+    pub plain : is_address (house c.site name).kind ≡ false
+    -- one of numbers has all of them
+    pub shaped : of_numbers (looked c.site name) ≡ true → has_shape x (looked c.site name) ≡ true
+    pub at : AtHome k c.site.base c.vars (looked c.site name) (spot_of (house c.site name)) x
+
+  -- the same of a value of numbers
+  pub record IsNumbers (m : Memory) (c : Call) (name : Name) (x : Value) : Type 0 where
     pub there : IsThere c.site name
     pub plain : is_address (house c.site name).kind ≡ false
     pub shaped : has_shape x (looked c.site name) ≡ true
@@ -242,14 +277,14 @@ module _ (table : List TypeDef) where
 
     -- ---- all of it
 
-    pub record Holding (m : Memory) (w : World) (sites : List Site) (c : Call) : Type 0 where
-      pub items : (name : Name) (x : Value) → IsThere c.site name → HasValue w c name x → IsItem m c name x
+    pub record Holding (k : Store) (w : World) (sites : List Site) (c : Call) : Type 0 where
+      pub items : (name : Name) (x : Value) → IsThere c.site name → HasValue w c name x → IsItem k c name x
       pub texts : (t behind bytes : ℕ) (x : Value) → IsNamed c.site (of_value t) → (house c.site (of_value t)).alias ≡ alias.Text behind bytes
           → c.temps.values t ≡ Some x → IsLiteral c.site.body behind bytes x
       pub led : (t : ℕ) (there : Where) → IsNamed c.site (of_location t) → c.temps.places t ≡ Some there → IsLed sites w c t there
       pub filled : (n : ℕ) → IsThere c.site (of_place n) → Filled w c.site.level n → IsFilled sites w c n
       pub left : c.site.body.start ≡ false → c.vars LEFT ≡ Some c.site.left
 
-    abbrev pub AllHold : Memory → World → List Call → Type 0
-    AllHold m w [] = Unit {0}
-    AllHold m w (c ∷ cs) = Holding m w (map site_of (c ∷ cs)) c × AllHold m w cs
+    abbrev pub AllHold : Store → World → List Call → Type 0
+    AllHold k w [] = Unit {0}
+    AllHold k w (c ∷ cs) = Holding k w (map site_of (c ∷ cs)) c × AllHold k w cs

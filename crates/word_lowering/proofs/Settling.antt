@@ -17,17 +17,18 @@ use Rattle.flat_code.specs.Shapes.{has_shape}
 use Rattle.flat_code.specs.Running.{from_label as line_from, jumped}
 use Rattle.flat_code.specs.Codes.{block_plain, block_label}
 use Rattle.word_code.specs.declared.word.WordInstr.{WordInstr}
-use Rattle.word_code.specs.Words.{Vars, from_label}
-use Rattle.word_code.proofs.ForCallers.{at, AlwaysSteps, AlwaysStops, stops_on}
+use Rattle.word_code.specs.Words.{Vars, WordState, from_label}
+use Rattle.word_code.proofs.ForCallers.{at, Runs, then_runs, AlwaysSteps, AlwaysStops, stops_on}
 use Rattle.word_lowering.specs.Operations.{word, trap_label}
 use Rattle.word_lowering.specs.LineCode.{variable_of, own_label, label_before, line_code}
 use Rattle.word_lowering.specs.Lowered.{any_branches}
 use Rattle.word_lowering.proofs.Gets.{SameTemps, good_with_temps, same_temps}
-use Rattle.word_lowering.proofs.Lines.{Basis, Follows, IsGood, Settles, all_procs, goes_on, stands_next, stays_on, changed, lower, starts}
-use Rattle.word_lowering.proofs.Moves.{all_same}
+use Rattle.word_lowering.proofs.Lines.{Basis, Follows, FollowsFrom, IsGood, IsSpending, Settles, good_units, spends_settles, all_procs, goes_on}
+use Rattle.word_lowering.proofs.Lines.{stands_next, stays_on, changed, lower, starts}
+use Rattle.word_lowering.proofs.Moves.{all_same, same_more}
 use Rattle.word_lowering.proofs.OperationRuns.{Given, Led}
-use Rattle.word_lowering.proofs.OrdinalRuns.{AllSame}
-use Rattle.word_lowering.proofs.Related.{Both, StandAt, body_of, code_behind, high, low, within}
+use Rattle.word_lowering.proofs.OrdinalRuns.{AllSame, Leads}
+use Rattle.word_lowering.proofs.Related.{Both, with_units, StandAt, body_of, code_behind, high, low, within}
 use Rattle.word_lowering.proofs.Scenes.{IsThere, of_value, house, looked}
 use Rattle.word_lowering.proofs.Sites.{is_one_word, word_of, around}
 use Rattle.word_lowering.proofs.ValueFacts.{good_word}
@@ -167,7 +168,7 @@ module _ (x : Basis) where
           (r.0, low x.table x.blocks (changed g after temps led.leads.vars g.memory g.words g.awaits g.world)),
           led.steps,
           record { work = r.1.work; within = omega (arith, r.1.within, led.few); by = r.1.by },
-          ((changed g after temps led.leads.vars g.memory g.words g.awaits g.world, good, r.0), refl, refl),
+          (inl (changed g after temps led.leads.vars g.memory g.words g.awaits g.world, good, r.0), refl, refl),
           inl led.some,
         )
 
@@ -179,8 +180,36 @@ module _ (x : Basis) where
         (λ after e. y.linked.0.once name (y.stands.before ++ line ∷ []) rest after
         (y.stands.whole ∙ sym (append_assoc y.stands.before (line ∷ []) rest)) e) comes
 
-    pub turns_settles : LabelsLead → (temps : Temps) → SameTemps x g line rest y temps → (name : ℕ)
-        → ((there : List WordInstr) → from_label (own_label name) (word_of x.table x.blocks (body_of g)).lines ≡ Some there → Comes there)
-        → Settles x (starts g line rest) rest (Turns temps name)
-    turns_settles labels temps same name comes =
-        lands_settles labels temps same name (line_from block_label name (body_of g).proc.lines) (λ after e. e) comes
+    -- the same from a state before, behind other lines that change variables for what comes between alone
+    lands_from : LabelsLead → (t : WordState) (k : List WordInstr) (vars : Vars) (n : ℕ) → n ≤ 8 → AllSame g.call.vars vars
+        → Runs x.live (all_procs x) n t (at (within x.table x.blocks g) g.memory k vars g.words) → (name : ℕ) (o : Option (List BlockLine))
+        → ((after : List BlockLine) → o ≡ Some after → line_from block_label name (body_of g).proc.lines ≡ Some after)
+        → ((there : List WordInstr) → from_label (own_label name) (word_of x.table x.blocks (body_of g)).lines ≡ Some there
+        → Leads x.live (all_procs x) (within x.table x.blocks g) g.memory g.words k vars there 1)
+        → FollowsFrom x t (starts g line rest) (jumped (high x.table x.blocks (starts g line rest)) g.call.temps 1 o)
+    lands_from labels t k vars n few same runs name None first comes = λ before. tt
+    lands_from labels t k vars n few same runs name (Some after) first comes =
+        let l = labels g line rest after name y (first after refl) in
+        let led = comes (code_behind x.table x.blocks (body_of g) after) l.0 in
+        let good = good_with_temps x g line rest y after g.call.temps (same_temps x g line rest y) led.vars g.words g.awaits
+        (same_more g.call.vars vars led.vars same led.same) l.1 in
+        λ before. let r = (then_runs x.live (all_procs x) runs led.runs).by x.fresh before in (
+          (r.0, low x.table x.blocks (changed g after g.call.temps led.vars g.memory g.words g.awaits g.world)),
+          n + 1,
+          record { work = r.1.work; within = omega (arith, r.1.within, few); by = r.1.by },
+          (inl (changed g after g.call.temps led.vars g.memory g.words g.awaits g.world, good, r.0), refl, refl),
+          inl (omega arith),
+        )
+
+  -- a unit is spent, and then control goes on at a label
+  pub turns_settles : (g : Both) (line : BlockLine) (rest : List BlockLine) → IsGood x (starts g line rest) → LabelsLead → (name : ℕ)
+      (spend : WordInstr) (k : List WordInstr) (vars : Vars) → IsSpending x g spend k vars g.words → (n : ℕ) → n ≤ 7 → AllSame g.call.vars vars
+      → Runs x.live (all_procs x) n (low x.table x.blocks (starts g line rest)) (at (within x.table x.blocks g) g.memory (spend ∷ k) vars g.words)
+      → ((units : Option ℕ) (there : List WordInstr) → from_label (own_label name) (word_of x.table x.blocks (body_of g)).lines ≡ Some there
+      → Leads x.live (all_procs x) (within x.table x.blocks (with_units g units)) g.memory g.words k vars there 1)
+      → Settles x (starts g line rest) rest (Turns g.call.temps name)
+  turns_settles g line rest y labels name spend k vars is n few same runs comes =
+      spends_settles x (starts g line rest) rest (Turns g.call.temps name) refl spend k vars g.words is n (omega (arith, few)) runs
+      (λ units runs.
+      lands_from (with_units g units) line rest (good_units x (starts g line rest) units y) labels (low x.table x.blocks (starts g line rest)) k vars
+      (n + 1) (omega (arith, few)) same runs name (line_from block_label name (body_of g).proc.lines) (λ after e. e) (comes units))

@@ -23,7 +23,7 @@ use Rattle.word_lowering.proofs.Moves.{is_single, single_word, IsHigh, MaySpot, 
 use Rattle.word_lowering.proofs.Moves.{high_behind, parts_to_memory}
 use Rattle.word_lowering.proofs.LineFits.{single_is, single_number, has_words}
 use Rattle.word_lowering.proofs.Sites.{room, Housing, in_variable, by_address, in_places, in_data, InMemory, Site, AmongSites, data_end, IsHoused, Linked}
-use Rattle.word_lowering.proofs.Scenes.{address_of, Points, At, Name, Call, house, IsThere, looked, IsItem}
+use Rattle.word_lowering.proofs.Scenes.{address_of, Points, At, Name, Call, house, IsThere, looked, IsNumbers}
 use Rattle.word_lowering.proofs.SitesApart.{Beside, InRange, in_range, houses, SiteAt, site_at, one_level, ranges_apart}
 use Rattle.word_lowering.proofs.Keeping.{name_cases, number_cases, spot_memory, spot_held, points_there, from_memory}
 use Rattle.word_lowering.proofs.Related.{IsOpen, IsClosed, IsText, routines, MemoryGood}
@@ -245,7 +245,7 @@ module _ (x : Basis) (sites : List Site) (linked : Linked x.table x.blocks sites
         by (in_data n e p whole low within start) = inside (subst InMemory (sym e) tt)
 
   pub item_source : (m : Memory) → MemoryGood x.table x.blocks sites x.first m → (c : Call) (f : Name) (v : Value) → AmongSites c.site sites
-      → IsItem x.table m c f v → Source m c.site.base c.vars true (house c.site f) v
+      → IsNumbers x.table m c f v → Source m c.site.base c.vars true (house c.site f) v
   item_source m good c f v i item = place_source c i f item.there item.plain v item.shaped m good item.at
 
   -- ---- moves

@@ -1,5 +1,5 @@
 -- Before the first line of block code: word code is there from the beginning, and both states belong together.
-use Rattle.std.proofs.Common.{◌≡◌, ℕ, zero, suc, ◌-◌, replicate, List, [], ◌∷◌, length, Option, Some, None, true}
+use Rattle.std.proofs.Common.{◌≡◌, ℕ, zero, suc, ◌-◌, replicate, List, [], ◌∷◌, length, Option, Some, None, true, false}
 use Rattle.std.proofs.Common.{refl, sym, ap, subst, ◌∙◌, arith}
 use Rattle.std.specs.Prelude.{slice_get}
 use Rattle.std.proofs.lemmas.Bool.{true≢false}
@@ -31,6 +31,7 @@ use Rattle.word_lowering.proofs.Sites.{Body, Site, lines_of, around, word_of, Is
 use Rattle.word_lowering.proofs.Scenes.{Name, of_value, of_location, of_place, HasValue, Filled}
 use Rattle.word_lowering.proofs.Options.{none_some}
 use Rattle.word_lowering.proofs.Related.{Both, code_behind, within, low, MemoryGood, Good}
+use Rattle.word_lowering.proofs.Blocks.{Bytes}
 
 -- ---- both states
 
@@ -75,8 +76,8 @@ no_results known (p ∷ ps) e = by p.kind e (no_results known ps)
     by K.Within e go = go e
     by K.Counter e go = go e
 
-module _ (table : List TypeDef) (blocks : Code BlockLine) (b : Body) (is : IsBody table blocks b) (start : b.start ≡ true) (heap : ℕ) (input : List ℕ)
-    (first : Memory) where
+module _ (table : List TypeDef) (blocks : Code BlockLine) (b : Body) (is : IsBody table blocks b) (start : b.start ≡ true) (units : Option ℕ) (heap : ℕ)
+    (input : List ℕ) (first : Memory) where
   abbrev as_proc : Proc BlockLine
   as_proc = proc_of (known_in table) b.proc
 
@@ -85,6 +86,7 @@ module _ (table : List TypeDef) (blocks : Code BlockLine) (b : Body) (is : IsBod
 
   abbrev pub first_pair : Both
   first_pair = record {
+    units = units;
     memory = first;
     input = input;
     world = world_of (frame_of as_proc [] ∷ []) heap input;
@@ -93,6 +95,7 @@ module _ (table : List TypeDef) (blocks : Code BlockLine) (b : Body) (is : IsBod
     words = no_words;
     awaits = 0;
     waiting = [];
+    ground = record { blocks = record { born = 0; inside = λ k. Bytes; stands = λ k. None }; fixed = λ place text. false };
   }
 
   module _ (memory : MemoryGood table blocks (site ∷ []) first first) (none_given : as_proc.result ≡ []) where

@@ -1,5 +1,5 @@
 -- The start of word code: it is at the first line of block code, and both states belong together there.
-use Rattle.std.proofs.Common.{◌≡◌, ℕ, List, [], ◌∷◌, ◌++◌, map, None, true, refl, sym, ap, subst, ◌+◌}
+use Rattle.std.proofs.Common.{Option, ◌≡◌, ℕ, List, [], ◌∷◌, ◌++◌, map, None, true, refl, sym, ap, subst, ◌+◌}
 use Rattle.std.proofs.Common.{◌∙◌}
 use Rattle.std.proofs.lemmas.Bool.{and_parts, false≢true}
 use Rattle.rv32_isa.specs.Machine.{Lives}
@@ -41,7 +41,7 @@ last_map : {A B : Type 0} (f : A → B) (none : A) (other : B) (x : A) (xs : Lis
 last_map f none other x [] = refl
 last_map f none other x (y ∷ xs) = last_map f x (f x) y xs
 
-module _ (table : List TypeDef) (blocks : Code BlockLine) (runtime : WordCode) (heap stack : ℕ) (input : List ℕ) where
+module _ (table : List TypeDef) (blocks : Code BlockLine) (runtime : WordCode) (units : Option ℕ) (heap stack : ℕ) (input : List ℕ) where
   abbrev code : WordCode
   code = joined (lowered table blocks) runtime
 
@@ -61,7 +61,8 @@ module _ (table : List TypeDef) (blocks : Code BlockLine) (runtime : WordCode) (
   pub record Begins (live : Lives) : Type 0 where
     pub both : Both
     pub good : Good table blocks first both
-    pub runs : Runs live code.procs 0 (word_start code heap stack input) (low table blocks both)
+    pub runs : Runs live code.procs 0 (record (word_start code heap stack input) { units = units }) (low table blocks both)
+    pub units_are : both.units ≡ units
     pub same : high table blocks both ≡ at_first block_label (block_does (known_in table)) (procs_of (known_in table) blocks) heap input
 
   module _ (is_table : IsTable table) (have : HaveForms table) (fits : IsFitting table blocks) (may : may_lower table blocks ≡ true)
@@ -94,9 +95,10 @@ module _ (table : List TypeDef) (blocks : Code BlockLine) (runtime : WordCode) (
     unfolding word_start
     begins live =
         record {
-          both = first_pair table blocks start_body start_is refl heap input first;
-          good = first_good table blocks start_body start_is refl heap input first start_memory no_result.1;
-          runs = first_runs table blocks start_body start_is refl heap input first start_memory no_result.1 live code.procs no_place;
+          both = first_pair table blocks start_body start_is refl units heap input first;
+          units_are = refl;
+          good = first_good table blocks start_body start_is refl units heap input first start_memory no_result.1;
+          runs = first_runs table blocks start_body start_is refl units heap input first start_memory no_result.1 live code.procs no_place;
           same = ap (λ (q : Proc BlockLine). record {
             now = beginning q 0 ACTIVE_CALLS;
             waiting = [];

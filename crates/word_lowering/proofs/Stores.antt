@@ -19,7 +19,7 @@ use Rattle.word_lowering.proofs.SitesApart.{houses, site_at, one_level}
 use Rattle.word_lowering.proofs.Keeping.{number_cases, call, AmongCalls, somewhere, Worlds, New, to_memory, from_memory, same_numbers, location_no_place}
 use Rattle.word_lowering.proofs.Keeping.{outside_still}
 use Rattle.word_lowering.proofs.Keeping.{away_cases, value_no_place}
-use Rattle.word_lowering.proofs.Related.{Both, body_of, called_by, StandAt, MemoryGood, sites_of}
+use Rattle.word_lowering.proofs.Related.{Both, body_of, called_by, StandAt, MemoryGood, sites_of, store_of, store_with}
 use Rattle.word_lowering.proofs.Located.{RootAt, root_at, own_place}
 use Rattle.word_lowering.proofs.Sources.{Lying}
 use Rattle.word_lowering.proofs.Lines.{Basis, changed, starts, IsGood, all_sites, good_changed}
@@ -27,6 +27,7 @@ use Rattle.word_lowering.proofs.ReadFacts.{each_call}
 use Rattle.word_lowering.proofs.Gets.{memory_kept, frame_of_site, frames_kept, high_variable, SameTemps, kept_temps}
 use Rattle.flat_code.specs.Scene.{Temps}
 use Rattle.nim_meaning.specs.Places.{root_of, through_slot}
+use Rattle.word_lowering.proofs.Items.{item_of}
 
 module _ (x : Basis) (g : Both) (line : BlockLine) (rest : List BlockLine) (y : IsGood x (starts g line rest)) where
   abbrev sites : List Site
@@ -44,7 +45,7 @@ module _ (x : Basis) (g : Both) (line : BlockLine) (rest : List BlockLine) (y : 
     numbers = path_numbers (looked x.table f.site place) l.path f.offset t place_is.numbers f.path
 
     pub root : RootAt x sites y.linked g.memory g.world f.site f.number
-    root = root_at x sites y.linked g.memory g.world f.site f.number f.among (each_call x g line rest y f.site f.among) f.filled f.there f.home
+    root = root_at x sites y.linked (store_of g) g.world f.site f.number f.among (each_call x g line rest y f.site f.among) f.filled f.there f.home
 
     abbrev pub old : Value
     old = root.value
@@ -166,17 +167,18 @@ module _ (x : Basis) (g : Both) (line : BlockLine) (rest : List BlockLine) (y : 
 
       -- of a call at that level
       store_new : (c : Call) (from : List Site) → AmongSites c.site sites → c.site.level ≡ f.site.level
-          → New x.table x.blocks x.small sites y.linked f.site place m new_world from c
+          → New x.table x.blocks x.small sites y.linked f.site place (store_with g m) new_world from c
       store_new c from i e =
-          subst (λ z. New x.table x.blocks x.small sites y.linked f.site place m new_world from (record { site = z; temps = c.temps; vars = c.vars }))
+          subst (λ z. New x.table x.blocks x.small sites y.linked f.site place (store_with g m) new_world from (record { site = z; temps = c.temps; vars = c.vars }))
           (sym (one_level x.table x.blocks sites c.site f.site y.linked i f.among e)) (record {
-            item = λ u i h. subst (λ w. IsItem x.table m (record { site = f.site; temps = c.temps; vars = c.vars }) place w)
-                (ap held (sym slot_new ∙ h)) (record {
+            item = λ u i h. subst (λ w. IsItem x.table (store_with g m) (record { site = f.site; temps = c.temps; vars = c.vars }) place w)
+                (ap held (sym slot_new ∙ h))
+                (item_of x.table (store_with g m) (record { site = f.site; temps = c.temps; vars = c.vars }) place new place_is.numbers (record {
                   there = f.there;
                   plain = root.item.plain;
                   shaped = new_shaped;
                   at = to_memory m f.site.base c.vars (house f.site place) new root.item.plain f.home new_at;
-                });
+                }));
             text = λ u n j w e k h. absurd (value_no_place u f.number e);
             led = λ u other k i h. absurd (location_no_place u f.number k);
             filled = λ n k h. subst (λ j. IsFilled x.table from new_world (record { site = f.site; temps = c.temps; vars = c.vars }) j)

@@ -46,7 +46,7 @@ use Rattle.word_lowering.proofs.Located.{IsThereAt, place_located}
 use Rattle.word_lowering.proofs.Moves.{IsHigh, all_same, words_of}
 use Rattle.word_lowering.proofs.OutPlaces.{written_at, written_stands}
 use Rattle.word_lowering.proofs.ReadFacts.{each_call, read_location}
-use Rattle.word_lowering.proofs.Related.{Both, MemoryGood, body_of, high, routines, within}
+use Rattle.word_lowering.proofs.Related.{Both, MemoryGood, body_of, high, routines, within, store_of}
 use Rattle.word_lowering.proofs.RoutineCalls.{awaiting}
 use Rattle.word_lowering.proofs.RoutineMemory.{still_outside}
 use Rattle.word_lowering.proofs.Scenes.{FromPlace, Leads, Points, of_a_place, address_of, house, looked, of_location, of_place}
@@ -146,7 +146,7 @@ module _ (x : Basis) (g : Both) (line : BlockLine) (rest : List BlockLine) (y : 
       (of_a_place x.table x.blocks (written_stands x g line rest y w.written)
       (subst (λ k. Leads x.table x.blocks sites g.world g.call.site g.call.temps k a.address (looked x.table g.call.site (of_location t))) w.is
       a.leads_to)) in
-      let there_at = place_located x sites y.linked g.memory g.world (each_call x g line rest y) l a.address shape leads in
+      let there_at = place_located x sites y.linked (store_of g) g.world (each_call x g line rest y) l a.address shape leads in
       let size : bytes (load g.world l) ≡ shape_bytes shape = bytes_is (load g.world l) shape there_at.numbers there_at.shaped in
       let r = read_location x g line rest y t there p.named e in
       let located : location_at g.call.temps there ≡ l = ap (location_at g.call.temps) w.is in

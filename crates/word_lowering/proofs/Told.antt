@@ -161,7 +161,7 @@ module _ (x : Basis) (least : FIXED_BYTES ≤ data_end x.table x.blocks) (g : Bo
         (r.0, low x.table x.blocks behind),
         s.count,
         record { work = r.1.work; within = (let h = r.1.within in let f = s.few in omega (arith, h, f, enough)); by = r.1.by },
-        ((behind, good, r.0), refl, refl),
+        (inl (behind, good, r.0), refl, refl),
         inr (omega arith),
       )
 

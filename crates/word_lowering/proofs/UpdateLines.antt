@@ -68,8 +68,8 @@ use Rattle.word_lowering.proofs.OperandLines.{MayTrap, binary_may}
 use Rattle.word_lowering.proofs.OpRuns.{same_put}
 use Rattle.word_lowering.proofs.OrdinalRuns.{AllSame, beyond, put_here, put_other, put_under}
 use Rattle.word_lowering.proofs.OutPlaces.{Written, far_written, high_in_memory, own_written}
-use Rattle.word_lowering.proofs.ReadFacts.{each_call}
-use Rattle.word_lowering.proofs.Related.{Both, body_of, high, within}
+use Rattle.word_lowering.proofs.ReadFacts.{each_call, item_read}
+use Rattle.word_lowering.proofs.Related.{Both, body_of, high, within, store_of}
 use Rattle.word_lowering.proofs.Scenes.{At as IsHeldAt, FromPlace, IsThere, Points, address_of, house, looked, of_place}
 use Rattle.word_lowering.proofs.Settling.{LabelsLead, TrapsStop, code_here, code_next, code_of_line, trap_settles}
 use Rattle.word_lowering.proofs.ShapeFacts.{never}
@@ -193,11 +193,11 @@ module _ (x : Basis) (g : Both) (line : BlockLine) (rest : List BlockLine) (y : 
         spot = spot_held (house g.call.site (of_place n)) t plain_is home
 
         old_shaped : has_shape old (number None) ≡ true
-        old_shaped = subst (λ s. has_shape old s ≡ true) look (y.hold.0.items (of_place n) old there slot).shaped
+        old_shaped = subst (λ s. has_shape old s ≡ true) look (item_read x g line rest y (of_place n) old there slot).shaped
 
         old_is : v t ≡ Some (word (number_of old))
         old_is = same.others t least
-            ∙ subst (λ p. IsHeldAt g.memory g.call.site.base g.call.vars p old) spot (y.hold.0.items (of_place n) old there slot).at
+            ∙ subst (λ p. IsHeldAt g.memory g.call.site.base g.call.vars p old) spot (item_read x g line rest y (of_place n) old there slot).at
 
         runs_held : runs_by (Held t)
         runs_held = subst runs_by (ap spot_of is ∙ spot) runs
@@ -264,7 +264,7 @@ module _ (x : Basis) (g : Both) (line : BlockLine) (rest : List BlockLine) (y : 
         old = load g.world l
 
         at_there : IsThereAt x sites y.linked g.memory old a (number None)
-        at_there = place_located x sites y.linked g.memory g.world (each_call x g line rest y) l a (number None) f
+        at_there = place_located x sites y.linked (store_of g) g.world (each_call x g line rest y) l a (number None) f
 
         old_fits : is_int_number (number_of old) ≡ true
         old_fits = number_fits old (number None) at_there.shaped

@@ -11,7 +11,6 @@ use Rattle.nim_meaning.specs.State.{World}
 use Rattle.flat_code.specs.declared.block.BlockLine.{BlockLine}
 use Rattle.flat_code.specs.declared.place.PlaceKind.{PlaceKind}
 use Rattle.flat_code.specs.declared.place.PlaceKind.TheVariants as K
-use Rattle.word_code.specs.Memory.{Memory}
 use Rattle.word_code.specs.Words.{Vars}
 use Rattle.flat_code.specs.Scene.{with_value, put, known_in}
 use Rattle.flat_code.specs.Shapes.{number, has_shape, shape_of}
@@ -35,9 +34,11 @@ use Rattle.word_lowering.proofs.Sites.{Body, type_of, room, Housing, in_variable
 use Rattle.word_lowering.proofs.Sites.{data_end, is_one_word}
 use Rattle.word_lowering.proofs.Sites.{IsHoused, IsTextual, IsBody}
 use Rattle.word_lowering.proofs.Scenes.{Name, of_value, of_location, of_place, kind_in, number_in, At, Call, house, IsNamed, IsThere, looked, IsItem, Holding}
+use Rattle.word_lowering.proofs.Scenes.{Store}
 use Rattle.word_lowering.proofs.SitesApart.{houses, variables_apart}
 use Rattle.word_lowering.proofs.Keeping.{own_text, spot_held, value_no_location, value_no_place, call, nowhere, Kept, New, worlds_same}
-use Rattle.word_lowering.proofs.Related.{Both, body_of, StandAt}
+use Rattle.word_lowering.proofs.Related.{Both, body_of, StandAt, store_of}
+use Rattle.word_lowering.proofs.Items.{numbers_of, item_of}
 use Rattle.word_lowering.proofs.Lines.{Basis, changed, starts, IsGood, all_sites, good_changed, waits_below}
 
 -- a temporary's place holds no address
@@ -128,18 +129,18 @@ module _ (x : Basis) where
     pub is : v ≡ Number number
     pub shaped : has_shape v (looked x.table c.site (of_value t)) ≡ true
 
-  pub operand : (m : Memory) (w : World) (from : List Site) (c : Call) (t : ℕ) (v : Value) (values : Option ℕ) → IsBody x.table x.blocks c.site.body
-      → Holding x.table x.blocks m w from c → IsNamed c.site (of_value t) → c.temps.values t ≡ Some v
+  pub operand : (k : Store) (w : World) (from : List Site) (c : Call) (t : ℕ) (v : Value) (values : Option ℕ) → IsBody x.table x.blocks c.site.body
+      → Holding x.table x.blocks k w from c → IsNamed c.site (of_value t) → c.temps.values t ≡ Some v
       → looked x.table c.site (of_value t) ≡ number values → Operand c t v
-  operand m w from c t v values b hold named e look =
+  operand k w from c t v values b hold named e look =
       let there = value_there c.site t b named (ap of_numbers look) in
-      let item = hold.items (of_value t) v there e in
+      let item = numbers_of x.table k c (of_value t) v (numbers_there c.site (of_value t) b there) (hold.items (of_value t) v there e) in
       let z = in_word c.site t b there (ap is_one_word look) in
       let n = number_value v values (subst (λ s. has_shape v s ≡ true) look item.shaped) in
       record {
         fits = number_fits v (looked x.table c.site (of_value t)) item.shaped;
         high = subst (λ u. OWN_FROM ≤ u) (sym z.is) z.high;
-        word_is = ap c.vars z.is ∙ subst (λ p. At m c.site.base c.vars p v) z.spot item.at;
+        word_is = ap c.vars z.is ∙ subst (λ p. At k.memory c.site.base c.vars p v) z.spot item.at;
         number = n.0;
         is = n.1;
         shaped = item.shaped;
@@ -213,16 +214,17 @@ module _ (x : Basis) where
             apart f u other (inr ne) home e =
                 variables_apart x.table x.blocks g.call.site (of_value t) f z.variable u body there other (λ s. ne (sym s)) z.home home (e ∙ z.is)
 
-        new : New x.table x.blocks x.small (all_sites x g line rest y) y.linked g.call.site (of_value t) g.memory g.world (all_sites x g line rest y)
+        new : New x.table x.blocks x.small (all_sites x g line rest y) y.linked g.call.site (of_value t) (store_of g) g.world (all_sites x g line rest y)
             (call g.call.site (with_value t g.call.temps v) vars)
         new = record {
-          item = λ u i h. subst (λ w. IsItem x.table g.memory (call g.call.site (with_value t g.call.temps v) vars) (of_value t) w) (put_here t v u h)
-              (record {
+          item = λ u i h. subst (λ w. IsItem x.table (store_of g) (call g.call.site (with_value t g.call.temps v) vars) (of_value t) w) (put_here t v u h)
+              (item_of x.table (store_of g) (call g.call.site (with_value t g.call.temps v) vars) (of_value t) v
+              (numbers_there g.call.site (of_value t) body there) (record {
                 there = there;
                 plain = value_plain (house g.call.site (of_value t)).kind there.kind;
                 shaped = shaped;
                 at = subst (λ p. At g.memory g.call.site.base vars p v) (sym z.spot) (ap vars (sym z.is) ∙ is);
-              });
+              }));
           text = λ u n k w e a h. own_text g.call.site (of_value u) n k (subst (IsThere g.call.site) (sym e) there) a;
           led = λ u other e n h. absurd (value_no_location t u (sym e));
           filled = λ n e h. absurd (value_no_place t n (sym e));

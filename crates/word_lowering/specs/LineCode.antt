@@ -29,7 +29,7 @@ use Rattle.word_code.specs.declared.routine.TheConstants.{SWAP, NUMBER, PROCS_FR
 use Rattle.word_code.specs.declared.word.WordOperation.TheVariants as operation
 use Rattle.word_code.specs.declared.word.Test.TheVariants as test
 use Rattle.word_code.specs.declared.word.WordInstr.{WordInstr}
-use Rattle.word_code.specs.declared.word.WordInstr.TheVariants.{Label, Constant, Copy, Compute, Sum, Place, Datum, Load, Store, Jump, Branch}
+use Rattle.word_code.specs.declared.word.WordInstr.TheVariants.{Label, Spend, Constant, Copy, Compute, Sum, Place, Datum, Load, Store, Jump, Branch}
 use Rattle.word_code.specs.declared.word.WordInstr.TheVariants.{Argument, Call, Return, Write, Exit}
 use Rattle.word_lowering.specs.declared.homes.TheConstants.{LEFT, FIRST, SECOND, THIRD, FOURTH, FIFTH}
 use Rattle.word_lowering.specs.declared.homes.Alias.{Alias}
@@ -45,7 +45,7 @@ use Rattle.word_lowering.specs.declared.setting.Setting.{Setting}
 use Rattle.word_lowering.specs.Stored.{base_at, entry_at, part_at, count_in, element_bytes, limit_at}
 use Rattle.word_lowering.specs.Layouts.{free_at, nowhere, found, params_in, result_in}
 use Rattle.word_lowering.specs.Spots.{spot_of, shifted, address, moved, moves, passes, cleared, clears, starts, handed}
-use Rattle.word_lowering.specs.Operations.{word, trap_label, binary_code, unary_code, compare_code, narrow_code, unless_code, if_code, fits_code}
+use Rattle.word_lowering.specs.Operations.{word, trap_label, binary_code, unary_code, compare_code, narrow_code, unless_code, turn_if_code, fits_code}
 use Rattle.word_lowering.specs.Operations.{beyond_code, turn_code}
 use Rattle.word_lowering.specs.Aliases.{text_in}
 use Rattle.word_lowering.specs.Texts.{names_before, place_of, standing_place}
@@ -436,7 +436,7 @@ module _ (x : Around) where
   line_code (L.Apply to operation how ty of from) label k = row_code operation label ty of (value to) (operands from) k
   line_code (L.Construct to how ty fields from) label k = clears (value to) (fields_code (value to).home ty fields (operands from) k)
   line_code (L.Constant to how ty pieces) label k = constant_code (value to) pieces k
-  line_code (L.Call to how ty proc from) label k = call_code label proc ty to from k
+  line_code (L.Call to how ty proc from) label k = Spend ∷ call_code label proc ty to from k
   line_code (L.Get to from how ty) label k = moves (value to) (location from) k
   line_code (L.Look to from) label k = moves (value to) (location from) k
   line_code (L.Root to p global) label k = k
@@ -465,9 +465,9 @@ module _ (x : Around) where
   line_code (L.Fits from these to) label k = choice_code these (held from) (own_label to) k
   -- what is owned comes with the heap
   line_code (L.Own what from) label k = k
-  line_code L.Enter label k = k
-  line_code (L.Turn to) label k = Jump (own_label to) ∷ k
-  line_code (L.TurnIf from to) label k = if_code (held from) (own_label to) k
+  line_code L.Enter label k = Spend ∷ k
+  line_code (L.Turn to) label k = Spend ∷ Jump (own_label to) ∷ k
+  line_code (L.TurnIf from to) label k = turn_if_code (held from) (own_label to) k
   line_code (L.CountTurn counter last inclusive to) label k = turn_code label (held counter) (held last) inclusive (own_label to) k
   line_code (L.Return result) label k = return_code x.setting.start result k
 
@@ -484,6 +484,7 @@ is_control (L.Label name) = true
 is_control (L.Jump to) = true
 is_control (L.Unless from to) = true
 is_control (L.Fits from these to) = true
+is_control L.Enter = true
 is_control (L.Turn to) = true
 is_control (L.TurnIf from to) = true
 is_control (L.CountTurn counter last inclusive to) = true

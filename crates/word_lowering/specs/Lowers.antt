@@ -3,7 +3,7 @@
 --     block code ──words──> word code ──join──> word code with a runtime
 --         │ block_meaning                           │ word_meaning
 --         └────────────────── Agrees ───────────────┘        paced by WORD_PACE
-use Rattle.std.specs.Prelude.{◌≡◌, ◌≤◌, ◌+◌, ◌%◌, ℕ, true, false, List, [], ◌∷◌, length, None}
+use Rattle.std.specs.Prelude.{◌≡◌, ◌≤◌, ◌+◌, ◌*◌, ◌%◌, ℕ, true, false, List, [], ◌∷◌, length, None}
 use Rattle.arc_base.specs.Behaviour.{Agrees, Sound, no_objects}
 use Rattle.arc_base.specs.Pace.{Paced}
 use Rattle.nim_types.specs.declared.types.TypeDef.{TypeDef}
@@ -11,8 +11,9 @@ use Rattle.rv32_isa.specs.Machine.{Lives}
 use Rattle.flat_code.specs.declared.block.BlockLine.{BlockLine}
 use Rattle.flat_code.specs.declared.code.Code.{Code}
 use Rattle.flat_code.specs.declared.code.CodeProc.{CodeProc}
-use Rattle.flat_code.specs.Codes.{hooks_of, AreNone, block_plain, block_meaning}
+use Rattle.flat_code.specs.Codes.{hooks_of, AreNone, block_plain, block_meaning, block_within}
 use Rattle.flat_code.specs.Fits.{code_fits}
+use Rattle.flat_code.specs.Running.{ShowsAlike}
 use Rattle.flat_code.specs.Scene.{known_in}
 use Rattle.flat_code.specs.Sizes.{code_weight, data_bytes}
 use Rattle.word_code.specs.declared.routine.TheConstants.{ROUTINE_CHAIN, RUNTIME_DATA}
@@ -20,7 +21,7 @@ use Rattle.word_code.specs.declared.word.WordProc.{WordProc}
 use Rattle.word_code.specs.declared.word.WordCode.{WordCode}
 use Rattle.word_code.specs.Memory.{Memory, as_state}
 use Rattle.word_code.specs.Sizes.{word_weight, longest_chain, has_no_circle}
-use Rattle.word_code.specs.Words.{is_counted, have_no_hooks, is_word_code, word_meaning, Fresh}
+use Rattle.word_code.specs.Words.{is_counted, have_no_hooks, is_word_code, word_meaning, word_by_units, Fresh}
 use Rattle.word_code.specs.Joined.{joined, AreApart}
 use Rattle.word_code.specs.Runtime.{IsSmallRoutine, IsRuntime}
 use Rattle.word_lowering.specs.declared.lowering.TheConstants.{WORD_PACE, MOST_HEAP, START_WEIGHT, MORE_DATA}
@@ -59,6 +60,15 @@ pub record Lowers (table : List TypeDef) (blocks : Code BlockLine) (code : WordC
   pub paced : (live : Lives) (fresh : Fresh) (heap stack : ℕ) (input : List ℕ) → HasNoObjects live → heap ≤ MOST_HEAP → IsFitting table blocks
       → AreSilent blocks.procs → Sound (block_meaning table blocks heap input)
       → Paced WORD_PACE (word_meaning live code fresh heap stack input) (block_meaning table blocks heap input)
+  -- Where turns and calls may spend so many units alone, it shows from some moment on what block code shows from some moment on; and it never does
+  -- more work than so many times that of block code at some moment.
+  pub exact : (live : Lives) (fresh : Fresh) (heap stack : ℕ) (input : List ℕ) → HasNoObjects live → heap ≤ MOST_HEAP → IsFitting table blocks
+      → AreSilent blocks.procs → Sound (block_meaning table blocks heap input) → (units : ℕ)
+      → (from lines : ℕ) × ((more : ℕ) →
+      ShowsAlike (word_by_units live code fresh heap stack input units (from + more)) (block_within table blocks units heap input (lines + more)))
+  pub bounded : (live : Lives) (fresh : Fresh) (heap stack : ℕ) (input : List ℕ) → HasNoObjects live → heap ≤ MOST_HEAP → IsFitting table blocks
+      → AreSilent blocks.procs → Sound (block_meaning table blocks heap input) → (units : ℕ)
+      → (n : ℕ) → (m : ℕ) × ((word_by_units live code fresh heap stack input units n).work ≤ WORD_PACE * ((block_within table blocks units heap input m).work + 1))
   -- it is well formed, whatever block code does
   pub formed : is_word_code code ≡ true
   -- frames and places of 2,001 calls have room in a machine's stack

@@ -14,7 +14,7 @@ use Rattle.word_code.specs.declared.word.WordOperation.{WordOperation}
 use Rattle.word_code.specs.declared.word.WordOperation.TheVariants as operation
 use Rattle.word_code.specs.declared.word.Test.TheVariants as test
 use Rattle.word_code.specs.declared.word.WordInstr.{WordInstr}
-use Rattle.word_code.specs.declared.word.WordInstr.TheVariants.{Label, Constant, Copy, Compute, Sum, Jump, Branch}
+use Rattle.word_code.specs.declared.word.WordInstr.TheVariants.{Label, Spend, SpendIf, Constant, Copy, Compute, Sum, Jump, Branch}
 use Rattle.word_lowering.specs.declared.homes.TheConstants.{FIRST, SECOND, THIRD}
 
 -- the word of an int, in two's complement
@@ -142,8 +142,9 @@ fits_code from label low high k =
     ∷ k
 
 -- the opposite
-abbrev pub if_code : (from label : ℕ) → List WordInstr → List WordInstr
-if_code from label k = Constant FIRST 0 ∷ Branch test.Unequal from FIRST label ∷ k
+-- a turn begins at a label, unless the word is 0
+abbrev pub turn_if_code : (from label : ℕ) → List WordInstr → List WordInstr
+turn_if_code from label k = Constant FIRST 0 ∷ SpendIf test.Unequal from FIRST ∷ Branch test.Unequal from FIRST label ∷ k
 
 -- ---- the numbers of loops
 
@@ -162,4 +163,4 @@ unless_less false counter last label k =
 -- the next turn begins at a label, unless there is none: then on at the code's own one
 abbrev pub turn_code : (own counter last : ℕ) → (inclusive : Bool) → (label : ℕ) → List WordInstr → List WordInstr
 turn_code own counter last inclusive label k =
-    unless_less inclusive counter last own (Sum counter counter 1 ∷ Jump label ∷ Label own ∷ k)
+    unless_less inclusive counter last own (Spend ∷ Sum counter counter 1 ∷ Jump label ∷ Label own ∷ k)

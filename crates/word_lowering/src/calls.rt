@@ -215,8 +215,8 @@ fn emit_running(
     emit_given(code, x, proc, to)
 }
 
-/// A call, unless it is one too many; with labels of its own.
-pub fn emit_call(
+// A call, unless it is one too many; with labels of its own.
+fn emit_called(
     code: &mut Items<WordInstr>,
     x: &Scope,
     label: u32,
@@ -234,6 +234,24 @@ pub fn emit_call(
     }
     emit_checked(code, x.setting.start)?;
     emit_nothing(code, x, ty, to)
+}
+
+/// A call, which spends a unit first.
+pub fn emit_call(
+    code: &mut Items<WordInstr>,
+    x: &Scope,
+    label: u32,
+    proc: u32,
+    ty: Option<TypeId>,
+    to: u32,
+    from: &[From],
+) -> Result<(), Memory>
+    requires { HasRoom (around_of x.now) }
+    ensures { OnOk result (Puts code.old code.new
+        (λ k. WordInstr.Spend ∷ call_code (around_of x.now) label proc ty to from.now k)) }
+{
+    emit(code, &[WordInstr::Spend])?;
+    emit_called(code, x, label, proc, ty, to, from)
 }
 
 // Returns with a result.

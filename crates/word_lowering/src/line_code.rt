@@ -9,13 +9,13 @@ ghost use Rattle.word_lowering.specs.LineCode.{operands, row_code, choice_code, 
 ghost use Rattle.word_lowering.specs.LineCode.{is_control, standing_at};
 ghost use Rattle.word_lowering.specs.Operations.{trap_label};
 ghost use Rattle.word_lowering.specs.Scope.{around_of, HasRoom};
-ghost use Rattle.word_lowering.specs.Spots.{spot_of, moved};
+ghost use Rattle.word_lowering.specs.Spots.{spot_of, moved, moves};
 ghost use Rattle.word_lowering.specs.Stored.{part_at, HaveForms};
 
 use crate::calls::{emit_call, emit_return};
 use crate::homes::{FIFTH, FIRST, Home};
 use crate::locations::{emit_element, emit_item, emit_part};
-use crate::operations::{LENGTH, emit_beyond, emit_fits, emit_if, emit_turn, emit_unless};
+use crate::operations::{LENGTH, emit_beyond, emit_fits, emit_turn, emit_turn_if, emit_unless};
 use crate::rows::emit_row;
 use crate::scope::{Scope, label_before, labels_in, labels_of, own_label};
 use crate::spots::{
@@ -137,6 +137,15 @@ fn emit_jump(code: &mut Items<WordInstr>, to: u32) -> Result<(), Memory>
     emit(code, &[WordInstr::Jump { to }])
 }
 
+// A turn of a loop begins at a label.
+fn emit_turn_to(code: &mut Items<WordInstr>, to: u32) -> Result<(), Memory>
+    ensures { OnOk result (Puts code.old code.new
+        (λ k. WordInstr.Spend ∷ WordInstr.Jump (own_label to) ∷ k)) }
+{
+    let to = own_label(to)?;
+    emit(code, &[WordInstr::Spend, WordInstr::Jump { to }])
+}
+
 // A test of what is chosen by: control goes on at `to` where a label has it.
 fn emit_choice(code: &mut Items<WordInstr>, from: u32, these: &Label, to: u32) -> Result<(), Memory>
     ensures { OnOk result (Puts code.old code.new (choice_code these.now from to)) }
@@ -172,12 +181,14 @@ fn emit_control(
             emit(code, &[sum_with(i, i, 1)])
         }
         Line::Label { name } => emit_label(code, *name),
-        Line::Jump { to } | Line::Turn { to } => emit_jump(code, *to),
+        Line::Jump { to } => emit_jump(code, *to),
+        Line::Enter => emit(code, &[WordInstr::Spend]),
+        Line::Turn { to } => emit_turn_to(code, *to),
         Line::Unless { from, to } => emit_unless(code, x.held(*from), own_label(*to)?),
         Line::Fits { from, these, to } => {
             emit_choice(code, x.held(*from), these, own_label(*to)?)
         }
-        Line::TurnIf { from, to } => emit_if(code, x.held(*from), own_label(*to)?),
+        Line::TurnIf { from, to } => emit_turn_if(code, x.held(*from), own_label(*to)?),
         Line::CountTurn {
             counter,
             last,
@@ -204,6 +215,14 @@ fn emit_standing(
 {
     let at = x.standing_at(pieces)?;
     emit(code, &[address(x.led(to), Home::Static(at))])
+}
+
+// A copy of what is found.
+fn emit_got(code: &mut Items<WordInstr>, x: &Scope, to: u32, from: u32) -> Result<(), Memory>
+    ensures { OnOk result (Puts code.old code.new
+        (moves (value (around_of x.now) to) (location (around_of x.now) from))) }
+{
+    emit_moves(code, x.value(to), x.location(from))
 }
 
 // The code of a line with a label of its own. Another name needs none, and what comes with the heap
@@ -239,9 +258,8 @@ fn emit_line(code: &mut Items<WordInstr>, x: &Scope, line: &Line, label: u32) ->
             from,
             ..
         } => emit_call(code, x, label, *proc, *ty, *to, from.as_slice()),
-        Line::Get { to, from, .. } | Line::Look { to, from } => {
-            emit_moves(code, x.value(*to), x.location(*from))
-        }
+        Line::Get { to, from, .. } => emit_got(code, x, *to, *from),
+        Line::Look { to, from } => emit_got(code, x, *to, *from),
         Line::Standing { to, pieces, .. } => emit_standing(code, x, *to, pieces.as_slice()),
         Line::Part { to, from, field } => emit_part_at(code, x, *to, *from, *field),
         Line::Item { to, from, index } => emit_item_at(code, x, *to, *from, *index),
@@ -261,6 +279,7 @@ fn emit_line(code: &mut Items<WordInstr>, x: &Scope, line: &Line, label: u32) ->
         | Line::Jump { .. }
         | Line::Unless { .. }
         | Line::Fits { .. }
+        | Line::Enter
         | Line::Turn { .. }
         | Line::TurnIf { .. }
         | Line::CountTurn { .. } => emit_control(code, x, line, label),

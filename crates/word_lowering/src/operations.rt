@@ -2,7 +2,7 @@
 ghost use Rattle.std.specs.Prelude.{◌≡◌, OnOk};
 ghost use Rattle.word_lowering.specs.Emission.{Puts};
 ghost use Rattle.word_lowering.specs.Operations.{binary_code, unary_code, compare_code};
-ghost use Rattle.word_lowering.specs.Operations.{narrow_code, unless_code, if_code, fits_code};
+ghost use Rattle.word_lowering.specs.Operations.{narrow_code, unless_code, turn_if_code, fits_code};
 ghost use Rattle.word_lowering.specs.Operations.{sum_code, difference_code, product_code};
 ghost use Rattle.word_lowering.specs.Operations.{quotient_code, opposite_code};
 ghost use Rattle.word_lowering.specs.Operations.{computed_code, divisor_code, divided_code};
@@ -312,14 +312,19 @@ pub fn emit_unless(code: &mut Items<WordInstr>, from: u32, label: u32) -> Result
     )
 }
 
-/// The opposite.
-pub fn emit_if(code: &mut Items<WordInstr>, from: u32, label: u32) -> Result<(), Memory>
-    ensures { OnOk result (Puts code.old code.new (if_code from label)) }
+/// A turn of a loop begins at a label, unless a word is 0.
+pub fn emit_turn_if(code: &mut Items<WordInstr>, from: u32, label: u32) -> Result<(), Memory>
+    ensures { OnOk result (Puts code.old code.new (turn_if_code from label)) }
 {
     emit(
         code,
         &[
             constant(FIRST, 0),
+            WordInstr::SpendIf {
+                test: Test::Unequal,
+                left: from,
+                right: FIRST,
+            },
             branch(Test::Unequal, from, FIRST, label),
         ],
     )
@@ -409,6 +414,7 @@ pub fn emit_turn(
     emit(
         code,
         &[
+            WordInstr::Spend,
             sum_with(counter, counter, 1),
             WordInstr::Jump { to: label },
             WordInstr::Label { name: own },

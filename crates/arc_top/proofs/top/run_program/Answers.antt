@@ -1,15 +1,20 @@
-use Rattle.std.proofs.Common.{ap, subst, ◌∙◌}
+use Rattle.std.proofs.Common.{ℕ, List, ap, subst, ◌∙◌}
+use Rattle.std.proofs.Math.Path.{fun_ext}
 use Rattle.arc_base.specs.Event.{Event}
 use Rattle.arc_base.specs.Behaviour.{Behaviour}
 use Rattle.nim_plan.specs.declared.plan.Plan.{Plan}
 use Rattle.nim_meaning.specs.Meaning.{meaning}
-use Rattle.flat_runner.specs.Mean.{Means}
+use Rattle.core_compiler.specs.Mean.{CameTo}
 use Rattle.rv32_runner.specs.Streams.{feed, tally}
 use Rattle.check_decls.specs.Modules.{program_in}
 use Rattle.source_compiler.specs.Compile.{empty_plan}
-use Rattle.source_compiler.proofs.ForCallers.{plan_is, meaning_same}
+use Rattle.source_compiler.proofs.ForCallers.{plan_is, plan_ordered, meaning_same}
 use Rattle.arc_top.specs.Top.{told}
 use Rattle.arc_top.proofs.top.run_program.Goals as goal
+
+-- the empty plan has its lists in order
+pub mean_core-end-requires-clause-ordered : goal.mean_core-end-requires-clause-ordered
+mean_core-end-requires-clause-ordered g c = plan_ordered c.new-plan.result c.new-plan.ensures.sites c.new-plan.ensures.sinks c.new-plan.ensures.skips
 
 pub returns : goal.returns
 returns g c =
@@ -19,18 +24,20 @@ returns g c =
     let program = program_in c.args.program.now in
     let out = c.args.out.now in
     let err = c.args.err.now in
+    let input = c.args.input.now in
     let new = c.mean_core-end.new in
     let plan = plan_is c.new-plan.result c.new-plan.ensures.sites c.new-plan.ensures.sinks c.new-plan.ensures.skips in
     record {
       ran = record {
         end = c.mean_core-end.result;
-        means = λ input. subst (λ (meant : Behaviour Event). Means (meant c.args.steps) c.mean_core-end.result
+        came = subst (λ (meant : (input : List ℕ) → Behaviour Event). CameTo (λ input. meant input c.args.steps)
+            (feed (I.left input) (I.ended input) (I.faults input) (I.gave input)) c.mean_core-end.result
+            (feed (I.left new.input) (I.ended new.input) (I.faults new.input) (I.gave new.input))
             (told (tally (O.written out) (O.faults out)) (tally (O.written new.out) (O.faults new.out)))
             (told (tally (E.written err) (E.faults err)) (tally (E.written new.err) (E.faults new.err))))
-            (ap (λ (p : Plan). meaning program p c.args.heap input) plan ∙ meaning_same program empty_plan c.args.heap input)
-            (c.mean_core-end.ensures.means input);
+            (fun_ext (λ input. ap (λ (p : Plan). meaning program p c.args.heap input) plan ∙ meaning_same program empty_plan c.args.heap input))
+            c.mean_core-end.ensures.came;
         ends = c.mean_core-end.ensures.ends;
         answers = c.meant.ensures;
-        input = ap (λ input. feed (I.left input) (I.ended input) (I.faults input) (I.gave input)) c.mean_core-end.ensures.untouched;
       };
     }

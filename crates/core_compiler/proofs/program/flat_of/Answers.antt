@@ -1,4 +1,8 @@
 use Rattle.std.proofs.Common.{ℕ, List, refl}
+use Rattle.flat_code.specs.Codes.{procs_of}
+use Rattle.flat_code.specs.Lines.{does}
+use Rattle.flat_code.specs.Scene.{known_in}
+use Rattle.flat_code.specs.Whole.{label_in}
 use Rattle.program_limits.specs.Limits.{program_in}
 use Rattle.core_compiler.proofs.Flattened.{is_flat_of}
 use Rattle.core_compiler.proofs.FrameSums.{sums_within, data_few}
@@ -23,6 +27,8 @@ returns c =
     (λ heap input. c.flat_code.ensures.agrees program formed plan heap input (sound heap input))
     (λ heap input. c.flat_code.ensures.paced program formed plan heap input (sound heap input))
     (λ heap input units. c.flat_code.ensures.exact program formed plan heap input (sound heap input) units)
+    (c.by_units.ensures.same label_in (does (known_in table) plan) (procs_of (known_in table) c.in_ok-flat.flat))
+    (c.by_units.ensures.work label_in (does (known_in table) plan) (procs_of (known_in table) c.in_ok-flat.flat))
     (c.fits.ensures.fits table program refl typed numbered plain plan)
     (c.fits.ensures.hooks table program refl typed plain plan)
     (c.sizes.ensures.weight program plan)
@@ -32,4 +38,6 @@ returns c =
     (c.may_be_lowered.ensures.alike table program refl typed plan)
     (c.may_be_lowered.ensures.plain table program refl typed numbered plain 16384 (sums_within program c.requires.within) plan)
     (c.may_be_lowered.ensures.lent table program refl typed plain plan)
+    (c.fits.ensures.waits table program refl typed numbered plain plan)
+    (c.may_be_lowered.ensures.once table program refl typed numbered plan)
     (data_few program c.requires.within)

@@ -36,5 +36,6 @@ returns c =
     (λ words is. subst (AreWordsOf c.args.types.now c.args.plan.now c.args.flat.now) (sym is)
     (words_of_flat c.agreement.ensures.law c.agreement.ensures.pace c.args.types.now c.args.plan.now c.args.flat.now
     c.in_ok-owned.owned c.in_ok-blocks.blocks c.in_ok-words.words c.in_ok-runtime.runtime
-    (c.in_ok-owned.ensures c.requires.ordered) c.in_ok-blocks.ensures c.in_ok-words.ensures c.in_ok-runtime.ensures))
+    (c.in_ok-owned.ensures c.requires.ordered) c.in_ok-blocks.ensures c.in_ok-words.ensures c.in_ok-runtime.ensures
+    c.owned_codes.ensures.units c.block_codes.ensures.units))
     c.join.ensures

@@ -1,4 +1,4 @@
-use Rattle.flat_code.proofs.ByUnits.{same_within, front_within, sound_within, steady_within}
+use Rattle.flat_code.proofs.ByUnits.{same_within, works_within, front_within, sound_within, steady_within}
 use Rattle.flat_code.proofs.Standstill.{stands_still}
 use Rattle.flat_code.proofs.laws.by_units.Goals as goal
 
@@ -18,3 +18,6 @@ returns-clause-steady g c label_of does procs units heap input = steady_within l
 
 pub returns-clause-stands : goal.returns-clause-stands
 returns-clause-stands g c label_of does procs units heap input = stands_still label_of does procs units heap input
+
+pub returns-clause-work : goal.returns-clause-work
+returns-clause-work g c label_of does procs units heap input n k le = works_within label_of does procs units heap input n k le

@@ -21,6 +21,12 @@ returns-in-Apply c =
 pub returns-in-Part : goal.returns-in-Part
 returns-in-Part c = rw c.in-Part.is c.emit_part_at.ensures
 
+pub returns-in-Get : goal.returns-in-Get
+returns-in-Get c = rw c.in-Get.is c.emit_got.ensures
+
+pub returns-in-Look : goal.returns-in-Look
+returns-in-Look c = rw c.in-Look.is c.emit_got-in-Look.ensures
+
 pub returns-in-Item : goal.returns-in-Item
 returns-in-Item c = rw c.in-Item.is c.emit_item_at.ensures
 

@@ -1,0 +1,12 @@
+mod VarRows
+mod Places
+mod BookRows
+mod ActRows
+mod StepRows
+mod CallRows
+mod Puts
+mod Numbered
+mod ReadRows
+mod UnderRows
+mod Sinks
+mod Work

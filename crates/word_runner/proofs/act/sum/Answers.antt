@@ -1,0 +1,20 @@
+use Rattle.std.proofs.Common.{◌+◌, refl, ◌∙◌}
+use Rattle.word_code.specs.Words.{sets}
+use Rattle.word_runner.specs.Acts.{scene_at}
+use Rattle.word_runner.specs.View.{held_in}
+use Rattle.word_runner.proofs.ActRows.{by_one, low_sets, low_twice}
+use Rattle.word_runner.proofs.act.sum.Goals as goal
+
+pub returns-in-None-clause-did : goal.returns-in-None-clause-did
+returns-in-None-clause-did c =
+    λ s input d.
+    let x = scene_at c.args.frame.now s input d in
+    let got = by_one (held_in c.args.frame.now.vars.items c.args.from) c.get.result (λ a. sets x c.args.to (a + c.args.value)) c.get.ensures in
+    rw c.in-None.is at got
+
+pub returns-in-Some-clause-did : goal.returns-in-Some-clause-did
+returns-in-Some-clause-did c =
+    λ s input d.
+    let x = scene_at c.args.frame.now s input d in
+    let got = by_one (held_in c.args.frame.now.vars.items c.args.from) c.get.result (λ a. sets x c.args.to (a + c.args.value)) c.get.ensures in
+    low_sets x c.args.to _ _ (low_twice _ _ refl) ∙ (rw c.in-Some.is at got)

@@ -1,0 +1,9 @@
+pub mod Sinks
+pub mod Mean
+pub mod View
+pub mod Acts
+pub mod Books
+pub mod Steps
+pub mod Holding
+pub mod Takes
+pub mod Under
