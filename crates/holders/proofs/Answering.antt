@@ -1,6 +1,6 @@
 -- Values that come to be: texts and sequences that are made; and those that trade places.
 use Rattle.std.proofs.Common.{◌≡◌, refl, arith, ℕ, zero, suc, ◌<◌, ◌≤◌, inl, inr, ◌⊎◌, List, [], ◌∷◌, length, Some, None, true}
-use Rattle.nim_types.specs.Forms.{Form, block, elements}
+use Rattle.nim_types.specs.Forms.{Form, plain, block, elements}
 use Rattle.nim_meaning.specs.Values.{Value, Handle, Number, Values, count, part, Location, put_part}
 use Rattle.nim_meaning.specs.Heap.{Contents, Characters, Elements, class_for}
 use Rattle.nim_meaning.specs.Marks.{Member, Distinct}
@@ -10,7 +10,7 @@ use Rattle.nim_meaning.specs.Lifted.{fresh, fresh_text, in_hand, replaced, under
 use Rattle.nim_meaning.specs.OwnedRows.{each_appended, line_read, line_into, next_line, up_to_feed, appended}
 use Rattle.nim_meaning.specs.Places.{exchanged}
 use Rattle.holders.specs.Holders.{held_by, held_in}
-use Rattle.holders.specs.Owned.{IsBase, at_place, at_node, in_hand as under_way_is, in_row, in_text, in_program, At, HasNone, Full, Has, no_text, a_text}
+use Rattle.holders.specs.Owned.{IsBase, at_place, at_node, in_hand as under_way_is, in_row, in_text, in_program, At, Full, Has, a_number, no_text, a_text}
 use Rattle.holders.specs.Owned.{no_sequence}
 use Rattle.holders.specs.Owned.{a_sequence, HasEach, Apart}
 use Rattle.holders.specs.Sure.{Sure}
@@ -150,17 +150,17 @@ line_made input world =
 
 pub line_goes_into : (input : List ℕ) (l : Location) (w v : Value) (old : List ℕ) (world : World) → At world l w → part w l.path ≡ v →
     Has world Full block v old → Distinct old → Apart l.base old →
-    Sure (line_into l input) (λ x after. HasNone x × Turns none none block l w [] old world after) world
-line_goes_into [] l w v old world at e h d apart = (λ k. refl, nothing_turns block l w v old world at e h d)
+    Sure (line_into l input) (λ x after. Has after Full plain x [] × Turns none none block l w [] old world after) world
+line_goes_into [] l w v old world at e h d apart = (a_number, nothing_turns block l w v old world at e h d)
 line_goes_into (c ∷ cs) l w v old world at e h d apart =
     sure_then (line_read (c ∷ cs)) (λ x. replaced block l x >> give (Number (truth true)))
     (λ x after. Gives block x [] world after × KeepsHolders none (λ k. held_by k x) world after)
-    (λ x after. HasNone x × Turns none none block l w [] old world after) world (line_made (c ∷ cs) world)
+    (λ x after. Has after Full plain x [] × Turns none none block l w [] old world after) world (line_made (c ∷ cs) world)
     (λ x middle m.
     sure_then (replaced block l x) (λ u. give (Number (truth true)))
-    (λ u after. Turns none none block l w [] old world after) (λ x after. HasNone x × Turns none none block l w [] old world after) middle
+    (λ u after. Turns none none block l w [] old world after) (λ x after. Has after Full plain x [] × Turns none none block l w [] old world after) middle
     (after_made block x l w v old world middle at e h d apart m)
-    (λ u after t. (λ k. refl, t)))
+    (λ u after t. (a_number, t)))
 
 -- ---- a value is taken, and another one put in its place
 

@@ -12,7 +12,7 @@ use Rattle.holders.proofs.Bases.{get_other}
 
 -- ---- lists
 
-get_more : {A : Type 0} (xs : List A) (y : A) (i : ℕ) (x : A) → slice_get xs i ≡ Some x → slice_get (xs ++ y ∷ []) i ≡ Some x
+pub get_more : {A : Type 0} (xs : List A) (y : A) (i : ℕ) (x : A) → slice_get xs i ≡ Some x → slice_get (xs ++ y ∷ []) i ≡ Some x
 get_more [] y i x e = absurd (none-some x e)
 get_more (z ∷ xs) y zero x e = e
 get_more (z ∷ xs) y (suc i) x e = get_more xs y i x e

@@ -234,7 +234,8 @@ module _ (to : Location) (w : Value) (world : World) (at : At world to w) (none 
       stored_live taken_world j to.base (put_part (whole_at taken_world to.base) to.path (Handle n (Some new))),
       taken_live world j class contents,
     );
-    stays = stays_then (taken_stays world class contents) (stored_stays taken_world (put_part (whole_at taken_world to.base) to.path (Handle n (Some new))) at_taken.base);
+    stays = stays_then (taken_stays world class contents)
+        (stored_stays taken_world (put_part (whole_at taken_world to.base) to.path (Handle n (Some new))) at_taken.base);
   }
 
 -- ---- texts

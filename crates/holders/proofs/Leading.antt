@@ -10,7 +10,7 @@ use Rattle.holders.specs.Leading.{Leads, PartOf}
 use Rattle.holders.proofs.PathLemmas.{has_deeper}
 use Rattle.holders.proofs.Ending.{may_deeper, part_is, same_number}
 use Rattle.holders.proofs.Copying.{has_below}
-use Rattle.holders.proofs.Outward.{Split, each_split, all_split, part_becomes, item_becomes, wrapped_becomes}
+use Rattle.holders.proofs.Outward.{Split, each_split, all_split, part_becomes, part_without, item_becomes, item_without, wrapped_becomes, wrapped_without}
 use Rattle.holders.proofs.Assigning.{row_has, parts_have, mine_within, mine_distinct}
 
 -- a part that was split off
@@ -35,6 +35,8 @@ split_part rest g f l w v i all bs world c is s make =
         within = mine_within rest world f i all bs s;
         outward = λ given after strange b.
             part_becomes rest g f world after l w i all bs given s c.at e (λ vs cs q r. make after vs cs q r) c.distinct (has_below c.has) strange c.apart b;
+        without = λ given after strange b k m n. part_without rest g f world after l w i all bs given s c.at e (λ vs cs q r. make after vs cs q r)
+            c.distinct (has_below c.has) strange c.apart b k m n;
       };
     }
 
@@ -76,6 +78,7 @@ element_of_sequence f l w v bs world c i le = by v bs c.at c.is c.has c.distinct
           leads = record {
             within = λ j m. inr (mine_within rest world f i all cs s j m);
             outward = λ given after strange b. item_becomes f world after l w i k all cs given at e there each d strange apart s b;
+            without = λ given after strange b j m n. item_without f world after l w i k all cs given at e there each d strange apart s b j m n;
           };
         }
 
@@ -89,7 +92,11 @@ what_is_wrapped f l w v bs world c = by c.has
       value = v;
       mine = bs;
       cell = record { at = c.at; is = c.is; has = h; distinct = c.distinct; apart = c.apart };
-      leads = record { within = λ k m. m; outward = λ given after strange b. wrapped_becomes f l w given bs world after b };
+      leads = record {
+        within = λ k m. m;
+        outward = λ given after strange b. wrapped_becomes f l w given bs world after b;
+        without = λ given after strange b k m n. wrapped_without f l w given bs world after b k m;
+      };
     }
 
 -- further in
@@ -98,4 +105,6 @@ pub leads_further : {f g h : Form} {l m n : Location} {w u t : Value} {bs mine i
 leads_further a b = record {
   within = λ k m. a.within k (b.within k m);
   outward = λ given after strange c. a.outward given after strange (b.outward given after (λ k m n. strange k m (a.within k n)) c);
+  without = λ given after strange c k m n. b.without given after (λ k m n. strange k m (a.within k n)) c k
+      (a.without given after strange (b.outward given after (λ k m n. strange k m (a.within k n)) c) k m (b.within k n)) n;
 }

@@ -3,7 +3,7 @@ use Rattle.std.proofs.Common.{◌≡◌, refl, sym, ap, subst, ◌∙◌, arith,
 use Rattle.std.specs.Prelude.{slice_get, slice_set, if◌then◌else◌}
 use Rattle.std.proofs.lemmas.Option.{none-some}
 use Rattle.std.proofs.Math.Dec.{eqb-suc-zero, eqb-zero-suc, eqb-suc-suc}
-use Rattle.nim_meaning.specs.Values.{Value, Parts, Base, InBlock, InHand, Location, Slot, Holds, put_part, part, parts_of}
+use Rattle.nim_meaning.specs.Values.{Value, Parts, Base, InBlock, Location, Slot, Holds, put_part, part, parts_of}
 use Rattle.nim_meaning.specs.Heap.{Contents, Elements, Block, flat, block_at, without, with_contents, refilled}
 use Rattle.nim_meaning.specs.State.{World, store, stored, with_value_in, new_contents, frame_in, temporary_in, Frame}
 use Rattle.nim_meaning.specs.Deeds.{with_block, freed}

@@ -22,7 +22,8 @@ assoc [] cs ds = refl
 assoc (b ∷ bs) cs ds = ap (λ es. b ∷ es) (assoc bs cs ds)
 
 -- others in the middle
-pub middle_distinct : (before mine behind new : List ℕ) → Distinct (before ++ (mine ++ behind)) → Distinct new → ((k : ℕ) → Member k new → Member k before → ⊥) →
+pub middle_distinct : (before mine behind new : List ℕ) → Distinct (before ++ (mine ++ behind)) → Distinct new →
+    ((k : ℕ) → Member k new → Member k before → ⊥) →
     ((k : ℕ) → Member k new → Member k behind → ⊥) → Distinct (before ++ (new ++ behind))
 middle_distinct before mine behind new d n not_before not_behind =
     distinct_both before (new ++ behind) (distinct_first before (mine ++ behind) d)
@@ -186,6 +187,10 @@ module _ (rest : World → Values → List ℕ → Type 0) (world : World) (f : 
       by (inl q) = inl (of_mine k q)
       by (inr q) = inr q
 
+  now_without : (k : ℕ) → Member k new_blocks → Member k s.mine → Member k b.blocks
+  now_without k m n = either_block k s.before (b.blocks ++ s.behind) (Member k b.blocks) m (λ q. absurd (before_apart k n q))
+      (λ q. either_block k b.blocks s.behind (Member k b.blocks) q (λ z. z) (λ z. absurd (behind_apart k n z)))
+
 -- of a part of a row
 pub part_becomes : (rest : World → Values → List ℕ → Type 0) (g f : Form) (world after : World) (l : Location) (w : Value) (i : ℕ) (all : Values)
     (bs given : List ℕ) (s : Split rest world f i all bs) → At world l w → part w l.path ≡ Parts all →
@@ -205,6 +210,16 @@ part_becomes rest g f world after l w i all bs given s at e make d below strange
       (λ k e m. far k e (of_mine rest world f i all bs given s d below strange (deeper l i) w after b apart k m));
   stays = b.stays;
 }
+
+pub part_without : (rest : World → Values → List ℕ → Type 0) (g f : Form) (world after : World) (l : Location) (w : Value) (i : ℕ) (all : Values)
+    (bs given : List ℕ) (s : Split rest world f i all bs) (at : At world l w) (e : part w l.path ≡ Parts all)
+    (make : (vs : Values) (cs : List ℕ) → count vs ≡ count all → rest after vs cs → Has after Full g (Parts vs) cs) (d : Distinct bs)
+    (below : (k : ℕ) → Member k bs → k < taken_in world) (strange : Strange given bs) (apart : Apart l.base bs)
+    (b : Becomes f (deeper l i) w given s.mine world after) (k : ℕ) →
+    Member k (part_becomes rest g f world after l w i all bs given s at e make d below strange apart b).blocks → Member k s.mine → Member k b.blocks
+unfolding part_becomes
+part_without rest g f world after l w i all bs given s at e make d below strange apart b k m n =
+    now_without rest world f i all bs given s d below strange (deeper l i) w after b apart k m n
 
 -- of an element in the block of a sequence
 module _ (f : Form) (world after : World) (l : Location) (w : Value) (i k : ℕ) (all : Values) (cs given : List ℕ) (at : At world l w)
@@ -270,6 +285,12 @@ module _ (f : Form) (world after : World) (l : Location) (w : Value) (i k : ℕ)
     stays = b.stays;
   }
 
+  pub item_without : (j : ℕ) → Member j item_becomes.blocks → Member j s.mine → Member j b.blocks
+  unfolding item_becomes
+  item_without j (inl q) n = absurd (d.0 (subst (λ i. Member i cs) q (inside j n)))
+  item_without j (inr m) n = now_without (λ x vs bs. HasEach x Full f (count all) 0 vs bs) world f i all cs given s d.1 (λ j m. each_below each j m)
+      strange_inside (deeper (row_of l k) i) (Parts all) after b row_apart j m n
+
 pub wrapped_becomes : (f : Form) (l : Location) (w : Value) (given bs : List ℕ) (world after : World) → Becomes f l w given bs world after →
     Becomes (wrapped f) l w given bs world after
 wrapped_becomes f l w given bs world after b = record {
@@ -283,6 +304,11 @@ wrapped_becomes f l w given bs world after b = record {
   elsewhere = b.elsewhere;
   stays = b.stays;
 }
+
+pub wrapped_without : (f : Form) (l : Location) (w : Value) (given bs : List ℕ) (world after : World) (b : Becomes f l w given bs world after) (k : ℕ) →
+    Member k (wrapped_becomes f l w given bs world after b).blocks → Member k b.blocks
+unfolding wrapped_becomes
+wrapped_without f l w given bs world after b k m = m
 
 -- ---- one change after another
 

@@ -42,7 +42,7 @@ is_filled (y ∷ ys) = Unit {0}
 not_empty : (k : ℕ) (bs : List ℕ) → k ∷ bs ≡ [] → ⊥
 not_empty k bs e = subst (λ (ys : List ℕ). is_filled ys) e tt
 
-first_empty : (bs cs : List ℕ) → bs ++ cs ≡ [] → bs ≡ []
+pub first_empty : (bs cs : List ℕ) → bs ++ cs ≡ [] → bs ≡ []
 first_empty [] cs e = refl
 first_empty (b ∷ bs) cs e = absurd (not_empty b (bs ++ cs) e)
 

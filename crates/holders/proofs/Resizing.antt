@@ -284,7 +284,8 @@ module _ (f : Form) (l : Location) (w : Value) (n bytes : ℕ) (contents : Conte
               is = moved_stays (is_put l w (taken_world class) (at_taken class) (Handle n (Some (new class)))) apart;
               elsewhere = λ b y h d far. moved_stays (held_elsewhere class b y h d) (λ q. far k q in_old);
               stays = stays_then (stays_then (taken_stays world class contents)
-                  (stored_stays (taken_world class) (put_part (whole_at (taken_world class) l.base) l.path (Handle n (Some (new class)))) (at_taken class).base))
+                  (stored_stays (taken_world class) (put_part (whole_at (taken_world class) l.base) l.path (Handle n (Some (new class))))
+                  (at_taken class).base))
                   (freed_stays (held_world class) k (block_at (held_world class).heap k));
             },
             λ others h j. omega (

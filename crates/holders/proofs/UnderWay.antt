@@ -8,7 +8,7 @@ use Rattle.nim_meaning.specs.Marks.{Member, Distinct}
 use Rattle.nim_meaning.specs.State.{World, load, pushed, popped}
 use Rattle.nim_meaning.specs.Deeds.{Deed, Pops, does, give, looks, ◌>>◌}
 use Rattle.nim_meaning.specs.Lifted.{walk, copying, sinking, ends_at, in_hand, given_up, under_way, copied, assigned}
-use Rattle.holders.specs.Owned.{IsBase, whole, hand_may, At, From, Full, Gaps, Constant, Has}
+use Rattle.holders.specs.Owned.{IsBase, whole, hand_may, At, From, Full, Gaps, Constant, Has, Stays}
 use Rattle.holders.specs.Sure.{Sure}
 use Rattle.holders.specs.Holders.{held_by}
 use Rattle.holders.specs.Walks.{Ended, GivenUp}
@@ -179,6 +179,7 @@ pub record Assigned (f : Form) (to : Location) (w v : Value) (old new : List ℕ
   pub there : IsBase after to.base (put_part w to.path v)
   pub elsewhere : (b : Base) (x : Value) → IsBase world b x → (b ≡ to.base → ⊥) → ((k : ℕ) → b ≡ InBlock k → Member k old → ⊥) → IsBase after b x
   pub once : (others : ℕ → ℕ) → HeldOnce (λ k. held_by k v + others k) world → HeldOnce others after
+  pub stays : Stays world after
 
 pub assigns_given : (f : Form) (to : Location) (w v0 v : Value) (old new : List ℕ) (world : World) → At world to w → part w to.path ≡ v0 →
     Has world Full f v0 old → Has world Full f v new → Clear to.base (InHand (length world.hand)) old new →
@@ -201,4 +202,5 @@ assigns_given f to w v0 v old new world at e h0 h clear =
         has_none refl t.nothing k,
         popped_once world after v t.left t.behind t.once.stays.hand others (t.once.held others (pushed_once others world v q)) k,
       );
+      stays = record { hand = popped_hand world after v t.left t.behind t.once.stays.hand; frames = t.once.stays.frames };
     })

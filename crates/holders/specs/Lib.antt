@@ -5,3 +5,14 @@ pub mod Becoming
 pub mod Beside
 pub mod Walks
 pub mod Leading
+pub mod Territory
+pub mod Finding
+pub mod Ways
+pub mod Working
+pub mod Handing
+pub mod Running
+pub mod Staging
+pub mod Groups
+pub mod Called
+pub mod Scenes
+pub mod Entering

@@ -1,11 +1,12 @@
 -- What stands where in a world, and which blocks a value of a form has: its own, and those of what is in them.
 use Rattle.std.specs.Prelude.{◌≡◌, ◌<◌, ◌≤◌, ℕ, suc, ◌-◌, false, List, [], ◌∷◌, ◌++◌, length, Some, None, slice_get}
 use Rattle.nim_types.specs.Forms.{Form, plain, reference, block, elements, row, parts, resource, wrapped, Forms, no_forms, forms, of_some, hooked, hooked_any}
-use Rattle.nim_meaning.specs.Values.{Value, Number, Handle, Parts, Fixed, Vacant, Values, nth, count, Holds, Stands, part, Base, Standing, Waiting, InBlock, InHand}
+use Rattle.nim_meaning.specs.Values.{Value, Number, Handle, Parts, Fixed, Vacant, Values, nth, count, Holds, Stands, part, Base, Standing, Waiting, InBlock}
+use Rattle.nim_meaning.specs.Values.{InHand}
 use Rattle.nim_meaning.specs.Values.{Made, Location}
 use Rattle.nim_meaning.specs.Heap.{Characters, Elements, Block, block_at}
 use Rattle.nim_meaning.specs.Marks.{Member, Distinct}
-use Rattle.nim_meaning.specs.State.{Frame, World, temporary_in}
+use Rattle.nim_meaning.specs.State.{Temporary, Frame, World, temporary_in}
 use Rattle.holders.specs.Holders.{held_by}
 
 -- ---- bases
@@ -135,17 +136,23 @@ pub data IsName (frames : List Frame) : (level n : ℕ) → Location → Type 0 
   a_name : {level n : ℕ} {l : Location} (frame : Frame) → slice_get frames level ≡ Some frame → frame.first ≤ n →
       slice_get frame.slots (n - frame.first) ≡ Some (Some (Stands l)) → IsName frames level n l
 
--- a call is active, with its places
-pub record Active (frames : List Frame) (level first places : ℕ) : Type 0 where
+-- the nodes at which values wait, the last one first
+abbrev pub nodes_in : List Temporary → List ℕ
+nodes_in [] = []
+nodes_in (t ∷ ts) = t.node ∷ nodes_in ts
+
+-- a call is active, with its places, and what waits in it
+pub record Active (frames : List Frame) (level first places : ℕ) (nodes : List ℕ) : Type 0 where
   pub frame : Frame
   pub there : slice_get frames level ≡ Some frame
   pub first_is : frame.first ≡ first
   pub places_are : length frame.slots ≡ places
+  pub nodes_are : nodes_in frame.temporaries ≡ nodes
 
 -- calls stay active, as many, and names stand for what they did
 pub record FramesStay (frames after : List Frame) : Type 0 where
   pub names : (level n : ℕ) (l : Location) → IsName frames level n l → IsName after level n l
-  pub active : (level first places : ℕ) → Active frames level first places → Active after level first places
+  pub active : (level first places : ℕ) (nodes : List ℕ) → Active frames level first places nodes → Active after level first places nodes
   pub count : length after ≡ length frames
 
 -- and as many values are under way

@@ -2,7 +2,7 @@
 use Rattle.std.specs.Prelude.{length}
 use Rattle.arc_base.specs.BigStep.{Res, Got, Over, Going, Errs as Wrong}
 use Rattle.nim_meaning.specs.State.{World, State}
-use Rattle.nim_meaning.specs.Acts.{Outcome, On, Out}
+use Rattle.nim_meaning.specs.Acts.{Exit, Outcome, On, Out}
 use Rattle.nim_meaning.specs.Deeds.{Deed, Gives, Ends, Errs, Works, Says, Looks, Changes, Takes, changed, with_block}
 
 abbrev pub Sure : {A : Type 0} → Deed A → (A → World → Type 0) → World → Type 0
@@ -22,3 +22,11 @@ Answered P (Got (Out way) s) = ⊥
 Answered P (Over status live s) = Unit {0}
 Answered P (Going s) = Unit {0}
 Answered P (Wrong s) = ⊥
+
+-- it isn't wrong; an answer is so, and the exit by which it is left
+abbrev pub Comes : {A : Type 0} → (A → World → Type 0) → (Exit → World → Type 0) → Res State (Outcome A) → Type 0
+Comes P X (Got (On x) s) = P x s.world
+Comes P X (Got (Out way) s) = X way s.world
+Comes P X (Over status live s) = Unit {0}
+Comes P X (Going s) = Unit {0}
+Comes P X (Wrong s) = ⊥

@@ -1,5 +1,5 @@
 -- What comes of it that values end, are given up, and are popped.
-use Rattle.std.specs.Prelude.{◌≡◌, ℕ, ◌+◌, List, [], length}
+use Rattle.std.specs.Prelude.{◌≡◌, ℕ, ◌+◌, List, []}
 use Rattle.nim_types.specs.Forms.{Form, elements}
 use Rattle.nim_meaning.specs.Values.{Value, Base, InBlock, Location, put_part}
 use Rattle.nim_meaning.specs.Marks.{Member, Distinct}

@@ -1,7 +1,7 @@
 //! What is done with values by their forms.
 
 ghost use Rattle.std.specs.Prelude.{◌≡◌, ◌<◌, ℕ, true, suc, List, [], length};
-ghost use Rattle.nim_types.specs.Forms.{Form, block, elements, row, parts as object, wrapped, Forms};
+ghost use Rattle.nim_types.specs.Forms.{Form, plain, block, elements, row, parts as object, wrapped, Forms};
 ghost use Rattle.nim_meaning.specs.Values.{Value, Values, Location, At};
 ghost use Rattle.nim_meaning.specs.Values.{count, length_of, item_of, deeper};
 ghost use Rattle.nim_meaning.specs.Heap.{Characters, Elements};
@@ -13,7 +13,7 @@ ghost use Rattle.nim_meaning.specs.Lifted.{resized, fresh, fresh_text};
 ghost use Rattle.nim_meaning.specs.OwnedRows.{appended, added, shortened, sequence_to, line_into};
 ghost use Rattle.nim_meaning.specs.Places.{exchanged};
 ghost use Rattle.holders.specs.Holders.{held_by, held_in};
-ghost use Rattle.holders.specs.Owned.{HasNone, Full, Constant, Has, HasEach, From, Apart};
+ghost use Rattle.holders.specs.Owned.{Full, Constant, Has, HasEach, From, Apart};
 ghost use Rattle.holders.specs.Owned.{Cell, PartForm, HasBlocksAlone};
 ghost use Rattle.holders.specs.Sure.{Sure, Answered};
 ghost use Rattle.holders.specs.Becoming.{Gives, KeepsHolders, Strange, Turns, none};
@@ -88,7 +88,8 @@ pub fn texts()
     ensures line { (input : List ℕ) (l : Location) (w v : Value) (bs : List ℕ) (world : World) →
         Cell block l w v bs world →
         Sure (line_into l input)
-        (λ x after. HasNone x × Turns none none block l w [] bs world after) world }
+        (λ x after. Has after Full plain x [] × Turns none none block l w [] bs world after)
+        world }
 {}
 
 /// A sequence is made of elements, gets one more, loses its last one, and gets a length.

@@ -1,0 +1,225 @@
+-- A part of a part: what else the whole has stays as it is meanwhile.
+use Rattle.std.proofs.Common.{◌≡◌, true, refl, sym, ap, subst, ◌∙◌, arith, ℕ, ◌+◌, ◌<◌, ◌≤◌, inl, inr, ◌⊎◌, List, [], ◌∷◌, ◌++◌}
+use Rattle.nim_meaning.specs.Values.{part, InBlock}
+use Rattle.nim_meaning.specs.Marks.{Member, Distinct}
+use Rattle.nim_meaning.specs.State.{World}
+use Rattle.holders.specs.Owned.{Apart, Active}
+use Rattle.holders.specs.Becoming.{taken_in}
+use Rattle.holders.specs.Beside.{OtherPart, other_base}
+use Rattle.holders.specs.Territory.{Owner, Cells, no_cells, a_cell, AllOwners, OtherThan, ClearOf, Territory, IsUnder}
+use Rattle.holders.specs.Running.{Region, IsOutside, Passes, AreOwn, Wider}
+use Rattle.holders.specs.Staging.{Stage}
+use Rattle.holders.proofs.Owning.{in_first, in_second, distinct_first, distinct_second, distinct_apart, has_stays}
+use Rattle.holders.proofs.Ending.{same_number}
+use Rattle.holders.proofs.Copying.{distinct_both, either_block}
+use Rattle.holders.proofs.Moving.{other_back, clear_less, cells_below, cells_clear}
+use Rattle.holders.proofs.PlainRows.{none_clear}
+use Rattle.holders.proofs.Working.{all_both, all_first, all_second, all_so, apart_first, apart_second, apart_across, apart_both, CellsApart, cells_apart}
+use Rattle.holders.proofs.Working.{cells_both}
+use Rattle.holders.proofs.Running.{not_own, other_own, leave_own, passes_then, passes_same}
+
+-- ---- regions
+
+pub own_wider : {r inner : Region} → Wider r inner → (ms : List Owner) → AreOwn inner ms → AreOwn r ms
+own_wider {r} {inner} w ms own = all_so (λ m. IsOutside inner m.at.base → ⊥) (λ m. IsOutside r m.at.base → ⊥) ms (λ m h q. h (w.outside m.at.base q)) own
+
+-- what a part leaves, the whole leaves, of which it had some cells for its own, and had fewer blocks
+pub passes_wider : {r inner : Region} (ks : List Owner) {gs : List Owner} {old more : List ℕ} {world after : World} → Wider r inner → AreOwn r ks →
+    ((k : ℕ) → Member k old → Member k more) → Passes inner (ks ++ gs) old world after → Passes r gs more world after
+passes_wider {r} {inner} ks {gs} w own within p = record {
+  bases = λ b x h out off far. p.bases b x h (w.outside b out) (all_both (λ m. b ≡ m.at.base → ⊥) ks gs (not_own r b ks out own) off)
+      (λ k e m. far k e (within k m));
+  parts = λ l v h out other far. p.parts l v h (w.outside l.base out) (all_both (λ m. OtherPart m.at l) ks gs (other_own r l ks out own) other)
+      (λ k e m. far k e (within k m));
+  rows = λ l n h out leave far. p.rows l n h (w.outside l.base out)
+      (all_both (λ m. OtherPart m.at l ⊎ IsUnder m.at l) ks gs (leave_own r l ks out own) leave) (λ k e m. far k e (within k m));
+  grows = p.grows;
+  hand = p.hand;
+  names = λ l n to h there. p.names l n to h (narrow l n there);
+  active = λ l first places nodes less h. p.active l first places nodes (subst (λ m. l < m) (sym w.level) less) h;
+  count = p.count;
+}
+  where
+    narrow : (l n : ℕ) → (l < r.level) ⊎ ((l ≡ r.level) × (r.places n ≡ true → ⊥)) → (l < inner.level) ⊎ ((l ≡ inner.level) × (inner.places n ≡ true → ⊥))
+    narrow l n (inl less) = inl (subst (λ m. l < m) (sym w.level) less)
+    narrow l n (inr q) = inr (q.0 ∙ sym w.level, λ h. q.1 (w.places n h))
+
+-- ---- cells that the part took for its own
+
+owners_assoc : (ms ks gs : List Owner) → ms ++ (ks ++ gs) ≡ (ms ++ ks) ++ gs
+owners_assoc [] ks gs = refl
+owners_assoc (m ∷ ms) ks gs = ap (λ (ps : List Owner). m ∷ ps) (owners_assoc ms ks gs)
+
+pub record There (ps : List Owner) (old : List ℕ) (start now : World) : Type 0 where
+  pub territory : Territory ps now
+  pub came : (k : ℕ) → Member k territory.blocks → Member k old ⊎ (Member k [] ⊎ (taken_in start ≤ k))
+
+pub absorbed : {r inner : Region} {ms : List Owner} (ks : List Owner) {gs : List Owner} {first places : ℕ} {nodes old : List ℕ} {start now : World} →
+    Wider r inner → AreOwn r ks →
+    Stage inner ms (ks ++ gs) first places nodes old start now → Stage r (ms ++ ks) gs first places nodes old start now
+absorbed {r} {inner} {ms} ks {gs} {first} {places} {nodes} {old} {start} {now} w own s =
+    let t = subst (λ ps. There ps old start now) (owners_assoc ms ks gs) (record { territory = s.runs.territory; came = s.runs.came }) in
+    record {
+      runs = record {
+        territory = t.territory;
+        own = all_both (λ m. IsOutside r m.at.base → ⊥) ms ks (own_wider w ms s.runs.own) own;
+        came = t.came;
+        passes = passes_wider ks w own (λ k m. m) s.runs.passes;
+      };
+      active = subst (λ l. Active now.frames l first places nodes) w.level s.active;
+    }
+
+-- ---- cells that wait meanwhile
+
+-- A territory whose first cells wait, while a part works on others: some of them its own.
+module _ (ms ts gs : List Owner) (world : World) (t : Territory (ms ++ (ts ++ gs)) world) where
+  abbrev pub pieces : CellsApart ms (ts ++ gs) t.blocks world
+  pieces = cells_apart ms (ts ++ gs) t.blocks t.cells
+
+  pub in_others : (k : ℕ) → Member k pieces.second → Member k t.blocks
+  in_others k m = subst (λ ds. Member k ds) (sym pieces.is) (in_second k pieces.first pieces.second m)
+
+  in_these : (k : ℕ) → Member k pieces.first → Member k t.blocks
+  in_these k m = subst (λ ds. Member k ds) (sym pieces.is) (in_first k pieces.first pieces.second m)
+
+  pub split : Distinct (pieces.first ++ pieces.second)
+  split = subst (λ (ds : List ℕ). Distinct ds) pieces.is t.distinct
+
+  -- the others alone
+  abbrev pub others_alone : Territory (ts ++ gs) world
+  others_alone = record {
+    blocks = pieces.second;
+    cells = pieces.others;
+    distinct = distinct_second pieces.first pieces.second split;
+    others = apart_second ms (ts ++ gs) t.others;
+    clear = clear_less t.blocks pieces.second (ts ++ gs) in_others (all_second (λ o. Apart o.at.base t.blocks) ms (ts ++ gs) t.clear);
+  }
+
+  -- of those that were given
+  of_given : (P : Owner → Type 0) → AllOwners P (ms ++ (ts ++ gs)) → AllOwners P gs
+  of_given P h = all_second P ts gs (all_second P ms (ts ++ gs) h)
+
+  across : AllOwners (λ g. OtherThan g.at ms) gs
+  across = all_second (λ g. OtherThan g.at ms) ts gs (apart_across ms (ts ++ gs) t.others)
+
+  module _ (inner : Region) (after : World) (p : Passes inner gs pieces.second world after) where
+    -- they stay
+    waiting_stay : (qs : List Owner) (cs : List ℕ) → Cells world qs cs → AllOwners (λ q. IsOutside inner q.at.base) qs → AllOwners (λ q. OtherThan q.at gs) qs →
+        ClearOf pieces.second qs → ClearOf cs gs → ((k : ℕ) → Member k cs → Member k pieces.second → ⊥) → Cells after qs cs
+    waiting_stay [] _ no_cells out other clear far both = no_cells
+    waiting_stay (q ∷ qs) _ (a_cell {w = w} {v = v} {bs = bs} {cs = cs} c rest) out other clear far both =
+        let s = p.parts q.at v (record { whole = w; at = c.at; is = c.is }) out.0 other.0 clear.0 in
+        a_cell {w = s.whole} {v = v} {bs = bs} {cs = cs} (record {
+          at = s.at;
+          is = s.is;
+          has = has_stays world after (λ k x m is. p.bases (InBlock k) x is tt
+              (all_so (λ o. Apart o.at.base (bs ++ cs)) (λ o. InBlock k ≡ o.at.base → ⊥) gs (λ o h e. h k (sym e) (in_first k bs cs m)) far)
+              (λ j e n. both k (in_first k bs cs m) (subst (λ i. Member i pieces.second) (sym (same_number k j e)) n))) c.has;
+          distinct = c.distinct;
+          apart = c.apart;
+        }) (waiting_stay qs cs rest out.1 other.1 clear.1 (clear_less (bs ++ cs) cs gs (λ k m. in_second k bs cs m) far)
+        (λ k m. both k (in_second k bs cs m)))
+
+    -- with the part's own that there are then
+    module _ (ns : List Owner) (u : Territory (ns ++ gs) after)
+        (came : (k : ℕ) → Member k u.blocks → Member k pieces.second ⊎ (Member k [] ⊎ (taken_in world ≤ k)))
+        (out : AllOwners (λ m. IsOutside inner m.at.base) ms) (own : AreOwn inner ns) where
+      too_far : (k : ℕ) → k < taken_in world → taken_in world ≤ k → ⊥
+      too_far k less le = omega (arith, less, le)
+
+      -- no block of what waits is one of the others
+      no_block : (k : ℕ) → Member k pieces.first → Member k pieces.second ⊎ (Member k [] ⊎ (taken_in world ≤ k)) → ⊥
+      no_block k a (inl b) = distinct_apart k pieces.first pieces.second split a b
+      no_block k a (inr (inl b)) = elim b [ ]
+      no_block k a (inr (inr le)) = too_far k (cells_below ms pieces.first pieces.cells k a) le
+
+      came_all : (k : ℕ) → Member k (pieces.first ++ u.blocks) → Member k t.blocks ⊎ (Member k [] ⊎ (taken_in world ≤ k))
+      came_all k m = either_block k pieces.first u.blocks (Member k t.blocks ⊎ (Member k [] ⊎ (taken_in world ≤ k))) m (λ a. inl (in_these k a))
+          (λ a. wide (came k a))
+        where
+          wide : Member k pieces.second ⊎ (Member k [] ⊎ (taken_in world ≤ k)) → Member k t.blocks ⊎ (Member k [] ⊎ (taken_in world ≤ k))
+          wide (inl b) = inl (in_others k b)
+          wide (inr q) = inr q
+
+      -- what is the part's own lies beside what waits
+      beside_one : (n : Owner) → (IsOutside inner n.at.base → ⊥) → (qs : List Owner) → AllOwners (λ q. IsOutside inner q.at.base) qs → OtherThan n.at qs
+      beside_one n h [] outs = tt
+      beside_one n h (q ∷ qs) outs = (other_base (λ e. h (subst (λ b. IsOutside inner b) (sym e) outs.0)), beside_one n h qs outs.1)
+
+      beside : (os : List Owner) → AreOwn inner os → AllOwners (λ n. OtherThan n.at ms) os
+      beside [] h = tt
+      beside (n ∷ os) h = (beside_one n h.0 ms out, beside os h.1)
+
+      -- each that waits lies beside those that were given
+      turn : (qs : List Owner) → AllOwners (λ g. OtherThan g.at qs) gs → AllOwners (λ q. OtherThan q.at gs) qs
+      turn [] h = tt
+      turn (m ∷ qs) h = (
+        all_so (λ g. OtherThan g.at (m ∷ qs)) (λ g. OtherPart g.at m.at) gs (λ g q. other_back q.0) h,
+        turn qs (all_so (λ g. OtherThan g.at (m ∷ qs)) (λ g. OtherThan g.at qs) gs (λ g q. q.1) h),
+      )
+
+      -- what is the part's own isn't in a block
+      clear_new : (os : List Owner) → AreOwn inner os → ClearOf (pieces.first ++ u.blocks) os
+      clear_new [] h = tt
+      clear_new (m ∷ os) h = (λ k e q. h.0 (subst (λ b. IsOutside inner b) (sym e) tt), clear_new os h.1)
+
+      -- the given ones stand in no new block
+      given_clear : ClearOf (pieces.first ++ u.blocks) gs
+      given_clear =
+          let g = cells_apart ts gs pieces.second pieces.others in
+          cells_clear gs g.second t.blocks [] (pieces.first ++ u.blocks) g.others (of_given (λ o. Apart o.at.base t.blocks) t.clear) (none_clear gs) came_all
+
+      pub with_waiting : There (ms ++ (ns ++ gs)) t.blocks world after
+      with_waiting = record {
+        came = came_all;
+        territory = record {
+          blocks = pieces.first ++ u.blocks;
+          cells = cells_both ms (ns ++ gs) pieces.first u.blocks
+              (waiting_stay ms pieces.first pieces.cells out (turn ms across) (clear_less t.blocks pieces.second ms in_others
+              (all_first (λ o. Apart o.at.base t.blocks) ms (ts ++ gs) t.clear))
+              (clear_less t.blocks pieces.first gs in_these (of_given (λ o. Apart o.at.base t.blocks) t.clear))
+              (λ k a b. distinct_apart k pieces.first pieces.second split a b)) u.cells;
+          distinct = distinct_both pieces.first u.blocks (distinct_first pieces.first pieces.second split) u.distinct (λ k a b. no_block k a (came k b));
+          others = apart_both ms (ns ++ gs) (apart_first ms (ts ++ gs) t.others) u.others
+              (all_both (λ q. OtherThan q.at ms) ns gs (beside ns own) across);
+          clear = all_both (λ o. Apart o.at.base (pieces.first ++ u.blocks)) ms (ns ++ gs)
+              (cells_clear ms pieces.first t.blocks [] (pieces.first ++ u.blocks) pieces.cells
+              (all_first (λ o. Apart o.at.base t.blocks) ms (ts ++ gs) t.clear) (none_clear ms) came_all)
+              (all_both (λ o. Apart o.at.base (pieces.first ++ u.blocks)) ns gs (clear_new ns own) given_clear);
+        };
+      }
+
+-- a part begins, with these cells for its own
+pub stage_begins : {inner : Region} {ts gs : List Owner} {first places : ℕ} {nodes : List ℕ} {now : World} (t : Territory (ts ++ gs) now) → AreOwn inner ts →
+    Active now.frames inner.level first places nodes → Stage inner ts gs first places nodes t.blocks now now
+stage_begins {inner} {ts} {gs} {now = now} t own active = record {
+  runs = record { territory = t; own = own; came = λ k m. inl m; passes = passes_same inner gs t.blocks now };
+  active = active;
+}
+
+-- a part of it after what came before, of which some cells wait, and others are the part's own
+pub stage_framed : {r inner : Region} (ms ts : List Owner) {ns gs : List Owner} {first places : ℕ} {more old : List ℕ} {start mid last : World} →
+    Wider r inner →
+    AreOwn r ms → (t : Territory (ms ++ (ts ++ gs)) mid) → ((k : ℕ) → Member k t.blocks → Member k old ⊎ (Member k [] ⊎ (taken_in start ≤ k))) →
+    Passes r gs old start mid → AllOwners (λ m. IsOutside inner m.at.base) ms →
+    Stage inner ns gs first places more (others_alone ms ts gs mid t).blocks mid last → Stage r (ms ++ ns) gs first places more old start last
+stage_framed {r} {inner} ms ts {ns} {gs} {first} {places} {more} {old} {start} {mid} {last} w own t came passes out u =
+    let all = with_waiting ms ts gs mid t inner last u.runs.passes ns u.runs.territory u.runs.came out u.runs.own in
+    let there = subst (λ ps. There ps old start last) (owners_assoc ms ns gs) (record { territory = all.territory; came = λ k m. further k (all.came k m) }) in
+    record {
+      runs = record {
+        territory = there.territory;
+        own = all_both (λ m. IsOutside r m.at.base → ⊥) ms ns own (own_wider w ns u.runs.own);
+        came = there.came;
+        passes = passes_then passes came (passes_wider [] w tt (in_others ms ts gs mid t) u.runs.passes);
+      };
+      active = subst (λ l. Active last.frames l first places more) w.level u.active;
+    }
+  where
+    later : (k : ℕ) → taken_in mid ≤ k → taken_in start ≤ k
+    later k le = omega (arith, le, passes.grows)
+
+    further : (k : ℕ) → Member k t.blocks ⊎ (Member k [] ⊎ (taken_in mid ≤ k)) → Member k old ⊎ (Member k [] ⊎ (taken_in start ≤ k))
+    further k (inl m) = came k m
+    further k (inr (inl m)) = elim m [ ]
+    further k (inr (inr le)) = inr (inr (later k le))
