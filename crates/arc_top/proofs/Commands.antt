@@ -12,6 +12,7 @@ use Rattle.arc_base.specs.Refusal.{Answers}
 use Rattle.elf32.specs.Elf.{File}
 use Rattle.nim_program.specs.Program.{Program}
 use Rattle.nim_meaning.specs.Meaning.{meaning}
+use Rattle.plain_plan.specs.Plain.{plain_plan}
 use Rattle.word_runner.specs.declared.mean.MeanEnd.{MeanEnd}
 use Rattle.word_runner.specs.declared.mean.MeanEnd.TheVariants as mean_end
 use Rattle.rv32_isa.specs.Image.{Image}
@@ -28,7 +29,7 @@ use Rattle.source_compiler.specs.Source.{alone, Reads}
 use Rattle.program_limits.specs.Limits.{tree_limits}
 use Rattle.core_compiler.specs.Limits.{build_limits}
 use Rattle.source_compiler.specs.Limits.{Limits}
-use Rattle.source_compiler.specs.Compile.{Compiled, IsNoProgram, DecidedBy, by_limits, source_most, empty_plan, OnRefused}
+use Rattle.source_compiler.specs.Compile.{Compiled, IsNoProgram, DecidedBy, by_limits, source_most, OnRefused}
 use Rattle.arc_top.specs.declared.answer.Answer.{Answer}
 use Rattle.arc_top.specs.declared.answer.Answer.TheVariants.{Done, Ended, Usage, NoFile, TooLong, Refused, BadElf, MachineFault, StepsSpent, ReadFault}
 use Rattle.arc_top.specs.declared.answer.Answer.TheVariants.{WriteFault, StoreFault, Memory}
@@ -147,7 +148,7 @@ module _ (sees : Sees) (shows : Shows) (main source : List ℕ) (heap steps : �
 module _ (main source : List ℕ) (heap steps : ℕ) (program : Program) (old new : FilesState) (before after : Streams)
     (gives : Gives old new main source_most source) (reads : Reads (alone main source) program) (taken : tree_limits program ≡ Ok tt) where
   abbrev Ends : MeanEnd → Type 0
-  Ends e = CameTo (λ (input : List ℕ). meaning program empty_plan heap input steps) before.input e after.input
+  Ends e = CameTo (λ (input : List ℕ). meaning program (plain_plan program) heap input steps) before.input e after.input
       (told before.out after.out) (told before.err after.err)
 
   means_so : (e : MeanEnd) → IsEnd e → Ends e → MeansProgram main heap steps (meant steps e) (world old before) (world new after)

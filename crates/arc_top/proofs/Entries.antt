@@ -11,12 +11,13 @@ use Rattle.word_runner.specs.Mean.{Failed}
 use Rattle.core_compiler.specs.Mean.{Means}
 use Rattle.arc_top.proofs.Meaning.{some_rest}
 use Rattle.nim_meaning.specs.Meaning.{meaning}
+use Rattle.plain_plan.specs.Plain.{plain_plan}
 use Rattle.elf32.specs.Elf.{File}
 use Rattle.program_limits.specs.Limits.{tree_limits}
 use Rattle.core_compiler.specs.Limits.{build_limits, check_limits}
 use Rattle.core_compiler.specs.Compile.{HasCode}
 use Rattle.source_compiler.specs.Source.{Module, alone}
-use Rattle.source_compiler.specs.Compile.{Compiled, HaveCodeWhereWithin, IsProgram, IsNoProgram, source_most, empty_plan}
+use Rattle.source_compiler.specs.Compile.{Compiled, HaveCodeWhereWithin, IsProgram, IsNoProgram, source_most}
 use Rattle.rv32_isa.specs.State.{State, first_state}
 use Rattle.rv32_runner.specs.declared.runner.RunEnd.{RunEnd}
 use Rattle.rv32_runner.specs.declared.runner.RunEnd.TheVariants as end
@@ -29,7 +30,8 @@ use Rattle.arc_top.specs.declared.answer.Answer.TheVariants.{WriteFault, StoreFa
 use Rattle.arc_top.specs.Loads.{FilesState, OnEntry, Gives}
 use Rattle.arc_top.specs.Report.{report_of}
 use Rattle.arc_top.specs.Runs.{HasRun, answer_of}
-use Rattle.arc_top.specs.Top.{IsTurnedDown, Stops, World, RunsProgram, Runs, told as of_sink, meant, MeansProgram, RunsMeaning, RunsFile, Executes, Answered, Carries}
+use Rattle.arc_top.specs.Top.{IsTurnedDown, Stops, World, RunsProgram, Runs, told as of_sink, meant, MeansProgram, RunsMeaning, RunsFile, Executes, Answered}
+use Rattle.arc_top.specs.Top.{Carries}
 use Rattle.arc_top.specs.Top.{before_line, modules_of, limits_of, MakesCode, file_most}
 use Rattle.arc_top.specs.Due.{NothingFails, TellsEntry, WasAnswered, ReadsSource, IsCarriedOut, most_of, IsDue, lacks, long, refused, accepted, bad, executed}
 use Rattle.arc_top.specs.Due.{wanting}
@@ -98,7 +100,7 @@ named_mean : (main : List ℕ) (heap steps : ℕ) (answer : Answer) (old new : W
 named_mean main heap steps answer old new m =
     let rest = some_rest new.streams.input.left new.streams.input.ended in
     subst (λ a. Named a old.streams new.streams) (sym m.answers)
-    (named_by_meaning steps m.end (meaning m.program empty_plan heap (m.came.given ++ rest.0) steps) old.streams new.streams m.came.failed
+    (named_by_meaning steps m.end (meaning m.program (plain_plan m.program) heap (m.came.given ++ rest.0) steps) old.streams new.streams m.came.failed
     (m.came.means rest.0 rest.1))
 
 -- ---- entries
@@ -147,7 +149,7 @@ module _ (entry : Option (List ℕ)) (old new : FilesState) where
 compiled_code : (modules : List Module) (heap : ℕ) (file : File) (is : Compiled modules heap file)
     → HaveCodeWhereWithin modules (length file.image.code)
 compiled_code modules heap file is = λ other reads small.
-    subst (λ p. HasCode p empty_plan (length file.image.code)) (sym (is.reads_only other reads))
+    subst (λ p. HasCode p (plain_plan p) (length file.image.code)) (sym (is.reads_only other reads))
     (subst (λ plan. HasCode is.program plan (length file.image.code)) is.plan is.code)
 
 is_program : (main : List ℕ) (heap steps : ℕ) (answer : Answer) (old new : World) (ran : RunsProgram main heap steps answer old new)

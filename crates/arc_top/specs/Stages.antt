@@ -4,9 +4,9 @@ use Rattle.arc_base.specs.declared.place.Place.{Place}
 use Rattle.arc_base.specs.declared.place.Code.{Code}
 use Rattle.source_compiler.specs.declared.compiler.NotCompiled.{NotCompiled}
 use Rattle.source_compiler.specs.declared.compiler.NotCompiled.TheVariants as why
-use Rattle.source_compiler.specs.Compile.{empty_plan}
 use Rattle.nim_program.specs.Program.{Program}
 use Rattle.nim_meaning.specs.Meaning.{meaning}
+use Rattle.plain_plan.specs.Plain.{plain_plan}
 use Rattle.word_runner.specs.declared.mean.MeanEnd.{MeanEnd}
 use Rattle.core_compiler.specs.Mean.{CameTo, IsEnd}
 use Rattle.rv32_isa.specs.Image.{Image}
@@ -38,7 +38,8 @@ IsRefusal why.Memory answer = answer ≡ Memory
 -- the meaning of a program ran, on these streams
 pub record IsMeant (program : Program) (heap steps : ℕ) (answer : Answer) (old new : Streams) : Type 0 where
   pub end : MeanEnd
-  pub came : CameTo (λ (input : List ℕ). meaning program empty_plan heap input steps) old.input end new.input (told old.out new.out) (told old.err new.err)
+  pub came : CameTo (λ (input : List ℕ). meaning program (plain_plan program) heap input steps) old.input end new.input (told old.out new.out)
+      (told old.err new.err)
   pub ends : IsEnd end
   pub answers : answer ≡ meant steps end
 

@@ -15,6 +15,7 @@ use Rattle.elf32.specs.Elf.{File, Elf}
 use Rattle.elf32.specs.Faults.{HasFault}
 use Rattle.nim_program.specs.Program.{Program}
 use Rattle.nim_meaning.specs.Meaning.{meaning}
+use Rattle.plain_plan.specs.Plain.{plain_plan}
 use Rattle.rv32_runner.specs.Streams.{Streams, Tally}
 use Rattle.word_runner.specs.declared.mean.MeanEnd.{MeanEnd}
 use Rattle.word_runner.specs.declared.mean.MeanEnd.TheVariants as end
@@ -26,7 +27,7 @@ use Rattle.core_compiler.specs.Limits.{build_limits, check_limits}
 use Rattle.core_compiler.specs.Compile.{HasImageWhereBuilt}
 use Rattle.core_compiler.specs.Mean.{CameTo, IsEnd}
 use Rattle.source_compiler.specs.Limits.{Limits, no_limits}
-use Rattle.source_compiler.specs.Compile.{Compiled, HaveCodeWhereWithin, IsProgram, IsNoProgram, source_most, empty_plan}
+use Rattle.source_compiler.specs.Compile.{Compiled, HaveCodeWhereWithin, IsProgram, IsNoProgram, source_most}
 use Rattle.arc_top.specs.declared.answer.Answer.{Answer}
 use Rattle.arc_top.specs.declared.answer.Answer.TheVariants.{Done, Ended, NoFile, TooLong, Refused, BadElf, MachineFault, StepsSpent, ReadFault, WriteFault}
 use Rattle.arc_top.specs.declared.answer.Answer.TheVariants.{StoreFault, Memory}
@@ -80,7 +81,7 @@ pub record IsChecked (main source : List ℕ) : Type 0 where
   pub bytes : ℕ
   pub code : HaveCodeWhereWithin (alone main source) bytes
   pub program : IsProgram (check_limits bytes) main source
-  pub image : HasImageWhereBuilt program.program empty_plan bytes
+  pub image : HasImageWhereBuilt program.program (plain_plan program.program) bytes
 
 abbrev pub Checks : (main : List ℕ) → Answer → (old new : FilesState) → Type 0
 Checks main Done old new = (source : List ℕ) × Gives old new main source_most source × IsChecked main source
@@ -170,7 +171,7 @@ pub record MeansProgram (main : List ℕ) (heap steps : ℕ) (answer : Answer) (
   pub reads : Reads (alone main source) program
   pub taken : tree_limits program ≡ Ok tt
   pub end : MeanEnd
-  pub came : CameTo (λ (input : List ℕ). meaning program empty_plan heap input steps) old.streams.input end new.streams.input
+  pub came : CameTo (λ (input : List ℕ). meaning program (plain_plan program) heap input steps) old.streams.input end new.streams.input
       (told old.streams.out new.streams.out) (told old.streams.err new.streams.err)
   pub ends : IsEnd end
   pub answers : answer ≡ meant steps end

@@ -5,8 +5,10 @@ ghost use Rattle.elf32.specs.Elf.{file_of};
 ghost use Rattle.rv32_isa.specs.Image.{image_of};
 ghost use Rattle.rv32_runner.specs.Streams.{feed, tally, streams};
 ghost use Rattle.command_words.specs.Command.{Command as TheCommand, command_of, IsCommand, IsNoCommand, IsInRange};
+ghost use Rattle.nim_plan.specs.Order.{IsInOrder};
 ghost use Rattle.nim_program.specs.Numbering.{is_numbered_program};
 ghost use Rattle.nim_program.specs.Typed.{IsTyped};
+ghost use Rattle.plain_plan.specs.Plain.{plain_plan};
 ghost use Rattle.check_decls.specs.Modules.{program_in};
 ghost use Rattle.source_compiler.specs.Source.{alone, read_program, Reads};
 ghost use Rattle.program_limits.specs.Limits.{tree_limits};
@@ -31,7 +33,7 @@ use nim_plan::Plan;
 use nim_program::Program;
 use rv32_isa::{Image, machines};
 use rv32_runner::{RunEnd, load, runs};
-use source_compiler::{NotCompiled, SOURCE_MOST, compile, one_answer, typed};
+use source_compiler::{NotCompiled, SOURCE_MOST, compile, one_answer, plan_of, typed};
 use std::alloc::Global;
 use word_runner::MeanEnd;
 
@@ -109,7 +111,7 @@ fn check_main<F: Files>(alloc: Global, main: &str, files: &mut F) -> Result<(), 
 {
     one_answer();
     let program = read_main(alloc, main, files)?;
-    let plan = Plan::new(alloc);
+    let plan = plan_of(alloc, &program)?;
     check_core(alloc, &program, &plan)?;
     Ok(())
 }
@@ -225,10 +227,11 @@ fn meant(end: MeanEnd, steps: u32) -> Answer
     }
 }
 
-// Runs the meaning of a program, and answers as it ends.
+// Runs the meaning of a program under its plan, and answers as it ends.
 fn run_program<I: Source, O: Sink, E: Sink>(
     alloc: Global,
     program: &Program,
+    plan: &Plan,
     heap: u32,
     steps: u32,
     input: &mut I,
@@ -238,6 +241,8 @@ fn run_program<I: Source, O: Sink, E: Sink>(
     requires typed { IsTyped (program_in program.now) }
     requires numbered { is_numbered_program (program_in program.now) ≡ true }
     requires named { MembersNamed (program_in program.now).facts }
+    requires plain { plan.now ≡ plain_plan (read_program program.now) }
+    requires ordered { IsInOrder plan.now }
     requires heap { heap ≤ 16777216 }
     requires within { tree_limits (program_in program.now) ≡ Ok tt }
     ensures ran { IsMeant (read_program program.now) heap steps result
@@ -246,9 +251,8 @@ fn run_program<I: Source, O: Sink, E: Sink>(
         (streams (feed (I.left input.new) (I.ended input.new) (I.faults input.new) (I.gave input.new))
         (tally (O.written out.new) (O.faults out.new)) (tally (E.written err.new) (E.faults err.new))) }
 {
-    let plan = Plan::new(alloc);
     let units = steps as u64;
-    let end = mean_core(alloc, program, &plan, heap, units, input, out, err);
+    let end = mean_core(alloc, program, plan, heap, units, input, out, err);
     meant(end, steps)
 }
 
@@ -337,7 +341,10 @@ fn mean_main<F: Files, I: Source, O: Sink, E: Sink>(
         (tally (O.written out.new) (O.faults out.new)) (tally (E.written err.new) (E.faults err.new)))) }
 {
     match read_within(alloc, main, files) {
-        Ok(program) => run_program(alloc, &program, heap, steps, input, out, err),
+        Ok(program) => match plan_of(alloc, &program) {
+            Ok(plan) => run_program(alloc, &program, &plan, heap, steps, input, out, err),
+            Err(_) => Answer::Memory,
+        },
         Err(answer) => answer,
     }
 }

@@ -3,7 +3,7 @@ use Rattle.std.proofs.Common.{ℕ, suc, ◌+◌, ◌*◌, ◌≤◌, List, [], �
 use Rattle.std.specs.Prelude.{nat_le}
 use Rattle.std.proofs.lemmas.Bool.{and_from, cond_both, cond-true, le-leb}
 use Rattle.word_code.specs.declared.word.WordProc.{WordProc}
-use Rattle.word_code.specs.Joined.{all_moved}
+use Rattle.word_code.specs.Joined.{moved, all_moved}
 use Rattle.word_code.specs.Runtime.{AreRoutines, IsRoutine}
 use Rattle.word_code.specs.Sizes.{word_weight}
 use Rattle.rv32_codegen.specs.Lowering.{is_near_proc, proc_bytes, procs_bytes}
@@ -27,7 +27,13 @@ routines_most : (n : ℕ) (procs : List WordProc) → AreRoutines procs → proc
 routines_most n [] routines = omega arith
 routines_most n (p ∷ procs) routines = omega (arith, near_most p routines.0, routines_most n procs routines.1)
 
-pub joined_bytes : (n : ℕ) (procs routines : List WordProc) → AreRoutines routines →
-    procs_bytes (procs ++ all_moved n routines) ≤ 48 * word_weight procs + 24 * word_weight routines
-joined_bytes n [] others routines = omega (arith, routines_most n others routines)
-joined_bytes n (p ∷ procs) others routines = omega (arith, far_most p, joined_bytes n procs others routines)
+behind_bytes : (n k : ℕ) (procs routines : List WordProc) → AreRoutines routines →
+    procs_bytes (all_moved k procs ++ all_moved n routines) ≤ 48 * word_weight procs + 24 * word_weight routines
+behind_bytes n k [] others routines = omega (arith, routines_most n others routines)
+behind_bytes n k (p ∷ procs) others routines = omega (arith, far_most (moved k p), behind_bytes n k procs others routines)
+
+-- behind routines, and in front of others
+pub joined_bytes : (n k : ℕ) (heap procs routines : List WordProc) → AreRoutines heap → AreRoutines routines →
+    procs_bytes ((heap ++ all_moved k procs) ++ all_moved n routines) ≤ 24 * word_weight heap + (48 * word_weight procs + 24 * word_weight routines)
+joined_bytes n k [] procs others heap routines = omega (arith, behind_bytes n k procs others routines)
+joined_bytes n k (p ∷ ps) procs others heap routines = omega (arith, near_most p heap.0, joined_bytes n k ps procs others heap.1 routines)

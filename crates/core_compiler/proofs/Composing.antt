@@ -24,12 +24,13 @@ use Rattle.flat_code.specs.Scene.{known_in}
 use Rattle.word_code.specs.Words.{word_by_units, word_meaning, have_no_hooks, Fresh}
 use Rattle.word_code.specs.Memory.{data_of}
 use Rattle.word_code.specs.Joined.{joined}
-use Rattle.word_code.specs.Runtime.{IsRuntime}
+use Rattle.refc_runtime.specs.BothRuntimes.{AreRuntimes}
 use Rattle.destructor_injection.specs.Injecting.{IsOwned}
 use Rattle.goto_exceptions.specs.Branches.{IsBranched}
 use Rattle.rv32_codegen.specs.Layout.{DoesCode, IsFault, laid_out}
 use Rattle.rv32_codegen.specs.Lowering.{CanRun, most_bytes, DoesWords}
 use Rattle.rv32_codegen.specs.Stack.{stack_need}
+use Rattle.word_lowering.specs.Runtimes.{Runtimes, with_runtimes}
 use Rattle.word_lowering.specs.Lowers.{Lowers, LowersWithRuntime, IsFitting, AreSilent}
 use Rattle.core_compiler.specs.Compile.{live_objects, HasCode, DoesProgram}
 use Rattle.core_compiler.specs.Limits.{code_bound}
@@ -78,27 +79,42 @@ silent (p ∷ procs) none = (λ lines. none.0, silent procs none.1)
 pub sound_low : {low high : Behaviour Event} → Agrees low high → Sound low
 sound_low a = record { no_fault = a.no_fault; right = a.low_right }
 
--- word code without its runtime has data of few bytes
-pub own_data_small : {table : List TypeDef} {blocks : Code BlockLine} (own runtime : WordCode) → LowersWithRuntime table blocks own → IsRuntime runtime
-    → length own.statics ≤ 4294967295
-own_data_small own runtime lowered routines =
-    let both = length-append own.statics runtime.statics in
-    let most = (lowered.lowers runtime routines).data_most in
+-- all routines, as word code's contract takes them
+abbrev pub both_of : (heap others : WordCode) → AreRuntimes heap others → Runtimes
+both_of heap others are = record {
+  heap = heap;
+  others = others;
+  is_heap = are.is_heap;
+  is_others = are.is_others;
+  apart = are.apart;
+  rank = are.rank;
+  heap_ranked = are.heap_ranked;
+  others_ranked = are.others_ranked;
+  chain = are.chain;
+  many = are.many;
+}
+
+-- word code without other routines than those of the heap has data of few bytes
+pub front_small : {table : List TypeDef} {blocks : Code BlockLine} (own : WordCode) (r : Runtimes) → LowersWithRuntime table blocks own
+    → length (joined r.heap own).statics ≤ 4294967295
+front_small own r lowered =
+    let both = length-append (joined r.heap own).statics r.others.statics in
+    let most = (lowered.lowers r).data_most in
     omega (arith, both, most)
 
 module _ (law : AgreesLaw) (pace : PaceLaw) where
   -- ---- flat code, owned code, block code, word code
 
   -- joined with a runtime
-  module _ (table : List TypeDef) (plan : Plan) (flat : Code Line) (owned : Code OwnedLine) (blocks : Code BlockLine) (own runtime : WordCode)
-      (injected : IsOwned flat plan owned) (branched : IsBranched owned blocks) (lowered : LowersWithRuntime table blocks own) (routines : IsRuntime runtime)
+  module _ (table : List TypeDef) (plan : Plan) (flat : Code Line) (owned : Code OwnedLine) (blocks : Code BlockLine) (own : WordCode)
+      (r : Runtimes) (injected : IsOwned flat plan owned) (branched : IsBranched owned blocks) (lowered : LowersWithRuntime table blocks own)
       (owned_so : OwnedLaw) (blocks_so : BlockLaw)
     where
       abbrev words : WordCode
-      words = joined own runtime
+      words = with_runtimes r own
 
       low : Lowers table blocks words
-      low = lowered.lowers runtime routines
+      low = lowered.lowers r
 
       abbrev Fits : Type 0
       Fits = code_fits flat_plain (known_in table) flat.procs ≡ true
@@ -174,13 +190,16 @@ module _ (law : AgreesLaw) (pace : PaceLaw) where
           statics_most = low.data_most;
         };
         code_most =
-            let most = joined_bytes (length own.statics) own.procs runtime.procs routines.routines in
-            omega (arith, most, lowered.weight, routines.weight, injected.form.weight, branched.form.weight);
+            let most = joined_bytes (length (joined r.heap own).statics) (length r.heap.statics) r.heap.procs own.procs r.others.procs r.is_heap.routines
+            r.is_others.routines in
+            omega (arith, most, lowered.weight, r.is_heap.weight, r.is_others.weight, injected.form.weight, branched.form.weight);
         data_size =
             let few = lowered.data_size in
             let more = branched.form.statics table in
             let most = injected.form.statics table in
-            omega (arith, few, more, most, routines.data_most, length-append own.statics runtime.statics);
+            let front = length-append r.heap.statics own.statics in
+            let all = length-append (joined r.heap own).statics r.others.statics in
+            omega (arith, few, more, most, r.is_others.data_most, r.is_heap.long, front, all);
         hooks = λ none. low.hooks (none_before none);
       }
 
@@ -224,7 +243,7 @@ module _ (law : AgreesLaw) (pace : PaceLaw) where
     pub code_most : (bytes : ℕ) → bytes ≤ most_bytes words.procs → bytes ≤ code_bound program plan
     code_most bytes few = let bound = bound_is program plan flat words.procs top.weight middle.code_most in omega (arith, few, bound)
 
-    pub data_most : length words.statics ≤ data_counted program + 4092
+    pub data_most : length words.statics ≤ data_counted program + 4220
     data_most = let few = middle.data_size in omega (arith, few, top.data_size)
 
     -- with so many units

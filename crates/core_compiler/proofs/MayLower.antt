@@ -30,10 +30,10 @@ use Rattle.word_lowering.specs.declared.homes.Free.{Free}
 use Rattle.word_lowering.specs.declared.homes.Housed.{Housed}
 use Rattle.word_lowering.specs.Lowered.{data_of}
 use Rattle.word_lowering.specs.Aliases.{is_it}
-use Rattle.word_lowering.specs.Layouts.{is_empty, free_at, all_housed, behind_all, layout_of, layouts, params_in, kept_in}
+use Rattle.word_lowering.specs.Layouts.{is_empty, free_at, all_housed, behind_all, behind_waiters, layout_of, layouts, params_in, kept_in}
 use Rattle.word_lowering.specs.MayLower.{has_label, is_fresh, labels_once, labels_may, hook_may, placed_bytes, params_lead, all_plain, lines_may, result_end}
 use Rattle.word_lowering.specs.MayLower.{defs_may, proc_may, procs_may, may_lower}
-use Rattle.word_lowering.proofs.ForCallers.{data_sized}
+use Rattle.word_lowering.proofs.ForCallers.{data_sized, nothing_behind}
 use Rattle.destructor_injection.specs.Injecting.{IsOwned}
 use Rattle.goto_exceptions.specs.Branches.{IsBranched}
 use Rattle.flattening.specs.Lent.{none_lent, NoneLent}
@@ -144,6 +144,15 @@ module _ (plan : Plan) where
     module _ (start : Bool) (p : CodeProc Line) (plain : IsPlainProc (known_in table) 16384 start p) (own : none_lent p.places ≡ true)
         (alike : AreAlike p.lines)
         (fit : all_fit (known_in table) procs globals p.places p.lines ≡ true) where
+      here_plain : all_plain table (all_housed table start p.lines (free_at datum) p.places) ≡ true
+      here_plain =
+          let hs = all_housed table start p.lines (free_at datum) p.places in
+          let found = finds table start p.lines procs globals p.places (free_at datum) in
+          plain_all table start p.lines
+          (λ t h. text_named table procs globals p.places p.lines alike hs found t p.lines
+          (record { gives = λ n holds b g. g; any = λ t g. g }) h)
+          p.places (free_at datum) plain.places
+
       own_may : (ls : List Line) → ls ≡ p.lines →
           (params_lead p.places && (all_plain table (all_housed table start ls (free_at datum) p.places) && true)) &&
           lines_may table (all_housed table start ls (free_at datum) p.places) ls ≡ true
@@ -157,20 +166,27 @@ module _ (plan : Plan) where
               let found = finds table start p.lines procs globals p.places (free_at datum) in
               and_from _ _
               (and_from _ _ (sym (lead_same p.places) ∙ plain.lead)
-              (and_from _ _
-              (plain_all table start p.lines
-              (λ t h. text_named table procs globals p.places p.lines alike hs found t p.lines
-              (record { gives = λ n holds b g. g; any = λ t g. g }) h)
-              p.places (free_at datum) plain.places) refl))
+              (and_from _ _ here_plain refl))
               (may table procs globals p.places p.lines alike hs found fit plain.lines)
 
-      sizes : (ls : List Line) →
-          nat_le (behind_all table start ls (free_at datum) p.places).byte MOST_ROOM
+      abbrev end_with : List Line → Free
+      end_with ls = behind_waiters (behind_all table start ls (free_at datum) p.places) (all_housed table start ls (free_at datum) p.places)
+
+      -- nothing waits
+      end_is : (ls : List Line) → ls ≡ p.lines → end_with ls ≡ behind_all table start ls (free_at datum) p.places
+      end_is ls e =
+          nothing_behind table start ls (free_at datum) (behind_all table start ls (free_at datum) p.places) p.places
+          (subst (λ ls. all_plain table (all_housed table start ls (free_at datum) p.places) ≡ true) (sym e) here_plain)
+
+      sizes : (ls : List Line) → ls ≡ p.lines →
+          nat_le (end_with ls).byte MOST_ROOM
           && (nat_le (placed_bytes (params_in (all_housed table start ls (free_at datum) p.places))) SPARE_ROOM
-          && (nat_le (behind_all table start ls (free_at datum) p.places).variable MOST_VARS
+          && (nat_le (end_with ls).variable MOST_VARS
           && (nat_le (6 + kept_in (params_in (all_housed table start ls (free_at datum) p.places))) MOST_ARGUMENTS
           && nat_le (result_end (result_in (all_housed table start ls (free_at datum) p.places))) SPARE_ROOM))) ≡ true
-      sizes ls =
+      sizes ls same =
+          let v = ap (λ (f : Free). f.variable) (end_is ls same) in
+          let o = ap (λ (f : Free). f.byte) (end_is ls same) in
           let r = room table start ls p.places (free_at datum) plain.globals own in
           let q = params_room table start ls p.places (free_at datum) own in
           let b = plain.bytes in
@@ -178,11 +194,11 @@ module _ (plan : Plan) where
           let d = plain.handed_bytes in
           let s = result_room table start ls p.places (free_at datum) plain.globals own plain.handed in
           let end_at : ℕ = result_end (result_in (all_housed table start ls (free_at datum) p.places)) in
-          let end : Free = behind_all table start ls (free_at datum) p.places in
+          let end : Free = end_with ls in
           let taken : List Housed = params_in (all_housed table start ls (free_at datum) p.places) in
-          and_from _ _ (le-leb end.byte MOST_ROOM (omega (arith, r, b)))
+          and_from _ _ (le-leb end.byte MOST_ROOM (omega (arith, o, r, b)))
           (and_from _ _ (le-leb (placed_bytes taken) SPARE_ROOM (omega (arith, q, c)))
-          (and_from _ _ (le-leb end.variable MOST_VARS (omega (arith, r, b)))
+          (and_from _ _ (le-leb end.variable MOST_VARS (omega (arith, v, r, b)))
           (and_from _ _ (le-leb (6 + kept_in taken) MOST_ARGUMENTS (omega (arith, q, c))) (le-leb end_at SPARE_ROOM (omega (arith, s, d))))))
 
       pub one_may : p.hook ≡ None → proc_may table (layout_of table start datum (block_of p)) (block_of p) ≡ true
@@ -192,7 +208,7 @@ module _ (plan : Plan) where
           && hook_may h))
           && lines_may table (all_housed table start (map block_plain (block_of p).lines) (free_at datum) p.places) (map block_plain (block_of p).lines)) none
           ∙ own_may (map block_plain (block_of p).lines) (lines_are p.lines))
-          (sizes (map block_plain (block_of p).lines))
+          (sizes (map block_plain (block_of p).lines) (lines_are p.lines))
 
     none_same : (ps : List (CodeProc Line)) → is_empty (map block_of ps) ≡ is_none ps
     none_same [] = refl

@@ -42,7 +42,7 @@ module _ (program : Program) where
 
   pub bound_is : (plan : Plan) (flat : Code Line) (procs : List WordProc) →
       code_weight flat_plain flat.procs ≤ 33 * program_parts program + 5 * program_pairs (modes_of program plan) program →
-      most_bytes procs ≤ 48 * code_weight flat_plain flat.procs + 2756 → most_bytes procs ≤ code_bound program plan
+      most_bytes procs ≤ 48 * code_weight flat_plain flat.procs + 13436 → most_bytes procs ≤ code_bound program plan
   bound_is plan flat procs few most =
       let bound : 1584 * program_parts program + (240 * program_pairs (modes_of program plan) program + 2756) ≤ code_bound program plan = omega arith in
       omega (arith, few, most, bound)

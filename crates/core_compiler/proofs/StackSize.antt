@@ -12,7 +12,8 @@ use Rattle.reg_scan.specs.declared.homes.Homes.{Homes}
 use Rattle.rv32_codegen.specs.Stack.{frame_for, stack_need, most_size, call_size, counted_size}
 use Rattle.rv32_codegen.specs.Layout.{code_size}
 use Rattle.rv32_codegen.specs.Lowering.{AllHomes, CanRun, AlwaysDoes, MakeFrames, most_bytes}
-use Rattle.word_code.specs.declared.routine.TheConstants.{ROUTINE_VARIABLES, ROUTINE_CHAIN, ROUTINE_ROOM}
+use Rattle.word_code.specs.declared.routine.TheConstants.{ROUTINE_VARIABLES, ROUTINE_ROOM}
+use Rattle.heap_memory.specs.declared.numbers.TheConstants.{HEAP_CHAIN}
 use Rattle.word_lowering.specs.declared.may_lower.TheConstants.{MOST_VARS, MOST_ROOM}
 use Rattle.word_lowering.specs.Lowers.{AreSmall}
 use Rattle.word_lowering.proofs.ForCallers.{small_found}
@@ -49,9 +50,9 @@ calls (p ∷ procs) (own ∷ homes) all small =
 -- ---- the stack
 
 module _ (procs : List WordProc) (homes : List Homes) (all : AllHomes procs homes) (small : AreSmall procs)
-    (chain : longest_chain procs ≤ ROUTINE_CHAIN) where
+    (chain : longest_chain procs ≤ HEAP_CHAIN) where
   -- of one that counts, with the chain of calls that it may make
-  call_most : counted_size procs homes ≤ 4 * suc MOST_VARS + MOST_ROOM + (4 * suc ROUTINE_VARIABLES + ROUTINE_ROOM) * ROUTINE_CHAIN
+  call_most : counted_size procs homes ≤ 4 * suc MOST_VARS + MOST_ROOM + (4 * suc ROUTINE_VARIABLES + ROUTINE_ROOM) * HEAP_CHAIN
   call_most =
       let own = calls procs homes all small in
       let behind = longest_times procs (call_size procs homes) (4 * suc ROUTINE_VARIABLES + ROUTINE_ROOM) (λ p tail e f.

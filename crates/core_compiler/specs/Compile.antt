@@ -17,6 +17,7 @@ use Rattle.rv32_isa.specs.Machine.{Lives, machine}
 use Rattle.word_code.specs.declared.word.WordCode.{WordCode}
 use Rattle.word_code.specs.Words.{word_meaning, Fresh}
 use Rattle.word_code.specs.declared.routine.TheConstants.{RUNTIME_DATA}
+use Rattle.heap_memory.specs.declared.numbers.TheConstants.{HEAP_DATA}
 use Rattle.program_limits.specs.Data.{data_counted}
 use Rattle.word_lowering.specs.declared.lowering.TheConstants.{MOST_HEAP, MORE_DATA}
 use Rattle.reg_scan.specs.declared.homes.Homes.{Homes}
@@ -58,7 +59,7 @@ pub record IsLabelCode (words : WordCode) (homes : List Homes) (lines : List Lab
 
 -- Code of so many bytes does what the program means under a plan: label code of word code that means the same, with each heap and each stack
 -- that a machine may have, whatever bytes new places bring. The bytes are those that the lines have where they are laid out, and no more than the bound for the
--- program under the plan; its data are at most those of the program that count, and 4,092 bytes more.
+-- program under the plan; its data are at most those of the program that count, and 4,220 bytes more.
 pub record HasCode (program : Program) (plan : Plan) (bytes : ℕ) : Type 0 where
   pub words : WordCode
   pub homes : List Homes
@@ -68,7 +69,7 @@ pub record HasCode (program : Program) (plan : Plan) (bytes : ℕ) : Type 0 wher
       Agrees (word_meaning live_objects words fresh heap stack input) (meaning program plan heap input)
   pub size : code_size lines ≡ bytes
   pub bound : bytes ≤ code_bound program plan
-  pub data_most : length words.statics ≤ data_counted program + (MORE_DATA + RUNTIME_DATA)
+  pub data_most : length words.statics ≤ data_counted program + (HEAP_DATA + MORE_DATA + RUNTIME_DATA)
 
 -- the image of code with such a heap, and with just the stack that it needs
 abbrev pub image_with : {program : Program} {plan : Plan} {bytes : ℕ} → (heap : ℕ) → HasCode program plan bytes → Image

@@ -42,7 +42,8 @@ use Rattle.rv32_codegen.specs.Layout.{code_size, laid_out}
 use Rattle.rv32_codegen.specs.Lowering.{most_bytes}
 use Rattle.rv32_codegen.specs.Stack.{stack_need}
 use Rattle.reg_scan.specs.declared.homes.Homes.{Homes}
-use Rattle.word_code.specs.declared.routine.TheConstants.{ROUTINE_CHAIN, RUNTIME_DATA}
+use Rattle.word_code.specs.declared.routine.TheConstants.{RUNTIME_DATA}
+use Rattle.heap_memory.specs.declared.numbers.TheConstants.{HEAP_CHAIN, HEAP_DATA}
 use Rattle.word_lowering.specs.declared.lowering.TheConstants.{WORD_PACE, MOST_HEAP, MORE_DATA}
 use Rattle.word_lowering.specs.declared.may_lower.TheConstants.{MOST_DATA}
 use Rattle.word_lowering.specs.Lowers.{AreSmall}
@@ -93,12 +94,12 @@ pub record IsFlatOf (table : List TypeDef) (program : Program) (plan : Plan) (fl
 pub record CanLayOut (words : WordCode) : Type 0 where
   pub formed : is_word_code words ≡ true
   pub no_circle : has_no_circle words.procs ≡ true
-  pub chain : longest_chain words.procs ≤ ROUTINE_CHAIN
+  pub chain : longest_chain words.procs ≤ HEAP_CHAIN
   pub small : AreSmall words.procs
   pub whole : length words.statics % 4 ≡ 0
-  pub statics_most : length words.statics ≤ MOST_DATA + RUNTIME_DATA
+  pub statics_most : length words.statics ≤ HEAP_DATA + MOST_DATA + RUNTIME_DATA
 
--- Word code, with its runtime, does what flat code does under the plan, where that is never at a fault and never wrong, whatever bytes new places
+-- Word code, with all routines, does what flat code does under the plan, where that is never at a fault and never wrong, whatever bytes new places
 -- bring; and what it becomes has at most so many bytes.
 pub record AreWordsOf (table : List TypeDef) (plan : Plan) (flat : Code Line) (words : WordCode) : Type 0 where
   pub agrees : (fresh : Fresh) (heap stack : ℕ) (input : List ℕ) → heap ≤ MOST_HEAP → code_fits flat_plain (known_in table) flat.procs ≡ true →
@@ -117,7 +118,7 @@ pub record AreWordsOf (table : List TypeDef) (plan : Plan) (flat : Code Line) (w
       ((word_by_units live_objects words fresh heap stack input units n).work ≤ WORD_PACE * ((flat_within table flat plan units heap input m).work + 1))
   pub can : CanLayOut words
   pub code_most : most_bytes words.procs ≤ BYTES_OF_LINE * code_weight flat_plain flat.procs + BYTES_OF_ALL
-  pub data_size : length words.statics ≤ data_bytes flat_plain table flat.procs + (MORE_DATA + RUNTIME_DATA)
+  pub data_size : length words.statics ≤ data_bytes flat_plain table flat.procs + (HEAP_DATA + MORE_DATA + RUNTIME_DATA)
   pub hooks : AreNone (hooks_of flat) → have_no_hooks words.procs ≡ true
 
 -- ---- word code and its image

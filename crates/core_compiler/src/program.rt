@@ -26,7 +26,7 @@ use nim_plan::Plan;
 use nim_program::Program;
 use nim_types::TypeTable;
 use program_limits::{left_out, within};
-use refc_runtime::runtime;
+use refc_runtime::runtime_pair;
 use rv32_codegen::LayFault;
 use rv32_isa::Image;
 use std::alloc::Global;
@@ -53,7 +53,7 @@ pub const BYTES_OF_PART: u32 = 1_584;
 pub const BYTES_OF_PAIR: u32 = 240;
 
 /// And for the whole.
-pub const BYTES_OF_ALL: u32 = 2_756;
+pub const BYTES_OF_ALL: u32 = 13_436;
 
 // The main module is too large.
 fn too_large() -> Stop
@@ -90,7 +90,7 @@ pub fn flat_of(alloc: Global, program: &Program, plan: &Plan) -> Result<Flat, Me
     Ok(flat)
 }
 
-/// Flat code without its plan and its exceptions, as word code with its runtime.
+/// Flat code without its plan and its exceptions, as word code with all routines.
 pub fn words_of(
     alloc: Global,
     types: &TypeTable,
@@ -109,8 +109,9 @@ pub fn words_of(
     let owned = owned_of(alloc, flat, plan)?;
     let blocks = branches(alloc, &owned)?;
     let words = words(alloc, &blocks, types)?;
-    let runtime = runtime(alloc)?;
-    words.join(alloc, runtime)
+    let runtimes = runtime_pair(alloc)?;
+    let front = runtimes.heap.join(alloc, words)?;
+    front.join(alloc, runtimes.others)
 }
 
 /// Refuses a typed program with a form that isn't built (E23), one with a procedure that is too large

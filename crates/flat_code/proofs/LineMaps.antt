@@ -45,7 +45,7 @@ module _ {E S T : Type 0} (low : S → Next E S) (high : T → Next E T) (g : T 
 
 module _ {L M : Type 0} (f : L → M) where
   abbrev pub in_proc : Proc L → Proc M
-  in_proc p = record { first = p.first; span = p.span; result = p.result; hook = p.hook; lines = map f p.lines }
+  in_proc p = record { first = p.first; span = p.span; result = p.result; waits = p.waits; hook = p.hook; lines = map f p.lines }
 
   abbrev in_active : Active L → Active M
   in_active a = record { whole = map f a.whole; rest = map f a.rest; level = a.level; left = a.left; temps = a.temps }

@@ -1,7 +1,7 @@
 -- What flat, owned and block code mean: after n lines, of which turns and calls may spend so many units, or as many as there are. They differ in
 -- their lines alone: those of flat code are under its plan, those of owned code have the plan's acts in them, and those of block code are to have
 -- the error word.
-use Rattle.std.specs.Prelude.{◌≡◌, ℕ, ◌+◌, ◌*◌, ◌≤◌, true, List, [], ◌∷◌, map, length, Option, None}
+use Rattle.std.specs.Prelude.{◌≡◌, ℕ, suc, ◌+◌, ◌*◌, ◌≤◌, true, List, [], ◌∷◌, map, length, Option, Some, None}
 use Rattle.arc_base.specs.Event.{Event}
 use Rattle.arc_base.specs.Behaviour.{Behaviour}
 use Rattle.nim_types.specs.declared.types.TypeDef.{TypeDef}
@@ -42,8 +42,24 @@ abbrev pub result_in : Known → List FlatPlace → List Slot
 result_in known [] = []
 result_in known (p ∷ places) = if_result p.kind (Holds (default_of known.facts (type_at known.types p.ty)) ∷ []) (result_in known places)
 
+-- how many of these places may wait
+abbrev pub and_waits : Option ℕ → ℕ → ℕ
+and_waits None n = n
+and_waits (Some node) n = suc n
+
+abbrev pub waiting_in : List FlatPlace → ℕ
+waiting_in [] = 0
+waiting_in (p ∷ places) = and_waits p.waits (waiting_in places)
+
 abbrev pub proc_of : {L : Type 0} → Known → CodeProc L → Proc L
-proc_of known p = record { first = p.first; span = p.span; result = result_in known p.places; hook = p.hook; lines = p.lines }
+proc_of known p = record {
+  first = p.first;
+  span = p.span;
+  result = result_in known p.places;
+  waits = waiting_in p.places;
+  hook = p.hook;
+  lines = p.lines;
+}
 
 abbrev pub procs_of : {L : Type 0} → Known → Code L → List (Proc L)
 procs_of known code = map (proc_of known) code.procs

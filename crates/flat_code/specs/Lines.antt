@@ -8,7 +8,7 @@ use Rattle.nim_program.specs.Traps.{LengthChanged}
 use Rattle.nim_program.specs.Ints.{truth, is_true, inside}
 use Rattle.nim_program.specs.Program.{Label, Ordinals, Exactly, Doing, Building}
 use Rattle.nim_program.specs.View.{if_type, label_of}
-use Rattle.nim_meaning.specs.Values.{Value, Number, Fixed, nothing, number_of, length_of, bytes, default_of, Standing, Waiting, Made, Location, at_base, Holds}
+use Rattle.nim_meaning.specs.Values.{Value, Number, Fixed, nothing, number_of, length_of, bytes, is_full, default_of, Standing, Waiting, Made, Location, at_base, Holds}
 use Rattle.nim_meaning.specs.Values.{Stands, Operand, Given, At, operand, value, location, slots_for}
 use Rattle.nim_meaning.specs.State.{World, slot_at, load, text_of, is_whole}
 use Rattle.nim_meaning.specs.Acts.{branch}
@@ -110,11 +110,11 @@ leaps_where x work holds label = branch holds (Leaps label work) (acts x (costs 
 abbrev pub turns_where : Scene → Bool → Temps → (label : ℕ) → Did
 turns_where x holds temps label = branch holds (Turns temps label) (acts x (costs 1 (give nothing)))
 
--- what a call hands to its caller: the value of the place of its result
+-- what a call hands to its caller: the value of the place of its result, all of it
 abbrev pub hands : Scene → (result : Option ℕ) → Did
 hands x None = Returns nothing 1
 hands x (Some place) =
-    let v = load x.world (place_at x.level place) in if_open x.world x.level place (Returns v (suc (bytes v)))
+    let v = load x.world (place_at x.level place) in if_open x.world x.level place (branch (is_full v) (Returns v (suc (bytes v))) Fails)
 
 -- what the value of a line is for, and where it waits
 abbrev pub destination : Scene → UseAt → Destination

@@ -17,12 +17,13 @@ use Rattle.nim_meaning.specs.Meaning.{seen_call, filled}
 use Rattle.flat_code.specs.Scene.{Temps, no_temps, with_value, Scene, Did, Passes, Leaps, Enters, Turns, Calls, Returns}
 use Rattle.flat_code.specs.Scene as scenes
 
--- A procedure: the number of its first declared place and how many there are; the slot in which its result starts, if it has one; which hook it is;
--- its lines.
+-- A procedure: the number of its first declared place and how many there are; the slot in which its result starts, if it has one; how many values
+-- may wait in it; which hook it is; its lines.
 pub record Proc (L : Type 0) : Type 0 where
   pub first : ℕ
   pub span : ℕ
   pub result : List Slot
+  pub waits : ℕ
   pub hook : Option HookOf
   pub lines : List L
 
@@ -71,7 +72,7 @@ before_last (x ∷ []) = []
 before_last (x ∷ y ∷ xs) = x ∷ before_last (y ∷ xs)
 
 abbrev pub no_proc : {L : Type 0} → Proc L
-no_proc = record { first = 0; span = 0; result = []; hook = None; lines = [] }
+no_proc = record { first = 0; span = 0; result = []; waits = 0; hook = None; lines = [] }
 
 -- the last procedure is the start code, which isn't called
 abbrev pub start_of : {L : Type 0} → List (Proc L) → Proc L
@@ -117,9 +118,13 @@ beginning p level left = record { whole = p.lines; rest = p.lines; level = level
 abbrev pub gives_nothing : {L : Type 0} → Machine L → List L → (to work : ℕ) → List Event → Next Event (Machine L)
 gives_nothing m rest to work es = Goes es work (onward m rest (with_value to m.now.temps nothing) m.world)
 
+-- a call begins with its result, and with nothing that waits
+abbrev pub begin_work : {L : Type 0} → Proc L → ℕ
+begin_work p = slot_bytes p.result + p.waits
+
 abbrev pub entered : {L : Type 0} → Machine L → List L → (to : ℕ) → List Slot → (work left : ℕ) → Proc L → List L → Next Event (Machine L)
 entered m rest to slots work left p [] = gives_nothing m rest to work (seen_call p.hook)
-entered m rest to slots work left p (line ∷ lines) = Goes (seen_call p.hook) (work + slot_bytes p.result) (record {
+entered m rest to slots work left p (line ∷ lines) = Goes (seen_call p.hook) (work + begin_work p) (record {
   now = beginning p (suc m.now.level) left;
   waiting = record { active = record m.now { rest = rest }; to = to } ∷ m.waiting;
   world = with_frame m.world (frame_of p slots);

@@ -3,7 +3,7 @@ use Rattle.std.specs.Prelude.{ℕ, nat_eq, if◌then◌else◌, List, Option, So
 use Rattle.nim_types.specs.Types.{Ty, Facts}
 use Rattle.nim_types.specs.declared.types.TypeDef.{TypeDef}
 use Rattle.nim_types.specs.Table.{types_in, facts_in}
-use Rattle.nim_meaning.specs.Values.{Value, nothing, Base, Made, Location, Slot}
+use Rattle.nim_meaning.specs.Values.{Value, Vacant, Base, Made, Location, Slot}
 use Rattle.nim_meaning.specs.State.{World}
 use Rattle.nim_meaning.specs.Deeds.{Done}
 
@@ -34,7 +34,7 @@ abbrev pub with_place : ℕ → Temps → Where → Temps
 with_place t temps place = record temps { places = put temps.places t place }
 
 abbrev pub if_value : Option Value → Value
-if_value None = nothing
+if_value None = Vacant
 if_value (Some v) = v
 
 -- the location that it is; a value in a temporary is one that nobody owns

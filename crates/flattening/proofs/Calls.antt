@@ -13,7 +13,7 @@ use Rattle.nim_program.specs.Traps.{CallDepth, trap_text}
 use Rattle.nim_program.specs.Program.{Declared, Param, Body, Program, last_of}
 use Rattle.nim_program.specs.Program as trees
 use Rattle.nim_program.specs.Sizes.{body_sum, if_place_bytes}
-use Rattle.nim_meaning.specs.Values.{Value, nothing, bytes, Slot}
+use Rattle.nim_meaning.specs.Values.{Value, nothing, bytes, is_full, Slot}
 use Rattle.nim_meaning.specs.State.{World, State, Frame, live, load, slot_at, with_frame, down_to}
 use Rattle.nim_meaning.specs.Ways.{Point}
 use Rattle.nim_meaning.specs.Here.{Here}
@@ -22,19 +22,19 @@ use Rattle.nim_meaning.specs.Acts.{Broke, Continued, Returned, Raised, Outcome, 
 use Rattle.nim_meaning.specs.Acts.{worked, said, left_with, with_trail, exit_of, line_of}
 use Rattle.nim_meaning.specs.Acts.{spending, elsewhere, branch, change, costs, looks}
 use Rattle.nim_meaning.specs.Acts as acting
-use Rattle.nim_meaning.specs.Meaning.{calls, called, entered, from_level, result_slots, frame_of}
+use Rattle.nim_meaning.specs.Meaning.{calls, called, entered, from_level, frame_of}
 use Rattle.nim_meaning.specs.Meaning.{handed, handing, result_of, result_bytes, seen_call, exec_all}
 use Rattle.flat_code.specs.declared.line.Line.{Line}
 use Rattle.flat_code.specs.declared.line.Line.TheVariants as L
 use Rattle.flat_code.specs.Scene.{Temps, no_temps, with_value, Calls, Returns}
 use Rattle.flat_code.specs.Scene as scenes
 use Rattle.flat_code.specs.Lines.{is_there}
-use Rattle.flat_code.specs.Running.{Proc, Waiting, callable, before_last, slot_bytes, beginning}
+use Rattle.flat_code.specs.Running.{Proc, Waiting, callable, before_last, begin_work, beginning}
 use Rattle.flat_code.specs.Running as running
 use Rattle.flattening.specs.StmtLines.{number_of, body_lines}
 use Rattle.flattening.specs.Flattened.{modes_of, code_of_body, code_of_proc}
 use Rattle.flattening.specs.Formed.{Scope, AtFirst, ResultFormed, ParamsFormed, IsFormed, named_in, params_of, taken_by}
-use Rattle.flattening.proofs.Runs.{Fixed, M, procs, step, spends_at, Runs, Walks, line, line_spending, line_ends_spending, behind, follows_on, spends}
+use Rattle.flattening.proofs.Runs.{Fixed, M, procs, step, spends_at, Runs, Walks, line, line_spending, line_ends_spending, behind, follows_on, spends, unless_wrong}
 use Rattle.flattening.proofs.Worlds.{Since, since_none, since_then, since_call}
 use Rattle.flattening.proofs.Temps.{kept_none, kept_value, put_same}
 use Rattle.flattening.proofs.Puts.{is_empty}
@@ -45,6 +45,7 @@ use Rattle.flattening.proofs.Acting.{CallsFollow}
 use Rattle.flattening.proofs.Results.{result_small}
 use Rattle.flattening.proofs.Frames.{stands_called}
 use Rattle.flattening.proofs.Bodies.{spot_of, result_among, ReturnsAt, Back, room_of, some_lines, body_follows}
+use Rattle.flattening.proofs.WaitSums.{body_waits}
 
 -- ---- procedures by number
 
@@ -75,7 +76,7 @@ params_open c room Open (param ∷ params) f world h = (h.open_is false param.pl
 -- lines that aren't there give nothing
 entered_some : (x : Fixed) (m : M) (rest : List Line) (to : ℕ) (slots : List Slot) (work left : ℕ) (p : Proc Line) (lines : List Line) → is_empty lines
     ≡ false →
-    running.entered m rest to slots work left p lines ≡ Goes (seen_call p.hook) (work + slot_bytes p.result) (record {
+    running.entered m rest to slots work left p lines ≡ Goes (seen_call p.hook) (work + begin_work p) (record {
       now = beginning p (suc m.now.level) left;
       waiting = record { active = record (m.now) { rest = rest }; to = to } ∷ m.waiting;
       world = with_frame m.world (running.frame_of p slots);
@@ -88,12 +89,14 @@ entered_some x m rest to slots work left p (l ∷ lines) e = refl
 -- what the place of the result holds is handed over
 hands_is : (c : Spot) (temps : Temps) (world : World) (result : Option Declared) →
     ((place : Declared) → result ≡ Some place → is_there (slot_at world c.level place.number) ≡ true) →
+    is_full (result_of result c.level world) ≡ true →
     does_at c temps world (L.Return (number_of result)) ≡ Returns (result_of result c.level world)
     (suc (result_bytes result (result_of result c.level world)))
-hands_is c temps world None opened = refl
-hands_is c temps world (Some place) opened =
+hands_is c temps world None opened full = refl
+hands_is c temps world (Some place) opened full =
     let v = load world (place_at c.level place.number) in
-    ap (λ b. branch b (Returns v (suc (bytes v))) scenes.Fails) (opened place refl)
+    let back = Returns v (suc (bytes v)) in
+    ap (λ b. branch b (branch (is_full v) back scenes.Fails) scenes.Fails) (opened place refl) ∙ ap (λ b. branch b back scenes.Fails) full
 
 -- the caller of a call, which waits for its value
 abbrev caller : Spot → List Line → Temps → (to : ℕ) → Waiting Line
@@ -115,16 +118,17 @@ module _ (c : Spot) (params : List Param) (body : Body) (left : ℕ) (k : List L
 
   -- the line that returns
   returned : (b : State) (more : List Line) (now : Temps) → Since (suc c.level) (with_frame old frame) b.world →
-      ((place : Declared) → body.result ≡ Some place → is_there (slot_at b.world (suc c.level) place.number) ≡ true) → (trail : List Point) →
+      ((place : Declared) → body.result ≡ Some place → is_there (slot_at b.world (suc c.level) place.number) ≡ true) →
+      is_full (result_of body.result (suc c.level) b.world) ≡ true → (trail : List Point) →
       let v = result_of body.result (suc c.level) b.world in
       let d : State = with_trail trail (worked (result_bytes body.result v) (record b { world = down_to (suc c.level) b.world })) in
       Runs c.fixed LandsBack 1 0 (there callee (L.Return (number_of body.result) ∷ more) now b.world) b.meter (Got (On v) d)
-  returned b more now since opened trail =
+  returned b more now since opened full trail =
       let v = result_of body.result (suc c.level) b.world in
       let n = result_bytes body.result v in
       let d : State = with_trail trail (worked n (record b { world = down_to (suc c.level) b.world })) in
       let l = L.Return (number_of body.result) in
-      let is = hands_is callee now b.world body.result opened in
+      let is = hands_is callee now b.world body.result opened full in
       let w : Walks c.fixed 1 0 (there callee (l ∷ more) now b.world) b.meter (there c k (with_value to temps v) (down_to (suc c.level) b.world)) d.meter =
       line [] (suc n) (spent callee l more now b.world _ is) (stepped callee l more now b.world _ is) (append-nil b.meter.out) refl (omega arith) in
       behind (omega arith) w
@@ -132,9 +136,12 @@ module _ (c : Spot) (params : List Param) (body : Body) (left : ℕ) (k : List L
       (kept_value to v (omega arith) (omega arith) (kept_none to (suc to) temps)) (since_call c.level old b.world frame framed since))
 
   -- what is handed to the caller, behind the ends of the parameters
+  abbrev goes_back : Outcome (Unit {0}) → World → Does Value
+  goes_back flow world = acting.◌>>◌ (change (down_to (suc c.level)))
+      (costs (result_bytes body.result (result_of body.result (suc c.level) world)) (handing flow (result_of body.result (suc c.level) world)))
+
   abbrev hands_on : Outcome (Unit {0}) → Does Value
-  hands_on flow = looks (λ world. acting.◌>>◌ (change (down_to (suc c.level)))
-      (costs (result_bytes body.result (result_of body.result (suc c.level) world)) (handing flow (result_of body.result (suc c.level) world))))
+  hands_on flow = looks (λ world. branch (is_full (result_of body.result (suc c.level) world)) (goes_back flow world) acting.wrong)
 
   hands_back : (flow : Outcome (Unit {0})) (b : State) (m : M) → Back callee params (with_frame old frame) flow b m → AreListedParams callee params →
       ((new : World) → Since (suc c.level) (with_frame old frame) new → AreOpenParams callee params new) →
@@ -145,8 +152,9 @@ module _ (c : Spot) (params : List Param) (body : Body) (left : ℕ) (k : List L
     where
       behind_it : (flow : Outcome (Unit {0})) → ReturnsAt callee params (with_frame old frame) b.world m →
           ((d : State) (now : Temps) (more : List Line) → Since (suc c.level) (with_frame old frame) d.world →
+          is_full (result_of body.result (suc c.level) d.world) ≡ true →
           Runs c.fixed LandsBack 1 0 (there callee (L.Return (number_of body.result) ∷ more) now d.world) d.meter
-          (then_do (hands_on flow d) (λ flow d. Got flow (with_trail trail d)))) →
+          (then_do (goes_back flow d.world d) (λ flow d. Got flow (with_trail trail d)))) →
           Runs c.fixed LandsBack 1 0 m b.meter (then_do (handed params last there_here flow b) (λ flow d. Got flow (with_trail trail d)))
       behind_it flow g more =
           subst (λ m. Runs c.fixed LandsBack 1 0 m b.meter (then_do (handed params last there_here flow b) (λ flow d. Got flow (with_trail trail d))))
@@ -154,14 +162,16 @@ module _ (c : Spot) (params : List Param) (body : Body) (left : ℕ) (k : List L
           (after_both {c = callee} (λ u. hands_on flow) (λ flow d. Got flow (with_trail trail d)) 1 (omega arith) (omega arith)
           (param_ends_follow callee params listed (exit_of last flow) (L.Return (number_of body.result) ∷ g.k) g.now b
           (params_are b.world g.since))
-          (λ u d now same kept since. more d now g.k (since_then g.since since)))
+          (λ u d now same kept since. unless_wrong (is_full (result_of body.result (suc c.level) d.world))
+          (λ b. then_do (branch b (goes_back flow d.world) acting.wrong d) (λ flow d. Got flow (with_trail trail d))) d refl
+          (more d now g.k (since_then g.since since))))
 
       on : (flow : Outcome (Unit {0})) → Back callee params (with_frame old frame) flow b m →
           Runs c.fixed LandsBack 1 0 m b.meter (then_do (handed params last there_here flow b) (λ flow d. Got flow (with_trail trail d)))
-      on (On done) g = behind_it (On done) g (λ d now more since. returned d more now since (opened d.world since) trail)
-      on (Out (Broke by)) g = behind_it (Out (Broke by)) g (λ d now more since. returned d more now since (opened d.world since) trail)
-      on (Out (Continued by)) g = behind_it (Out (Continued by)) g (λ d now more since. returned d more now since (opened d.world since) trail)
-      on (Out (Returned by)) g = behind_it (Out (Returned by)) g (λ d now more since. returned d more now since (opened d.world since) trail)
+      on (On done) g = behind_it (On done) g (λ d now more since full. returned d more now since (opened d.world since) full trail)
+      on (Out (Broke by)) g = behind_it (Out (Broke by)) g (λ d now more since full. returned d more now since (opened d.world since) full trail)
+      on (Out (Continued by)) g = behind_it (Out (Continued by)) g (λ d now more since full. returned d more now since (opened d.world since) full trail)
+      on (Out (Returned by)) g = behind_it (Out (Returned by)) g (λ d now more since full. returned d more now since (opened d.world since) full trail)
       on (Out (Raised exception by)) g = absurd g
 
 -- ---- calls
@@ -247,7 +257,10 @@ module _ (x : Fixed) (formed : IsFormed x.program) where
         abbrev entry : Frame
         entry = frame_of x.program.facts body slots
 
-        enters : step x m ≡ Goes (seen_call p.hook) (work + slot_bytes (result_slots x.program.facts body.result))
+        abbrev began : ℕ
+        began = begin_work (code_of_body x.program x.plan p.hook p.params body)
+
+        enters : step x m ≡ Goes (seen_call p.hook) (work + began)
             (there inside inside.whole no_temps (with_frame s.world entry))
         enters =
             goes
@@ -268,9 +281,10 @@ module _ (x : Fixed) (formed : IsFormed x.program) where
         comes n e =
             let cost = body_sum x.program.facts globals p.params body + if_place_bytes x.program.facts body.result in
             let small = result_small x.program.facts body.result in
+            let waits = body_waits x.program.types x.program.facts (modes_of x.program x.plan) x.plan.sinks globals p.params body in
             let d : State = record (worked cost (said (seen_call p.hook) (with_trail [] (left_with n s)))) { world = with_frame s.world entry } in
             let w : Walks x work 0 m s.meter (there inside inside.whole no_temps d.world) d.meter =
-            line_spending (seen_call p.hook) (work + slot_bytes (result_slots x.program.facts body.result)) spent_here enters refl e (omega (arith, small)) in
+            line_spending (seen_call p.hook) (work + began) spent_here enters refl e (omega (arith, small, waits)) in
             let go = handed p.params (last_of body.stmts) (at_body body) in
             let f = formed.procs proc p body known has in
             let opened : Scope = AtFirst (length p.params) (named_in formed.names proc) body in

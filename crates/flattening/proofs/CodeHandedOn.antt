@@ -15,7 +15,7 @@ use Rattle.nim_meaning.specs.Values.{default_of, Slot, Holds}
 use Rattle.flat_code.specs.declared.place.PlaceKind.{PlaceKind}
 use Rattle.flat_code.specs.declared.place.PlaceKind.TheVariants as K
 use Rattle.flat_code.specs.declared.place.FlatPlace.{FlatPlace}
-use Rattle.flat_code.specs.Codes.{if_result, result_in, proc_of, procs_of}
+use Rattle.flat_code.specs.Codes.{if_result, result_in, waiting_in, proc_of, procs_of}
 use Rattle.flattening.specs.Flattened.{known_of, modes_of, code_of_proc, code_of_body, code_of}
 use Rattle.flattening.specs.Formed.{IsListed}
 use Rattle.flattening.specs.Given.{flat_body, flat_proc, flat_of}
@@ -62,7 +62,14 @@ module _ (program : Program) (plan : Plan) where
       proc_of (known_of program) (flat_body program plan hook params body) ≡ code_of_body program plan hook params body
   body_given hook params body h =
       let l = body_listed program plan params body h in
-      ap (λ result. record { first = body.first; span = body.places; result = result; hook = hook; lines = (flat_body program plan hook params body).lines })
+      ap (λ result. record {
+        first = body.first;
+        span = body.places;
+        result = result;
+        waits = waiting_in (flat_body program plan hook params body).places;
+        hook = hook;
+        lines = (flat_body program plan hook params body).lines;
+      })
       (slots params body.result _ (bodies.others types facts modes plan.sinks program.globals params body) l.given)
 
   procs_given : (procs : List Proc) → are_typed_procs program procs ≡ true →

@@ -16,7 +16,7 @@ use Rattle.nim_program.specs.Program.{Declared, Param, Body, Program}
 use Rattle.nim_program.specs.Program as trees
 use Rattle.nim_program.specs.Sizes.{is_global}
 use Rattle.nim_program.specs.View.{declared_of, param_of, body_of, proc_of as tree_of, program_under}
-use Rattle.flat_code.specs.Codes.{proc_of}
+use Rattle.flat_code.specs.Codes.{waiting_in, proc_of}
 use Rattle.flattening.specs.Numbering.{type_number}
 use Rattle.flattening.specs.StmtLines.{body_lines}
 use Rattle.flattening.specs.Places.{param_places, result_places, block_places, body_places}
@@ -45,6 +45,7 @@ module _ (ts : List Ty) (facts : Facts) (p : RustProgram) (plan : Plan) where
         first = body.first;
         span = body.places;
         result = result;
+        waits = waiting_in (flat_body program plan hook params (body_of ts body)).places;
         hook = hook;
         lines = body_lines ts facts (modes_of program plan) params (body_of ts body);
       }) (result_is (known_of program) (modes_of program plan) plan.sinks program.globals params (body_of ts body) (result_found body.result))

@@ -112,3 +112,4 @@ mod LentPlaces
 mod Ordinals
 mod SimpleWaits
 mod SimplePrograms
+mod WaitSums

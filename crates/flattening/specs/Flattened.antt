@@ -14,8 +14,10 @@ use Rattle.flat_code.specs.Scene.{Known}
 use Rattle.flat_code.specs.Lines.{does}
 use Rattle.flat_code.specs.Running.{Proc, Machine, at_first, runs, run_by}
 use Rattle.flat_code.specs.Whole.{label_in}
+use Rattle.flat_code.specs.Codes.{waiting_in}
 use Rattle.flattening.specs.declared.laws.TheConstants.{FLAT_PACE}
 use Rattle.flattening.specs.StmtLines.{body_lines}
+use Rattle.flattening.specs.Places.{body_places}
 
 abbrev pub known_of : Program → Known
 known_of program = record { types = program.types; facts = program.facts }
@@ -29,12 +31,13 @@ code_of_body program plan hook params body = record {
   first = body.first;
   span = body.places;
   result = result_slots program.facts body.result;
+  waits = waiting_in (body_places program.types program.facts (modes_of program plan) plan.sinks program.globals params body);
   hook = hook;
   lines = body_lines program.types program.facts (modes_of program plan) params body;
 }
 
 abbrev pub code_of_proc : Program → Plan → Option HookOf → List Param → Option Body → Proc Line
-code_of_proc program plan hook params None = record { first = 0; span = 0; result = []; hook = hook; lines = [] }
+code_of_proc program plan hook params None = record { first = 0; span = 0; result = []; waits = 0; hook = hook; lines = [] }
 code_of_proc program plan hook params (Some body) = code_of_body program plan hook params body
 
 -- the procedures by number, and the start code as the last one

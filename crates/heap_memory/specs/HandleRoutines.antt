@@ -60,7 +60,7 @@ orders_texts = record {
   ends = λ u. None;
   leaves = λ u m other. other ≡ m;
   reads = λ u input. input;
-  gives = λ u other word. signed word ≡ order u.texts.first u.texts.second;
+  gives = λ u other word. (word < 2 ^ 32) × (signed word ≡ order u.texts.first u.texts.second);
   lines = λ u. HANDLE_LINES + orders.lines u.texts;
 }
 

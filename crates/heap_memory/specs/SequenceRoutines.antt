@@ -46,12 +46,12 @@ pub record ResizingSequence : Type 0 where
   pub length : ℕ
   pub growth : Growing
 
--- The most bytes that a payload has. For more, more are asked for than are ever there.
+-- The most bytes that a payload has. For more, one more is asked for, which no block has.
 abbrev pub most_payload : ℕ
 most_payload = 16777208
 
 abbrev pub bytes_for : (length size : ℕ) → ℕ
-bytes_for n size = if nat_le n (most_payload / size) then n * size else 2 ^ 32 - 1
+bytes_for n size = if nat_le n (most_payload / size) then n * size else suc most_payload
 
 -- the bytes of elements that come are 0
 abbrev pub sequence_resized : ResizingSequence → Putting

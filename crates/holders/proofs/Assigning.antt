@@ -20,7 +20,7 @@ use Rattle.holders.proofs.Sure.{sure_then, sure_weaker}
 use Rattle.holders.proofs.PathLemmas.{part_of_put, put_same, has_deeper}
 use Rattle.holders.proofs.Ledger.{stored_counts, stored_live}
 use Rattle.holders.proofs.Owning.{in_first, in_second, Stay, has_stays, from_full, has_none, plain_none, plain_anywhere, distinct_second, distinct_first}
-use Rattle.holders.proofs.Guards.{sure_reads, sure_sees, sure_sets, read_at}
+use Rattle.holders.proofs.Guards.{sure_takes, sure_sees, sure_sets, read_at}
 use Rattle.holders.proofs.Ending.{same_number, may_deeper}
 use Rattle.holders.proofs.Ending as ending
 use Rattle.holders.proofs.Copying.{base_below, has_below, each_below, all_below, stored_length}
@@ -40,11 +40,11 @@ pub replaces : (f : Form) (to : Location) (w v0 x : Value) (old new : List ℕ) 
 replaces f to w v0 x old new world at e h0 h d dn both apart apart_new =
     let now = store world to x in
     let Q : Unit {0} → World → Type 0 = λ u after. Turns (λ k. held_by k x) none f to w new old world after in
-    sure_sees (λ world old. sets to x >> given_up f old) Q at e h0
+    sure_sees (λ world old. sets to x >> given_up f old) Q at e tt h0
     (sure_then (sets to x) (λ u. given_up f v0) (λ u after. after ≡ store world to x) Q world (sure_sets x (λ u after. after ≡ store world to x) at refl)
     (λ u after is. subst (λ y. Sure (given_up f v0) Q y) (sym is)
     (sure_weaker (given_up f v0) (λ u after. GivenUp v0 old now after × (taken_in now ≤ taken_in after)) Q now
-    (sure_grows (given_up f v0) (λ u after. GivenUp v0 old now after) now (gives_up f v0 old now (from_full (has_stays world now (stay old apart) h0)) d))
+    (sure_grows (given_up f v0) (λ u after. GivenUp v0 old now after) now (gives_up f v0 old now (has_stays world now (stay old apart) h0) d))
     (λ u after t. (
       record {
         now = x;
@@ -136,7 +136,7 @@ pub bits_assigned : (f : Form) (to from : Location) (w u v0 v : Value) (old bs :
     part w to.path ≡ v0 → Has world Full f v0 old → From world from u v → Has world Constant f v bs →
     Sure (bits to from) (λ x after. Turns none none f to w [] old world after) world
 bits_assigned f to from w u v0 v old bs world bare at e h0 source h =
-    sure_reads (λ world v. costs (bytes v) (sets to v)) (λ x after. Turns none none f to w [] old world after) source h
+    sure_takes (λ world v. costs (bytes v) (sets to v)) (λ x after. Turns none none f to w [] old world after) source tt h
     (sure_sets v (λ x after. Turns none none f to w [] old world after) at (
       record {
         now = v;

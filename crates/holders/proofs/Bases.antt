@@ -8,7 +8,7 @@ use Rattle.nim_meaning.specs.Values.{Value, Parts, Slot, Holds, part, put_part, 
 use Rattle.nim_meaning.specs.Values.{Made, Location}
 use Rattle.nim_meaning.specs.Heap.{Contents, Elements, Block, flat, block_at, with_contents, refilled}
 use Rattle.nim_meaning.specs.State.{Temporary, Frame, World, frame_in, frame_at, with_frame_at, with_slot_of, temporary_in, with_temporary_in}
-use Rattle.nim_meaning.specs.State.{load, whole_at, stored, held, joined, slot_of, hand_value, contents_value, object_in, with_value_in, new_contents}
+use Rattle.nim_meaning.specs.State.{load, whole_at, stored, held, awaited, joined, slot_of, hand_value, contents_value, object_in, with_value_in, new_contents}
 use Rattle.holders.specs.Owned.{IsBase, at_place, at_node, in_hand, in_row, in_text, in_program, HasPart, whole, row_part, MayStore}
 
 -- ---- lists
@@ -56,7 +56,7 @@ pub whole_is : (world : World) (base : Base) (w : Value) → IsBase world base w
 whole_is world (Standing level n) w (at_place frame e le f) =
     ap (λ (x : Option Frame). held (slot_of (frame_in x) n)) e ∙ ap (λ x. held (joined x)) f
 whole_is world (Waiting level node) w (at_node frame e f) =
-    ap (λ (x : Option Frame). held (temporary_in (frame_in x).temporaries node)) e ∙ ap held f
+    ap (λ (x : Option Frame). awaited (temporary_in (frame_in x).temporaries node)) e ∙ ap awaited f
 whole_is world (InHand i) w (in_hand e) = ap hand_value e
 whole_is world (InBlock k) w (in_row block e f) = ap contents_value e ∙ ap object_in f
 whole_is world (InBlock k) w (in_text block e f) = ap contents_value e ∙ ap object_in f

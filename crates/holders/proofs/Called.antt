@@ -5,7 +5,8 @@ use Rattle.nim_program.specs.Program.{Declared, Param, Body, last_of}
 use Rattle.nim_meaning.specs.Values.{Value, Stands, Standing, Location, at_base}
 use Rattle.nim_meaning.specs.Marks.{Member}
 use Rattle.nim_meaning.specs.State.{Frame, World, State, frame_in, slot_at, slot_of, joined, with_frame, down_to}
-use Rattle.nim_meaning.specs.Acts.{Exit, Broke, Continued, Returned, Raised, Outcome, On, Out, Does, give, change, looks, costs, branch, ◌>>◌, at_exit, exit_of}
+use Rattle.nim_meaning.specs.Acts.{wrong, Exit, Broke, Continued, Returned, Raised, Outcome, On, Out, Does, give, change, looks, costs, branch, ◌>>◌, at_exit}
+use Rattle.nim_meaning.specs.Acts.{exit_of}
 use Rattle.nim_meaning.specs.Deeds.{carry}
 use Rattle.nim_meaning.specs.Here.{Here, is_hooked}
 use Rattle.nim_meaning.specs.Lifted.{slot_ends}
@@ -20,6 +21,8 @@ use Rattle.holders.specs.Running.{IsBelow, Region}
 use Rattle.holders.specs.Staging.{Stage}
 use Rattle.holders.specs.Called.{ParamsEnd, no_params, own_param, other_param, Result, gives_none, gives_one, CameBack, without_value}
 use Rattle.holders.specs.Called.{with_value, NotRaised}
+use Rattle.nim_meaning.specs.Values.{is_full}
+use Rattle.holders.proofs.Guards.{has_full}
 use Rattle.holders.proofs.Owning.{has_stays}
 use Rattle.holders.proofs.Bases.{loaded}
 use Rattle.holders.proofs.FrameChanges.{base_below_level}
@@ -136,13 +139,28 @@ module _ (r : Region) (gs : List Owner) (first places : ℕ) (nodes old : List �
       given (Out (Raised exception by)) ok v now h = elim ok [ ]
 
       goes : Outcome (Unit {0}) → Does Value
-      goes flow = looks (λ last. change (down_to here.level)
-          >> costs (result_bytes here.result (result_of here.result here.level last)) (handing flow (result_of here.result here.level last)))
+      goes flow = looks (λ last. branch (is_full (result_of here.result here.level last)) (change (down_to here.level)
+          >> costs (result_bytes here.result (result_of here.result here.level last)) (handing flow (result_of here.result here.level last))) wrong)
+
+      -- the result is all there
+      full_result : (last : World) → At ns last → is_full (result_of here.result here.level last) ≡ true
+      full_result last h = by result h
+        where
+          by : {os : List Owner} {g : Form} → Result here os g → At os last → is_full (result_of here.result here.level last) ≡ true
+          by (gives_none e) h = ap (λ (p : Option Declared). is_full (result_of p here.level last)) e
+          by (gives_one place e) h =
+              let a = first_apart h.runs.territory in
+              ap is_full (ap (λ (p : Option Declared). result_of p here.level last) e ∙ loaded last (place_at here.level place.number) a.value a.base)
+              ∙ has_full tt a.under.has
 
       hands : (flow : Outcome (Unit {0})) → NotLeft flow → (now : State) → At ms now.world →
           Comes P (λ way after. ⊥) (handed params (last_of body.stmts) here flow now)
       hands flow ok now g =
           comes_then (params_end here params (exit_of (last_of body.stmts) flow)) (λ u. goes flow) (λ u after. At ns after) P (λ way after. ⊥) now
           (params_over r gs first places nodes old entered_world here level_is (exit_of (last_of body.stmts) flow) (λ way after. ⊥) ends now g)
-          (λ u last h. given flow ok (result_of here.result here.level last.world) _
-          (subst (λ l. P (result_of here.result here.level last.world) (down_to l last.world)) (sym level_is) (came_back result last.world h)))
+          (λ u last h. subst (λ b. Comes P (λ way after. ⊥) (branch b (change (down_to here.level)
+          >> costs (result_bytes here.result (result_of here.result here.level last.world)) (handing flow (result_of here.result here.level last.world)))
+          wrong last))
+          (sym (full_result last.world h))
+          (given flow ok (result_of here.result here.level last.world) _
+          (subst (λ l. P (result_of here.result here.level last.world) (down_to l last.world)) (sym level_is) (came_back result last.world h))))

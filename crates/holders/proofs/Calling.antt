@@ -1,13 +1,13 @@
 -- What waits is taken up, or ends; a place is over; a call begins, and comes back.
-use Rattle.std.proofs.Common.{◌≡◌, true, refl, sym, ap, subst, ◌∙◌, arith, ℕ, zero, suc, ◌+◌, ◌-◌, ◌<◌, ◌≤◌, inl, inr, ◌⊎◌, List, [], ◌∷◌, ◌++◌, length, Option}
+use Rattle.std.proofs.Common.{◌≡◌, true, refl, sym, ap, subst, ◌∙◌, arith, ℕ, zero, suc, ◌<◌, ◌≤◌, inl, inr, ◌⊎◌, List, [], ◌∷◌, ◌++◌, length, Option}
 use Rattle.std.proofs.Common.{Some}
 use Rattle.std.specs.Prelude.{slice_get, take}
 use Rattle.std.proofs.lemmas.Option.{none-some}
 use Rattle.nim_types.specs.Forms.{Form}
-use Rattle.nim_meaning.specs.Values.{Value, part, Holds, Base, Standing, Waiting, InBlock, InHand, InException, Made, Location, at_base}
+use Rattle.nim_meaning.specs.Values.{Value, Holds, Base, Standing, Waiting, InBlock, InHand, InException, Made, Location, at_base}
 use Rattle.nim_meaning.specs.Marks.{Member, Distinct}
 use Rattle.nim_meaning.specs.State.{Frame, World, frame_in, slot_at, slot_of, joined, with_frame, down_to}
-use Rattle.nim_meaning.specs.Deeds.{Leaves, changed, does}
+use Rattle.nim_meaning.specs.Deeds.{Leaves, changed}
 use Rattle.nim_meaning.specs.Lifted.{ends_at, slot_ends}
 use Rattle.nim_meaning.specs.Meaning.{place_ends}
 use Rattle.nim_meaning.specs.Places.{place_at}
@@ -22,14 +22,14 @@ use Rattle.holders.specs.Handing.{UnderWay}
 use Rattle.holders.specs.Running.{IsBelow, Region, IsOutside, Passes}
 use Rattle.holders.proofs.Sure.{sure_weaker}
 use Rattle.holders.proofs.Growing.{sure_grows}
-use Rattle.holders.proofs.Owning.{in_first, in_second, distinct_second, distinct_apart, from_full, has_stays}
+use Rattle.holders.proofs.Owning.{in_first, in_second, distinct_second, distinct_apart, has_stays}
 use Rattle.holders.proofs.Ending.{same_number, ends}
 use Rattle.holders.proofs.Moving.{clear_less}
 use Rattle.holders.proofs.Working.{all_so}
 use Rattle.holders.proofs.Separating.{none_part}
 use Rattle.holders.proofs.FrameChanges.{value_leaves, frame_more, name_more, active_more, base_below_level}
 use Rattle.holders.proofs.FrameChanges.{name_below_level, active_below_level}
-use Rattle.holders.proofs.Running.{passes_apace, Apace, territory_apace, under_apace}
+use Rattle.holders.proofs.Running.{no_less, passes_apace, Apace, territory_apace, under_apace}
 
 -- ---- the first cell goes
 
@@ -98,7 +98,8 @@ takes_up {f} {first} {places} {nodes} r node mine ms gs {world} t active =
     let level = r.level in
     let s = first_apart t in
     let now = value_leaves world level first places node nodes active in
-    let a : Apace (Waiting level node) world (changed (Leaves level node) world) = record { bases = now.elsewhere; heap = refl; hand = refl } in
+    let a : Apace (Waiting level node) world (changed (Leaves level node) world) =
+    record { bases = now.elsewhere; heap = no_less (taken_in world); hand = refl } in
     record {
       value = s.value;
       base = s.base;
@@ -146,7 +147,7 @@ ends_alone {f} {b} {os} {world} t no_block = by t.blocks t.cells t.distinct t.ot
         sure_weaker (ends_at f (at_base b)) (λ u after. Ended f (at_base b) w bs world after × (taken_in world ≤ taken_in after))
         (λ u after. EndsAlone f b os (bs ++ cs) world after) world
         (sure_grows (ends_at f (at_base b)) (λ u after. Ended f (at_base b) w bs world after) world
-        (ends f (at_base b) w v bs world c.at c.is (from_full c.has) c.distinct c.apart))
+        (ends f (at_base b) w v bs world c.at c.is c.has c.distinct c.apart))
         (λ u after e. record {
           territory = record {
             blocks = cs;

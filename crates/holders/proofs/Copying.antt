@@ -6,7 +6,7 @@ use Rattle.std.specs.Prelude.{◌*◌, slice_get, slice_set}
 use Rattle.std.proofs.lemmas.Option.{none-some}
 use Rattle.nim_types.specs.Forms.{Form, plain, reference, block, elements, row, parts, resource, wrapped, Forms, no_forms, forms, of_some, hooked, hooked_any}
 use Rattle.nim_types.specs.Forms.{size}
-use Rattle.nim_meaning.specs.Values.{Value, Number, Handle, Parts, bytes, characters, Fixed, Vacant, Values, More, nth, count, with_nth, part, put_part, Base}
+use Rattle.nim_meaning.specs.Values.{Value, Handle, Parts, bytes, characters, Fixed, Vacant, Values, More, nth, count, with_nth, part, put_part, Base}
 use Rattle.nim_meaning.specs.Values.{InBlock, Location, deeper}
 use Rattle.nim_meaning.specs.Values.{item_of}
 use Rattle.nim_meaning.specs.Values.{repeated, vacant, all_vacant}
@@ -33,7 +33,7 @@ use Rattle.holders.proofs.PathLemmas.{count_with, nth_with, nth_without, part_of
 use Rattle.holders.proofs.Ledger.{keeps_none, keeps_then, stored_counts, stored_live, taken_live}
 use Rattle.holders.proofs.Owning.{in_first, in_second, has_stays, each_stays, all_stays}
 use Rattle.holders.proofs.Owning.{has_none, plain_none, plain_anywhere}
-use Rattle.holders.proofs.Guards.{sure_reads, sure_sets}
+use Rattle.holders.proofs.Guards.{sure_reads, sure_takes, sure_sets}
 use Rattle.holders.proofs.Ending.{Row, row_of, same_number, at_part, part_is, may_deeper}
 
 pub record Copied (f : Form) (to : Location) (w : Value) (world after : World) : Type 0 where
@@ -270,7 +270,7 @@ module _ (to : Location) (w : Value) (world : World) (at : At world to w) (none 
 
 text_copies : Copies block
 text_copies to from w u v bs world at empty source h d own =
-    sure_reads (λ world v. costs 8 (fresh_text (text_of world v)) >>= sets to) (λ u after. Copied block to w world after) source h
+    sure_reads (λ world v. costs 8 (fresh_text (text_of world v)) >>= sets to) (λ u after. Copied block to w world after) source tt h
     (text_copied to w world at (λ k. ap (held_by k) empty) (text_of world v))
 
 -- ---- what is vacant
@@ -444,17 +444,17 @@ reaches_deeper i all here e le = subst (λ v. Reaches v (i ∷ [])) (sym e) (in_
 reaches_deeper i all (in_part less h) e le = in_part less (reaches_deeper i all h e le)
 reaches_deeper i all (a_character {t = t} {i = j} less) e le = absurd (no_row t j less e)
   where
-    is_number : Value → Type 0
-    is_number (Number z) = Unit {0}
-    is_number v = ⊥
+    is_no_row : Value → Type 0
+    is_no_row (Parts all) = ⊥
+    is_no_row v = Unit {0}
 
-    character_is : (t : List ℕ) (j : ℕ) → is_number (nth (characters t) j)
+    character_is : (t : List ℕ) (j : ℕ) → is_no_row (nth (characters t) j)
     character_is [] j = tt
     character_is (c ∷ t) zero = tt
     character_is (c ∷ t) (suc j) = character_is t j
 
     no_row : (t : List ℕ) (j : ℕ) → j < length t → nth (characters t) j ≡ Parts all → ⊥
-    no_row t j less e = subst is_number e (character_is t j)
+    no_row t j less e = subst is_no_row e (character_is t j)
 
 pub from_part : (i : ℕ) (s : Location) (u : Value) (src : Values) (world : World) → Source world s u src → i < count src → From world (deeper s i) u (nth src i)
 from_part i s u src world h le = record { base = h.base; there = reaches_deeper i src h.there h.is le; is = part_is i s u src h.is }
@@ -514,7 +514,7 @@ more_copies f fs copies all_copy i o s w u all src _ world r empty source (a_par
 bits_copied : (f : Form) (to from : Location) (w u v : Value) (bs : List ℕ) (world : World) → At world to w → HasNone (part w to.path) → From world from u v →
     hooked f ≡ false → Has world Constant f v bs → Sure (bits to from) (λ x after. Copied f to w world after) world
 bits_copied f to from w u v bs world at none source bare h =
-    sure_reads (λ world v. costs (bytes v) (sets to v)) (λ x after. Copied f to w world after) source h
+    sure_takes (λ world v. costs (bytes v) (sets to v)) (λ x after. Copied f to w world after) source tt h
     (sure_sets v (λ x after. Copied f to w world after) at
     (plain_copied to w world at none v f (has_none (plain_none bare h) h) (λ after. plain_anywhere after Full bare h)))
 
@@ -631,7 +631,7 @@ module _ (f : Form) (copies : Copies f) (to s : Location) (w u : Value) (all : V
 
 sequence_copies : (f : Form) → Copies f → Copies (elements f)
 sequence_copies f copies to from w u v bs world at empty source h d own =
-    sure_reads (λ world v. costs 8 (copied_elements f (walk copying f) to v from)) (λ x after. Copied (elements f) to w world after) source h
+    sure_reads (λ world v. costs 8 (copied_elements f (walk copying f) to v from)) (λ x after. Copied (elements f) to w world after) source tt h
     (by v bs source h own)
   where
     none : HasNone (part w to.path)

@@ -2,20 +2,19 @@
 use Rattle.std.proofs.Common.{◌≡◌, refl, sym, ap, subst, ◌∙◌, arith, ℕ, zero, suc, ◌+◌, ◌<◌, ◌≤◌, inl, inr, Bool, true, false, List, [], ◌∷◌, ◌++◌}
 use Rattle.std.proofs.Common.{Some, None}
 use Rattle.std.specs.Prelude.{◌*◌}
-use Rattle.std.proofs.lemmas.Bool.{false≢true}
 use Rattle.nim_types.specs.Forms.{Form, plain, reference, block, elements, row, parts, resource, wrapped, Forms, no_forms, forms, of_some, hooked, hooked_any}
 use Rattle.nim_types.specs.Forms.{size}
 use Rattle.nim_meaning.specs.Values.{Value, Handle, Parts, Fixed, Vacant, Values, nth, count, with_nth, part, put_part, Base, InBlock, Location, deeper}
-use Rattle.nim_meaning.specs.Values.{item_of, length_of, block_of}
-use Rattle.nim_meaning.specs.Values.{parts_of}
+use Rattle.nim_meaning.specs.Values.{nth_part}
+use Rattle.nim_meaning.specs.Values.{item_of, length_of, block_of, is_handle}
 use Rattle.nim_meaning.specs.Heap.{Block, block_at}
 use Rattle.nim_meaning.specs.Marks.{Member, Distinct}
 use Rattle.nim_meaning.specs.State.{World, whole_at, store, stored}
 use Rattle.nim_meaning.specs.Acts.{branch}
-use Rattle.nim_meaning.specs.Deeds.{Deed, freed, give, sets, frees, ◌>>◌}
+use Rattle.nim_meaning.specs.Deeds.{Deed, freed, give, costs, unless_gone, sets, frees, ◌>>◌}
 use Rattle.nim_meaning.specs.Lifted.{walk, walk_all, each_part, each_element, ending, left_vacant}
-use Rattle.holders.specs.Owned.{IsBase, in_row, in_text, HasPart, whole, MayStore, place_may, node_may, hand_may, block_may, At, HasNone, Gaps, Has}
-use Rattle.holders.specs.Owned.{no_text, a_text, gone_text, no_sequence, a_sequence, gone_sequence, a_row, gone_row, some_parts, gone_parts}
+use Rattle.holders.specs.Owned.{IsBase, in_row, in_text, HasPart, whole, MayStore, place_may, node_may, hand_may, block_may, At, HasNone, Full, Gaps, Has}
+use Rattle.holders.specs.Owned.{no_text, a_text, gone_text, no_sequence, a_sequence, gone_sequence, a_row, some_parts}
 use Rattle.holders.specs.Owned.{of_wrapped, HasEach, none_more, one_more, HasAll, no_parts, a_part, Apart, Elsewhere}
 use Rattle.holders.specs.Sure.{Sure}
 use Rattle.holders.specs.Holders.{held_by, held_in_contents}
@@ -28,11 +27,11 @@ use Rattle.holders.proofs.Sure.{sure_then, sure_weaker}
 use Rattle.holders.proofs.PathLemmas.{count_with, nth_with, nth_without, part_of_put, put_twice, has_put, has_deeper, part_deeper, put_deeper, put_same}
 use Rattle.holders.proofs.Ledger.{keeps_none, keeps_then, stored_counts, stored_live, freed_live}
 use Rattle.holders.proofs.Owning.{in_first, in_second, distinct_first, distinct_second}
-use Rattle.holders.proofs.Owning.{distinct_apart, Stay, has_stays, each_stays, all_stays, each_same, all_same, row_none, plain_none}
+use Rattle.holders.proofs.Owning.{distinct_apart, Stay, has_stays, each_stays, all_stays, each_same, all_same, row_none, plain_none, from_full}
 use Rattle.holders.proofs.Guards.{sure_sees, sure_sets, sure_frees}
 
 abbrev pub Ends : Form → Type 0
-Ends f = (l : Location) (w v : Value) (bs : List ℕ) (world : World) → At world l w → part w l.path ≡ v → Has world Gaps f v bs → Distinct bs →
+Ends f = (l : Location) (w v : Value) (bs : List ℕ) (world : World) → At world l w → part w l.path ≡ v → Has world Full f v bs → Distinct bs →
     Apart l.base bs → Sure (walk ending f l l) (λ u after. Ended f l w bs world after) world
 
 -- ---- a text or a sequence is vacant then
@@ -217,10 +216,10 @@ pub at_part : (i : ℕ) (o : Location) (w : Value) (all : Values) (world : World
 at_part i o w all world r le = record { base = r.base; part = has_deeper i all r.part_there r.is le; may = r.may i }
 
 pub part_is : (i : ℕ) (o : Location) (w : Value) (all : Values) → part w o.path ≡ Parts all → part w (o.path ++ i ∷ []) ≡ nth all i
-part_is i o w all e = part_deeper w o.path i ∙ ap (λ v. nth (parts_of v) i) e
+part_is i o w all e = part_deeper w o.path i ∙ ap (λ v. nth_part v i) e
 
 pub each_ends : (f : Form) → Ends f → (n i : ℕ) (o : Location) (w : Value) (all : Values) (bs : List ℕ) (world : World) → Row world o w all →
-    HasEach world Gaps f n i all bs → Distinct bs → Apart o.base bs →
+    HasEach world Full f n i all bs → Distinct bs → Apart o.base bs →
     Sure (each_at n (λ x. walk ending f x x) o i) (λ u after. Through (EachLeft f n i) i o w all bs world after) world
 each_ends f ends zero i o w all bs world r none_more d apart = through_none (EachLeft f 0 i) i o w all world r none_more
 each_ends f ends (suc n) i o w all _ world r (one_more {bs = bs} {cs = cs} le h more) d apart =
@@ -247,11 +246,11 @@ ended_vacant : (f : Form) (l : Location) (w : Value) (bs : List ℕ) (world afte
 ended_vacant f l w bs world after has v = record { now = Vacant; has = has; is = v.is; elsewhere = v.elsewhere; once = v.once }
 
 -- nothing is done
-ended_plain : (f : Form) (l : Location) (w v : Value) (bs : List ℕ) (world : World) → At world l w → part w l.path ≡ v → bs ≡ [] → Has world Gaps f v bs →
+ended_plain : (f : Form) (l : Location) (w v : Value) (bs : List ℕ) (world : World) → At world l w → part w l.path ≡ v → bs ≡ [] → Has world Full f v bs →
     Ended f l w bs world world
 ended_plain f l w v bs world at e none has = record {
   now = v;
-  has = subst (λ cs. Has world Gaps f v cs) none has;
+  has = subst (λ cs. Has world Gaps f v cs) none (from_full has);
   is = subst (λ x. IsBase world l.base x) (sym (ap (put_part w l.path) (sym e) ∙ put_same at.part)) at.base;
   elsewhere = λ b x h d e. h;
   once = keeps_none world;
@@ -264,15 +263,16 @@ may_deeper i hand_may = hand_may
 may_deeper i block_may = block_may
 
 -- a text or a sequence without a block
-none_left : (f : Form) (n bytes : ℕ) (l : Location) (w v : Value) (world : World) → At world l w → part w l.path ≡ v → HasNone v → block_of v ≡ None →
-    ((after : World) → Has after Gaps f Vacant []) → Sure (left_vacant bytes l v) (λ u after. Ended f l w [] world after) world
-none_left f n bytes l w v world at e none empty has =
-    subst (λ k. Sure (sets l Vacant >> frees k) (λ u after. Ended f l w [] world after) world) (sym empty)
+none_left : (f : Form) (n bytes : ℕ) (l : Location) (w v : Value) (world : World) → At world l w → part w l.path ≡ v → HasNone v → is_handle v ≡ true →
+    block_of v ≡ None → ((after : World) → Has after Gaps f Vacant []) → Sure (left_vacant bytes l v) (λ u after. Ended f l w [] world after) world
+none_left f n bytes l w v world at e none own empty has =
+    subst (λ b. Sure (unless_gone b (costs bytes (sets l Vacant >> frees (block_of v)))) (λ u after. Ended f l w [] world after) world) (sym own)
+    (subst (λ k. Sure (costs bytes (sets l Vacant >> frees k)) (λ u after. Ended f l w [] world after) world) (sym empty)
     (sure_then (sets l Vacant) (λ u. frees None) (λ u after. Ended f l w [] world after) (λ u after. Ended f l w [] world after) world
     (sure_sets Vacant (λ u after. Ended f l w [] world after) at
     (ended_vacant f l w [] world (vacant_world l w world at) (has (vacant_world l w world at))
     (none_vacated l w world at [] (λ k. ap (held_by k) e ∙ none k))))
-    (λ u after h. h))
+    (λ u after h. h)))
 
 -- and with one, in which nothing is any more
 block_left : (f : Form) (n k bytes : ℕ) (bs : List ℕ) (x : Value) (l : Location) (w : Value) (world : World) → At world l w →
@@ -290,25 +290,23 @@ block_left f n k bytes bs x l w world at e b none apart has =
 
 text_ends : Ends block
 text_ends l w v bs world at e h d apart =
-    sure_sees (λ world v. left_vacant (8 + length_of v) l v) (λ u after. Ended block l w bs world after) at e h (by v bs e h apart)
+    sure_sees (λ world v. left_vacant (8 + length_of v) l v) (λ u after. Ended block l w bs world after) at e tt h (by v bs e h apart)
   where
-    by : (v : Value) (bs : List ℕ) → part w l.path ≡ v → Has world Gaps block v bs → Apart l.base bs →
+    by : (v : Value) (bs : List ℕ) → part w l.path ≡ v → Has world Full block v bs → Apart l.base bs →
         Sure (left_vacant (8 + length_of v) l v) (λ u after. Ended block l w bs world after) world
-    by v _ e no_text apart = none_left block 0 8 l w v world at e (λ k. refl) refl (λ after. gone_text)
-    by v _ e gone_text apart = none_left block 0 8 l w v world at e (λ k. refl) refl (λ after. gone_text)
+    by v _ e no_text apart = none_left block 0 8 l w v world at e (λ k. refl) refl refl (λ after. gone_text)
     by _ _ e (a_text {n = n} {k = k} {t = t} same b) apart =
         block_left block n k (8 + n) [] (Fixed t) l w world at e b (λ j. refl) apart (λ after. gone_text)
 
 sequence_ends : (f : Form) → Ends f → Ends (elements f)
 sequence_ends f ends l w v bs world at e h d apart =
     sure_sees (λ world v. each_element (length_of v) (walk ending f) 0 v l v l >> left_vacant (8 + length_of v * size f) l v)
-    (λ u after. Ended (elements f) l w bs world after) at e h (by v bs e h d apart)
+    (λ u after. Ended (elements f) l w bs world after) at e tt h (by v bs e h d apart)
   where
-    by : (v : Value) (bs : List ℕ) → part w l.path ≡ v → Has world Gaps (elements f) v bs → Distinct bs → Apart l.base bs →
+    by : (v : Value) (bs : List ℕ) → part w l.path ≡ v → Has world Full (elements f) v bs → Distinct bs → Apart l.base bs →
         Sure (each_element (length_of v) (walk ending f) 0 v l v l >> left_vacant (8 + length_of v * size f) l v)
         (λ u after. Ended (elements f) l w bs world after) world
-    by v _ e no_sequence d apart = none_left (elements f) 0 8 l w v world at e (λ k. refl) refl (λ after. gone_sequence)
-    by v _ e gone_sequence d apart = none_left (elements f) 0 8 l w v world at e (λ k. refl) refl (λ after. gone_sequence)
+    by v _ e no_sequence d apart = none_left (elements f) 0 8 l w v world at e (λ k. refl) refl refl (λ after. gone_sequence)
     by _ _ e (a_sequence {k = k} {all = all} {bs = cs} b each) d apart =
         let o = row_of l k in
         let rest = left_vacant (8 + count all * size f) l (Handle (count all) (Some k)) in
@@ -343,10 +341,9 @@ sequence_ends f ends l w v bs world at e h d apart =
 row_ends : (n : ℕ) (f : Form) → Ends f → Ends (row n f)
 row_ends n f ends l w v bs world at e h d apart = by (of_some n (hooked f)) refl v bs e h d apart
   where
-    by : (b : Bool) → of_some n (hooked f) ≡ b → (v : Value) (bs : List ℕ) → part w l.path ≡ v → Has world Gaps (row n f) v bs → Distinct bs →
+    by : (b : Bool) → of_some n (hooked f) ≡ b → (v : Value) (bs : List ℕ) → part w l.path ≡ v → Has world Full (row n f) v bs → Distinct bs →
         Apart l.base bs → Sure (branch b (each_part n (walk ending f) 0 l l) (give tt)) (λ u after. Ended (row n f) l w bs world after) world
     by false is v bs e h d apart = ended_plain (row n f) l w v bs world at e (plain_none is h) h
-    by true is _ _ e (gone_row bare) d apart = absurd (false≢true (sym bare ∙ is))
     by true is _ _ e (a_row {all = all} {bs = bs} same each) d apart =
         subst (λ deed. Sure deed (λ u after. Ended (row n f) l w bs world after) world) (sym (each_part_is n (walk ending f) 0 l))
         (sure_weaker (each_at n (λ x. walk ending f x x) l 0) (λ u after. Through (EachLeft f n 0) 0 l w all bs world after)
@@ -361,16 +358,15 @@ row_ends n f ends l w v bs world at e h d apart = by (of_some n (hooked f)) refl
         }))
 
 abbrev AllEnds : Forms → Type 0
-AllEnds fs = (i : ℕ) (o : Location) (w : Value) (all : Values) (bs : List ℕ) (world : World) → Row world o w all → HasAll world Gaps fs i all bs → Distinct bs →
+AllEnds fs = (i : ℕ) (o : Location) (w : Value) (all : Values) (bs : List ℕ) (world : World) → Row world o w all → HasAll world Full fs i all bs → Distinct bs →
     Apart o.base bs → Sure (walk_all ending fs i o o) (λ u after. Through (AllLeft fs i) i o w all bs world after) world
 
 parts_end : (fs : Forms) → AllEnds fs → Ends (parts fs)
 parts_end fs ends l w v bs world at e h d apart = by (hooked_any fs) refl v bs e h d apart
   where
-    by : (b : Bool) → hooked_any fs ≡ b → (v : Value) (bs : List ℕ) → part w l.path ≡ v → Has world Gaps (parts fs) v bs → Distinct bs → Apart l.base bs →
+    by : (b : Bool) → hooked_any fs ≡ b → (v : Value) (bs : List ℕ) → part w l.path ≡ v → Has world Full (parts fs) v bs → Distinct bs → Apart l.base bs →
         Sure (branch b (walk_all ending fs 0 l l) (give tt)) (λ u after. Ended (parts fs) l w bs world after) world
     by false is v bs e h d apart = ended_plain (parts fs) l w v bs world at e (plain_none is h) h
-    by true is _ _ e (gone_parts bare) d apart = absurd (false≢true (sym bare ∙ is))
     by true is _ _ e (some_parts {all = all} {bs = bs} h) d apart =
         sure_weaker (walk_all ending fs 0 l l) (λ u after. Through (AllLeft fs 0) 0 l w all bs world after)
         (λ u after. Ended (parts fs) l w bs world after) world

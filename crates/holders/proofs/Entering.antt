@@ -1,5 +1,5 @@
 -- A call begins with cells for what was handed over to it.
-use Rattle.std.proofs.Common.{◌≡◌, sym, ap, subst, arith, ℕ, suc, ◌+◌, ◌-◌, ◌≤◌, inl, inr, ◌⊎◌, List, [], ◌∷◌, ◌++◌, length, Some}
+use Rattle.std.proofs.Common.{◌≡◌, sym, ap, subst, arith, ℕ, suc, ◌-◌, ◌≤◌, inl, inr, ◌⊎◌, List, [], ◌∷◌, ◌++◌, length, Some}
 use Rattle.std.specs.Prelude.{slice_get}
 use Rattle.nim_types.specs.Forms.{Form}
 use Rattle.nim_meaning.specs.Values.{Value, Slot, Holds, Stands, Lends, Base, Standing, InBlock, at_base}

@@ -6,8 +6,9 @@ use Rattle.std.proofs.lemmas.Bool.{false≢true, ltb-true}
 use Rattle.nim_types.specs.Forms.{Form, plain, block, parts, Forms}
 use Rattle.nim_program.specs.Ints.{inside}
 use Rattle.nim_program.specs.Traps.{IndexOutOfBounds}
-use Rattle.nim_meaning.specs.Values.{Value, Number, Fixed, characters, parts_of, Values, nth, count, part, Standing, Made, Location, at_base}
+use Rattle.nim_meaning.specs.Values.{Value, Fixed, characters, Values, nth, count, part, Standing, Made, Location, at_base}
 use Rattle.nim_meaning.specs.Values.{length_of, item_of, deeper}
+use Rattle.nim_meaning.specs.Values.{nth_part}
 use Rattle.nim_meaning.specs.State.{Frame, World, State, load, frame_in, joined, slot_of}
 use Rattle.nim_meaning.specs.Acts.{branch}
 use Rattle.nim_meaning.specs.Deeds.{carry, stop}
@@ -79,27 +80,27 @@ not_none e = subst some e tt
 
 -- ---- characters
 
-pub character_has : {world : World} {x : Extent} (t : List ℕ) (i : ℕ) → Has world x plain (nth (characters t) i) []
-character_has [] i = a_number
-character_has (c ∷ t) zero = a_number
-character_has (c ∷ t) (suc i) = character_has t i
+pub character_has : {world : World} {x : Extent} (t : List ℕ) (i : ℕ) → i < length t → Has world x plain (nth (characters t) i) []
+character_has [] i less = absurd (omega (arith, less))
+character_has (c ∷ t) zero less = a_number
+character_has (c ∷ t) (suc i) less = character_has t i (omega (arith, less))
 
 character_of : {u : Value} {path : List ℕ} (t : List ℕ) (i : ℕ) → i < length t → Reaches u path → part u path ≡ Fixed t → Reaches u (path ++ i ∷ [])
 character_of t i le here e = subst (λ v. Reaches v (i ∷ [])) (sym e) (reaches_character le)
 character_of t i le (in_part less h) e = in_part less (character_of t i le h e)
 character_of t i le (reaches_character {t = s} {i = j} less) e = absurd (no_text_there s j e)
   where
-    is_number : Value → Type 0
-    is_number (Number z) = Unit {0}
-    is_number v = ⊥
+    is_no_text : Value → Type 0
+    is_no_text (Fixed t) = ⊥
+    is_no_text v = Unit {0}
 
-    number_there : (s : List ℕ) (j : ℕ) → is_number (nth (characters s) j)
+    number_there : (s : List ℕ) (j : ℕ) → is_no_text (nth (characters s) j)
     number_there [] j = tt
     number_there (c ∷ s) zero = tt
     number_there (c ∷ s) (suc j) = number_there s j
 
     no_text_there : (s : List ℕ) (j : ℕ) → nth (characters s) j ≡ Fixed t → ⊥
-    no_text_there s j e = subst is_number e (number_there s j)
+    no_text_there s j e = subst is_no_text e (number_there s j)
 
 -- ---- further on a way
 
@@ -204,8 +205,8 @@ module _ {os : List Owner} {world : World} where
       to_be_read made (record {
         base = from.base;
         there = character_of t i le from.there from.is;
-        is = part_deeper u m.path i ∙ ap (λ v. nth (parts_of v) i) from.is;
-      }) (character_has t i)
+        is = part_deeper u m.path i ∙ ap (λ v. nth_part v i) from.is;
+      }) (character_has t i le)
 
   items_read : {root : ℕ} {steps : List Step} {f g : Form} {v u constant : Value} {bs : List ℕ} (m : Location) → ItemForm f g → m.base ≡ Made constant →
       From world m u v →
@@ -225,12 +226,12 @@ module _ {os : List Owner} {world : World} where
   item_found {may} {steps = steps} {f = f} {g = g} t m z item (in_cell c goes) =
       let own = chain_owns t c in
       sure_reads (λ world v. branch (inside z (length_of v)) (deeds.give (item_of v m (unsigned_abs z))) (stop IndexOutOfBounds))
-      (λ l after. (after ≡ world) × Found os world may (number c.at) (steps ++ to_element ∷ []) g l) (read_at own.cell.at own.cell.is) own.cell.has
+      (λ l after. (after ≡ world) × Found os world may (number c.at) (steps ++ to_element ∷ []) g l) (read_at own.cell.at own.cell.is) tt own.cell.has
       (item_inside m z own.value (items_of t m item c goes))
   item_found t m z item (a_character j c e le) = elim item [ ]
   item_found {root = root} {steps = steps} {f = f} {g = g} t m z item (to_be_read {v = v} made from h) =
       sure_reads (λ world v. branch (inside z (length_of v)) (deeds.give (item_of v m (unsigned_abs z))) (stop IndexOutOfBounds))
-      (λ l after. (after ≡ world) × Found os world false root (steps ++ to_element ∷ []) g l) from h (item_inside m z v (items_read m item made from h refl))
+      (λ l after. (after ≡ world) × Found os world false root (steps ++ to_element ∷ []) g l) from tt h (item_inside m z v (items_read m item made from h refl))
 
 -- ---- roots
 

@@ -3,7 +3,7 @@ use Rattle.std.proofs.Common.{◌≡◌, refl, sym, ap, subst, ◌∙◌, ℕ, z
 use Rattle.std.specs.Prelude.{ℤ}
 use Rattle.std.proofs.lemmas.Bool.{false≢true}
 use Rattle.std.proofs.lemmas.Option.{none-some, same_Some}
-use Rattle.nim_types.specs.Types.{Ty, int, bool, char, text, sequence, array, tuple, parameter, enum, object, distinct, ref, exception, Tys, types}
+use Rattle.nim_types.specs.Types.{Ty, char, enum, object, distinct, exception, Tys}
 use Rattle.nim_types.specs.Types.{Fact, members, fields, base, below, Facts, fact_of}
 use Rattle.nim_types.specs.Forms.{Form, plain, block, elements, row, parts, Forms, forms, form_of}
 use Rattle.nim_types.specs.Forms.{of_int, of_bool, of_char, of_text, of_sequence, of_any_sequence, of_array, of_tuple, of_parameter, of_enum}

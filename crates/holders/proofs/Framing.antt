@@ -1,6 +1,6 @@
 -- A part of a part: what else the whole has stays as it is meanwhile.
-use Rattle.std.proofs.Common.{◌≡◌, true, refl, sym, ap, subst, ◌∙◌, arith, ℕ, ◌+◌, ◌<◌, ◌≤◌, inl, inr, ◌⊎◌, List, [], ◌∷◌, ◌++◌}
-use Rattle.nim_meaning.specs.Values.{part, InBlock}
+use Rattle.std.proofs.Common.{◌≡◌, true, refl, sym, ap, subst, ◌∙◌, arith, ℕ, ◌<◌, ◌≤◌, inl, inr, ◌⊎◌, List, [], ◌∷◌, ◌++◌}
+use Rattle.nim_meaning.specs.Values.{InBlock}
 use Rattle.nim_meaning.specs.Marks.{Member, Distinct}
 use Rattle.nim_meaning.specs.State.{World}
 use Rattle.holders.specs.Owned.{Apart, Active}

@@ -1,5 +1,5 @@
 -- The temporaries of a group end, and the scope of a place is left.
-use Rattle.std.proofs.Common.{◌≡◌, refl, sym, ap, subst, ◌∙◌, arith, ℕ, ◌+◌, ◌<◌, ◌≤◌, inl, inr, ◌⊎◌, List, [], ◌∷◌, ◌++◌, Option, Some, None, Bool, true}
+use Rattle.std.proofs.Common.{◌≡◌, refl, sym, ap, subst, ◌∙◌, arith, ℕ, ◌<◌, ◌≤◌, inl, inr, ◌⊎◌, List, [], ◌∷◌, ◌++◌, Option, Some, None, Bool, true}
 use Rattle.std.proofs.Common.{false}
 use Rattle.std.proofs.lemmas.Option.{none-some}
 use Rattle.std.specs.Prelude.{nat_eq, if◌then◌else◌}
@@ -28,7 +28,7 @@ use Rattle.holders.specs.Groups.{without_node, without_waits, Ends, no_waits, on
 use Rattle.holders.proofs.Sure.{sure_then}
 use Rattle.holders.proofs.FrameChanges as frames
 use Rattle.holders.proofs.FrameChanges.{value_leaves}
-use Rattle.holders.proofs.Running.{passes_then, passes_apace, Apace, territory_apace}
+use Rattle.holders.proofs.Running.{no_less, passes_then, passes_apace, Apace, territory_apace}
 use Rattle.holders.proofs.Working.{works_front, among_first, all_at, all_without}
 use Rattle.holders.proofs.Calling.{first_apart, ends_alone, EndsAlone, ended_passes}
 use Rattle.holders.proofs.Staging.{stage_over, stage_lets_go}
@@ -93,7 +93,8 @@ module _ (r : Region) (gs : List Owner) (first places : ℕ) (old : List ℕ) (s
       Stage r ms gs first places (without_node nodes node) old start (changed (Leaves r.level node) now)
   leaves {ms} {nodes} {now} node mine off s =
       let change = value_leaves now r.level first places node nodes s.active in
-      let a : Apace (Waiting r.level node) now (changed (Leaves r.level node) now) = record { bases = change.elsewhere; heap = refl; hand = refl } in
+      let a : Apace (Waiting r.level node) now (changed (Leaves r.level node) now) =
+      record { bases = change.elsewhere; heap = no_less (taken_in now); hand = refl } in
       record {
         runs = record {
           territory = territory_apace a (no_node node) off s.runs.territory;
@@ -148,7 +149,8 @@ module _ (r : Region) (gs : List Owner) (first places : ℕ) (old : List ℕ) (s
       leaves_none : temporary_at now r.level node ≡ None → Stage r ms gs first places (without_node nodes node) old start (changed (Leaves r.level node) now)
       leaves_none off =
           let change = value_leaves now r.level first places node nodes s.active in
-          let a : Apace (Waiting r.level node) now (changed (Leaves r.level node) now) = record { bases = change.elsewhere; heap = refl; hand = refl } in
+          let a : Apace (Waiting r.level node) now (changed (Leaves r.level node) now) =
+          record { bases = change.elsewhere; heap = no_less (taken_in now); hand = refl } in
           record {
             runs = record {
               territory = territory_there a off (ms ++ gs) s.runs.territory;

@@ -1,18 +1,19 @@
 -- What has one holder is there: no guard is met where values have their forms.
-use Rattle.std.proofs.Common.{◌≡◌, refl, sym, ap, ap₂, subst, ◌∙◌, ℕ, Bool, true, ◌&&◌, List, [], ◌∷◌, length, Some}
+use Rattle.std.proofs.Common.{◌≡◌, refl, sym, ap, ap₂, subst, ◌∙◌, arith, ℕ, suc, ◌+◌, ◌<◌, ◌≤◌, Bool, true, ◌&&◌, List, [], ◌∷◌, length, Some, inl, inr}
+use Rattle.std.proofs.Common.{◌⊎◌}
 use Rattle.std.specs.Prelude.{slice_get}
 use Rattle.std.proofs.lemmas.Bool.{eq-eqb, lt-ltb}
-use Rattle.nim_types.specs.Forms.{Form}
+use Rattle.nim_types.specs.Forms.{Form, Forms}
 use Rattle.nim_meaning.specs.Heap.{Contents, Block, block_at}
-use Rattle.nim_meaning.specs.Values.{Value, Base, InBlock, Location, count, part}
-use Rattle.nim_meaning.specs.State.{World, load, is_so_in, has_as_many, has_item, is_live, is_whole, leads_from, is_there}
-use Rattle.nim_meaning.specs.Deeds.{Stores, Frees, Refills, Deed, changed, does, sees, sets, frees, refills, unless_gone}
+use Rattle.nim_meaning.specs.Values.{Value, Values, Nil, More, Base, InBlock, Location, count, nth, part, is_full, all_full}
+use Rattle.nim_meaning.specs.State.{World, load, is_so_in, has_as_many, has_item, is_live, is_whole, leads_from, is_there, is_seen, is_full_at}
+use Rattle.nim_meaning.specs.Deeds.{Stores, Frees, Refills, Deed, changed, does, sees, takes, sets, frees, refills, unless_gone}
 use Rattle.holders.specs.Owned.{IsBase, at_place, at_node, in_hand, in_row, in_text, in_program, HasPart, whole, row_part, Reaches, here, in_part, a_character}
-use Rattle.holders.specs.Owned.{At, From, Extent, Has}
+use Rattle.holders.specs.Owned.{At, From, Extent, Gaps, Has, HasEach, none_more, one_more, HasAll, no_parts, a_part}
 use Rattle.holders.specs.Owned.{a_number, no_number, no_text, a_text, gone_text, constant_text, no_sequence, a_sequence, gone_sequence, constant_sequence}
 use Rattle.holders.specs.Owned.{a_row, gone_row, some_parts, gone_parts, of_wrapped}
 use Rattle.holders.specs.Sure.{Sure}
-use Rattle.holders.proofs.Bases.{block_position, loaded}
+use Rattle.holders.proofs.Bases.{block_position, loaded, same_or_not}
 
 -- a block that is there, with contents of which this is so
 so_there : (world : World) (k : ℕ) (block : Block) (asked : Contents → Bool) → block_at world.heap k ≡ Some block → asked block.contents ≡ true →
@@ -45,42 +46,107 @@ part_is_there {world} l {w} base there = by l.base w l.path base there
 pub at_is_there : {world : World} {l : Location} {w : Value} → At world l w → is_there world l ≡ true
 at_is_there {l = l} at = part_is_there l at.base (reached at.part)
 
--- a value of a form has its blocks
-pub has_whole : {world : World} {x : Extent} {f : Form} {v : Value} {bs : List ℕ} → Has world x f v bs → is_whole world v ≡ true
-has_whole a_number = refl
-has_whole no_number = refl
-has_whole no_text = refl
-has_whole {world} (a_text {n = n} {k = k} {t = t} same (in_text block e f)) =
+-- it has no gaps
+abbrev pub IsWhole : Extent → Type 0
+IsWhole Gaps = ⊥
+IsWhole x = Unit {0}
+
+-- a value of a form without gaps has its blocks
+pub has_whole : {world : World} {x : Extent} {f : Form} {v : Value} {bs : List ℕ} → IsWhole x → Has world x f v bs → is_whole world v ≡ true
+has_whole i a_number = refl
+has_whole i no_number = absurd i
+has_whole i no_text = refl
+has_whole {world} i (a_text {n = n} {k = k} {t = t} same (in_text block e f)) =
     so_there world k block (has_as_many n) e (ap (has_as_many n) f ∙ eq-eqb (length t) n same)
-has_whole gone_text = refl
-has_whole constant_text = refl
-has_whole no_sequence = refl
-has_whole {world} (a_sequence {k = k} {all = all} (in_row block e f) each) =
+has_whole i gone_text = absurd i
+has_whole i constant_text = refl
+has_whole i no_sequence = refl
+has_whole {world} i (a_sequence {k = k} {all = all} (in_row block e f) each) =
     so_there world k block (has_as_many (count all)) e (ap (has_as_many (count all)) f ∙ eq-eqb (count all) (count all) refl)
-has_whole gone_sequence = refl
-has_whole (constant_sequence each) = refl
-has_whole (a_row n each) = refl
-has_whole (gone_row e) = refl
-has_whole (some_parts all) = refl
-has_whole (gone_parts e) = refl
-has_whole (of_wrapped h) = has_whole h
+has_whole i gone_sequence = absurd i
+has_whole i (constant_sequence each) = refl
+has_whole i (a_row n each) = refl
+has_whole i (gone_row e) = absurd i
+has_whole i (some_parts all) = refl
+has_whole i (gone_parts e) = absurd i
+has_whole i (of_wrapped h) = has_whole i h
+
+-- where each part is full, all are
+parts_full : (all : Values) → ((j : ℕ) → j < count all → is_full (nth all j) ≡ true) → all_full all ≡ true
+parts_full Nil h = refl
+parts_full (More v all) h = ap₂ (λ a b. a && b) (h 0 (omega arith)) (parts_full all (λ j less. h (suc j) (omega (arith, less))))
+
+-- from one part on
+later_full : (all : Values) (i j : ℕ) → is_full (nth all i) ≡ true → i ≤ j → (suc i ≤ j → is_full (nth all j) ≡ true) → is_full (nth all j) ≡ true
+later_full all i j first le rest = by (same_or_not j i)
+  where
+    by : (j ≡ i) ⊎ (j ≡ i → ⊥) → is_full (nth all j) ≡ true
+    by (inl same) = ap (λ n. is_full (nth all n)) same ∙ first
+    by (inr other) = rest (omega (arith, le, other))
+
+mutual
+  -- and nothing of it is vacant
+  pub has_full : {world : World} {x : Extent} {f : Form} {v : Value} {bs : List ℕ} → IsWhole x → Has world x f v bs → is_full v ≡ true
+  has_full i a_number = refl
+  has_full i no_number = absurd i
+  has_full i no_text = refl
+  has_full i (a_text same b) = refl
+  has_full i gone_text = absurd i
+  has_full i constant_text = refl
+  has_full i no_sequence = refl
+  has_full i (a_sequence b each) = refl
+  has_full i gone_sequence = absurd i
+  has_full i (constant_sequence {all = all} each) = parts_full all (λ j less. each_full i each j (omega arith) (omega (arith, less)))
+  has_full i (a_row {all = all} same each) = parts_full all (λ j less. each_full i each j (omega arith) (omega (arith, less, same)))
+  has_full i (gone_row e) = absurd i
+  has_full i (some_parts {all = all} parts) = parts_full all (λ j less. every_full i parts j (omega arith) less)
+  has_full i (gone_parts e) = absurd i
+  has_full i (of_wrapped h) = has_full i h
+
+  each_full : {world : World} {x : Extent} {f : Form} {n k : ℕ} {all : Values} {bs : List ℕ} → IsWhole x → HasEach world x f n k all bs → (j : ℕ) → k ≤ j →
+      j < k + n → is_full (nth all j) ≡ true
+  each_full i none_more j le less = absurd (omega (arith, le, less))
+  each_full i (one_more {i = k} {all = all} there h more) j le less =
+      later_full all k j (has_full i h) le (λ later. each_full i more j later (omega (arith, less)))
+
+  every_full : {world : World} {x : Extent} {fs : Forms} {k : ℕ} {all : Values} {bs : List ℕ} → IsWhole x → HasAll world x fs k all bs → (j : ℕ) → k ≤ j →
+      j < count all → is_full (nth all j) ≡ true
+  every_full i (no_parts same) j le less = absurd (omega (arith, le, less, same))
+  every_full i (a_part {i = k} {all = all} there h more) j le less =
+      later_full all k j (has_full i h) le (λ later. every_full i more j later less)
 
 -- ---- deeds
 
+pub seen_from : {world : World} {l : Location} {u v : Value} {x : Extent} {f : Form} {bs : List ℕ} → From world l u v → IsWhole x → Has world x f v bs →
+    is_seen world l ≡ true
+seen_from {world} {l} {u} from fine has =
+    ap₂ (λ a b. a && b) (part_is_there l from.base from.there) (ap (is_whole world) (loaded world l u from.base ∙ from.is) ∙ has_whole fine has)
+
 -- what is read is there
 pub sure_reads : {A : Type 0} {world : World} {l : Location} {u v : Value} {x : Extent} {f : Form} {bs : List ℕ} (go : World → Value → Deed A)
-    (P : A → World → Type 0) → From world l u v → Has world x f v bs → Sure (go world v) P world → Sure (sees l go) P world
-sure_reads {A} {world} {l} {u} go P from has h =
-    let e = loaded world l u from.base ∙ from.is in
-    let there = ap₂ (λ a b. a && b) (part_is_there l from.base from.there) (ap (is_whole world) e ∙ has_whole has) in
-    subst (λ b. Sure (unless_gone b (go world (load world l))) P world) (sym there) (subst (λ v. Sure (go world v) P world) (sym e) h)
+    (P : A → World → Type 0) → From world l u v → IsWhole x → Has world x f v bs → Sure (go world v) P world → Sure (sees l go) P world
+sure_reads {A} {world} {l} {u} go P from fine has h =
+    subst (λ b. Sure (unless_gone b (go world (load world l))) P world) (sym (seen_from from fine has))
+    (subst (λ v. Sure (go world v) P world) (sym (loaded world l u from.base ∙ from.is)) h)
+
+pub full_from : {world : World} {l : Location} {u v : Value} {x : Extent} {f : Form} {bs : List ℕ} → From world l u v → IsWhole x → Has world x f v bs →
+    is_full_at world l ≡ true
+full_from {world} {l} {u} from fine has =
+    ap₂ (λ a b. a && b) (seen_from from fine has) (ap is_full (loaded world l u from.base ∙ from.is) ∙ has_full fine has)
+
+-- and so is what is taken, all of it
+pub sure_takes : {A : Type 0} {world : World} {l : Location} {u v : Value} {x : Extent} {f : Form} {bs : List ℕ} (go : World → Value → Deed A)
+    (P : A → World → Type 0) → From world l u v → IsWhole x → Has world x f v bs → Sure (go world v) P world → Sure (takes l go) P world
+sure_takes {A} {world} {l} {u} go P from fine has h =
+    subst (λ b. Sure (unless_gone b (go world (load world l))) P world) (sym (full_from from fine has))
+    (subst (λ v. Sure (go world v) P world) (sym (loaded world l u from.base ∙ from.is)) h)
 
 pub read_at : {world : World} {l : Location} {w v : Value} → At world l w → part w l.path ≡ v → From world l w v
 read_at at e = record { base = at.base; there = reached at.part; is = e }
 
 pub sure_sees : {A : Type 0} {world : World} {l : Location} {w v : Value} {x : Extent} {f : Form} {bs : List ℕ} (go : World → Value → Deed A)
-    (P : A → World → Type 0) → At world l w → part w l.path ≡ v → Has world x f v bs → Sure (go world v) P world → Sure (sees l go) P world
-sure_sees go P at e has h = sure_reads go P (read_at at e) has h
+    (P : A → World → Type 0) → At world l w → part w l.path ≡ v → IsWhole x → Has world x f v bs → Sure (go world v) P world → Sure (sees l go) P world
+sure_sees go P at e fine has h = sure_reads go P (read_at at e) fine has h
 
 pub sure_sets : {world : World} {l : Location} {w : Value} (v : Value) (P : Unit {0} → World → Type 0) → At world l w →
     P tt (changed (Stores l v) world) → Sure (sets l v) P world

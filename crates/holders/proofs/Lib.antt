@@ -43,3 +43,8 @@ mod Operations
 mod FormsOfTypes
 mod Scenes
 mod Entering
+mod Statements
+mod PlaceCopies
+mod Results
+mod Reading
+mod Making

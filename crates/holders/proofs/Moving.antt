@@ -1,5 +1,5 @@
 -- What becomes of one cell leaves the others as they are.
-use Rattle.std.proofs.Common.{◌≡◌, refl, sym, ap, subst, ◌∙◌, arith, ℕ, ◌+◌, ◌<◌, ◌≤◌, inl, inr, ◌⊎◌, List, [], ◌∷◌, ◌++◌}
+use Rattle.std.proofs.Common.{◌≡◌, refl, sym, ap, subst, ◌∙◌, arith, ℕ, ◌<◌, ◌≤◌, inl, inr, ◌⊎◌, List, [], ◌∷◌, ◌++◌}
 use Rattle.nim_types.specs.Forms.{Form}
 use Rattle.nim_meaning.specs.Values.{Value, part, put_part, Base, InBlock, Location}
 use Rattle.nim_meaning.specs.Marks.{Member, Distinct}

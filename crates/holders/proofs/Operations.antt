@@ -1,5 +1,5 @@
 -- The rows of operations on values with blocks, by the forms of their operands.
-use Rattle.std.proofs.Common.{◌≡◌, refl, sym, ap, ap₂, subst, ◌∙◌, ℕ, zero, suc, List, [], ◌∷◌, length, Bool, true, false, ◌&&◌}
+use Rattle.std.proofs.Common.{◌≡◌, refl, sym, ap, ap₂, subst, ◌∙◌, ℕ, zero, suc, List, [], ◌∷◌, Bool, true, false, ◌&&◌}
 use Rattle.std.specs.Prelude.{ℤ, pos, int_lt, unsigned_abs, ◌*◌, ◌-◌}
 use Rattle.std.proofs.lemmas.Bool.{false≢true}
 use Rattle.nim_types.specs.Forms.{Form, plain, block, elements, hooked, size}
@@ -51,11 +51,11 @@ counted_sure z act P world h = by (int_lt z (pos 0))
 pub seen_read : {f : Form} {l : Location} {world : World} → Read f l world → is_seen world l ≡ true
 seen_read {l = l} {world = world} r =
     ap₂ (λ a b. a && b) (part_is_there l r.from.base r.from.there)
-    (ap (is_whole world) (loaded world l r.stands_in r.from.base ∙ r.from.is) ∙ has_whole r.has)
+    (ap (is_whole world) (loaded world l r.stands_in r.from.base ∙ r.from.is) ∙ has_whole tt r.has)
 
 -- a value that is handed over has its blocks
-pub seen_given : {x : _} {f : Form} {v : Value} {bs : List ℕ} {world : World} → Has world x f v bs → is_seen world (at_base (Made v)) ≡ true
-seen_given h = has_whole h
+pub seen_given : {f : Form} {v : Value} {bs : List ℕ} {world : World} → Has world Full f v bs → is_seen world (at_base (Made v)) ≡ true
+seen_given h = has_whole tt h
 
 pub all_seen_none : (world : World) → are_seen world [] ≡ true
 all_seen_none world = refl
@@ -82,7 +82,7 @@ module _ {os : List Owner} {world : World} (t : Territory os world) where
 
   -- how long it is
   pub measures : {f : Form} {l : Location} → Read f l world → (P : ℕ → World → Type 0) → ((n : ℕ) → P n world) → Sure (length_at l) P world
-  measures r P h = sure_reads (λ world v. give (length_of v)) P r.from r.has (h (length_of r.value))
+  measures r P h = sure_reads (λ world v. give (length_of v)) P r.from tt r.has (h (length_of r.value))
 
   -- ---- sequences
 

@@ -1,6 +1,6 @@
 -- Parts of parts.
 use Rattle.std.proofs.Common.{◌≡◌, refl, sym, ap, subst, ◌∙◌, arith, ℕ, zero, suc, ◌<◌, List, [], ◌∷◌, ◌++◌}
-use Rattle.nim_meaning.specs.Values.{Value, Parts, Values, Nil, More, nth, parts_of, count, with_nth, with_part, part, put_part}
+use Rattle.nim_meaning.specs.Values.{Value, Parts, Values, Nil, More, nth, count, with_nth, with_part, part, put_part, nth_part}
 use Rattle.holders.specs.Owned.{HasPart, whole, row_part, Reaches, in_part}
 use Rattle.holders.specs.Beside.{PartWays, further_on, here_apart}
 
@@ -50,9 +50,9 @@ pub has_deeper : {w : Value} {path : List ℕ} (i : ℕ) (all : Values) → HasP
 has_deeper i all whole e le = subst (λ v. HasPart v (i ∷ [])) (sym e) (row_part le whole)
 has_deeper i all (row_part le h) e less = row_part le (has_deeper i all h e less)
 
-pub part_deeper : (w : Value) (path : List ℕ) (i : ℕ) → part w (path ++ i ∷ []) ≡ nth (parts_of (part w path)) i
+pub part_deeper : (w : Value) (path : List ℕ) (i : ℕ) → part w (path ++ i ∷ []) ≡ nth_part (part w path) i
 part_deeper w [] i = refl
-part_deeper w (j ∷ path) i = part_deeper (nth (parts_of w) j) path i
+part_deeper w (j ∷ path) i = part_deeper (nth_part w j) path i
 
 pub put_deeper : {w : Value} {path : List ℕ} (i : ℕ) (all : Values) (x : Value) → HasPart w path → part w path ≡ Parts all →
     put_part w (path ++ i ∷ []) x ≡ put_part w path (Parts (with_nth all i x))

@@ -10,7 +10,7 @@ use Rattle.nim_meaning.specs.Heap.{Contents, Characters, Block}
 use Rattle.nim_meaning.specs.Marks.{Distinct}
 use Rattle.nim_meaning.specs.State.{World, whole_at, stored, store, with_value_in, new_contents}
 use Rattle.nim_meaning.specs.Heap.{with_contents}
-use Rattle.nim_meaning.specs.Deeds.{Deed, Stores, costs, sets, give, does, unless_gone, ◌>>◌, ◌>>=◌}
+use Rattle.nim_meaning.specs.Deeds.{Deed, Stores, costs, sets, give, does, unless_gone, ◌>>=◌}
 use Rattle.nim_meaning.specs.Places.{put, fetched}
 use Rattle.nim_meaning.specs.Table.{updated}
 use Rattle.holders.specs.Owned.{IsBase, in_text, At, a_character as reaches_character, Full, Constant, Has, no_text, a_text, Apart, Cell}
@@ -25,7 +25,7 @@ use Rattle.holders.proofs.Staying.{stored_stays}
 use Rattle.holders.proofs.PathLemmas.{put_same}
 use Rattle.holders.proofs.Copying.{stored_length, length_set}
 use Rattle.holders.proofs.Owning.{plain_anywhere, from_full}
-use Rattle.holders.proofs.Guards.{sure_reads, sure_sets, part_is_there, read_at}
+use Rattle.holders.proofs.Guards.{sure_takes, sure_sets, part_is_there, read_at}
 use Rattle.holders.proofs.Sinking.{is_put, put_elsewhere}
 use Rattle.holders.proofs.Finding.{character_has, chain_owns}
 
@@ -144,13 +144,13 @@ read_found {world = world} t (a_character {m = m} {n = n} {k = k} j c e le) =
         there = reaches_character (omega (arith, same, ap length_of q, le));
         is = refl;
       };
-      has = character_has t j;
+      has = character_has t j (omega (arith, same, ap length_of q, le));
     }
 read_found t (to_be_read {u = u} {v = v} made from h) = record { stands_in = u; value = v; blocks = []; from = from; has = h }
 
 pub fetches : {f : Form} {l : Location} {world : World} → Read f l world → Sure (fetched l) (Fetched f world) world
 fetches {f} {l} {world} r =
-    sure_reads (λ world v. costs (bytes v) (give v)) (Fetched f world) r.from r.has (record { same = refl; blocks = r.blocks; has = r.has })
+    sure_takes (λ world v. costs (bytes v) (give v)) (Fetched f world) r.from tt r.has (record { same = refl; blocks = r.blocks; has = r.has })
 
 -- a number is updated
 pub updates : {os : List Owner} {world : World} {root : ℕ} {steps : List Step} {l : Location} (t : Territory os world) (next : ℤ → Deed Value) →
@@ -158,7 +158,7 @@ pub updates : {os : List Owner} {world : World} {root : ℕ} {steps : List Step}
     Sure (updated l next) (λ x after. Moves os [] t.blocks world after) world
 updates {os} {world} {l = l} t next found step =
     let r = read_found t found in
-    sure_reads (λ world v. costs (bytes v) (next (number_of v) >>= put l)) (λ x after. Moves os [] t.blocks world after) r.from r.has
+    sure_takes (λ world v. costs (bytes v) (next (number_of v) >>= put l)) (λ x after. Moves os [] t.blocks world after) r.from tt r.has
     (sure_then (next (number_of r.value)) (put l) (λ x after. (after ≡ world) × Has world Constant plain x [])
     (λ x after. Moves os [] t.blocks world after) world
     (step (number_of r.value))

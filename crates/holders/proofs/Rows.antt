@@ -3,7 +3,7 @@ use Rattle.std.proofs.Common.{◌≡◌, sym, subst, arith, ℕ, suc, ◌<◌, �
 use Rattle.std.specs.Prelude.{slice_get}
 use Rattle.std.proofs.lemmas.Option.{none-some}
 use Rattle.nim_types.specs.Forms.{Form, plain, block, elements}
-use Rattle.nim_meaning.specs.Values.{Value, nothing, count, Values, part, length_of, Base, InBlock, InHand, Location, Given}
+use Rattle.nim_meaning.specs.Values.{Value, count, Values, length_of, Base, InBlock, InHand, Location, Given}
 use Rattle.nim_meaning.specs.Heap.{Elements}
 use Rattle.nim_meaning.specs.Marks.{Member, Distinct}
 use Rattle.nim_meaning.specs.State.{World}

@@ -1,7 +1,7 @@
 -- Code of a call, one part after another; a place is declared, and is over; a value waits, and is taken up.
-use Rattle.std.proofs.Common.{◌≡◌, true, refl, sym, subst, ◌∙◌, arith, ℕ, ◌+◌, ◌-◌, ◌<◌, ◌≤◌, inl, inr, ◌⊎◌, List, [], ◌∷◌, ◌++◌, length}
+use Rattle.std.proofs.Common.{◌≡◌, true, refl, sym, subst, ◌∙◌, arith, ℕ, ◌+◌, ◌<◌, ◌≤◌, inl, inr, ◌⊎◌, List, [], ◌∷◌, ◌++◌, length}
 use Rattle.nim_types.specs.Forms.{Form}
-use Rattle.nim_meaning.specs.Values.{Value, part, Holds, Base, Standing, Waiting, InBlock, Location, at_base}
+use Rattle.nim_meaning.specs.Values.{Value, Holds, Base, Standing, Waiting, InBlock, Location, at_base}
 use Rattle.nim_meaning.specs.Marks.{Member}
 use Rattle.nim_meaning.specs.State.{World}
 use Rattle.nim_meaning.specs.Deeds.{Opens, Waits, changed}
@@ -150,10 +150,13 @@ with_cell {os} {world} {f} {x} t b under base may off no_block = record {
     both [] a c = tt
     both (o ∷ os) a c = (λ k e m. either_block k under.given t.blocks ⊥ m (λ q. a.0 k e q) (λ q. c.0 k e q), both os a.1 c.1)
 
+pub no_less : (n : ℕ) → n ≤ n
+no_less n = omega arith
+
 -- all that stood somewhere still does, but at one base, where none of the cells is
 pub record Apace (b : Base) (world after : World) : Type 0 where
   pub bases : (c : Base) (x : Value) → IsBase world c x → (c ≡ b → ⊥) → IsBase after c x
-  pub heap : taken_in after ≡ taken_in world
+  pub heap : taken_in world ≤ taken_in after
   pub hand : length after.hand ≡ length world.hand
 
 pub stands_apace : {b : Base} {world after : World} {l : Location} {v : Value} → Apace b world after → (l.base ≡ b → ⊥) → StandsAt world l v →
@@ -221,7 +224,7 @@ module _ (r : Region) (gs : List Owner) where
     bases = λ c x h below off far. a.bases c x h (λ e. out (subst (λ d. IsOutside r d) e below));
     parts = λ l v h below other far. stands_apace a (λ e. out (subst (λ d. IsOutside r d) e below)) h;
     rows = λ l n h below leave far. row_apace a (λ e. out (subst (λ d. IsOutside r d) e below)) h;
-    grows = omega (arith, a.heap);
+    grows = a.heap;
     hand = a.hand;
     names = names;
     active = active;
@@ -249,7 +252,7 @@ module _ (r : Region) (gs : List Owner) where
     declares {f} {x} {first} {places} {nodes} n active le less mine off u =
         let filled = place_opened world level first places n nodes (Holds x) active le less in
         let a : Apace (Standing level n) world (changed (Opens level n (Holds x)) world) =
-        record { bases = filled.elsewhere; heap = refl; hand = refl } in
+        record { bases = filled.elsewhere; heap = no_less (taken_in world); hand = refl } in
         let has = with_cell (territory_apace a (λ k e. no_place k e) off t) (Standing level n) (under_apace a (λ k e. no_place k e) u)
         (filled.holds x refl) place_may off (λ k e. no_place k (sym e)) in
         record {
@@ -280,7 +283,7 @@ module _ (r : Region) (gs : List Owner) where
     waits {f} {x} {first} {places} {nodes} node mine active off u =
         let now = value_waits world level first places node nodes (Holds x) active in
         let a : Apace (Waiting level node) world (changed (Waits level node (Holds x)) world) =
-        record { bases = now.change.elsewhere; heap = refl; hand = refl } in
+        record { bases = now.change.elsewhere; heap = no_less (taken_in world); hand = refl } in
         let has = with_cell (territory_apace a (λ k e. no_node k e) off t) (Waiting level node) (under_apace a (λ k e. no_node k e) u)
         (now.holds x refl) node_may off (λ k e. no_node k (sym e)) in
         record {

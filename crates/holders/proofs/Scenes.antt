@@ -11,7 +11,6 @@ use Rattle.nim_meaning.specs.Marks.{Member}
 use Rattle.nim_meaning.specs.State.{World}
 use Rattle.holders.specs.Owned.{IsName}
 use Rattle.holders.specs.Territory.{Owner, first_owner, later_owner}
-use Rattle.holders.specs.Working.{number}
 use Rattle.holders.specs.Finding.{PlaceOf, own_place, a_name_of, of_constant}
 use Rattle.holders.specs.Scenes.{Named, no_names, its_own, another_name, a_constant}
 use Rattle.holders.proofs.Owning.{has_stays}

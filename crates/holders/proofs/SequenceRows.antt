@@ -5,19 +5,19 @@ use Rattle.std.specs.Prelude.{◌*◌, nat_le}
 use Rattle.std.proofs.lemmas.Bool.{leb-true, leb-false}
 use Rattle.nim_types.specs.Forms.{Form, elements, size}
 use Rattle.nim_meaning.specs.Values.{Value, Handle, Parts, Values, Nil, More, nth, count, joined, first_of, repeated, blank, part, put_part, Base, InBlock}
-use Rattle.nim_meaning.specs.Values.{Location}
+use Rattle.nim_meaning.specs.Values.{Location, item_of}
 use Rattle.nim_meaning.specs.Values.{length_of, block_of, parts_of}
 use Rattle.nim_meaning.specs.Heap.{Elements}
 use Rattle.nim_meaning.specs.Marks.{Member, Distinct}
 use Rattle.nim_meaning.specs.State.{World, load, whole_at, store, elements_of, contents_value, object_in}
 use Rattle.nim_meaning.specs.Acts.{branch}
 use Rattle.nim_meaning.specs.Deeds.{Deed, Gives, Ends, Errs, Works, Says, Looks, Changes, Takes, changed, with_block, frees, refills, sets, give, Refills}
-use Rattle.nim_meaning.specs.Deeds.{looks}
+use Rattle.nim_meaning.specs.Deeds.{looks, takes}
 use Rattle.nim_meaning.specs.Deeds.{◌>>◌, ◌>>=◌}
 use Rattle.nim_meaning.specs.Lifted.{resized, has_place, fresh, each_element, ends_at, walk, ending}
 use Rattle.nim_meaning.specs.OwnedRows.{added, shortened, grown, cut, sequence_to}
 use Rattle.holders.specs.Holders.{held_by, held_in}
-use Rattle.holders.specs.Owned.{IsBase, in_row, At, whole, block_may, Full, Has, no_sequence, a_sequence, HasEach, Apart}
+use Rattle.holders.specs.Owned.{IsBase, in_row, here, in_part, At, whole, block_may, Full, Has, no_sequence, a_sequence, HasEach, Apart}
 use Rattle.holders.specs.Sure.{Sure}
 use Rattle.holders.specs.Becoming.{taken_in, none}
 use Rattle.holders.specs.Becoming.{Strange, Turns}
@@ -27,10 +27,10 @@ use Rattle.holders.proofs.Staying.{stays_then, stored_stays, frames_same}
 use Rattle.holders.proofs.Bases.{loaded, block_filled}
 use Rattle.holders.proofs.Sure.{sure_then, sure_weaker}
 use Rattle.holders.proofs.Ledger.{stored_counts, stored_live, same_there, filled_counts}
-use Rattle.holders.proofs.Owning.{in_first, in_second, distinct_first, distinct_second, distinct_apart, Stay, each_stays, has_stays, each_from_full}
+use Rattle.holders.proofs.Owning.{in_first, in_second, distinct_first, distinct_second, distinct_apart, Stay, each_stays, has_stays}
 use Rattle.holders.proofs.Owning.{each_none}
 use Rattle.holders.proofs.Owning.{has_none}
-use Rattle.holders.proofs.Guards.{sure_sees, sure_sets, sure_refills}
+use Rattle.holders.proofs.Guards.{sure_sees, sure_takes, sure_sets, sure_refills}
 use Rattle.holders.proofs.Ending.{same_number, Through, EachLeft, each_ends, each_at, each_element_is, row_of, found_block, ends}
 use Rattle.holders.proofs.Copying.{distinct_both, either_block, each_below, stored_length}
 use Rattle.holders.proofs.Sinking.{is_put, put_elsewhere}
@@ -69,7 +69,7 @@ sequence_joined f ws ds n l w v old world at e h d apart each dd strange far sam
     sure_sees (λ world2 x. branch (has_place world2 (block_of x) (n * size f))
     (refills (block_of x) (Elements (joined (elements_of world v) ws)) >> sets l (Handle n (block_of x)))
     (fresh n (n * size f) (Elements (joined (elements_of world v) ws)) >>= (λ new. sets l new >> frees (block_of x))))
-    (λ u after. Turns (λ j. held_in j ws) none (elements f) l w ds old world after) at e h (by v old e h d apart strange same)
+    (λ u after. Turns (λ j. held_in j ws) none (elements f) l w ds old world after) at e tt h (by v old e h d apart strange same)
   where
     by : (v : Value) (old : List ℕ) → part w l.path ≡ v → Has world Full (elements f) v old → Distinct old → Apart l.base old → Strange ds old →
         n ≡ length_of v + count ws →
@@ -158,16 +158,22 @@ pub pops : (f : Form) (n : ℕ) (l : Location) (w v : Value) (old : List ℕ) (w
     Has world Full (elements f) v old → Distinct old → Apart l.base old → length_of v ≡ suc n →
     Sure (shortened f (suc n) l world) (λ x after. Popped f l w old world x after) world
 pops f n l w v old world at e h d apart same =
-    subst (λ y. Sure (refills (block_of y) (Elements (first_of n (elements_of world y))) >>
-    (sets l (Handle n (block_of y)) >> give (nth (elements_of world y) n)))
-    (λ x after. Popped f l w old world x after) world) (sym (loaded world l w at.base ∙ e)) (by v old e h d apart same)
+    subst (λ y. Sure (takes (item_of y l n) leaves) (λ x after. Popped f l w old world x after) world) (sym (loaded world l w at.base ∙ e))
+    (by v old e h d apart same)
   where
+    leaves : World → Value → Deed Value
+    leaves now last = refills (block_of (load now l)) (Elements (first_of n (elements_of now (load now l))))
+        >> (sets l (Handle n (block_of (load now l))) >> give last)
+
     by : (v : Value) (old : List ℕ) → part w l.path ≡ v → Has world Full (elements f) v old → Distinct old → Apart l.base old → length_of v ≡ suc n →
-        Sure (refills (block_of v) (Elements (first_of n (elements_of world v))) >> (sets l (Handle n (block_of v)) >> give (nth (elements_of world v) n)))
-        (λ x after. Popped f l w old world x after) world
+        Sure (takes (item_of v l n) leaves) (λ x after. Popped f l w old world x after) world
     by _ _ e no_sequence d apart same = absurd (omega (arith, same))
     by _ _ e (a_sequence {k = k} {all = all} {bs = bs} b inside) d apart same =
-        subst (λ vs. Sure (refills (Some k) (Elements (first_of n vs)) >> (sets l (Handle n (Some k)) >> give (nth vs n)))
+        sure_takes {l = item_of (Handle (count all) (Some k)) l n} leaves (λ x after. Popped f l w (k ∷ bs) world x after)
+        (record { base = b; there = in_part (omega (arith, same)) here; is = refl }) tt o.has
+        (subst (λ y. Sure (refills (block_of y) (Elements (first_of n (elements_of world y))) >> (sets l (Handle n (block_of y)) >> give (nth all n)))
+        (λ x after. Popped f l w (k ∷ bs) world x after) world) (sym (loaded world l w at.base ∙ e))
+        (subst (λ vs. Sure (refills (Some k) (Elements (first_of n vs)) >> (sets l (Handle n (Some k)) >> give (nth all n)))
         (λ x after. Popped f l w (k ∷ bs) world x after) world) (sym (elements_are (count all) b))
         (sure_regrouped (refills (Some k) (Elements (first_of n all))) (sets l (Handle n (Some k))) (give (nth all n))
         (λ x after. Popped f l w (k ∷ bs) world x after) world
@@ -191,7 +197,7 @@ pops f n l w v old world at e h d apart same =
           kept_were = λ j m. kept_in j m;
           apart = λ j m z. not_kept j j (of_last j m) refl z;
           turns = t;
-        })))
+        })))))
       where
         c : Cut world Full f n 1 0 all bs
         c = each_cut n 1 (omega (arith, same)) inside
@@ -356,7 +362,7 @@ module _ (f : Form) (n k : ℕ) (all : Values) (bs : List ℕ) (l : Location) (w
       (sure_grows (each_at m act o n) (λ u middle. Through (EachLeft f m n) n o (Parts all) all c.rest first_world middle) first_world
       (each_ends f (ends f) m n o (Parts all) all c.rest first_world
       (record { base = stays_first (InBlock k) (Parts all) b (λ q. apart k (sym q) (inl refl)); part_there = whole; is = refl; may = λ i. block_may })
-      (each_from_full (each_stays world first_world (λ j y z h. stays_first (InBlock j) y h (λ q. apart j (sym q) (inr (of_rest j z)))) behind))
+      (each_stays world first_world (λ j y z h. stays_first (InBlock j) y h (λ q. apart j (sym q) (inr (of_rest j z)))) behind)
       (distinct_second c.first c.rest cut_distinct) (λ j q z. d.0 (of_rest k (subst (λ i. Member i c.rest) (sym (same_number k j q)) z)))))
       (λ u middle t.
       subst (λ vs. Sure (refills (Some k) (Elements (first_of n vs))) Q middle) (sym (elements_are (count all) t.0.is))

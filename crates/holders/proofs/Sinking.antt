@@ -20,7 +20,7 @@ use Rattle.holders.proofs.PathLemmas.{count_with, nth_with, nth_without, part_of
 use Rattle.holders.proofs.Ledger.{keeps_none, keeps_then, stored_counts, stored_live}
 use Rattle.holders.proofs.Owning.{in_first, in_second, distinct_first, distinct_second}
 use Rattle.holders.proofs.Owning.{distinct_apart, Stay, has_stays, each_stays, all_stays, each_same, all_same, from_full, has_none, plain_none, plain_anywhere}
-use Rattle.holders.proofs.Guards.{sure_sees, sure_sets}
+use Rattle.holders.proofs.Guards.{sure_sees, sure_takes, sure_sets, read_at}
 use Rattle.holders.proofs.Ending.{Row, same_number, at_part, part_is, may_deeper, ends}
 
 -- all else but two bases and these blocks
@@ -112,8 +112,8 @@ module _ (f : Form) (to from : Location) (w u v0 v : Value) (old new : List ℕ)
   trades : Sure (sunk f to from) (λ x after. Sunk f to from w u v old new world after) world
   trades =
       let Q : Unit {0} → World → Type 0 = λ x after. Sunk f to from w u v old new world after in
-      sure_sees (λ world old. sees from (λ world new. sets to new >> (sets from old >> ends_at f from))) Q at e0 h0
-      (sure_sees (λ world new. sets to new >> (sets from v0 >> ends_at f from)) Q at_from e h
+      sure_sees (λ world old. sees from (λ world new. sets to new >> (sets from old >> ends_at f from))) Q at e0 tt h0
+      (sure_sees (λ world new. sets to new >> (sets from v0 >> ends_at f from)) Q at_from e tt h
       (sure_then (sets to v) (λ u. sets from v0 >> ends_at f from) (λ u after. after ≡ first_world) Q world
       (sure_sets v (λ u after. after ≡ first_world) at refl)
       (λ u after is. subst (λ y. Sure (sets from v0 >> ends_at f from) Q y) (sym is)
@@ -126,7 +126,7 @@ module _ (f : Form) (to from : Location) (w u v0 v : Value) (old new : List ℕ)
           sure_weaker (ends_at f from) (λ x after. Ended f from (put_part u from.path v0) old second_world after)
           (λ x after. Sunk f to from w u v old new world after) second_world
           (ends f from (put_part u from.path v0) v0 old second_world from_in_second (part_of_put v0 at_from.part)
-          (from_full (has_stays world second_world (stay_in_second old clear.to_old clear.from_old) h0)) clear.old_once clear.from_old)
+          (has_stays world second_world (stay_in_second old clear.to_old clear.from_old) h0) clear.old_once clear.from_old)
           (λ x after t. record {
             left = t.now;
             has = has_stays second_world after (λ k x m is. t.elsewhere (InBlock k) x is (λ q. clear.from_new k (sym q) m)
@@ -151,7 +151,7 @@ plainly_sunk : (f : Form) (to from : Location) (w u v0 v : Value) (old new : Lis
     part u from.path ≡ v → hooked f ≡ false → Has world Full f v0 old → Has world Full f v new → (to.base ≡ from.base → ⊥) →
     Sure (bits to from) (λ x after. Sunk f to from w u v old new world after) world
 plainly_sunk f to from w u v0 v old new world at at_from e0 e bare h0 h two =
-    sure_sees (λ world v. costs (bytes v) (sets to v)) (λ x after. Sunk f to from w u v old new world after) at_from e h
+    sure_takes (λ world v. costs (bytes v) (sets to v)) (λ x after. Sunk f to from w u v old new world after) (read_at at_from e) tt h
     (sure_sets v (λ x after. Sunk f to from w u v old new world after) at (record {
       left = v;
       has = subst (λ bs. Has (store world to v) Full f v bs) (sym (plain_none bare h)) (plain_anywhere (store world to v) Full bare (from_full h));

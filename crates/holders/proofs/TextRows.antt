@@ -34,7 +34,7 @@ pub text_resized : (n : ℕ) (t : List ℕ) → length t ≡ n → (l : Location
     Has world Full block v old → Apart l.base old → Sure (resized n n (Characters t) l) (λ u after. Turns none none block l w [] old world after) world
 text_resized n t same l w v old world at e h apart =
     sure_sees (λ world v. branch (has_place world (block_of v) n) (refills (block_of v) (Characters t) >> sets l (Handle n (block_of v)))
-    (fresh n n (Characters t) >>= (λ new. sets l new >> frees (block_of v)))) (λ u after. Turns none none block l w [] old world after) at e h
+    (fresh n n (Characters t) >>= (λ new. sets l new >> frees (block_of v)))) (λ u after. Turns none none block l w [] old world after) at e tt h
     (by v old e h apart)
   where
     by : (v : Value) (old : List ℕ) → part w l.path ≡ v → Has world Full block v old → Apart l.base old →

@@ -5,15 +5,15 @@ use Rattle.std.proofs.lemmas.Option.{none-some, same_Some}
 use Rattle.nim_types.specs.Forms.{Form}
 use Rattle.nim_meaning.specs.Values.{Value, part, put_part, Base, InBlock, InHand, Location, Given, vacant}
 use Rattle.nim_meaning.specs.Marks.{Member, Distinct}
-use Rattle.nim_meaning.specs.State.{World, load, pushed, popped}
-use Rattle.nim_meaning.specs.Deeds.{Deed, Pops, does, give, looks, ◌>>◌}
+use Rattle.nim_meaning.specs.State.{World, pushed, popped}
+use Rattle.nim_meaning.specs.Deeds.{Deed, Pops, does, give, takes, ◌>>◌}
 use Rattle.nim_meaning.specs.Lifted.{walk, copying, sinking, ends_at, in_hand, given_up, under_way, copied, assigned}
-use Rattle.holders.specs.Owned.{IsBase, whole, hand_may, At, From, Full, Gaps, Constant, Has, Stays}
+use Rattle.holders.specs.Owned.{IsBase, whole, hand_may, At, From, here, Full, Constant, Has, Stays}
 use Rattle.holders.specs.Sure.{Sure}
 use Rattle.holders.specs.Holders.{held_by}
 use Rattle.holders.specs.Walks.{Ended, GivenUp}
 use Rattle.holders.proofs.HolderCounts.{before_last, pushed_counts, popped_counts}
-use Rattle.holders.proofs.Bases.{loaded}
+use Rattle.holders.proofs.Guards.{sure_takes}
 use Rattle.holders.specs.Owned as owned
 use Rattle.holders.proofs.BaseChanges.{pushed_there, pushed_elsewhere, popped_elsewhere}
 use Rattle.holders.proofs.Sure.{sure_then}
@@ -90,7 +90,7 @@ module _ (world after : World) (v x : Value) (is : IsBase after (InHand (length 
 
 -- ---- a value that has no place any more ends
 
-pub gives_up : (f : Form) (v : Value) (bs : List ℕ) (world : World) → Has world Gaps f v bs → Distinct bs →
+pub gives_up : (f : Form) (v : Value) (bs : List ℕ) (world : World) → Has world Full f v bs → Distinct bs →
     Sure (given_up f v) (λ u after. GivenUp v bs world after) world
 gives_up f v bs world h d =
     sure_then (ends_at f (in_hand world)) (λ u. does Pops) (λ u after. Ended f (in_hand world) v bs (pushed world v) after)
@@ -116,14 +116,15 @@ pub copy_given : (f : Form) (from : Location) (u v : Value) (bs : List ℕ) (wor
 copy_given f from u v bs world source h =
     let to = in_hand world in
     let start = pushed world (vacant f) in
-    sure_then (walk copying f to from) (λ u. looks (λ after. does Pops >> give (load after to))) (λ u after. Copied f to (vacant f) start after)
-    (λ x after. Gives f x [] world after × KeepsHolders none (λ k. held_by k x) world after) start
+    let out : World → Value → Deed Value = λ after new. does Pops >> give new in
+    let Q : Value → World → Type 0 = λ x after. Gives f x [] world after × KeepsHolders none (λ k. held_by k x) world after in
+    sure_then (walk copying f to from) (λ u. takes to out) (λ u after. Copied f to (vacant f) start after)
+    Q start
     (copies f to from (vacant f) u v bs start (at_hand world (vacant f)) refl
     (record { base = pushed_elsewhere world (vacant f) source.base; there = source.there; is = source.is })
     (has_stays world start (λ k x m is. pushed_elsewhere world (vacant f) is) h) (not_next world from.base u source.base)
     (λ k e m. no_block (length world.hand) k e))
-    (λ u after t.
-    subst (λ x. Gives f x [] world (popped after) × KeepsHolders none (λ k. held_by k x) world (popped after)) (sym (loaded after to t.now t.is)) (
+    (λ u after t. sure_takes {l = to} out Q (record { base = t.is; there = here; is = refl }) tt t.has (
       record {
         blocks = t.blocks;
         has = has_stays after (popped after) (λ k x m is. popped_stays world after (vacant f) t.now t.is t.once.stays.hand (InBlock k) x is
@@ -147,12 +148,11 @@ pub under_way_gives : (f : Form) (v : Value) (becomes : Location → Deed (Unit 
     Sure (under_way v becomes) (λ x after. Gives f x [] world after × KeepsHolders (λ k. held_by k v) (λ k. held_by k x) world after) world
 under_way_gives f v becomes world h =
     let to = in_hand world in
-    sure_then (becomes to) (λ u. looks (λ after. does Pops >> give (load after to)))
-    (λ u after. Becomes f to v [] [] (pushed world v) after × KeepsHolders none none (pushed world v) after)
-    (λ x after. Gives f x [] world after × KeepsHolders (λ k. held_by k v) (λ k. held_by k x) world after) (pushed world v) h
-    (λ u after t.
-    subst (λ x. Gives f x [] world (popped after) × KeepsHolders (λ k. held_by k v) (λ k. held_by k x) world (popped after))
-    (sym (loaded after to t.0.now t.0.is)) (
+    let out : World → Value → Deed Value = λ after new. does Pops >> give new in
+    let Q : Value → World → Type 0 = λ x after. Gives f x [] world after × KeepsHolders (λ k. held_by k v) (λ k. held_by k x) world after in
+    sure_then (becomes to) (λ u. takes to out)
+    (λ u after. Becomes f to v [] [] (pushed world v) after × KeepsHolders none none (pushed world v) after) Q (pushed world v) h
+    (λ u after t. sure_takes {l = to} out Q (record { base = t.0.is; there = here; is = refl }) tt t.0.has (
       record {
         blocks = t.0.blocks;
         has = has_stays after (popped after) (λ k x m is. popped_stays world after v t.0.now t.0.is t.0.stays.hand (InBlock k) x is

@@ -16,3 +16,4 @@ pub mod Groups
 pub mod Called
 pub mod Scenes
 pub mod Entering
+pub mod Used

@@ -6,7 +6,7 @@ ghost use Rattle.nim_meaning.specs.Values.{Value, Values, Location, At};
 ghost use Rattle.nim_meaning.specs.Values.{count, length_of, item_of, deeper};
 ghost use Rattle.nim_meaning.specs.Heap.{Characters, Elements};
 ghost use Rattle.nim_meaning.specs.Marks.{Distinct};
-ghost use Rattle.nim_meaning.specs.State.{World, State, is_seen};
+ghost use Rattle.nim_meaning.specs.State.{World, State, is_seen, is_full_at};
 ghost use Rattle.nim_meaning.specs.Deeds.{Deed, carry};
 ghost use Rattle.nim_meaning.specs.Lifted.{ends_at, given_up, copied, assigned, replaced};
 ghost use Rattle.nim_meaning.specs.Lifted.{resized, fresh, fresh_text};
@@ -22,13 +22,15 @@ ghost use Rattle.holders.specs.Walks.{Ended, GivenUp, Popped};
 ghost use Rattle.holders.specs.Leading.{Leads, PartOf};
 
 /// The meaning isn't wrong where it carries out a deed of which anything is sure; and what stands in
-/// a cell is there, with what it has in blocks.
+/// a cell is there, all of it, with what it has in blocks.
 pub fn deeds()
     ensures carried { (deed : Deed Value) (s : State) →
         Sure deed (λ x after. Unit {0}) s.world →
         Answered (λ x after. Unit {0}) (carry deed s) }
     ensures seen { (f : Form) (l : Location) (w v : Value) (bs : List ℕ) (world : World) →
         Cell f l w v bs world → is_seen world l ≡ true }
+    ensures full { (f : Form) (l : Location) (w v : Value) (bs : List ℕ) (world : World) →
+        Cell f l w v bs world → is_full_at world l ≡ true }
 {}
 
 /// A value ends: it gives back its blocks. A copy has blocks of its own. A place gets a value that

@@ -7,28 +7,29 @@ ghost use Rattle.nim_types.specs.Forms.{Form, plain, block, elements, hooked, Fo
 ghost use Rattle.nim_types.specs.Forms.{HasForm};
 ghost use Rattle.nim_program.specs.Kinds.{kind_of, field_at, element_of, is_held};
 ghost use Rattle.nim_program.specs.Kinds.{is_declared_as};
-ghost use Rattle.nim_program.specs.Program.{Declared, Param, Body};
+ghost use Rattle.nim_program.specs.Program.{Declared, Param, Body, Path, type_at, node_at};
+ghost use Rattle.nim_program.specs.declared.operation.Use.{Use};
 ghost use Rattle.nim_program.specs.Scopes.{Placed, look};
 ghost use Rattle.nim_meaning.specs.Values.{Value, Values, Base, Slot, Holds, count, length_of, Location};
 ghost use Rattle.nim_meaning.specs.Values.{Standing, Waiting, at_base, Given, At as Place};
 ghost use Rattle.nim_meaning.specs.Heap.{Elements};
-ghost use Rattle.nim_meaning.specs.Marks.{Member, Distinct};
+ghost use Rattle.nim_meaning.specs.Marks.{Distinct};
 ghost use Rattle.nim_meaning.specs.State.{World, State, load, with_frame};
 ghost use Rattle.nim_meaning.specs.ActTree.{Flow};
 ghost use Rattle.nim_meaning.specs.Acts.{Does};
 ghost use Rattle.nim_meaning.specs.Deeds.{Deed, Opens, Waits, Leaves, changed};
-ghost use Rattle.nim_meaning.specs.Here.{Here};
+ghost use Rattle.nim_meaning.specs.Here.{Here, gives_hooked, form_for};
 ghost use Rattle.nim_meaning.specs.Waiting.{Wait};
 ghost use Rattle.nim_meaning.specs.Aims.{Aim, PartOf, ItemOf, find};
-ghost use Rattle.nim_meaning.specs.Places.{put, fetched, exchanged};
+ghost use Rattle.nim_meaning.specs.Places.{put, fetched, exchanged, place_at};
 ghost use Rattle.nim_meaning.specs.Table.{updated, swapped};
 ghost use Rattle.nim_meaning.specs.Lifted.{assigned, assigns, copied, fresh, fresh_text};
 ghost use Rattle.nim_meaning.specs.OwnedRows.{appended, added, shortened, sequence_to, line_into};
 ghost use Rattle.nim_meaning.specs.Steps.{all_end};
-ghost use Rattle.nim_meaning.specs.Meaning.{place_ends, scoped, exec_all, frame_of, entered_body};
-ghost use Rattle.holders.specs.Owned.{IsBase, Full, Constant, Has, HasEach, PartForm, HasBlocksAlone};
+ghost use Rattle.nim_meaning.specs.Meaning.{place_ends, scoped, fill, fill_from, result_gets, exec_all, frame_of, entered_body};
+ghost use Rattle.holders.specs.Owned.{IsBase, Full, Constant, Has, HasEach, HasBlocksAlone};
 ghost use Rattle.holders.specs.Sure.{Sure, Answered, Comes};
-ghost use Rattle.holders.specs.Becoming.{taken_in, Strange};
+ghost use Rattle.holders.specs.Becoming.{Strange};
 ghost use Rattle.holders.specs.Beside.{PartWays};
 ghost use Rattle.holders.specs.Territory.{Owner, AllOwners, ClearOf, NoBaseOf, Territory, Moves};
 ghost use Rattle.holders.specs.Territory.{Among, Owns};
@@ -39,8 +40,9 @@ ghost use Rattle.holders.specs.Finding.{Found, PlaceOf, AimsAt, steps_of, Read};
 ghost use Rattle.holders.specs.Finding.{Fetched};
 ghost use Rattle.holders.specs.Scenes.{Named};
 ghost use Rattle.holders.specs.Handing.{UnderWay, HandsOut};
-ghost use Rattle.holders.specs.Running.{IsBelow, Region, IsOutside, AreOwn, Wider};
+ghost use Rattle.holders.specs.Running.{IsBelow, Region, AreOwn, Wider};
 ghost use Rattle.holders.specs.Staging.{Stage, Holding, Up};
+ghost use Rattle.holders.specs.Used.{Used, Made, read_by, used_as};
 ghost use Rattle.holders.specs.Groups.{without_node, without_waits, Ends, AllMine};
 ghost use Rattle.holders.specs.Entering.{Handed, own_cells, StandThere};
 ghost use Rattle.holders.specs.Called.{ParamsEnd, Result, CameBack, NotRaised};
@@ -174,6 +176,43 @@ pub fn parts_of_bodies()
         r.places n ≡ true → NoBaseOf (Standing r.level n) (ms ++ gs) →
         Stage r (record { form = f; at = at_base (Standing r.level n) } ∷ ms) gs first places nodes
         old start (changed (Opens r.level n (Holds x)) now) }
+    ensures filled { (f : Form) (v : Value) (r : Region) (ms gs : List Owner)
+        (first places n : ℕ) (nodes old : List ℕ) (start : World) (here : Here) (s : State) →
+        here.level ≡ r.level → Holding f v r ms gs first places nodes old start s.world →
+        first ≤ n → n < first + places → r.places n ≡ true →
+        NoBaseOf (Standing r.level n) (ms ++ gs) →
+        Comes (λ u after. Stage r (record { form = f; at = at_base (Standing r.level n) } ∷ ms) gs first places nodes
+        old start after) (λ way after. ⊥) (fill here n v s) }
+    ensures copied { (r : Region) (ms gs : List Owner) (first places : ℕ) (nodes old : List ℕ)
+        (start : World) (here : Here) (place : Declared) (l : Location) (s : State) →
+        here.level ≡ r.level → Stage r ms gs first places nodes old start s.world →
+        first ≤ place.number → place.number < first + places → r.places place.number ≡ true →
+        NoBaseOf (Standing r.level place.number) (ms ++ gs) →
+        Read (form_of here.facts place.of) l s.world →
+        (l.base ≡ Standing r.level place.number → ⊥) →
+        Comes (λ u after. Stage r (record { form = form_of here.facts place.of; at = at_base (Standing r.level place.number) } ∷ ms) gs first places nodes
+        old start after) (λ way after. ⊥) (fill_from here place l s) }
+    ensures result { (v : Value) (r : Region) (ms gs : List Owner) (first places : ℕ)
+        (nodes old : List ℕ) (start : World) (here : Here) (place : Declared) (s : State) →
+        Holding (form_of here.facts place.of) v r ms gs first places nodes old start s.world →
+        Chain (ms ++ gs) s.world (record { form = form_of here.facts place.of; at = place_at here.level place.number }) →
+        Comes (λ x after. Stage r ms gs first places nodes old start after) (λ way after. ⊥)
+        (result_gets true (Some place) here v s) }
+    ensures read { (r : Region) (ms gs : List Owner) (first places : ℕ) (nodes old : List ℕ)
+        (start : World) (may : Bool) (root : ℕ) (aim : Aim) (here : Here) (how : Use) (path : Path)
+        (s : State) → here.level ≡ r.level → r.nodes (node_at path).number ≡ true →
+        NoBaseOf (Waiting r.level (node_at path).number) (ms ++ gs) →
+        Stage r ms gs first places nodes old start s.world →
+        AimsAt (ms ++ gs) s.world may root aim (form_for here.facts (type_at path)) →
+        Comes (Used (gives_hooked here.facts (type_at path)) how (form_for here.facts (type_at path))
+        (node_at path).number r ms gs first places nodes old start)
+        (λ way after. ⊥) (read_by here how path aim s) }
+    ensures made { (f : Form) (how : Use) (node : ℕ) (deed : Deed Value) (r : Region)
+        (ms gs : List Owner) (first places : ℕ) (nodes old : List ℕ) (start now : World) →
+        r.nodes node ≡ true → NoBaseOf (Waiting r.level node) (ms ++ gs) →
+        Sure deed (λ v after. Holding f v r ms gs first places nodes old start after) now →
+        Sure (used_as how r.level node deed) (Made how f node r ms gs first places nodes old start)
+        now }
     ensures waits { (f : Form) (x : Value) (r : Region) (ms gs : List Owner)
         (first places node : ℕ) (nodes old : List ℕ) (start now : World) → r.nodes node ≡ true →
         Holding f x r ms gs first places nodes old start now →

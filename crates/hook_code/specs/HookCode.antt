@@ -1,5 +1,5 @@
 -- The word code of hooks. Each piece of code stands before what follows.
-use Rattle.std.specs.Prelude.{ℕ, ◌+◌, ◌*◌, Bool, true, false, List, [], ◌∷◌, ◌==◌, take, Option, Some, slice_get}
+use Rattle.std.specs.Prelude.{ℕ, ◌+◌, ◌*◌, Bool, true, false, List, [], ◌∷◌, ◌++◌, ◌==◌, take, Option, Some, slice_get}
 use Rattle.nim_types.specs.declared.types.TypeDef.{TypeDef}
 use Rattle.nim_types.specs.declared.types.TypeDef.TheVariants as D
 use Rattle.nim_types.specs.declared.types.TheConstants.{WORD_BYTES, LIST_BYTES}
@@ -22,7 +22,7 @@ use Rattle.hook_lifting.specs.declared.lifted.Lifted.{Lifted}
 use Rattle.hook_lifting.specs.declared.lifted.Cut.{Cut}
 use Rattle.hook_lifting.specs.declared.lifted.LiftedLine.{LiftedLine}
 use Rattle.hook_lifting.specs.declared.lifted.LiftedLine.TheVariants as O
-use Rattle.hook_lifting.specs.Lifted.{has_hooks}
+use Rattle.hook_lifting.specs.Lifted.{has_hooks, lifted, cuts}
 use Rattle.hook_code.specs.declared.numbers.TheConstants.{HOOKS_EACH, ONE, OTHER, ADDRESS, PLACES_BEHIND, COUNT, HOOK_VARIABLES}
 
 -- ---- numbers
@@ -200,3 +200,7 @@ module _ (table : List TypeDef) where
     abbrev pub cut_procs : List Cut → List WordProc
     cut_procs [] = []
     cut_procs (c ∷ cs) = cut_proc c ∷ cut_procs cs
+
+    -- of all types
+    abbrev pub procs_in : List WordProc
+    procs_in = hook_procs (lifted table) ++ cut_procs (cuts table)

@@ -1,2 +1,5 @@
-pub mod HookCode
 pub mod Emission
+pub mod HookCode
+pub mod Kept
+pub mod Promises
+pub mod Surroundings

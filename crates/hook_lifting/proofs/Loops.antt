@@ -1,5 +1,6 @@
 -- A loop over elements follows what is done with each of them.
-use Rattle.std.proofs.Common.{◌≡◌, ◌≢◌, ℕ, zero, suc, ◌+◌, ◌*◌, ◌<◌, ◌≤◌, Bool, true, false, List, [], ◌∷◌, Option, Some, refl, ap, ◌∙◌, arith}
+use Rattle.std.proofs.Common.{◌≡◌, ◌≢◌, ℕ, zero, suc, ◌+◌, ◌*◌, ◌<◌, ◌≤◌, Bool, true, false, List, [], ◌∷◌, Option, Some, refl, ap, ◌∙◌, arith, le_refl}
+use Rattle.std.proofs.Math.Nat.{mul-suc}
 use Rattle.std.specs.Prelude.{◌-◌, ℤ, pos, ◌+ℤ◌, int_lt, nat_lt, nat_eq}
 use Rattle.std.proofs.lemmas.Bool.{ne_eqb, cond-false, lt-ltb, le-ltb}
 use Rattle.nim_meaning.specs.Acts.{branch}
@@ -16,7 +17,8 @@ use Rattle.hook_lifting.specs.declared.lifted.LiftedLine.TheVariants as O
 use Rattle.hook_lifting.specs.Lifted.{turn_lines, loop_lines}
 use Rattle.hook_lifting.specs.Lifting.{hook_deed, does_by, label_of, lines_step}
 use Rattle.hook_lifting.proofs.Deeds.{Tame, regrouped}
-use Rattle.hook_lifting.proofs.Follows.{M, at, scene, Follows, weaker, goes, does, alike}
+use Rattle.hook_lifting.specs.Weights.{priced}
+use Rattle.hook_lifting.proofs.Follows.{M, Setting, at, scene, LeastDone, Follows, weaker, settles, goes, calls, alike}
 
 -- ---- temporaries
 
@@ -59,8 +61,11 @@ abbrev pub each_of : (part : ℕ → Deed (Unit {0})) → (count i : ℕ) → De
 each_of part zero i = give tt
 each_of part (suc n) i = part i >> each_of part n (suc i)
 
-module _ (known : Known) (whole : List LiftedLine) (level : ℕ) (hook : Hook) (of : ℕ) (one other : LiftedLine) (k : List LiftedLine)
+module _ (g : Setting) (whole : List LiftedLine) (level : ℕ) (hook : Hook) (of : ℕ) (one other : LiftedLine) (k : List LiftedLine)
     (base : Temps) (len : ℕ) (left right : ℕ → Location) where
+  abbrev known : Known
+  known = g.known
+
   abbrev turn : List LiftedLine
   turn = turn_lines hook of one other k
 
@@ -80,16 +85,19 @@ module _ (known : Known) (whole : List LiftedLine) (level : ℕ) (hook : Hook) (
       (temps : Temps) (world : World) (i : ℕ) → Keeps base temps → temps.values 4 ≡ Some (Number (pos i)) → i < len →
       does_by known (scene level temps world) line ≡ Passes (Answers [] 1 (with_place to temps (Located (locations i))) world)
 
-  module _ (takes : Bool) (tame : (i : ℕ) → Tame takes (λ u. Unit {0}) (part i)) (counted : base.values 5 ≡ Some (Number (pos len)))
+  -- Each turn weighs 13 without the deed, whose works are so many at least.
+  module _ (takes : Bool) (tame : (i : ℕ) → Tame takes (λ u. Unit {0}) (part i)) (net least : ℕ) (paid : 13 ≤ net + g.extra * least)
+      (works : (i : ℕ) (world : World) → g.built ≡ true → LeastDone least (perform (part i) world)) (one_weighs : priced g.pace one 1 ≡ 3)
+      (other_weighs : priced g.pace other 1 ≡ 3) (counted : base.values 5 ≡ Some (Number (pos len)))
       (one_leads : LeadsTo one 2 left) (other_leads : LeadsTo other 3 right) (back : from_label label_of 1 whole ≡ Some turn)
       (out : from_label label_of 0 turn ≡ Some behind_turns) (p q : ℕ) (rest : Deed (Unit {0}))
-      (more : (last : Temps) → Keeps base last → (new : World) → Follows known p q (perform rest new) (at whole level behind_turns last new))
+      (more : (last : Temps) → Keeps base last → (new : World) → Follows g p q (perform rest new) (at whole level behind_turns last new))
     where
       abbrev here : List LiftedLine → Temps → World → M
       here = at whole level
 
       abbrev Comes : (p : ℕ) → Deed (Unit {0}) → (world : World) → M → Type 0
-      Comes p deed world m = Follows known p q (perform deed world) m
+      Comes p deed world m = Follows g p q (perform deed world) m
 
       passed : (line : LiftedLine) (behind : List LiftedLine) (temps now : Temps) (world : World) →
           does_by known (scene level temps world) line ≡ Passes (Answers [] 1 now world) →
@@ -115,14 +123,20 @@ module _ (known : Known) (whole : List LiftedLine) (level : ℕ) (hook : Hook) (
       -- from the beginning of a turn on
       a_turn : (n i : ℕ) → i + suc n ≡ len → (temps : Temps) (world : World) → Keeps base temps → temps.values 4 ≡ Some (Number (pos i)) →
           ((temps : Temps) (new : World) → Keeps base temps → temps.values 4 ≡ Some (Number (pos i)) →
-          Comes (1 + (5 * n + p)) (each n (suc i) >> rest) new (here (O.Plain (L.CountTurn 4 5 false 1) ∷ behind_turns) temps new)) →
-          Comes (5 * suc n + p) (each (suc n) i >> rest) world (here turn temps world)
+          Comes (2 + (net * n + p)) (each n (suc i) >> rest) new (here (O.Plain (L.CountTurn 4 5 false 1) ∷ behind_turns) temps new)) →
+          Comes (net * suc n + p) (each (suc n) i >> rest) world (here turn temps world)
       a_turn n i many temps world keeps at4 next =
           let temps2 = with_place 2 temps (Located (left i)) in
           let temps3 = with_place 3 temps2 (Located (right i)) in
           let keeps3 = keeps_place {new = temps2} 3 (Located (right i)) (omega arith) (keeps_place 2 (Located (left i)) (omega arith) keeps) in
           let behind = O.Plain (L.CountTurn 4 5 false 1) ∷ behind_turns in
-          weaker (omega arith) (omega arith)
+          let more = mul-suc net n in
+          let one_more = one_weighs in
+          let other_more = other_weighs in
+          settles (g.extra * least)
+          (weaker {p = 1 + (priced g.pace one 1 + (priced g.pace other 1 + (4 + (2 + (net * n + p)))))} {q = q}
+          (omega (arith, paid, more, one_more, other_more))
+          (le_refl q)
           (goes 1 (here (one ∷ other ∷ O.Hook hook of 2 3 ∷ behind) temps world) refl
           (goes 1 (here (other ∷ O.Hook hook of 2 3 ∷ behind) temps2 world)
           (passed one (other ∷ O.Hook hook of 2 3 ∷ behind) temps temps2 world (one_leads temps world i keeps at4 (omega (arith, many))))
@@ -130,15 +144,14 @@ module _ (known : Known) (whole : List LiftedLine) (level : ℕ) (hook : Hook) (
           (passed other (O.Hook hook of 2 3 ∷ behind) temps2 temps3 world
           (other_leads temps2 world i (keeps_place 2 (Located (left i)) (omega arith) keeps) at4 (omega (arith, many))))
           (alike ((part i >> each n (suc i)) >> rest) (part i >> (each n (suc i) >> rest)) world (regrouped (part i) (λ u. each n (suc i)) (λ u. rest))
-          (does known whole level takes (λ u. Unit {0}) 1 (O.Hook hook of 2 3) behind temps3 world (part i) (λ u. temps3)
-          (λ u. each n (suc i) >> rest) refl (tame i)
-          (λ u ok new. next temps3 new keeps3 at4))))))
+          (calls g whole level takes least hook of 2 3 behind temps3 world (part i) (each n (suc i) >> rest) (works i world) refl (tame i)
+          (λ new. next temps3 new keeps3 at4)))))))
 
       -- behind what is done with an element
       next : (n i : ℕ) → i + suc n ≡ len → (temps : Temps) (world : World) → Keeps base temps → temps.values 4 ≡ Some (Number (pos i)) →
-          Comes (1 + (5 * n + p)) (each n (suc i) >> rest) world (here (O.Plain (L.CountTurn 4 5 false 1) ∷ behind_turns) temps world)
+          Comes (2 + (net * n + p)) (each n (suc i) >> rest) world (here (O.Plain (L.CountTurn 4 5 false 1) ∷ behind_turns) temps world)
       next zero i many temps world keeps at4 =
-          weaker (omega arith) (omega arith)
+          weaker {p = 2 + p} {q = q} (let e : net * 0 ≡ 0 = omega arith in omega (arith, e)) (le_refl q)
           (goes 1 (here behind_turns temps world)
           (ap (λ did. settled label_of (does_by known) [] (here (O.Plain (L.CountTurn 4 5 false 1) ∷ behind_turns) temps world) behind_turns did)
           (count_is temps world i false keeps at4 (none_more (suc i) len (omega (arith, many)))))
@@ -163,9 +176,9 @@ module _ (known : Known) (whole : List LiftedLine) (level : ℕ) (hook : Hook) (
           ∙ ap (λ b. branch b (gives (scene level temps world) 4 (costs 1 (give (Number (pos i))))) (Leaps 0 1)) is)
 
       pub test_follows : (i l : ℕ) → l ≡ len - i → (temps : Temps) (world : World) → Keeps base temps → temps.values 4 ≡ Some (Number (pos i)) →
-          Comes (1 + (5 * l + p)) (each l i >> rest) world (here (O.Plain (L.Beyond 4 5 false 0) ∷ turn) temps world)
+          Comes (1 + (net * l + p)) (each l i >> rest) world (here (O.Plain (L.Beyond 4 5 false 0) ∷ turn) temps world)
       test_follows i zero e temps world keeps at4 =
-          weaker (omega arith) (omega arith)
+          weaker {p = 1 + p} {q = q} (let e : net * 0 ≡ 0 = omega arith in omega (arith, e)) (le_refl q)
           (goes 1 (here behind_turns temps world)
           (ap (λ did. settled label_of (does_by known) [] (here (O.Plain (L.Beyond 4 5 false 0) ∷ turn) temps world) turn did)
           (test_is i temps world false keeps at4 (none_more i len (omega (arith, e))))
@@ -179,9 +192,9 @@ module _ (known : Known) (whole : List LiftedLine) (level : ℕ) (hook : Hook) (
           (next n i (omega (arith, e))))
 
       pub loop_follows : (temps : Temps) (world : World) → Keeps base temps →
-          Comes (2 + (5 * len + p)) (each len 0 >> rest) world (here (loop_lines hook of one other k) temps world)
+          Comes (2 + (net * len + p)) (each len 0 >> rest) world (here (loop_lines hook of one other k) temps world)
       loop_follows temps world keeps =
           let zeroed = with_value 4 temps (Number (pos 0)) in
-          weaker (omega arith) (omega arith)
+          weaker {p = 1 + (1 + (net * len + p))} {q = q} (omega arith) (le_refl q)
           (goes 1 (here (O.Plain (L.Beyond 4 5 false 0) ∷ turn) zeroed world) refl
           (test_follows 0 len (omega arith) zeroed world (keeps_number (Number (pos 0)) keeps) refl))

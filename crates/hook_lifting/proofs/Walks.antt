@@ -4,9 +4,10 @@ use Rattle.std.proofs.lemmas.Bool.{false≢true}
 use Rattle.nim_types.specs.Forms.{Form, plain, reference, block, elements, row, parts, resource, wrapped, Forms, no_forms, forms, of_some, hooked, hooked_any}
 use Rattle.nim_types.specs.Forms.{size}
 use Rattle.nim_meaning.specs.Heap.{Contents, Elements}
-use Rattle.nim_meaning.specs.Values.{Value, Vacant, Location, block_of, item_of, deeper, repeated, length_of, vacant, bytes}
-use Rattle.nim_meaning.specs.State.{World, load, text_of, is_seen, is_there, is_live}
-use Rattle.nim_meaning.specs.Deeds.{Stores, Refills, Frees, Deed, ◌>>=◌, ◌>>◌, give, branch, costs, does, unless_gone, sees, sets, frees, refills}
+use Rattle.nim_meaning.specs.Values.{Value, Vacant, Location, block_of, is_handle, item_of, deeper, repeated, length_of, vacant, bytes}
+use Rattle.nim_meaning.specs.State.{World, load, text_of, is_seen, is_full_at, is_there, is_live}
+use Rattle.nim_meaning.specs.Deeds.{Stores, Pops, Refills, Frees, Deed, ◌>>=◌, ◌>>◌, give, branch, costs, does, unless_gone, sees, takes as takes_all, sets}
+use Rattle.nim_meaning.specs.Deeds.{frees, refills}
 use Rattle.nim_meaning.specs.Lifted.{Walk, each_part, walk, walk_all, each_element, fresh, fresh_text, left_vacant, bits, copied_elements}
 use Rattle.nim_meaning.specs.Lifted.{ending, ends_at, in_hand, given_up, copying, copied, replaced, sunk, sinking, assigning}
 use Rattle.hook_lifting.specs.declared.lifted.Hook.{Hook}
@@ -43,6 +44,10 @@ module _ (takes : Bool) where
       ((world : World) (v : Value) → Answering Q (go world v)) → Answering Q (sees location go)
   ok_sees Q location go h = λ world. ok_gone Q (is_seen world location) (go world (load world location)) (h world (load world location))
 
+  ok_takes : {A : Type 0} (Q : A → Type 0) (location : Location) (go : World → Value → Deed A) →
+      ((world : World) (v : Value) → Answering Q (go world v)) → Answering Q (takes_all location go)
+  ok_takes Q location go h = λ world. ok_gone Q (is_full_at world location) (go world (load world location)) (h world (load world location))
+
   pub ok_sets : (location : Location) (v : Value) → Ok (sets location v)
   ok_sets location v = λ world. ok_gone (λ u. Unit {0}) (is_there world location) (does (Stores location v)) tt
 
@@ -54,15 +59,19 @@ module _ (takes : Bool) where
   ok_refills None contents = tt
   ok_refills (Some k) contents = λ world. ok_gone (λ u. Unit {0}) (is_live world k) (does (Refills k contents)) tt
 
+  pub ok_vacated : (location : Location) (v : Value) → Ok (sets location Vacant >> frees (block_of v))
+  ok_vacated location v = both (sets location Vacant) (frees (block_of v)) (ok_sets location Vacant) (ok_frees (block_of v))
+
   pub ok_left : (bytes : ℕ) (location : Location) (v : Value) → Ok (left_vacant bytes location v)
-  ok_left bytes location v = both (sets location Vacant) (frees (block_of v)) (ok_sets location Vacant) (ok_frees (block_of v))
+  ok_left bytes location v =
+      ok_gone (λ u. Unit {0}) (is_handle v) (costs bytes (sets location Vacant >> frees (block_of v))) (ok_vacated location v)
 
   -- a value comes to a location and is given on
   pub ok_put : (Q : Value → Type 0) (location : Location) (v answer : Value) → Q answer → Answering Q (sets location v >> give answer)
   ok_put Q location v answer h = tame_then takes (λ u. Unit {0}) Q (sets location v) (λ u. give answer) (ok_sets location v) (λ u ok. h)
 
   ok_bits : (to from : Location) → Ok (bits to from)
-  ok_bits to from = ok_sees (λ u. Unit {0}) from (λ world v. costs (bytes v) (sets to v)) (λ world v. ok_sets to v)
+  ok_bits to from = ok_takes (λ u. Unit {0}) from (λ world v. costs (bytes v) (sets to v)) (λ world v. ok_sets to v)
 
   -- ---- part by part
 
@@ -78,7 +87,7 @@ module _ (takes : Bool) where
   ok_parts zero act h i to from = tt
   ok_parts (suc n) act h i to from = both (act (deeper to i) (deeper from i)) _ (h _ _) (ok_parts n act h (suc i) to from)
 
-  ok_elements : (n : ℕ) (act : (to from : Location) → Deed (Unit {0})) → Each act → (i : ℕ) (v : Value) (to : Location) (w : Value) (from : Location) →
+  pub ok_elements : (n : ℕ) (act : (to from : Location) → Deed (Unit {0})) → Each act → (i : ℕ) (v : Value) (to : Location) (w : Value) (from : Location) →
       Ok (each_element n act i v to w from)
   ok_elements zero act h i v to w from = tt
   ok_elements (suc n) act h i v to w from =
@@ -136,7 +145,8 @@ ok_copying = record {
 
 ok_copied : (f : Form) (from : Location) → Answer (copied f from)
 ok_copied f from = λ world. tame_then true (λ x. Unit {0}) (λ x. Unit {0}) (walk copying f (in_hand world) from) _
-    (ok_walk true copying ok_copying f (in_hand world) from) (λ u ok after. tt)
+    (ok_walk true copying ok_copying f (in_hand world) from)
+    (λ u ok. ok_takes true (λ x. Unit {0}) (in_hand world) (λ after new. does Pops >> give new) (λ after new. tt))
 
 ok_given_up : (f : Form) (v : Value) → Answer (given_up f v)
 ok_given_up f v = λ world. both true (ends_at f (in_hand world)) _ (ok_ends true f (in_hand world) (in_hand world)) tt

@@ -1,18 +1,16 @@
 -- What a line of a lifted hook does, and what a hook does: the walk of the meaning over the form of its type.
-use Rattle.std.specs.Prelude.{◌≡◌, ℕ, zero, suc, ◌+◌, ◌-◌, ◌*◌, ◌≤◌, pos, unsigned_abs, List, [], length, Option, Some, None, option_map}
+use Rattle.std.specs.Prelude.{ℕ, zero, suc, ◌+◌, ◌-◌, ◌*◌, pos, unsigned_abs, nat_le, List, [], Option, Some, None, option_map}
 use Rattle.arc_base.specs.Event.{Event}
 use Rattle.arc_base.specs.Stepping.{Next, Goes, Ends as Is_over, Faults, Errs as Failed}
 use Rattle.nim_types.specs.Forms.{Form, size}
-use Rattle.nim_types.specs.declared.types.TypeDef.{TypeDef}
-use Rattle.nim_types.specs.declared.types.TypeDef.TheVariants as D
 use Rattle.nim_program.specs.Ints.{inside}
 use Rattle.nim_meaning.specs.Values.{Value, Number, Handle, length_of, block_of, first_of, repeated, vacant, item_of, deeper, Location}
 use Rattle.nim_meaning.specs.Heap.{Elements}
 use Rattle.nim_meaning.specs.State.{World, load, elements_of}
 use Rattle.nim_meaning.specs.Deeds.{Deed, Pushes, Pops, Done, Answers, Finishes, behind, perform, does, give, ◌>>=◌, ◌>>◌, costs, looks}
-use Rattle.nim_meaning.specs.Deeds.{Fails as At_fault, sees, sets, refills}
+use Rattle.nim_meaning.specs.Deeds.{sees, sets, refills}
 use Rattle.nim_meaning.specs.Lifted.{Walk, walk, copying, assigning, sinking, ending, fresh, left_vacant, in_hand}
-use Rattle.nim_meaning.specs.OwnedRows.{element_of, cut}
+use Rattle.nim_meaning.specs.OwnedRows.{element_of}
 use Rattle.nim_meaning.specs.Acts.{branch}
 use Rattle.flat_code.specs.Scene.{Known, Scene, Did, Passes, Located, Temps, no_temps, with_value, with_place}
 use Rattle.flat_code.specs.Scene as scenes
@@ -79,8 +77,8 @@ does_by known x (O.Exchange to at of) =
     using (x.temps.values of) (λ v. using_place x.temps at (λ _ a. gives x to (costs 1 (sees a (λ world old. sets a v >> give old)))))
 does_by known x (O.Copy to of) = using (x.temps.values of) (λ v. gives x to (costs 1 (give v)))
 does_by known x (O.Shorten at of count) =
-    using (x.temps.values of) (λ v. using_place x.temps at (λ _ a. using_number x.temps count (λ z. acts x (costs 1
-    (sets a (Handle (unsigned_abs z) (block_of v)))))))
+    using (x.temps.values of) (λ v. using_place x.temps at (λ _ a. using_number x.temps count (λ z.
+    branch (nat_le (unsigned_abs z) (length_of v)) (acts x (costs 1 (sets a (Handle (unsigned_abs z) (block_of v))))) scenes.Fails)))
 does_by known x (O.Forget of count) =
     using (x.temps.values of) (λ v. using_number x.temps count (λ z. acts x (costs 1
     (looks λ world. refills (block_of v) (Elements (first_of (unsigned_abs z) (elements_of world v)))))))
@@ -122,36 +120,7 @@ abbrev pub comes_to : Known → (lines : ℕ) → Machine LiftedLine → Option 
 comes_to known zero m = None
 comes_to known (suc n) m = by_next m (lines_step known m) (comes_to known n)
 
--- The same is shown, and it comes to the same world, or to the same end for want of heap, with at most three times the work and so much more. Of what is
--- at a fault nothing is said.
-abbrev pub Alike : (more : ℕ) → Done (Unit {0}) → Option (Done (Unit {0})) → Type 0
-Alike more (Answers es n x world) (Some (Answers fs m y other)) = (fs ≡ es) × (other ≡ world) × (m ≤ 3 * n + more)
-Alike more (Finishes es n status world) (Some (Finishes fs m other left)) = (fs ≡ es) × (other ≡ status) × (m ≤ 3 * n + more)
-Alike more (At_fault es n world) came = Unit {0}
-Alike more d came = ⊥
-
--- an array has as many turns as elements
-abbrev pub turns_of : TypeDef → ℕ
-turns_of (D.Array n of) = n
-turns_of d = 0
-
--- In each world in which its walk isn't at a fault a hook with lines does what the meaning does with the values, its walk. Beside three times that it
--- works once for each of its lines, and five times for each element of an array.
-abbrev pub Does_hook : Known → Hook → (ty : ℕ) → TypeDef → List LiftedLine → Type 0
-Does_hook known hook ty d lines =
-    (level : ℕ) (to from : Location) (world : World) →
-    (count : ℕ) × Alike (length lines + 5 * turns_of d) (perform (hook_deed known hook ty to from) world)
-    (comes_to known count (beginning lines level to from world))
-
 -- ---- a sequence is made shorter
 
 abbrev pub place_and_count : (at : Location) → (count : ℕ) → Temps
 place_and_count at n = with_value 8 (with_place 0 no_temps (Located at)) (Number (pos n))
-
--- In each world in which the meaning isn't at a fault these lines do what it does where a sequence of such elements keeps n of them. Beside three times
--- that they work once for each of them, and five times for each element that ends.
-abbrev pub Does_cut : Known → (of : ℕ) → List LiftedLine → Type 0
-Does_cut known of lines =
-    (level : ℕ) (at : Location) (n : ℕ) (world : World) →
-    (count : ℕ) × Alike (length lines + 5 * (length_of (load world at) - n)) (perform (sees at (λ world v. cut (form_in known of) n at v)) world)
-    (comes_to known count (begun_with (place_and_count at n) lines level world))

@@ -104,7 +104,7 @@ pub enum LiftedLine {
         to: u32,
         of: u32,
     },
-    /// A sequence, at its location, has so many elements from now on.
+    /// A sequence that has so many elements, at its location, has no more from now on.
     Shorten {
         at: u32,
         of: u32,

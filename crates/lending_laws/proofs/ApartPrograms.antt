@@ -1,10 +1,10 @@
--- Programs that rules accept lend what lies apart.
-use Rattle.std.proofs.Common.{◌≡◌, Bool, true, false, List, [], ◌∷◌, ◌++◌, refl, sym, ap, subst, ◌∙◌, append_assoc, append-nil, Option, Some, None}
+-- Programs that rules accept lend well.
+use Rattle.std.proofs.Common.{◌≡◌, ℕ, Bool, true, false, List, [], ◌∷◌, ◌++◌, refl, sym, ap, subst, ◌∙◌, append_assoc, append-nil, Option, Some, None}
 use Rattle.std.proofs.Common.{inl, inr}
 use Rattle.std.specs.Prelude.{Ok}
 use Rattle.nim_tree.specs.Statements.{Statements}
 use Rattle.nim_types.specs.Types.{Ty}
-use Rattle.nim_program.specs.Program.{Body, Proc, Program, Stmts}
+use Rattle.nim_program.specs.Program.{Param, Body, Proc, Program, Stmts}
 use Rattle.expr_rules.specs.Answers.{Answer}
 use Rattle.expr_rules.specs.Laws.{CallsComputed}
 use Rattle.decl_rules.specs.State.{ResultPlace, State, Stated, Step, does, declares, defers, block_of, in_module, Item, announces, completes, code}
@@ -15,9 +15,22 @@ use Rattle.decl_rules.specs.Elaborated.{Module, module_begins}
 use Rattle.decl_rules.specs.ProgramRules.{AreModules, p_none, p_more, IsProgram, p_program}
 use Rattle.decl_rules.specs.Rules as R
 use Rattle.decl_rules.specs.Rules.{AreStated}
-use Rattle.lending_laws.specs.Apart.{AreLentApart, BlockParts, HandsUnnamed, IfBody, InProcs}
-use Rattle.lending_laws.proofs.Sure.{then_is}
-use Rattle.lending_laws.proofs.ApartStmts.{Tells, Told, told_on, told_last, BodyTold, AllTold, On, on_then, stays, all_done, both_part}
+use Rattle.lending_laws.specs.Writing.{lent_params}
+use Rattle.lending_laws.specs.Apart.{AreLentApart, BlockLends, HandsUnnamed, IfBody, InProcs}
+use Rattle.lending_laws.proofs.Sure.{then_is, never}
+use Rattle.lending_laws.proofs.ApartStates.{Tells, Told, told_on, told_last, BodyTold, AllTold, On, on_then, same_on, Keeps, noting_keeps, both_part}
+use Rattle.lending_laws.proofs.ApartStmts.{stated_done, all_done}
+
+-- nothing is lent to the start code
+abbrev start : ℕ → Bool
+start = lent_params []
+
+begins : (st : State) (number : ℕ) → Keeps start (module_begins st number)
+begins st number = record {
+  spared = (tt, (tt, (tt, (tt, (tt, (tt, (tt, tt)))))));
+  below = (tt, (tt, (tt, (tt, (tt, (tt, (tt, tt)))))));
+  bounded = λ n e. never e;
+}
 
 module _ (found : NamesFound) (all : List Proc) where
   abbrev Unnamed : List Occurrence → Type 0
@@ -91,48 +104,50 @@ module _ (found : NamesFound) (all : List Proc) where
     leads_on : (st x : State) → On st x → Leads x.text → Leads st.text
     leads_on st x on h = (on.more ++ h.0, h.1 ∙ ap (λ t. t ++ h.0) on.is ∙ append_assoc st.text on.more h.0)
 
-    code_unnamed : {ends : ResultPlace} {st : State} {stmts : Statements} {x : Stated} → AreStated in_module ends st stmts x → Leads x.state.text
-        → Unnamed (in_block (block_of x.steps))
-    code_unnamed R.s_none h = tt
-    code_unnamed (R.s_more {one = one} {more = more} f k) h =
+    code_unnamed : {ends : ResultPlace} {st : State} {stmts : Statements} {x : Stated} → Keeps start st → AreStated in_module ends st stmts x
+        → Leads x.state.text → Unnamed (in_block (block_of x.steps))
+    code_unnamed keeps R.s_none h = tt
+    code_unnamed keeps (R.s_more {one = one} {more = more} f k) h =
         let noted = code (block_of one.steps) in
-        let rest = leads_on (record one.state { text = one.state.text ++ noted ∷ [] }) more.state (all_done computed k).on h in
+        let behind = noting_keeps start true one (stated_done computed start keeps f).keeps in
+        let rest = leads_on (record one.state { text = one.state.text ++ noted ∷ [] }) more.state (all_done computed start behind k).on h in
         steps_both one.steps more.steps
         (told_unnamed text (block_of one.steps) ruled (subst (λ t. Told t (block_of one.steps)) (sym rest.1)
         (told_on (one.state.text ++ noted ∷ []) rest.0 (block_of one.steps) (told_last one.state.text noted (block_of one.steps) refl))))
-        (code_unnamed k h)
+        (code_unnamed behind k h)
 
     modules_on : {st : State} {ms : List Module} {x : Stated} → AreModules st ms x → On st x.state
-    modules_on {st} p_none = stays st st refl refl
+    modules_on {st} p_none = same_on st st refl refl refl
     modules_on {st} (p_more {m = m} {one = one} h k) =
-        on_then (stays st (module_begins st m.number) refl refl) (on_then (all_done computed h).on (modules_on k))
+        on_then (same_on st (module_begins st m.number) refl refl refl) (on_then (all_done computed start (begins st m.number) h).on (modules_on k))
 
     modules_unnamed : {st : State} {ms : List Module} {x : Stated} → AreModules st ms x → Leads x.state.text → Unnamed (in_block (block_of x.steps))
     modules_unnamed p_none h = tt
-    modules_unnamed (p_more {one = one} {more = more} f k) h =
-        steps_both one.steps more.steps (code_unnamed f (leads_on one.state more.state (modules_on k) h)) (modules_unnamed k h)
+    modules_unnamed {st} (p_more {m = m} {one = one} {more = more} f k) h =
+        steps_both one.steps more.steps (code_unnamed (begins st m.number) f (leads_on one.state more.state (modules_on k) h)) (modules_unnamed k h)
 
-    modules_part : {st : State} {ms : List Module} {x : Stated} → AreModules st ms x → BlockParts (block_of x.steps)
+    modules_part : {st : State} {ms : List Module} {x : Stated} → AreModules st ms x → BlockLends start (block_of x.steps)
     modules_part p_none = tt
-    modules_part (p_more {one = one} {more = more} f k) = both_part one.steps more.steps (all_done computed f).part (modules_part k)
+    modules_part {st} (p_more {m = m} {one = one} {more = more} f k) =
+        both_part start one.steps more.steps (all_done computed start (begins st m.number) f).part (modules_part k)
 
     -- ---- bodies
 
-    if_part : (body : Option Body) → IfBody (BodyTold text) body → IfBody BlockParts body
-    if_part None h = tt
-    if_part (Some body) h = h.0
+    if_part : (params : List Param) (body : Option Body) → IfBody (BodyTold text params) body → IfBody (BlockLends (lent_params params)) body
+    if_part params None h = tt
+    if_part params (Some body) h = h.0
 
-    if_unnamed : (body : Option Body) → IfBody (BodyTold text) body → IfBody (λ stmts. Unnamed (in_block stmts)) body
-    if_unnamed None h = tt
-    if_unnamed (Some body) h = told_unnamed text body.stmts ruled h.1
+    if_unnamed : (params : List Param) (body : Option Body) → IfBody (BodyTold text params) body → IfBody (λ stmts. Unnamed (in_block stmts)) body
+    if_unnamed params None h = tt
+    if_unnamed params (Some body) h = told_unnamed text body.stmts ruled h.1
 
-    procs_part : (procs : List Proc) → AllTold text procs → InProcs BlockParts procs
+    procs_part : (procs : List Proc) → AllTold text procs → InProcs (λ params. BlockLends (lent_params params)) procs
     procs_part [] h = tt
-    procs_part (p ∷ procs) h = (if_part p.body h.0, procs_part procs h.1)
+    procs_part (p ∷ procs) h = (if_part p.params p.body h.0, procs_part procs h.1)
 
-    procs_unnamed : (procs : List Proc) → AllTold text procs → InProcs (λ stmts. Unnamed (in_block stmts)) procs
+    procs_unnamed : (procs : List Proc) → AllTold text procs → InProcs (λ params stmts. Unnamed (in_block stmts)) procs
     procs_unnamed [] h = tt
-    procs_unnamed (p ∷ procs) h = (if_unnamed p.body h.0, procs_unnamed procs h.1)
+    procs_unnamed (p ∷ procs) h = (if_unnamed p.params p.body h.0, procs_unnamed procs h.1)
 
 pub lent_apart : CallsComputed → NamesFound → (types : List Ty) (ms : List Module) (program : Program) → IsProgram types ms program → AreLentApart program
 lent_apart computed found types ms program (p_program {s = s} none modules ruled) =
@@ -140,6 +155,6 @@ lent_apart computed found types ms program (p_program {s = s} none modules ruled
     let text = s.state.text in
     let told = (modules_on found procs computed text ruled modules).told tt in
     record {
-      part_ways = (procs_part found procs computed text ruled procs told, modules_part found procs computed text ruled modules);
+      acts = (procs_part found procs computed text ruled procs told, modules_part found procs computed text ruled modules);
       unnamed = (procs_unnamed found procs computed text ruled procs told, modules_unnamed found procs computed text ruled modules ([], sym (append-nil text)));
     }

@@ -1,5 +1,8 @@
 mod Sure
+mod Writable
+mod Scopes
 mod ApartRules
 mod ApartExprs
+mod ApartStates
 mod ApartStmts
 mod ApartPrograms

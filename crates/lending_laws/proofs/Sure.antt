@@ -10,6 +10,9 @@ some_one e = cc
 pub ok_one : {A : Type 0} {a b : A} → ◌≡◌ {A = Answer A} (Ok a) (Ok b) → a ≡ b
 ok_one e = cc
 
+pub never : {A : Type 0} → ◌≡◌ {A = Bool} false true → A
+never e = cc
+
 pub data Sure {A : Type 0} (P : A → Type 0) : Answer A → Type 0 where
   s_ok : {a : A} → P a → Sure P (Ok a)
   s_err : {f : Refusal} → Sure P (Err f)
@@ -26,6 +29,10 @@ sure_then s_err f = s_err
 pub sure_any : {A : Type 0} (r : Answer A) → Sure (λ a. Unit {0}) r
 sure_any (Ok a) = s_ok tt
 sure_any (Err f) = s_err
+
+pub sure_as : {A : Type 0} {P Q : A → Type 0} {r : Answer A} → ((a : A) → P a → Q a) → Sure P r → Sure Q r
+sure_as f (s_ok {a = a} h) = s_ok (f a h)
+sure_as f s_err = s_err
 
 pub sure_if : {A : Type 0} {P : A → Type 0} {a c : Answer A} (b : Bool) → Sure P a → Sure P c → Sure P (if b then a else c)
 sure_if true h f = h

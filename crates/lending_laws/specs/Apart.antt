@@ -1,20 +1,15 @@
--- Places that stand for places of the caller lie apart: no two arguments of a call are one place or part of the other, and none is a global that
--- the procedure names, in its body or in that of what it calls, and so on.
-use Rattle.std.specs.Prelude.{◌≡◌, false, List, [], ◌∷◌, Option, Some, None}
+-- What bodies lend is safe. Places that stand for places of the caller lie apart: no two arguments of a call are one place or part of the other, and
+-- none is a global that the procedure names, in its body or in that of what it calls, and so on. And what is lent to a body isn't written by it.
+use Rattle.std.specs.Prelude.{◌≡◌, ℕ, Bool, false, List, [], ◌∷◌, Option, Some, None}
 use Rattle.nim_program.specs.Program.{Act, Calling, Expr, Apply, Read, Early, Choose, Path, Variable, Fresh, Field, Element, Deref}
 use Rattle.nim_program.specs.Program.{Args, NoArg, ByValue, ByPath, Stmt, Do, Idle, Give, Leave, Select, Loop, Raise, Try, Stmts, Empty, Then, Declare, Defer}
-use Rattle.nim_program.specs.Program.{Blocks, Otherwise, Block, Handlers, NoHandler, Handler, Body, Proc, Program}
+use Rattle.nim_program.specs.Program.{Blocks, Otherwise, Block, Handlers, NoHandler, Handler, Param, Body, Proc, Program}
 use Rattle.expr_rules.specs.Paths.{overlap}
 use Rattle.decl_rules.specs.Occurrences.{Occurrence, global, calls, hands, in_block}
 use Rattle.decl_rules.specs.Naming.{Names}
+use Rattle.lending_laws.specs.Writing.{lent_in, written_by, lent_params, kept_within, NoneBegins}
 
--- ---- arguments of one call
-
--- the arguments of `var` parameters: a value is none
-abbrev pub lent_in : Args → List Path
-lent_in NoArg = []
-lent_in (ByValue value rest) = lent_in rest
-lent_in (ByPath path rest) = path ∷ lent_in rest
+-- ---- one act
 
 -- other roots, or a step at which both are fields and differ
 abbrev pub PartsFrom : Path → List Path → Type 0
@@ -30,50 +25,54 @@ abbrev pub ArgsPartWays : Act → Args → Type 0
 ArgsPartWays (Calling proc types) operands = PartWays (lent_in operands)
 ArgsPartWays act operands = Unit {0}
 
--- in all calls of a tree
-abbrev mutual
-  pub CallsPart : Expr → Type 0
-  CallsPart (Apply node ty act operands) = ArgsPartWays act operands × CallsPartIn operands
-  CallsPart (Read path) = CallsPartAt path
-  CallsPart (Early node ty short left right) = CallsPart left × CallsPart right
-  CallsPart (Choose node ty chooser parts) = CallsPartIn parts
+abbrev pub ActLends : (kept : ℕ → Bool) → Act → Args → Type 0
+ActLends kept act operands = ArgsPartWays act operands × NoneBegins kept (written_by act operands)
 
-  pub CallsPartAt : Path → Type 0
-  CallsPartAt (Variable node ty place is_global) = Unit {0}
-  CallsPartAt (Fresh value) = CallsPart value
-  CallsPartAt (Field node ty base field) = CallsPartAt base
-  CallsPartAt (Element node ty base index constant) = CallsPartAt base × CallsPart index
-  CallsPartAt (Deref ty base) = CallsPartAt base
-
-  pub CallsPartIn : Args → Type 0
-  CallsPartIn NoArg = Unit {0}
-  CallsPartIn (ByValue value rest) = CallsPart value × CallsPartIn rest
-  CallsPartIn (ByPath path rest) = CallsPartAt path × CallsPartIn rest
+-- ---- all acts of a tree
 
 abbrev mutual
-  pub StmtParts : Stmt → Type 0
-  StmtParts (Do value) = CallsPart value
-  StmtParts (Idle node parts) = CallsPartIn parts
-  StmtParts (Give node back value) = CallsPart value
-  StmtParts (Leave node leaving parts) = CallsPartIn parts
-  StmtParts (Select node chooser tests blocks) = CallsPartIn tests × EachBlockParts blocks
-  StmtParts (Loop node kind head body) = CallsPartIn head × BlockParts body
-  StmtParts (Raise node exception message) = CallsPartIn message
-  StmtParts (Try node body handlers last) = BlockParts body × (EachHandlerParts handlers × BlockParts last)
+  pub ExprLends : (kept : ℕ → Bool) → Expr → Type 0
+  ExprLends kept (Apply node ty act operands) = ActLends kept act operands × ArgsLend kept operands
+  ExprLends kept (Read path) = PathLends kept path
+  ExprLends kept (Early node ty short left right) = ExprLends kept left × ExprLends kept right
+  ExprLends kept (Choose node ty chooser parts) = ArgsLend kept parts
 
-  pub BlockParts : Stmts → Type 0
-  BlockParts Empty = Unit {0}
-  BlockParts (Then first rest) = StmtParts first × BlockParts rest
-  BlockParts (Declare node place cursor value rest) = CallsPartIn value × BlockParts rest
-  BlockParts (Defer node last rest) = BlockParts last × BlockParts rest
+  pub PathLends : (kept : ℕ → Bool) → Path → Type 0
+  PathLends kept (Variable node ty place is_global) = Unit {0}
+  PathLends kept (Fresh value) = ExprLends kept value
+  PathLends kept (Field node ty base field) = PathLends kept base
+  PathLends kept (Element node ty base index constant) = PathLends kept base × ExprLends kept index
+  PathLends kept (Deref ty base) = PathLends kept base
 
-  pub EachBlockParts : Blocks → Type 0
-  EachBlockParts (Otherwise block) = BlockParts block
-  EachBlockParts (Block first rest) = BlockParts first × EachBlockParts rest
+  pub ArgsLend : (kept : ℕ → Bool) → Args → Type 0
+  ArgsLend kept NoArg = Unit {0}
+  ArgsLend kept (ByValue value rest) = ExprLends kept value × ArgsLend kept rest
+  ArgsLend kept (ByPath path rest) = PathLends kept path × ArgsLend kept rest
 
-  pub EachHandlerParts : Handlers → Type 0
-  EachHandlerParts NoHandler = Unit {0}
-  EachHandlerParts (Handler types name body rest) = BlockParts body × EachHandlerParts rest
+abbrev mutual
+  pub StmtLends : (kept : ℕ → Bool) → Stmt → Type 0
+  StmtLends kept (Do value) = ExprLends kept value
+  StmtLends kept (Idle node parts) = ArgsLend kept parts
+  StmtLends kept (Give node back value) = ExprLends kept value
+  StmtLends kept (Leave node leaving parts) = ArgsLend kept parts
+  StmtLends kept (Select node chooser tests blocks) = ArgsLend kept tests × BlocksLend kept blocks
+  StmtLends kept (Loop node kind head body) = ArgsLend kept head × BlockLends (kept_within kind kept) body
+  StmtLends kept (Raise node exception message) = ArgsLend kept message
+  StmtLends kept (Try node body handlers last) = BlockLends kept body × (HandlersLend kept handlers × BlockLends kept last)
+
+  pub BlockLends : (kept : ℕ → Bool) → Stmts → Type 0
+  BlockLends kept Empty = Unit {0}
+  BlockLends kept (Then first rest) = StmtLends kept first × BlockLends kept rest
+  BlockLends kept (Declare node place cursor value rest) = ArgsLend kept value × BlockLends kept rest
+  BlockLends kept (Defer node last rest) = BlockLends kept last × BlockLends kept rest
+
+  pub BlocksLend : (kept : ℕ → Bool) → Blocks → Type 0
+  BlocksLend kept (Otherwise block) = BlockLends kept block
+  BlocksLend kept (Block first rest) = BlockLends kept first × BlocksLend kept rest
+
+  pub HandlersLend : (kept : ℕ → Bool) → Handlers → Type 0
+  HandlersLend kept NoHandler = Unit {0}
+  HandlersLend kept (Handler types name body rest) = BlockLends kept body × HandlersLend kept rest
 
 -- ---- globals
 
@@ -90,14 +89,15 @@ abbrev pub IfBody : (Stmts → Type 0) → Option Body → Type 0
 IfBody holds None = Unit {0}
 IfBody holds (Some body) = holds body.stmts
 
-abbrev pub InProcs : (Stmts → Type 0) → List Proc → Type 0
+-- of bodies with these parameters
+abbrev pub InProcs : (List Param → Stmts → Type 0) → List Proc → Type 0
 InProcs holds [] = Unit {0}
-InProcs holds (proc ∷ procs) = IfBody holds proc.body × InProcs holds procs
+InProcs holds (proc ∷ procs) = IfBody (holds proc.params) proc.body × InProcs holds procs
 
 -- of the bodies of procedures and of the start code
-abbrev pub InBodies : (Stmts → Type 0) → Program → Type 0
-InBodies holds program = InProcs holds program.procs × holds program.start.stmts
+abbrev pub InBodies : (List Param → Stmts → Type 0) → Program → Type 0
+InBodies holds program = InProcs holds program.procs × holds [] program.start.stmts
 
 pub record AreLentApart (program : Program) : Type 0 where
-  pub part_ways : InBodies BlockParts program
-  pub unnamed : InBodies (λ stmts. HandsUnnamed program.procs (in_block stmts)) program
+  pub acts : InBodies (λ params. BlockLends (lent_params params)) program
+  pub unnamed : InBodies (λ params stmts. HandsUnnamed program.procs (in_block stmts)) program

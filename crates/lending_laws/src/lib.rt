@@ -1,4 +1,4 @@
-//! What a typed program lends to its procedures lies apart.
+//! What a typed program lends to its procedures lies apart, and isn't written.
 #![tactic(auto)]
 
 mod laws;

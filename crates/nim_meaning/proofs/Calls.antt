@@ -1,6 +1,5 @@
 -- What every program has, if it is kept where parts are put together, at each level of calls, and by the body of a call.
-use Rattle.std.proofs.Common.{◌≡◌, refl, ℕ, zero, suc, Bool, true, List, [], ◌∷◌, Option, Some, None}
-use Rattle.std.proofs.lemmas.Bool.{and_parts}
+use Rattle.std.proofs.Common.{ℕ, zero, suc, List, Option, Some, None}
 use Rattle.std.specs.Prelude.{slice_get}
 use Rattle.nim_plan.specs.declared.plan.Plan.{Plan}
 use Rattle.nim_program.specs.declared.program.TheConstants.{ACTIVE_CALLS}
@@ -8,9 +7,7 @@ use Rattle.nim_program.specs.Program.{Param, Body, Proc, Program}
 use Rattle.nim_program.specs.Traps.{CallDepth}
 use Rattle.nim_meaning.specs.Values.{Slot}
 use Rattle.nim_meaning.specs.Acts.{Does, say, spending, elsewhere, stop}
-use Rattle.nim_types.specs.Types.{Ty}
-use Rattle.nim_meaning.specs.Here.{Calls, Here, is_hooked}
-use Rattle.nim_meaning.specs.Runs.{is_plain_place, is_plain_block, is_plain_body, are_plain_params, is_plain_if_body, are_plain_procs, has_no_hooks}
+use Rattle.nim_meaning.specs.Here.{Calls, Here}
 use Rattle.nim_meaning.specs.Meaning.{exec_all, from_level, entered_body, entered, seen_call, called, calls, at_top, goes_through}
 use Rattle.nim_meaning.proofs.Parts.{Said, Closed, both, stops, all_stmts}
 
@@ -23,54 +20,32 @@ pub record ClosedCalls (P : ℕ → Said) : Type 1 where
       (P (suc level)).of (exec_all body.stmts (from_level program plan (suc level) call body)) →
       (P level).of (entered_body program.globals params body slots (from_level program plan (suc level) call body))
 
--- no value and no place of a procedure has hooks
-abbrev is_plain_proc : (hooked : Ty → Bool) → Option Proc → Bool
-is_plain_proc hooked None = true
-is_plain_proc hooked (Some proc) = is_plain_if_body hooked proc.params proc.body
-
-plain_proc : (hooked : Ty → Bool) (procs : List Proc) (i : ℕ) → are_plain_procs hooked procs ≡ true → is_plain_proc hooked (slice_get procs i) ≡ true
-plain_proc hooked [] i h = refl
-plain_proc hooked (p ∷ procs) zero h = (and_parts (is_plain_if_body hooked p.params p.body) (are_plain_procs hooked procs) h).0
-plain_proc hooked (p ∷ procs) (suc i) h = plain_proc hooked procs i (and_parts (is_plain_if_body hooked p.params p.body) (are_plain_procs hooked procs) h).1
-
-module _ (P : ℕ → Said) (closed : ClosedCalls P) (program : Program) (plan : Plan) (plain : (level : ℕ) → (P level).mild → has_no_hooks program ≡ true) where
-  abbrev hooked : Ty → Bool
-  hooked = is_hooked program.facts
-
-  procs_plain : (level : ℕ) → (P level).mild → are_plain_procs hooked program.procs ≡ true
-  procs_plain level m = (and_parts (are_plain_procs hooked program.procs) (is_plain_body hooked program.start) (plain level m)).0
-
+module _ (P : ℕ → Said) (closed : ClosedCalls P) (program : Program) (plan : Plan) where
   module _ (level : ℕ) (call : Calls) (h : (proc : ℕ) (slots : List Slot) → (P (suc level)).of (call proc slots)) where
     abbrev from : Body → Here
     from body = from_level program plan (suc level) call body
 
-    is_in : (params : List Param) (body : Option Body) (slots : List Slot) → ((P (suc level)).mild → is_plain_if_body hooked params body ≡ true) →
+    is_in : (params : List Param) (body : Option Body) (slots : List Slot) →
         (P level).of (entered program.globals params body slots from)
-    is_in params None slots m = (closed.parts level).got _
-    is_in params (Some body) slots m =
+    is_in params None slots = (closed.parts level).got _
+    is_in params (Some body) slots =
         closed.bodies level program plan call params body slots
-        (all_stmts (P (suc level)) (closed.parts (suc level)) (from body) h body.stmts
-        (λ x. (and_parts (is_plain_place hooked body.result) (is_plain_block hooked body.stmts)
-        (and_parts (are_plain_params hooked params) (is_plain_body hooked body) (m x)).1).1))
+        (all_stmts (P (suc level)) (closed.parts (suc level)) (from body) h body.stmts)
 
-    is_called : (proc : Option Proc) (slots : List Slot) → ((P (suc level)).mild → is_plain_proc hooked proc ≡ true) →
-        (P level).of (called program.globals proc slots from)
-    is_called None slots m = (closed.parts level).got _
-    is_called (Some proc) slots m =
+    is_called : (proc : Option Proc) (slots : List Slot) → (P level).of (called program.globals proc slots from)
+    is_called None slots = (closed.parts level).got _
+    is_called (Some proc) slots =
         both (P level) (closed.parts level) (say (seen_call proc.hook)) _ ((closed.parts level).says (seen_call proc.hook))
-        (is_in proc.params proc.body slots m)
+        (is_in proc.params proc.body slots)
 
   pub all_calls : (left level proc : ℕ) (slots : List Slot) → (P level).of (calls program plan left (suc level) proc slots)
   all_calls zero level proc slots = closed.spends level (stop CallDepth) (stops (P level) (closed.parts level) CallDepth)
   all_calls (suc left) level proc slots =
       closed.spends level _ (closed.leads_away level _
-      (is_called level (calls program plan left (suc (suc level))) (all_calls left (suc level)) (slice_get program.procs proc) slots
-      (λ m. plain_proc hooked program.procs proc (procs_plain (suc level) m))))
+      (is_called level (calls program plan left (suc (suc level))) (all_calls left (suc level)) (slice_get program.procs proc) slots))
 
   pub whole_program : (P 0).of (goes_through program plan)
   whole_program =
       let outside = closed.parts 0 in
       outside.costs _ _ (outside.then (exec_all program.start.stmts (at_top program plan)) _
-      (all_stmts (P 0) outside (at_top program plan) (all_calls ACTIVE_CALLS 0) program.start.stmts
-      (λ m. (and_parts (is_plain_place hooked program.start.result) (is_plain_block hooked program.start.stmts)
-      (and_parts (are_plain_procs hooked program.procs) (is_plain_body hooked program.start) (plain 0 m)).1).1)) outside.got)
+      (all_stmts (P 0) outside (at_top program plan) (all_calls ACTIVE_CALLS 0) program.start.stmts) outside.got)

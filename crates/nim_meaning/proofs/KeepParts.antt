@@ -6,15 +6,13 @@ use Rattle.nim_program.specs.Traps.{OutOfMemory}
 use Rattle.nim_plan.specs.declared.plan.Plan.{Plan}
 use Rattle.nim_program.specs.Program.{Param, Body, Program, Declared, last_of}
 use Rattle.nim_meaning.specs.Heap.{Contents, has_room}
-use Rattle.nim_meaning.specs.Values.{Value, Slot}
+use Rattle.nim_meaning.specs.Values.{Value, Slot, is_full}
 use Rattle.nim_meaning.specs.State.{Frame, World, State, with_frame, down_to}
 use Rattle.nim_meaning.specs.Kept.{Meets}
-use Rattle.nim_meaning.specs.Acts.{Broke, Continued, Returned, Raised, Outcome, On, Out, exit_of, change, branch, give, stop, worked, said, ◌>>◌}
+use Rattle.nim_meaning.specs.Acts.{Broke, Continued, Returned, Raised, Outcome, On, Out, Does, exit_of, change, branch, give, wrong, stop, worked, said, ◌>>◌}
 use Rattle.nim_meaning.specs.Deeds.{Change, changed, with_block, Deed, Gives, Ends, Errs as Wrong, Works, Says, Looks, Changes, Takes, carry}
 use Rattle.nim_meaning.specs.Here.{Calls, Here, is_hooked}
-use Rattle.nim_meaning.specs.Meaning.{exec_all, frame_of, place_ends, ends, params_end, handing, handed, entered_body, from_level, goes_through}
-use Rattle.nim_meaning.specs.Runs.{has_no_hooks}
-use Rattle.nim_meaning.proofs.Mild.{HasNone}
+use Rattle.nim_meaning.specs.Meaning.{exec_all, frame_of, place_ends, ends, params_end, result_of, handing, handed, entered_body, from_level, goes_through}
 use Rattle.nim_meaning.proofs.Keeps.{Keeps, Only, Stays, stays_wrong, keeps_then, keeps_costs, keeps_looks, keeps_on, keeps_past, stays_got, stays_end}
 use Rattle.nim_meaning.proofs.Keeps.{stays_then}
 use Rattle.nim_meaning.proofs.Keeps.{stays_seq, stays_costs, stays_says, stays_looks, stays_change, stays_takes, stays_passing, stays_elsewhere}
@@ -61,75 +59,52 @@ pub record Invariant (K : World → Type 0) (I : ℕ → World → Type 0) : Typ
   pub enters : (level : ℕ) (frame : Frame) (world : World) → I level world → I (suc level) (with_frame world frame)
   pub leaves : (level : ℕ) (world : World) → I (suc level) world → I level (down_to (suc level) world)
 
--- And where it is wrong as W says. Where deeds are mild no block is taken, and none was.
-pub record Claim (Mild : Type 0) (W K : World → Type 0) (I : ℕ → World → Type 0) : Type 0 where
-  pub within : (level : ℕ) (world : World) → I level world → K world
-  pub is_wrong : (Mild → ⊥) → (level : ℕ) (world : World) → I level world → W world
-  pub has_none : Mild → (level : ℕ) (world : World) → I level world → HasNone world
-  pub changes : (level : ℕ) (c : Change) (world : World) → I level world → I level (changed c world)
-  pub takes : (Mild → ⊥) → (level class : ℕ) (contents : Contents) (world : World) → has_room world.heap class ≡ true → I level world →
-      I level (with_block class contents world)
-  pub enters : (level : ℕ) (frame : Frame) (world : World) → I level world → I (suc level) (with_frame world frame)
-  pub leaves : (level : ℕ) (world : World) → I (suc level) world → I level (down_to (suc level) world)
-
--- whatever the deeds
-pub claim : (K : World → Type 0) (I : ℕ → World → Type 0) → Invariant K I → Claim ⊥ K K I
-claim K I inv = record {
-  within = inv.within;
-  is_wrong = λ free. inv.within;
-  has_none = λ never. absurd never;
-  changes = inv.changes;
-  takes = λ free. inv.takes;
-  enters = inv.enters;
-  leaves = inv.leaves;
-}
-
-module _ (Mild : Type 0) (W K : World → Type 0) (I : ℕ → World → Type 0) (inv : Claim Mild W K I) where
+module _ (K : World → Type 0) (I : ℕ → World → Type 0) (inv : Invariant K I) where
   abbrev kept : ℕ → Said
-  kept level = record { of = Stays W K (I level); turn = Stays W K (I level); mild = Mild }
+  kept level = record { of = Stays K (I level); turn = Stays K (I level) }
 
   closed : (level : ℕ) → Closed (kept level)
   closed level =
       let J = I level in
       let w : (world : World) → J world → K world = inv.within level in
       record {
-        got = stays_got W K J w;
-        ended = stays_end W K J w;
-        errs = λ free. stays_wrong W K J w (inv.is_wrong free level);
-        then = stays_then W K J w;
-        costs = stays_costs W K J w;
-        says = stays_says W K J w;
-        looks = λ act. stays_looks W K J w (λ world. Mild → HasNone world) (λ world i mild. inv.has_none mild level world i) act;
-        changes = λ c. stays_change W K J w (changed c) (inv.changes level c);
-        takes = λ free class contents rest fails. stays_takes W K J w class contents rest fails (inv.takes free level class contents);
-        passes = stays_passing W K J w;
-        turn_again = stays_again W K J w;
-        turn_last = stays_got W K J w _;
-        turn_then = stays_seq W K J w;
-        turn_passes = stays_passing W K J w;
-        loops = stays_loop W K J w;
+        got = stays_got K J w;
+        ended = stays_end K J w;
+        errs = stays_wrong K J w;
+        then = stays_then K J w;
+        costs = stays_costs K J w;
+        says = stays_says K J w;
+        looks = stays_looks K J w;
+        changes = λ c. stays_change K J w (changed c) (inv.changes level c);
+        takes = λ class contents rest fails. stays_takes K J w class contents rest fails (inv.takes level class contents);
+        passes = stays_passing K J w;
+        turn_again = stays_again K J w;
+        turn_last = stays_got K J w _;
+        turn_then = stays_seq K J w;
+        turn_passes = stays_passing K J w;
+        loops = stays_loop K J w;
       }
 
   -- ---- calls
 
   -- a place that ends isn't left
-  ends_stay : (at : ℕ) (here : Here) (place : Declared) (exit : ℕ) → Keeps W K (I at) (ends here place exit) (Only W K (I at))
+  ends_stay : (at : ℕ) (here : Here) (place : Declared) (exit : ℕ) → Keeps K (I at) (ends here place exit) (Only K (I at))
   ends_stay at here place exit =
       record { at = λ s i. only (ends here place exit s) ((ends_is (kept at) (closed at) here place exit).at s i) (ends_not_left here place exit s) }
     where
-      only : (r : Res State (Outcome (Unit {0}))) → Meets W K (λ x. I at) r → NotLeft r → Meets W K (Only W K (I at)) r
+      only : (r : Res State (Outcome (Unit {0}))) → Meets K K (λ x. I at) r → NotLeft r → Meets K K (Only K (I at)) r
       only (Got (On x) s) h n = h
       only (Got (Out way) s) h n = absurd n
       only (Over status live s) h n = h
       only (Going s) h n = h
       only (Errs s) h n = h
 
-  params_stay : (at : ℕ) (here : Here) (params : List Param) (exit : ℕ) → Keeps W K (I at) (params_end here params exit) (Only W K (I at))
+  params_stay : (at : ℕ) (here : Here) (params : List Param) (exit : ℕ) → Keeps K (I at) (params_end here params exit) (Only K (I at))
   params_stay at here [] exit = record { at = λ s i. i }
   params_stay at here (param ∷ params) exit =
-      keeps_past W K (I at) (I at) (Only W K (I at)) (params_end here params exit) _ (params_stay at here params exit) (ends_stay at here param.place exit)
+      keeps_past K (I at) (I at) (Only K (I at)) (params_end here params exit) _ (params_stay at here params exit) (ends_stay at here param.place exit)
 
-  handing_stays : (level : ℕ) (flow : Outcome (Unit {0})) (v : Value) → Stays W K (I level) (handing flow v)
+  handing_stays : (level : ℕ) (flow : Outcome (Unit {0})) (v : Value) → Stays K (I level) (handing flow v)
   handing_stays level (On x) v = record { at = λ s i. i }
   handing_stays level (Out (Broke by)) v = record { at = λ s i. i }
   handing_stays level (Out (Continued by)) v = record { at = λ s i. i }
@@ -140,31 +115,36 @@ module _ (Mild : Type 0) (W K : World → Type 0) (I : ℕ → World → Type 0)
     abbrev here : Here
     here = from_level program plan (suc level) call body
 
-    handed_back : (flow : Outcome (Unit {0})) → Keeps W K (I (suc level)) (handed params (last_of body.stmts) here flow) (λ x. I level)
+    handed_back : (flow : Outcome (Unit {0})) → Keeps K (I (suc level)) (handed params (last_of body.stmts) here flow) (λ x. I level)
     handed_back flow =
         let exit = exit_of (last_of body.stmts) flow in
-        keeps_past W K (I (suc level)) (I (suc level)) (λ x. I level) (params_end here params exit) _ (params_stay (suc level) here params exit)
-        (keeps_looks W K (I (suc level)) (λ x. I level) _
-        (λ world. keeps_past W K (I (suc level)) (I level) (λ x. I level) (change (down_to (suc level))) _
-        (keeps_on W K (I (suc level)) (I level) (down_to (suc level)) (inv.leaves level))
-        (keeps_costs W K (I level) (λ x. I level) _ _ (handing_stays level flow _))))
+        keeps_past K (I (suc level)) (I (suc level)) (λ x. I level) (params_end here params exit) _ (params_stay (suc level) here params exit)
+        (keeps_looks K (I (suc level)) (λ x. I level) _ (λ world. whole (is_full (result_of here.result (suc level) world))
+        (keeps_past K (I (suc level)) (I level) (λ x. I level) (change (down_to (suc level))) _
+        (keeps_on K (I (suc level)) (I level) (down_to (suc level)) (inv.leaves level))
+        (keeps_costs K (I level) (λ x. I level) _ _ (handing_stays level flow _)))))
+      where
+        -- a result that isn't all there
+        whole : (b : Bool) {act : Does Value} → Keeps K (I (suc level)) act (λ x. I level) → Keeps K (I (suc level)) (branch b act wrong) (λ x. I level)
+        whole true h = h
+        whole false h = record { at = λ s i. inv.within (suc level) s.world i }
 
-    bodies : (slots : List Slot) → Stays W K (I (suc level)) (exec_all body.stmts here) →
-        Stays W K (I level) (entered_body program.globals params body slots here)
+    bodies : (slots : List Slot) → Stays K (I (suc level)) (exec_all body.stmts here) →
+        Stays K (I level) (entered_body program.globals params body slots here)
     bodies slots h =
         let frame = frame_of program.facts body slots in
-        keeps_costs W K (I level) (λ x. I level) _ _
-        (keeps_past W K (I level) (I (suc level)) (λ x. I level) (change (λ world. with_frame world frame)) _
-        (keeps_on W K (I level) (I (suc level)) (λ world. with_frame world frame) (inv.enters level frame))
-        (keeps_then W K (I (suc level)) (λ x. I (suc level)) (λ x. I level) (exec_all body.stmts here) (handed params (last_of body.stmts) here) h handed_back))
+        keeps_costs K (I level) (λ x. I level) _ _
+        (keeps_past K (I level) (I (suc level)) (λ x. I level) (change (λ world. with_frame world frame)) _
+        (keeps_on K (I level) (I (suc level)) (λ world. with_frame world frame) (inv.enters level frame))
+        (keeps_then K (I (suc level)) (λ x. I (suc level)) (λ x. I level) (exec_all body.stmts here) (handed params (last_of body.stmts) here) h handed_back))
 
   calls : ClosedCalls kept
   calls = record {
     parts = closed;
-    spends = λ level. stays_spending W K (I level) (inv.within level);
-    leads_away = λ level. stays_elsewhere W K (I level) (inv.within level);
+    spends = λ level. stays_spending K (I level) (inv.within level);
+    leads_away = λ level. stays_elsewhere K (I level) (inv.within level);
     bodies = bodies;
   }
 
-  pub keeps_program : (program : Program) (plan : Plan) → (Mild → has_no_hooks program ≡ true) → Stays W K (I 0) (goes_through program plan)
-  keeps_program program plan plain = whole_program kept calls program plan (λ level. plain)
+  pub keeps_program : (program : Program) (plan : Plan) → Stays K (I 0) (goes_through program plan)
+  keeps_program program plan = whole_program kept calls program plan

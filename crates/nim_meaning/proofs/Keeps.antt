@@ -1,4 +1,4 @@
--- What a part of a meaning makes of a world that is as it should be: from I it comes to J, to K where the run stands still, and to W where it is wrong.
+-- What a part of a meaning makes of a world that is as it should be: from I it comes to J, and to K where the run stands still or is wrong.
 use Rattle.std.proofs.Common.{ℕ, zero, suc, Bool, true, false, ◌≡◌, refl, List, [], ◌∷◌}
 use Rattle.arc_base.specs.Event.{Event}
 use Rattle.arc_base.specs.BigStep.{Res, Got, Over, Going, Errs, then_do, spend, Turn, Again, Leave, next_turn, turns}
@@ -12,27 +12,27 @@ use Rattle.nim_meaning.specs.Deeds.{with_block}
 use Rattle.nim_meaning.specs.Kept.{Meets}
 use Rattle.nim_meaning.proofs.Parts.{taking}
 
-pub record Keeps {A : Type 0} (W K I : World → Type 0) (act : State → Res State A) (J : A → World → Type 0) : Type 0 where
-  pub at : (s : State) → I s.world → Meets W K J (act s)
+pub record Keeps {A : Type 0} (K I : World → Type 0) (act : State → Res State A) (J : A → World → Type 0) : Type 0 where
+  pub at : (s : State) → I s.world → Meets K K J (act s)
 
-module _ (W K : World → Type 0) where
-  then_kept : {A B : Type 0} (J : A → World → Type 0) (M : B → World → Type 0) (r : Res State A) (go : A → State → Res State B) → Meets W K J r →
-      ((x : A) → Keeps W K (J x) (go x) M) → Meets W K M (then_do r go)
+module _ (K : World → Type 0) where
+  then_kept : {A B : Type 0} (J : A → World → Type 0) (M : B → World → Type 0) (r : Res State A) (go : A → State → Res State B) → Meets K K J r →
+      ((x : A) → Keeps K (J x) (go x) M) → Meets K K M (then_do r go)
   then_kept J M (Got x s) go h g = (g x).at s h
   then_kept J M (Over status live s) go h g = h
   then_kept J M (Going s) go h g = h
   then_kept J M (Errs s) go h g = h
 
   pub keeps_then : {A B : Type 0} (I : World → Type 0) (J : A → World → Type 0) (M : B → World → Type 0) (act : State → Res State A)
-      (go : A → State → Res State B) → Keeps W K I act J → ((x : A) → Keeps W K (J x) (go x) M) → Keeps W K I (λ s. then_do (act s) go) M
+      (go : A → State → Res State B) → Keeps K I act J → ((x : A) → Keeps K (J x) (go x) M) → Keeps K I (λ s. then_do (act s) go) M
   keeps_then I J M act go h g = record { at = λ s i. then_kept J M (act s) go (h.at s i) g }
 
-  pub keeps_costs : {A : Type 0} (I : World → Type 0) (J : A → World → Type 0) (n : ℕ) (act : State → Res State A) → Keeps W K I act J →
-      Keeps W K I (λ s. act (worked n s)) J
+  pub keeps_costs : {A : Type 0} (I : World → Type 0) (J : A → World → Type 0) (n : ℕ) (act : State → Res State A) → Keeps K I act J →
+      Keeps K I (λ s. act (worked n s)) J
   keeps_costs I J n act h = record { at = λ s i. h.at (worked n s) i }
 
-  pub keeps_looks : {A : Type 0} (I : World → Type 0) (J : Outcome A → World → Type 0) (act : World → Does A) → ((world : World) → Keeps W K I (act world) J) →
-      Keeps W K I (looks act) J
+  pub keeps_looks : {A : Type 0} (I : World → Type 0) (J : Outcome A → World → Type 0) (act : World → Does A) → ((world : World) → Keeps K I (act world) J) →
+      Keeps K I (looks act) J
   keeps_looks I J act h = record { at = λ s i. (h s.world).at s i }
 
   -- it comes to J, and isn't left
@@ -40,20 +40,20 @@ module _ (W K : World → Type 0) where
   Only J (On x) world = J world
   Only J (Out way) world = ⊥
 
-  pub keeps_on : (I J : World → Type 0) (f : World → World) → ((world : World) → I world → J (f world)) → Keeps W K I (change f) (Only J)
+  pub keeps_on : (I J : World → Type 0) (f : World → World) → ((world : World) → I world → J (f world)) → Keeps K I (change f) (Only J)
   keeps_on I J f h = record { at = λ s i. h s.world i }
 
-  pub keeps_past : {A B : Type 0} (I J : World → Type 0) (M : Outcome B → World → Type 0) (act : Does A) (rest : Does B) → Keeps W K I act (Only J) →
-      Keeps W K J rest M → Keeps W K I (act >> rest) M
+  pub keeps_past : {A B : Type 0} (I J : World → Type 0) (M : Outcome B → World → Type 0) (act : Does A) (rest : Does B) → Keeps K I act (Only J) →
+      Keeps K J rest M → Keeps K I (act >> rest) M
   keeps_past {A} I J M act rest h g = keeps_then I (Only J) M act (onward (λ _. rest)) h on
     where
-      on : (flow : Outcome A) → Keeps W K (Only J flow) (onward (λ _. rest) flow) M
+      on : (flow : Outcome A) → Keeps K (Only J flow) (onward (λ _. rest) flow) M
       on (On x) = g
       on (Out way) = record { at = λ s i. absurd i }
 
   -- what leaves the world as it should be, whatever it answers
   abbrev pub Stays : {A : Type 0} → (World → Type 0) → (State → Res State A) → Type 0
-  Stays I act = Keeps W K I act (λ x. I)
+  Stays I act = Keeps K I act (λ x. I)
 
   module _ (I : World → Type 0) (within : (world : World) → I world → K world) where
     pub stays_got : {A : Type 0} (x : A) → Stays I (λ (s : State). Got x s)
@@ -79,12 +79,11 @@ module _ (W K : World → Type 0) where
     pub stays_says : (es : List Event) → Stays I (say es)
     stays_says es = record { at = λ s i. i }
 
-    pub stays_looks : {A : Type 0} (Q : World → Type 0) → ((world : World) → I world → Q world) → (act : World → Does A) →
-        ((world : World) → Q world → Stays I (act world)) → Stays I (looks act)
-    stays_looks Q known act h = record { at = λ s i. (h s.world (known s.world i)).at s i }
+    pub stays_looks : {A : Type 0} (act : World → Does A) → ((world : World) → Stays I (act world)) → Stays I (looks act)
+    stays_looks act h = record { at = λ s i. (h s.world).at s i }
 
-    pub stays_wrong : {A : Type 0} → ((world : World) → I world → W world) → Stays I (wrong {A = A})
-    stays_wrong known = record { at = λ s i. known s.world i }
+    pub stays_wrong : {A : Type 0} → Stays I (wrong {A = A})
+    stays_wrong = record { at = λ s i. within s.world i }
 
     pub stays_change : (f : World → World) → ((world : World) → I world → I (f world)) → Stays I (change f)
     stays_change f h = record { at = λ s i. h s.world i }
@@ -97,15 +96,15 @@ module _ (W K : World → Type 0) where
     }
       where
         either : (b : Bool) (act : Does A) (s : State) → (b ≡ true → I s.world → I (with_block class contents s.world)) → Stays I act → I s.world →
-            Meets W K (λ x. I) (branch b (change (with_block class contents) >> act) fails s)
+            Meets K K (λ x. I) (branch b (change (with_block class contents) >> act) fails s)
         either true act s took h i = h.at (record s { world = with_block class contents s.world }) (took refl i)
         either false act s took h i = f.at s i
 
     pub stays_passing : {A : Type 0} (point : Point) (act : Does A) → Stays I act → Stays I (passing point act)
     stays_passing point act h = record { at = λ s i. h.at (with_trail (point ∷ s.trail) s) i }
 
-    back_kept : {A : Type 0} (trail : List Point) (r : Res State A) → Meets W K (λ x. I) r →
-        Meets W K (λ x. I) (then_do r (λ flow d. Got flow (with_trail trail d)))
+    back_kept : {A : Type 0} (trail : List Point) (r : Res State A) → Meets K K (λ x. I) r →
+        Meets K K (λ x. I) (then_do r (λ flow d. Got flow (with_trail trail d)))
     back_kept trail (Got x s) h = h
     back_kept trail (Over status live s) h = h
     back_kept trail (Going s) h = h
@@ -114,7 +113,7 @@ module _ (W K : World → Type 0) where
     pub stays_elsewhere : {A : Type 0} (act : Does A) → Stays I act → Stays I (elsewhere act)
     stays_elsewhere act h = record { at = λ s i. back_kept s.trail (act (with_trail [] s)) (h.at (with_trail [] s) i) }
 
-    spend_stays : {A : Type 0} (act : Does A) → Stays I act → (u : ℕ) (s : State) → I s.world → Meets W K (λ x. I) (spend u s (λ n. act (left_with n s)))
+    spend_stays : {A : Type 0} (act : Does A) → Stays I act → (u : ℕ) (s : State) → I s.world → Meets K K (λ x. I) (spend u s (λ n. act (left_with n s)))
     spend_stays act h zero s i = within s.world i
     spend_stays act h (suc u) s i = h.at (left_with u s) i
 

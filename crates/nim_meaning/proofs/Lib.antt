@@ -30,8 +30,12 @@ mod Once
 mod Asked
 mod Keeps
 mod Parts
-mod Mild
-mod Rows
 mod Tame
 mod TameParts
 mod Whole
+mod MildValues
+mod MildWorlds
+mod MildDeeds
+mod MildActs
+mod MildParts
+mod MildPrograms

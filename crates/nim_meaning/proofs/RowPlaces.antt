@@ -15,15 +15,16 @@ use Rattle.nim_program.specs.declared.operation.Use.TheVariants.{Lent}
 use Rattle.nim_program.specs.Ints.{Checked, Fine, Trapped, applied, applied_to, within}
 use Rattle.nim_program.specs.Program as T
 use Rattle.nim_program.specs.Program.{Doing, Building, Giving, Literal}
-use Rattle.nim_meaning.specs.Values.{Value, Number, Parts, Handle, Fixed, Ref, Resource, Gone, Vacant, nothing, number_of, length_of, text_in, bytes, Location}
+use Rattle.nim_meaning.specs.Values.{Value, Number, Parts, Handle, Fixed, Ref, Resource, Gone, Vacant, nothing, number_of, length_of, text_in, bytes, is_full}
+use Rattle.nim_meaning.specs.Values.{Location}
 use Rattle.nim_meaning.specs.Values.{Base, Standing, Waiting, InBlock, InHand, InException, Made, Operand, value, location, location_of, literal_value}
 use Rattle.nim_meaning.specs.Heap.{Heap, block_at}
-use Rattle.nim_meaning.specs.State.{World, load, text_of, contents_value, is_so_in, has_as_many, has_item, is_whole, leads_from, is_there, is_seen}
+use Rattle.nim_meaning.specs.State.{World, load, text_of, contents_value, is_so_in, has_as_many, has_item, is_whole, leads_from, is_there, is_seen, is_full_at}
 use Rattle.nim_meaning.specs.Acts.{line_of}
 use Rattle.nim_meaning.specs.Texts.{value_text, text_at, texts_of, are_seen}
 use Rattle.nim_meaning.specs.ActTree.{Path, Operands, Operate}
 use Rattle.nim_meaning.specs.Here.{gives_hooked, any_hooked, form_for}
-use Rattle.nim_meaning.specs.Deeds.{Deed, Gives, Works, Changes, Stores, ◌>>=◌, ◌>>◌, give, branch, looks, unless_gone, sees, sets, write}
+use Rattle.nim_meaning.specs.Deeds.{Deed, Gives, Works, Changes, Stores, ◌>>=◌, ◌>>◌, give, branch, looks, unless_gone, sees, takes, sets, write}
 use Rattle.nim_meaning.specs.Places.{Destination, taken_by, text_for, made_by, fetched, put, exchanged}
 use Rattle.nim_meaning.specs.OwnedRows.{owned}
 use Rattle.nim_meaning.specs.Table.{outcome, default_for, limit_for, converted, measured, step_by, operate, does, constant_for, literal_bytes, acts}
@@ -119,6 +120,14 @@ module _ (reads writes : Location → Type 0) where
       looks_at_all {rest = λ world. unless_gone (is_seen world l) (go (load world l))}
       (λ a b h. ap₂ (λ s v. unless_gone s (go v)) (seen_alike l a b h r) (h.1 l r)) (λ world. guarded (is_seen world l) (w (load world l)))
 
+  full_alike : (l : Location) (a b : World) → Alike reads a b → reads l → is_full_at a l ≡ is_full_at b l
+  full_alike l a b h r = ap₂ (λ x y. x && y) (seen_alike l a b h r) (ap is_full (h.1 l r))
+
+  within_takes : {A : Type 0} (l : Location) (go : Value → Deed A) → reads l → ((v : Value) → W (go v)) → W (takes l (λ world. go))
+  within_takes l go r w =
+      looks_at_all {rest = λ world. unless_gone (is_full_at world l) (go (load world l))}
+      (λ a b h. ap₂ (λ s v. unless_gone s (go v)) (full_alike l a b h r) (h.1 l r)) (λ world. guarded (is_full_at world l) (w (load world l)))
+
   within_sets : (l : Location) (v : Value) → writes l → W (sets l v)
   within_sets l v w =
       looks_at_all {rest = λ world. unless_gone (is_there world l) (Changes (Stores l v) (Gives tt))}
@@ -129,7 +138,7 @@ module _ (reads writes : Location → Type 0) where
 
   within_exchanged : (l : Location) (v : Value) → reads l → writes l → W (exchanged l v)
   within_exchanged l v r w =
-      works (within_sees l (λ old. sets l v >> give old) r (λ old. within_then {go = λ u. give old} (within_sets l v w) (λ u. answers {x = old})))
+      works (within_takes l (λ old. sets l v >> give old) r (λ old. within_then {go = λ u. give old} (within_sets l v w) (λ u. answers {x = old})))
 
   -- a row, and what becomes of its value
   pub within_row : (facts : Facts) (act : T.Act) (to : Destination) (ty : Option Ty) (of : List (Option Ty)) (xs : List Operand) →
@@ -138,7 +147,7 @@ module _ (reads writes : Location → Type 0) where
 
 -- the bits at a location are read there
 pub within_fetched : (location : Location) → Within Value (λ l. l ≡ location) At_none (fetched location)
-within_fetched location = within_sees (λ l. l ≡ location) At_none location (λ v. Works (bytes v) (Gives v)) refl (λ v. works answers)
+within_fetched location = within_takes (λ l. l ≡ location) At_none location (λ v. Works (bytes v) (Gives v)) refl (λ v. works answers)
 
 taken_within : (hook : Bool) (f : Form) (to : Destination) (act : Option Act) (location : Location) → hook ≡ false →
     Within Value (λ l. l ≡ location) At_none (taken_by hook f to act location)
@@ -207,20 +216,20 @@ module _ (xs : List Operand) (facts : Facts) (ty : Option Ty) (of : List (Option
       within_sees (At_any xs) (At_any xs) (location xs 0) (λ v. Gives (Number (measured measure (length_of v)))) (at_any xs 0) (λ v. answers)
   does_any O.Echo =
       within_then (At_any xs) (At_any xs) {go = λ u. give nothing}
-      (looks_at_all {rest = λ world. unless_gone (are_seen world xs) (write Output (line_of (texts_of facts world of xs)))}
+      (works (looks_at_all {rest = λ world. unless_gone (are_seen world xs) (write Output (line_of (texts_of facts world of xs)))}
       (λ a b h. ap₂ (λ s t. unless_gone s (write Output (line_of t))) (seen_any xs a b h) (texts_alike facts of xs a b h))
-      (λ world. guarded (At_any xs) (At_any xs) (are_seen world xs) (works (says answers)))) (λ u. answers {x = nothing})
+      (λ world. guarded (At_any xs) (At_any xs) (are_seen world xs) (works (says answers))))) (λ u. answers {x = nothing})
   does_any O.Quit = ends_run
   does_any O.Assign = within_put (At_any xs) (At_any xs) (location xs 0) (value xs 1) (at_any xs 0)
   does_any (O.Update operator) =
-      within_sees (At_any xs) (At_any xs) (location xs 0) (λ v. Works (bytes v) (operate operator (number_of v) (step_by xs) >>= put (location xs 0)))
+      within_takes (At_any xs) (At_any xs) (location xs 0) (λ v. Works (bytes v) (operate operator (number_of v) (step_by xs) >>= put (location xs 0)))
       (at_any xs 0)
       (λ v. works (within_then (At_any xs) (At_any xs) (within_outcome (At_any xs) (At_any xs) (applied operator (number_of v) (step_by xs)))
       (λ u. within_put (At_any xs) (At_any xs) (location xs 0) u (at_any xs 0))))
   does_any O.Move = within_exchanged (At_any xs) (At_any xs) (location xs 0) (default_for facts ty) (at_any xs 0) (at_any xs 0)
   does_any O.Swap =
       within_then (At_any xs) (At_any xs) {go = λ u. exchanged (location xs 0) u >> give nothing}
-      (within_sees (At_any xs) (At_any xs) (location xs 0) (λ v. exchanged (location xs 1) v) (at_any xs 0)
+      (within_takes (At_any xs) (At_any xs) (location xs 0) (λ v. exchanged (location xs 1) v) (at_any xs 0)
       (λ v. within_exchanged (At_any xs) (At_any xs) (location xs 1) v (at_any xs 1) (at_any xs 1)))
       (λ u. within_then (At_any xs) (At_any xs) {go = λ w. give nothing}
       (within_exchanged (At_any xs) (At_any xs) (location xs 0) u (at_any xs 0) (at_any xs 0))

@@ -16,10 +16,10 @@ use Rattle.nim_program.specs.Sizes.{body_sum, if_place_bytes}
 use Rattle.nim_program.specs.Traps.{CallDepth}
 use Rattle.nim_meaning.specs.ActTree.{Root, On as GoesOn, Out, Turn_over, Back, Acts, Named, Bind, Result}
 use Rattle.nim_meaning.specs.Ways.{Point, Stop, Exits, Graph, Raises, Edges, entry, onto, follows, start}
-use Rattle.nim_meaning.specs.Values.{Value, Slot}
+use Rattle.nim_meaning.specs.Values.{Value, Slot, is_full}
 use Rattle.nim_meaning.specs.State.{State, with_frame, down_to}
 use Rattle.nim_meaning.specs.Acts.{Broke, Continued, Returned, Raised, Outcome, On, Out as LeftBy, Does, with_trail, give, ◌>>◌, exit_of, worked, say, said}
-use Rattle.nim_meaning.specs.Acts.{change, elsewhere, stop}
+use Rattle.nim_meaning.specs.Acts.{wrong, change, elsewhere, stop}
 use Rattle.nim_meaning.specs.Here.{Here, is_hooked}
 use Rattle.nim_meaning.specs.Shapes.{modes_in}
 use Rattle.nim_meaning.specs.ActsOf.{scope, acts_of, stmts_acts, owned, with_result, body_acts, all_owned, if_body, acts_at, start_acts, procedure_acts}
@@ -31,7 +31,7 @@ use Rattle.nim_meaning.specs.Runs.{is_plain_if_body, are_plain_procs, has_no_hoo
 use Rattle.nim_meaning.specs.AtPoints.{A_value, Nothing, DoesBy}
 use Rattle.nim_meaning.proofs.RunLemmas.{PassesNone, AreElsewhere, Still}
 use Rattle.nim_meaning.proofs.RunDeeds.{goes}
-use Rattle.nim_meaning.proofs.StillLemmas.{still_both, still_give, still_branch, still_carry, still_costs, still_looks, still_change, still_stop}
+use Rattle.nim_meaning.proofs.StillLemmas.{still_both, still_give, still_wrong, still_branch, still_carry, still_costs, still_looks, still_change, still_stop}
 use Rattle.nim_meaning.proofs.StillLemmas.{still_spending}
 use Rattle.nim_meaning.proofs.RunValues.{eval_part}
 use Rattle.nim_meaning.proofs.WaitLemmas.{not_true}
@@ -162,8 +162,9 @@ module _ (raises : Raises) (program : Program) (plan : Plan) where
   still_end here params last flow h =
       still_both other (params_end here params (exit_of last flow)) _ (still_params here params (exit_of last flow))
       (still_looks other _
-      (λ world. still_both other (change (down_to here.level)) _ (still_change other (down_to here.level))
-      (still_costs other _ (handing flow (result_of here.result here.level world)) (h _))))
+      (λ world. still_branch other (is_full (result_of here.result here.level world)) _ wrong
+      (still_both other (change (down_to here.level)) _ (still_change other (down_to here.level))
+      (still_costs other _ (handing flow (result_of here.result here.level world)) (h _))) (still_wrong other)))
 
   body_returns : (proc : ℕ) (here : Here) (params : List Param) (last : ℕ) (r : Res State (Outcome (Unit {0}))) →
       GoesBy (procedure_graph raises plan.sinks program proc) (first_point_of raises plan.sinks program proc) Stop other [] r →

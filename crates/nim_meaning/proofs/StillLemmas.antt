@@ -12,7 +12,7 @@ use Rattle.nim_meaning.specs.Heap.{has_room}
 use Rattle.nim_meaning.specs.Values.{Operand, slots_for}
 use Rattle.nim_meaning.specs.State.{World, State}
 use Rattle.nim_meaning.specs.Acts.{Outcome, On, Out as LeftBy, Does, give, onward, ◌>>=◌, ◌>>◌, at_exit, branch, costs, spending, left_with, worked, say, end}
-use Rattle.nim_meaning.specs.Acts.{stop, looks, change}
+use Rattle.nim_meaning.specs.Acts.{wrong, stop, looks, change}
 use Rattle.nim_meaning.specs.Deeds.{Deed, Gives, Ends, Errs as Wrong, Works, Says, Looks, Changes, Takes, carry, changed, with_block}
 use Rattle.nim_meaning.specs.Here.{Here, gives_hooked}
 use Rattle.nim_meaning.specs.Places.{rooted, made, to_part, to_item, to_object, kept_if}
@@ -61,6 +61,9 @@ module _ (elsewhere : List Point → Type 0) where
   pub still_says : (es : List Event) → S (say es)
   still_says es = record { at = λ s. refl }
 
+  pub still_wrong : {A : Type 0} → S (wrong {A = A})
+  still_wrong = record { at = λ s. inl refl }
+
   pub still_looks : {A : Type 0} (act : World → Does A) → ((world : World) → S (act world)) → S (looks act)
   still_looks act h = record { at = λ s. (h s.world).at s }
 
@@ -78,7 +81,7 @@ module _ (elsewhere : List Point → Type 0) where
   pub still_carry : {A : Type 0} (deed : Deed A) → S (carry deed)
   still_carry (Gives x) = still_give x
   still_carry (Ends status) = still_end status
-  still_carry Wrong = record { at = λ s. inl refl }
+  still_carry Wrong = still_wrong
   still_carry (Works n rest) = still_costs n (carry rest) (still_carry rest)
   still_carry (Says es rest) = still_both (say es) (carry rest) (still_says es) (still_carry rest)
   still_carry (Looks rest) = still_looks (λ world. carry (rest world)) (λ world. still_carry (rest world))

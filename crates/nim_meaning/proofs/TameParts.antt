@@ -3,19 +3,19 @@ use Rattle.std.proofs.Common.{ℕ, suc, Bool, true, false, List, [], ◌∷◌}
 use Rattle.nim_plan.specs.declared.plan.Plan.{Plan}
 use Rattle.nim_program.specs.Program.{Param, Body, Program, last_of}
 use Rattle.nim_meaning.specs.Heap.{Contents, has_room}
-use Rattle.nim_meaning.specs.Values.{Value, Slot}
+use Rattle.nim_meaning.specs.Values.{Value, Slot, is_full}
 use Rattle.nim_meaning.specs.State.{World, with_frame, down_to}
-use Rattle.nim_meaning.specs.Acts.{Broke, Continued, Returned, Raised, Outcome, On, Out, Does, exit_of, ◌>>◌, branch, change}
+use Rattle.nim_meaning.specs.Acts.{Broke, Continued, Returned, Raised, Outcome, On, Out, Does, exit_of, ◌>>◌, branch, wrong, change}
 use Rattle.nim_meaning.specs.Deeds.{changed, with_block}
 use Rattle.nim_meaning.specs.Here.{Calls, Here}
-use Rattle.nim_meaning.specs.Meaning.{exec_all, frame_of, params_end, handing, handed, entered_body, from_level, goes_through}
+use Rattle.nim_meaning.specs.Meaning.{exec_all, frame_of, params_end, result_of, handing, handed, entered_body, from_level, goes_through}
 use Rattle.nim_meaning.proofs.Tame.{Tame, TameTurn, tame_got, tame_end, tame_wrong, tame_then, tame_past, tame_costs, tame_says, tame_spending, tame_looks}
 use Rattle.nim_meaning.proofs.Tame.{tame_change, tame_passing, tame_elsewhere, tame_loop, turn_again, turn_last, turn_then, turn_passing}
-use Rattle.nim_meaning.proofs.Parts.{Said, Closed, taking, ends_is}
+use Rattle.nim_meaning.proofs.Parts.{Said, Closed, taking, chosen, ends_is}
 use Rattle.nim_meaning.proofs.Calls.{ClosedCalls, whole_program}
 
 abbrev pub tame : Said
-tame = record { of = Tame; turn = TameTurn; mild = ⊥ }
+tame = record { of = Tame; turn = TameTurn }
 
 tame_takes : {A : Type 0} (class : ℕ) (contents : Contents) (rest : World → Does A) (fails : Does A) → ((world : World) → Tame (rest world)) → Tame fails →
     Tame (taking class contents rest fails)
@@ -29,13 +29,13 @@ pub closed : Closed tame
 closed = record {
   got = tame_got;
   ended = tame_end;
-  errs = λ free. tame_wrong;
+  errs = tame_wrong;
   then = tame_then;
   costs = tame_costs;
   says = tame_says;
-  looks = λ act h. tame_looks act (λ world. h world (λ never. absurd never));
+  looks = tame_looks;
   changes = λ c. tame_change (changed c);
-  takes = λ free. tame_takes;
+  takes = tame_takes;
   passes = tame_passing;
   turn_again = turn_again;
   turn_last = turn_last;
@@ -61,7 +61,8 @@ tame_handing (Out (Raised exception by)) v = tame_got _
 pub tame_handed : (params : List Param) (last : ℕ) (here : Here) (flow : Outcome (Unit {0})) → Tame (handed params last here flow)
 tame_handed params last here flow =
     tame_past (params_end here params (exit_of last flow)) _ (tame_params here params (exit_of last flow))
-    (tame_looks _ (λ world. tame_past (change (down_to here.level)) _ (tame_change (down_to here.level)) (tame_costs _ _ (tame_handing flow _))))
+    (tame_looks _ (λ world. chosen tame closed (is_full (result_of here.result here.level world)) _ wrong
+    (tame_past (change (down_to here.level)) _ (tame_change (down_to here.level)) (tame_costs _ _ (tame_handing flow _))) tame_wrong))
 
 tame_bodies : (level : ℕ) (program : Program) (plan : Plan) (call : Calls) (params : List Param) (body : Body) (slots : List Slot) →
     Tame (exec_all body.stmts (from_level program plan (suc level) call body)) →
@@ -81,4 +82,4 @@ calls = record {
 }
 
 pub tame_program : (program : Program) (plan : Plan) → Tame (goes_through program plan)
-tame_program program plan = whole_program (λ level. tame) calls program plan (λ level never. absurd never)
+tame_program program plan = whole_program (λ level. tame) calls program plan

@@ -8,7 +8,7 @@ use Rattle.nim_program.specs.Traps.{Trap, OutOfMemory, trap_text}
 use Rattle.nim_meaning.specs.Values.{Value, Location, Slot}
 use Rattle.nim_meaning.specs.Heap.{Contents, Block, Class, has_room, taken, given, block_at, with_contents}
 use Rattle.nim_meaning.specs.State.{OfBlock, Took, Gave, Born, Ended, World, with_slot, with_one_waiting, with_none_waiting, pushed, popped, reading_on, store}
-use Rattle.nim_meaning.specs.State.{is_live, is_there, is_seen, load}
+use Rattle.nim_meaning.specs.State.{is_live, is_there, is_seen, is_full_at, load}
 use Rattle.nim_meaning.specs.Acts as Acts
 use Rattle.nim_meaning.specs.Acts.{Does, line_of}
 
@@ -158,6 +158,10 @@ unless_gone there go = branch there go Errs
 -- the value at a location is looked at, with what it has in a block
 abbrev pub sees : {A : Type 0} → Location → (World → Value → Deed A) → Deed A
 sees location go = Looks (λ world. unless_gone (is_seen world location) (go world (load world location)))
+
+-- the value at a location is taken as it is, and all of it has to be there
+abbrev pub takes : {A : Type 0} → Location → (World → Value → Deed A) → Deed A
+takes location go = Looks (λ world. unless_gone (is_full_at world location) (go world (load world location)))
 
 abbrev pub sets : Location → Value → Deed (Unit {0})
 sets location v = Looks (λ world. unless_gone (is_there world location) (does (Stores location v)))

@@ -2,12 +2,12 @@
 use Rattle.std.specs.Prelude.{ℕ, zero, suc, ◌+◌, ◌*◌, Bool, true, false, nat_le, List, length, Option, Some, None}
 use Rattle.nim_types.specs.Forms.{Form, plain, reference, block, elements, row, parts, resource, wrapped, Forms, no_forms, forms, of_some, hooked, hooked_any}
 use Rattle.nim_types.specs.Forms.{size}
-use Rattle.nim_meaning.specs.Values.{Value, Handle, Vacant, nothing, Values, count, length_of, block_of, repeated, vacant}
+use Rattle.nim_meaning.specs.Values.{Value, Handle, Vacant, nothing, Values, count, length_of, block_of, is_handle, repeated, vacant}
 use Rattle.nim_meaning.specs.Values.{bytes}
 use Rattle.nim_meaning.specs.Values.{InHand, Waiting, Location, deeper, item_of, at_base, Slot, Holds, Stands, Lends, Operand, Given, At}
 use Rattle.nim_meaning.specs.Heap.{Contents, Characters, Elements, Block, class_for, block_at}
-use Rattle.nim_meaning.specs.State.{World, load, text_of, temporary_at}
-use Rattle.nim_meaning.specs.Deeds.{Deed, Takes, Leaves, Pushes, Pops, does, give, ◌>>=◌, ◌>>◌, branch, costs, looks, sees, sets, frees, refills}
+use Rattle.nim_meaning.specs.State.{World, text_of, temporary_at}
+use Rattle.nim_meaning.specs.Deeds.{Deed, Takes, Leaves, Pushes, Pops, does, give, ◌>>=◌, ◌>>◌, branch, costs, looks, unless_gone, sees, takes, sets, frees, refills}
 
 -- ---- part by part
 
@@ -77,9 +77,9 @@ resized n bytes contents location = sees location (λ world v. branch (has_place
 
 -- ---- ends
 
--- what is left where a text or a sequence was, whose block is given back
+-- What is left where a text or a sequence was, whose block is given back. A text that nobody owns can't end.
 abbrev pub left_vacant : (bytes : ℕ) → Location → Value → Deed (Unit {0})
-left_vacant bytes location v = costs bytes (sets location Vacant >> frees (block_of v))
+left_vacant bytes location v = unless_gone (is_handle v) (costs bytes (sets location Vacant >> frees (block_of v)))
 
 abbrev pub ending : Walk
 ending = record {
@@ -98,10 +98,10 @@ ends_at f location = walk ending f location location
 abbrev pub in_hand : World → Location
 in_hand world = at_base (InHand (length world.hand))
 
--- a value that becomes another one while it is under way
+-- a value that becomes another one while it is under way, and is taken then
 abbrev pub under_way : Value → ((at : Location) → Deed (Unit {0})) → Deed Value
 under_way v becomes = looks λ world.
-    does (Pushes v) >> (becomes (in_hand world) >> looks (λ after. does Pops >> give (load after (in_hand world))))
+    does (Pushes v) >> (becomes (in_hand world) >> takes (in_hand world) (λ after new. does Pops >> give new))
 
 -- a value that has no place any more ends
 abbrev pub given_up : Form → Value → Deed (Unit {0})
@@ -110,7 +110,7 @@ given_up f v = looks λ world. does (Pushes v) >> (ends_at f (in_hand world) >> 
 -- ---- copies
 
 abbrev pub bits : (to from : Location) → Deed (Unit {0})
-bits to from = sees from (λ world v. costs (bytes v) (sets to v))
+bits to from = takes from (λ world v. costs (bytes v) (sets to v))
 
 abbrev pub copied_elements : (of : Form) → (element : (to from : Location) → Deed (Unit {0})) → (to : Location) → Value → (from : Location) → Deed (Unit {0})
 copied_elements of element to w from = do

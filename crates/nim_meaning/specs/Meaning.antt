@@ -23,13 +23,13 @@ use Rattle.nim_program.specs.declared.operation.Use.TheVariants.{Owned, Given as
 use Rattle.nim_program.specs.Uses.{use_of}
 use Rattle.nim_program.specs.Traps.{CallDepth}
 use Rattle.nim_program.specs.Ints.{is_true}
-use Rattle.nim_meaning.specs.Values.{Value, Number, nothing, number_of, bytes, default_of, literal_value, vacant, nowhere}
+use Rattle.nim_meaning.specs.Values.{Value, Number, nothing, number_of, bytes, is_full, default_of, literal_value, vacant, nowhere}
 use Rattle.nim_meaning.specs.Values.{Standing, Made, Location, Slot, Holds, Stands, Given, At, value_of}
 use Rattle.nim_meaning.specs.State.{Frame, World, State, live, load, slot_at, with_frame, down_to, world_of}
 use Rattle.nim_meaning.specs.ActTree as points
 use Rattle.nim_meaning.specs.ActTree.{Does as Done_by, Fills, Looks as Looks_up, Chooses, Turns, Asks, Decides, Leaves}
 use Rattle.nim_meaning.specs.Acts.{Broke, Continued, Returned, Raised, Exit, Outcome, On, Out, Does, exit_of, give, leave, as_before, ◌>>=◌, ◌>>◌, at_exit}
-use Rattle.nim_meaning.specs.Acts.{left_as, branch, costs, say, spending, stop, looks, change, leaving_scope, elsewhere, loop, again, no_more}
+use Rattle.nim_meaning.specs.Acts.{left_as, branch, costs, say, spending, stop, wrong, looks, change, leaving_scope, elsewhere, loop, again, no_more}
 use Rattle.nim_meaning.specs.Deeds as deeds
 use Rattle.nim_meaning.specs.Deeds.{Deed, Opens, Leaves, changed, carry, ◌>>=◌ as then_deed}
 use Rattle.nim_meaning.specs.Lifted.{walk, copying, assigned, assigns, slot_ends}
@@ -392,8 +392,9 @@ handing (Out (Raised exception by)) v = leave (Raised exception by)
 abbrev pub handed : List Param → (last : ℕ) → Here → Outcome (Unit {0}) → Does Value
 handed params last here flow =
     params_end here params (exit_of last flow)
-    >> looks (λ world. change (down_to here.level)
-    >> costs (result_bytes here.result (result_of here.result here.level world)) (handing flow (result_of here.result here.level world)))
+    >> looks (λ world. branch (is_full (result_of here.result here.level world))
+    (change (down_to here.level)
+    >> costs (result_bytes here.result (result_of here.result here.level world)) (handing flow (result_of here.result here.level world))) wrong)
 
 -- A call's work is the sum of its procedure, and the bytes of its result, which starts at its default.
 abbrev pub entered_body : (globals : List Declared) (params : List Param) → Body → List Slot → Here → Does Value

@@ -8,13 +8,13 @@ use Rattle.nim_program.specs.declared.operation.Operation.TheVariants as O
 use Rattle.nim_program.specs.declared.operation.Comparison.{Comparison}
 use Rattle.nim_program.specs.Traps.{IndexOutOfBounds, OutOfRange}
 use Rattle.nim_program.specs.Ints.{compared, truth}
-use Rattle.nim_meaning.specs.Values.{Value, Number, Handle, Nil, More, nothing, nth, first_of, joined, length_of, block_of, repeated, blank}
-use Rattle.nim_meaning.specs.Values.{Location, Operand, operand, value, number, location, values_in}
+use Rattle.nim_meaning.specs.Values.{Value, Number, Handle, Nil, More, nothing, first_of, joined, length_of, block_of, repeated, blank}
+use Rattle.nim_meaning.specs.Values.{Location, item_of, Operand, operand, value, number, location, values_in}
 use Rattle.nim_meaning.specs.Heap.{Characters, Elements}
 use Rattle.nim_meaning.specs.State.{World, load, text_of, elements_of}
 use Rattle.nim_meaning.specs.Texts.{shown}
 use Rattle.nim_meaning.specs.Here.{form_for}
-use Rattle.nim_meaning.specs.Deeds.{Deed, Reads, does, give, ◌>>=◌, ◌>>◌, branch, costs, looks, sets, refills, stop}
+use Rattle.nim_meaning.specs.Deeds.{Deed, Reads, does, give, ◌>>=◌, ◌>>◌, branch, costs, looks, takes, sets, refills, stop}
 use Rattle.nim_meaning.specs.Lifted.{fresh, fresh_text, fresh_sequence, resized, each_element, ends_at, under_way, replaced, assigns}
 
 -- ---- types
@@ -64,9 +64,9 @@ added of x location = looks λ world. costs (size of)
 -- without its last element, which is the answer
 abbrev pub shortened : Form → ℕ → Location → World → Deed Value
 shortened of zero location world = stop IndexOutOfBounds
-shortened of (suc n) location world = costs (size of)
-    (refills (block_of (load world location)) (Elements (first_of n (elements_of world (load world location))))
-    >> (sets location (Handle n (block_of (load world location))) >> give (nth (elements_of world (load world location)) n)))
+shortened of (suc n) location world = costs (size of) (takes (item_of (load world location) location n) (λ world last.
+    refills (block_of (load world location)) (Elements (first_of n (elements_of world (load world location))))
+    >> (sets location (Handle n (block_of (load world location))) >> give last)))
 
 -- a number that is a length
 abbrev pub counted : ℤ → (ℕ → Deed Value) → Deed Value

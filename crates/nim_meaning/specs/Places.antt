@@ -11,7 +11,7 @@ pub use Rattle.nim_meaning.specs.Values.{item_of}
 use Rattle.nim_meaning.specs.Values.{deeper, nowhere, through}
 use Rattle.nim_meaning.specs.State.{World, slot_at, temporary_at, load}
 use Rattle.nim_meaning.specs.Values.{Slot, Holds}
-use Rattle.nim_meaning.specs.Deeds.{Deed, Gives, Waits, does, give, ◌>>=◌, ◌>>◌, branch, costs, looks, sees, sets, stop}
+use Rattle.nim_meaning.specs.Deeds.{Deed, Gives, Waits, does, give, ◌>>=◌, ◌>>◌, branch, costs, looks, sees, takes, sets, stop}
 use Rattle.nim_meaning.specs.Lifted.{fresh_text, copied}
 
 -- ---- paths
@@ -62,7 +62,7 @@ from_heap = give nothing
 
 -- the bits at a location
 abbrev pub fetched : Location → Deed Value
-fetched location = sees location (λ world v. costs (bytes v) (give v))
+fetched location = takes location (λ world v. costs (bytes v) (give v))
 
 -- The elements of what stands at a location: how many there are, where one is, and what it is; and that they are still as many.
 abbrev pub length_at : Location → Deed ℕ
@@ -125,4 +125,4 @@ put location v = costs (bytes v) (sets location v >> give nothing)
 
 -- the value at a location is taken, and another one put in its place
 abbrev pub exchanged : Location → Value → Deed Value
-exchanged location v = costs (bytes v) (sees location (λ world old. sets location v >> give old))
+exchanged location v = costs (bytes v) (takes location (λ world old. sets location v >> give old))

@@ -5,8 +5,9 @@ use Rattle.arc_base.specs.Event.{Event}
 use Rattle.arc_base.specs.Behaviour.{Live, no_objects}
 use Rattle.arc_base.specs.BigStep.{Meter}
 use Rattle.nim_types.specs.Types.{Ty}
-use Rattle.nim_meaning.specs.Values.{Value, Parts, Handle, Fixed, Values, More, Nil, nothing, nth, count, parts_of, text_in, part, put_part, Base, Standing}
-use Rattle.nim_meaning.specs.Values.{Waiting}
+use Rattle.nim_meaning.specs.Values.{Value, Parts, Handle, Fixed, Gone, Vacant, Values, More, Nil, nothing, nth, count, parts_of, text_in, part, put_part}
+use Rattle.nim_meaning.specs.Values.{is_full}
+use Rattle.nim_meaning.specs.Values.{Base, Standing, Waiting}
 use Rattle.nim_meaning.specs.Values.{InBlock, InHand}
 use Rattle.nim_meaning.specs.Values.{InException, Made, Location, Slot, Holds, value_in}
 use Rattle.nim_meaning.specs.Heap.{Contents, Characters, Elements, Object, Heap, block_at, Block, with_contents, heap_of}
@@ -151,28 +152,33 @@ abbrev pub held : Option Slot → Value
 held None = nothing
 held (Some slot) = value_in slot
 
+-- what waits, or doesn't any more
+abbrev pub awaited : Option Slot → Value
+awaited None = Vacant
+awaited (Some slot) = value_in slot
+
 abbrev pub object_in : Contents → Value
 object_in (Characters text) = Fixed text
 object_in (Elements all) = Parts all
 object_in (Object of v) = v
 
 abbrev pub contents_value : Option Block → Value
-contents_value None = nothing
+contents_value None = Vacant
 contents_value (Some block) = object_in block.contents
 
 abbrev pub message_of : Option (Option Exception) → Value
-message_of None = nothing
-message_of (Some None) = nothing
+message_of None = Vacant
+message_of (Some None) = Vacant
 message_of (Some (Some exception)) = exception.message
 
 abbrev pub hand_value : Option Value → Value
-hand_value None = nothing
+hand_value None = Vacant
 hand_value (Some v) = v
 
 -- the whole value where a location begins
 abbrev pub whole_at : World → Base → Value
 whole_at world (Standing level number) = held (slot_at world level number)
-whole_at world (Waiting level node) = held (temporary_at world level node)
+whole_at world (Waiting level node) = awaited (temporary_at world level node)
 whole_at world (InBlock k) = contents_value (block_at world.heap k)
 whole_at world (InHand i) = hand_value (slice_get world.hand i)
 whole_at world (InException i) = Parts (More (message_of (slice_get world.exceptions i)) Nil)
@@ -216,9 +222,11 @@ has_item (i ∷ path) (Object of v) = true
 abbrev pub is_live : World → ℕ → Bool
 is_live world k = is_so_in (λ contents. true) (slice_get world.heap.blocks k)
 
--- what a text or a sequence has in its block is there, and as long as it
+-- something stands there; and what a text or a sequence has in its block is there, and as long as it
 abbrev pub is_whole : World → Value → Bool
 is_whole world (Handle n (Some k)) = is_so_in (has_as_many n) (slice_get world.heap.blocks k)
+is_whole world (Gone v final) = false
+is_whole world Vacant = false
 is_whole world v = true
 
 abbrev pub leads_from : World → Base → (path : List ℕ) → Bool
@@ -232,6 +240,10 @@ is_there world location = leads_from world location.base location.path
 -- and so does what stands at it
 abbrev pub is_seen : World → Location → Bool
 is_seen world location = is_there world location && is_whole world (load world location)
+
+-- and all of it is there
+abbrev pub is_full_at : World → Location → Bool
+is_full_at world location = is_seen world location && is_full (load world location)
 
 abbrev pub new_contents : Contents → Value → Contents
 new_contents (Characters text) v = Characters (text_in v)

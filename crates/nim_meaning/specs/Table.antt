@@ -19,7 +19,7 @@ use Rattle.nim_meaning.specs.Here.{gives_hooked, any_hooked, form_for}
 use Rattle.nim_meaning.specs.Lifted.{copied}
 use Rattle.nim_meaning.specs.Places.{from_heap, put, exchanged}
 use Rattle.nim_meaning.specs.OwnedRows.{owned}
-use Rattle.nim_meaning.specs.Deeds.{Deed, give, ◌>>=◌, ◌>>◌, branch, costs, looks, unless_gone, sees, write, end, stop}
+use Rattle.nim_meaning.specs.Deeds.{Deed, give, ◌>>=◌, ◌>>◌, branch, costs, looks, unless_gone, sees, takes, write, end, stop}
 
 -- ---- what rows are made of
 
@@ -70,7 +70,7 @@ step_by (x ∷ y ∷ rest) = number_of (value_of y)
 -- the number at a location becomes another one
 abbrev pub updated : Location → (ℤ → Deed Value) → Deed Value
 updated location next =
-    sees location (λ world v. costs (bytes v) (next (number_of v) >>= put location))
+    takes location (λ world v. costs (bytes v) (next (number_of v) >>= put location))
 
 -- `quit` without a status ends with 0
 abbrev pub status_of : List Operand → ℕ
@@ -80,12 +80,12 @@ status_of (x ∷ xs) = low_byte (number_of (value_of x))
 -- the values of two locations trade places
 abbrev pub swapped : Location → Location → Deed Value
 swapped left right =
-    sees left (λ world v. exchanged right v) >>= (λ v. exchanged left v >> give nothing)
+    takes left (λ world v. exchanged right v) >>= (λ v. exchanged left v >> give nothing)
 
 -- ---- operations
 
 -- Over what is known of types, with the type of the value, those of the operands, and the operands. What values have in blocks is no part of it: where
--- a type has hooks, a row may be another one (OwnedRows).
+-- a type has hooks, a row may be another one (OwnedRows). `echo` works once for each operand, so a text without bytes has its work too.
 abbrev pub does : Operation → Facts → Option Ty → List (Option Ty) → List Operand → Deed Value
 does O.Default facts ty of xs = costs (bytes (default_for facts ty)) (give (default_for facts ty))
 does (O.Unary operator) facts ty of xs = outcome (applied_to operator (number xs 0))
@@ -100,7 +100,8 @@ does O.Sequence facts ty of xs = from_heap
 does O.NewSequence facts ty of xs = from_heap
 does (O.Measure measure) facts ty of xs = sees (location xs 0) (λ world v. give (Number (measured measure (length_of v))))
 does O.IsNil facts ty of xs = from_heap
-does O.Echo facts ty of xs = looks (λ world. unless_gone (are_seen world xs) (write Output (line_of (texts_of facts world of xs)))) >> give nothing
+does O.Echo facts ty of xs = costs (length xs)
+    (looks (λ world. unless_gone (are_seen world xs) (write Output (line_of (texts_of facts world of xs))))) >> give nothing
 does O.Quit facts ty of xs = end (status_of xs)
 does O.ReadLine facts ty of xs = from_heap
 does O.ReadLineInto facts ty of xs = from_heap

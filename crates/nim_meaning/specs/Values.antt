@@ -1,5 +1,5 @@
 -- Values, and where they stand.
-use Rattle.std.specs.Prelude.{ℕ, zero, suc, ◌+◌, ℤ, pos, Bool, if◌then◌else◌, List, [], ◌∷◌, ◌++◌, length, slice_set, Option, Some, None}
+use Rattle.std.specs.Prelude.{ℕ, zero, suc, ◌+◌, ℤ, pos, Bool, true, false, ◌&&◌, if◌then◌else◌, List, [], ◌∷◌, ◌++◌, length, slice_set, Option, Some, None}
 use Rattle.nim_types.specs.Types.{Ty, Facts}
 use Rattle.nim_types.specs.Forms.{Form, plain, reference, block, elements, row, parts, resource, wrapped, Forms, no_forms, forms, or_word, form_of}
 use Rattle.nim_types.specs.Forms.{of_some, hooked, hooked_any}
@@ -29,6 +29,11 @@ mutual
 abbrev pub block_of : Value → Option ℕ
 block_of (Handle n k) = k
 block_of _ = None
+
+-- a text or a sequence with a length and a block of its own
+abbrev pub is_handle : Value → Bool
+is_handle (Handle n k) = true
+is_handle _ = false
 
 -- what stands for a value that nobody looks at
 abbrev pub nothing : Value
@@ -92,15 +97,36 @@ with_part (Resource all identity) i new = Resource (with_nth all i new) identity
 with_part (Fixed text) i new = Fixed (slice_set text i (low_byte (number_of new)))
 with_part v i new = v
 
+-- the part at a position
+abbrev pub nth_part : Value → ℕ → Value
+nth_part Vacant i = Vacant
+nth_part v i = nth (parts_of v) i
+
 -- the part at a path
 abbrev pub part : Value → List ℕ → Value
 part v [] = v
-part v (i ∷ path) = part (nth (parts_of v) i) path
+part v (i ∷ path) = part (nth_part v i) path
 
 -- the value with another part at a path
 abbrev pub put_part : Value → List ℕ → Value → Value
 put_part v [] new = new
-put_part v (i ∷ path) new = with_part v i (put_part (nth (parts_of v) i) path new)
+put_part v (i ∷ path) new = with_part v i (put_part (nth_part v i) path new)
+
+-- All of it is there: nothing is vacant or gone at any of its parts. What it has in blocks isn't asked for.
+abbrev mutual
+  pub is_full : Value → Bool
+  is_full (Number n) = true
+  is_full (Parts all) = all_full all
+  is_full (Handle n k) = true
+  is_full (Fixed text) = true
+  is_full (Ref object) = true
+  is_full (Resource all identity) = all_full all
+  is_full (Gone v final) = false
+  is_full Vacant = false
+
+  pub all_full : Values → Bool
+  all_full Nil = true
+  all_full (More first rest) = is_full first && all_full rest
 
 -- the bytes of a place that holds it
 abbrev mutual

@@ -95,7 +95,7 @@ pub fn place_examples()
     ensures moving { Prints moving 0 (codes "20 0\n") }
     ensures constants { Prints constants 0 (codes "2 4\n") }
     // It is read where it stands, so its bytes are no work and no part of the sum.
-    ensures constant_in_place { Works constant_in_place 0 (codes "2\n") 26 }
+    ensures constant_in_place { Works constant_in_place 0 (codes "2\n") 27 }
     ensures to_itself { Fails to_itself 0 (codes "20\n") (codes "Error: index out of bounds\n") }
 {}
 
@@ -129,8 +129,8 @@ pub fn call_examples()
     ensures coming_back { Prints coming_back 2000 (codes "back\n") }
     ensures diving { Fails diving 2004 (codes "back\n") (codes "Error: call depth limit\n") }
     ensures starting_at_default { Prints starting_at_default 1 (codes "0\n") }
-    ensures small { Works small 0 (codes "5\n") 23 }
-    ensures choosing_in_turn { Works choosing_in_turn 2 (codes "10\n20\n") 101 }
+    ensures small { Works small 0 (codes "5\n") 24 }
+    ensures choosing_in_turn { Works choosing_in_turn 2 (codes "10\n20\n") 103 }
     ensures calling_once { Works calling_once 1 [] 46 }
 {}
 

@@ -9,10 +9,10 @@ ghost use Rattle.nim_meaning.specs.Runs.{has_no_hooks};
 ghost use Rattle.nim_meaning.specs.Kept.{IsKept, IsAlways, Framed, IsBalanced, IsOnce, IsAskedFor};
 
 /// With more units a meaning shows more, and what has ended stays so. No meaning of a program without
-/// hooks is wrong: it takes no block, so nothing is gone. Where the start code comes to its end, no
-/// call is active. The demand never passes the heap, and the history
-/// of blocks agrees with those that are live: each is born once, and ends at most once.
-/// The demand is the sum over the sizes of the most blocks that were live at one time.
+/// hooks is wrong: it takes no block, and all of each value is there. Where the start code comes to
+/// its end, no call is active. The demand never passes the heap, and the history of blocks agrees
+/// with those that are live: each is born once, and ends at most once. The demand is the sum over
+/// the sizes of the most blocks that were live at one time.
 pub fn meanings()
     ensures steady { (program : Program) (plan : Plan) (heap : ℕ) (input : List ℕ) →
         Steady (meaning program plan heap input) }

@@ -117,7 +117,7 @@ module _ (live : Lives) (procs : List WordProc) (n : ℕ) (order_kept : IsKeptTh
     text_order_comes =
         let few = ordered.few in
         comes_back live procs s to rest orders_texts u calling.next refl refl ordered.word ordered.memory ordered.leaves
-        ordered.gives.1 (11 + (ordered.lines + 1)) (omega (arith, few))
+        ordered.gives (11 + (ordered.lines + 1)) (omega (arith, few))
         (then_runs live procs to_order (then_runs live procs
         (call_runs live procs orders t (oc 0) s.memory o2 g 3 (Return 3 ∷ []) refl refl ordered)
         (returns_awaiting live procs s to rest 3 [] order_proc refl ordered.memory (put o2 3 ordered.word) 3 ordered.word

@@ -234,14 +234,14 @@ is_routine number params vars lines some last few =
     record { first = some; last = last; kind = refl; whole_data = refl; small = record { room = omega arith; variables = few } }
 
 -- what calls nothing, what calls that, what calls both, and what is called with handles
-abbrev rank : ℕ → ℕ
+abbrev pub rank : ℕ → ℕ
 rank number = if nat_lt number GROW then 1 else if nat_lt number APPEND then 2 else if nat_lt number TEXT_ORDER then 3 else 4
 
 calls_nothing : (p : WordProc) → most_called rank p.lines ≡ 0 → 1 ≤ rank p.number → is_counted p.kind ≡ false
     → suc (most_called rank p.lines) ≤ rank p.number
 calls_nothing p e r f = omega (arith, e, r)
 
-rank_most : (number : ℕ) → rank number ≤ 4
+pub rank_most : (number : ℕ) → rank number ≤ 4
 rank_most number = by (nat_lt number GROW) (nat_lt number APPEND) (nat_lt number TEXT_ORDER)
   where
     by : (b d e : Bool) → (if b then 1 else if d then 2 else if e then 3 else 4) ≤ 4
@@ -423,6 +423,42 @@ on_handles_ranked = (
   ),
 )
 
+pub heap_ranked : AreRanked rank heap_routines
+heap_ranked = (
+  calls_nothing (routine TAKE 1 6 take_lines) refl (omega arith),
+  (
+    calls_nothing (routine GIVE 1 6 give_lines) refl (omega arith),
+    (
+      calls_nothing (routine CLASS 1 4 class_lines) refl (omega arith),
+      (
+        calls_nothing (routine MOVE 3 7 move_lines) refl (omega arith),
+        (
+          λ uncounted. omega arith,
+          (
+            calls_nothing (routine ORDER 4 8 order_lines) refl (omega arith),
+            (
+              λ uncounted. omega arith,
+              (
+                λ uncounted. omega arith,
+                (
+                  λ uncounted. omega arith,
+                  (
+                    calls_nothing (routine DIGITS 2 7 digits_lines) refl (omega arith),
+                    (
+                      λ uncounted. omega arith,
+                      on_handles_ranked,
+                    ),
+                  ),
+                ),
+              ),
+            ),
+          ),
+        ),
+      ),
+    ),
+  ),
+)
+
 is_heap_runtime : MemoryLaw → IsHeapRuntime code
 is_heap_runtime law = record {
   formed = refl;
@@ -461,40 +497,7 @@ is_heap_runtime law = record {
     ),
   );
   rank = rank;
-  ranked = (
-    calls_nothing (routine TAKE 1 6 take_lines) refl (omega arith),
-    (
-      calls_nothing (routine GIVE 1 6 give_lines) refl (omega arith),
-      (
-        calls_nothing (routine CLASS 1 4 class_lines) refl (omega arith),
-        (
-          calls_nothing (routine MOVE 3 7 move_lines) refl (omega arith),
-          (
-            λ uncounted. omega arith,
-            (
-              calls_nothing (routine ORDER 4 8 order_lines) refl (omega arith),
-              (
-                λ uncounted. omega arith,
-                (
-                  λ uncounted. omega arith,
-                  (
-                    λ uncounted. omega arith,
-                    (
-                      calls_nothing (routine DIGITS 2 7 digits_lines) refl (omega arith),
-                      (
-                        λ uncounted. omega arith,
-                        on_handles_ranked,
-                      ),
-                    ),
-                  ),
-                ),
-              ),
-            ),
-          ),
-        ),
-      ),
-    ),
-  );
+  ranked = heap_ranked;
   chain = rank_most;
   weight = omega arith;
   long = statics_long;

@@ -25,6 +25,7 @@ mod NumberHandles
 mod ReadHandles
 mod SequenceRuns
 mod HeapWhole
+mod BothWhole
 mod Pieces
 mod MoveRuns
 mod GrowFacts

@@ -196,7 +196,7 @@ module _ (live : Lives) (procs : List WordProc) (c : Within) (m : Memory) (k : L
     w2 = put w1 5 (computed operation.DivideUnsigned 16777208 size)
 
     abbrev w3 : Vars
-    w3 = put w2 6 ONE_LESS
+    w3 = put w2 6 16777209
 
     most_times : most * size ≤ most_payload
     most_times = div-mul-le_self most_payload size
@@ -216,10 +216,10 @@ module _ (live : Lives) (procs : List WordProc) (c : Within) (m : Memory) (k : L
         ap (λ q. Some (q % 2 ^ 32)) quotient_is ∙ got most (omega (arith, h))
 
     abbrev m2 : List WordInstr
-    m2 = Compute 5 operation.DivideUnsigned 6 2 ∷ Constant 6 ONE_LESS ∷ Branch test.Below 5 1 0 ∷ Compute 6 operation.Multiply 1 2 ∷ Label 0 ∷ k
+    m2 = Compute 5 operation.DivideUnsigned 6 2 ∷ Constant 6 16777209 ∷ Branch test.Below 5 1 0 ∷ Compute 6 operation.Multiply 1 2 ∷ Label 0 ∷ k
 
     abbrev m3 : List WordInstr
-    m3 = Constant 6 ONE_LESS ∷ Branch test.Below 5 1 0 ∷ Compute 6 operation.Multiply 1 2 ∷ Label 0 ∷ k
+    m3 = Constant 6 16777209 ∷ Branch test.Below 5 1 0 ∷ Compute 6 operation.Multiply 1 2 ∷ Label 0 ∷ k
 
     abbrev m4 : List WordInstr
     m4 = Branch test.Below 5 1 0 ∷ Compute 6 operation.Multiply 1 2 ∷ Label 0 ∷ k
@@ -227,7 +227,7 @@ module _ (live : Lives) (procs : List WordProc) (c : Within) (m : Memory) (k : L
     to_branch : Runs live procs 3 (state_at c m (bytes_lines k) v no_words) (state_at c m m4 w3 no_words)
     to_branch =
         then_runs live procs (run_constant live procs c m m2 v no_words 6 16777208) (then_runs live procs
-        (run_compute live procs c m m3 w1 no_words 5 operation.DivideUnsigned 6 2 refl e2) (run_constant live procs c m m4 w2 no_words 6 ONE_LESS))
+        (run_compute live procs c m m3 w1 no_words 5 operation.DivideUnsigned 6 2 refl e2) (run_constant live procs c m m4 w2 no_words 6 16777209))
 
     within : length ≤ most → Counted
     within less =
@@ -237,7 +237,7 @@ module _ (live : Lives) (procs : List WordProc) (c : Within) (m : Memory) (k : L
         let past : holds test.Below most length ≡ false = false_from_ne_true (nat_lt most length) (λ e. absurd (let h = ltb-true most length e in omega (arith, h, less))) in
         record {
           vars = put w3 6 (computed operation.Multiply length size);
-          is = got_product length size small ∙ ap Some (sym (cond-true (nat_le length most) (length * size) (2 ^ 32 - 1) (le-leb length most less)));
+          is = got_product length size small ∙ ap Some (sym (cond-true (nat_le length most) (length * size) (suc most_payload) (le-leb length most less)));
           zero = refl;
           one = refl;
           two = refl;
@@ -259,7 +259,7 @@ module _ (live : Lives) (procs : List WordProc) (c : Within) (m : Memory) (k : L
         let off : holds test.Below most length ≡ true = lt-ltb most length more in
         record {
           vars = w3;
-          is = ap Some (sym (cond-false (nat_le length most) (length * size) (2 ^ 32 - 1)
+          is = ap Some (sym (cond-false (nat_le length most) (length * size) (suc most_payload)
               (false_from_ne_true (nat_le length most) (λ e. absurd (let h = leb-true length most e in omega (arith, h, more))))));
           zero = refl;
           one = refl;

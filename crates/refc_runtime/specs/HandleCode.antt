@@ -83,7 +83,7 @@ abbrev pub bytes_lines : List WordInstr → List WordInstr
 bytes_lines k =
     Constant 6 16777208
     ∷ Compute 5 operation.DivideUnsigned 6 2
-    ∷ Constant 6 ONE_LESS
+    ∷ Constant 6 16777209
     ∷ Branch test.Below 5 1 0
     ∷ Compute 6 operation.Multiply 1 2
     ∷ Label 0

@@ -5,6 +5,7 @@ use Rattle.rv32_isa.specs.Image.{statics_at, heap_at}
 use Rattle.rv32_isa.specs.Words.{word_bytes}
 use Rattle.nim_program.specs.Traps.{OutOfMemory}
 use Rattle.nim_meaning.specs.Heap.{size_count}
+use Rattle.word_code.specs.declared.word.WordCode.{WordCode}
 use Rattle.word_code.specs.declared.word.WordOperation.TheVariants as operation
 use Rattle.word_code.specs.declared.word.Test.TheVariants as test
 use Rattle.word_code.specs.declared.word.WordInstr.{WordInstr}
@@ -142,3 +143,6 @@ heap_routines =
 -- the heap's words, where no block was taken, the line of the trap up to a whole number of words, and scratch bytes
 abbrev pub heap_statics : List ℕ
 heap_statics = word_bytes heap_at ++ (replicate 88 0 ++ (trap_line OutOfMemory ++ replicate 15 0))
+
+abbrev pub heap_code : WordCode
+heap_code = record { procs = heap_routines; statics = heap_statics }

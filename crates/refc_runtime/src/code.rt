@@ -1,8 +1,9 @@
 // The routines and their data.
 ghost use Rattle.std.specs.Prelude.{◌≡◌, IfOk};
-ghost use Rattle.word_code.specs.Runtime.{IsRuntime};
+ghost use Rattle.refc_runtime.specs.BothRuntimes.{AreRuntimes};
 ghost use Rattle.refc_runtime.specs.Code.{statics};
 
+use crate::heap::heap_runtime;
 use crate::routines::routines;
 use arc_base::{Bytes, Memory};
 use rv32_isa::memories;
@@ -23,12 +24,22 @@ fn data(alloc: Global) -> Result<Bytes, Memory>
     Ok(bytes)
 }
 
-/// The routines, whose numbers are those that word_code names.
-pub fn runtime(alloc: Global) -> Result<WordCode, Memory>
-    ensures { IfOk result (λ code. IsRuntime code) }
+/// All routines that a program is joined with: those of the heap in front of it, and the others
+/// behind it.
+#[derive(Drop)]
+pub struct Runtimes {
+    pub heap: WordCode,
+    pub others: WordCode,
+}
+
+/// All routines, whose numbers are those that word_code and heap_memory name.
+pub fn runtime_pair(alloc: Global) -> Result<Runtimes, Memory>
+    ensures { IfOk result (λ r. AreRuntimes r.heap r.others) }
 {
     memories();
+    let heap = heap_runtime(alloc)?;
     let procs = routines(alloc)?;
     let statics = data(alloc)?;
-    Ok(WordCode { procs, statics })
+    let others = WordCode { procs, statics };
+    Ok(Runtimes { heap, others })
 }

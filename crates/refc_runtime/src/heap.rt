@@ -2,8 +2,7 @@
 ghost use Rattle.std.specs.Prelude.{◌≡◌, IfOk};
 ghost use Rattle.refc_runtime.specs.Code.{routine};
 ghost use Rattle.refc_runtime.specs.HeapCode.{take_lines, give_lines, class_lines};
-ghost use Rattle.refc_runtime.specs.HeapCode.{heap_routines, heap_statics};
-ghost use Rattle.heap_memory.specs.HeapRuntime.{IsHeapRuntime};
+ghost use Rattle.refc_runtime.specs.HeapCode.{heap_routines, heap_statics, heap_code};
 
 use crate::handles::{
     text_append_routine, text_copy_routine, text_join_routine, text_of_number_routine,
@@ -16,7 +15,7 @@ use crate::sequences::{seq_add_routine, seq_new_routine, seq_pop_routine, seq_re
 use crate::texts::{grow_routine, move_routine, order_routine};
 use arc_base::{Bytes, Items, Memory, Stream};
 use heap_memory::{CLASS, GIVE, HEAP_WORD_BYTES, TAKE};
-use rv32_isa::{HEAP_AT, STATICS_AT, Size, memories};
+use rv32_isa::{HEAP_AT, STATICS_AT, Size};
 use std::alloc::Global;
 use word_code::{Test, WordCode, WordInstr, WordOperation, WordProc};
 
@@ -178,11 +177,11 @@ fn heap_data(alloc: Global) -> Result<Bytes, Memory>
     Ok(bytes)
 }
 
-/// The routines that take, give and grow blocks of the heap, and copy and compare bytes.
+/// The routines that take, give and grow blocks of the heap, copy and compare bytes, and those of
+/// texts and sequences.
 pub fn heap_runtime(alloc: Global) -> Result<WordCode, Memory>
-    ensures { IfOk result (λ code. IsHeapRuntime code) }
+    ensures { IfOk result (λ code. code ≡ heap_code) }
 {
-    memories();
     let procs = heap_routines(alloc)?;
     let statics = heap_data(alloc)?;
     Ok(WordCode { procs, statics })

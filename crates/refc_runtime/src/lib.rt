@@ -10,5 +10,4 @@ mod routines;
 mod sequences;
 mod texts;
 
-pub use code::runtime;
-pub use heap::heap_runtime;
+pub use code::{Runtimes, runtime_pair};

@@ -1,4 +1,3 @@
 -- The lemmas that proofs of other crates may cite.
-pub use Rattle.source_compiler.proofs.PlainFiles.{plan_is, plan_ordered}
 pub use Rattle.source_compiler.proofs.Taking.{unread, code_read}
 pub use Rattle.source_compiler.proofs.Unlisted.{meaning_same, within_same, image_same}

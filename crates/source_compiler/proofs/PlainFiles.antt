@@ -1,15 +1,26 @@
--- The file of an image without hooks under the empty plan.
-use Rattle.std.proofs.Common.{◌≡◌, ℕ, ◌<◌, List, [], ◌∷◌, ◌++◌, length, ◌⊎◌, refl, sym, ap, ◌∙◌, subst, arith}
+-- The file of an image without hooks under the empty plan, which is the plain one of a program without hooks.
+use Rattle.std.proofs.Common.{◌≡◌, ℕ, ◌<◌, true, List, [], ◌∷◌, ◌++◌, length, ◌⊎◌, Option, Some, None, Result, Ok, Err, refl, sym, ap, ◌∙◌, subst, arith}
 use Rattle.std.specs.Prelude.{◌≤◌, ◌^◌}
 use Rattle.std.specs.List.{AllByRecursion}
-use Rattle.std.specs.List.Sorted.{IsStrictlySortedBy}
+use Rattle.arc_base.specs.declared.place.Place.{Place}
+use Rattle.arc_base.specs.declared.place.Code.TheVariants.{LeftOut}
+use Rattle.arc_base.specs.Refusal.{Refusal, and_then, refused}
 use Rattle.nim_plan.specs.declared.plan.Plan.{Plan}
-use Rattle.nim_plan.specs.Order.{IsInOrder}
+use Rattle.nim_program.specs.Program.{Program}
+use Rattle.nim_meaning.specs.LeftOut.{first_left_out}
+use Rattle.nim_meaning.specs.Runs.{has_no_hooks}
+use Rattle.plain_plan.specs.Plain.{plain_plan}
+use Rattle.plain_plan.specs.Sites.{IsPlainPlan}
 use Rattle.rv32_isa.specs.Words.{word_bytes}
 use Rattle.rv32_isa.specs.declared.image.Image.{Image as RustImage}
 use Rattle.rv32_isa.specs.Image.{IsImage, image_of}
 use Rattle.elf32.specs.Elf.{File, IsFile, Ordered, counted, hook_words, site_words, sink_words, skip_words, description, note_of}
-use Rattle.source_compiler.specs.Compile.{empty_plan}
+use Rattle.program_limits.specs.Limits.{unless_left_out, data_limits}
+use Rattle.program_limits.specs.Frames.{frame_limits}
+use Rattle.core_compiler.specs.Limits.{code_limits, build_limits}
+
+abbrev pub empty_plan : Plan
+empty_plan = record { sites = []; sinks = []; skips = [] }
 
 -- an image without hooks, and no plan
 pub record IsPlain (file : File) : Type 0 where
@@ -47,18 +58,29 @@ plain_file file is = record {
   note_most = let e = ap (λ ns. length (note_of ns)) (plain_description file is) in omega (arith, e, plain_note);
 }
 
-pub plan_is : (plan : Plan) → plan.sites ≡ [] → plan.sinks ≡ [] → plan.skips ≡ [] → plan ≡ empty_plan
-plan_is plan sites sinks skips =
-    let one : plan ≡ record { sites = []; sinks = plan.sinks; skips = plan.skips } =
-    ap (λ l. record { sites = l; sinks = plan.sinks; skips = plan.skips }) sites in
-    let two : record { sites = []; sinks = plan.sinks; skips = plan.skips } ≡ record { sites = []; sinks = []; skips = plan.skips } =
-    ap (λ l. record { sites = []; sinks = l; skips = plan.skips }) sinks in
-    one ∙ two ∙ ap (λ l. record { sites = []; sinks = []; skips = l }) skips
+-- ---- no plan
 
--- its lists are in order
-pub plan_ordered : (plan : Plan) → plan.sites ≡ [] → plan.sinks ≡ [] → plan.skips ≡ [] → IsInOrder plan
-unfolding IsStrictlySortedBy
-plan_ordered plan sites sinks skips = subst IsInOrder (sym (plan_is plan sites sinks skips)) (record { sites = tt; sinks = tt; skips = tt })
+neither : (r : Result (Unit {0}) Refusal) (refusal : Refusal) → r ≡ Err refusal → r ≡ Ok tt → ⊥
+neither r refusal e f = cc
+
+plain_if : (found : Option Place) (rest said : Result (Unit {0}) Refusal) →
+    and_then (and_then (unless_left_out found) (λ built. rest)) (λ small. said) ≡ Ok tt → found ≡ None
+plain_if None rest said e = refl
+plain_if (Some at) rest said e = absurd (neither (refused LeftOut at) _ refl e)
+
+-- nothing of a program that is built is left out
+pub built_plain : (code : ℕ) (program : Program) → build_limits code program ≡ Ok tt → first_left_out program ≡ None
+built_plain code program e =
+    plain_if (first_left_out program) (and_then (frame_limits program) (λ small. data_limits program)) (code_limits code) e
+
+abbrev pub EmptyWithout : Type 0
+EmptyWithout = (program : Program) (plan : Plan) → has_no_hooks program ≡ true → plan.sites ≡ [] → plan.sinks ≡ [] → plan.skips ≡ [] → IsPlainPlan program plan
+
+-- without hooks there is no site
+pub no_sites : ((program : Program) → IsPlainPlan program (plain_plan program)) →
+    ((program : Program) (p q : Plan) → IsPlainPlan program p → IsPlainPlan program q → p ≡ q) → EmptyWithout →
+    (program : Program) → has_no_hooks program ≡ true → plain_plan program ≡ empty_plan
+no_sites is only without program none = only program (plain_plan program) empty_plan (is program) (without program empty_plan none refl refl refl)
 
 -- what the type of an image keeps
 pub image_is : (image : RustImage) → IsImage (image_of image)

@@ -9,13 +9,14 @@ use Rattle.arc_base.specs.Stops.{OnRefusal}
 use Rattle.arc_base.specs.Refusal.{Refusal, IsRefusal}
 use Rattle.nim_plan.specs.declared.plan.Plan.{Plan}
 use Rattle.nim_program.specs.Program.{Program}
+use Rattle.plain_plan.specs.Plain.{plain_plan}
 use Rattle.source_compiler.specs.declared.compiler.NotCompiled.{NotCompiled}
 use Rattle.source_compiler.specs.declared.compiler.NotCompiled.TheVariants as why
 use Rattle.source_compiler.specs.Source.{Module, alone, unlisted, RefusesAlone, Reads, Refuses}
 use Rattle.core_compiler.specs.Compile.{HasCodeWhereWithin, UnlessMemory}
 use Rattle.source_compiler.specs.Limits.{Limits, no_limits}
 use Rattle.source_compiler.specs.Compile.{IsProgram, AreTurnedDown, by_reading, by_limits, IsNoProgram, source_most, IsStop, IsOkOrMemory, OnTooLong, OnRefused}
-use Rattle.source_compiler.specs.Compile.{empty_plan, HaveCodeWhereWithin, WhereDecided}
+use Rattle.source_compiler.specs.Compile.{HaveCodeWhereWithin, WhereDecided}
 use Rattle.source_compiler.proofs.Unlisted.{within_same}
 use Rattle.source_compiler.proofs.Reading.{Rules, reads_only, read_not_refused, refuses_once, refuses_alone}
 
@@ -134,9 +135,9 @@ unread law source code at down name bytes = λ program reads. absurd (law no_lim
 
 -- the code of the one program that the module is
 pub code_read : OnlyLaw → (name source : List ℕ) (program : Program) (bytes : ℕ) → Reads (alone name source) program
-    → HasCodeWhereWithin program empty_plan bytes → HaveCodeWhereWithin (alone name source) bytes
+    → HasCodeWhereWithin program (plain_plan program) bytes → HaveCodeWhereWithin (alone name source) bytes
 code_read law name source program bytes reads has = λ other r.
-    subst (λ p. HasCodeWhereWithin p empty_plan bytes) (law (alone name source) program other reads r) has
+    subst (λ p. HasCodeWhereWithin p (plain_plan p) bytes) (law (alone name source) program other reads r) has
 
 abbrev pub SaysCode : (T : Type 0) → NotCompiled → (bytes : ℕ) → List ℕ → Type 0
 SaysCode T e bytes source = WhereDecided {T = T} (Err e) ((name : List ℕ) → HaveCodeWhereWithin (alone name source) bytes)
@@ -147,10 +148,10 @@ unread_code T law source why.TooLong h bytes = tt
 unread_code T law source (why.Refused code at) h bytes = λ name. unread law source code at h name bytes
 unread_code T law source why.Memory h bytes = tt
 
-pub stopped_code : (T U : Type 0) → OnlyLaw → (source : List ℕ) (program : Program) (plan : Plan) (bytes : ℕ) → plan ≡ empty_plan
+pub stopped_code : (T U : Type 0) → OnlyLaw → (source : List ℕ) (program : Program) (plan : Plan) (bytes : ℕ) → plan ≡ plain_plan (unlisted program)
     → ((name : List ℕ) → Reads (alone name source) (unlisted program)) → (e : NotCompiled) (stop : Stop) → IsStop stop e
     → UnlessMemory {T = U} (Err stop) (HasCodeWhereWithin program plan bytes) → SaysCode T e bytes source
-stopped_code T U law source program plan bytes none reads e (Refused c at) told has =
-    let same = within_same program empty_plan (subst (λ (p : Plan). HasCodeWhereWithin program p bytes) none has) in
+stopped_code T U law source program plan bytes plain reads e (Refused c at) told has =
+    let same = within_same program (plain_plan (unlisted program)) (subst (λ (p : Plan). HasCodeWhereWithin program p bytes) plain has) in
     subst (λ e. SaysCode T e bytes source) (sym told) (λ name. code_read law name source (unlisted program) bytes (reads name) same)
-stopped_code T U law source program plan bytes none reads e Memory told has = subst (λ e. SaysCode T e bytes source) (sym told) tt
+stopped_code T U law source program plan bytes plain reads e Memory told has = subst (λ e. SaysCode T e bytes source) (sym told) tt

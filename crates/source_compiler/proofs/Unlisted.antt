@@ -1,4 +1,4 @@
--- A program means the same without its list of types by number, and code of it is code of the other.
+-- A program means the same without its list of types by number, has the same plan, and code of it is code of the other.
 use Rattle.std.proofs.Common.{◌≡◌, ℕ, zero, suc, List, [], ap, subst, refl}
 use Rattle.std.specs.Prelude.{slice_get}
 use Rattle.arc_base.specs.Behaviour.{Agrees}
@@ -12,12 +12,23 @@ use Rattle.nim_meaning.specs.State.{live}
 use Rattle.nim_meaning.specs.Acts.{costs, spending, elsewhere, at_exit}
 use Rattle.nim_meaning.specs.Here.{Calls}
 use Rattle.nim_meaning.specs.Meaning.{called, from_level, calls, exec_all, at_first, reported, meaning}
+use Rattle.plain_plan.specs.Plain.{plain_plan}
+use Rattle.plain_plan.specs.Sites.{IsPlainPlan}
 use Rattle.rv32_isa.specs.Image.{Image}
 use Rattle.rv32_isa.specs.Machine.{machine}
 use Rattle.word_code.specs.Words.{word_meaning}
 use Rattle.core_compiler.specs.declared.program.TheConstants.{IMAGE_PACE, IMAGE_LATE}
 use Rattle.core_compiler.specs.Compile.{live_objects, EndsInTime, HasCode, HasCodeWhereWithin, DoesProgram, HasImageWhereBuilt}
 use Rattle.source_compiler.specs.Source.{unlisted}
+
+plain_same : (program : Program) (plan : Plan) → IsPlainPlan program plan → IsPlainPlan (unlisted program) plan
+plain_same program plan is = record { ordered = is.ordered; acts = is.acts; sinks = is.sinks; skips = is.skips }
+
+pub plan_same : ((program : Program) → IsPlainPlan program (plain_plan program)) →
+    ((program : Program) (p q : Plan) → IsPlainPlan program p → IsPlainPlan program q → p ≡ q) →
+    (program : Program) → plain_plan program ≡ plain_plan (unlisted program)
+plan_same is only program = only (unlisted program) (plain_plan program) (plain_plan (unlisted program))
+    (plain_same program (plain_plan program) (is program)) (is (unlisted program))
 
 module _ (p : Program) (plan : Plan) where
   deeper : (left level : ℕ) → calls p plan left level ≡ calls (unlisted p) plan left level

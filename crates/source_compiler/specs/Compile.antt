@@ -11,9 +11,9 @@ use Rattle.arc_base.specs.declared.place.Place.{Place}
 use Rattle.arc_base.specs.declared.place.Code.{Code}
 use Rattle.arc_base.specs.declared.place.Stop.{Stop}
 use Rattle.arc_base.specs.declared.place.Stop.TheVariants as stop
-use Rattle.nim_plan.specs.declared.plan.Plan.{Plan}
 use Rattle.nim_program.specs.Program.{Program}
 use Rattle.nim_meaning.specs.Meaning.{meaning}
+use Rattle.plain_plan.specs.Plain.{plain_plan}
 use Rattle.rv32_isa.specs.Machine.{machine}
 use Rattle.elf32.specs.Elf.{File, IsFile}
 use Rattle.source_compiler.specs.declared.compiler.NotCompiled.{NotCompiled}
@@ -25,14 +25,10 @@ use Rattle.core_compiler.specs.Limits.{build_limits}
 use Rattle.core_compiler.specs.Compile.{live_objects, EndsInTime, HasCode, HasCodeWhereWithin, image_with}
 use Rattle.source_compiler.specs.Limits.{Limits}
 
--- the plan of a program without sites
-abbrev pub empty_plan : Plan
-empty_plan = record { sites = []; sinks = []; skips = [] }
-
 -- THE HEADLINE. The modules are one typed program, which can be compiled. For every input and every number of steps the machine on the
 -- file's image agrees with the meaning of the program under the file's plan and this heap, in bytes; its work is in proportion, and where
 -- the meaning ends the machine has ended in time. The image is that of code which does the same, with just the stack that its calls need.
--- The file is one that can be written, its plan is empty, and there are no hooks.
+-- The file is one that can be written, its plan copies at each site of the program, and there are no hooks.
 pub record Compiled (modules : List Module) (heap : ℕ) (file : File) : Type 0 where
   pub program : Program
   pub reads : Reads modules program
@@ -44,13 +40,13 @@ pub record Compiled (modules : List Module) (heap : ℕ) (file : File) : Type 0 
   pub in_time : (input : List ℕ) → EndsInTime (machine live_objects file.image input) (meaning program file.plan heap input)
   pub code : HasCode program file.plan (length file.image.code)
   pub made : file.image ≡ image_with heap code
-  pub plan : file.plan ≡ empty_plan
+  pub plan : file.plan ≡ plain_plan program
   pub heap_is : file.image.heap ≡ heap
   pub hooks : file.image.hooks ≡ []
 
 -- Where the modules are a typed program that isn't refused before it has code, code of so many bytes does what that means under its plan.
 abbrev pub HaveCodeWhereWithin : List Module → (bytes : ℕ) → Type 0
-HaveCodeWhereWithin modules bytes = (program : Program) → Reads modules program → HasCodeWhereWithin program empty_plan bytes
+HaveCodeWhereWithin modules bytes = (program : Program) → Reads modules program → HasCodeWhereWithin program (plain_plan program) bytes
 
 -- the longest source
 abbrev pub source_most : ℕ

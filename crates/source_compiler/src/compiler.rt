@@ -4,11 +4,12 @@ ghost use Rattle.elf32.specs.Elf.{file_of};
 ghost use Rattle.source_compiler.specs.Source.{alone};
 ghost use Rattle.source_compiler.specs.Compile.{Compiled, DecidedBy, source_most, OnTooLong};
 
-use crate::source::{one_answer, typed};
+use crate::source::{one_answer, plan_of, typed};
 use arc_base::{Code, Memory, Place, Stop};
 use core_compiler::compile_core;
 use elf32::ElfFile;
-use nim_plan::Plan;
+use formed_programs::without_hooks;
+use plain_plan::plain_plans;
 use std::alloc::Global;
 
 /// The version of the file's note.
@@ -50,7 +51,7 @@ impl From<Memory> for NotCompiled {
 }
 
 /// The file of a main module, whatever its name, with a heap of that many bytes, 4,096 to 16,777,216: for every input and
-/// every number of steps, the machine on its image does what the source means.
+/// every number of steps, the machine on its image does what the source means under the file's plan.
 ///
 /// Refused is a source that is no program, or none that can be compiled, and too long one of more than 1,048,576 bytes. Whether
 /// code is too large is said of the number of bytes of code that does what the source means.
@@ -65,8 +66,10 @@ pub fn compile(alloc: Global, source: &[u8], heap: u32) -> Result<ElfFile, NotCo
         × IfOk result (λ file. length file.image.code ≡ bytes) }
 {
     one_answer();
+    without_hooks();
+    plain_plans();
     let program = typed(alloc, source)?;
-    let plan = Plan::new(alloc);
+    let plan = plan_of(alloc, &program)?;
     let image = compile_core(alloc, &program, &plan, heap)?;
     Ok(ElfFile {
         image,

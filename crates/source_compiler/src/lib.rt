@@ -6,4 +6,4 @@ mod compiler;
 mod source;
 
 pub use compiler::{NotCompiled, compile};
-pub use source::{SOURCE_MOST, one_answer, typed};
+pub use source::{SOURCE_MOST, one_answer, plan_of, typed};

@@ -3,9 +3,11 @@ ghost use Rattle.std.specs.Prelude.{◌≡◌, ◌⊎◌, ◌≤◌, ◌<◌, []
 ghost use Rattle.arc_base.specs.Stops.{OnRefusal};
 ghost use Rattle.arc_base.specs.declared.place.Code.{Code};
 ghost use Rattle.arc_base.specs.declared.place.Place.{Place};
+ghost use Rattle.nim_plan.specs.Order.{IsInOrder};
 ghost use Rattle.nim_program.specs.Program.{Program as TypedProgram};
 ghost use Rattle.nim_program.specs.Numbering.{is_numbered_program};
 ghost use Rattle.nim_program.specs.Typed.{IsTyped};
+ghost use Rattle.plain_plan.specs.Plain.{plain_plan};
 ghost use Rattle.check_decls.specs.Modules.{program_in};
 ghost use Rattle.core_compiler.specs.Compile.{MembersNamed};
 ghost use Rattle.source_compiler.specs.Source.{Module, alone, read_program, ReadsAlone, RefusesAlone, Reads, Refuses};
@@ -13,12 +15,15 @@ ghost use Rattle.source_compiler.specs.Limits.{Limits};
 ghost use Rattle.source_compiler.specs.Compile.{IsProgram, IsNoProgram, source_most, OnTooLong, OnRefused, IsOkOrMemory};
 
 use crate::compiler::NotCompiled;
-use arc_base::Stop;
+use arc_base::{Memory, Stop};
 use check_decls::elaborate;
 use decl_rules::{one_program, programs_computed};
+use formed_programs::table_forms;
 use indent_scanner::{one_reading, scan};
+use nim_plan::Plan;
 use nim_program::Program;
 use parse_stmts::parse;
+use plain_plan::{plain_plan, plain_plans};
 use std::alloc::Global;
 use typing_laws::{typed_programs, types_sound};
 
@@ -68,6 +73,17 @@ pub fn typed(alloc: Global, source: &[u8]) -> Result<Program, NotCompiled>
     }
     one_answer();
     Ok(read(alloc, source)?)
+}
+
+/// The plan of a typed program: it copies at each of its sites. `Memory` where none was found.
+pub fn plan_of(alloc: Global, program: &Program) -> Result<Plan, Memory>
+    requires { IsTyped (program_in program.now) }
+    ensures plain { IfOk result (λ plan. plan ≡ plain_plan (read_program program.now)) }
+    ensures ordered { IfOk result IsInOrder }
+{
+    table_forms();
+    plain_plans();
+    plain_plan(alloc, program)
 }
 
 /// A main module is a typed program or is refused. Modules are one program at most, or are refused with one code at one

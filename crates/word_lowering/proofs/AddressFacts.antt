@@ -53,7 +53,7 @@ module _ (x : Basis) (g : Both) (line : BlockLine) (rest : List BlockLine) (y : 
     pub high_is : IsHigh home
     pub address : ℕ
     pub points : Points g.call.site.base g.call.vars home address
-    pub leads_to : Leads x.table x.blocks (all_sites x g line rest y) g.world g.call.site g.call.temps there address s
+    pub leads_to : Leads x.table x.blocks (all_sites x g line rest y) g.ground g.world g.call.site g.call.temps there address s
 
   -- what is in the variable of a place that has an address
   record AddressIn (f : Name) (a : ℕ) : Type 0 where
@@ -133,7 +133,7 @@ module _ (x : Basis) (g : Both) (line : BlockLine) (rest : List BlockLine) (y : 
             high_is = high_in_memory (house site0 (of_place p)).home u.home;
             address = address_of site0.base (house site0 (of_place p)).home;
             points = points;
-            leads_to = subst (λ w. Leads x.table x.blocks (all_sites x g line rest y) g.world g.call.site g.call.temps w
+            leads_to = subst (λ w. Leads x.table x.blocks (all_sites x g line rest y) g.ground g.world g.call.site g.call.temps w
                 (address_of site0.base (house site0 (of_place p)).home) s) (sym (at_l ∙ ap Located own)) (inl (record {
                   site = site0;
                   among = u.start.among;
@@ -172,7 +172,7 @@ module _ (x : Basis) (g : Both) (line : BlockLine) (rest : List BlockLine) (y : 
                 high_is = high_in_memory (house g.call.site (of_place p)).home inside;
                 address = address_of g.call.site.base (house g.call.site (of_place p)).home;
                 points = points_there g.call.site.base g.call.vars (house g.call.site (of_place p)).home inside;
-                leads_to = subst (λ w. Leads x.table x.blocks (all_sites x g line rest y) g.world g.call.site g.call.temps w
+                leads_to = subst (λ w. Leads x.table x.blocks (all_sites x g line rest y) g.ground g.world g.call.site g.call.temps w
                     (address_of g.call.site.base (house g.call.site (of_place p)).home) s)
                     (sym (at_l ∙ ap Located (own_root x g line rest y g.call.site.level p v.0 v.1))) (inl (record {
                       site = g.call.site;
@@ -197,7 +197,7 @@ module _ (x : Basis) (g : Both) (line : BlockLine) (rest : List BlockLine) (y : 
                 high_is = q.high_is;
                 address = v.address;
                 points = q.points;
-                leads_to = subst (λ w. Leads x.table x.blocks (all_sites x g line rest y) g.world g.call.site g.call.temps w v.address s) (sym same)
+                leads_to = subst (λ w. Leads x.table x.blocks (all_sites x g line rest y) g.ground g.world g.call.site g.call.temps w v.address s) (sym same)
                     (inl (subst (λ k. FromPlace x.table (all_sites x g line rest y) g.world v.location v.address k) look v.leads));
               }
 
@@ -214,7 +214,7 @@ module _ (x : Basis) (g : Both) (line : BlockLine) (rest : List BlockLine) (y : 
             high_is = high_in_memory (house g.call.site (of_value u)).home inside;
             address = address_of g.call.site.base (house g.call.site (of_value u)).home;
             points = points_there g.call.site.base g.call.vars (house g.call.site (of_value u)).home inside;
-            leads_to = subst (λ w. Leads x.table x.blocks (all_sites x g line rest y) g.world g.call.site g.call.temps w
+            leads_to = subst (λ w. Leads x.table x.blocks (all_sites x g line rest y) g.ground g.world g.call.site g.call.temps w
                 (address_of g.call.site.base (house g.call.site (of_value u)).home) s) (sym r.is) (record {
                   there = there_is;
                   home = inside;
@@ -226,7 +226,7 @@ module _ (x : Basis) (g : Both) (line : BlockLine) (rest : List BlockLine) (y : 
                 });
           })
 
-      by : (a : Alias) → (house g.call.site (of_location t)).alias ≡ a → IsLedBy x.table x.blocks a (all_sites x g line rest y) g.world g.call t there
+      by : (a : Alias) → (house g.call.site (of_location t)).alias ≡ a → IsLedBy x.table x.blocks a (all_sites x g line rest y) g.ground g.world g.call t there
           → AtAddress (location here t) there s
       by alias.Own is r =
           let there_is : IsThere g.call.site (of_location t) = record { among = n.among; number = n.number; kind = n.kind; own = is } in

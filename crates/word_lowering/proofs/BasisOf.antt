@@ -1,5 +1,5 @@
 -- All that stays the same in the runs of a code that may be lowered, with a runtime.
-use Rattle.std.proofs.Common.{List, [], ◌∷◌, Bool, false, refl, sym, ◌≡◌, inr, ℕ, ◌+◌, length, drop, length-drop, true, arith}
+use Rattle.std.proofs.Common.{List, [], ◌∷◌, Bool, false, refl, sym, ◌≡◌, inr, ℕ, ◌+◌, ◌%◌, length, drop, length-append, length-drop, true, subst, arith}
 use Rattle.arc_base.specs.Behaviour.{no_objects}
 use Rattle.rv32_isa.specs.Machine.{Lives}
 use Rattle.nim_types.specs.declared.types.TypeDef.{TypeDef}
@@ -7,19 +7,22 @@ use Rattle.nim_types.specs.Table.{IsTable}
 use Rattle.word_code.specs.declared.routine.TheConstants.{SCRATCH_BYTES}
 use Rattle.flat_code.specs.declared.block.BlockLine.{BlockLine}
 use Rattle.flat_code.specs.declared.code.Code.{Code}
-use Rattle.word_code.specs.declared.word.WordCode.{WordCode}
 use Rattle.word_code.specs.Memory.{Memory, as_state}
 use Rattle.word_code.specs.Joined.{joined}
-use Rattle.word_code.specs.Runtime.{IsRuntime}
+use Rattle.word_code.specs.Routines.{IsKept}
+use Rattle.word_code.specs.RoutineTable.{routine}
+use Rattle.word_code.specs.Runtime.{routines_at}
+use Rattle.heap_memory.specs.declared.numbers.TheConstants.{HEAP_DATA}
 use Rattle.word_code.proofs.ForCallers.{MemoryLaw}
 use Rattle.word_lowering.specs.Stored.{HaveForms}
 use Rattle.word_lowering.specs.Lowered.{lowered}
 use Rattle.word_lowering.specs.Lowers.{IsFitting, AreSilent}
 use Rattle.word_lowering.specs.MayLower.{may_lower}
+use Rattle.word_lowering.specs.Runtimes.{Runtimes, with_runtimes}
 use Rattle.word_lowering.proofs.Related.{IsClosed, routines}
 use Rattle.word_lowering.proofs.Lines.{Basis}
 use Rattle.word_lowering.proofs.ProcCodes.{callee}
-use Rattle.word_lowering.proofs.NamedProcs.{apart_from}
+use Rattle.word_lowering.proofs.NamedProcs.{all_apart}
 use Rattle.word_lowering.proofs.RoomBounds.{globals_inside, data_small, enums_may, sites_within}
 use Rattle.word_lowering.proofs.DataEnd.{globals_behind, globals_whole}
 use Rattle.word_lowering.proofs.DataSizes.{data_whole, data_within}
@@ -41,21 +44,32 @@ use Rattle.word_lowering.proofs.TypeRules.{type_compared, type_plain, type_unhoo
 use Rattle.word_lowering.proofs.TypeShapes.{type_part}
 use Rattle.word_code.specs.Words.{Fresh}
 
-module _ (table : List TypeDef) (blocks : Code BlockLine) (may : may_lower table blocks ≡ true) (runtime : WordCode) (is : IsRuntime runtime) where
+module _ (table : List TypeDef) (blocks : Code BlockLine) (may : may_lower table blocks ≡ true) (runtime : Runtimes) where
   -- the data of routines that stays is beside all places
-  pub closed : IsClosed table blocks (routines table blocks + SCRATCH_BYTES) (length (drop SCRATCH_BYTES runtime.statics))
+  pub closed : IsClosed table blocks (routines table blocks + SCRATCH_BYTES) (length (drop SCRATCH_BYTES runtime.others.statics))
   closed =
       let inside = globals_inside table blocks in
       let most = data_within table blocks may in
-      let few = is.data_most in
-      let least = is.data_least in
-      let d = length-drop SCRATCH_BYTES runtime.statics in
+      let few = runtime.is_others.data_most in
+      let least = runtime.is_others.data_least in
+      let d = length-drop SCRATCH_BYTES runtime.others.statics in
       inr (omega (arith, inside), omega (arith, most, few, least, d))
+
+  -- the data in front of that of routines
+  front_long : length (joined runtime.heap (lowered table blocks)).statics ≡ HEAP_DATA + length (lowered table blocks).statics
+  front_long =
+      let l = length-append runtime.heap.statics (lowered table blocks).statics in let h = runtime.is_heap.long in omega (arith, l, h)
+
+  pub front_whole : length (joined runtime.heap (lowered table blocks)).statics % 4 ≡ 0
+  front_whole = let l = front_long in let own = data_whole table blocks in omega (arith, l, own)
+
+  pub routines_are : routines_at (joined runtime.heap (lowered table blocks)) ≡ routines table blocks
+  routines_are = let l = front_long in omega (arith, l)
 
   -- constants that stand in the data; code without procedures has none
   pub constants_first : (heap stack : ℕ) (pieces : List Piece) → AllSmall (piece_words pieces)
       → is_member same_text (code_texts block_plain blocks.procs) (standing_bytes pieces) ≡ true
-      → StandsThere table blocks (first_memory (joined (lowered table blocks) runtime) heap stack) pieces
+      → StandsThere table blocks (first_memory (with_runtimes runtime (lowered table blocks)) heap stack) pieces
   constants_first heap stack pieces small among = by (is_empty blocks.procs) refl
     where
       none : (procs : List (CodeProc BlockLine)) → is_empty procs ≡ true → is_member same_text (code_texts block_plain procs) (standing_bytes pieces) ≡ true
@@ -63,7 +77,7 @@ module _ (table : List TypeDef) (blocks : Code BlockLine) (may : may_lower table
       none [] e h = absurd (true≢false (sym h))
       none (p ∷ procs) e h = absurd (true≢false (sym e))
 
-      by : (b : Bool) → is_empty blocks.procs ≡ b → StandsThere table blocks (first_memory (joined (lowered table blocks) runtime) heap stack) pieces
+      by : (b : Bool) → is_empty blocks.procs ≡ b → StandsThere table blocks (first_memory (with_runtimes runtime (lowered table blocks)) heap stack) pieces
       by true e = absurd (none blocks.procs e among)
       by false e =
           constant_first table blocks runtime heap stack (globals_behind table blocks e) (globals_whole table blocks) (data_within table blocks may)
@@ -76,7 +90,7 @@ module _ (table : List TypeDef) (blocks : Code BlockLine) (may : may_lower table
     fresh = fresh;
     table = table;
     blocks = blocks;
-    first = first_memory (joined (lowered table blocks) runtime) heap stack;
+    first = first_memory (with_runtimes runtime (lowered table blocks)) heap stack;
     law = law;
     small = data_small table blocks may;
     within = sites_within table blocks;
@@ -92,9 +106,10 @@ module _ (table : List TypeDef) (blocks : Code BlockLine) (may : may_lower table
     limits = type_limit table is_table have;
     none = none;
     callees = callee table blocks is_table have fitting may silent;
-    runtime = runtime;
-    kept = is.kept live (lowered table blocks) (apart_from table blocks may runtime.procs is.routines) (data_whole table blocks);
-    given = routines_given table blocks runtime heap stack is.data_least;
+    runtimes = runtime;
+    kept = λ name. subst (λ a. IsKept live (with_runtimes runtime (lowered table blocks)).procs a runtime.others.statics (routine a name)) routines_are
+        (runtime.is_others.kept live (joined runtime.heap (lowered table blocks)) (all_apart table blocks may runtime).1 front_whole name);
+    given = routines_given table blocks runtime heap stack runtime.is_others.data_least;
     globals_inside = globals_inside table blocks;
     data_most = data_within table blocks may;
     given_closed = closed;

@@ -1,5 +1,5 @@
 -- Word code does what the block code does that it comes from, and is as its callers want it.
-use Rattle.std.proofs.Common.{◌≡◌, inl, inr, ℕ, suc, ◌+◌, ◌*◌, ◌%◌, ◌≤◌, length, length-append, List, [], ◌∷◌, map, Option, Some, None, true, false}
+use Rattle.std.proofs.Common.{◌≡◌, inl, inr, ℕ, suc, ◌+◌, ◌≤◌, List, [], ◌∷◌, map, Option, Some, None, true, false}
 use Rattle.std.proofs.Common.{refl, sym}
 use Rattle.std.proofs.Common.{ap, ap₂, subst, arith}
 use Rattle.arc_base.specs.Event.{Event}
@@ -20,23 +20,20 @@ use Rattle.flat_code.specs.Running.{Machine, ShowsAlike, Counting, Going, counti
 use Rattle.flat_code.proofs.ForCallers.{agrees_as, paced_as, sound_as, sound_within, stands_still, unbounded}
 use Rattle.word_code.specs.Words.{WordState, is_word_code, if_formed, word_meaning, word_by_units, start as word_start, Fresh, step_of}
 use Rattle.word_code.proofs.ForCallers.{MemoryLaw, Sized}
-use Rattle.word_code.specs.declared.routine.TheConstants.{RUNTIME_DATA}
 use Rattle.word_code.specs.declared.word.WordCode.{WordCode}
-use Rattle.word_code.specs.Joined.{joined}
-use Rattle.word_code.specs.Runtime.{IsRuntime}
 use Rattle.word_lowering.specs.declared.lowering.TheConstants.{WORD_PACE, MOST_HEAP}
-use Rattle.word_lowering.specs.declared.may_lower.TheConstants.{MOST_DATA}
 use Rattle.word_lowering.specs.Stored.{HaveForms}
 use Rattle.word_lowering.specs.Layouts.{is_empty}
 use Rattle.word_lowering.specs.Lowered.{lowered}
 use Rattle.word_lowering.specs.MayLower.{may_lower}
 use Rattle.word_lowering.specs.Lowers.{HasNoObjects, IsFitting, AreSilent, IsLowered, Lowers, LowersWithRuntime}
-use Rattle.word_lowering.proofs.NamedProcs.{apart_from, is_formed}
-use Rattle.word_lowering.proofs.SmallProcs.{are_small, no_circle, chain_short, unhooked}
+use Rattle.word_lowering.specs.Runtimes.{Runtimes, with_runtimes}
+use Rattle.word_lowering.proofs.NamedProcs.{all_apart, is_formed}
+use Rattle.word_lowering.proofs.SmallProcs.{are_small, no_circle, chain_short, unhooked, own_room}
 use Rattle.word_lowering.proofs.CodeWeights.{weight_is}
 use Rattle.word_lowering.proofs.DataSizes.{data_whole, data_sized, data_within}
 use Rattle.word_lowering.proofs.RoomBounds.{enums_may, start_most}
-use Rattle.word_lowering.proofs.FirstMemory.{first_memory, good_first, sized_first, start_room}
+use Rattle.word_lowering.proofs.FirstMemory.{first_memory, whole_length, good_first, sized_first, start_room}
 use Rattle.word_lowering.proofs.Related.{Both, with_rest, MemoryGood, low}
 use Rattle.word_lowering.proofs.Bounded.{IsBounded, bounded_by_pairs}
 use Rattle.word_lowering.proofs.StandsAlike.{stands_alike}
@@ -62,10 +59,10 @@ some_procs types (p ∷ ps) heap input ok = (p, ps, refl)
 -- ---- agreement
 
 module _ (live : Lives) (none : HasNoObjects live) (table : List TypeDef) (blocks : Code BlockLine) (is_table : IsTable table) (have : HaveForms table)
-    (may : may_lower table blocks ≡ true) (runtime : WordCode) (is : IsRuntime runtime) (law : MemoryLaw) (fresh : Fresh) (heap stack : ℕ) (input : List ℕ)
+    (may : may_lower table blocks ≡ true) (runtime : Runtimes) (law : MemoryLaw) (fresh : Fresh) (heap stack : ℕ) (input : List ℕ)
     (most : heap ≤ MOST_HEAP) (fits : IsFitting table blocks) (silent : AreSilent blocks.procs) where
   abbrev code : WordCode
-  code = joined (lowered table blocks) runtime
+  code = with_runtimes runtime (lowered table blocks)
 
   abbrev first : Memory
   first = first_memory code heap stack
@@ -88,10 +85,10 @@ module _ (live : Lives) (none : HasNoObjects live) (table : List TypeDef) (block
 
   module _ (p : CodeProc BlockLine) (ps : List (CodeProc BlockLine)) (some : blocks.procs ≡ p ∷ ps) where
     abbrev x : Basis
-    x = basis_of table blocks may runtime is live fresh none is_table have fits silent heap stack law
+    x = basis_of table blocks may runtime live fresh none is_table have fits silent heap stack law
 
     sized : Sized first
-    sized = sized_first table blocks runtime heap stack most (start_most table blocks may) (data_within table blocks may) is.data_most
+    sized = sized_first table blocks runtime heap stack most (start_most table blocks may runtime) (data_within table blocks may) runtime.is_others.data_most
 
     memory : (sites : List Site) → next_base sites ≡ stack_at + start_room code → MemoryGood table blocks sites first first
     memory = good_first table blocks runtime heap stack sized
@@ -167,7 +164,7 @@ module _ (live : Lives) (none : HasNoObjects live) (table : List TypeDef) (block
   if_formed_so units P h ok =
       let some = some_procs (known_in table) blocks.procs heap input ok in
       subst (λ b. P (if_formed b (behaviour low_step (low_first units))) (behaviour high_step (high_first units)))
-      (sym (is_formed table blocks may runtime is.formed is.routines)) (h some.0 some.1 some.2)
+      (sym (is_formed table blocks may runtime)) (h some.0 some.1 some.2)
 
   -- with as many units as there are it is the machine that doesn't count
   free : (n : ℕ) → behaviour high_step (high_first None) n ≡ block_meaning table blocks heap input n
@@ -228,41 +225,35 @@ module _ (live : Lives) (none : HasNoObjects live) (table : List TypeDef) (block
 
 module _ (table : List TypeDef) (blocks : Code BlockLine) (is_table : IsTable table) (have : HaveForms table) (may : may_lower table blocks ≡ true)
     (law : MemoryLaw) where
-  lowers_with : (runtime : WordCode) → IsRuntime runtime → Lowers table blocks (joined (lowered table blocks) runtime)
-  lowers_with runtime is = record {
+  lowers_with : (runtime : Runtimes) → Lowers table blocks (with_runtimes runtime (lowered table blocks))
+  lowers_with runtime = record {
     agrees = λ live fresh heap stack input none most fits silent ok.
-        agrees live none table blocks is_table have may runtime is law fresh heap stack input most fits silent ok;
+        agrees live none table blocks is_table have may runtime law fresh heap stack input most fits silent ok;
     paced = λ live fresh heap stack input none most fits silent ok.
-        paced live none table blocks is_table have may runtime is law fresh heap stack input most fits silent ok;
+        paced live none table blocks is_table have may runtime law fresh heap stack input most fits silent ok;
     exact = λ live fresh heap stack input none most fits silent ok units.
-        exact_counted live none table blocks is_table have may runtime is law fresh heap stack input most fits silent units ok;
+        exact_counted live none table blocks is_table have may runtime law fresh heap stack input most fits silent units ok;
     bounded = λ live fresh heap stack input none most fits silent ok units.
-        bounded_counted live none table blocks is_table have may runtime is law fresh heap stack input most fits silent units ok;
-    formed = is_formed table blocks may runtime is.formed is.routines;
-    no_circle = no_circle table blocks runtime is;
-    chain = chain_short table blocks runtime is;
-    small = are_small table blocks may runtime is.routines;
-    whole = whole_joined runtime is.whole;
-    data_most = most_joined runtime is.data_most;
-    hooks = unhooked table blocks runtime is.routines;
+        bounded_counted live none table blocks is_table have may runtime law fresh heap stack input most fits silent units ok;
+    formed = is_formed table blocks may runtime;
+    no_circle = no_circle table blocks runtime;
+    chain = chain_short table blocks runtime;
+    small = are_small table blocks may runtime;
+    whole = let l = whole_length table blocks runtime 0 0 in let own = data_whole table blocks in let w = runtime.is_others.whole in omega (arith, l, own, w);
+    data_most =
+        let l = whole_length table blocks runtime 0 0 in
+        let own = data_within table blocks may in
+        let few = runtime.is_others.data_most in
+        omega (arith, l, own, few);
+    hooks = unhooked table blocks runtime;
   }
-    where
-      long : (runtime : WordCode) → length (joined (lowered table blocks) runtime).statics
-          ≡ length (lowered table blocks).statics + length runtime.statics
-      long runtime = length-append (lowered table blocks).statics runtime.statics
-
-      whole_joined : (runtime : WordCode) → length runtime.statics % 4 ≡ 0 → length (joined (lowered table blocks) runtime).statics % 4 ≡ 0
-      whole_joined runtime whole = let l = long runtime in let own = data_whole table blocks in omega (arith, l, own, whole)
-
-      most_joined : (runtime : WordCode) → length runtime.statics ≤ RUNTIME_DATA
-          → length (joined (lowered table blocks) runtime).statics ≤ MOST_DATA + RUNTIME_DATA
-      most_joined runtime few = let l = long runtime in let own = data_within table blocks may in omega (arith, l, own, few)
 
   pub lowers : LowersWithRuntime table blocks (lowered table blocks)
   lowers = record {
-    apart = λ runtime is. apart_from table blocks may runtime.procs is.routines;
+    apart = all_apart table blocks may;
+    room = own_room table blocks;
     lowers = lowers_with;
-    weight = weight_is table blocks;
+    weight = weight_is table blocks may;
     whole = data_whole table blocks;
     data_size = data_sized table blocks;
   }

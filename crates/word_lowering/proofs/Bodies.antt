@@ -44,6 +44,7 @@ use Rattle.word_lowering.proofs.ShapeFacts.{never, of_numbers}
 use Rattle.word_lowering.proofs.Sites.{Body, room, type_of, looks, Among, There, InMemory, data_end, sigs, globals_of, HasTexts, IsHoused, IsGlobal}
 use Rattle.word_lowering.proofs.Sites.{ResultIs, place_among, IsTextual, IsBody}
 use Rattle.word_code.specs.declared.word.TheConstants.{SPARE_ROOM}
+use Rattle.word_lowering.proofs.WaiterHomes.{nothing_waits, room_whole_behind, waiters_datum, waiters_grow}
 
 module _ (table : List TypeDef) (blocks : Code BlockLine) where
   -- what is tested of a procedure
@@ -89,7 +90,12 @@ module _ (table : List TypeDef) (blocks : Code BlockLine) where
     all = all_housed table start lines least proc.places
 
     ends : start ≡ true → most.datum ≤ data_end table blocks
-    ends s = let e = ap (λ (l : Layout). l.free.datum) (at_start.layout s) in omega (arith, e)
+    ends s =
+        let e = ap (λ (l : Layout). l.free.datum) (at_start.layout s) in
+        let d = waiters_datum most all in omega (arith, e, d)
+
+    within : most.byte ≤ room b
+    within = (waiters_grow most all).byte
 
     -- ---- homes
 
@@ -105,7 +111,7 @@ module _ (table : List TypeDef) (blocks : Code BlockLine) where
         record {
           bytes = place_shape_bytes table is_table have p.kind p.ty;
           word = place_is_word table is_table have p.kind p.ty numbers;
-          where_is = housing table start lines (room b) FIXED_BYTES (data_end table blocks) f p least most (omega arith) (omega arith) (omega arith) ends own
+          where_is = housing table start lines (room b) FIXED_BYTES (data_end table blocks) f p least most (omega arith) within (omega arith) ends own
               (each_among _ all h (all_between table start lines least proc.places) a own)
               (each_among _ all h (all_aligned table start lines least proc.places (record { byte = refl; datum = refl })) a own);
           kept = kept_in_variable table start lines f p own;
@@ -380,7 +386,8 @@ module _ (table : List TypeDef) (blocks : Code BlockLine) where
       may = is.may;
       once = once_is;
       result = result_by (result_cases table start lines least proc.places);
-      room_whole = room_whole table start lines least proc.places refl;
+      waiters = nothing_waits table start lines least most proc.places is.plain;
+      room_whole = room_whole_behind table start lines least most proc.places (room_whole table start lines least proc.places refl);
       room_most = is.room;
       handed = λ h at e home.
           let ends = is.handed in

@@ -31,6 +31,7 @@ use Rattle.word_code.specs.Words.{Vars, WordState, from_label}
 use Rattle.word_code.proofs.ForCallers.{Runs, at, then_runs, none as no_run}
 use Rattle.word_lowering.specs.Layouts.{params_in, is_empty}
 use Rattle.word_lowering.specs.LineCode.{Around, arguments_code, call_code, called_code, checked_code, label_before, layout_at, nothing_code, operand, operands}
+use Rattle.word_lowering.proofs.HeapKept.{heap_same}
 use Rattle.word_lowering.proofs.AllGiven.{GivesAll, all_given}
 use Rattle.word_lowering.proofs.AllOperands.{Have, using_all_settles}
 use Rattle.word_lowering.proofs.Arguments.{all_own, params_apart}
@@ -45,7 +46,8 @@ use Rattle.word_lowering.proofs.Gets.{good_with_temps}
 use Rattle.word_lowering.proofs.GivenLines.{between, good_between}
 use Rattle.word_lowering.proofs.Keeping.{call, nowhere}
 use Rattle.word_lowering.proofs.LineFits.{no_type, type_there, value_type}
-use Rattle.word_lowering.proofs.Lines.{Basis, FollowsFrom, IsGood, all_procs, changed, fits_here, goes_from, good_units, known, lower, settles, spends_settles, stands_next, starts}
+use Rattle.word_lowering.proofs.Lines.{Basis, FollowsFrom, IsGood, all_procs, changed, fits_here, goes_from, good_units, known, lower, settles, spends_settles}
+use Rattle.word_lowering.proofs.Lines.{stands_next, starts}
 use Rattle.word_lowering.proofs.Lines.{good_between as good_vars}
 use Rattle.word_lowering.proofs.Moves.{all_same}
 use Rattle.word_lowering.proofs.Related.{Answers, Both, MayAnswer, body_of, called_by, code_behind, high, low, with_units, within}
@@ -141,7 +143,7 @@ module _ (x : Basis) (labels : LabelsLead x) (traps : TrapsStop x) (own : Argume
         (at (within x.table x.blocks g) memory (checked_code start after) vars words)
 
   pub y_same : IsGood x (starts (between x g line rest y g.call.vars g.memory g.words) line rest)
-  y_same = good_between x g line rest y g.call.vars g.memory g.words y.memory (nowhere refl) (all_same g.call.vars)
+  y_same = good_between x g line rest y g.call.vars g.memory g.words y.memory (heap_same g.memory) (nowhere refl) (all_same g.call.vars)
 
   -- no arguments
   quiet_checking : (xs : List Operand) → callee.body.own.runs ≡ false → Checking xs (nothing_code here ty to (code_next x g line rest y))

@@ -13,10 +13,12 @@ use Rattle.rv32_isa.specs.Image.{statics_at, heap_at, stack_at}
 use Rattle.rv32_isa.specs.Words.{little}
 use Rattle.rv32_isa.specs.State.{lies_in, part_of, or_else, writable}
 use Rattle.rv32_isa.specs.Steps.{number_of}
-use Rattle.word_code.specs.Memory.{Memory, as_state, number_at, may_put, bytes_at, own_data_at, with_places, without_places}
+use Rattle.word_code.specs.Memory.{Memory, as_state, number_at, may_put, bytes_at, with_places, without_places}
 use Rattle.word_code.specs.RoutineTable.{Cell}
 use Rattle.word_code.specs.declared.word.TheConstants.{SPARE_ROOM}
 use Rattle.word_code.proofs.ForCallers.{Sized}
+use Rattle.word_lowering.specs.Lowered.{data_at}
+use Rattle.word_lowering.proofs.HeapKept.{SameHeap}
 use Rattle.word_lowering.proofs.Lines.{Basis}
 use Rattle.word_lowering.proofs.Related.{IsClosed, IsOpen, MemoryGood}
 use Rattle.word_lowering.proofs.Sites.{Site, next_base, data_end, Linked}
@@ -180,7 +182,7 @@ module _ (m more : Memory) (room : ℕ) (g : Grown m more room) where
     text_within at n (inl h) = omega (arith, h.1)
     text_within at n (inr h) = omega (arith, h.1)
 
-    datum_within : (a : ℕ) → a + 4 ≤ own_data_at + data_end x.table x.blocks → a + 4 ≤ stack_at
+    datum_within : (a : ℕ) → a + 4 ≤ data_at + data_end x.table x.blocks → a + 4 ≤ stack_at
     datum_within a h = let d = x.small in omega (arith, h, d)
 
     pub good_come : MemoryGood x.table x.blocks sites x.first m → Linked x.table x.blocks above → MemoryGood x.table x.blocks above x.first more
@@ -207,6 +209,15 @@ module _ (m more : Memory) (room : ℕ) (g : Grown m more room) where
         cells : (a : ℕ) → a % 4 ≡ 0 → IsOpen x.table x.blocks above a → Cell more a
         cells a whole (inl h) = still_cell a (let t = datum_within a h.1 in omega (arith, t)) (good.cells a whole (inl h))
         cells a whole (inr h) = place_cell more sized a whole h.0 (let e = long in omega (arith, h.1, e))
+
+    -- the heap stays too
+    pub heap_still : Sized m → SameHeap m more
+    heap_still sized = record {
+      statics = g.statics;
+      long = g.heap;
+      front = λ b n low high. g.bytes b n (omega (arith, high));
+      inside = λ b n low high. g.bytes b n (let most = sized.heap_most in omega (arith, high, most));
+    }
 
     pub good_go : MemoryGood x.table x.blocks above x.first more → MemoryGood x.table x.blocks sites x.first m
     good_go good = record {

@@ -16,8 +16,8 @@ use Rattle.word_lowering.specs.declared.homes.Home.TheVariants.{Placed}
 use Rattle.word_lowering.specs.declared.homes.Housed.{Housed}
 use Rattle.word_lowering.specs.Layouts.{is_empty, params_in}
 use Rattle.word_lowering.specs.LineCode.{or_none, proc_number}
-use Rattle.word_lowering.specs.Lowered.{all_layouts, lowered}
-use Rattle.word_lowering.proofs.Sites.{Body, word_of, Among, IsBody}
+use Rattle.word_lowering.specs.Lowered.{all_layouts, lowered, word_proc}
+use Rattle.word_lowering.proofs.Sites.{Body, around, Among, IsBody}
 use Rattle.word_lowering.proofs.FirstPlaces.{ParamsAre, Orderly}
 
 pub record Callee (table : List TypeDef) (blocks : Code BlockLine) (proc : ℕ) (s : Signature) : Type 0 where
@@ -38,4 +38,4 @@ pub record Callee (table : List TypeDef) (blocks : Code BlockLine) (proc : ℕ) 
   pub silent : body.proc.lines ≡ [] → body.proc.hook ≡ None
   pub runs : body.own.runs ≡ not (is_empty body.proc.lines)
   pub found : body.own.runs ≡ true → (others : List WordProc) × (from_proc (proc_number proc) (lowered table blocks).procs
-      ≡ word_of table blocks body ∷ others)
+      ≡ word_proc (around table blocks body) body.number body.proc ∷ others)

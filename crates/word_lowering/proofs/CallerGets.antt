@@ -13,13 +13,14 @@ use Rattle.word_code.proofs.ForCallers.{Runs}
 use Rattle.word_lowering.specs.declared.homes.Home.TheVariants.{Variable}
 use Rattle.word_lowering.specs.declared.homes.TheConstants.{FIRST, LEFT, OWN_FROM}
 use Rattle.word_lowering.specs.Spots.{spot_of}
+use Rattle.word_lowering.proofs.HeapKept.{SameHeap}
 use Rattle.word_lowering.proofs.Keeping.{call, Edit, own_text, value_no_location, value_no_place, spot_held, beyond}
 use Rattle.word_lowering.proofs.Lines.{Basis, all_procs, starts, IsGood, Settles}
 use Rattle.word_lowering.proofs.Moves.{single_word, same_first}
 use Rattle.word_lowering.proofs.Options.{some_same}
 use Rattle.word_lowering.proofs.OrdinalRuns.{put_other, put_here as put_same}
 use Rattle.word_lowering.proofs.Related.{Both, Waits, low, MemoryGood, store_with}
-use Rattle.word_lowering.proofs.Returned.{called, back, good_back, sites_left, linked_left, waits_lower, memory_left, good_left, left_read}
+use Rattle.word_lowering.proofs.Returned.{called, back, good_back, sites_left, linked_left, waits_lower, memory_left, good_left, heap_left, left_read}
 use Rattle.word_lowering.proofs.ReturnLines.{place_high}
 use Rattle.word_lowering.proofs.Scenes.{At, Name, of_value, house, IsNamed, IsThere, looked, IsItem}
 use Rattle.word_lowering.proofs.Sites.{Site}
@@ -81,6 +82,7 @@ module _ (x : Basis) (h : Both) (w : Waits) (ws : List Waits) (line : BlockLine)
   good_nothing unnamed a awaits =
       let same = same_first w.call.vars a in
       good_back x h w ws line rest y above (of_value 0) temps_then (put w.call.vars FIRST a) memory_back no_words awaits (good_left x h w ws line rest y)
+      (heap_left x h w ws line rest y)
       (beyond (λ b n within read. left_read x h w ws line rest y b n (omega (arith, within)) read))
       (record {
         values = λ t there away. with_away w.call.temps w.to v t
@@ -101,13 +103,14 @@ module _ (x : Basis) (h : Both) (w : Waits) (ws : List Waits) (line : BlockLine)
 
   module _ (there : IsThere w.call.site (of_value w.to)) (shaped : has_shape v (looked x.table w.call.site (of_value w.to)) ≡ true) where
     pub good_gets : (vars : Vars) (m : Memory) (words : Vars) (awaits : ℕ) → MemoryGood x.table x.blocks (sites_left x h w ws line rest y) x.first m
+        → SameHeap h.memory m
         → Edit x.table x.blocks x.small (sites_left x h w ws line rest y) (linked_left x h w ws line rest y) w.call.site (of_value w.to) h.memory m
         → ((f : Name) (u : ℕ) → IsThere w.call.site f → f ≢ of_value w.to → (house w.call.site f).home ≡ Variable u → vars u ≡ w.call.vars u)
         → vars LEFT ≡ w.call.vars LEFT
         → At m w.call.site.base vars (spot_of (house w.call.site (of_value w.to))) v
         → IsGood x (go vars m words awaits)
-    good_gets vars m words awaits memory edit variables left at_place =
-        good_back x h w ws line rest y w.call.site (of_value w.to) temps_then vars m words awaits memory edit
+    good_gets vars m words awaits memory still edit variables left at_place =
+        good_back x h w ws line rest y w.call.site (of_value w.to) temps_then vars m words awaits memory still edit
         (record {
           values = λ u is away. with_away w.call.temps w.to v u (other u away);
           places = λ u away. refl;
@@ -144,7 +147,7 @@ module _ (x : Basis) (h : Both) (w : Waits) (ws : List Waits) (line : BlockLine)
         → IsGood x (go (put w.call.vars u (single_word v)) memory_back no_words awaits)
     good_word_back u home small awaits =
         let high_u : OWN_FROM ≤ u = place_high x w.call.site y.linked.5.0 (of_value w.to) u there home in
-        good_gets (put w.call.vars u (single_word v)) memory_back no_words awaits (good_left x h w ws line rest y)
+        good_gets (put w.call.vars u (single_word v)) memory_back no_words awaits (good_left x h w ws line rest y) (heap_left x h w ws line rest y)
         (beyond (λ b n within read. left_read x h w ws line rest y b n (omega (arith, within)) read))
         (λ f n is ne k. put_other w.call.vars u (single_word v) n
         (variables_apart x.table x.blocks w.call.site (of_value w.to) f u n y.linked.5.0 there is (λ e. ne (sym e)) home k))

@@ -80,7 +80,7 @@ module _ (x : Basis) (g : Both) (line : BlockLine) (rest : List BlockLine) (y : 
       zeros_to_memory x.law x.live (all_procs x) (within x.table x.blocks g) refl g.words g.memory y.memory.sized k g.call.vars
       (house g.call.site f).home
       (address_of g.call.site.base (house g.call.site f).home) (points_there g.call.site.base g.call.vars (house g.call.site f).home inside)
-      (routines x.table x.blocks) x.runtime.statics (reaches x) (data_there x (all_sites x g line rest y) g.memory y.memory) vs zero_value
+      (routines x.table x.blocks) x.runtimes.others.statics (reaches x) (data_there x (all_sites x g line rest y) g.memory y.memory) vs zero_value
       (lying_area x (all_sites x g line rest y) y.linked g.memory (address_of g.call.site.base (house g.call.site f).home) (bytes (Parts vs)) y.memory lying)
       (lying_near x (all_sites x g line rest y) y.linked (address_of g.call.site.base (house g.call.site f).home) (bytes (Parts vs)) lying)
 
@@ -120,6 +120,7 @@ module _ (x : Basis) (g : Both) (line : BlockLine) (rest : List BlockLine) (y : 
         words = r.words;
         awaits = r.awaits;
         good = r.good;
+        heap = r.heap;
         edit = r.edit;
         variables = r.variables;
         left = r.left;

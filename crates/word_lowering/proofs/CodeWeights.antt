@@ -3,6 +3,7 @@ use Rattle.nim_program.specs.declared.expr.Label.TheVariants as C
 use Rattle.std.proofs.Common.{◌≡◌, ℕ, suc, ◌+◌, ◌*◌, ◌≤◌, List, [], ◌∷◌, length, map, Bool, true, false, not}
 use Rattle.std.proofs.Common.{Option, Some, None, length-append}
 use Rattle.std.proofs.Common.{refl, ap, subst, arith}
+use Rattle.std.proofs.lemmas.Bool.{and_parts}
 use Rattle.nim_types.specs.declared.types.TypeDef.{TypeDef}
 use Rattle.nim_types.specs.declared.types.TypeDef.TheVariants as D
 use Rattle.nim_program.specs.declared.operation.Operation.{Operation}
@@ -26,23 +27,28 @@ use Rattle.word_lowering.specs.declared.homes.TheConstants.{LEFT, FIRST, FIFTH}
 use Rattle.word_lowering.specs.declared.homes.Home.{Home}
 use Rattle.word_lowering.specs.declared.homes.Home.TheVariants.{Variable, Placed, Static}
 use Rattle.word_lowering.specs.declared.homes.Housed.{Housed}
+use Rattle.word_lowering.specs.declared.homes.Layout.{Layout}
+use Rattle.word_lowering.specs.declared.homes.Waiter.{Waiter}
 use Rattle.word_lowering.specs.declared.lowering.TheConstants.{START_WEIGHT}
 use Rattle.word_lowering.specs.declared.spots.Spot.{Spot}
 use Rattle.word_lowering.specs.declared.spots.Spot.TheVariants.{Held, Lies}
 use Rattle.word_lowering.specs.declared.texts.TheConstants.{LINE_END_AT, FIXED_BYTES}
 use Rattle.word_lowering.specs.Aliases.{text_in}
 use Rattle.word_lowering.specs.Layouts.{is_empty, layouts, layout_of, params_in, result_in}
-use Rattle.word_lowering.specs.LineCode.{Around, proc_number}
+use Rattle.word_lowering.specs.LineCode.{Around, no_layout, proc_number}
 use Rattle.word_lowering.specs.LineCode as lines
 use Rattle.word_lowering.specs.Lowered as code
+use Rattle.word_lowering.specs.MayLower.{proc_may, procs_may, may_lower}
 use Rattle.word_lowering.specs.Operations.{word, trap_label}
 use Rattle.word_lowering.specs.Spots.{spot_of, shifted, moved, cleared}
 use Rattle.word_lowering.specs.Stored.{part_at, entry_at, base_at, limit_at}
 use Rattle.word_lowering.specs.Texts.{texts_in}
+use Rattle.word_lowering.specs.WaitingCode.{none_code}
 use Rattle.word_lowering.proofs.PieceWeights.{moved_weighs, cleared_weighs, handed_weighs, binary_weighs, unary_weighs, compare_weighs, fits_weighs}
 use Rattle.word_lowering.proofs.PieceWeights.{turn_weighs, beyond_weighs, constant_weighs, part_weighs, element_weighs, word_argument_weighs}
 use Rattle.word_lowering.proofs.PieceWeights.{literal_weighs, back_weighs, parts_weigh, moves_weigh, clears_weigh, passes_weigh, starts_weigh}
 use Rattle.word_lowering.proofs.PieceWeights.{converted_weighs, update_weighs, quit_weighs, swap_weighs}
+use Rattle.word_lowering.proofs.WaiterHomes.{none_waits}
 
 module _ (x : Around) where
   written_weighs : (def : Option TypeDef) (ty : ℕ) (from : Housed) (k : List WordInstr) → length (lines.written_code x def ty from k) ≤ 12 + length k
@@ -267,19 +273,24 @@ last_weighs all =
     let m : length (code.last_code all) ≤ 2 + length e = end_weighs all Overflow e in
     omega (arith, f, g, h, i, j, m)
 
-code_weighs : (x : Around) (all : List Line) → length (code.code_of x all) ≤ 17 + summed weight all
-code_weighs x all =
+none_length : (ws : List Waiter) (k : List WordInstr) → ws ≡ [] → length (none_code ws k) ≡ length k
+none_length ws k e = ap (λ us. length (none_code us k)) e
+
+code_weighs : (x : Around) (all : List Line) → x.own.waiters ≡ [] → length (code.code_of x all) ≤ 17 + summed weight all
+code_weighs x all quiet =
     let body : List WordInstr = lines.lines_code x all [] in
-    let front : List WordInstr = code.result_cleared (result_in x.own.all) body in
+    let waiting : List WordInstr = none_code x.own.waiters body in
+    let front : List WordInstr = code.result_cleared (result_in x.own.all) waiting in
     let f : length (code.last_code front) ≤ 12 = last_weighs front in
     let g : length body ≤ summed weight all + 0 = lines_weigh x all [] in
-    let h : length front ≤ 5 + length body = cleared_first (result_in x.own.all) body in
+    let n : length waiting ≡ length body = none_length x.own.waiters body quiet in
+    let h : length front ≤ 5 + length waiting = cleared_first (result_in x.own.all) waiting in
     let i = length-append front (code.last_code front) in
-    omega (arith, f, g, h, i)
+    omega (arith, f, g, n, h, i)
 
 -- a procedure with lines, and any one
-proc_weighs : (x : Around) (line : Line) (all : List Line) → suc (length (code.code_of x (line ∷ all))) ≤ proc_weight (line ∷ all)
-proc_weighs x line all = let h = code_weighs x (line ∷ all) in omega (arith, h)
+proc_weighs : (x : Around) (line : Line) (all : List Line) → x.own.waiters ≡ [] → suc (length (code.code_of x (line ∷ all))) ≤ proc_weight (line ∷ all)
+proc_weighs x line all quiet = let h = code_weighs x (line ∷ all) quiet in omega (arith, h)
 
 -- one without lines leads nowhere
 none_weighs : (result : Option Housed) → length (code.and_last (code.result_cleared result [])) ≤ 5
@@ -295,41 +306,58 @@ none_weighs (Some r) = by r.is_word (spot_of r)
     by false (Lies (Placed at)) = omega arith
     by false (Lies (Static at)) = omega arith
 
-any_weighs : (x : Around) (all : List Line) → suc (length (code.code_of x all)) ≤ proc_weight all + 6
-any_weighs x [] = let h = none_weighs (result_in x.own.all) in omega (arith, h)
-any_weighs x (line ∷ all) = let h = proc_weighs x line all in omega (arith, h)
+any_weighs : (x : Around) (all : List Line) → x.own.waiters ≡ [] → suc (length (code.code_of x all)) ≤ proc_weight all + 6
+any_weighs x [] quiet =
+    let h = none_weighs (result_in x.own.all) in
+    let e = ap (λ ws. length (code.and_last (code.result_cleared (result_in x.own.all) (none_code ws [])))) quiet in
+    omega (arith, h, e)
+any_weighs x (line ∷ all) quiet = let h = proc_weighs x line all quiet in omega (arith, h)
 
 -- ---- all of them
 
-if_weighs : (x : Around) (procs : List WordProc) (lines : List BlockLine) (p : WordProc) → p.lines ≡ code.code_of x (map block_plain lines)
+if_weighs : (x : Around) (procs : List WordProc) (lines : List BlockLine) (p : WordProc) → x.own.waiters ≡ []
+    → p.lines ≡ code.code_of x (map block_plain lines)
     → word_weight (code.if_runs (not (is_empty lines)) p procs) ≤ proc_weight (map block_plain lines) + word_weight procs
-if_weighs x procs [] p e = omega arith
-if_weighs x procs (line ∷ lines) p e =
+if_weighs x procs [] p quiet e = omega arith
+if_weighs x procs (line ∷ lines) p quiet e =
     let f = ap length e in
-    let h = proc_weighs x (block_plain line) (map block_plain lines) in
+    let h = proc_weighs x (block_plain line) (map block_plain lines) quiet in
     omega (arith, f, h)
 
 module _ (table : List TypeDef) (datum : ℕ) where
   procs_weigh : (x : Around) (index : ℕ) (none p : CodeProc BlockLine) (ps : List (CodeProc BlockLine))
+      → procs_may table (layouts table datum (p ∷ ps)) (p ∷ ps) ≡ true
       → word_weight (code.word_procs x index (layouts table datum (p ∷ ps)) (p ∷ ps)) + proc_weight (map block_plain (last_of none (p ∷ ps)).lines)
       ≤ code_weight block_plain (p ∷ ps)
-  procs_weigh x index none p [] = omega arith
-  procs_weigh x index none p (q ∷ ps) =
+  procs_weigh x index none p [] may = omega arith
+  procs_weigh x index none p (q ∷ ps) may =
+      let own : Layout = layout_of table false datum p in
+      let both = and_parts (proc_may table own p) (procs_may table (layouts table datum (q ∷ ps)) (q ∷ ps)) may in
       let y : Around = code.with_own x (layout_of table false datum p) (length (texts_in (q ∷ ps))) in
       let rest : List WordProc = code.word_procs x (suc index) (layouts table datum (q ∷ ps)) (q ∷ ps) in
-      let h = if_weighs y rest p.lines (code.word_proc y (proc_number index) p) refl in
-      let i = procs_weigh x (suc index) p q ps in
+      let h = if_weighs y rest p.lines (code.word_proc y (proc_number index) p) (none_waits table false datum p both.0) refl in
+      let i = procs_weigh x (suc index) p q ps both.1 in
       omega (arith, h, i)
 
-weight_by : (table : List TypeDef) (procs : List (CodeProc BlockLine))
+  -- the start code is the last one
+  last_quiet : (none : Layout) (procs : List (CodeProc BlockLine)) → none.waiters ≡ [] → procs_may table (layouts table datum procs) procs ≡ true
+      → (last_of none (layouts table datum procs)).waiters ≡ []
+  last_quiet none [] quiet may = quiet
+  last_quiet none (p ∷ ps) quiet may =
+      let own : Layout = layout_of table (is_empty ps) datum p in
+      let both = and_parts (proc_may table own p) (procs_may table (layouts table datum ps) ps) may in
+      last_quiet own ps (none_waits table (is_empty ps) datum p both.0) both.1
+
+weight_by : (table : List TypeDef) (procs : List (CodeProc BlockLine)) → procs_may table (code.all_layouts table procs) procs ≡ true
     → word_weight (code.lowered_procs (code.start_around table procs) procs) ≤ code_weight block_plain procs + 6
-weight_by table [] = let h = any_weighs (code.start_around table []) [] in omega (arith, h)
-weight_by table (p ∷ ps) =
+weight_by table [] may = let h = any_weighs (code.start_around table []) [] refl in omega (arith, h)
+weight_by table (p ∷ ps) may =
     let x : Around = code.start_around table (p ∷ ps) in
-    let h = any_weighs x (map block_plain (last_of code.no_proc (p ∷ ps)).lines) in
-    let i = procs_weigh table FIXED_BYTES x 0 code.no_proc p ps in
+    let quiet = last_quiet table FIXED_BYTES no_layout (p ∷ ps) refl may in
+    let h = any_weighs x (map block_plain (last_of code.no_proc (p ∷ ps)).lines) quiet in
+    let i = procs_weigh table FIXED_BYTES x 0 code.no_proc p ps may in
     omega (arith, h, i)
 
-pub weight_is : (table : List TypeDef) (blocks : Code BlockLine)
+pub weight_is : (table : List TypeDef) (blocks : Code BlockLine) → may_lower table blocks ≡ true
     → word_weight (code.lowered table blocks).procs ≤ code_weight block_plain blocks.procs + START_WEIGHT
-weight_is table blocks = weight_by table blocks.procs
+weight_is table blocks may = weight_by table blocks.procs (and_parts (procs_may table (code.all_layouts table blocks.procs) blocks.procs) _ may).0

@@ -18,6 +18,7 @@ use Rattle.word_code.specs.declared.word.WordInstr.TheVariants.{Constant}
 use Rattle.word_lowering.specs.declared.homes.Alias.{Alias}
 use Rattle.word_lowering.specs.declared.homes.Alias.TheVariants as alias
 use Rattle.word_lowering.specs.Aliases.{texts_of, text_of}
+use Rattle.word_lowering.proofs.HeapKept.{heap_same}
 use Rattle.word_lowering.proofs.Keeping.{nowhere, own_text, Kept, New, call, value_no_location, value_no_place, worlds_same}
 use Rattle.word_lowering.specs.MayLower.{same_alias}
 use Rattle.word_lowering.specs.Operations.{word}
@@ -194,7 +195,7 @@ module _ (x : Basis) (labels : LabelsLead x) (g : Both) (rest : List BlockLine) 
       good_text : IsGood x (changed g rest text_temps g.call.vars g.memory g.words g.awaits g.world)
       good_text =
           good_changed x g naming rest y rest g.call.site (of_value to) text_temps g.call.vars g.memory g.words g.awaits g.world
-          y.memory (nowhere refl)
+          y.memory (heap_same g.memory) (refl, refl) (nowhere refl)
           (worlds_same x.table x.blocks x.small (all_sites x g naming rest y) y.linked g.call.site (of_value to) g.world)
           kept_text (λ e. new_text) (λ c from i e. absurd (waits_below x g naming rest y c i e)) y.frames y.levels
           (stands_next x.table x.blocks (body_of g) naming rest y.stands)

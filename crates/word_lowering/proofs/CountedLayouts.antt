@@ -32,6 +32,7 @@ use Rattle.word_lowering.proofs.DataSizes.{datum_by}
 use Rattle.word_lowering.proofs.HomesApart.{grows_all}
 use Rattle.word_lowering.proofs.NamedProcs.{Fits, fits_by}
 use Rattle.word_lowering.proofs.RoomBounds.{data_small}
+use Rattle.word_lowering.proofs.WaiterHomes.{waiters_datum, waiters_grow}
 
 -- ---- the start code alone takes data
 
@@ -110,12 +111,13 @@ module _ (table : List TypeDef) (datum : ℕ) where
       let fits : Fits own p = fits_by table own p may in
       let variables = fits.vars in
       let bytes = fits.room in
+      let more = (waiters_grow (behind_all table start (map block_plain p.lines) (free_at datum) p.places) own.all).byte in
       let arguments = fits.arguments in
       record {
         free = record { variable = omega (arith, variables); byte = omega (arith, bytes); datum = small };
         given = omega (arith, arguments);
         room = bytes;
-        places = places_begin table start (map block_plain p.lines) (free_at datum) p.places MOST_ROOM bytes;
+        places = places_begin table start (map block_plain p.lines) (free_at datum) p.places MOST_ROOM (omega (arith, bytes, more));
       }
 
   all_counted : (none : Layout) (procs : List (CodeProc BlockLine)) → datum ≤ 4294967295 → procs_may table (layouts table datum procs) procs ≡ true
@@ -127,7 +129,8 @@ module _ (table : List TypeDef) (datum : ℕ) where
   all_counted none (p ∷ q ∷ ps) small may last =
       let own : Layout = layout_of table false datum p in
       let both = and_parts (proc_may table own p) (procs_may table (layouts table datum (q ∷ ps)) (q ∷ ps)) may in
-      let same = datum_same table (map block_plain p.lines) (free_at datum) p.places in
+      let same = waiters_datum (behind_all table false (map block_plain p.lines) (free_at datum) p.places) own.all
+      ∙ datum_same table (map block_plain p.lines) (free_at datum) p.places in
       (one_counted false p both.0 (omega (arith, same, small)), all_counted own (q ∷ ps) small both.1 last)
 
 pub layouts_counted : (table : List TypeDef) (blocks : Code BlockLine) → may_lower table blocks ≡ true → AreCounted (all_layouts table blocks.procs)
@@ -149,7 +152,7 @@ places_at (o ∷ owns) (suc proc) counted = places_at owns proc counted.1
 
 -- ---- places of a layout, one after another
 
-less_numbers : (low high : Free) → low.variable ≤ high.variable → low.byte ≤ high.byte → low.datum ≤ high.datum → AreNumbers high → AreNumbers low
+pub less_numbers : (low high : Free) → low.variable ≤ high.variable → low.byte ≤ high.byte → low.datum ≤ high.datum → AreNumbers high → AreNumbers low
 less_numbers low high v b d small =
     let variable = small.variable in
     let byte = small.byte in

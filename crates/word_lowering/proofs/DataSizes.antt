@@ -28,7 +28,7 @@ use Rattle.word_lowering.specs.declared.may_lower.TheConstants.{MOST_DATA}
 use Rattle.word_lowering.specs.declared.texts.TheConstants.{FIXED_BYTES}
 use Rattle.word_lowering.specs.Aliases.{alias_for}
 use Rattle.word_lowering.specs.Stored.{bytes_at}
-use Rattle.word_lowering.specs.Layouts.{is_static, free_behind, free_by, bytes_by, place_kept, behind, behind_all, free_at, layouts, layout_of}
+use Rattle.word_lowering.specs.Layouts.{all_housed, is_static, free_behind, free_by, bytes_by, place_kept, behind, behind_all, free_at, layouts, layout_of}
 use Rattle.word_lowering.specs.LineCode.{no_layout}
 use Rattle.word_lowering.specs.Lowered.{globals_end, data_of, lowered}
 use Rattle.word_lowering.specs.Texts.{padded, fixed_texts, members_of, all_names, joined_all, starts_from, ends_from, laid_texts, data_in}
@@ -36,6 +36,7 @@ use Rattle.word_lowering.specs.MayLower.{defs_may, labels_may, procs_may, may_lo
 use Rattle.word_lowering.proofs.EntryNames.{joined_append}
 use Rattle.word_lowering.proofs.DistinctTexts.{laid_most}
 use Rattle.word_lowering.proofs.Padding.{zeros_length, padded_whole, padded_most}
+use Rattle.word_lowering.proofs.WaiterHomes.{waiters_datum}
 
 -- ---- texts
 
@@ -132,7 +133,10 @@ module _ (table : List TypeDef) where
 
   last_datum : (datum : ℕ) (none : Layout) (p : CodeProc BlockLine) (ps : List (CodeProc BlockLine))
       → (last_of none (layouts table datum (p ∷ ps))).free.datum ≡ datum + globals_bytes (known_in table) (start_places (p ∷ ps))
-  last_datum datum none p [] = datum_is (map block_plain p.lines) (free_at datum) p.places
+  last_datum datum none p [] =
+      waiters_datum (behind_all table true (map block_plain p.lines) (free_at datum) p.places)
+      (all_housed table true (map block_plain p.lines) (free_at datum) p.places)
+      ∙ datum_is (map block_plain p.lines) (free_at datum) p.places
   last_datum datum none p (q ∷ ps) = last_datum datum (layout_of table false datum p) q ps
 
 -- ---- all of it

@@ -107,12 +107,14 @@ module _ (x : Basis) (labels : LabelsLead x) (said : Writing x) (g : Both) (rest
       let texts : List Operand → List ℕ = λ xs. line_of (texts_of (facts_in x.table) g.world (map (if_type (known x).types) of) xs) in
       using_all_settles x (starts g line rest) rest g.call.temps from
       (λ xs. gives (scene_of (high x.table x.blocks (starts g line rest))) to
-      (costs 1 (looks (λ world. unless_gone (are_seen world xs)
-      (write Out (line_of (texts_of (facts_in x.table) world (map (if_type (known x).types) of) xs)))) >> give nothing) >>= made_by false (bound_for g how)))
+      (costs 1 (costs (length xs) (looks (λ world. unless_gone (are_seen world xs)
+      (write Out (line_of (texts_of (facts_in x.table) world (map (if_type (known x).types) of) xs))))) >> give nothing)
+      >>= made_by false (bound_for g how)))
       (λ xs have. where_there x (starts g line rest) rest (are_seen g.world xs)
       (λ b. gives (scene_of (high x.table x.blocks (starts g line rest))) to
-      (costs 1 (unless_gone b (write Out (texts xs)) >> give nothing) >>= made_by false (bound_for g how))) (λ before. tt)
-      (λ seen. subst (λ es. Settles x (starts g line rest) rest (Passes (Answers es (1 + (length (texts xs) + 0)) temps g.world)))
+      (costs 1 (costs (length xs) (unless_gone b (write Out (texts xs))) >> give nothing) >>= made_by false (bound_for g how))) (λ before. tt)
+      (λ seen. subst (λ es. Settles x (starts g line rest) rest (Passes (Answers es (1 + (length xs + (length (texts xs) + 0))) temps g.world)))
       (sym (append-nil (writes Out (texts xs))))
       (tells_settles x said.least g line rest y temps same_at (texts xs)
-      (line_tells x said line rest g.world g y (code_next x g line rest y) of from xs have f.typed f.row f.placed) (1 + (length (texts xs) + 0)) (omega arith))))
+      (line_tells x said line rest g.world g y (code_next x g line rest y) of from xs have f.typed f.row f.placed)
+      (1 + (length xs + (length (texts xs) + 0))) (omega arith))))

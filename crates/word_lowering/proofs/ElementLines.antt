@@ -12,7 +12,7 @@ use Rattle.nim_program.specs.Kinds.{TypeKind, element_of, is_int, is_of, kind_if
 use Rattle.nim_meaning.specs.Acts.{branch}
 use Rattle.nim_meaning.specs.Deeds.{Answers, costs, give, unless_gone}
 use Rattle.nim_meaning.specs.Places.{fetched}
-use Rattle.nim_meaning.specs.State.{is_seen, load}
+use Rattle.nim_meaning.specs.State.{is_full_at, is_seen, load}
 use Rattle.nim_meaning.specs.Values.{Value, Number, Parts, Handle, Fixed, Ref, Resource, Gone, Vacant, Values, bytes, deeper, item_of, length_of}
 use Rattle.nim_meaning.specs.Values.{number_of}
 use Rattle.flat_code.specs.declared.block.BlockLine.{BlockLine}
@@ -21,7 +21,7 @@ use Rattle.flat_code.specs.Fits.{is_location}
 use Rattle.flat_code.specs.Lines.{element_at, gives, using_number}
 use Rattle.flat_code.specs.Running.{scene_of}
 use Rattle.flat_code.specs.Scene.{Fails, Located, Passes, Where, Within, location_at, with_value}
-use Rattle.flat_code.specs.Shapes.{has_shape, row, shape_of}
+use Rattle.flat_code.specs.Shapes.{row, shape_of}
 use Rattle.word_code.specs.declared.word.WordInstr.{WordInstr}
 use Rattle.word_code.specs.declared.word.WordInstr.TheVariants.{Compute}
 use Rattle.word_code.specs.declared.word.WordOperation.TheVariants as operation
@@ -42,8 +42,7 @@ use Rattle.word_lowering.proofs.AddressFacts.{AtAddress, at_address, in_memory}
 use Rattle.word_lowering.proofs.Arithmetic.{fits_signed, word_small}
 use Rattle.word_lowering.proofs.ControlLines.{FollowedHere, int_read, kind_at, plain, value_type}
 use Rattle.word_lowering.proofs.Gets.{Gets, gets_bytes, gets_word, good_value}
-use Rattle.word_lowering.proofs.ItemLines.{item_deeper}
-use Rattle.word_lowering.proofs.LineFits.{are_of, elements_shape, number_fits, row_length, single_is, some_kind, has_words}
+use Rattle.word_lowering.proofs.LineFits.{are_of, elements_shape, number_fits, single_is, some_kind, has_words}
 use Rattle.word_lowering.proofs.Lines.{Basis, IsGood, Settles, all_procs, all_sites, branch_settles}
 use Rattle.word_lowering.proofs.Lines.{changed, data_there, fits_here, good_between, goes_on, reaches}
 use Rattle.word_lowering.proofs.Lines.{stands_next, starts, using_settles, where_there, with_vars}
@@ -55,7 +54,7 @@ use Rattle.word_lowering.proofs.NumberLines.{variable}
 use Rattle.word_lowering.proofs.OpRuns.{same_put}
 use Rattle.word_lowering.proofs.OrdinalRuns.{AllSame, put_here, put_low, put_other}
 use Rattle.word_lowering.proofs.PartLines.{deeper_in, leads_near, leads_on}
-use Rattle.word_lowering.proofs.ReadFacts.{each_call, read_location}
+use Rattle.word_lowering.proofs.ReadFacts.{each_call, read_row}
 use Rattle.word_lowering.proofs.Related.{Both, body_of, high, routines, within, store_of}
 use Rattle.word_lowering.proofs.Scenes.{IsNamed, Leads, Points, address_of, house, looked, of_location, of_value}
 use Rattle.word_lowering.proofs.Settling.{LabelsLead, code_here, code_next}
@@ -222,6 +221,7 @@ module _ (x : Basis) (labels : LabelsLead x) (g : Both) (rest : List BlockLine) 
             words = r.words;
             awaits = r.awaits;
             good = r.good;
+            heap = r.heap;
             edit = r.edit;
             variables = r.variables;
             left = r.left;
@@ -243,7 +243,7 @@ module _ (x : Basis) (labels : LabelsLead x) (g : Both) (rest : List BlockLine) 
           (subst (λ l. ToMemory x.law x.live (all_procs x) (within x.table x.blocks g) refl g.words g.memory l f.vars start v (10 + 2 * bytes v) k)
           (code_as v there (Lies into.home) (spot_memory into plain_is inside))
           (parts_to_memory x.law x.live (all_procs x) (within x.table x.blocks g) refl g.words g.memory good_there.memory.sized k f.vars into.home start
-          (points_there g.call.site.base f.vars into.home inside) (routines x.table x.blocks) x.runtime.statics (reaches x)
+          (points_there g.call.site.base f.vars into.home inside) (routines x.table x.blocks) x.runtimes.others.statics (reaches x)
           (data_there x sites g.memory good_there.memory) vs
           (has_words v (looked x.table g.call.site (of_value to)) there.shaped)
           (lying_area x sites good_there.linked g.memory start (bytes v) good_there.memory lying)
@@ -260,15 +260,16 @@ module _ (x : Basis) (labels : LabelsLead x) (g : Both) (rest : List BlockLine) 
       comes (Gone v final) there = absurd there.is_at
       comes Vacant there = absurd there.is_at
 
-      element_settles : (l : Where) → Leads x.table x.blocks (all_sites x g element_here rest y) g.world g.call.site g.call.temps l a
-          (looked x.table g.call.site (of_value to))
+      element_settles : (l : Where) → Leads x.table x.blocks (all_sites x g element_here rest y) g.ground g.world g.call.site g.call.temps l a
+          (looked x.table g.call.site (of_value to)) → is_full_at g.world (location_at g.call.temps l) ≡ true
           → Settles x (starts g element_here rest) rest (Passes (Answers [] (1 + (bytes (load g.world (location_at g.call.temps l)) + 0))
           (with_value to g.call.temps (load g.world (location_at g.call.temps l))) g.world))
-      element_settles l leads_there =
+      element_settles l leads_there full =
           let v : Value = load g.world (location_at g.call.temps l) in
-          let there = led_located x sites good_there.linked (store_of g) g.world (each_call x led element_here rest good_there) good_there.memory led.call
+          let there = led_located x sites good_there.linked (store_of g) g.world (each_call x led element_here rest good_there) good_there.memory
+          good_there.heap led.call
           (inl refl)
-          good_there.hold.0.items l a (looked x.table g.call.site (of_value to)) leads_there in
+          good_there.hold.0.items l a (looked x.table g.call.site (of_value to)) (ap of_numbers place.look ∙ place.numbers) (λ b. full) leads_there in
           let get = comes v there in
           goes_on x (starts g element_here rest)
           (changed led rest (with_value to g.call.temps v) get.vars get.memory get.words get.awaits g.world) rest
@@ -324,13 +325,13 @@ module _ (x : Basis) (labels : LabelsLead x) (g : Both) (rest : List BlockLine) 
           subst (λ l. Settles x (starts g element_here rest) rest
           (gives (scene_of (high x.table x.blocks (starts g element_here rest))) to (costs 1 (fetched l)))) (deeper_is there i)
           (let found : Value = load g.world (location_at g.call.temps (deeper_in g.call.temps there i)) in
-          where_there x (starts g element_here rest) rest (is_seen g.world (location_at g.call.temps (deeper_in g.call.temps there i)))
+          where_there x (starts g element_here rest) rest (is_full_at g.world (location_at g.call.temps (deeper_in g.call.temps there i)))
           (λ b. gives (scene_of (high x.table x.blocks (starts g element_here rest))) to (costs 1 (unless_gone b (costs (bytes found) (give found)))))
           (λ before. tt)
           (λ seen. element_settles (at_is.address + i * each) (subst (λ l. InFifth l moving (at_is.address + i * each)) code f)
           (deeper_in g.call.temps there i)
-          (leads_on x (all_sites x g element_here rest y) g.call.site g.world g.call.temps g.call.temps (λ t v h. h) there at_is.address (i * each)
-          (looked x.table g.call.site (of_location from)) (looked x.table g.call.site (of_value to)) i step at_is.leads_to)))
+          (leads_on x (all_sites x g element_here rest y) g.call.site g.ground g.world g.call.temps g.call.temps (λ t v h. h) there at_is.address (i * each)
+          (looked x.table g.call.site (of_location from)) (looked x.table g.call.site (of_value to)) i step at_is.leads_to) seen))
         where
           deeper_is : (there : Where) (i : ℕ) → location_at g.call.temps (deeper_in g.call.temps there i) ≡ deeper (location_at g.call.temps there) i
           deeper_is (Located l) i = refl
@@ -367,13 +368,12 @@ module _ (x : Basis) (labels : LabelsLead x) (g : Both) (rest : List BlockLine) 
           (costs 1 (element_at (location_at g.call.temps there) (number_of w))))
       found y t place there e named_from count look w o h =
           let v : Value = load g.world (location_at g.call.temps there) in
-          let shaped : has_shape v (row count (looked x.table g.call.site (of_value to))) ≡ true
-          = subst (λ s. has_shape v s ≡ true) look (read_location x g element_here rest y from there named_from e).shaped in
-          let long : length_of v ≡ count = row_length v count (looked x.table g.call.site (of_value to)) shaped in
           where_there x (starts g element_here rest) rest (is_seen g.world (location_at g.call.temps there))
           (λ b. gives (scene_of (high x.table x.blocks (starts g element_here rest))) to
           (costs 1 (unless_gone b (fetched (item_of v (location_at g.call.temps there) (unsigned_abs (number_of w))))))) (λ before. tt)
-          (λ seen. subst (λ l. Settles x (starts g element_here rest) rest
+          (λ seen. let r = read_row x g element_here rest y from there named_from e count (looked x.table g.call.site (of_value to)) look (λ o b. seen) in
+          subst (λ l. Settles x (starts g element_here rest) rest
           (gives (scene_of (high x.table x.blocks (starts g element_here rest))) to (costs 1 (fetched l))))
-          (sym (item_deeper v count (looked x.table g.call.site (of_value to)) (location_at g.call.temps there) (unsigned_abs (number_of w)) shaped))
-          (found_at y t place there e named_from count look w o (number_of w) refl (subst (λ n. inside (number_of w) n ≡ true) long h)))
+          (sym (ap (λ u. item_of u (location_at g.call.temps there) (unsigned_abs (number_of w))) r.is))
+          (found_at y t place there e named_from count look w o (number_of w) refl
+          (subst (λ n. inside (number_of w) n ≡ true) (ap length_of r.is ∙ r.long) h)))

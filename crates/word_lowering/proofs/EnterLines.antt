@@ -10,13 +10,16 @@ use Rattle.nim_meaning.specs.Values.{Slot}
 use Rattle.flat_code.specs.declared.block.BlockLine.{BlockLine}
 use Rattle.flat_code.specs.Codes.{proc_of}
 use Rattle.flat_code.specs.Fits.{Signature}
-use Rattle.flat_code.specs.Running.{entered, slot_bytes}
+use Rattle.flat_code.specs.Running.{entered, begin_work}
 use Rattle.word_code.specs.declared.word.WordInstr.{WordInstr}
 use Rattle.word_code.specs.declared.word.WordProc.{WordProc}
 use Rattle.word_code.specs.Words.{Vars, WordState, no_words, put, params_of}
 use Rattle.word_code.proofs.ForCallers.{Runs, Within, at}
 use Rattle.word_lowering.specs.declared.homes.TheConstants.{LEFT, FIRST, OWN_FROM}
-use Rattle.word_lowering.specs.Layouts.{params_in, is_empty, kept_in}
+use Rattle.word_lowering.specs.Layouts.{params_in, result_in, is_empty, kept_in}
+use Rattle.word_lowering.specs.Lowered.{result_cleared}
+use Rattle.word_lowering.specs.WaitingCode.{none_code}
+use Rattle.word_lowering.proofs.HeapKept.{SameHeap}
 use Rattle.word_lowering.proofs.Callees.{Callee}
 use Rattle.word_lowering.proofs.EnterRuns.{code_called, within_then, enters, memory_then}
 use Rattle.word_lowering.proofs.FirstPlaces.{Gave, slots_of, gave_still}
@@ -30,7 +33,7 @@ use Rattle.word_lowering.proofs.RoutineCalls.{awaiting}
 use Rattle.word_lowering.proofs.Sites.{around, lines_of, room, word_of, next_base}
 use Rattle.arc_base.proofs.ForCallers.{steps_on}
 use Rattle.word_code.specs.Memory.{Memory, number_at}
-use Rattle.word_lowering.proofs.CallPlaces.{Grown, places_come, still_read, good_come}
+use Rattle.word_lowering.proofs.CallPlaces.{Grown, places_come, still_read, good_come, heap_still}
 use Rattle.rv32_isa.specs.declared.micro_op.Size.TheVariants.{Word}
 
 -- nothing more is seen
@@ -89,6 +92,10 @@ module _ (x : Basis) (g : Both) (line : BlockLine) (rest : List BlockLine) (y : 
     good_then = good_come g.memory memory (room c.body) comes x (sites_of g) (sites_then x g line rest y c memory slots gave_then left e) y.linked
         refl y.memory (linked_then x g line rest y c memory slots gave_then left e)
 
+    heap_there : SameHeap g.memory memory
+    heap_there = heap_still g.memory memory (room c.body) comes x (sites_of g) (sites_then x g line rest y c memory slots gave_then left e) y.linked refl
+        y.memory.sized
+
     still_then : (a w : ℕ) → a + 4 ≤ next_base (sites_of g) → number_at g.memory a Word ≡ Ok w → number_at memory a Word ≡ Ok w
     still_then a w h r = still_read g.memory memory (room c.body) comes a w (let p = y.memory.places in omega (arith, h, p)) r
 
@@ -105,8 +112,10 @@ module _ (x : Basis) (g : Both) (line : BlockLine) (rest : List BlockLine) (y : 
       let m : Memory = memory_then x g line rest y c to n.bytes in
       let gave_m = gave_then n.bytes in
       let vars_m : VarsThen x g line rest y c m slots gave_m left e handed_on = record { left_is = handed_left; handed = handed_param } in
-      let r = ready x g line rest y c m slots gave_m left e to answers (good_then n.bytes) (still_then n.bytes) handed_on vars_m k l ls is in
-      let lines = code_is (around x.table x.blocks c.body) (lines_of c.body) in
+      let r = ready x g line rest y c m slots gave_m left e to answers (good_then n.bytes) (heap_there n.bytes) (still_then n.bytes) handed_on vars_m k l
+      ls is in
+      let lines = code_is (around x.table x.blocks c.body) (lines_of c.body)
+      ∙ ap (λ ws. result_cleared (result_in c.body.own.all) (none_code ws k)) c.is.waiters in
       let ready_runs : Runs x.live (all_procs x) r.steps (at here m (word_of x.table x.blocks c.body).lines handed_on no_words)
       (at (awaiting here r.awaits) r.memory k r.vars_then r.words)
       = subst (λ z. Runs x.live (all_procs x) r.steps (at here m z handed_on no_words) (at (awaiting here r.awaits) r.memory k r.vars_then r.words))
@@ -118,12 +127,14 @@ module _ (x : Basis) (g : Both) (line : BlockLine) (rest : List BlockLine) (y : 
       let r2 = steps_on (machine x) before (2 + r.steps) before (2 + r.steps) (done, t) (r1.0, called) last [] (seen_call c.body.proc.hook ++ []) r1.1
       (steps_on (machine x) 2 r.steps 2 r.steps (r1.0, called) (n.behind, first_line) last (seen_call c.body.proc.hook) [] n.steps r3.1) in
       let less = r.few in
-      let world = world_then x g line rest y c m slots gave_m left e to answers (good_then n.bytes) (still_then n.bytes) handed_on vars_m in
-      let then : Both = ended x g line rest y c m slots gave_m left e to answers (good_then n.bytes) (still_then n.bytes) handed_on vars_m world
+      let world = world_then x g line rest y c m slots gave_m left e to answers (good_then n.bytes) (heap_there n.bytes) (still_then n.bytes) handed_on
+      vars_m in
+      let then : Both = ended x g line rest y c m slots gave_m left e to answers (good_then n.bytes) (heap_there n.bytes) (still_then n.bytes) handed_on
+      vars_m world
       r.vars_then r.memory r.words r.awaits in (
         last,
         before + (2 + r.steps),
-        subst (λ es. Steps (machine x) (before + (2 + r.steps)) (done, t) es (16 * (work + slot_bytes (slots_of x.table c.body))) last)
+        subst (λ es. Steps (machine x) (before + (2 + r.steps)) (done, t) es (16 * (work + begin_work (proc_of (known x) c.body.proc))) last)
             (no_more c.body.proc.hook)
             (record { work = r2.work; within = (let w = r2.within in omega (arith, w, less, few_before)); by = r2.by }),
         (inl (then, r.good, r3.0), refl, refl),

@@ -1,5 +1,5 @@
 -- What word code does that calls a procedure with lines, up to the first line of that one.
-use Rattle.std.proofs.Common.{◌≡◌, ℕ, suc, ◌+◌, ◌%◌, ◌^◌, ◌≤◌, List, [], ◌∷◌, length, map}
+use Rattle.std.proofs.Common.{◌≡◌, inr, ℕ, suc, ◌+◌, ◌%◌, ◌^◌, ◌≤◌, List, [], ◌∷◌, length, map}
 use Rattle.std.proofs.Common.{Option, Some, None, Bool, true, false, refl, sym, ap, ap₂, subst, ◌∙◌, arith}
 use Rattle.std.specs.Prelude.{nat_le, if◌then◌else◌}
 use Rattle.std.proofs.lemmas.Bool.{and_right, cond-false, lt-leb}
@@ -11,16 +11,16 @@ use Rattle.flat_code.specs.Fits.{Signature}
 use Rattle.word_code.specs.declared.word.WordInstr.{WordInstr}
 use Rattle.word_code.specs.declared.word.WordInstr.TheVariants.{Argument, Call}
 use Rattle.word_code.specs.declared.word.WordProc.{WordProc}
-use Rattle.word_code.specs.Joined.{all_moved}
 use Rattle.word_code.specs.Words.{Vars, no_words, put, params_of, WordFrame, WordState, seen_call, is_counted, counted, most_calls, is_full, scene_of, entered}
-use Rattle.word_code.proofs.ForCallers.{Within, at, run_argument, found_first}
+use Rattle.word_code.proofs.ForCallers.{Within, at, run_argument}
 use Rattle.word_lowering.specs.declared.homes.TheConstants.{LEFT, FIRST}
 use Rattle.word_lowering.specs.declared.spots.Spot.{Spot}
 use Rattle.word_lowering.specs.declared.spots.Spot.TheVariants.{Held, Lies}
 use Rattle.word_lowering.specs.LineCode.{given_code, entered_code, value, proc_number}
-use Rattle.word_lowering.specs.Lowered.{kind_of, kind_in, lowered}
+use Rattle.word_lowering.specs.Lowered.{word_proc, kind_of, kind_in, lowered}
 use Rattle.word_lowering.specs.Spots.{spot_of}
 use Rattle.word_lowering.proofs.Callees.{Callee}
+use Rattle.word_lowering.proofs.JoinedRoutines.{found_own}
 use Rattle.word_lowering.proofs.Lines.{Basis, all_procs, starts, IsGood, lower, machine}
 use Rattle.word_lowering.proofs.Related.{Both, Waits, called_by, body_of, sites_of, within, code_behind, awaits_in, awaits_for, goes_on, left_for, frame_of}
 use Rattle.word_lowering.proofs.Sites.{room, around, word_of}
@@ -108,8 +108,8 @@ module _ (x : Basis) (g : Both) (line : BlockLine) (rest : List BlockLine) (y : 
       let bytes : List ℕ = x.fresh r1.0 in
       let t : WordState = at within_then (memory_then bytes) p.lines (params_of p words) no_words in
       let found = c.found runs in
-      let there = found_first (proc_number proc) (lowered x.table x.blocks).procs
-      (all_moved (length (lowered x.table x.blocks).statics) x.runtime.procs) p found.0 found.1 in
+      let there = found_own x.runtimes (lowered x.table x.blocks) (proc_number proc)
+      (word_proc (around x.table x.blocks c.body) c.body.number c.body.proc) found.0 (inr (omega arith)) found.1 in
       let many = map_length (frame_of x.table x.blocks) g.waiting in
       let levels = sites_many in
       let least = counted_most (u.frame ∷ u.callers) in

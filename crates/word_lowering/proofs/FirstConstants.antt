@@ -19,14 +19,13 @@ use Rattle.flat_code.specs.declared.line.Piece.{Piece}
 use Rattle.flat_code.specs.Codes.{block_plain}
 use Rattle.flat_code.specs.Pieces.{piece_words, words_bytes, standing_bytes}
 use Rattle.flat_code.specs.Sizes.{code_texts}
-use Rattle.word_code.specs.declared.word.WordCode.{WordCode}
-use Rattle.word_code.specs.Joined.{joined}
-use Rattle.word_code.specs.Memory.{Memory, number_at, own_data_at}
+use Rattle.word_code.specs.Memory.{Memory, number_at}
 use Rattle.word_code.specs.RoutineTable.{Cell}
 use Rattle.word_lowering.specs.declared.texts.TheConstants.{FIXED_BYTES}
 use Rattle.word_lowering.specs.declared.may_lower.TheConstants.{MOST_DATA}
-use Rattle.word_lowering.specs.Lowered.{lowered}
-use Rattle.word_lowering.proofs.FirstMemory.{drop_past, first_memory, first_may, own, own_reads, globals}
+use Rattle.word_lowering.specs.Lowered.{data_at, lowered}
+use Rattle.word_lowering.specs.Runtimes.{Runtimes, with_runtimes}
+use Rattle.word_lowering.proofs.FirstMemory.{drop_past, first_memory, own_may, own, own_reads, globals}
 use Rattle.word_lowering.proofs.FirstNames.{take_front}
 use Rattle.word_lowering.proofs.LaidData.{LaidAt, laid_at, laid_there}
 use Rattle.word_lowering.proofs.PieceWords.{WordsAt, room_of}
@@ -45,16 +44,16 @@ words_length (w ∷ ws) =
     let h = words_length ws in
     omega (arith, e, f, h)
 
-module _ (table : List TypeDef) (blocks : Code BlockLine) (runtime : WordCode) (heap stack : ℕ) where
+module _ (table : List TypeDef) (blocks : Code BlockLine) (runtime : Runtimes) (heap stack : ℕ) where
   abbrev start : Memory
-  start = first_memory (joined (lowered table blocks) runtime) heap stack
+  start = first_memory (with_runtimes runtime (lowered table blocks)) heap stack
 
   -- ---- a word of the data
 
   module _ (before : List ℕ) (w : ℕ) (after : List ℕ) (is : own table blocks ≡ before ++ (word_bytes w ++ after))
       (whole : length before % 4 ≡ 0) (small : w < 2 ^ 32) where
     abbrev there : ℕ
-    there = own_data_at + length before
+    there = data_at + length before
 
     within : length before + 4 ≤ length (own table blocks)
     within =
@@ -77,10 +76,9 @@ module _ (table : List TypeDef) (blocks : Code BlockLine) (runtime : WordCode) (
 
     cell_first : Cell start there
     cell_first =
-        let l = length-append (own table blocks) runtime.statics in
         let h = within in
         record {
-          may = first_may (joined (lowered table blocks) runtime) heap stack (length before) (omega (arith, whole)) (omega (arith, l, h));
+          may = own_may table blocks runtime heap stack (length before) (omega (arith, whole)) (omega (arith, h));
           word = w;
           reads = word_first;
         }
@@ -93,15 +91,15 @@ module _ (table : List TypeDef) (blocks : Code BlockLine) (runtime : WordCode) (
     cells : (o : ℕ) → o + 4 ≤ room_of ws → o % 4 ≡ 0 → Cell start (at + o)
 
   stand : (before ws after : List ℕ) → own table blocks ≡ before ++ (words_bytes ws ++ after) → length before % 4 ≡ 0 → AllSmall ws
-      → Stand (own_data_at + length before) ws
+      → Stand (data_at + length before) ws
   stand before [] after is whole small = record { words = tt; cells = λ o within even. absurd (omega (arith, within)) }
   stand before (w ∷ ws) after is whole small =
       let here : own table blocks ≡ before ++ (word_bytes w ++ (words_bytes ws ++ after))
       = is ∙ ap (λ l. before ++ l) (append_assoc (to_le_bytes w32 w) (words_bytes ws) after ∙ ap (λ l. l ++ (words_bytes ws ++ after)) (little_bytes w)) in
       let a = length-append before (word_bytes w) in
       let four = length-word_bytes w in
-      let next : own_data_at + length (before ++ word_bytes w) ≡ own_data_at + length before + 4 = omega (arith, a, four) in
-      let rest : Stand (own_data_at + length before + 4) ws = subst (λ n. Stand n ws) next
+      let next : data_at + length (before ++ word_bytes w) ≡ data_at + length before + 4 = omega (arith, a, four) in
+      let rest : Stand (data_at + length before + 4) ws = subst (λ n. Stand n ws) next
       (stand (before ++ word_bytes w) ws after (here ∙ sym (append_assoc before (word_bytes w) (words_bytes ws ++ after)))
       (omega (arith, a, four, whole)) small.1) in
       record {
@@ -109,8 +107,8 @@ module _ (table : List TypeDef) (blocks : Code BlockLine) (runtime : WordCode) (
         cells = λ o within even. one here rest o within even;
       }
     where
-      one : own table blocks ≡ before ++ (word_bytes w ++ (words_bytes ws ++ after)) → Stand (own_data_at + length before + 4) ws
-          → (o : ℕ) → o + 4 ≤ 4 + room_of ws → o % 4 ≡ 0 → Cell start (own_data_at + length before + o)
+      one : own table blocks ≡ before ++ (word_bytes w ++ (words_bytes ws ++ after)) → Stand (data_at + length before + 4) ws
+          → (o : ℕ) → o + 4 ≤ 4 + room_of ws → o % 4 ≡ 0 → Cell start (data_at + length before + o)
       one here rest zero within even =
           subst (Cell start) (omega arith) (cell_first before w (words_bytes ws ++ after) here whole small.0)
       one here rest (suc zero) within even = absurd (omega (arith, even))
@@ -129,8 +127,8 @@ module _ (table : List TypeDef) (blocks : Code BlockLine) (runtime : WordCode) (
       let l : LaidAt table blocks text = laid_there table blocks runtime heap stack least whole most text among in
       let at = l.at in
       let word = l.at_word in
-      let place : own_data_at + length l.before ≡ own_data_at + laid_at table blocks text = ap (λ n. own_data_at + n) at in
-      let s : Stand (own_data_at + laid_at table blocks text) (piece_words pieces)
+      let place : data_at + length l.before ≡ data_at + laid_at table blocks text = ap (λ n. data_at + n) at in
+      let s : Stand (data_at + laid_at table blocks text) (piece_words pieces)
       = subst (λ n. Stand n (piece_words pieces)) place
       (stand l.before (piece_words pieces) l.after l.whole (omega (arith, at, word)) small) in
       let n0 = ap length l.whole in

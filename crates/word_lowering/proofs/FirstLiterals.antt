@@ -5,12 +5,12 @@ use Rattle.std.specs.Set.{is_member}
 use Rattle.nim_types.specs.Types.{same_text}
 use Rattle.flat_code.specs.Codes.{block_plain}
 use Rattle.flat_code.specs.Sizes.{code_texts}
-use Rattle.word_code.specs.Joined.{joined}
-use Rattle.word_code.specs.Memory.{bytes_at, own_data_at}
+use Rattle.word_code.specs.Memory.{bytes_at}
 use Rattle.word_lowering.specs.declared.texts.TheConstants.{FIXED_BYTES}
 use Rattle.word_lowering.specs.declared.may_lower.TheConstants.{MOST_DATA}
 use Rattle.word_lowering.specs.Texts.{texts_in, texts_at, place_among, place_of, or_zero}
-use Rattle.word_lowering.specs.Lowered.{lowered}
+use Rattle.word_lowering.specs.Lowered.{data_at, lowered}
+use Rattle.word_lowering.specs.Runtimes.{with_runtimes}
 use Rattle.word_lowering.proofs.FirstMemory.{drop_past, first_memory, own, globals}
 use Rattle.word_lowering.proofs.FirstNames.{take_front}
 use Rattle.word_lowering.proofs.FirstTexts.{text_bytes}
@@ -18,14 +18,14 @@ use Rattle.word_lowering.proofs.LaidData.{distinct, laid_at, laid_there}
 use Rattle.word_lowering.proofs.Lines.{Basis}
 use Rattle.word_lowering.proofs.TextLines.{TextAt}
 
-module _ (x : Basis) (heap stack : ℕ) (is : x.first ≡ first_memory (joined (lowered x.table x.blocks) x.runtime) heap stack)
+module _ (x : Basis) (heap stack : ℕ) (is : x.first ≡ first_memory (with_runtimes x.runtimes (lowered x.table x.blocks)) heap stack)
     (least : FIXED_BYTES ≤ globals x.table x.blocks) (whole : globals x.table x.blocks % 4 ≡ 0) (most : length (own x.table x.blocks) ≤ MOST_DATA) where
   -- a text of the code, which stands at this offset in it, where it is laid out
   pub literal_there : (offset : ℕ) (text : List ℕ) → take (length text) (drop offset (texts_in x.blocks.procs)) ≡ text
       → is_member same_text (code_texts block_plain x.blocks.procs) text ≡ true
       → TextAt x (texts_at x.table (globals x.table x.blocks) + place_of x.blocks.procs offset (length text)) text
   literal_there offset text stands_so among =
-      let there = laid_there x.table x.blocks x.runtime heap stack least whole most text among in
+      let there = laid_there x.table x.blocks x.runtimes heap stack least whole most text among in
       let from : ℕ = laid_at x.table x.blocks text in
       let at = there.at in
       let behind_globals = there.behind_globals in
@@ -39,6 +39,6 @@ module _ (x : Basis) (heap stack : ℕ) (is : x.first ≡ first_memory (joined (
       subst (λ t. TextAt x (texts_at x.table (globals x.table x.blocks) + or_zero (place_among (distinct x.table x.blocks) t)) text) (sym stands_so) (record {
         is_text = (inr (omega (arith, behind_globals), omega (arith, at, n0, n1, n2, most)), inl (omega (arith, at, n0, n1, n2)));
         small = omega (arith, at, n0, n1, n2, most);
-        bytes = ap (λ m. bytes_at m (own_data_at + from) (length text)) is
+        bytes = ap (λ m. bytes_at m (data_at + from) (length text)) is
             ∙ text_bytes x heap stack is least whole most from text (omega (arith, at, n0, n1, n2)) stands;
       })

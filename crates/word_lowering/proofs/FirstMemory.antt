@@ -17,7 +17,6 @@ use Rattle.flat_code.specs.declared.code.Code.{Code}
 use Rattle.word_code.specs.declared.word.WordCode.{WordCode}
 use Rattle.word_code.specs.Memory.{Memory, as_state, may_put, bytes_at, may_fill, own_data_at, data_of as whole_data}
 use Rattle.word_code.specs.declared.routine.TheConstants.{RUNTIME_DATA, SCRATCH_BYTES}
-use Rattle.word_code.specs.Joined.{joined}
 use Rattle.word_code.specs.Routines.{HasData}
 use Rattle.rv32_isa.specs.declared.micro_op.Size.TheVariants.{Byte, Word}
 use Rattle.word_code.specs.RoutineTable.{Cell}
@@ -25,7 +24,9 @@ use Rattle.word_code.proofs.ForCallers.{Sized}
 use Rattle.word_lowering.specs.declared.texts.TheConstants.{FIXED_BYTES}
 use Rattle.word_lowering.specs.declared.may_lower.TheConstants.{MOST_DATA, MOST_ROOM}
 use Rattle.word_lowering.specs.Texts.{missing, fixed_texts, all_names, ends_from, joined_all, laid_texts, data_in, padded}
-use Rattle.word_lowering.specs.Lowered.{data_of, globals_end, lowered}
+use Rattle.word_lowering.specs.Lowered.{data_at, data_of, globals_end, lowered}
+use Rattle.heap_memory.specs.declared.numbers.TheConstants.{HEAP_DATA}
+use Rattle.word_lowering.specs.Runtimes.{Runtimes, with_runtimes}
 use Rattle.word_lowering.proofs.Padding.{zeros_length}
 use Rattle.word_lowering.proofs.Related.{procs, routines, IsOpen, MemoryGood}
 use Rattle.word_code.specs.Words.{from_proc, first_of}
@@ -170,59 +171,87 @@ module _ (table : List TypeDef) (blocks : Code BlockLine) where
       ap₂ (λ l k. take 4 (drop k l)) own_is e ∙ ap (take 4) (drop_past fixed (replicate (globals - FIXED_BYTES) 0 ++ (behind ++ pad)) j)
       ∙ zeros_in (globals - FIXED_BYTES) j 4 (behind ++ pad) (omega (arith, low, high))
 
-  module _ (runtime : WordCode) (heap stack : ℕ) where
+  module _ (runtime : Runtimes) (heap stack : ℕ) where
     abbrev code : WordCode
-    code = joined (lowered table blocks) runtime
+    code = with_runtimes runtime (lowered table blocks)
+
+    -- the data of the heap's routines stands in front
+    heap_long : length runtime.heap.statics ≡ HEAP_DATA
+    heap_long = runtime.is_heap.long
+
+    abbrev front : List ℕ
+    front = runtime.heap.statics ++ own
+
+    front_length : length front ≡ HEAP_DATA + length own
+    front_length = let l = length-append runtime.heap.statics own in let h = heap_long in omega (arith, l, h)
 
     abbrev start : Memory
     start = first_memory code heap stack
 
-    whole_length : length code.statics ≡ length own + length runtime.statics
-    whole_length = length-append own runtime.statics
+    pub whole_length : length code.statics ≡ HEAP_DATA + length own + length runtime.others.statics
+    whole_length = let l = length-append front runtime.others.statics in let f = front_length in omega (arith, l, f)
+
+    -- the same bytes of the whole
+    own_same : (i n : ℕ) → i + n ≤ length own → take n (drop (HEAP_DATA + i) code.statics) ≡ take n (drop i own)
+    own_same i n within =
+        let f = front_length in
+        let e : HEAP_DATA + i ≡ length runtime.heap.statics + i = let h = heap_long in omega (arith, h) in
+        in_front (HEAP_DATA + i) n front runtime.others.statics (omega (arith, f, within))
+        ∙ ap (λ k. take n (drop k front)) e ∙ ap (take n) (drop_past runtime.heap.statics own i)
 
     -- what is read of it
-    pub own_reads : (i n : ℕ) → 0 < n → i + n ≤ length own → bytes_at start (own_data_at + i) n ≡ Some (take n (drop i own))
+    pub own_reads : (i n : ℕ) → 0 < n → i + n ≤ length own → bytes_at start (data_at + i) n ≡ Some (take n (drop i own))
     own_reads i n some within =
         let l = whole_length in
-        first_reads code heap stack start.places i n some (omega (arith, within, l)) ∙ ap Some (in_front i n own runtime.statics within)
+        let place : data_at + i ≡ own_data_at + (HEAP_DATA + i) = omega arith in
+        ap (λ a. bytes_at start a n) place ∙ first_reads code heap stack start.places (HEAP_DATA + i) n some (omega (arith, within, l))
+        ∙ ap Some (own_same i n within)
+
+    pub own_may : (i : ℕ) → (data_at + i) % 4 ≡ 0 → i + 4 ≤ length own → may_put start (data_at + i) Word ≡ true
+    own_may i whole within =
+        let l = whole_length in
+        let place : own_data_at + (HEAP_DATA + i) ≡ data_at + i = omega arith in
+        subst (λ a. may_put start a Word ≡ true) place (first_may code heap stack (HEAP_DATA + i) (omega (arith, whole)) (omega (arith, within, l)))
 
     -- the data of routines stands behind it
-    pub routines_given : SCRATCH_BYTES ≤ length runtime.statics → (places : List ℕ)
-        → HasData (routines table blocks) runtime.statics (record start { places = places })
+    pub routines_given : SCRATCH_BYTES ≤ length runtime.others.statics → (places : List ℕ)
+        → HasData (routines table blocks) runtime.others.statics (record start { places = places })
     routines_given least places =
         let with_these : Memory = record start { places = places } in
-        let n : ℕ = length own in
+        let n : ℕ = HEAP_DATA + length own in
         let l = whole_length in
-        let place : own_data_at + n ≡ statics_at + (8 + n) = omega arith in
+        let place : routines table blocks ≡ statics_at + (8 + n) = omega arith in
         let long = data_length heap stack code.statics in
         let may : may_fill with_these (statics_at + (8 + n)) SCRATCH_BYTES ≡ true
         = ap (λ b. b || (lies_in heap_at start.heap (statics_at + (8 + n)) SCRATCH_BYTES || lies_in stack_at places (statics_at + (8 + n)) SCRATCH_BYTES))
         (lies_here statics_at start.statics (8 + n) SCRATCH_BYTES (omega (arith, long, l, least))) in record {
           scratch = ap (λ a. may_fill with_these a SCRATCH_BYTES) place ∙ may;
-          fixed = fixed_there (drop SCRATCH_BYTES runtime.statics) refl;
+          fixed = fixed_there (drop SCRATCH_BYTES runtime.others.statics) refl;
         }
       where
-        fixed_there : (bytes : List ℕ) → drop SCRATCH_BYTES runtime.statics ≡ bytes
+        fixed_there : (bytes : List ℕ) → drop SCRATCH_BYTES runtime.others.statics ≡ bytes
             → bytes_at (record start { places = places }) (routines table blocks + SCRATCH_BYTES) (length bytes) ≡ Some bytes
         fixed_there [] e = refl
         fixed_there (b ∷ bytes) e =
-            let n : ℕ = length own in
+            let n : ℕ = HEAP_DATA + length own in
             let l = whole_length in
-            let d = length-drop SCRATCH_BYTES runtime.statics in
+            let d = length-drop SCRATCH_BYTES runtime.others.statics in
             let many = ap length e in
             let place : routines table blocks + SCRATCH_BYTES ≡ own_data_at + (n + SCRATCH_BYTES) = omega arith in
+            let past : n + SCRATCH_BYTES ≡ length front + SCRATCH_BYTES = let f = front_length in omega (arith, f) in
             ap (λ a. bytes_at (record start { places = places }) a (length (b ∷ bytes))) place
             ∙ first_reads code heap stack places (n + SCRATCH_BYTES) (length (b ∷ bytes)) (omega arith) (omega (arith, l, d, many))
-            ∙ ap (λ k. Some (take (length (b ∷ bytes)) k)) (drop_past own runtime.statics SCRATCH_BYTES ∙ e) ∙ ap Some (all_taken (b ∷ bytes))
+            ∙ ap (λ k. Some (take (length (b ∷ bytes)) k)) (ap (λ j. drop j code.statics) past ∙ drop_past front runtime.others.statics SCRATCH_BYTES ∙ e)
+            ∙ ap Some (all_taken (b ∷ bytes))
 
     -- a character may be put
-    pub letter_first : (places : List ℕ) → may_put (record start { places = places }) own_data_at Byte ≡ true
+    pub letter_first : (places : List ℕ) → may_put (record start { places = places }) data_at Byte ≡ true
     letter_first places =
         let l = own_length in
         let w = whole_length in
         let long = data_length heap stack code.statics in
-        ap (λ b. b || (lies_in heap_at start.heap own_data_at 1 || lies_in stack_at places own_data_at 1))
-        (lies_here statics_at start.statics 8 1 (omega (arith, long, w, l)))
+        ap (λ b. b || (lies_in heap_at start.heap data_at 1 || lies_in stack_at places data_at 1))
+        (lies_here statics_at start.statics (8 + HEAP_DATA) 1 (omega (arith, long, w, l)))
 
     pub good_first : Sized start → (sites : List Site) → next_base sites ≡ stack_at + start_room code → MemoryGood table blocks sites start start
     good_first sized sites next = record {
@@ -241,30 +270,30 @@ module _ (table : List TypeDef) (blocks : Code BlockLine) where
         cells a whole (inl h) =
             let l = own_length in
             let w = whole_length in
-            let i : ℕ = a - own_data_at in
-            let e : own_data_at + i ≡ a = omega (arith, h.0) in
+            let i : ℕ = a - data_at in
+            let e : own_data_at + (HEAP_DATA + i) ≡ a = omega (arith, h.0) in
             let g : i + 4 ≤ globals = omega (arith, h.0, h.1) in
             let within : i + 4 ≤ length own = omega (arith, l, g, h.0) in
-            subst (Cell start) e (first_cell code heap stack i (omega (arith, e, whole)) (omega (arith, w, within))
-            (in_front i 4 own runtime.statics within ∙ globals_zero i (omega (arith, h.0)) g))
+            subst (Cell start) e (first_cell code heap stack (HEAP_DATA + i) (omega (arith, e, whole)) (omega (arith, w, within))
+            (own_same i 4 within ∙ globals_zero i (omega (arith, h.0)) g))
         cells a whole (inr h) = place_cell start sized a whole h.0 (let e = long in omega (arith, h.1, e))
 
     -- texts that each program has
     fixed_text : (i : ℕ) (text : List ℕ) → 0 < length text → i + length text ≤ 20 → take (length text) (drop i own) ≡ text
-        → bytes_at start (own_data_at + i) (length text) ≡ Some text
+        → bytes_at start (data_at + i) (length text) ≡ Some text
     fixed_text i text some within is = let l = own_length in own_reads i (length text) some (omega (arith, l, within)) ∙ ap Some is
 
-    pub line_end_first : bytes_at start (own_data_at + 4) 1 ≡ Some (10 ∷ [])
+    pub line_end_first : bytes_at start (data_at + 4) 1 ≡ Some (10 ∷ [])
     line_end_first = fixed_text 4 (10 ∷ []) (omega arith) (omega arith) refl
 
-    pub false_first : bytes_at start (own_data_at + 8) 5 ≡ Some (codes "false")
+    pub false_first : bytes_at start (data_at + 8) 5 ≡ Some (codes "false")
     false_first = fixed_text 8 (codes "false") (omega arith) (omega arith) refl
 
-    pub true_first : bytes_at start (own_data_at + 16) 4 ≡ Some (codes "true")
+    pub true_first : bytes_at start (data_at + 16) 4 ≡ Some (codes "true")
     true_first = fixed_text 16 (codes "true") (omega arith) (omega arith) refl
 
     -- its regions are as large as the machine's
-    pub sized_first : heap ≤ 16777216 → start_room code ≤ MOST_ROOM → length own ≤ MOST_DATA → length runtime.statics ≤ RUNTIME_DATA → Sized start
+    pub sized_first : heap ≤ 16777216 → start_room code ≤ MOST_ROOM → length own ≤ MOST_DATA → length runtime.others.statics ≤ RUNTIME_DATA → Sized start
     sized_first heap_most places_most data_most runtime_most =
         let l = data_length heap stack code.statics in
         let w = whole_length in

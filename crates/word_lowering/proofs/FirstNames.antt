@@ -12,13 +12,12 @@ use Rattle.rv32_isa.proofs.ForCallers.{length-word_bytes, little-word_bytes}
 use Rattle.nim_types.specs.declared.types.TypeDef.{TypeDef}
 use Rattle.flat_code.specs.declared.block.BlockLine.{BlockLine}
 use Rattle.flat_code.specs.declared.code.Code.{Code}
-use Rattle.word_code.specs.declared.word.WordCode.{WordCode}
-use Rattle.word_code.specs.Joined.{joined}
-use Rattle.word_code.specs.Memory.{Memory, number_at, own_data_at}
+use Rattle.word_code.specs.Memory.{Memory, number_at}
 use Rattle.word_lowering.specs.declared.texts.TheConstants.{FIXED_BYTES}
 use Rattle.word_lowering.specs.declared.may_lower.TheConstants.{MOST_DATA}
 use Rattle.word_lowering.specs.Texts.{missing, padded, members_of, all_names, names_before, joined_all, starts_from, ends_from, laid_texts}
-use Rattle.word_lowering.specs.Lowered.{lowered}
+use Rattle.word_lowering.specs.Lowered.{data_at, lowered}
+use Rattle.word_lowering.specs.Runtimes.{Runtimes, with_runtimes}
 use Rattle.word_lowering.proofs.Padding.{zeros_length, padded_length}
 use Rattle.word_lowering.proofs.FirstMemory.{drop_past, first_memory, own_reads, own, globals, fixed, behind, pad, own_is, own_length}
 
@@ -151,10 +150,10 @@ name_most (x ∷ names) (suc i) =
     let b = length-append x (joined_all names) in
     omega (arith, r, a, b)
 
-module _ (table : List TypeDef) (blocks : Code BlockLine) (runtime : WordCode) (heap stack : ℕ) (least : FIXED_BYTES ≤ globals table blocks)
+module _ (table : List TypeDef) (blocks : Code BlockLine) (runtime : Runtimes) (heap stack : ℕ) (least : FIXED_BYTES ≤ globals table blocks)
     (whole : globals table blocks % 4 ≡ 0) (most : length (own table blocks) ≤ MOST_DATA) where
   abbrev start : Memory
-  start = first_memory (joined (lowered table blocks) runtime) heap stack
+  start = first_memory (with_runtimes runtime (lowered table blocks)) heap stack
 
   abbrev names : List (List ℕ)
   names = all_names table
@@ -193,9 +192,9 @@ module _ (table : List TypeDef) (blocks : Code BlockLine) (runtime : WordCode) (
       ∙ ap (λ l. ends_from 0 names ++ l) (append_assoc (padded joined_names) texts (pad table blocks))
 
   -- the word of where the names before one end
-  pub end_word : (i : ℕ) → i ≤ length names → number_at start (own_data_at + (globals table blocks + 4 * i)) Word ≡ Ok (joined_before names i)
+  pub end_word : (i : ℕ) → i ≤ length names → number_at start (data_at + (globals table blocks + 4 * i)) Word ≡ Ok (joined_before names i)
   end_word i h =
-      let a : ℕ = own_data_at + (globals table blocks + 4 * i) in
+      let a : ℕ = data_at + (globals table blocks + 4 * i) in
       let l = lengths in
       let m = name_most names i in
       let even : (a % 4 == 0) ≡ true = eq-eqb (a % 4) 0 (omega (arith, whole)) in

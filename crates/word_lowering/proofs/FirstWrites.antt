@@ -4,7 +4,6 @@ use Rattle.std.specs.Set.{is_member}
 use Rattle.nim_types.specs.Table.{IsTable}
 use Rattle.nim_types.specs.Types.{same_text}
 use Rattle.flat_code.specs.Sizes.{lines_texts}
-use Rattle.word_code.specs.Joined.{joined}
 use Rattle.word_lowering.specs.declared.may_lower.TheConstants.{MOST_DATA}
 use Rattle.word_lowering.specs.Aliases.{texts_of}
 use Rattle.word_lowering.specs.Layouts.{is_empty}
@@ -13,6 +12,7 @@ use Rattle.word_lowering.specs.Texts.{texts_in}
 use Rattle.word_lowering.specs.Lowered.{lowered}
 use Rattle.word_lowering.specs.MayLower.{defs_may}
 use Rattle.word_lowering.specs.Stored.{HaveForms}
+use Rattle.word_lowering.specs.Runtimes.{with_runtimes}
 use Rattle.word_lowering.proofs.DataEnd.{globals_behind, globals_whole}
 use Rattle.word_lowering.proofs.FirstLiterals.{literal_there}
 use Rattle.word_lowering.proofs.FirstMemory.{drop_past, first_memory, own}
@@ -25,7 +25,7 @@ use Rattle.word_lowering.proofs.TypeEntries.{type_text}
 use Rattle.word_lowering.proofs.TypeShapes.{type_looks}
 use Rattle.word_lowering.proofs.WrittenLines.{Writing}
 
-module _ (x : Basis) (heap stack : ℕ) (is : x.first ≡ first_memory (joined (lowered x.table x.blocks) x.runtime) heap stack)
+module _ (x : Basis) (heap stack : ℕ) (is : x.first ≡ first_memory (with_runtimes x.runtimes (lowered x.table x.blocks)) heap stack)
     (table : IsTable x.table) (have : HaveForms x.table) (some : is_empty x.blocks.procs ≡ false) (most : length (own x.table x.blocks) ≤ MOST_DATA)
     (may : defs_may x.table ≡ true) where
   literal : (b : Body) → IsBody x.table x.blocks b → (before text after : List ℕ) → texts_of (lines_of b) ≡ before ++ (text ++ after)

@@ -11,6 +11,7 @@ use Rattle.word_code.specs.Words.{Vars}
 use Rattle.flat_code.specs.Scene.{with_value, Passes, Temps}
 use Rattle.flat_code.specs.Shapes.{has_shape}
 use Rattle.flat_code.specs.Fits.{is_own}
+use Rattle.word_lowering.proofs.HeapKept.{SameHeap, heap_same, heap_beside}
 use Rattle.word_lowering.proofs.ShapeFacts.{never}
 use Rattle.word_code.proofs.ForCallers.{Changed, Runs, at}
 use Rattle.word_lowering.specs.declared.homes.TheConstants.{OWN_FROM, LEFT}
@@ -24,7 +25,7 @@ use Rattle.word_lowering.proofs.Moves.{is_single, ToVariable, ToMemory}
 use Rattle.word_lowering.proofs.Frames.{IsFrame, frame_kept, slot_here, slot_elsewhere, length_set}
 use Rattle.word_lowering.proofs.Sites.{room, Housing, in_variable, by_address, in_places, in_data, InMemory, Site, AmongSites, data_end, Linked, next_base}
 use Rattle.word_lowering.proofs.Scenes.{address_of, Name, of_value, of_place, At, house, IsThere, looked, IsItem, IsFilled, Filled, IsNamed, Call, site_of}
-use Rattle.word_lowering.proofs.SitesApart.{houses, site_at, one_level, variables_apart}
+use Rattle.word_lowering.proofs.SitesApart.{IsPlace, houses, site_at, one_level, variables_apart}
 use Rattle.word_lowering.proofs.Keeping.{number_cases, spot_held, spot_memory, points_there, to_memory, value_no_location, value_no_place, outside_still}
 use Rattle.word_lowering.proofs.Keeping.{location_no_place, call, Edit, nowhere, somewhere, Worlds, worlds_same, Kept, New, same_numbers, away_cases}
 use Rattle.word_lowering.proofs.Keeping.{own_text, AmongCalls}
@@ -32,7 +33,7 @@ use Rattle.word_lowering.proofs.Related.{Both, body_of, within, low, code_behind
 use Rattle.word_lowering.proofs.Lines.{Basis, all_procs, changed, starts, IsGood, Settles, goes_on, all_sites, good_changed, waits_below, stands_next}
 use Rattle.word_lowering.proofs.ValueFacts.{different, value_plain, put_here, put_away, put_still, numbers_there}
 use Rattle.word_lowering.proofs.Items.{item_of}
-use Rattle.word_lowering.proofs.Sources.{Lying, text_beside, lying_all, size_is, word_is, Source, number_of_single, to_word_by, to_bytes_by}
+use Rattle.word_lowering.proofs.Sources.{Lying, text_beside, lying_away, lying_all, size_is, word_is, Source, number_of_single, to_word_by, to_bytes_by}
 use Rattle.nim_meaning.specs.Deeds.{Answers}
 use Rattle.nim_meaning.specs.Places.{root_of, through_slot}
 use Rattle.word_lowering.specs.Lookups.{is_address}
@@ -52,6 +53,10 @@ module _ (x : Basis) (sites : List Site) (linked : Linked x.table x.blocks sites
     cells = λ b whole open_word. ch.cells b (good.cells b whole open_word);
     texts = λ b k text. ch.beside b k (text_beside x sites linked a n b k l text) ∙ good.texts b k text;
   }
+
+  pub heap_kept : (m m' : Memory) (a n : ℕ) → MemoryGood x.table x.blocks sites x.first m → Changed m m' a n → Lying x sites linked a n → SameHeap m m'
+  heap_kept m m' a n good ch l = let away = lying_away x sites linked m a n good l in
+      heap_beside m m' a n ch.sizes.statics ch.sizes.heap ch.beside away.0 away.1
 
   pub frame_of_site : (w : World) (some : List Site) (s : Site) → AllFrames x.table x.blocks w some → AmongSites s some
       → IsFrame w s.level s.body.proc.first s.body.proc.span
@@ -85,6 +90,7 @@ module _ (x : Basis) (g : Both) (line : BlockLine) (rest : List BlockLine) (y : 
     pub words : Vars
     pub awaits : ℕ
     pub good : MemoryGood x.table x.blocks sites x.first memory
+    pub heap : SameHeap g.memory memory
     pub edit : Edit x.table x.blocks x.small sites y.linked site f g.memory memory
     pub variables : (h : Name) (u : ℕ) → IsThere site h → h ≢ f → (house site h).home ≡ Variable u → vars u ≡ g.call.vars u
     pub left : vars LEFT ≡ g.call.vars LEFT
@@ -102,6 +108,7 @@ module _ (x : Basis) (g : Both) (line : BlockLine) (rest : List BlockLine) (y : 
     pub words : Vars
     pub awaits : ℕ
     pub good : MemoryGood x.table x.blocks sites x.first memory
+    pub heap : SameHeap g.memory memory
     pub edit : Edit x.table x.blocks x.small sites y.linked site f g.memory memory
     pub variables : (h : Name) (u : ℕ) → IsThere site h → h ≢ f → (house site h).home ≡ Variable u → vars u ≡ g.call.vars u
     pub left : vars LEFT ≡ g.call.vars LEFT
@@ -118,6 +125,7 @@ module _ (x : Basis) (g : Both) (line : BlockLine) (rest : List BlockLine) (y : 
     words = r.words;
     awaits = r.awaits;
     good = r.good;
+    heap = r.heap;
     edit = r.edit;
     variables = r.variables;
     left = r.left;
@@ -147,6 +155,7 @@ module _ (x : Basis) (g : Both) (line : BlockLine) (rest : List BlockLine) (y : 
       words = g.words;
       awaits = g.awaits;
       good = y.memory;
+      heap = heap_same g.memory;
       edit = nowhere refl;
       variables = λ h u other ne is. w.but.others u (high_variable h u other is)
           (variables_apart x.table x.blocks site f h t u y.linked.0 there other (λ e. ne (sym e)) home is);
@@ -172,8 +181,11 @@ module _ (x : Basis) (g : Both) (line : BlockLine) (rest : List BlockLine) (y : 
           awaits = r.awaits;
           good = memory_kept x sites y.linked g.memory r.memory (address_of site.base (house site f).home) (bytes v) y.memory r.changed
               (lying_all x sites y.linked site f (bytes v) (inl refl) there inside size);
+          heap = heap_kept x sites y.linked g.memory r.memory (address_of site.base (house site f).home) (bytes v) y.memory r.changed
+              (lying_all x sites y.linked site f (bytes v) (inl refl) there inside size);
           edit = somewhere (address_of site.base (house site f).home) (bytes v)
-              (outside_still (next_base sites) g.memory r.memory (address_of site.base (house site f).home) (bytes v) r.changed.outside) (inl refl) there inside
+              (outside_still (IsPlace x.table x.blocks) (next_base sites) g.memory r.memory (address_of site.base (house site f).home) (bytes v)
+              r.changed.outside) (inl refl) there inside
               (omega arith)
               (omega (arith, size));
           variables = λ h u other ne is. r.same.others u (high_variable h u other is);
@@ -213,6 +225,7 @@ module _ (x : Basis) (g : Both) (line : BlockLine) (rest : List BlockLine) (y : 
         words = r.words;
         awaits = r.awaits;
         good = r.good;
+        heap = r.heap;
         edit = r.edit;
         variables = r.variables;
         left = r.left;
@@ -262,7 +275,8 @@ module _ (x : Basis) (g : Both) (line : BlockLine) (rest : List BlockLine) (y : 
       → IsItem x.table (store_with g r.memory) (call site (with_value t g.call.temps v) r.vars) (of_value t) v
       → IsGood x (changed g after (with_value t g.call.temps v) r.vars r.memory r.words r.awaits g.world)
   good_item after stand lines k t v most there r item_then =
-      good_changed x g line rest y after site (of_value t) (with_value t g.call.temps v) r.vars r.memory r.words r.awaits g.world r.good r.edit
+      good_changed x g line rest y after site (of_value t) (with_value t g.call.temps v) r.vars r.memory r.words r.awaits g.world r.good r.heap
+      (refl, refl) r.edit
       (worlds_same x.table x.blocks x.small sites y.linked site (of_value t) g.world)
       (kept_value t v r.vars r.variables r.left) (λ e. new)
       (λ c from i e. absurd (waits_below x g line rest y c i e)) y.frames y.levels stand
@@ -342,7 +356,7 @@ module _ (x : Basis) (g : Both) (line : BlockLine) (rest : List BlockLine) (y : 
   pub good_with_temps : (after : List BlockLine) (temps : Temps) → SameTemps temps → (vars words : Vars) (awaits : ℕ) → AllSame g.call.vars vars
       → StandAt x.table x.blocks (body_of g) after → IsGood x (changed g after temps vars g.memory words awaits g.world)
   good_with_temps after temps same vars words awaits kept stand =
-      good_changed x g line rest y after above (of_value 0) temps vars g.memory words awaits g.world y.memory (nowhere refl)
+      good_changed x g line rest y after above (of_value 0) temps vars g.memory words awaits g.world y.memory (heap_same g.memory) (refl, refl) (nowhere refl)
       (worlds_same x.table x.blocks x.small sites y.linked above (of_value 0) g.world)
       (kept_temps above (of_value 0) temps vars same (λ h u other away home. kept.others u (high_variable h u other home)) kept.left)
       (λ e. absurd (omega (arith, e)))
@@ -429,7 +443,7 @@ module _ (x : Basis) (g : Both) (line : BlockLine) (rest : List BlockLine) (y : 
         → IsItem x.table (store_with g r.memory) (call site temps r.vars) (of_place n) v
         → IsGood x (changed g after temps r.vars r.memory r.words r.awaits filled_world)
     good_item_place after stand temps same lines k most r item_then =
-        good_changed x g line rest y after site (of_place n) temps r.vars r.memory r.words r.awaits filled_world r.good r.edit
+        good_changed x g line rest y after site (of_place n) temps r.vars r.memory r.words r.awaits filled_world r.good r.heap (refl, refl) r.edit
         place_worlds
         (kept_temps site (of_place n) temps r.vars same (λ f u other away home. r.variables f u other (apart f away) home) r.left)
         (λ e. record {

@@ -21,12 +21,13 @@ use Rattle.word_lowering.specs.declared.texts.TheConstants.{FIXED_BYTES}
 use Rattle.word_lowering.specs.Aliases.{handed_by, places_in, is_among}
 use Rattle.word_lowering.specs.Layouts.{params_in, is_address}
 use Rattle.word_lowering.specs.LineCode.{Around, argument_code, word_argument, location}
+use Rattle.word_lowering.proofs.HeapKept.{SameHeap, heap_same}
 use Rattle.word_lowering.proofs.AddressFacts.{AtAddress, handed_at}
 use Rattle.word_lowering.proofs.Arguments.{Gives, to_variable, to_place}
 use Rattle.word_lowering.proofs.Callees.{Callee}
 use Rattle.word_lowering.proofs.FirstPlaces.{GivenAt, GaveSlot}
 use Rattle.word_lowering.proofs.Gets.{high_variable}
-use Rattle.word_lowering.proofs.HandedLines.{next_at, spare_beyond, memory_beyond, hands_value}
+use Rattle.word_lowering.proofs.HandedLines.{next_at, spare_beyond, memory_beyond, heap_beyond, hands_value}
 use Rattle.word_lowering.proofs.InMemory.{IsAt, bytes_some}
 use Rattle.word_lowering.proofs.Keeping.{AmongCalls, Edit, nowhere, Kept, worlds_same, beyond}
 use Rattle.word_lowering.proofs.LineFits.{single_is}
@@ -61,11 +62,11 @@ module _ (x : Basis) (g : Both) (line : BlockLine) (rest : List BlockLine) (y : 
   abbrev above : Site
   above = record g.call.site { level = suc g.call.site.level }
 
-  pub good_between : (vars : Vars) (m : Memory) (words : Vars) → MemoryGood x.table x.blocks sites x.first m
+  pub good_between : (vars : Vars) (m : Memory) (words : Vars) → MemoryGood x.table x.blocks sites x.first m → SameHeap g.memory m
       → Edit x.table x.blocks x.small sites y.linked above (of_value 0) g.memory m → AllSame g.call.vars vars
       → IsGood x (starts (between vars m words) line rest)
-  good_between vars m words memory edit same =
-      good_changed x g line rest y (line ∷ rest) above (of_value 0) g.call.temps vars m words g.awaits g.world memory edit
+  good_between vars m words memory still edit same =
+      good_changed x g line rest y (line ∷ rest) above (of_value 0) g.call.temps vars m words g.awaits g.world memory still (refl, refl) edit
       (worlds_same x.table x.blocks x.small sites y.linked above (of_value 0) g.world) kept (λ e. absurd (omega (arith, e)))
       (λ c from i e. absurd (too_high c i e)) y.frames y.levels y.stands
     where
@@ -150,7 +151,7 @@ module _ (x : Basis) (g : Both) (line : BlockLine) (rest : List BlockLine) (y : 
             memory = g.memory;
             words = words;
             same = all_same g.call.vars;
-            good = good_between g.call.vars g.memory words y.memory (nowhere refl) (all_same g.call.vars);
+            good = good_between g.call.vars g.memory words y.memory (heap_same g.memory) (nowhere refl) (all_same g.call.vars);
             gives = to_variable u (single_word v) home refl refl;
             gave = record {
               plain = plain;
@@ -185,6 +186,7 @@ module _ (x : Basis) (g : Both) (line : BlockLine) (rest : List BlockLine) (y : 
             same = q.same;
             good = good_between q.vars q.memory g.words
                 (memory_beyond x g line rest y q.memory (next_at x g line rest y + n) (bytes v) ch far)
+                (heap_beyond x g line rest y q.memory (next_at x g line rest y + n) (bytes v) ch far)
                 (beyond (λ b w before read. ch.outside b (inl (omega (arith, before, far))) ∙ read)) q.same;
             gives = to_place n (bytes v) home size ch refl;
             gave = record {
@@ -272,7 +274,7 @@ module _ (x : Basis) (g : Both) (line : BlockLine) (rest : List BlockLine) (y : 
           let leads : FromPlace x.table sites g.world w.location_is q.address (looks x.table h)
           = subst (FromPlace x.table sites g.world w.location_is q.address) p.look
           (of_a_place x.table x.blocks (written_stands x g line rest y w.written)
-          (subst (λ z. Leads x.table x.blocks sites g.world g.call.site g.call.temps z q.address (looked x.table g.call.site (of_location t))) w.is
+          (subst (λ z. Leads x.table x.blocks sites g.ground g.world g.call.site g.call.temps z q.address (looked x.table g.call.site (of_location t))) w.is
           q.leads_to)) in
           let near = place_near x sites y.linked sites g.world w.location_is q.address (looks x.table h) (λ s i. i) leads in
           let small : q.address < 2 ^ 32 = omega (arith, near) in
@@ -285,7 +287,7 @@ module _ (x : Basis) (g : Both) (line : BlockLine) (rest : List BlockLine) (y : 
             memory = g.memory;
             words = words;
             same = r.same;
-            good = good_between r.vars g.memory words y.memory (nowhere refl) r.same;
+            good = good_between r.vars g.memory words y.memory (heap_same g.memory) (nowhere refl) r.same;
             gives = to_variable u q.address home refl refl;
             gave = record {
               by_address = address;

@@ -17,6 +17,7 @@ use Rattle.word_code.specs.RoutineTable.{Cell, Area}
 use Rattle.word_code.proofs.ForCallers.{MemoryLaw, Sized, put_sized, put_area, with_copied, Runs, then_runs, Within, at, run_label, run_load, low_word}
 use Rattle.word_code.proofs.ForCallers.{low_small, got_low}
 use Rattle.word_code.proofs.ForCallers.{run_store, run_compute, run_constant, run_past, run_off, got, got_sum}
+use Rattle.heap_memory.specs.declared.numbers.TheConstants.{HEAP_DATA}
 use Rattle.word_lowering.specs.declared.homes.Home.{Home}
 use Rattle.word_lowering.specs.declared.homes.TheConstants.{FIRST, SECOND, THIRD, FOURTH, FIFTH}
 use Rattle.word_lowering.specs.Spots.{address, copied_here}
@@ -121,7 +122,7 @@ module _ (law : MemoryLaw) (live : Lives) (procs : List WordProc) (c : Within) (
     pub same : AllSame v vars
     pub runs : Runs live procs (4 + 6 * words) (at c m (copied_here label bytes home k) v g) (at c (with_copied words m to from) k vars g)
 
-  pub handed_here : (from_first : c.proc.data_from ≡ 0) (n : ℕ) (m : Memory) (to from : ℕ) (home : Home) (v : Vars) → v FIRST ≡ Some to
+  pub handed_here : (from_first : c.proc.data_from ≡ HEAP_DATA) (n : ℕ) (m : Memory) (to from : ℕ) (home : Home) (v : Vars) → v FIRST ≡ Some to
       → Points c.base v home from
       → to + 4 * suc n < 2 ^ 32 → from + 4 * suc n < 2 ^ 32 → Sized m → Area m to (suc n) → Area m from (suc n)
       → HandedHere m (suc n) to from (4 * suc n) home v

@@ -19,6 +19,7 @@ use Rattle.word_lowering.specs.declared.homes.Housed.{Housed}
 use Rattle.word_lowering.specs.declared.homes.TheConstants.{FIRST, SECOND}
 use Rattle.word_lowering.specs.declared.spots.Spot.TheVariants.{Held}
 use Rattle.word_lowering.specs.Spots.{spot_of, handed, copied_here}
+use Rattle.word_lowering.proofs.HeapKept.{SameHeap, heap_beside}
 use Rattle.word_lowering.proofs.InMemory.{IsAt, bytes_whole, bytes_some, of_numbers, copied_there, HasWords}
 use Rattle.word_lowering.proofs.OrdinalRuns.{AllSame}
 use Rattle.word_lowering.proofs.Moves.{single_word, IsHigh, MaySpot, IsArea, words_of, same_first, same_more, points_same}
@@ -80,6 +81,13 @@ module _ (x : Basis) (g : Both) (line : BlockLine) (rest : List BlockLine) (y : 
       below : (b k : ℕ) → IsClosed x.table x.blocks b k → b + k ≤ a
       below b k (inl t) = omega (arith, s.least, far, t.1)
       below b k (inr t) = omega (arith, s.least, far, t.1)
+
+  pub heap_beyond : (m : Memory) (a n : ℕ) → Changed g.memory m a n → next_base sites ≤ a → SameHeap g.memory m
+  heap_beyond m a n ch far =
+      let s = site_at x.table x.blocks sites g.call.site y.linked (inl refl) in
+      let low = s.least in
+      let most = y.memory.sized.heap_most in
+      heap_beside g.memory m a n ch.sizes.statics ch.sizes.heap ch.beside (omega (arith, low, far)) (inl (omega (arith, low, far, most)))
 
   -- what the code does that puts a value there, before other code
   pub record Hands (lines k : List WordInstr) (v : Value) (a : ℕ) : Type 0 where

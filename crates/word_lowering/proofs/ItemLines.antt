@@ -53,14 +53,14 @@ use Rattle.std.specs.Prelude.{int_le, int_lt, nat_lt, not, ◌&&◌}
 use Rattle.word_code.proofs.ForCallers.{got, then_runs}
 use Rattle.word_lowering.proofs.AddressFacts.{AtAddress, at_address}
 use Rattle.word_lowering.proofs.Arithmetic.{fits_signed}
-use Rattle.word_lowering.proofs.LineFits.{are_of, elements_shape, row_length, some_kind}
+use Rattle.word_lowering.proofs.LineFits.{are_of, elements_shape, some_kind}
 use Rattle.word_lowering.proofs.LocationHouses.{location_house}
 use Rattle.word_lowering.proofs.NumberLines.{variable}
 use Rattle.word_lowering.proofs.OperationRuns.{Given, Led}
 use Rattle.word_lowering.proofs.OrdinalChecks.{inside_is}
 use Rattle.word_lowering.proofs.PartLines.{deeper_in, leads_near, leads_on, leads_settles, led_home, led_variable, own_location, part_standing}
 use Rattle.word_lowering.proofs.PartLines.{same_bool_true}
-use Rattle.word_lowering.proofs.ReadFacts.{read_location}
+use Rattle.word_lowering.proofs.ReadFacts.{read_row}
 use Rattle.word_lowering.proofs.Sites.{around, is_one_word, word_of}
 use Rattle.word_lowering.proofs.Targets.{location_alias, own_alias, pointed}
 use Rattle.word_lowering.proofs.ValueFacts.{Operand, location_of_numbers, type_in, with_home}
@@ -261,7 +261,7 @@ module _ (x : Basis) (traps : TrapsStop x) (labels : LabelsLead x) (g : Both) (r
           let small : at_is.address + i * each < 2 ^ 32 = (let n = near in omega (arith, n, inner, some)) in
           leads_settles x g item_here rest y to (deeper_in g.call.temps there i) (at_is.address + i * each) 1 (omega arith) there_to
           (part_standing x g item_here rest y to from i there named_from e as_base)
-          (leads_on x (all_sites x g item_here rest y) g.call.site g.world g.call.temps (with_place to g.call.temps (deeper_in g.call.temps there i))
+          (leads_on x (all_sites x g item_here rest y) g.call.site g.ground g.world g.call.temps (with_place to g.call.temps (deeper_in g.call.temps there i))
           (λ t v h. h) there at_is.address (i * each)
           (looked x.table g.call.site (of_location from)) (looked x.table g.call.site (of_location to)) i step at_is.leads_to)
           (run i less (o.word_is ∙ ap Some (ap word is ∙ wi)) small)
@@ -311,17 +311,15 @@ module _ (x : Basis) (traps : TrapsStop x) (labels : LabelsLead x) (g : Both) (r
           (leads (scene_of (high x.table x.blocks (starts g item_here rest))) to there (to_item (location_at g.call.temps there) (number_of w)))
       by y there e named_from there_to count look as_base w o =
           let v : Value = load g.world (location_at g.call.temps there) in
-          let shaped : has_shape v (row count (looked x.table g.call.site (of_location to))) ≡ true
-          = subst (λ s. has_shape v s ≡ true) look (read_location x g item_here rest y from there named_from e).shaped in
-          let long : length_of v ≡ count = row_length v count (looked x.table g.call.site (of_location to)) shaped in
-          let deep : item_of v (location_at g.call.temps there) (unsigned_abs (number_of w)) ≡ deeper (location_at g.call.temps there)
-          (unsigned_abs (number_of w)) = item_deeper v count (looked x.table g.call.site (of_location to)) (location_at g.call.temps there)
-          (unsigned_abs (number_of w)) shaped in
           where_there x (starts g item_here rest) rest (is_seen g.world (location_at g.call.temps there))
           (λ b. leads (scene_of (high x.table x.blocks (starts g item_here rest))) to there
           (costs 1 (unless_gone b (deeds.branch (inside (number_of w) (length_of v))
           (give (item_of v (location_at g.call.temps there) (unsigned_abs (number_of w)))) (stop IndexOutOfBounds))))) (λ before. tt)
-          (λ seen. subst (λ n. Settles x (starts g item_here rest) rest (leads (scene_of (high x.table x.blocks (starts g item_here rest))) to there
+          (λ seen. let r = read_row x g item_here rest y from there named_from e count (looked x.table g.call.site (of_location to)) look (λ o b. seen) in
+          let long : length_of v ≡ count = ap length_of r.is ∙ r.long in
+          let deep : item_of v (location_at g.call.temps there) (unsigned_abs (number_of w)) ≡ deeper (location_at g.call.temps there)
+          (unsigned_abs (number_of w)) = ap (λ u. item_of u (location_at g.call.temps there) (unsigned_abs (number_of w))) r.is in
+          subst (λ n. Settles x (starts g item_here rest) rest (leads (scene_of (high x.table x.blocks (starts g item_here rest))) to there
           (costs 1 (deeds.branch (inside (number_of w) n)
           (give (item_of v (location_at g.call.temps there) (unsigned_abs (number_of w)))) (stop IndexOutOfBounds))))) (sym long)
           (subst (λ l. Settles x (starts g item_here rest) rest (leads (scene_of (high x.table x.blocks (starts g item_here rest))) to there

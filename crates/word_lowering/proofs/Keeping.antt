@@ -18,6 +18,7 @@ use Rattle.word_code.proofs.ForCallers.{Apart, SameOutside}
 use Rattle.word_code.specs.Words.{Vars}
 use Rattle.flat_code.specs.Scene.{Where, Located, Within, Temps}
 use Rattle.flat_code.specs.Shapes.{Shape}
+use Rattle.word_lowering.proofs.BlockPaths.{leads_later}
 use Rattle.word_lowering.proofs.ShapeFacts.{never}
 use Rattle.word_lowering.specs.declared.homes.TheConstants.{LEFT}
 use Rattle.word_lowering.specs.declared.homes.Alias.{Alias}
@@ -98,12 +99,12 @@ later_ground ground = record { blocks = later_same ground.blocks; fixed = refl }
 
 -- ---- memory beside a change
 
--- words before an address that don't overlap a range are still there
-abbrev pub StillBefore : (end : ℕ) (m m' : Memory) (at n : ℕ) → Type 0
-StillBefore end m m' at n = (a w : ℕ) → a + 4 ≤ end → Apart a at n → number_at m a Word ≡ Ok w → number_at m' a Word ≡ Ok w
+-- words of places, before an address, that don't overlap a range are still there
+abbrev pub StillBefore : (Is : ℕ → Type 0) (end : ℕ) (m m' : Memory) (at n : ℕ) → Type 0
+StillBefore Is end m m' at n = (a w : ℕ) → Is a → a + 4 ≤ end → Apart a at n → number_at m a Word ≡ Ok w → number_at m' a Word ≡ Ok w
 
-pub outside_still : (end : ℕ) (m m' : Memory) (at n : ℕ) → SameOutside m m' at n → StillBefore end m m' at n
-outside_still end m m' at n outside a w before apart read = outside a apart ∙ read
+pub outside_still : (Is : ℕ → Type 0) (end : ℕ) (m m' : Memory) (at n : ℕ) → SameOutside m m' at n → StillBefore Is end m m' at n
+outside_still Is end m m' at n outside a w place before apart read = outside a apart ∙ read
 
 pub at_beside : (m m' : Memory) (at n a : ℕ) (x : Value) → SameOutside m m' at n → Beside a (bytes x) at n → IsAt m a x → IsAt m' a x
 at_beside m m' at n a x outside apart is =
@@ -218,7 +219,7 @@ module _ (table : List TypeDef) (blocks : Code BlockLine) (small : data_end tabl
   -- places of these calls may change, come or go.
   pub data Edit (m m' : Memory) : Type 0 where
     nowhere : m ≡ m' → Edit m m'
-    somewhere : (at n : ℕ) → StillBefore (next_base sites) m m' at n → AmongSites lo sites → IsThere lo e → InMemory (house lo e).home
+    somewhere : (at n : ℕ) → StillBefore (IsPlace table blocks) (next_base sites) m m' at n → AmongSites lo sites → IsThere lo e → InMemory (house lo e).home
         → address_of lo.base (house lo e).home ≤ at → at + n ≤ address_of lo.base (house lo e).home + (house lo e).bytes → Edit m m'
     beyond : ((a w : ℕ) → a + 4 ≤ next_base sites → number_at m a Word ≡ Ok w → number_at m' a Word ≡ Ok w) → Edit m m'
     aside : ((a : ℕ) → IsPlace table blocks a → number_at m' a Word ≡ number_at m a Word) → Edit m m'
@@ -259,7 +260,8 @@ module _ (table : List TypeDef) (blocks : Code BlockLine) (small : data_end tabl
     pub item : (x : Value) → IsThere c.site e → HasValue w c e x → IsItem table k c e x
     pub text : (t behind bytes : ℕ) (x : Value) → of_value t ≡ e → (house c.site (of_value t)).alias ≡ alias.Text behind bytes
         → c.temps.values t ≡ Some x → IsLiteral c.site.body behind bytes x
-    pub led : (t : ℕ) (there : Where) → of_location t ≡ e → IsNamed c.site (of_location t) → c.temps.places t ≡ Some there → IsLed table blocks from w c t there
+    pub led : (t : ℕ) (there : Where) → of_location t ≡ e → IsNamed c.site (of_location t) → c.temps.places t ≡ Some there →
+        IsLed table blocks from k.ground w c t there
     pub filled : (n : ℕ) → of_place n ≡ e → Filled w c.site.level n → IsFilled table from w c n
 
   module _ (k k' : Store) (edit : Edit k.memory k'.memory) (later : IsLater k.ground k'.ground) (w w' : World) (worlds : Worlds w w') where
@@ -288,7 +290,7 @@ module _ (table : List TypeDef) (blocks : Code BlockLine) (small : data_end tabl
         by (nowhere is) o w inner whole read = subst (λ m. number_at m (address_of s.base (house s f).home + o) Word ≡ Ok w) is read
         by (somewhere a n still j there within low high) o w inner whole read =
             let end = before_next range in
-            still (address_of s.base (house s f).home + o) w (omega (arith, end, inner))
+            still (address_of s.base (house s f).home + o) w (place_in range o inner) (omega (arith, end, inner))
             (apart (ranges_apart table blocks small sites s lo f e linked i j y there inside within away)) read
           where
             apart : Beside (address_of s.base (house s f).home) (house s f).bytes (address_of lo.base (house lo e).home) (house lo e).bytes
@@ -349,11 +351,18 @@ module _ (table : List TypeDef) (blocks : Code BlockLine) (small : data_end tabl
 
     leads_kept : (from : List Site) → ((r : Site) → AmongSites r from → AmongSites r sites) → (s : Site) (temps temps' : Temps) (vars vars' : Vars)
         → Kept s temps temps' vars vars'
-        → (there : Where) (a : ℕ) (t : Shape) → Leads table blocks from w s temps there a t → Leads table blocks from w' s temps' there a t
-    leads_kept from up s temps temps' vars vars' k (Located location) a t (inl x) = inl (from_kept from up location a t x)
-    leads_kept from up s temps temps' vars vars' k (Located location) a t (inr x) = inr x
-    leads_kept from up s temps temps' vars vars' k (Within temp path) a t x =
-        let y = k.still temp x.value x.has in
+        → (there : Where) (a : ℕ) (t : Shape) → Leads table blocks from k.ground w s temps there a t
+        → Leads table blocks from k'.ground w' s temps' there a t
+    leads_kept from up s temps temps' vars vars' kept (Located location) a t (inl x) = inl (from_kept from up location a t x)
+    leads_kept from up s temps temps' vars vars' kept (Located location) a t (inr (inl x)) = inr (inl x)
+    leads_kept from up s temps temps' vars vars' kept (Located location) a t (inr (inr x)) = inr (inr (record {
+      block = x.block;
+      base = x.base;
+      leads = leads_later k.ground.blocks k'.ground.blocks later.blocks x.block location.path a t x.leads;
+      near = x.near;
+    }))
+    leads_kept from up s temps temps' vars vars' kept (Within temp path) a t x =
+        let y = kept.still temp x.value x.has in
         record {
           there = x.there;
           home = x.home;
@@ -380,18 +389,19 @@ module _ (table : List TypeDef) (blocks : Code BlockLine) (small : data_end tabl
 
     led_kept : (from : List Site) → ((r : Site) → AmongSites r from → AmongSites r sites) → (s : Site) (temps temps' : Temps) (vars vars' : Vars)
         → AmongSites s sites → Kept s temps temps' vars vars' → (t : ℕ) (there : Where) → IsNamed s (of_location t) → Away s (of_location t)
-        → IsLed table blocks from w (call s temps vars) t there → IsLed table blocks from w' (call s temps' vars') t there
-    led_kept from up s temps temps' vars vars' i k t there named away led = by (house s (of_location t)).alias refl led
+        → IsLed table blocks from k.ground w (call s temps vars) t there
+        → IsLed table blocks from k'.ground w' (call s temps' vars') t there
+    led_kept from up s temps temps' vars vars' i kept t there named away led = by (house s (of_location t)).alias refl led
       where
-        by : (a : Alias) → (house s (of_location t)).alias ≡ a → IsLedBy table blocks a from w (call s temps vars) t there
-            → IsLedBy table blocks a from w' (call s temps' vars') t there
+        by : (a : Alias) → (house s (of_location t)).alias ≡ a → IsLedBy table blocks a from k.ground w (call s temps vars) t there
+            → IsLedBy table blocks a from k'.ground w' (call s temps' vars') t there
         by alias.Own own x = record {
           standing = x.standing;
           address = x.address;
-          holds = variable_kept s temps temps' vars vars' (of_location t) x.address i k away
+          holds = variable_kept s temps temps' vars vars' (of_location t) x.address i kept away
               (record { among = named.among; number = named.number; kind = named.kind; own = own })
               (location_address (house s (of_location t)).kind named.kind) x.holds;
-          leads = leads_kept from up s temps temps' vars vars' k there x.address (looked table s (of_location t)) x.leads;
+          leads = leads_kept from up s temps temps' vars vars' kept there x.address (looked table s (of_location t)) x.leads;
         }
         by (alias.Place p global) e x = record {
           site = x.site;
@@ -401,7 +411,7 @@ module _ (table : List TypeDef) (blocks : Code BlockLine) (small : data_end tabl
           filled = worlds.more x.site p (up x.site x.among) x.is_there x.filled;
           is = x.is ∙ ap Located (sym (worlds.roots x.site p (up x.site x.among) x.is_there x.filled));
         }
-        by (alias.Value u) e x = let y = k.still u x.value x.has in record { is = x.is; value = y.0; has = y.1 }
+        by (alias.Value u) e x = let y = kept.still u x.value x.has in record { is = x.is; value = y.0; has = y.1 }
         by (alias.Text behind size) e x = absurd x
 
     pub holding_kept : (from : List Site) (s : Site) (temps temps' : Temps) (vars vars' : Vars) → AmongSites s sites
@@ -437,10 +447,11 @@ module _ (table : List TypeDef) (blocks : Code BlockLine) (small : data_end tabl
             by (inl y) = (new y.0).text t behind bytes x y.1 text h
             by (inr away) = old.texts t behind bytes x named text (sym (kept.texts t behind bytes named text away) ∙ h)
 
-        led : (t : ℕ) (there : Where) → IsNamed s (of_location t) → temps'.places t ≡ Some there → IsLed table blocks from w' (call s temps' vars') t there
+        led : (t : ℕ) (there : Where) → IsNamed s (of_location t) → temps'.places t ≡ Some there →
+            IsLed table blocks from k'.ground w' (call s temps' vars') t there
         led t there named h = by (away_cases s (of_location t))
           where
-            by : ((s.level ≡ lo.level) × (of_location t ≡ e)) ⊎ Away s (of_location t) → IsLed table blocks from w' (call s temps' vars') t there
+            by : ((s.level ≡ lo.level) × (of_location t ≡ e)) ⊎ Away s (of_location t) → IsLed table blocks from k'.ground w' (call s temps' vars') t there
             by (inl y) = (new y.0).led t there y.1 named h
             by (inr away) = led_kept from up s temps temps' vars vars' i kept t there named away (old.led t there named (sym (kept.places t away) ∙ h))
 

@@ -17,30 +17,41 @@ use Rattle.flat_code.specs.Whole.{label_in}
 use Rattle.word_lowering.specs.declared.homes.Housed.{Housed}
 use Rattle.word_lowering.specs.Layouts.{result_in}
 use Rattle.word_lowering.specs.Spots.{spot_of}
+use Rattle.word_code.specs.declared.word.WordInstr.TheVariants.{Constant}
 use Rattle.word_lowering.specs.LineCode as code
 use Rattle.word_lowering.specs.LineCode.{Around, arguments_of, label_before}
-use Rattle.word_lowering.specs.Lowered.{result_cleared, code_of, last_code, any_branches}
+use Rattle.word_lowering.specs.Lowered.{result_cleared, begin_code, code_of, last_code, any_branches}
+use Rattle.word_lowering.specs.WaitingCode.{none_code}
+use Rattle.word_lowering.specs.declared.homes.Layout.{Layout}
+use Rattle.word_lowering.specs.declared.homes.Waiter.{Waiter}
 use Rattle.word_lowering.proofs.Options.{none_some, some_same}
-use Rattle.word_lowering.proofs.Fronts.{IsFront, front_none, cleared_front}
+use Rattle.word_lowering.proofs.Fronts.{IsFront, front_none, front_more, front_on, cleared_front}
 use Rattle.word_lowering.proofs.LabelFacts.{front_quiet, lines_append, code_from, label_found, own_found, trap_found, any_behind, any_among}
 use Rattle.word_lowering.proofs.Sites.{Body, lines_of, around, word_of, IsBody, sigs, globals_of}
 use Rattle.word_lowering.proofs.Related.{code_last, code_behind, StandAt}
 
--- ---- all lines of a procedure: first its result is cleared
+-- ---- all lines of a procedure: first its result is cleared, and nothing waits
 
 result_front : (own : ℕ) (r : Option Housed) → IsFront own 0 (result_cleared r)
 result_front own None = front_none own 0
 result_front own (Some r) = cleared_front own 0 r.is_word r.bytes (spot_of r)
 
+none_front : (own : ℕ) (ws : List Waiter) → IsFront own 0 (none_code ws)
+none_front own [] = front_none own 0
+none_front own (w ∷ ws) = front_more own 0 (Constant w.variable 0) (none_code ws) refl (none_front own ws)
+
+begin_front : (own : ℕ) (l : Layout) → IsFront own 0 (begin_code l)
+begin_front own l = front_on own 0 (result_cleared (result_in l.all)) (none_code l.waiters) (result_front own (result_in l.all)) (none_front own l.waiters)
+
 module _ (x : Around) (lines : List Line) where
   -- without what stands at the end
   abbrev pub first_lines : List WordInstr
-  first_lines = result_cleared (result_in x.own.all) (code.lines_code x lines [])
+  first_lines = begin_code x.own (code.lines_code x lines [])
 
-  pub code_is : code_of x lines ≡ result_cleared (result_in x.own.all) (code.lines_code x lines (last_code first_lines))
+  pub code_is : code_of x lines ≡ begin_code x.own (code.lines_code x lines (last_code first_lines))
   code_is =
-      let r = result_front 0 (result_in x.own.all) in
-      let front : List WordInstr = result_cleared (result_in x.own.all) [] in
+      let r = begin_front 0 x.own in
+      let front : List WordInstr = begin_code x.own [] in
       let last : List WordInstr = last_code first_lines in
       ap (λ l. l ++ last) (r.is (code.lines_code x lines []))
       ∙ append_assoc front (code.lines_code x lines []) last
@@ -51,13 +62,13 @@ module _ (x : Around) (lines : List Line) where
   body_found : (n : ℕ) → from_label n (code_of x lines) ≡ from_label n (code.lines_code x lines (last_code first_lines))
   body_found n =
       ap (from_label n) code_is
-      ∙ front_quiet (suc n) 0 n (λ i few e. absurd (omega (arith, e))) (result_cleared (result_in x.own.all)) (result_front (suc n) (result_in x.own.all))
+      ∙ front_quiet (suc n) 0 n (λ i few e. absurd (omega (arith, e))) (begin_code x.own) (begin_front (suc n) x.own)
       (code.lines_code x lines (last_code first_lines))
 
   pub first_branches : (n : ℕ) → any_branches n (code.lines_code x lines []) ≡ true → any_branches n first_lines ≡ true
   first_branches n h =
-      ap (any_branches n) ((result_front 0 (result_in x.own.all)).is (code.lines_code x lines []))
-      ∙ any_behind n (result_cleared (result_in x.own.all) []) (code.lines_code x lines []) h
+      ap (any_branches n) ((begin_front 0 x.own).is (code.lines_code x lines []))
+      ∙ any_behind n (begin_code x.own []) (code.lines_code x lines []) h
 
 map_append : (before rest : List BlockLine) → map block_plain (before ++ rest) ≡ map block_plain before ++ map block_plain rest
 map_append [] rest = refl

@@ -7,10 +7,10 @@ use Rattle.flat_code.specs.declared.block.BlockLine.{BlockLine}
 use Rattle.flat_code.specs.declared.code.Code.{Code}
 use Rattle.flat_code.specs.Codes.{block_plain}
 use Rattle.flat_code.specs.Sizes.{code_texts, distinct_texts}
-use Rattle.word_code.specs.declared.word.WordCode.{WordCode}
 use Rattle.word_lowering.specs.declared.texts.TheConstants.{FIXED_BYTES}
 use Rattle.word_lowering.specs.declared.may_lower.TheConstants.{MOST_DATA}
 use Rattle.word_lowering.specs.Texts.{padded, all_names, joined_all, ends_from, texts_at, laid_texts, place_among, or_zero}
+use Rattle.word_lowering.specs.Runtimes.{Runtimes}
 use Rattle.word_lowering.proofs.DistinctTexts.{is_laid, unique_has}
 use Rattle.word_lowering.proofs.FirstMemory.{own, own_is, globals, fixed, behind, pad}
 use Rattle.word_lowering.proofs.FirstNames.{ends_length, behind_is}
@@ -33,7 +33,7 @@ module _ (table : List TypeDef) (blocks : Code BlockLine) where
     pub at_word : laid_at text % 4 ≡ 0
     pub behind_globals : globals table blocks ≤ laid_at text
 
-  module _ (runtime : WordCode) (heap stack : ℕ) (least : FIXED_BYTES ≤ globals table blocks) (whole : globals table blocks % 4 ≡ 0)
+  module _ (runtime : Runtimes) (heap stack : ℕ) (least : FIXED_BYTES ≤ globals table blocks) (whole : globals table blocks % 4 ≡ 0)
       (most : length (own table blocks) ≤ MOST_DATA) where
     pub laid_there : (text : List ℕ) → is_member same_text (code_texts block_plain blocks.procs) text ≡ true → LaidAt text
     laid_there text among =

@@ -22,6 +22,7 @@ use Rattle.nim_meaning.specs.Deeds.{Answers}
 use Rattle.nim_program.specs.Kinds.{is_of}
 use Rattle.nim_types.specs.Types.{Ty}
 use Rattle.word_code.proofs.ForCallers.{at, none}
+use Rattle.word_lowering.proofs.HeapKept.{heap_same}
 use Rattle.word_lowering.proofs.ControlLines.{FollowedHere, plain}
 use Rattle.word_lowering.proofs.Keeping.{nowhere, Kept, New, call, location_no_place, value_no_location, worlds_same}
 use Rattle.word_lowering.proofs.LineFits.{are_of}
@@ -62,7 +63,7 @@ module _ (x : Basis) (g : Both) (line : BlockLine) (rest : List BlockLine) (y : 
   module _ (to : ℕ) (there : Where) (vars : Vars)
       (others : (f : Name) (u : ℕ) → IsThere g.call.site f → f ≢ of_location to → (house g.call.site f).home ≡ Variable u → vars u ≡ g.call.vars u)
       (left : vars LEFT ≡ g.call.vars LEFT)
-      (leads_to : IsLed x.table x.blocks (all_sites x g line rest y) g.world (call g.call.site (with_place to g.call.temps there) vars) to there) where
+      (leads_to : IsLed x.table x.blocks (all_sites x g line rest y) g.ground g.world (call g.call.site (with_place to g.call.temps there) vars) to there) where
     abbrev led_temps : Temps
     led_temps = with_place to g.call.temps there
 
@@ -89,9 +90,10 @@ module _ (x : Basis) (g : Both) (line : BlockLine) (rest : List BlockLine) (y : 
     led_new = record {
       item = λ u i h. absurd h;
       text = λ u n k w e a h. absurd (value_no_location u to e);
-      led = λ u other e n h. subst (λ k. IsLed x.table x.blocks (all_sites x g line rest y) g.world (call g.call.site led_temps vars) k other)
+      led = λ u other e n h. subst (λ k. IsLed x.table x.blocks (all_sites x g line rest y) g.ground g.world (call g.call.site led_temps vars) k other)
           (sym (ap number_in e))
-          (subst (IsLed x.table x.blocks (all_sites x g line rest y) g.world (call g.call.site led_temps vars) to) (same u other (ap number_in e) h) leads_to);
+          (subst (IsLed x.table x.blocks (all_sites x g line rest y) g.ground g.world (call g.call.site led_temps vars) to) (same u other (ap number_in e) h)
+          leads_to);
       filled = λ n e h. absurd (location_no_place to n (sym e));
     }
       where
@@ -102,19 +104,20 @@ module _ (x : Basis) (g : Both) (line : BlockLine) (rest : List BlockLine) (y : 
         → IsGood x (changed g after led_temps vars g.memory g.words g.awaits g.world)
     good_led after stands =
         good_changed x g line rest y after g.call.site (of_location to) led_temps vars g.memory g.words g.awaits g.world
-        y.memory (nowhere refl)
+        y.memory (heap_same g.memory) (refl, refl) (nowhere refl)
         (worlds_same x.table x.blocks x.small (all_sites x g line rest y) y.linked g.call.site (of_location to) g.world)
         led_kept (λ e. led_new) (λ c from i e. absurd (waits_below x g line rest y c i e)) y.frames y.levels stands
 
   -- without code, as another name
   pub named_settles : (to : ℕ) (there : Where) (a : Alias) (work : ℕ) → (house g.call.site (of_location to)).alias ≡ a
-      → IsLedBy x.table x.blocks a (all_sites x g line rest y) g.world (call g.call.site (with_place to g.call.temps there) g.call.vars) to there
+      → IsLedBy x.table x.blocks a (all_sites x g line rest y) g.ground g.world (call g.call.site (with_place to g.call.temps there) g.call.vars) to there
       → code_here x g line rest y ≡ code_next x g line rest y
       → Settles x (starts g line rest) rest (Passes (Answers [] work (with_place to g.call.temps there) g.world))
   named_settles to there a work is r none =
       stays_on x (starts g line rest) (changed g rest (with_place to g.call.temps there) g.call.vars g.memory g.words g.awaits g.world) rest
       (good_led to there g.call.vars (λ f u other ne home. refl) refl
-      (subst (λ b. IsLedBy x.table x.blocks b (all_sites x g line rest y) g.world (call g.call.site (with_place to g.call.temps there) g.call.vars) to there)
+      (subst (λ b. IsLedBy x.table x.blocks b (all_sites x g line rest y) g.ground g.world (call g.call.site (with_place to g.call.temps there) g.call.vars)
+      to there)
       (sym is) r) rest (stands_next x.table x.blocks (body_of g) line rest y.stands))
       work (with_place to g.call.temps there) g.world (ap (λ k. at (within x.table x.blocks g) g.memory k g.call.vars g.words) (sym none)) refl
       (omega arith)

@@ -6,11 +6,16 @@ mod ApplyFits
 mod Arguments
 mod Arithmetic
 mod BasisOf
+mod BaseValues
 mod BitFacts
+mod BlockPaths
+mod BlockHomes
 mod Blocks
+mod BlockLists
 mod BlocksBorn
 mod BlocksFollowed
 mod Bounded
+mod BlocksKept
 mod Bodies
 mod CallBranches
 mod CallLabels
@@ -20,6 +25,7 @@ mod CallRooms
 mod Callees
 mod CallerGets
 mod CallersHold
+mod CarriedBeside
 mod CaseLines
 mod CheckRuns
 mod Clears
@@ -53,11 +59,17 @@ mod FirstWrites
 pub mod ForCallers
 mod Frames
 mod Fronts
+mod FullValues
 mod Gets
 mod GivenLines
 mod HandRuns
 mod HandedLines
 mod HandedPlaces
+mod HeapChanged
+mod HeapKept
+mod OpenCells
+mod BlocksRead
+mod HeapsThen
 mod HeapLines
 mod HomesApart
 mod InMemory
@@ -82,6 +94,7 @@ mod MovedLines
 mod Moves
 mod NamedCode
 mod NamedLines
+mod JoinedRoutines
 mod NamedProcs
 mod NamesRoom
 mod NewCalls
@@ -140,6 +153,7 @@ mod StartPair
 mod StartState
 mod StoreLines
 mod StoredLater
+mod StoredParts
 mod Stores
 mod SwapLines
 mod SwapRuns
@@ -159,3 +173,4 @@ mod ValueFacts
 mod WholeCode
 mod WriteLines
 mod WrittenLines
+mod WaiterHomes

@@ -38,11 +38,9 @@ use Rattle.word_code.specs.declared.word.TheConstants.{SPARE_ROOM}
 use Rattle.word_code.specs.declared.word.WordProc.{WordProc}
 use Rattle.rv32_isa.specs.declared.micro_op.Size.TheVariants.{Byte}
 use Rattle.word_code.specs.declared.routine.TheConstants.{SCRATCH_BYTES}
-use Rattle.word_code.specs.declared.word.WordCode.{WordCode}
-use Rattle.word_code.specs.Joined.{joined}
 use Rattle.word_code.specs.Routines.{HasData, IsKept}
 use Rattle.word_code.specs.RoutineTable.{RoutineName, Copies, Clears, Swaps, routine}
-use Rattle.word_code.specs.Memory.{Memory, as_state, may_put, own_data_at}
+use Rattle.word_code.specs.Memory.{Memory, as_state, may_put}
 use Rattle.word_code.specs.Words.{Vars, WordState, step, Fresh, step_of}
 use Rattle.word_code.specs.Words.{spent, scene_of, onward as word_onward, does as word_does, settled as word_settled, Spends as WordSpends}
 use Rattle.word_code.proofs.ForCallers.{MemoryLaw, Runs, at, one, then_runs}
@@ -59,16 +57,20 @@ use Rattle.word_lowering.specs.declared.homes.Home.TheVariants.{Variable}
 use Rattle.word_lowering.specs.declared.texts.TheConstants.{FIXED_BYTES}
 use Rattle.word_lowering.specs.declared.may_lower.TheConstants.{MOST_DATA}
 use Rattle.word_lowering.specs.LineCode.{variable_in}
-use Rattle.word_lowering.specs.Lowered.{lowered}
+use Rattle.word_lowering.specs.Lowered.{data_at, lowered}
+use Rattle.word_lowering.specs.Runtimes.{Runtimes, with_runtimes}
 use Rattle.word_lowering.proofs.RoutineCalls.{Reaches}
 use Rattle.word_lowering.proofs.Sites.{Body, room, Housing, in_variable, by_address, in_places, in_data, InMemory, Site, AmongSites, next_base, data_end}
 use Rattle.word_lowering.proofs.Sites.{Linked, sigs, globals_of}
-use Rattle.word_lowering.proofs.Scenes.{Name, of_value, Call, site_of, house, IsThere, Holding}
+use Rattle.word_lowering.proofs.Blocks.{HasHeap}
+use Rattle.word_lowering.proofs.HeapKept.{SameHeap, heap_then}
+use Rattle.word_lowering.proofs.Scenes.{Ground, is_fixed, IsLater, Name, of_value, Call, site_of, house, IsThere, Holding}
 use Rattle.word_lowering.proofs.SitesApart.{houses, site_at}
 use Rattle.word_lowering.proofs.Keeping.{AmongCalls, call, Edit, nowhere, Worlds, worlds_same, Kept, New, holding_kept, all_kept, later_ground}
 use Rattle.word_lowering.proofs.OrdinalRuns.{AllSame}
 use Rattle.word_lowering.proofs.Callees.{Callee}
-use Rattle.word_lowering.proofs.Related.{Both, body_of, called_by, sites_of, with_rest, with_units, procs, low, high, within as call_within, IsClosed, routines, MemoryGood}
+use Rattle.word_lowering.proofs.Related.{Both, body_of, called_by, sites_of, with_rest, with_units, procs, low, high, within as call_within, IsClosed, routines}
+use Rattle.word_lowering.proofs.Related.{MemoryGood}
 use Rattle.word_lowering.proofs.Related.{StandAt, AllFrames, Good, StandsThere, store_of, store_with}
 use Rattle.rv32_isa.specs.Regions.{KeepsSizes}
 use Rattle.arc_base.proofs.ForCallers.{steps_none, steps_one, steps_on}
@@ -132,24 +134,24 @@ pub record Basis : Type 0 where
   -- procedures that may be called
   pub callees : (proc : ℕ) (s : Signature) → slice_get (sigs table blocks) proc ≡ Some s → Callee table blocks proc s
   -- routines keep what they promise, and have their data at the start
-  pub runtime : WordCode
-  pub kept : (name : RoutineName) → IsKept live (joined (lowered table blocks) runtime).procs (routines table blocks) runtime.statics
+  pub runtimes : Runtimes
+  pub kept : (name : RoutineName) → IsKept live (with_runtimes runtimes (lowered table blocks)).procs (routines table blocks) runtimes.others.statics
       (routine (routines table blocks) name)
-  pub given : (places : List ℕ) → HasData (routines table blocks) runtime.statics (record first { places = places })
+  pub given : (places : List ℕ) → HasData (routines table blocks) runtimes.others.statics (record first { places = places })
   pub globals_inside : data_end table blocks ≤ length (lowered table blocks).statics
   pub data_most : length (lowered table blocks).statics ≤ MOST_DATA
-  pub given_closed : IsClosed table blocks (routines table blocks + SCRATCH_BYTES) (length (drop SCRATCH_BYTES runtime.statics))
+  pub given_closed : IsClosed table blocks (routines table blocks + SCRATCH_BYTES) (length (drop SCRATCH_BYTES runtimes.others.statics))
   -- the constants that stand in the data
   pub constants : (pieces : List Piece) → AllSmall (piece_words pieces)
       → is_member same_text (code_texts block_plain blocks.procs) (standing_bytes pieces) ≡ true → StandsThere table blocks first pieces
   -- a character may be put at the front of the data
-  pub letter : (places : List ℕ) → may_put (record first { places = places }) own_data_at Byte ≡ true
+  pub letter : (places : List ℕ) → may_put (record first { places = places }) data_at Byte ≡ true
 
 -- a program's procedures and those of routines
 abbrev pub all_procs : Basis → List WordProc
-all_procs x = (joined (lowered x.table x.blocks) x.runtime).procs
+all_procs x = (with_runtimes x.runtimes (lowered x.table x.blocks)).procs
 
-abbrev pub reaches : (x : Basis) → Reaches x.live (all_procs x) (routines x.table x.blocks) x.runtime.statics
+abbrev pub reaches : (x : Basis) → Reaches x.live (all_procs x) (routines x.table x.blocks) x.runtimes.others.statics
 reaches x = record { copies = x.kept Copies; clears = x.kept Clears; swaps = x.kept Swaps }
 
 -- where memory is good, the data of routines is there, and a character may be put
@@ -161,17 +163,17 @@ module _ (x : Basis) (sites : List Site) (m : Memory) (good : MemoryGood x.table
   pub same_sizes : KeepsSizes (as_state with_these) (as_state m)
   same_sizes = record { regs = refl; pc = refl; code = refl; statics = good.statics; heap = good.heap; stack = refl }
 
-  pub data_there : HasData (routines x.table x.blocks) x.runtime.statics m
+  pub data_there : HasData (routines x.table x.blocks) x.runtimes.others.statics m
   data_there =
       let at : ℕ = routines x.table x.blocks in record {
         scratch = x.law.stores (as_state with_these) (as_state m) at SCRATCH_BYTES same_sizes ∙ (x.given m.places).scratch;
-        fixed = good.texts (at + SCRATCH_BYTES) (length (drop SCRATCH_BYTES x.runtime.statics)) (x.given_closed, inr (omega arith))
+        fixed = good.texts (at + SCRATCH_BYTES) (length (drop SCRATCH_BYTES x.runtimes.others.statics)) (x.given_closed, inr (omega arith))
             ∙ (x.given x.first.places).fixed;
       }
 
-  pub letter_there : may_put m own_data_at Byte ≡ true
+  pub letter_there : may_put m data_at Byte ≡ true
   letter_there =
-      ap (λ b. (own_data_at % 1 == 0) && b) (x.law.stores (as_state with_these) (as_state m) own_data_at 1 same_sizes) ∙ x.letter m.places
+      ap (λ b. (data_at % 1 == 0) && b) (x.law.stores (as_state with_these) (as_state m) data_at 1 same_sizes) ∙ x.letter m.places
 
 -- ---- where lines stand
 
@@ -201,6 +203,10 @@ changed g rest temps vars m words awaits w = record {
   waiting = g.waiting;
   ground = g.ground;
 }
+
+-- also with other blocks, and other input
+abbrev pub changed_later : Both → List BlockLine → Temps → Vars → Memory → (words : Vars) → (awaits : ℕ) → World → Ground → List ℕ → Both
+changed_later g rest temps vars m words awaits w ground input = record (changed g rest temps vars m words awaits w) { ground = ground; input = input }
 
 -- with other variables
 abbrev pub with_vars : Both → Vars → Both
@@ -340,6 +346,8 @@ module _ (x : Basis) where
   good_units g units y = record {
     linked = y.linked;
     memory = y.memory;
+    heap = y.heap;
+    input = y.input;
     hold = y.hold;
     frames = y.frames;
     levels = y.levels;
@@ -383,7 +391,8 @@ module _ (x : Basis) where
   pub spends_settles : (g : Both) (rest : List BlockLine) (d : Did) → is_spent d ≡ true → (l : WordInstr) (k : List WordInstr) (vars words : Vars)
       → IsSpending g l k vars words → (n : ℕ) → n ≤ 15 → Runs x.live (all_procs x) n (low x.table x.blocks g) (at_spend g l k vars words)
       → ((units : Option ℕ) → Runs x.live (all_procs x) (n + 1) (low x.table x.blocks g)
-      (at (call_within x.table x.blocks (with_units g units)) g.memory k vars words) → FollowsFrom (low x.table x.blocks g) (with_units g units) (settles g rest d))
+      (at (call_within x.table x.blocks (with_units g units)) g.memory k vars words) →
+      FollowsFrom (low x.table x.blocks g) (with_units g units) (settles g rest d))
       → Settles g rest d
   spends_settles g rest d is l k vars words spending n few runs then =
       subst (λ b. (before : ℕ) → Does machine (AreOf pairs) lines_left 16 (before, low x.table x.blocks g) (going g)
@@ -413,8 +422,40 @@ module _ (x : Basis) where
     abbrev pub all_sites : List Site
     all_sites = sites_of g
 
+    -- blocks may be others then
+    pub good_later : (after : List BlockLine) (lo : Site) (e : Name) (temps : Temps) (vars : Vars) (m : Memory) (words : Vars) (awaits : ℕ) (w : World)
+        (ground : Ground) (input : List ℕ)
+        → MemoryGood x.table x.blocks all_sites x.first m → HasHeap (is_fixed ground) ground.blocks w.heap m → w.input ≡ input → IsLater g.ground ground
+        → Edit x.table x.blocks x.small all_sites y.linked lo e g.memory m
+        → Worlds x.table x.blocks x.small all_sites y.linked lo e g.world w
+        → Kept x.table x.blocks x.small all_sites y.linked lo e g.call.site g.call.temps temps g.call.vars vars
+        → (g.call.site.level ≡ lo.level
+        → New x.table x.blocks x.small all_sites y.linked lo e (record { memory = m; ground = ground }) w all_sites (call g.call.site temps vars))
+        → ((c : Call) (from : List Site) → AmongCalls c (map called_by g.waiting) → c.site.level ≡ lo.level
+        → New x.table x.blocks x.small all_sites y.linked lo e (record { memory = m; ground = ground }) w from c)
+        → AllFrames x.table x.blocks w all_sites → length w.frames ≡ length all_sites → StandAt x.table x.blocks (body_of g) after
+        → IsGood (changed_later g after temps vars m words awaits w ground input)
+    good_later after lo e temps vars m words awaits w ground input memory heap is_input later edit worlds kept new others frames levels stands = record {
+      linked = y.linked;
+      memory = memory;
+      heap = heap;
+      input = is_input;
+      hold = (
+        holding_kept x.table x.blocks x.small all_sites y.linked lo e (store_of g) (record { memory = m; ground = ground }) edit later g.world w worlds
+            all_sites g.call.site g.call.temps temps g.call.vars vars (inl refl) (λ r j. j) kept new y.hold.0,
+        all_kept x.table x.blocks x.small all_sites y.linked lo e (store_of g) (record { memory = m; ground = ground }) edit later g.world w worlds
+            (map called_by g.waiting) (λ s i. inr i) others y.hold.1,
+      );
+      frames = frames;
+      levels = levels;
+      stands = stands;
+      waits = y.waits;
+      answers = y.answers;
+    }
+
+    -- they are as they were, where memory changes beside the heap
     pub good_changed : (after : List BlockLine) (lo : Site) (e : Name) (temps : Temps) (vars : Vars) (m : Memory) (words : Vars) (awaits : ℕ) (w : World)
-        → MemoryGood x.table x.blocks all_sites x.first m
+        → MemoryGood x.table x.blocks all_sites x.first m → SameHeap g.memory m → (w.heap ≡ g.world.heap) × (w.input ≡ g.world.input)
         → Edit x.table x.blocks x.small all_sites y.linked lo e g.memory m
         → Worlds x.table x.blocks x.small all_sites y.linked lo e g.world w
         → Kept x.table x.blocks x.small all_sites y.linked lo e g.call.site g.call.temps temps g.call.vars vars
@@ -423,21 +464,11 @@ module _ (x : Basis) where
         → New x.table x.blocks x.small all_sites y.linked lo e (store_with g m) w from c)
         → AllFrames x.table x.blocks w all_sites → length w.frames ≡ length all_sites → StandAt x.table x.blocks (body_of g) after
         → IsGood (changed g after temps vars m words awaits w)
-    good_changed after lo e temps vars m words awaits w memory edit worlds kept new others frames levels stands = record {
-      linked = y.linked;
-      memory = memory;
-      hold = (
-        holding_kept x.table x.blocks x.small all_sites y.linked lo e (store_of g) (store_with g m) edit (later_ground g.ground) g.world w worlds all_sites g.call.site g.call.temps temps
-            g.call.vars vars (inl refl) (λ r j. j) kept new y.hold.0,
-        all_kept x.table x.blocks x.small all_sites y.linked lo e (store_of g) (store_with g m) edit (later_ground g.ground) g.world w worlds (map called_by g.waiting)
-            (λ s i. inr i) others y.hold.1,
-      );
-      frames = frames;
-      levels = levels;
-      stands = stands;
-      waits = y.waits;
-      answers = y.answers;
-    }
+    good_changed after lo e temps vars m words awaits w memory still same edit worlds kept new others frames levels stands =
+        good_later after lo e temps vars m words awaits w g.ground g.input memory
+        (subst (λ h. HasHeap (is_fixed g.ground) g.ground.blocks h m) (sym same.0)
+        (heap_then (is_fixed g.ground) g.ground.blocks g.world.heap g.memory m y.memory.sized memory.sized still y.heap))
+        (same.1 ∙ y.input) (later_ground g.ground) edit worlds kept new others frames levels stands
 
     -- a call that waits is below the one that runs
     pub waits_below : (c : Call) → AmongCalls c (map called_by g.waiting) → c.site.level ≢ g.call.site.level
@@ -488,6 +519,8 @@ module _ (x : Basis) where
     good_same vars words awaits after same stands = record {
       linked = y.linked;
       memory = y.memory;
+      heap = y.heap;
+      input = y.input;
       hold = (holding_same vars same, y.hold.1);
       frames = y.frames;
       levels = y.levels;

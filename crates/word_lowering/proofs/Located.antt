@@ -2,12 +2,15 @@
 use Rattle.std.proofs.Common.{◌≡◌, ◌⊎◌, inl, inr, ℕ, ◌+◌, ◌-◌, ◌%◌, ◌≤◌, List, [], ◌∷◌, map, Some, true, false, sym, ap, subst, ◌∙◌, arith}
 use Rattle.std.proofs.lemmas.Bool.{cases_Bool}
 use Rattle.nim_meaning.specs.Values.{Value, bytes, Location, Holds, part}
-use Rattle.nim_meaning.specs.State.{World, held, whole_at, load, slot_at}
+use Rattle.nim_meaning.specs.State.{World, held, whole_at, load, slot_at, is_full_at}
 use Rattle.word_code.specs.Memory.{Memory}
 use Rattle.word_code.specs.Words.{Vars}
 use Rattle.flat_code.specs.Scene.{Where, Located, Within, Temps, if_value, location_at}
 use Rattle.flat_code.specs.Shapes.{Shape, has_shape}
 use Rattle.flat_code.specs.Fits.{is_own}
+use Rattle.word_lowering.proofs.Blocks.{HasHeap}
+use Rattle.word_lowering.proofs.BlocksRead.{block_located}
+use Rattle.word_lowering.proofs.Scenes.{is_fixed, IsInBlock}
 use Rattle.word_lowering.proofs.ShapeFacts.{never, of_numbers, bytes_is, values_of_numbers}
 use Rattle.word_lowering.specs.declared.texts.TheConstants.{FIXED_BYTES}
 use Rattle.word_lowering.specs.Layouts.{is_address}
@@ -161,7 +164,8 @@ module _ (x : Basis) (sites : List Site) (linked : Linked x.table x.blocks sites
         (items (of_value temp) v f.there e)) f.home f.leads f.address
 
     -- a part of a constant
-    constant_located : MemoryGood x.table x.blocks sites x.first k.memory → (location : Location) (a : ℕ) (t : Shape) → FromConstant x.table x.blocks location a t
+    constant_located : MemoryGood x.table x.blocks sites x.first k.memory → (location : Location) (a : ℕ) (t : Shape) →
+        FromConstant x.table x.blocks location a t
         → IsReadAt k.memory (load w location) a t
     constant_located good location a t f =
         let v : Value = value_of f.pieces in
@@ -192,12 +196,18 @@ module _ (x : Basis) (sites : List Site) (linked : Linked x.table x.blocks sites
         from_base b low = omega (arith, low)
 
     -- what a line reads at a location
-    pub led_located : MemoryGood x.table x.blocks sites x.first k.memory → (c : Call) → AmongSites c.site sites
+    pub led_located : MemoryGood x.table x.blocks sites x.first k.memory → HasHeap (is_fixed k.ground) k.ground.blocks w.heap k.memory
+        → (c : Call) → AmongSites c.site sites
         → ((f : Name) (v : Value) → IsThere c.site f → HasValue w c f v → IsItem x.table k c f v)
-        → (there : Where) (a : ℕ) (t : Shape) → Leads x.table x.blocks sites w c.site c.temps there a t
+        → (there : Where) (a : ℕ) (t : Shape) → of_numbers t ≡ true
+        → (IsInBlock (location_at c.temps there).base → is_full_at w (location_at c.temps there) ≡ true)
+        → Leads x.table x.blocks sites k.ground w c.site c.temps there a t
         → IsReadAt k.memory (load w (location_at c.temps there)) a t
-    led_located good c i items (Located location) a t (inl l) = read_there m (load w location) a t good (place_located location a t l)
-    led_located good c i items (Located location) a t (inr l) = constant_located good location a t l
-    led_located good c i items (Within temp path) a t l =
+    led_located good has c i items (Located location) a t numbers full (inl l) = read_there m (load w location) a t good (place_located location a t l)
+    led_located good has c i items (Located location) a t numbers full (inr (inl l)) = constant_located good location a t l
+    led_located good has c i items (Located location) a t numbers full (inr (inr l)) =
+        let r = block_located x sites linked k w good has location a t l numbers (full (subst IsInBlock (sym l.base) tt)) in
+        record { is_at = r.is_at; shaped = r.shaped; numbers = numbers; readable = r.readable }
+    led_located good has c i items (Within temp path) a t numbers full l =
         subst (λ o. IsReadAt m (part (if_value o) path) a t) (sym l.has)
         (read_there m (part l.value path) a t good (value_located c temp path a t i items l l.value l.has))

@@ -4,7 +4,7 @@ use Rattle.nim_types.specs.Types.{Ty}
 use Rattle.nim_types.specs.Table.{facts_in}
 use Rattle.nim_program.specs.Ints.{fits as is_int_number}
 use Rattle.flat_code.specs.declared.block.BlockLine.{BlockLine}
-use Rattle.flat_code.specs.Shapes.{shape_of, Shape, has_shape, row}
+use Rattle.flat_code.specs.Shapes.{shape_of, Shape, row}
 use Rattle.word_lowering.specs.declared.homes.Alias.{Alias}
 use Rattle.word_lowering.specs.declared.homes.Alias.TheVariants as alias
 use Rattle.word_lowering.specs.declared.homes.Housed.{Housed}
@@ -13,9 +13,9 @@ use Rattle.flat_code.specs.Scene.{Where, location_at}
 use Rattle.nim_meaning.specs.State.{load}
 use Rattle.nim_meaning.specs.Values.{length_of}
 use Rattle.nim_program.specs.Kinds.{has_length, kind_if}
-use Rattle.word_lowering.proofs.LineFits.{array_shape, row_length, some_kind}
+use Rattle.word_lowering.proofs.LineFits.{array_shape, some_kind}
 use Rattle.word_lowering.proofs.Lines.{Basis, IsGood, all_sites, starts}
-use Rattle.word_lowering.proofs.ReadFacts.{read_location, start_site}
+use Rattle.word_lowering.proofs.ReadFacts.{IsSeenThere, read_row, start_site}
 use Rattle.word_lowering.proofs.Related.{Both, body_of, called_by}
 use Rattle.word_lowering.proofs.Scenes.{IsLedBy, IsNamed, IsThere, house, looked, of_location, of_place, of_value, site_of}
 use Rattle.word_lowering.proofs.ShapeFacts.{of_numbers, shape_bytes}
@@ -47,7 +47,7 @@ module _ (x : Basis) (g : Both) (line : BlockLine) (rest : List BlockLine) (y : 
           subst (λ b. HousedAs (named (around x.table x.blocks (body_of g)) b (house g.call.site (of_location t))) (own_type t)) (sym is) h
 
       by : (a : Alias) → (house g.call.site (of_location t)).alias ≡ a
-          → IsLedBy x.table x.blocks a (all_sites x g line rest y) g.world g.call t there
+          → IsLedBy x.table x.blocks a (all_sites x g line rest y) g.ground g.world g.call t there
           → HousedAs (location (around x.table x.blocks (body_of g)) t) (own_type t)
       by alias.Own is r =
           let there_is : IsThere g.call.site (of_location t) = record { among = n.among; number = n.number; kind = n.kind; own = is } in
@@ -94,7 +94,7 @@ module _ (x : Basis) (g : Both) (line : BlockLine) (rest : List BlockLine) (y : 
     pub look : looked x.table g.call.site (of_location from) ≡ row count of
     pub count_is : count_in (entry_at x.table (location (around x.table x.blocks (body_of g)) from).ty) ≡ count
     pub bytes_is : 0 < count → element_bytes x.table (entry_at x.table (location (around x.table x.blocks (body_of g)) from).ty) ≡ shape_bytes of
-    pub long : length_of (load g.world (location_at g.call.temps there)) ≡ count
+    pub long : IsSeenThere x g line rest y from there → length_of (load g.world (location_at g.call.temps there)) ≡ count
 
   pub row_at : (from : ℕ) (there : Where) → has_length (kind_if (facts_in x.table) (type_in x is_location (body_of g) from)) ≡ true
       → g.call.temps.places from ≡ Some there → RowAt from there
@@ -104,7 +104,6 @@ module _ (x : Basis) (g : Both) (line : BlockLine) (rest : List BlockLine) (y : 
       let r = array_shape (facts_in x.table) s.0 s.2 (sym (ap of_numbers p.look) ∙ location_of_numbers x g.call.site from y.linked.0 p.named) in
       let h = location_house from there p.named e in
       let rows = h.housed.rows r.count r.of (ap (shape_of (facts_in x.table)) h.typed ∙ (p.look ∙ r.is)) in
-      let v = read_location x g line rest y from there p.named e in
       record {
         count = r.count;
         of = r.of;
@@ -116,6 +115,5 @@ module _ (x : Basis) (g : Both) (line : BlockLine) (rest : List BlockLine) (y : 
         look = p.look ∙ r.is;
         count_is = rows.0;
         bytes_is = rows.1;
-        long = row_length (load g.world (location_at g.call.temps there)) r.count r.of
-            (subst (λ z. has_shape (load g.world (location_at g.call.temps there)) z ≡ true) (p.look ∙ r.is) v.shaped);
+        long = λ seen. let v = read_row x g line rest y from there p.named e r.count r.of (p.look ∙ r.is) seen in ap length_of v.is ∙ v.long;
       }

@@ -33,6 +33,7 @@ use Rattle.word_code.proofs.ForCallers.{Changed, at, none as no_run, run_label}
 use Rattle.word_lowering.specs.declared.homes.Housed.{Housed}
 use Rattle.word_lowering.specs.Layouts.{is_address}
 use Rattle.word_lowering.specs.LineCode.{operands, parts_code}
+use Rattle.word_lowering.proofs.HeapKept.{heap_same}
 use Rattle.word_lowering.proofs.AddressFacts.{in_memory}
 use Rattle.word_lowering.proofs.AllOperands.{Have, using_all_settles}
 use Rattle.word_lowering.proofs.ApplyFits.{applies, RowHere}
@@ -203,6 +204,7 @@ module _ (x : Basis) (labels : LabelsLead x) (g : Both) (rest : List BlockLine) 
           words = g.words;
           awaits = g.awaits;
           good = y.memory;
+          heap = heap_same g.memory;
           edit = nowhere refl;
           variables = λ h u i ne is. refl;
           left = refl;

@@ -10,7 +10,7 @@ use Rattle.nim_program.specs.declared.program.Mode.TheVariants.{Plain, Sink, Var
 use Rattle.nim_program.specs.View.{if_type}
 use Rattle.nim_program.specs.Kinds.{is_of}
 use Rattle.nim_meaning.specs.Values.{Value, bytes, Holds}
-use Rattle.nim_meaning.specs.State.{World, is_seen, load, with_slot}
+use Rattle.nim_meaning.specs.State.{World, is_full_at, load, with_slot}
 use Rattle.nim_meaning.specs.Deeds.{Answers, costs, give, unless_gone}
 use Rattle.nim_meaning.specs.Here.{gives_hooked, form_for}
 use Rattle.nim_meaning.specs.Places.{fetched, taken_by, place_at, put}
@@ -188,13 +188,13 @@ module _ (x : Basis) (g : Both) (line : BlockLine) (rest : List BlockLine) (y : 
       (gives (scene_of (high x.table x.blocks (starts g line rest))) to (fetched (location_at g.call.temps there)))
   fetched_settles to ty from there t typed e code =
       let p = pointed x g line rest y from ty typed in
-      let r = read_location x g line rest y from there p.named e in
       let v = load g.world (location_at g.call.temps there) in
-      let some = bytes_some v (values_of_numbers v (shape_of (facts_in x.table) ty) t.numbers (subst (λ s. has_shape v s ≡ true) p.look r.shaped)) in
-      where_there x (starts g line rest) rest (is_seen g.world (location_at g.call.temps there))
+      where_there x (starts g line rest) rest (is_full_at g.world (location_at g.call.temps there))
       (λ b. gives (scene_of (high x.table x.blocks (starts g line rest))) to (unless_gone b (costs (bytes v) (give v)))) (λ before. tt)
-      (λ seen. moved_value to ty v t (subst (λ s. has_shape v s ≡ true) p.look r.shaped) (location (around x.table x.blocks (body_of g)) from) r.all r.read
-      code (bytes v + 0) (omega (arith, some)))
+      (λ seen. let r = read_location x g line rest y from there p.named e (λ o b. seen) in
+      let shaped : has_shape v (shape_of (facts_in x.table) ty) ≡ true = subst (λ s. has_shape v s ≡ true) p.look r.shaped in
+      let some = bytes_some v (values_of_numbers v (shape_of (facts_in x.table) ty) t.numbers shaped) in
+      moved_value to ty v t shaped (location (around x.table x.blocks (body_of g)) from) r.all r.read code (bytes v + 0) (omega (arith, some)))
 
   pub taken_settles : (to : ℕ) (ty : Ty) (o : Option Ty) (how : UseAt) (act : Option Act) (from : ℕ) (there : Where) → Target x g line rest y to ty
       → o ≡ Some ty

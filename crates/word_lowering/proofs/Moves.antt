@@ -12,6 +12,7 @@ use Rattle.word_code.specs.Words.{Vars, no_words, put}
 use Rattle.word_code.specs.RoutineTable.{Cell, Area, Separate}
 use Rattle.word_code.proofs.ForCallers.{MemoryLaw, Sized, put_here, Changed, changed_word}
 use Rattle.word_code.proofs.ForCallers.{Runs, then_runs, Within, at, run_constant, run_copy, run_place, run_datum, run_load, run_store, got}
+use Rattle.heap_memory.specs.declared.numbers.TheConstants.{HEAP_DATA}
 use Rattle.word_lowering.specs.declared.homes.TheConstants.{OWN_FROM, FIRST, SECOND, THIRD}
 use Rattle.word_lowering.specs.declared.homes.Home.{Home}
 use Rattle.word_lowering.specs.declared.homes.Home.TheVariants.{Variable, Placed, Static}
@@ -115,7 +116,7 @@ words_of (suc zero) e h = absurd (omega (arith, h))
 words_of (suc (suc zero)) e h = absurd (omega (arith, h))
 words_of (suc (suc (suc zero))) e h = absurd (omega (arith, h))
 
-module _ (law : MemoryLaw) (live : Lives) (procs : List WordProc) (c : Within) (from_first : c.proc.data_from ≡ 0) (g : Vars) where
+module _ (law : MemoryLaw) (live : Lives) (procs : List WordProc) (c : Within) (from_first : c.proc.data_from ≡ HEAP_DATA) (g : Vars) where
   -- a variable gets the address of a home
   pub address_runs : (m : Memory) (k : List WordInstr) (v : Vars) (to : ℕ) (home : Home) (a : ℕ) → Points c.base v home a
       → Runs live procs 1 (at c m (address to home ∷ k) v g) (at c m k (put v to a) g)

@@ -1,7 +1,7 @@
 -- Procedures of word code are well formed, and have numbers of their own.
-use Rattle.std.proofs.Common.{◌≡◌, ◌⊎◌, inl, inr, ℕ, zero, suc, ◌+◌, ◌%◌, ◌≤◌, ◌<◌, List, [], ◌∷◌, length, map, Bool, true, false}
+use Rattle.std.proofs.Common.{◌≡◌, inl, inr, ℕ, zero, suc, ◌+◌, ◌%◌, ◌≤◌, ◌<◌, List, [], ◌∷◌, length, map, Bool, true, false}
 use Rattle.std.proofs.Common.{not, ◌&&◌, nat_le}
-use Rattle.std.proofs.Common.{Option, Some, None, slice_get, ◌==◌, refl, ap, arith, le_refl}
+use Rattle.std.proofs.Common.{Option, Some, None, slice_get, ◌==◌, refl, ap, arith}
 use Rattle.std.proofs.lemmas.Bool.{and_parts, and_from, or_from, le-leb, leb-true, eq-eqb, ne_eqb}
 use Rattle.nim_types.specs.declared.types.TypeDef.{TypeDef}
 use Rattle.nim_program.specs.Traps.{Trap, Overflow, DivisionByZero, IndexOutOfBounds, OutOfRange, LengthChanged, CallDepth}
@@ -13,29 +13,34 @@ use Rattle.flat_code.specs.declared.code.CodeProc.{CodeProc}
 use Rattle.flat_code.specs.declared.code.Code.{Code}
 use Rattle.word_code.specs.declared.word.WordInstr.{WordInstr}
 use Rattle.word_code.specs.declared.word.WordProc.{WordProc}
-use Rattle.word_code.specs.declared.word.WordCode.{WordCode}
 use Rattle.flat_code.specs.Codes.{block_plain}
 use Rattle.flat_code.specs.Running.{last_of}
-use Rattle.word_code.specs.Joined.{joined, IsFree, AreApart}
+use Rattle.word_code.specs.Joined.{moved, joined, IsFree, AreApart}
 use Rattle.word_code.specs.Runtime.{AreRoutines}
-use Rattle.word_code.specs.Words.{is_kind, is_proc, has_number, are_procs, is_word_code}
+use Rattle.word_code.specs.Words.{is_kind, is_proc, has_number, are_procs, is_word_code, may_start, first_of, from_proc}
 use Rattle.word_code.proofs.ForCallers.{joined_formed}
 use Rattle.word_lowering.specs.declared.homes.TheConstants.{OWN_FROM}
 use Rattle.word_lowering.specs.declared.homes.Housed.{Housed}
 use Rattle.word_lowering.specs.declared.homes.Layout.{Layout}
+use Rattle.word_lowering.specs.declared.homes.Waiter.{Waiter}
 use Rattle.word_code.specs.declared.routine.TheConstants.{PROCS_FROM}
 use Rattle.word_lowering.specs.declared.texts.TheConstants.{FIXED_BYTES}
 use Rattle.word_lowering.specs.declared.may_lower.TheConstants.{MOST_ROOM, MOST_VARS}
-use Rattle.word_lowering.specs.Layouts.{is_empty, free_at, layout_of, layouts, params_in, result_in, kept_in}
+use Rattle.word_lowering.specs.Layouts.{all_housed, behind_all, is_empty, free_at, layout_of, layouts, params_in, result_in, kept_in}
 use Rattle.word_lowering.specs.LineCode.{Around, no_layout, or_none, layout_at, proc_number, lines_code}
 use Rattle.word_lowering.specs.Lowered as code
 use Rattle.word_code.specs.RoutineTable.{trap_number}
 use Rattle.word_lowering.specs.Operations.{trap_label}
 use Rattle.word_lowering.specs.Texts.{texts_in}
+use Rattle.word_lowering.specs.WaitingCode.{none_code}
+use Rattle.word_lowering.specs.Runtimes.{Runtimes, with_runtimes}
 use Rattle.word_lowering.specs.MayLower.{params_lead, all_plain, hook_may, places_may, sizes_may, proc_may, procs_may, may_lower, result_end}
+use Rattle.heap_memory.specs.declared.numbers.TheConstants.{HEAP_DATA}
+use Rattle.word_lowering.proofs.JoinedRoutines.{beyond, both_apart, behind_found, found_own}
 use Rattle.word_lowering.proofs.HomesApart.{Each, each_as, grows_all}
 use Rattle.word_lowering.proofs.LayoutBounds.{IsBelow, IsParamBelow, IsGlobalBelow, IfHoused, bound_more}
 use Rattle.word_lowering.proofs.LayoutBounds.{room_whole, all_below, kept_within, params_below, globals_below, result_each}
+use Rattle.word_lowering.proofs.WaiterHomes.{AreBelow, room_whole_behind, waiters_below, waiters_grow}
 use Rattle.word_lowering.proofs.NamedCode.{AllNamed, none_named, named_true, named_on, spot_below, first_is}
 use Rattle.word_lowering.proofs.NamedCode as named
 use Rattle.word_lowering.proofs.NamedLines.{IsAroundBelow, lines_named}
@@ -47,6 +52,10 @@ module _ (vars : ℕ) (many : OWN_FROM ≤ vars) where
       → AllNamed vars (code.result_cleared result k)
   result_named None h rest = rest
   result_named (Some r) h rest = named.cleared vars many r.is_word r.bytes _ (spot_below vars r h) rest
+
+  none_named_of : (ws : List Waiter) {k : List WordInstr} → AreBelow vars ws → AllNamed vars k → AllNamed vars (none_code ws k)
+  none_named_of [] below rest = rest
+  none_named_of (w ∷ ws) below rest = named.constant vars many below.0 (none_named_of ws below.1 rest)
 
   trap_named : (leads : Bool) (label routine : ℕ) {k : List WordInstr} → AllNamed vars k → AllNamed vars (code.trap_code leads label routine k)
   trap_named true label routine rest = named.label vars many (named.call vars many (first_is vars many) rest)
@@ -60,16 +69,17 @@ module _ (vars : ℕ) (many : OWN_FROM ≤ vars) where
       end_named lines Overflow (end_named lines DivisionByZero (end_named lines IndexOutOfBounds
       (end_named lines OutOfRange (end_named lines LengthChanged (end_named lines CallDepth none_named)))))
 
-  code_named : (x : Around) (lines : List Line) → IsAroundBelow vars x → AllNamed vars (code.code_of x lines)
-  code_named x lines below =
+  code_named : (x : Around) (lines : List Line) → AreBelow vars x.own.waiters → IsAroundBelow vars x → AllNamed vars (code.code_of x lines)
+  code_named x lines waiting below =
       named_on (result_named (result_in x.own.all) (result_each (λ h. IsBelow vars h.home) x.own.all below.own)
-      (lines_named vars many x below lines none_named))
-      (last_named (code.result_cleared (result_in x.own.all) (lines_code x lines [])))
+      (none_named_of x.own.waiters waiting (lines_named vars many x below lines none_named)))
+      (last_named (code.begin_code x.own (lines_code x lines [])))
 
 -- ---- a procedure
 
 pub record IsLaid (own : Layout) : Type 0 where
   pub below : Each (λ h. IsBelow own.free.variable h.home) own.all
+  pub waiting : AreBelow own.free.variable own.waiters
   pub many : OWN_FROM + kept_in (params_in own.all) ≤ own.free.variable
   pub whole : own.free.byte % 4 ≡ 0
 
@@ -77,14 +87,19 @@ pub laid : (table : List TypeDef) (start : Bool) (datum : ℕ) (p : CodeProc Blo
 laid table start datum p =
     let lines : List Line = map block_plain p.lines in
     let grown = (grows_all table start lines (free_at datum) p.places).variable in
+    let homes : List Housed = all_housed table start lines (free_at datum) p.places in
+    let more = (waiters_grow (behind_all table start lines (free_at datum) p.places) homes).variable in
+    let within = kept_within table start lines (free_at datum) p.places in
     record {
-      below = all_below table start lines (free_at datum) p.places _ (omega (arith, grown)) (le_refl _);
-      many = kept_within table start lines (free_at datum) p.places;
-      whole = room_whole table start lines (free_at datum) p.places refl;
+      below = all_below table start lines (free_at datum) p.places _ (omega (arith, grown, more)) more;
+      waiting = waiters_below (behind_all table start lines (free_at datum) p.places) homes _ (omega arith);
+      many = omega (arith, within, more);
+      whole = room_whole_behind table start lines (free_at datum) (behind_all table start lines (free_at datum) p.places) p.places
+          (room_whole table start lines (free_at datum) p.places refl);
     }
 
 none_laid : IsLaid no_layout
-none_laid = record { below = tt; many = omega arith; whole = refl }
+none_laid = record { below = tt; waiting = tt; many = omega arith; whole = refl }
 
 -- what is tested of a procedure and its layout
 pub record Fits (own : Layout) (p : CodeProc BlockLine) : Type 0 where
@@ -128,7 +143,7 @@ proc_formed x number p own below vars kind =
     and_from _ _ (le-leb (OWN_FROM + kept_in (params_in x.own.all)) x.own.free.variable own.many)
     (and_from _ _ (le-leb x.own.free.variable MOST_VARIABLES (omega (arith, vars)))
     (and_from _ _ (eq-eqb (x.own.free.byte % 4) 0 own.whole)
-    (and_from _ _ kind (named_true (code_named x.own.free.variable many x (map block_plain p.lines) below)))))
+    (and_from _ _ kind (named_true (code_named x.own.free.variable many x (map block_plain p.lines) own.waiting below)))))
 
 -- ---- what holds of procedures one by one
 
@@ -258,15 +273,6 @@ module _ (table : List TypeDef) (blocks : Code BlockLine) (may : may_lower table
       (last_vars table FIXED_BYTES no_layout procs (omega arith) each) refl in
       and_from _ _ ok (and_from _ _ (none_there 0 (proc_number 0) _ (omega arith) others_formed.numbers) others_formed.formed)
 
-  -- a number beyond those of routines is free among them
-  beyond : (n : ℕ) (rs : List WordProc) → AreRoutines rs → (n ≡ 0) ⊎ (PROCS_FROM ≤ n) → IsFree n rs
-  beyond n [] are h = tt
-  beyond n (r ∷ rs) are h = (λ e. by e h, beyond n rs are.1 h)
-    where
-      by : r.number ≡ n → (n ≡ 0) ⊎ (PROCS_FROM ≤ n) → ⊥
-      by e (inl z) = let first = are.0.first in absurd (omega (arith, first, e, z))
-      by e (inr far) = let last = are.0.last in absurd (omega (arith, last, e, far))
-
   all_beyond : (ps rs : List WordProc) → AreRoutines rs → NumbersFrom (proc_number 0) ps → AreApart ps rs
   all_beyond [] rs are numbers = tt
   all_beyond (p ∷ ps) rs are numbers = (beyond p.number rs are (inr (omega (arith, numbers.0))), all_beyond ps rs are numbers.1)
@@ -275,9 +281,42 @@ module _ (table : List TypeDef) (blocks : Code BlockLine) (may : may_lower table
   pub apart_from : (rs : List WordProc) → AreRoutines rs → AreApart (code.lowered table blocks).procs rs
   apart_from rs are = (beyond 0 rs are (inl refl), all_beyond (code.word_procs around 0 all procs) rs are others_formed.numbers)
 
--- with a runtime
-pub is_formed : (table : List TypeDef) (blocks : Code BlockLine) → may_lower table blocks ≡ true → (runtime : WordCode) → are_procs runtime.procs ≡ true
-    → AreRoutines runtime.procs → is_word_code (joined (code.lowered table blocks) runtime) ≡ true
-is_formed table blocks may runtime formed are =
-    and_from _ _ (joined_formed (length (code.lowered table blocks).statics) (code.lowered table blocks).procs runtime.procs
-    (apart_from table blocks may runtime.procs are) (procs_are_formed table blocks may) formed) refl
+  -- and all of them are free among those in front
+  free_all : (r : WordProc) (ps : List WordProc) → (0 < r.number) × (r.number < PROCS_FROM) → NumbersFrom (proc_number 0) ps → IsFree r.number ps
+  free_all r [] small numbers = tt
+  free_all r (p ∷ ps) small numbers =
+      (λ e. let last = small.1 in absurd (omega (arith, e, last, numbers.0)), free_all r ps small numbers.1)
+
+  pub apart_before : (rs : List WordProc) → AreRoutines rs → AreApart rs (code.lowered table blocks).procs
+  apart_before [] are = tt
+  apart_before (r ∷ rs) are =
+      let first = are.0.first in
+      let last = are.0.last in (
+        (λ e. absurd (omega (arith, e, first)), free_all r (code.word_procs around 0 all procs) (first, last) others_formed.numbers),
+        apart_before rs are.1,
+      )
+
+-- with all routines
+module _ (table : List TypeDef) (blocks : Code BlockLine) (may : may_lower table blocks ≡ true) (r : Runtimes) where
+  -- each number stands for one of them
+  pub all_apart : AreApart r.heap.procs (code.lowered table blocks).procs × AreApart (joined r.heap (code.lowered table blocks)).procs r.others.procs
+  all_apart = (
+    apart_before table blocks may r.heap.procs r.is_heap.routines,
+    both_apart r.heap.procs (code.lowered table blocks).procs r.others.procs (length r.heap.statics) r.apart
+        (apart_from table blocks may r.others.procs r.is_others.routines),
+  )
+
+  -- the start code is found behind the heap's
+  pub start_found : from_proc 0 (with_runtimes r (code.lowered table blocks)).procs
+      ≡ moved HEAP_DATA (code.word_proc (code.start_around table blocks.procs) 0 (last_of code.no_proc blocks.procs))
+      ∷ behind_found r (code.lowered table blocks) (code.word_procs (code.start_around table blocks.procs) 0 (code.all_layouts table blocks.procs) blocks.procs)
+  start_found =
+      found_own r (code.lowered table blocks) 0 (code.word_proc (code.start_around table blocks.procs) 0 (last_of code.no_proc blocks.procs))
+      (code.word_procs (code.start_around table blocks.procs) 0 (code.all_layouts table blocks.procs) blocks.procs) (inl refl) refl
+
+  pub is_formed : is_word_code (with_runtimes r (code.lowered table blocks)) ≡ true
+  is_formed =
+      and_from _ _ (joined_formed (length (joined r.heap (code.lowered table blocks)).statics) (joined r.heap (code.lowered table blocks)).procs
+      r.others.procs all_apart.1
+      (joined_formed (length r.heap.statics) r.heap.procs (code.lowered table blocks).procs all_apart.0 r.is_heap.formed (procs_are_formed table blocks may))
+      r.is_others.formed) (ap (λ ps. may_start (first_of ps).kind) start_found)

@@ -24,6 +24,7 @@ use Rattle.word_lowering.specs.declared.homes.Housed.{Housed}
 use Rattle.word_lowering.specs.Layouts.{params_in, result_in, is_address}
 use Rattle.word_lowering.specs.Lowered.{result_cleared}
 use Rattle.word_lowering.specs.Spots.{clears}
+use Rattle.word_lowering.proofs.HeapKept.{SameHeap, heap_then}
 use Rattle.word_lowering.proofs.Callees.{Callee}
 use Rattle.word_lowering.proofs.CallersHold.{callers_hold, filled_more, with_slot_last}
 use Rattle.word_lowering.proofs.Clears.{gets_cleared}
@@ -38,7 +39,7 @@ use Rattle.word_lowering.proofs.NewCalls.{sites_then}
 use Rattle.word_lowering.proofs.NewCalls.{site_then, slots_few, world_first}
 use Rattle.word_lowering.proofs.Related.{Answers, Both, StandAt, Waits, body_of, calls_of, sites_of, within, MemoryGood, store_of, store_with}
 use Rattle.word_lowering.proofs.RoutineCalls.{awaiting}
-use Rattle.word_lowering.proofs.Scenes.{AllHold, IsThere, house, looked, of_place}
+use Rattle.word_lowering.proofs.Scenes.{is_fixed, AllHold, IsThere, house, looked, of_place}
 use Rattle.word_lowering.proofs.ShapeFacts.{never, values_of_numbers}
 use Rattle.word_lowering.proofs.Sites.{Site, looks, room, type_of, next_base}
 use Rattle.word_lowering.proofs.SitesApart.{houses}
@@ -56,7 +57,7 @@ module _ (x : Basis) (g : Both) (line : BlockLine) (rest : List BlockLine) (y : 
     (left : ℕ) (e : g.call.site.left ≡ suc left) (to : ℕ)
     (answers : Answers x.table x.blocks c.body (record { call = g.call; rest = rest; to = to; proc = proc }))
     (good_m : MemoryGood x.table x.blocks (sites_then x g line rest y c m slots gave left e) x.first m)
-    (still : (a w : ℕ) → a + 4 ≤ next_base (sites_of g) → number_at g.memory a Word ≡ Ok w → number_at m a Word ≡ Ok w) where
+    (heap_m : SameHeap g.memory m) (still : (a w : ℕ) → a + 4 ≤ next_base (sites_of g) → number_at g.memory a Word ≡ Ok w → number_at m a Word ≡ Ok w) where
   abbrev here : Site
   here = site_then x g line rest y c m slots gave left e
 
@@ -97,6 +98,8 @@ module _ (x : Basis) (g : Both) (line : BlockLine) (rest : List BlockLine) (y : 
     good_begun lines same = record {
       linked = linked_then x g line rest y c m slots gave left e;
       memory = good_m;
+      heap = heap_then (is_fixed g.ground) g.ground.blocks g.world.heap g.memory m y.memory.sized good_m.sized heap_m y.heap;
+      input = y.input;
       hold = (holding_then x g line rest y c m slots gave left e vars is, callers_then);
       frames = all_frames_then x g line rest y c m slots gave left e;
       levels = levels_then x g line rest y c m slots gave left e;

@@ -9,8 +9,9 @@ use Rattle.flat_code.specs.declared.block.BlockLine.{BlockLine}
 use Rattle.flat_code.specs.Codes.{block_plain}
 use Rattle.word_lowering.specs.declared.homes.Free.{Free}
 use Rattle.word_lowering.specs.declared.homes.Housed.{Housed}
+use Rattle.word_lowering.specs.declared.homes.Waiter.{Waiter}
 use Rattle.word_lowering.specs.declared.homes.Layout.{Layout}
-use Rattle.word_lowering.specs.Layouts.{free_at, all_housed, behind_all, laid}
+use Rattle.word_lowering.specs.Layouts.{free_at, all_housed, behind_all, behind_waiters, waiters, laid}
 use Rattle.word_lowering.proofs.NextLayout.{empty_is}
 
 module _ (table : List TypeDef) (start : Bool) (lines : List Line) (places : List FlatPlace) (i : ℕ) where
@@ -23,20 +24,23 @@ module _ (table : List TypeDef) (start : Bool) (lines : List Line) (places : Lis
   last_behind all free le before =
       ap (λ (ps : List FlatPlace). behind_all table start lines free ps) (sym (drop_all i places le)) ∙ before
 
-abbrev made : List Housed → Free → Bool → Layout
-made all free runs = record { all = all; free = free; runs = runs }
+abbrev made : List Housed → List Waiter → Free → Bool → Layout
+made all ws free runs = record { all = all; waiters = ws; free = free; runs = runs }
 
 -- from what the code has made
 pub laid_as : (table : List TypeDef) (start : Bool) (datum : ℕ) (lines : List BlockLine) (places : List FlatPlace)
-    (first homes all : List Housed) (free : Free) (runs : Bool) → first ≡ []
+    (first homes all : List Housed) (free : Free) (none ws : List Waiter) (last : Free) (runs : Bool) → first ≡ []
     → homes ≡ first ++ all_housed table start (map block_plain lines) (free_at datum) places
     → free ≡ behind_all table start (map block_plain lines) (free_at datum) places
-    → all ≡ homes → runs ≡ not (length lines == 0) → made all free runs ≡ laid table start datum lines places
-laid_as table start datum lines places first homes all free runs none h f a r =
+    → none ≡ [] → ws ≡ none ++ waiters free homes → last ≡ behind_waiters free homes
+    → all ≡ homes → runs ≡ not (length lines == 0) → made all ws last runs ≡ laid table start datum lines places
+laid_as table start datum lines places first homes all free none ws last runs f h b n w l a r =
     let ls = map block_plain lines in
-    let is : all ≡ all_housed table start ls (free_at datum) places =
-    a ∙ h ∙ ap (λ (hs : List Housed). hs ++ all_housed table start ls (free_at datum) places) none in
-    ap (λ (hs : List Housed). made hs free runs) is
-    ∙ ap (λ (g : Free). made (all_housed table start ls (free_at datum) places) g runs) f
-    ∙ ap (λ (b : Bool). made (all_housed table start ls (free_at datum) places) (behind_all table start ls (free_at datum) places) b)
-    (r ∙ ap not (empty_is lines))
+    let own : List Housed = all_housed table start ls (free_at datum) places in
+    let behind : Free = behind_all table start ls (free_at datum) places in
+    let is : homes ≡ own = h ∙ ap (λ (hs : List Housed). hs ++ own) f in
+    ap (λ (hs : List Housed). made hs ws last runs) (a ∙ is)
+    ∙ ap (λ (us : List Waiter). made own us last runs)
+    (w ∙ ap (λ (us : List Waiter). us ++ waiters free homes) n ∙ ap (waiters free) is ∙ ap (λ (g : Free). waiters g own) b)
+    ∙ ap (λ (g : Free). made own (waiters behind own) g runs) (l ∙ ap (behind_waiters free) is ∙ ap (λ (g : Free). behind_waiters g own) b)
+    ∙ ap (λ (c : Bool). made own (waiters behind own) (behind_waiters behind own) c) (r ∙ ap not (empty_is lines))

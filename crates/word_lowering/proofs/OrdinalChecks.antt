@@ -101,6 +101,81 @@ complement_is x f = let h = fits_signed x f in omega (arith, ints)
 complement_fits : (x : ℤ) → fits x ≡ true → fits (neg_ℤ x -ℤ pos 1) ≡ true
 complement_fits x f = let h = fits_signed x f in signed_fits (neg_ℤ x -ℤ pos 1) (omega (arith, ints))
 
+-- ---- comparisons, of any two variables
+
+module _ (live : Lives) (procs : List WordProc) (c : Within) (m : Memory) (g : Vars) (v : Vars) (to a b : ℕ) (high_to : OWN_FROM ≤ to) (x y : ℤ)
+    (fx : fits x ≡ true) (fy : fits y ≡ true) (ea : v a ≡ Some (word x)) (eb : v b ≡ Some (word y)) (k : List WordInstr) where
+  abbrev Compares : List WordInstr → ℕ → Type 0
+  Compares lines n = Given live procs c m g lines v to n k
+
+  abbrev Answer : Comparison → ℕ
+  Answer c = word (truth (compared c x y))
+
+  small_truth : (t : Bool) → word (truth t) < 2 ^ 32
+  small_truth t = word_small (truth t) (truth_fits t)
+
+  difference_small : subtracted (word x) (word y) < 2 ^ 32
+  difference_small = omega arith
+
+  -- a test on the difference and a constant
+  by_difference : (n : ℕ) (t : Bool) (lines : List WordInstr) → n < 2 ^ 32
+      → Gives live procs c m g lines (put (put v FIRST (subtracted (word x) (word y))) SECOND n) to (word (truth t)) k 1
+      → Compares (Compute FIRST operation.Subtract a b ∷ Constant SECOND n ∷ lines) (word (truth t))
+  by_difference n t lines small x1 = record {
+    steps = 1 + (1 + 1);
+    some = omega arith;
+    few = omega arith;
+    gives = behind_computed live procs c m g (Constant SECOND n ∷ lines) k v to (word (truth t)) (1 + 1) FIRST operation.Subtract a b (word x) (word y)
+        (omega arith) (omega arith) ea eb
+        (behind_constant live procs c m g lines k (put v FIRST (subtracted (word x) (word y))) to (word (truth t)) 1 SECOND n (omega arith) (omega arith) x1);
+  }
+
+  less_given : (left right : ℕ) (u w : ℤ) → fits u ≡ true → fits w ≡ true → v left ≡ Some (word u) → v right ≡ Some (word w)
+      → Compares (Compute to operation.Less left right ∷ k) (word (truth (int_lt u w)))
+  less_given left right u w fu fw el er = record {
+    steps = 1;
+    some = omega arith;
+    few = omega arith;
+    gives = gives_computed live procs c m g k v to (word (truth (int_lt u w))) high_to (small_truth (int_lt u w)) operation.Less left right (word u)
+        (word w) el er
+        (ap one_if (less_is u w fu fw) ∙ sym (truth_word (int_lt u w)));
+  }
+
+  opposite_given : (left right : ℕ) (u w : ℤ) → fits u ≡ true → fits w ≡ true → v left ≡ Some (word u) → v right ≡ Some (word w)
+      → Compares (opposite_code to left right k) (word (truth (int_le w u)))
+  opposite_given left right u w fu fw el er =
+      let bit : ℕ = one_if (is_less_signed (word u) (word w)) in
+      record {
+        steps = 1 + (1 + 1);
+        some = omega arith;
+        few = omega arith;
+        gives = behind_computed live procs c m g (Constant SECOND 1 ∷ Compute to operation.Subtract SECOND FIRST ∷ k) k v to (word (truth (int_le w u)))
+            (1 + 1) FIRST operation.Less left right
+            (word u) (word w) (omega arith) (omega arith) el er
+            (behind_constant live procs c m g (Compute to operation.Subtract SECOND FIRST ∷ k) k (put v FIRST bit) to (word (truth (int_le w u))) 1 SECOND 1
+            (omega arith) (omega arith)
+            (gives_computed live procs c m g k (put (put v FIRST bit) SECOND 1) to (word (truth (int_le w u))) high_to
+            (small_truth (int_le w u)) operation.Subtract SECOND FIRST 1 bit
+            refl (bit_got (is_less_signed (word u) (word w)))
+            (one_less (is_less_signed (word u) (word w)) ∙ ap one_if (at_most_is w u fw fu) ∙ sym (truth_word (int_le w u)))));
+      }
+
+  pub compare_runs : (operator : Comparison) → Compares (compare_code operator to a b k) (Answer operator)
+  compare_runs comparison.Equal = by_difference 1 (int_eq x y) (Compute to operation.Below FIRST SECOND ∷ k) (omega arith)
+      (gives_computed live procs c m g k (put (put v FIRST (subtracted (word x) (word y))) SECOND 1) to (word (truth (int_eq x y))) high_to
+      (small_truth (int_eq x y)) operation.Below FIRST SECOND
+      (subtracted (word x) (word y)) 1 (got (subtracted (word x) (word y)) difference_small) refl
+      (ap one_if (same_below (word x) (word y) (word_small x fx) (word_small y fy) ∙ equal_is x y fx fy) ∙ sym (truth_word (int_eq x y))))
+  compare_runs comparison.Unequal = by_difference 0 (not (int_eq x y)) (Compute to operation.Below SECOND FIRST ∷ k) (omega arith)
+      (gives_computed live procs c m g k (put (put v FIRST (subtracted (word x) (word y))) SECOND 0) to (word (truth (not (int_eq x y)))) high_to
+      (small_truth (not (int_eq x y))) operation.Below
+      SECOND FIRST 0 (subtracted (word x) (word y)) refl (got (subtracted (word x) (word y)) difference_small)
+      (ap one_if (other_below (word x) (word y) (word_small x fx) (word_small y fy) ∙ ap not (equal_is x y fx fy)) ∙ sym (truth_word (not (int_eq x y)))))
+  compare_runs comparison.Less = less_given a b x y fx fy ea eb
+  compare_runs comparison.AtMost = opposite_given b a y x fy fx eb ea
+  compare_runs comparison.Greater = less_given b a y x fy fx eb ea
+  compare_runs comparison.AtLeast = opposite_given a b x y fx fy ea eb
+
 module _ (live : Lives) (procs : List WordProc) (c : Within) (m : Memory) (g : Vars) (v : Vars) (to a : ℕ) (high_to : OWN_FROM ≤ to)
     (high_a : OWN_FROM ≤ a)
     (x : ℤ) (fx : fits x ≡ true) (ea : v a ≡ Some (word x)) (k : List WordInstr) where
@@ -269,70 +344,5 @@ module _ (live : Lives) (procs : List WordProc) (c : Within) (m : Memory) (g : V
 
     -- ---- comparisons
 
-    abbrev Answer : Comparison → ℕ
-    Answer c = word (truth (compared c x y))
-
-    small_truth : (t : Bool) → word (truth t) < 2 ^ 32
-    small_truth t = word_small (truth t) (truth_fits t)
-
-    difference_small : subtracted (word x) (word y) < 2 ^ 32
-    difference_small = omega arith
-
-    -- a test on the difference and a constant
-    by_difference : (n : ℕ) (t : Bool) (lines : List WordInstr) → n < 2 ^ 32
-        → Gives live procs c m g lines (put (put v FIRST (subtracted (word x) (word y))) SECOND n) to (word (truth t)) k 1
-        → Gets_ (Compute FIRST operation.Subtract a b ∷ Constant SECOND n ∷ lines) (word (truth t))
-    by_difference n t lines small x1 = record {
-      steps = 1 + (1 + 1);
-      some = omega arith;
-      few = omega arith;
-      gives = behind_computed live procs c m g (Constant SECOND n ∷ lines) k v to (word (truth t)) (1 + 1) FIRST operation.Subtract a b (word x) (word y)
-          (omega arith) (omega arith) ea eb
-          (behind_constant live procs c m g lines k (put v FIRST (subtracted (word x) (word y))) to (word (truth t)) 1 SECOND n (omega arith) (omega arith) x1);
-    }
-
-    less_given : (left right : ℕ) (u w : ℤ) → fits u ≡ true → fits w ≡ true → v left ≡ Some (word u) → v right ≡ Some (word w)
-        → Gets_ (Compute to operation.Less left right ∷ k) (word (truth (int_lt u w)))
-    less_given left right u w fu fw el er = record {
-      steps = 1;
-      some = omega arith;
-      few = omega arith;
-      gives = gives_computed live procs c m g k v to (word (truth (int_lt u w))) high_to (small_truth (int_lt u w)) operation.Less left right (word u)
-          (word w) el er
-          (ap one_if (less_is u w fu fw) ∙ sym (truth_word (int_lt u w)));
-    }
-
-    opposite_given : (left right : ℕ) (u w : ℤ) → fits u ≡ true → fits w ≡ true → v left ≡ Some (word u) → v right ≡ Some (word w)
-        → Gets_ (opposite_code to left right k) (word (truth (int_le w u)))
-    opposite_given left right u w fu fw el er =
-        let bit : ℕ = one_if (is_less_signed (word u) (word w)) in
-        record {
-          steps = 1 + (1 + 1);
-          some = omega arith;
-          few = omega arith;
-          gives = behind_computed live procs c m g (Constant SECOND 1 ∷ Compute to operation.Subtract SECOND FIRST ∷ k) k v to (word (truth (int_le w u)))
-              (1 + 1) FIRST operation.Less left right
-              (word u) (word w) (omega arith) (omega arith) el er
-              (behind_constant live procs c m g (Compute to operation.Subtract SECOND FIRST ∷ k) k (put v FIRST bit) to (word (truth (int_le w u))) 1 SECOND 1
-              (omega arith) (omega arith)
-              (gives_computed live procs c m g k (put (put v FIRST bit) SECOND 1) to (word (truth (int_le w u))) high_to
-              (small_truth (int_le w u)) operation.Subtract SECOND FIRST 1 bit
-              refl (bit_got (is_less_signed (word u) (word w)))
-              (one_less (is_less_signed (word u) (word w)) ∙ ap one_if (at_most_is w u fw fu) ∙ sym (truth_word (int_le w u)))));
-        }
-
-    pub compare_given : (operator : Comparison) → Gets_ (compare_code operator to a b k) (Answer operator)
-    compare_given comparison.Equal = by_difference 1 (int_eq x y) (Compute to operation.Below FIRST SECOND ∷ k) (omega arith)
-        (gives_computed live procs c m g k (put (put v FIRST (subtracted (word x) (word y))) SECOND 1) to (word (truth (int_eq x y))) high_to
-        (small_truth (int_eq x y)) operation.Below FIRST SECOND
-        (subtracted (word x) (word y)) 1 (got (subtracted (word x) (word y)) difference_small) refl
-        (ap one_if (same_below (word x) (word y) (word_small x fx) (word_small y fy) ∙ equal_is x y fx fy) ∙ sym (truth_word (int_eq x y))))
-    compare_given comparison.Unequal = by_difference 0 (not (int_eq x y)) (Compute to operation.Below SECOND FIRST ∷ k) (omega arith)
-        (gives_computed live procs c m g k (put (put v FIRST (subtracted (word x) (word y))) SECOND 0) to (word (truth (not (int_eq x y)))) high_to
-        (small_truth (not (int_eq x y))) operation.Below
-        SECOND FIRST 0 (subtracted (word x) (word y)) refl (got (subtracted (word x) (word y)) difference_small)
-        (ap one_if (other_below (word x) (word y) (word_small x fx) (word_small y fy) ∙ ap not (equal_is x y fx fy)) ∙ sym (truth_word (not (int_eq x y)))))
-    compare_given comparison.Less = less_given a b x y fx fy ea eb
-    compare_given comparison.AtMost = opposite_given b a y x fy fx eb ea
-    compare_given comparison.Greater = less_given b a y x fy fx eb ea
-    compare_given comparison.AtLeast = opposite_given a b x y fx fy ea eb
+    pub compare_given : (operator : Comparison) → Gets_ (compare_code operator to a b k) (word (truth (compared operator x y)))
+    compare_given operator = compare_runs live procs c m g v to a b high_to x y fx fy ea eb k operator

@@ -2,7 +2,7 @@
 use Rattle.std.proofs.Common.{◌≡◌, ℕ, ◌+◌, ◌≤◌, List, [], true, pos, refl, sym, ap, ap₂, subst, ◌∙◌, arith, None, Option, Some, false, ◌*◌, ◌∷◌}
 use Rattle.nim_program.specs.declared.operation.Operation.TheVariants as O
 use Rattle.nim_meaning.specs.Values.{Value, Number, Parts, Handle, Fixed, Ref, Resource, Gone, Vacant, bytes, Location, At, default_of, location_of}
-use Rattle.nim_meaning.specs.State.{is_seen, is_there, load, store}
+use Rattle.nim_meaning.specs.State.{is_full_at, is_there, load, store}
 use Rattle.flat_code.specs.declared.block.BlockLine.{BlockLine}
 use Rattle.flat_code.specs.declared.line.From.TheVariants as F
 use Rattle.flat_code.specs.declared.line.Line.TheVariants as L
@@ -28,7 +28,7 @@ use Rattle.word_lowering.proofs.Located.{place_located}
 use Rattle.word_lowering.proofs.MovedLines.{own_plain}
 use Rattle.word_lowering.proofs.Moves.{ToMemory, is_single, zero_to_memory, zeros_to_memory}
 use Rattle.word_lowering.proofs.OutPlaces.{Written, far_written, own_written, written_at}
-use Rattle.word_lowering.proofs.ReadFacts.{each_call, read_location}
+use Rattle.word_lowering.proofs.ReadFacts.{each_call, read_location, standing_full}
 use Rattle.word_lowering.proofs.Related.{routines, Both, body_of, within, high, store_of}
 use Rattle.word_lowering.proofs.Scenes.{Points, house, looked, of_place, of_location, of_value}
 use Rattle.word_lowering.proofs.ShapeFacts.{bytes_is, never, values_of_numbers}
@@ -94,7 +94,7 @@ module _ (x : Basis) (g : Both) (line : BlockLine) (rest : List BlockLine) (y : 
             (omega (arith, near))))
         by (Parts vs) zero_value home a points lying =
             zeros_to_memory x.law x.live (all_procs x) (within x.table x.blocks g) refl g.words g.memory y.memory.sized k g.call.vars home a points
-            (routines x.table x.blocks) x.runtime.statics (reaches x) (data_there x (all_sites x g line rest y) g.memory y.memory) vs zero_value
+            (routines x.table x.blocks) x.runtimes.others.statics (reaches x) (data_there x (all_sites x g line rest y) g.memory y.memory) vs zero_value
             (lying_area x (all_sites x g line rest y) y.linked g.memory a (bytes (Parts vs)) y.memory lying)
             (lying_near x (all_sites x g line rest y) y.linked a (bytes (Parts vs)) lying)
         by (Handle n b) zero_value home a points lying = absurd zero_value
@@ -169,7 +169,8 @@ module _ (x : Basis) (labels : LabelsLead x) (g : Both) (rest : List BlockLine) 
     moved_out y there e typed from_typed may =
         let t = target x g moving rest y to to_type refl refl typed in
         let p = pointed x g moving rest y from to_type from_typed in
-        let r = read_location x g moving rest y from there p.named e in
+        let r = read_location x g moving rest y from there p.named e
+        (standing_full x g moving rest y from there p.named (y.linked.0.standing from may) e) in
         let v : Value = load g.world (location_at g.call.temps there) in
         let from_house : Housed = location (around x.table x.blocks (body_of g)) from in
         let next : List WordInstr = code_next x g moving rest y in
@@ -213,7 +214,7 @@ module _ (x : Basis) (labels : LabelsLead x) (g : Both) (rest : List BlockLine) 
         (costs 1 (exchanged (location_of l) start_value) >>= made_by (gives_hooked (facts_in x.table) (Some to_type)) (bound_for g how)))
         (λ there e. subst (λ b. Settles x (starts g moving rest) rest (gives (scene_of (high x.table x.blocks (starts g moving rest))) to
         (costs 1 (exchanged (location_at g.call.temps there) start_value) >>= made_by b (bound_for g how)))) (sym t.unhooked)
-        (where_there x (starts g moving rest) rest (is_seen g.world (location_at g.call.temps there))
+        (where_there x (starts g moving rest) rest (is_full_at g.world (location_at g.call.temps there))
         (λ b. gives (scene_of (high x.table x.blocks (starts g moving rest))) to (costs 1 (costs (bytes start_value)
         (unless_gone b (sets (location_at g.call.temps there) start_value >> give (load g.world (location_at g.call.temps there)))))
         >>= made_by false (bound_for g how))) (λ before. tt)

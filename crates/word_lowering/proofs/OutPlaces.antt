@@ -103,7 +103,7 @@ module _ (x : Basis) (g : Both) (line : BlockLine) (rest : List BlockLine) (y : 
       as_location a l is w = subst (λ b. Written (named here b (house g.call.site (of_location t))) l s) (sym is) w
 
       far_own : (is : (house g.call.site (of_location t)).alias ≡ alias.Own) (other : Where) → there ≡ other → OfPlace other
-          → IsAddressed x.table x.blocks (all_sites x g line rest y) g.world g.call t there → WrittenAt t there
+          → IsAddressed x.table x.blocks (all_sites x g line rest y) g.ground g.world g.call t there → WrittenAt t there
       far_own is (Within temp path) at_l of r = absurd of
       far_own is (Located l) at_l of r =
           let there_is : IsThere g.call.site (of_location t) = record { among = n.among; number = n.number; kind = n.kind; own = is } in
@@ -113,7 +113,7 @@ module _ (x : Basis) (g : Both) (line : BlockLine) (rest : List BlockLine) (y : 
             is = at_l;
             written = as_location alias.Own l is (far_written (Variable p.variable_is) p.spot p.high_is r.address p.points
                 (of_a_place x.table x.blocks of
-                (subst (λ w. Leads x.table x.blocks (all_sites x g line rest y) g.world g.call.site g.call.temps w r.address s) at_l r.leads)));
+                (subst (λ w. Leads x.table x.blocks (all_sites x g line rest y) g.ground g.world g.call.site g.call.temps w r.address s) at_l r.leads)));
           }
 
       by_place : (p : ℕ) (global : Bool) → (house g.call.site (of_location t)).alias ≡ alias.Place p global
@@ -180,7 +180,7 @@ module _ (x : Basis) (g : Both) (line : BlockLine) (rest : List BlockLine) (y : 
               (subst (λ k. FromPlace x.table (all_sites x g line rest y) g.world l v.address k) look
               (subst (λ k. FromPlace x.table (all_sites x g line rest y) g.world k v.address (looked x.table g.call.site (of_place p))) same v.leads))
 
-      by : (a : Alias) → (house g.call.site (of_location t)).alias ≡ a → IsLedBy x.table x.blocks a (all_sites x g line rest y) g.world g.call t there
+      by : (a : Alias) → (house g.call.site (of_location t)).alias ≡ a → IsLedBy x.table x.blocks a (all_sites x g line rest y) g.ground g.world g.call t there
           → WrittenAt t there
       by alias.Own is r = far_own is there refl (r.standing standing) r
       by (alias.Place p global) is r = by_place p global is r

@@ -1,5 +1,5 @@
 -- Lines that lead to a part of what stands at a location are followed.
-use Rattle.std.proofs.Common.{inr, ◌≡◌, ℕ, ◌+◌, ◌^◌, ◌<◌, ◌≤◌, List, [], ◌∷◌, Some, true, refl, sym, ap, subst, ◌∙◌, arith, inl, Bool, false}
+use Rattle.std.proofs.Common.{inr, ◌≡◌, ℕ, ◌+◌, ◌^◌, ◌<◌, ◌≤◌, List, [], ◌∷◌, ◌++◌, Some, true, refl, sym, ap, subst, ◌∙◌, arith, inl, Bool, false}
 use Rattle.nim_meaning.specs.Values.{Value, deeper, Location}
 use Rattle.flat_code.specs.declared.block.BlockLine.{BlockLine}
 use Rattle.flat_code.specs.declared.line.Line.TheVariants as L
@@ -19,6 +19,8 @@ use Rattle.word_lowering.specs.Layouts.{is_address}
 use Rattle.word_code.proofs.ForCallers.{at, Runs, run_place, run_datum}
 use Rattle.nim_meaning.specs.Deeds.{Answers}
 use Rattle.nim_meaning.specs.State.{World}
+use Rattle.word_lowering.proofs.Blocks.{Blocks}
+use Rattle.word_lowering.proofs.BlockPaths.{LeadsInBlock}
 use Rattle.word_lowering.proofs.ControlLines.{plain, FollowedHere}
 use Rattle.word_lowering.proofs.Gets.{high_variable}
 use Rattle.word_lowering.proofs.Keeping.{call, location_address}
@@ -31,7 +33,7 @@ use Rattle.word_lowering.proofs.OrdinalRuns.{but_one, put_here}
 use Rattle.word_lowering.proofs.OutPlaces.{written_at, written_stands}
 use Rattle.word_lowering.proofs.ReadFacts.{constant_near, place_near, value_near}
 use Rattle.word_lowering.proofs.Related.{Both, body_of, within, high}
-use Rattle.word_lowering.proofs.Scenes.{Leads, OfPlace, IsLedBy, IsNamed, IsThere, Points, house, looked, of_location, of_place, of_value}
+use Rattle.word_lowering.proofs.Scenes.{Ground, Leads, OfPlace, IsLedBy, IsNamed, IsThere, Points, house, looked, of_location, of_place, of_value}
 use Rattle.word_lowering.proofs.Settling.{code_here, code_next, LabelsLead}
 use Rattle.word_lowering.proofs.ShapeFacts.{never, shape_bytes, nth_shape, of_numbers}
 use Rattle.word_lowering.proofs.ShapePaths.{Step, path_on, shape_some, shapes_before, step_within}
@@ -58,11 +60,26 @@ use Rattle.word_lowering.specs.Stored.{part_at}
 abbrev pub deeper_in : Temps → Where → ℕ → Where
 deeper_in temps there i = led there (deeper (location_at temps there) i)
 
+-- a step further in a block
+block_on : (d : Blocks) (block : ℕ) (path : List ℕ) (a o : ℕ) (t u : Shape) (i : ℕ) → Step t i o u → LeadsInBlock d block path a t
+    → LeadsInBlock d block (path ++ i ∷ []) (a + o) u
+block_on d block path a o t u i step l = record {
+  element = l.element;
+  rest = l.rest ++ i ∷ [];
+  of = l.of;
+  offset = l.offset + o;
+  is = ap (λ p. p ++ i ∷ []) l.is;
+  born = l.born;
+  inside = l.inside;
+  way = path_on l.of l.rest l.offset t i o u l.way step;
+  address = λ x e. let h = l.address x e in omega (arith, h);
+}
+
 -- with other temporaries that still have their values
-module _ (x : Basis) (sites : List Site) (s : Site) (world : World) (temps other : Temps)
+module _ (x : Basis) (sites : List Site) (s : Site) (ground : Ground) (world : World) (temps other : Temps)
     (still : (t : ℕ) (v : Value) → temps.values t ≡ Some v → other.values t ≡ Some v) where
-  pub leads_on : (there : Where) (a o : ℕ) (t u : Shape) (i : ℕ) → Step t i o u → Leads x.table x.blocks sites world s temps there a t
-      → Leads x.table x.blocks sites world s other (deeper_in temps there i) (a + o) u
+  pub leads_on : (there : Where) (a o : ℕ) (t u : Shape) (i : ℕ) → Step t i o u → Leads x.table x.blocks sites ground world s temps there a t
+      → Leads x.table x.blocks sites ground world s other (deeper_in temps there i) (a + o) u
   leads_on (Located l) a o t u i step (inl f) = inl (record {
     site = f.site;
     among = f.among;
@@ -75,7 +92,13 @@ module _ (x : Basis) (sites : List Site) (s : Site) (world : World) (temps other
     path = path_on (looked x.table f.site (of_place f.number)) l.path f.offset t i o u f.path step;
     address = (let e = f.address in omega (arith, e));
   })
-  leads_on (Located l) a o t u i step (inr f) = inr (record {
+  leads_on (Located l) a o t u i step (inr (inr f)) = inr (inr (record {
+    block = f.block;
+    base = f.base;
+    leads = block_on ground.blocks f.block l.path a o t u i step f.leads;
+    near = (let n = f.near in let w = step_within t i o u step in omega (arith, n, w));
+  }))
+  leads_on (Located l) a o t u i step (inr (inl f)) = inr (inl (record {
     pieces = f.pieces;
     one = f.one;
     among = f.among;
@@ -86,7 +109,7 @@ module _ (x : Basis) (sites : List Site) (s : Site) (world : World) (temps other
     offset = f.offset + o;
     path = path_on f.shape l.path f.offset t i o u f.path step;
     address = (let e = f.address in omega (arith, e));
-  })
+  }))
   leads_on (Within from path) a o t u i step f = record {
     there = f.there;
     home = f.home;
@@ -102,8 +125,9 @@ module _ (x : Basis) (g : Both) (line : BlockLine) (rest : List BlockLine) (y : 
   led_variable t = variable_of (house g.call.site (of_location t))
 
   pub leads_near : (there : Where) (a : ℕ) (t : Shape)
-      → Leads x.table x.blocks (all_sites x g line rest y) g.world g.call.site g.call.temps there a t → a + shape_bytes t < 2 ^ 32
-  leads_near (Located l) a t (inr f) = constant_near x l a t f
+      → Leads x.table x.blocks (all_sites x g line rest y) g.ground g.world g.call.site g.call.temps there a t → a + shape_bytes t < 2 ^ 32
+  leads_near (Located l) a t (inr (inr f)) = f.near
+  leads_near (Located l) a t (inr (inl f)) = constant_near x l a t f
   leads_near (Located l) a t (inl f) = place_near x (all_sites x g line rest y) y.linked (all_sites x g line rest y) g.world l a t (λ s i. i) f
   leads_near (Within from path) a t f = value_near x (all_sites x g line rest y) y.linked g.call.site g.call.temps from path a t (inl refl) f
 
@@ -134,7 +158,7 @@ module _ (x : Basis) (g : Both) (line : BlockLine) (rest : List BlockLine) (y : 
   -- a run that gives the address
   pub leads_settles : (t : ℕ) (there : Where) (a work : ℕ) → 1 ≤ work → IsThere g.call.site (of_location t)
       → (is_standing (house g.call.site (of_location t)).kind ≡ true → OfPlace there)
-      → Leads x.table x.blocks (all_sites x g line rest y) g.world g.call.site (with_place t g.call.temps there) there a
+      → Leads x.table x.blocks (all_sites x g line rest y) g.ground g.world g.call.site (with_place t g.call.temps there) there a
       (looked x.table g.call.site (of_location t))
       → Given x.live (all_procs x) (within x.table x.blocks g) g.memory g.words (code_here x g line rest y) g.call.vars (led_variable t) a
       (code_next x g line rest y)
@@ -146,7 +170,8 @@ module _ (x : Basis) (g : Both) (line : BlockLine) (rest : List BlockLine) (y : 
       (λ f u other ne home. r.gives.but.others u (high_variable x g line rest y f u other home)
       (variables_apart x.table x.blocks g.call.site (of_location t) f (led_variable t) u y.linked.0 is_there other (λ s. ne (sym s)) h.home home))
       r.gives.but.left
-      (subst (λ b. IsLedBy x.table x.blocks b (all_sites x g line rest y) g.world (call g.call.site (with_place t g.call.temps there) r.gives.vars) t there)
+      (subst (λ b. IsLedBy x.table x.blocks b (all_sites x g line rest y) g.ground g.world (call g.call.site (with_place t g.call.temps there) r.gives.vars)
+      t there)
       (sym is_there.own) (record { standing = standing; address = a; holds = r.gives.given; leads = new_leads }))
       rest (stands_next x.table x.blocks (body_of g) line rest y.stands))
       r.steps work (with_place t g.call.temps there) g.world r.gives.runs r.some (let f = r.few in omega (arith, f, some)) refl
@@ -269,7 +294,8 @@ module _ (x : Basis) (labels : LabelsLead x) (g : Both) (rest : List BlockLine) 
           let b = led_home x g part_here rest y to there_to in
           leads_settles x g part_here rest y to (deeper_in g.call.temps there field) (a.address + o) 1 (omega arith) there_to
           (part_standing x g part_here rest y to from field there named_from e as_base)
-          (leads_on x (all_sites x g part_here rest y) g.call.site g.world g.call.temps (with_place to g.call.temps (deeper_in g.call.temps there field))
+          (leads_on x (all_sites x g part_here rest y) g.call.site g.ground g.world g.call.temps
+          (with_place to g.call.temps (deeper_in g.call.temps there field))
           (λ t v h. h) there a.address o
           (looked x.table g.call.site (of_location from)) (looked x.table g.call.site (of_location to)) field step a.leads_to)
           (subst (λ l. Given x.live (all_procs x) (within x.table x.blocks g) g.memory g.words l g.call.vars (led_variable x g part_here rest y to)

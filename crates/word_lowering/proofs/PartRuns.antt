@@ -17,6 +17,7 @@ use Rattle.word_lowering.specs.declared.homes.Housed.{Housed}
 use Rattle.word_lowering.specs.declared.spots.Spot.TheVariants.{Lies}
 use Rattle.word_lowering.specs.Spots.{spot_of, shifted, moved}
 use Rattle.word_lowering.specs.LineCode.{parts_code, operands}
+use Rattle.word_lowering.proofs.SitesApart.{IsPlace}
 use Rattle.word_lowering.proofs.InMemory.{IsAt, AreAt, bytes_some, bytes_whole}
 use Rattle.word_lowering.proofs.RoutineCalls.{awaiting}
 use Rattle.word_lowering.proofs.OrdinalRuns.{AllSame}
@@ -127,7 +128,8 @@ module _ (x : Basis) (g : Both) (line : BlockLine) (rest : List BlockLine) (y : 
   item_stays m vars ch same t v e is_there ne =
       numbers_of x.table (store_with g m) (call g.call.site g.call.temps vars) (of_value t) v (numbers_there x g.call.site (of_value t) y.linked.0 is_there)
       (item_kept x.table x.blocks x.small (all_sites x g line rest y) y.linked g.call.site (of_value to) (store_of g) (store_with g m)
-      (somewhere start target.bytes (outside_still (next_base (sites_of g)) g.memory m start target.bytes ch.outside) (inl refl) there inside (omega arith)
+      (somewhere start target.bytes (outside_still (IsPlace x.table x.blocks) (next_base (sites_of g)) g.memory m start target.bytes ch.outside) (inl refl)
+      there inside (omega arith)
       (omega arith)) (later_ground g.ground) g.world g.world
       (worlds_same x.table x.blocks x.small (all_sites x g line rest y) y.linked g.call.site (of_value to) g.world)
       g.call.site g.call.temps g.call.temps g.call.vars vars (of_value t) v (inl refl) kept

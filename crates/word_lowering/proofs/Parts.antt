@@ -6,6 +6,7 @@ use Rattle.flat_code.specs.declared.line.Line.{Line}
 use Rattle.word_code.specs.declared.word.WordInstr.{WordInstr}
 use Rattle.word_lowering.specs.declared.homes.Home.{Home}
 use Rattle.word_lowering.specs.declared.homes.Housed.{Housed}
+use Rattle.word_lowering.specs.declared.homes.Waiter.{Waiter}
 use Rattle.word_lowering.specs.declared.spots.Spot.{Spot}
 use Rattle.word_lowering.specs.declared.spots.Spot.TheVariants.{Lies}
 use Rattle.word_lowering.specs.Emission.{Puts}
@@ -13,6 +14,7 @@ use Rattle.word_lowering.specs.Layouts.{result_in}
 use Rattle.word_lowering.specs.LineCode.{Around, operand, operands, parts_code, lines_code}
 use Rattle.word_lowering.specs.Lowered.{any_branches, trap_code, and_last, result_cleared, code_of}
 use Rattle.word_lowering.specs.Spots.{spot_of, shifted, moved}
+use Rattle.word_lowering.specs.WaitingCode.{none_code}
 
 module _ (x : Around) (parts : List From) (i : ℕ) where
   pub parts_next : (d : From) (to next : Home) (h : Housed) (spot : Spot) (old new : List WordInstr) (all : List WordInstr → List WordInstr)
@@ -52,9 +54,12 @@ ends_are old new a b c d e f h is_a is_b is_c is_d is_e is_f =
     (trap_code (any_branches 3 old) 3 8 (trap_code (any_branches 4 old) 4 9 (trap_code x 5 10 [])))))) is_f
 
 -- the code of a procedure as it is put together
-pub code_is : (x : Around) (lines : List Line) (result : Option Housed) (a b c d : List WordInstr) → a ≡ [] → result ≡ result_in x.own.all
-    → Puts a b (result_cleared result) → Puts b c (lines_code x lines) → d ≡ and_last c → d ≡ code_of x lines
-code_is x lines result a b c d none r p q e =
-    e ∙ ap and_last (sym (append-nil c) ∙ q [] ∙ p (lines_code x lines [])
-    ∙ ap (λ (l : List WordInstr). l ++ result_cleared result (lines_code x lines [])) none
-    ∙ ap (λ (o : Option Housed). result_cleared o (lines_code x lines [])) r)
+pub code_is : (x : Around) (lines : List Line) (result : Option Housed) (ws : List Waiter) (a b m c d : List WordInstr) → a ≡ []
+    → result ≡ result_in x.own.all → ws ≡ x.own.waiters → Puts a b (result_cleared result) → Puts b m (none_code ws) → Puts m c (lines_code x lines)
+    → d ≡ and_last c → d ≡ code_of x lines
+code_is x lines result ws a b m c d none r w p n q e =
+    let body : List WordInstr = lines_code x lines [] in
+    e ∙ ap and_last (sym (append-nil c) ∙ q [] ∙ n body ∙ p (none_code ws body)
+    ∙ ap (λ (l : List WordInstr). l ++ result_cleared result (none_code ws body)) none
+    ∙ ap (λ (o : Option Housed). result_cleared o (none_code ws body)) r
+    ∙ ap (λ (us : List Waiter). result_cleared (result_in x.own.all) (none_code us body)) w)

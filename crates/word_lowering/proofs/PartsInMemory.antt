@@ -2,7 +2,7 @@
 use Rattle.std.proofs.Common.{◌≡◌, ℕ, zero, suc, ◌+◌, ◌%◌, ◌<◌, ◌≤◌, inl, inr, List, [], ◌∷◌, refl, sym, ap, subst, ◌∙◌}
 use Rattle.std.proofs.Common.{arith}
 use Rattle.nim_types.specs.Forms.{or_word}
-use Rattle.nim_meaning.specs.Values.{Value, Number, Parts, Handle, Fixed, Ref, Resource, Gone, Vacant, Values, Nil, More, bytes, bytes_all, count}
+use Rattle.nim_meaning.specs.Values.{Value, Number, Parts, Handle, Fixed, Ref, Resource, Gone, Vacant, Values, Nil, More, bytes, bytes_all, count, nth_part}
 use Rattle.nim_meaning.specs.Values.{parts_of, nth, with_nth}
 use Rattle.nim_meaning.specs.Values.{part, put_part}
 use Rattle.rv32_isa.specs.declared.micro_op.Size.TheVariants.{Word}
@@ -20,12 +20,12 @@ before (More v vs) (suc i) = bytes v + before vs i
 -- how many bytes behind the whole the part at a path is
 abbrev pub offset : Value → List ℕ → ℕ
 offset v [] = 0
-offset v (i ∷ path) = before (parts_of v) i + offset (nth (parts_of v) i) path
+offset v (i ∷ path) = before (parts_of v) i + offset (nth_part v i) path
 
 -- each step of a path leads to a part
 abbrev pub InPath : Value → List ℕ → Type 0
 InPath v [] = Unit {0}
-InPath v (i ∷ path) = (i < count (parts_of v)) × InPath (nth (parts_of v) i) path
+InPath v (i ∷ path) = (i < count (parts_of v)) × InPath (nth_part v i) path
 
 -- ---- a part is inside
 
@@ -62,7 +62,7 @@ part_within Vacant (i ∷ path) o h = absurd o
 pub offset_whole : (v : Value) (path : List ℕ) → offset v path % 4 ≡ 0
 offset_whole v [] = refl
 offset_whole v (i ∷ path) =
-    let e = before_whole (parts_of v) i in let f = offset_whole (nth (parts_of v) i) path in omega arith
+    let e = before_whole (parts_of v) i in let f = offset_whole (nth_part v i) path in omega arith
 
 -- ---- where a part is
 

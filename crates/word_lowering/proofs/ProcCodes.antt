@@ -45,7 +45,8 @@ use Rattle.word_lowering.proofs.DistinctTexts.{has_behind, has_before}
 use Rattle.word_lowering.specs.Lowered as code
 use Rattle.word_lowering.specs.Lowered.{no_proc, all_layouts, start_layout, start_around, lowered}
 use Rattle.word_lowering.specs.Lowers.{IsFitting, AreSilent}
-use Rattle.word_lowering.specs.MayLower.{no_params, params_lead, is_text, is_plain, all_plain, hook_may, lines_may, labels_once, labels_may, and_placed, placed_bytes}
+use Rattle.word_lowering.specs.MayLower.{no_params, params_lead, is_text, is_plain, all_plain, hook_may, lines_may, labels_once, labels_may, and_placed}
+use Rattle.word_lowering.specs.MayLower.{placed_bytes}
 use Rattle.word_lowering.specs.MayLower.{places_may, sizes_may, proc_may, procs_may}
 use Rattle.word_lowering.specs.MayLower.{may_lower}
 use Rattle.word_lowering.specs.Stored.{HaveForms}
@@ -54,7 +55,7 @@ use Rattle.word_lowering.proofs.NamedProcs.{fits_by}
 use Rattle.word_lowering.proofs.FirstPlaces.{ParamsAre, Orderly}
 use Rattle.word_lowering.proofs.Callees.{Callee}
 use Rattle.word_lowering.proofs.ShapeFacts.{never}
-use Rattle.word_lowering.proofs.Sites.{Body, type_of, Among, word_of, sigs, globals_of, IsBody}
+use Rattle.word_lowering.proofs.Sites.{Body, around, type_of, Among, sigs, globals_of, IsBody}
 use Rattle.word_lowering.proofs.LayoutBounds.{params_below}
 use Rattle.word_lowering.proofs.PlaceFacts.{one_found, own_home, declared_own, place_unhooked}
 use Rattle.word_lowering.proofs.PlacesInOrder.{orderly}
@@ -138,7 +139,8 @@ module _ (table : List TypeDef) where
         → ParamsAre table (params free ps) (taken_by (known_in table) ps)
     params_are is_table have free [] plain = tt
     params_are is_table have free (p ∷ ps) plain =
-        let q = and_parts (is_plain table p.ty (place_alias table start lines p) p.kind) (all_plain table (all_housed table start lines (next free p) ps)) plain in
+        let q = and_parts (is_plain table p.ty (place_alias table start lines p) p.kind) (all_plain table (all_housed table start lines (next free p) ps))
+        plain in
         add_param p.kind (one free p) refl (place_type (known_in table) p) refl
         (λ e. place_unhooked table is_table have p.kind p.ty (place_alias table start lines p) (ap is_text (param_own p e)) q.0)
         (params (next free p) ps) (taken_by (known_in table) ps) (params_are is_table have (next free p) ps q.1)
@@ -443,7 +445,7 @@ module _ (table : List TypeDef) (blocks : Code BlockLine) where
             c.tested.order i e d
 
         found : not (is_empty c.proc.lines) ≡ true → (others : List WordProc)
-            × (from_proc (proc_number proc) (lowered table blocks).procs ≡ word_of table blocks body ∷ others)
+            × (from_proc (proc_number proc) (lowered table blocks).procs ≡ code.word_proc (around table blocks body) body.number body.proc ∷ others)
         found some = let f = c.found some proc (omega arith) in (f.0, from_rest proc ∙ f.1)
 
         is_called : IsBody table blocks body

@@ -5,14 +5,14 @@ use Rattle.std.proofs.lemmas.Bool.{cases_Bool}
 use Rattle.nim_types.specs.declared.types.TypeDef.{TypeDef}
 use Rattle.nim_types.specs.Types.{Ty}
 use Rattle.nim_types.specs.Table.{facts_in}
-use Rattle.nim_meaning.specs.Values.{Value, bytes, Standing, Location, Holds}
-use Rattle.nim_meaning.specs.State.{World, held, load, slot_at}
+use Rattle.nim_meaning.specs.Values.{Value, bytes, Standing, Location, Holds, Base, Waiting, InBlock, InHand, InException, Made}
+use Rattle.nim_meaning.specs.State.{World, held, load, slot_at, is_seen, is_full_at}
 use Rattle.nim_meaning.specs.Places.{place_at, through_slot, root_of}
 use Rattle.flat_code.specs.declared.block.BlockLine.{BlockLine}
 use Rattle.flat_code.specs.declared.code.Code.{Code}
-use Rattle.flat_code.specs.Scene.{known_in, Where, Located, Temps, if_value, location_at}
-use Rattle.flat_code.specs.Shapes.{Shape, has_shape, shape_of}
-use Rattle.flat_code.specs.Fits.{is_own, is_global, place_named, if_type_of}
+use Rattle.flat_code.specs.Scene.{known_in, Where, Located, Within, Temps, if_value, location_at}
+use Rattle.flat_code.specs.Shapes.{Shape, row, has_shape, shape_of}
+use Rattle.flat_code.specs.Fits.{is_own, is_standing, is_global, place_named, if_type_of}
 use Rattle.word_lowering.specs.declared.homes.Alias.{Alias}
 use Rattle.word_lowering.specs.declared.homes.Alias.TheVariants as alias
 use Rattle.word_lowering.specs.declared.homes.Home.TheVariants.{Variable, Static}
@@ -21,6 +21,8 @@ use Rattle.word_lowering.specs.declared.spots.Spot.TheVariants.{Lies}
 use Rattle.word_lowering.specs.declared.texts.TheConstants.{FIXED_BYTES}
 use Rattle.word_lowering.specs.Layouts.{is_address}
 use Rattle.word_lowering.specs.LineCode.{variable_in, variable_of, named, place, location}
+use Rattle.word_lowering.proofs.BlocksRead.{RowRead, row_parts, block_row}
+use Rattle.word_lowering.proofs.Scenes.{IsInBlock, IsOfPlace, OfPlace, FromBlock, Leads}
 use Rattle.word_lowering.proofs.InMemory.{IsAt, HasWords}
 use Rattle.word_lowering.proofs.ShapeFacts.{never, shape_bytes, of_numbers, bytes_is, values_of_numbers}
 use Rattle.word_lowering.proofs.ShapePaths.{path_within}
@@ -41,6 +43,12 @@ use Rattle.flat_code.specs.Pieces.{value_of, piece_words}
 use Rattle.word_lowering.proofs.Lines.{Basis, starts, IsGood, all_sites}
 use Rattle.word_lowering.proofs.ValueFacts.{has_type, look_of, value_there, place_there, location_of_numbers, numbers_there}
 use Rattle.word_lowering.proofs.Items.{numbers_of}
+
+place_not_own : (p : ℕ) (global : Bool) → alias.Place p global ≡ alias.Own → ⊥
+place_not_own p global e = cc
+
+value_not_own : (u : ℕ) → alias.Value u ≡ alias.Own → ⊥
+value_not_own u e = cc
 
 module _ (x : Basis) where
   -- the address of a location is one of the machine's
@@ -300,8 +308,14 @@ module _ (x : Basis) (g : Both) (line : BlockLine) (rest : List BlockLine) (y : 
   abbrev named_as : Alias → ℕ → Housed
   named_as a t = named (around x.table x.blocks (body_of g)) a (house g.call.site (of_location t))
 
-  pub read_location : (t : ℕ) (there : Where) → IsNamed g.call.site (of_location t) → g.call.temps.places t ≡ Some there → LocationRead t there
-  read_location t there n e = by (house g.call.site (of_location t)).alias refl (y.hold.0.led t there n e)
+  -- where a location of its own leads into a block, all is there
+  abbrev pub IsFullThere : (t : ℕ) (there : Where) → Type 0
+  IsFullThere t there = (house g.call.site (of_location t)).alias ≡ alias.Own → IsInBlock (location_at g.call.temps there).base
+      → is_full_at g.world (location_at g.call.temps there) ≡ true
+
+  pub read_location : (t : ℕ) (there : Where) → IsNamed g.call.site (of_location t) → g.call.temps.places t ≡ Some there → IsFullThere t there
+      → LocationRead t there
+  read_location t there n e full = by (house g.call.site (of_location t)).alias refl (y.hold.0.led t there n e)
     where
       as_location : (a : Alias) (all : Bool) (v : Value) → (house g.call.site (of_location t)).alias ≡ a → Read all (named_as a t) v
           → Read all (location (around x.table x.blocks (body_of g)) t) v
@@ -354,12 +368,12 @@ module _ (x : Basis) (g : Both) (line : BlockLine) (rest : List BlockLine) (y : 
           location_numbers : of_numbers (looked x.table g.call.site (of_location t)) ≡ true
           location_numbers = location_of_numbers x g.call.site t y.linked.0 n
 
-      by : (a : Alias) → (house g.call.site (of_location t)).alias ≡ a → IsLedBy x.table x.blocks a (all_sites x g line rest y) g.world g.call t there
+      by : (a : Alias) → (house g.call.site (of_location t)).alias ≡ a → IsLedBy x.table x.blocks a (all_sites x g line rest y) g.ground g.world g.call t there
           → LocationRead t there
       by alias.Own is r =
           let there_is : IsThere g.call.site (of_location t) = record { among = n.among; number = n.number; kind = n.kind; own = is } in
-          let at = led_located x (all_sites x g line rest y) y.linked (store_of g) g.world each_call y.memory g.call (inl refl) y.hold.0.items there r.address
-          (looked x.table g.call.site (of_location t)) r.leads in
+          let at = led_located x (all_sites x g line rest y) y.linked (store_of g) g.world each_call y.memory y.heap g.call (inl refl) y.hold.0.items there
+          r.address (looked x.table g.call.site (of_location t)) (location_of_numbers x g.call.site t y.linked.0 n) (full is) r.leads in
           record {
             shaped = at.shaped;
             all = false;
@@ -370,3 +384,67 @@ module _ (x : Basis) (g : Both) (line : BlockLine) (rest : List BlockLine) (y : 
       by (alias.Place p global) is r = by_place p global is r
       by (alias.Value u) is r = by_value u is r
       by (alias.Text behind size) is r = absurd r
+
+  -- an array there, which is seen where it is in a block
+  abbrev pub IsSeenThere : (t : ℕ) (there : Where) → Type 0
+  IsSeenThere t there = (house g.call.site (of_location t)).alias ≡ alias.Own → IsInBlock (location_at g.call.temps there).base
+      → is_seen g.world (location_at g.call.temps there) ≡ true
+
+  pub read_row : (t : ℕ) (there : Where) → IsNamed g.call.site (of_location t) → g.call.temps.places t ≡ Some there → (count : ℕ) (of : Shape)
+      → looked x.table g.call.site (of_location t) ≡ row count of → IsSeenThere t there → RowRead (located there) count
+  read_row t there n e count of look seen = by (house g.call.site (of_location t)).alias refl (y.hold.0.led t there n e)
+    where
+      shaped_row : IsFullThere t there → RowRead (located there) count
+      shaped_row full =
+          row_parts (located there) count of (subst (λ s. has_shape (located there) s ≡ true) look (read_location t there n e full).shaped)
+
+      own : (w : Where) → there ≡ w → (a : ℕ) → Leads x.table x.blocks (all_sites x g line rest y) g.ground g.world g.call.site g.call.temps w a
+          (looked x.table g.call.site (of_location t)) → (house g.call.site (of_location t)).alias ≡ alias.Own → RowRead (located there) count
+      own (Located l) same a (inl f) is =
+          shaped_row (λ o h. absurd (subst IsInBlock f.base (subst (λ u. IsInBlock (location_at g.call.temps u).base) same h)))
+      own (Located l) same a (inr (inl f)) is =
+          shaped_row (λ o h. absurd (subst IsInBlock f.base (subst (λ u. IsInBlock (location_at g.call.temps u).base) same h)))
+      own (Located l) same a (inr (inr f)) is =
+          let in_block : FromBlock x.table x.blocks g.ground l a (row count of) = subst (FromBlock x.table x.blocks g.ground l a) look f in
+          let there_seen : is_seen g.world l ≡ true
+          = subst (λ u. is_seen g.world (location_at g.call.temps u) ≡ true) same
+          (seen is (subst (λ u. IsInBlock (location_at g.call.temps u).base) (sym same) (subst IsInBlock (sym f.base) tt))) in
+          subst (λ u. RowRead (located u) count) (sym same)
+          (block_row (store_of g) g.world y.memory.sized y.heap l a count of
+          (record { block = in_block.block; base = in_block.base; leads = in_block.leads }) there_seen)
+      own (Within temp path) same a f is =
+          shaped_row (λ o h. absurd (subst (λ u. IsInBlock (location_at g.call.temps u).base) same h))
+
+      other : (a : Alias) → (house g.call.site (of_location t)).alias ≡ a → (a ≡ alias.Own → ⊥) → RowRead (located there) count
+      other a is not_own = shaped_row (λ o h. absurd (not_own (sym is ∙ o)))
+
+      by : (a : Alias) → (house g.call.site (of_location t)).alias ≡ a
+          → IsLedBy x.table x.blocks a (all_sites x g line rest y) g.ground g.world g.call t there → RowRead (located there) count
+      by alias.Own is r = own there refl r.address r.leads is
+      by (alias.Place p global) is r = other (alias.Place p global) is (place_not_own p global)
+      by (alias.Value u) is r = other (alias.Value u) is (value_not_own u)
+      by (alias.Text behind size) is r = absurd r
+
+  -- one that may be written leads into no block
+  pub standing_full : (t : ℕ) (there : Where) → IsNamed g.call.site (of_location t) → is_standing (house g.call.site (of_location t)).kind ≡ true
+      → g.call.temps.places t ≡ Some there → IsFullThere t there
+  standing_full t there n standing e own b = by (house g.call.site (of_location t)).alias own (y.hold.0.led t there n e)
+    where
+      of_place_base : (w : Where) → OfPlace w → IsInBlock (location_at g.call.temps w).base → ⊥
+      of_place_base (Located l) is b = no_both l.base is b
+        where
+          no_both : (base : Base) → IsOfPlace base → IsInBlock base → ⊥
+          no_both (Standing level number) is b = b
+          no_both (Waiting level node) is b = is
+          no_both (InBlock k) is b = is
+          no_both (InHand i) is b = is
+          no_both (InException i) is b = is
+          no_both (Made v) is b = is
+      of_place_base (Within u path) is b = is
+
+      by : (a : Alias) → a ≡ alias.Own → IsLedBy x.table x.blocks a (all_sites x g line rest y) g.ground g.world g.call t there
+          → is_full_at g.world (location_at g.call.temps there) ≡ true
+      by alias.Own o r = absurd (of_place_base there (r.standing standing) b)
+      by (alias.Place p global) o r = absurd (place_not_own p global o)
+      by (alias.Value u) o r = absurd (value_not_own u o)
+      by (alias.Text behind size) o r = absurd r

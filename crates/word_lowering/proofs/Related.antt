@@ -8,9 +8,8 @@ use Rattle.flat_code.specs.declared.code.Code.{Code}
 use Rattle.word_code.specs.declared.word.WordInstr.{WordInstr}
 use Rattle.word_code.specs.declared.word.WordProc.{WordProc}
 use Rattle.word_code.specs.declared.routine.TheConstants.{RUNTIME_DATA, SCRATCH_BYTES}
-use Rattle.word_code.specs.Memory.{Memory, bytes_at, own_data_at}
+use Rattle.word_code.specs.Memory.{Memory, bytes_at}
 use Rattle.word_code.specs.RoutineTable.{Cell, Beside}
-use Rattle.word_code.specs.Runtime.{routines_at}
 use Rattle.word_code.proofs.ForCallers.{Sized, Within, at}
 use Rattle.word_code.specs.Words.{Vars, no_words, WordFrame, WordState}
 use Rattle.flat_code.specs.Scene.{known_in}
@@ -28,12 +27,13 @@ use Rattle.word_lowering.specs.declared.may_lower.TheConstants.{MOST_DATA}
 use Rattle.word_lowering.specs.Layouts.{result_in}
 use Rattle.word_lowering.specs.Spots.{spot_of}
 use Rattle.word_lowering.specs.LineCode.{lines_code, result_code, value, layout_at}
-use Rattle.word_lowering.specs.Lowered.{lowered, last_code, result_cleared}
+use Rattle.word_lowering.specs.Lowered.{data_at, lowered, last_code, begin_code}
+use Rattle.word_lowering.proofs.Blocks.{HasHeap}
 use Rattle.word_lowering.proofs.Frames.{IsFrame}
 use Rattle.word_lowering.proofs.Sites.{Body, lines_of, looks, Site, data_end, around, word_of, Linked, sigs, globals_of, next_base}
 use Rattle.word_lowering.proofs.PieceWords.{WordsAt, room_of}
 use Rattle.word_lowering.proofs.Scenes.{standing_from}
-use Rattle.word_lowering.proofs.Scenes.{of_value, IsNamed, IsThere, looked, Call, site_of, AllHold, Ground, Store}
+use Rattle.word_lowering.proofs.Scenes.{of_value, IsNamed, IsThere, looked, Call, site_of, AllHold, Ground, Store, is_fixed}
 use Rattle.word_code.specs.declared.word.TheConstants.{SPARE_ROOM}
 
 -- a call that waits: the lines that it goes on with, the temporary to which the result goes, and the procedure that it called
@@ -92,7 +92,7 @@ module _ (table : List TypeDef) (blocks : Code BlockLine) where
 
   -- what stands behind the code of a procedure's lines
   abbrev pub code_last : Body → List WordInstr
-  code_last b = last_code (result_cleared (result_in b.own.all) (lines_code (around table blocks b) (lines_of b) []))
+  code_last b = last_code (begin_code b.own (lines_code (around table blocks b) (lines_of b) []))
 
   abbrev pub code_behind : Body → List BlockLine → List WordInstr
   code_behind b rest = lines_code (around table blocks b) (map block_plain rest) (code_last b)
@@ -167,17 +167,17 @@ module _ (table : List TypeDef) (blocks : Code BlockLine) where
   -- words that may be read and written: globals, the places of these calls, and behind them those for arguments
   abbrev pub IsOpen : List Site → ℕ → Type 0
   IsOpen sites a =
-      ((own_data_at + FIXED_BYTES ≤ a) × (a + 4 ≤ own_data_at + data_end table blocks))
+      ((data_at + FIXED_BYTES ≤ a) × (a + 4 ≤ data_at + data_end table blocks))
       ⊎ ((stack_at ≤ a) × (a + 4 ≤ next_base sites + SPARE_ROOM))
 
   -- data beside all places and the byte of a character: what each program has, and all behind the globals, with what routines have
   abbrev pub IsClosed : (at n : ℕ) → Type 0
-  IsClosed at n = ((own_data_at + 4 ≤ at) × (at + n ≤ own_data_at + FIXED_BYTES)) ⊎
-      ((own_data_at + data_end table blocks ≤ at) × (at + n ≤ own_data_at + (MOST_DATA + RUNTIME_DATA)))
+  IsClosed at n = ((data_at + 4 ≤ at) × (at + n ≤ data_at + FIXED_BYTES)) ⊎
+      ((data_at + data_end table blocks ≤ at) × (at + n ≤ data_at + (MOST_DATA + RUNTIME_DATA)))
 
   -- where the data of routines begins
   abbrev pub routines : ℕ
-  routines = routines_at (lowered table blocks)
+  routines = data_at + length (lowered table blocks).statics
 
   -- what of that stays as it is: all but the bytes that routines may change
   abbrev pub IsText : (at n : ℕ) → Type 0
@@ -247,6 +247,8 @@ module _ (table : List TypeDef) (blocks : Code BlockLine) where
   pub record Good (first : Memory) (g : Both) : Type 0 where
     pub linked : Linked table blocks (sites_of g)
     pub memory : MemoryGood (sites_of g) first g.memory
+    pub heap : HasHeap (is_fixed g.ground) g.ground.blocks g.world.heap g.memory
+    pub input : g.world.input ≡ g.input
     pub hold : AllHold table blocks (store_of g) g.world (calls_of g)
     pub frames : AllFrames g.world (sites_of g)
     pub levels : length g.world.frames ≡ length (sites_of g)

@@ -20,15 +20,16 @@ use Rattle.word_lowering.specs.declared.texts.TheConstants.{FIXED_BYTES}
 use Rattle.word_lowering.specs.Layouts.{nowhere, result_in, is_address}
 use Rattle.word_lowering.specs.LineCode.{result_code, left_at}
 use Rattle.word_lowering.specs.Spots.{spot_of, moved, moves}
+use Rattle.word_lowering.proofs.HeapKept.{heap_more}
 use Rattle.word_lowering.proofs.CallerGets.{good_gets, good_nothing, good_word_back, settles_back}
-use Rattle.word_lowering.proofs.Gets.{memory_kept}
+use Rattle.word_lowering.proofs.Gets.{memory_kept, heap_kept}
 use Rattle.word_lowering.proofs.Keeping.{spot_held, spot_memory, points_there, from_memory, to_memory, somewhere}
 use Rattle.word_lowering.proofs.LineFits.{single_is}
 use Rattle.word_lowering.proofs.Lines.{Basis, all_procs, starts, IsGood, Settles, all_sites}
 use Rattle.word_lowering.proofs.Moves.{is_single, single_word, same_first, same_more, IsArea, single_small}
 use Rattle.word_lowering.proofs.Options.{some_same}
 use Rattle.word_lowering.proofs.Related.{Both, Waits, low, code_behind, awaits_in, goes_on, MayAnswer, MemoryGood}
-use Rattle.word_lowering.proofs.Returned.{called, sites_left, linked_left, memory_left, good_left, left_read}
+use Rattle.word_lowering.proofs.Returned.{called, sites_left, linked_left, memory_left, good_left, heap_left, left_read}
 use Rattle.word_lowering.proofs.ReturnLines.{place_high, after, HandsBack}
 use Rattle.word_lowering.proofs.Scenes.{address_of, of_value, of_place, house, looked, IsNumbers, IsNamed}
 use Rattle.word_lowering.proofs.ShapeFacts.{never}
@@ -209,7 +210,9 @@ module _ (x : Basis) (h : Both) (w : Waits) (ws : List Waits) (line : BlockLine)
           settles_back x h w ws line rest y v (suc (bytes v)) r.vars r.memory r.words r.awaits
           (good_gets x h w ws line rest y v may.there shaped r.vars r.memory r.words r.awaits
           (memory_kept x left linked memory_now r.memory a (bytes v) good_now r.changed lying)
-          (somewhere a (bytes v) (λ c word before apart_c read. r.changed.outside c apart_c
+          (heap_more h.memory memory_now r.memory (heap_left x h w ws line rest y)
+          (heap_kept x left linked memory_now r.memory a (bytes v) good_now r.changed lying))
+          (somewhere a (bytes v) (λ c word place before apart_c read. r.changed.outside c apart_c
           ∙ left_read x h w ws line rest y c word (omega (arith, before)) read) (inl refl) may.there inside (omega arith) (omega (arith, size)))
           (λ f u is ne e. kept.others u (place_high x w.call.site y.linked.5.0 f u is e)) kept.left
           (to_memory r.memory w.call.site.base r.vars to v plain_to inside r.there))

@@ -6,7 +6,8 @@ use Rattle.arc_base.specs.Behaviour.{no_objects}
 use Rattle.nim_types.specs.Types.{Ty}
 use Rattle.nim_meaning.specs.Places.{place_at}
 use Rattle.nim_meaning.specs.State.{held, load, slot_at}
-use Rattle.nim_meaning.specs.Values.{Value, Parts, Nil, bytes, nothing, Slot}
+use Rattle.nim_meaning.specs.Acts.{branch}
+use Rattle.nim_meaning.specs.Values.{Value, Parts, Nil, bytes, is_full, nothing, Slot}
 use Rattle.flat_code.specs.declared.block.BlockLine.{BlockLine}
 use Rattle.flat_code.specs.declared.line.Line.TheVariants as L
 use Rattle.flat_code.specs.Fits.{if_type_of, is_declared, is_own, is_value, place_named, place_type, result_at, same_place}
@@ -127,14 +128,15 @@ module _ (x : Basis) (h : Both) (rest : List BlockLine) where
       return_some : Settles x (starts g line rest) rest (hands (scene_of (high x.table x.blocks (starts g line rest))) (Some p))
       return_some =
           let v : Value = load h.world (place_at h.call.site.level p) in
-          branch_settles x (starts g line rest) rest (is_there (slot_at h.world h.call.site.level p)) (Returns v (suc (bytes v))) Fails
-          (λ has.
+          let back = Returns v (suc (bytes v)) in
+          branch_settles x (starts g line rest) rest (is_there (slot_at h.world h.call.site.level p)) (branch (is_full v) back Fails) Fails
+          (λ has. branch_settles x (starts g line rest) rest (is_full v) back Fails (λ full.
           let i = place_is in
           let there = place_there x h.call.site p y.linked.0
           (declared_there all p i.1 (y.linked.0.own p i.1) (own_declared (found is_declared p all).kind i.2)) in
           let u = (y.hold.0.filled p there (slot_there (slot_at h.world h.call.site.level p) has)).own i.2 in
           subst (λ z. Settles x (starts g line rest) rest (Returns z (suc (bytes z)))) (sym (ap held u.1))
-          (finish u.0 (item_read x g line rest y (of_place p) u.0 there u.1)))
+          (finish u.0 (item_read x g line rest y (of_place p) u.0 there u.1))) (λ no before. tt))
           (λ no before. tt)
 
   -- ---- the start code ends
@@ -161,8 +163,11 @@ module _ (x : Basis) (h : Both) (rest : List BlockLine) where
   by_waiting None [] y = start_ends None y nothing 1 (omega arith)
   by_waiting (Some p) [] y =
       let v : Value = load h.world (place_at h.call.site.level p) in
-      branch_settles x (starts alone (plain (L.Return (Some p))) rest) rest (is_there (slot_at h.world h.call.site.level p)) (Returns v (suc (bytes v))) Fails
-      (λ has. start_ends (Some p) y v (suc (bytes v)) (omega arith)) (λ no before. tt)
+      let here = starts alone (plain (L.Return (Some p))) rest in
+      let back = Returns v (suc (bytes v)) in
+      branch_settles x here rest (is_there (slot_at h.world h.call.site.level p)) (branch (is_full v) back Fails) Fails
+      (λ has. branch_settles x here rest (is_full v) back Fails (λ full. start_ends (Some p) y v (suc (bytes v)) (omega arith)) (λ no before. tt))
+      (λ no before. tt)
   by_waiting None (w ∷ ws) y = return_none w ws y
   by_waiting (Some p) (w ∷ ws) y = return_some w ws p y
 

@@ -8,14 +8,15 @@ use Rattle.flat_code.specs.declared.block.BlockLine.{BlockLine}
 use Rattle.flat_code.specs.Scene.{Temps}
 use Rattle.word_code.specs.Memory.{Memory, without_places, number_at}
 use Rattle.word_code.specs.Words.{Vars}
+use Rattle.word_lowering.proofs.HeapKept.{SameHeap, heap_turned, heap_then}
 use Rattle.word_lowering.proofs.Frames.{IsFrame}
 use Rattle.word_lowering.proofs.Keeping.{AmongCalls, call, Edit, Worlds, Kept, New, holding_kept, all_kept, later_ground}
 use Rattle.word_lowering.proofs.Lines.{Basis, starts, IsGood}
 use Rattle.word_lowering.proofs.Related.{Both, Waits, called_by, MemoryGood, AllFrames, sites_of, store_of, store_with}
-use Rattle.word_lowering.proofs.Scenes.{Call, Name, site_of}
+use Rattle.word_lowering.proofs.Scenes.{is_fixed, Call, Name, site_of}
 use Rattle.word_lowering.proofs.Sites.{Site, AmongSites, Linked, room, next_base}
 use Rattle.word_lowering.proofs.SitesApart.{site_at, next_least}
-use Rattle.word_lowering.proofs.CallPlaces.{Grown, places_go, good_go, read_before}
+use Rattle.word_lowering.proofs.CallPlaces.{Grown, places_go, good_go, heap_still, read_before}
 use Rattle.rv32_isa.specs.declared.micro_op.Size.TheVariants.{Word}
 use Rattle.word_code.specs.declared.word.TheConstants.{SPARE_ROOM}
 
@@ -71,6 +72,10 @@ module _ (x : Basis) (h : Both) (w : Waits) (ws : List Waits) (line : BlockLine)
     good_left = good_go memory_left h.memory (room h.call.site.body) goes x sites_left (sites_of called) linked_left
         (ap (λ n. n + room h.call.site.body) y.linked.4) y.memory
 
+    pub heap_left : SameHeap h.memory memory_left
+    heap_left = heap_turned memory_left h.memory (heap_still memory_left h.memory (room h.call.site.body) goes x sites_left (sites_of called) linked_left
+        (ap (λ n. n + room h.call.site.body) y.linked.4) good_left.sized)
+
     -- what stands in the places that are left, and in those for arguments behind them
     pub left_read : (a n : ℕ) → a + 4 ≤ next_base sites_left + SPARE_ROOM → number_at h.memory a Word ≡ Ok n → number_at memory_left a Word ≡ Ok n
     left_read a n within read =
@@ -110,18 +115,23 @@ module _ (x : Basis) (h : Both) (w : Waits) (ws : List Waits) (line : BlockLine)
     }
 
     pub good_back : (lo : Site) (e : Name) (temps : Temps) (vars : Vars) (m : Memory) (words : Vars) (awaits : ℕ)
-        → MemoryGood x.table x.blocks sites_left x.first m → Edit x.table x.blocks x.small sites_left linked_left lo e h.memory m
+        → MemoryGood x.table x.blocks sites_left x.first m → SameHeap h.memory m → Edit x.table x.blocks x.small sites_left linked_left lo e h.memory m
         → Kept x.table x.blocks x.small sites_left linked_left lo e w.call.site w.call.temps temps w.call.vars vars
-        → (w.call.site.level ≡ lo.level → New x.table x.blocks x.small sites_left linked_left lo e (store_with h m) world_left sites_left (call w.call.site temps vars))
+        → (w.call.site.level ≡ lo.level → New x.table x.blocks x.small sites_left linked_left lo e (store_with h m) world_left sites_left
+        (call w.call.site temps vars))
         → ((c : Call) → AmongCalls c (map called_by ws) → c.site.level ≢ lo.level)
         → IsGood x (back temps vars m words awaits)
-    good_back lo e temps vars m words awaits memory edit kept new others = record {
+    good_back lo e temps vars m words awaits memory still edit kept new others = record {
       linked = linked_left;
       memory = memory;
+      heap = heap_then (is_fixed h.ground) h.ground.blocks h.world.heap h.memory m y.memory.sized memory.sized still y.heap;
+      input = y.input;
       hold = (
-        holding_kept x.table x.blocks x.small sites_left linked_left lo e (store_of h) (store_with h m) edit (later_ground h.ground) h.world world_left (worlds_down lo e) sites_left w.call.site
+        holding_kept x.table x.blocks x.small sites_left linked_left lo e (store_of h) (store_with h m) edit (later_ground h.ground) h.world world_left
+            (worlds_down lo e) sites_left w.call.site
             w.call.temps temps w.call.vars vars (inl refl) (λ r j. j) kept new y.hold.1.0,
-        all_kept x.table x.blocks x.small sites_left linked_left lo e (store_of h) (store_with h m) edit (later_ground h.ground) h.world world_left (worlds_down lo e) (map called_by ws)
+        all_kept x.table x.blocks x.small sites_left linked_left lo e (store_of h) (store_with h m) edit (later_ground h.ground) h.world world_left
+            (worlds_down lo e) (map called_by ws)
             (λ s i. inr i) (λ c from i k. absurd (others c i k)) y.hold.1.1,
       );
       frames = frames_down sites_left below y.frames.1;

@@ -1,5 +1,5 @@
 -- Active calls have room for their places, and for the arguments of one more.
-use Rattle.std.proofs.Common.{◌≡◌, ℕ, suc, ◌+◌, ◌*◌, ◌-◌, ◌≤◌, List, [], ◌∷◌, ◌++◌, length, replicate, Bool, true, ◌&&◌, nat_le, refl, arith}
+use Rattle.std.proofs.Common.{◌≡◌, ℕ, suc, ◌+◌, ◌*◌, ◌-◌, ◌≤◌, List, [], ◌∷◌, ◌++◌, length, replicate, Bool, true, ◌&&◌, nat_le, refl, sym, ap, subst, arith}
 use Rattle.std.proofs.Common.{length-append}
 use Rattle.std.proofs.lemmas.Bool.{and_parts, leb-true}
 use Rattle.nim_types.specs.declared.types.TypeDef.{TypeDef}
@@ -14,6 +14,9 @@ use Rattle.word_lowering.specs.declared.texts.TheConstants.{FIXED_BYTES}
 use Rattle.word_lowering.specs.Texts.{missing, padded, fixed_texts, all_names, joined_all, ends_from, laid_texts, data_in}
 use Rattle.word_lowering.specs.Lowered.{all_layouts, globals_end, data_of, lowered}
 use Rattle.word_lowering.specs.MayLower.{procs_may, defs_may, labels_may, may_lower}
+use Rattle.word_code.specs.declared.word.WordProc.{WordProc}
+use Rattle.word_lowering.specs.Runtimes.{Runtimes, with_runtimes}
+use Rattle.word_lowering.proofs.NamedProcs.{start_found}
 use Rattle.word_lowering.proofs.SmallProcs.{own_small}
 use Rattle.word_lowering.proofs.Padding.{zeros_length}
 use Rattle.word_lowering.proofs.Sites.{Site, next_base, data_end, Linked}
@@ -87,5 +90,6 @@ module _ (table : List TypeDef) (blocks : Code BlockLine) (may : may_lower table
 
 -- the start code's places
 pub start_most : (table : List TypeDef) (blocks : Code BlockLine) → may_lower table blocks ≡ true
-    → (first_of (from_proc 0 (lowered table blocks).procs)).room ≤ MOST_ROOM
-start_most table blocks may = (own_small table blocks may).0.room
+    → (r : Runtimes) → (first_of (from_proc 0 (with_runtimes r (lowered table blocks)).procs)).room ≤ MOST_ROOM
+start_most table blocks may r =
+    subst (λ (p : WordProc). p.room ≤ MOST_ROOM) (sym (ap first_of (start_found table blocks may r))) (own_small table blocks may).0.room

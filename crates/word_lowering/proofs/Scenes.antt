@@ -1,21 +1,22 @@
 -- What block code and word code have in common while they run: each value is where its place is, and each location has the address to
 -- which it leads.
-use Rattle.std.proofs.Common.{◌≡◌, ◌⊎◌, inl, inr, subst, ℕ, ◌+◌, List, [], ◌∷◌, ◌++◌, length, map, Some, Bool, true, false}
+use Rattle.std.proofs.Common.{◌≡◌, ◌⊎◌, inl, inr, subst, ℕ, ◌+◌, ◌<◌, ◌^◌, List, [], ◌∷◌, ◌++◌, length, map, Some, Bool, true, false}
 use Rattle.std.specs.Set.{is_member}
 use Rattle.nim_types.specs.Types.{same_text}
 use Rattle.nim_types.specs.declared.types.TypeDef.{TypeDef}
-use Rattle.nim_meaning.specs.Values.{Value, Fixed, number_of, Base, Made, Location, Standing, Slot, Holds, Stands}
+use Rattle.nim_meaning.specs.Values.{Value, Fixed, number_of, Base, Made, Location, Standing, InBlock, Slot, Holds, Stands}
 use Rattle.nim_meaning.specs.Places.{root_of}
 use Rattle.nim_meaning.specs.State.{World, slot_at}
 use Rattle.flat_code.specs.declared.block.BlockLine.{BlockLine}
 use Rattle.flat_code.specs.declared.code.Code.{Code}
 use Rattle.flat_code.specs.declared.line.Piece.{Piece}
 use Rattle.flat_code.specs.declared.place.PlaceKind.{PlaceKind}
-use Rattle.word_code.specs.Memory.{Memory, own_data_at}
+use Rattle.word_code.specs.Memory.{Memory}
 use Rattle.word_code.specs.Words.{Vars}
 use Rattle.flat_code.specs.Scene.{Where, Located, Within, Temps}
 use Rattle.flat_code.specs.Shapes.{Shape, has_shape}
 use Rattle.flat_code.specs.Fits.{is_value, is_location, is_declared, is_own, is_standing}
+use Rattle.word_lowering.specs.Lowered.{data_at}
 use Rattle.word_lowering.specs.declared.homes.TheConstants.{LEFT}
 use Rattle.word_lowering.specs.declared.homes.Alias.{Alias}
 use Rattle.word_lowering.specs.declared.homes.Alias.TheVariants as alias
@@ -36,7 +37,8 @@ use Rattle.word_lowering.specs.Texts.{texts_at, standing_place}
 use Rattle.word_lowering.specs.LineCode.{variable_of}
 use Rattle.word_lowering.proofs.InMemory.{IsAt}
 use Rattle.word_lowering.proofs.Blocks.{Blocks, AreLater, Stored}
-use Rattle.word_lowering.proofs.ShapeFacts.{of_numbers}
+use Rattle.word_lowering.proofs.BlockPaths.{LeadsInBlock}
+use Rattle.word_lowering.proofs.ShapeFacts.{of_numbers, shape_bytes}
 use Rattle.word_lowering.proofs.ShapePaths.{PathTo}
 use Rattle.word_lowering.proofs.Sites.{Body, data_end, lines_of, Site, AmongSites, Among, looks, There, InMemory}
 
@@ -46,12 +48,12 @@ use Rattle.word_lowering.proofs.Sites.{Body, data_end, lines_of, Site, AmongSite
 abbrev pub address_of : (base : ℕ) → Home → ℕ
 address_of base (Variable v) = 0
 address_of base (Placed at) = base + at
-address_of base (Static at) = own_data_at + at
+address_of base (Static at) = data_at + at
 
 abbrev pub Points : (base : ℕ) → Vars → Home → ℕ → Type 0
 Points base vars (Variable v) a = vars v ≡ Some a
 Points base vars (Placed at) a = a ≡ base + at
-Points base vars (Static at) a = a ≡ own_data_at + at
+Points base vars (Static at) a = a ≡ data_at + at
 
 -- blocks by their identities, and whether a text stands at a place of the data
 pub record Ground : Type 0 where
@@ -146,7 +148,12 @@ pub record IsLiteral (b : Body) (behind bytes : ℕ) (x : Value) : Type 0 where
   pub at : length before ≡ behind
   pub among : is_member same_text (lines_texts (lines_of b)) text ≡ true
 
--- in a place, and in no value or constant
+-- in a block
+abbrev pub IsInBlock : Base → Type 0
+IsInBlock (InBlock block) = Unit {0}
+IsInBlock base = ⊥
+
+-- in a place, and in no value, constant or block
 abbrev pub IsOfPlace : Base → Type 0
 IsOfPlace (Standing level number) = Unit {0}
 IsOfPlace base = ⊥
@@ -232,7 +239,7 @@ module _ (table : List TypeDef) where
     -- ---- constants that stand in the data
 
     abbrev pub standing_from : List Piece → ℕ
-    standing_from pieces = own_data_at + (texts_at table (data_end table blocks) + standing_place blocks.procs pieces)
+    standing_from pieces = data_at + (texts_at table (data_end table blocks) + standing_place blocks.procs pieces)
 
     -- an address is that of a location in a constant of the code
     pub record FromConstant (location : Location) (a : ℕ) (t : Shape) : Type 0 where
@@ -247,33 +254,41 @@ module _ (table : List TypeDef) where
       pub path : PathTo shape location.path offset t
       pub address : a ≡ standing_from pieces + offset
 
-    abbrev pub Leads : (sites : List Site) → World → (s : Site) → Temps → Where → ℕ → Shape → Type 0
-    Leads sites w s temps (Located location) a t = FromPlace sites w location a t ⊎ FromConstant location a t
-    Leads sites w s temps (Within temp path) a t = FromValue s temps temp path a t
+    -- or in a block; the address is known while that stands
+    pub record FromBlock (ground : Ground) (location : Location) (a : ℕ) (t : Shape) : Type 0 where
+      pub block : ℕ
+      pub base : location.base ≡ InBlock block
+      pub leads : LeadsInBlock ground.blocks block location.path a t
+      pub near : a + shape_bytes t < 2 ^ 32
 
-    pub of_a_place : {sites : List Site} {w : World} {location : Location} {a : ℕ} {t : Shape} → IsOfPlace location.base
-        → FromPlace sites w location a t ⊎ FromConstant location a t → FromPlace sites w location a t
+    abbrev pub Leads : (sites : List Site) → Ground → World → (s : Site) → Temps → Where → ℕ → Shape → Type 0
+    Leads sites ground w s temps (Located location) a t = FromPlace sites w location a t ⊎ (FromConstant location a t ⊎ FromBlock ground location a t)
+    Leads sites ground w s temps (Within temp path) a t = FromValue s temps temp path a t
+
+    pub of_a_place : {sites : List Site} {ground : Ground} {w : World} {location : Location} {a : ℕ} {t : Shape} → IsOfPlace location.base
+        → FromPlace sites w location a t ⊎ (FromConstant location a t ⊎ FromBlock ground location a t) → FromPlace sites w location a t
     of_a_place is (inl f) = f
-    of_a_place is (inr f) = absurd (subst IsOfPlace f.base is)
+    of_a_place is (inr (inl f)) = absurd (subst IsOfPlace f.base is)
+    of_a_place is (inr (inr f)) = absurd (subst IsOfPlace f.base is)
 
     -- ---- temporaries with locations
 
     -- with the address in a variable
-    pub record IsAddressed (sites : List Site) (w : World) (c : Call) (temp : ℕ) (there : Where) : Type 0 where
+    pub record IsAddressed (sites : List Site) (ground : Ground) (w : World) (c : Call) (temp : ℕ) (there : Where) : Type 0 where
       -- one that may be written is of a place
       pub standing : is_standing (house c.site (of_location temp)).kind ≡ true → OfPlace there
       pub address : ℕ
       pub holds : c.vars (variable_of (house c.site (of_location temp))) ≡ Some address
-      pub leads : Leads sites w c.site c.temps there address (looked c.site (of_location temp))
+      pub leads : Leads sites ground w c.site c.temps there address (looked c.site (of_location temp))
 
-    abbrev pub IsLedBy : Alias → (sites : List Site) → World → Call → (temp : ℕ) → Where → Type 0
-    IsLedBy alias.Own sites w c temp there = IsAddressed sites w c temp there
-    IsLedBy (alias.Place place global) sites w c temp there = IsRoot sites w c place global there
-    IsLedBy (alias.Value t) sites w c temp there = IsInValue c t there
-    IsLedBy (alias.Text behind bytes) sites w c temp there = ⊥
+    abbrev pub IsLedBy : Alias → (sites : List Site) → Ground → World → Call → (temp : ℕ) → Where → Type 0
+    IsLedBy alias.Own sites ground w c temp there = IsAddressed sites ground w c temp there
+    IsLedBy (alias.Place place global) sites ground w c temp there = IsRoot sites w c place global there
+    IsLedBy (alias.Value t) sites ground w c temp there = IsInValue c t there
+    IsLedBy (alias.Text behind bytes) sites ground w c temp there = ⊥
 
-    abbrev pub IsLed : (sites : List Site) → World → Call → (temp : ℕ) → Where → Type 0
-    IsLed sites w c temp there = IsLedBy (house c.site (of_location temp)).alias sites w c temp there
+    abbrev pub IsLed : (sites : List Site) → Ground → World → Call → (temp : ℕ) → Where → Type 0
+    IsLed sites ground w c temp there = IsLedBy (house c.site (of_location temp)).alias sites ground w c temp there
 
     -- ---- all of it
 
@@ -281,7 +296,7 @@ module _ (table : List TypeDef) where
       pub items : (name : Name) (x : Value) → IsThere c.site name → HasValue w c name x → IsItem k c name x
       pub texts : (t behind bytes : ℕ) (x : Value) → IsNamed c.site (of_value t) → (house c.site (of_value t)).alias ≡ alias.Text behind bytes
           → c.temps.values t ≡ Some x → IsLiteral c.site.body behind bytes x
-      pub led : (t : ℕ) (there : Where) → IsNamed c.site (of_location t) → c.temps.places t ≡ Some there → IsLed sites w c t there
+      pub led : (t : ℕ) (there : Where) → IsNamed c.site (of_location t) → c.temps.places t ≡ Some there → IsLed sites k.ground w c t there
       pub filled : (n : ℕ) → IsThere c.site (of_place n) → Filled w c.site.level n → IsFilled sites w c n
       pub left : c.site.body.start ≡ false → c.vars LEFT ≡ Some c.site.left
 

@@ -3,7 +3,7 @@ use Rattle.std.proofs.Common.{◌≡◌, ℕ, zero, suc, ◌+◌, ◌*◌, ◌<�
 use Rattle.std.proofs.Common.{subst, ◌∙◌, arith, mul-suc, mul_comm, mul-le-mul, le_refl}
 use Rattle.std.proofs.lemmas.Bool.{and_parts, and_from}
 use Rattle.nim_types.specs.Forms.{or_word}
-use Rattle.nim_meaning.specs.Values.{Value, Number, Parts, Handle, Fixed, Ref, Resource, Gone, Vacant, Values, Nil, More, bytes, count, parts_of, nth}
+use Rattle.nim_meaning.specs.Values.{Value, Number, Parts, Handle, Fixed, Ref, Resource, Gone, Vacant, Values, Nil, More, bytes, count, parts_of, nth, nth_part}
 use Rattle.nim_meaning.specs.Values.{with_nth, with_part, part, put_part}
 use Rattle.flat_code.specs.Shapes.{Shape, number, reference, block, elements, row, parts, resource, Shapes, no_shapes, shapes, has_shape, are_rows}
 use Rattle.flat_code.specs.Shapes.{have_shapes}
@@ -106,7 +106,7 @@ parts_value (Gone v f) ss h = never h
 parts_value Vacant ss h = never h
 
 step_in : (v : Value) (s : Shape) (i o : ℕ) (t : Shape) → of_numbers s ≡ true → has_shape v s ≡ true → Step s i o t
-    → (i < count (parts_of v)) × (before (parts_of v) i ≡ o) × (has_shape (nth (parts_of v) i) t ≡ true)
+    → (i < count (parts_of v)) × (before (parts_of v) i ≡ o) × (has_shape (nth_part v i) t ≡ true)
 step_in v (number x) i o t n h st = absurd st
 step_in v reference i o t n h st = absurd st
 step_in v block i o t n h st = absurd st
@@ -114,17 +114,17 @@ step_in v (elements s) i o t n h st = absurd st
 step_in v (resource ss) i o t n h st = absurd st
 step_in v (row m s) i o t n h st = by (row_value v m s h)
   where
-    by : IsParts v → (i < count (parts_of v)) × (before (parts_of v) i ≡ o) × (has_shape (nth (parts_of v) i) t ≡ true)
+    by : IsParts v → (i < count (parts_of v)) × (before (parts_of v) i ≡ o) × (has_shape (nth_part v i) t ≡ true)
     by p =
         let r = row_part p.all m s i (row_numbers m i s st.0 n) (subst (λ x. has_shape x (row m s) ≡ true) p.is h) st.0 in
-        subst (λ x. (i < count (parts_of x)) × (before (parts_of x) i ≡ o) × (has_shape (nth (parts_of x) i) t ≡ true)) (sym p.is)
+        subst (λ x. (i < count (parts_of x)) × (before (parts_of x) i ≡ o) × (has_shape (nth_part x i) t ≡ true)) (sym p.is)
         (r.0, r.1 ∙ sym st.1, subst (λ x. has_shape (nth p.all i) x ≡ true) st.2 r.2)
 step_in v (parts ss) i o t n h st = by (parts_value v ss h)
   where
-    by : IsParts v → (i < count (parts_of v)) × (before (parts_of v) i ≡ o) × (has_shape (nth (parts_of v) i) t ≡ true)
+    by : IsParts v → (i < count (parts_of v)) × (before (parts_of v) i ≡ o) × (has_shape (nth_part v i) t ≡ true)
     by p =
         let r = field_part p.all ss i t n (subst (λ x. has_shape x (parts ss) ≡ true) p.is h) st.0 in
-        subst (λ x. (i < count (parts_of x)) × (before (parts_of x) i ≡ o) × (has_shape (nth (parts_of x) i) t ≡ true)) (sym p.is)
+        subst (λ x. (i < count (parts_of x)) × (before (parts_of x) i ≡ o) × (has_shape (nth_part x i) t ≡ true)) (sym p.is)
         (r.0, r.1 ∙ sym st.1, r.2)
 
 pub path_in : (v : Value) (s : Shape) (path : List ℕ) (o : ℕ) (t : Shape) → of_numbers s ≡ true → has_shape v s ≡ true → PathTo s path o t
@@ -132,7 +132,7 @@ pub path_in : (v : Value) (s : Shape) (path : List ℕ) (o : ℕ) (t : Shape) �
 path_in v s [] o t n h p = (tt, sym p.0, subst (λ x. has_shape v x ≡ true) p.1 h)
 path_in v s (i ∷ path) o t n h p =
     let a = step_in v s i p.1 p.0 n h p.3 in
-    let b = path_in (nth (parts_of v) i) p.0 path p.2 t (step_numbers s i p.1 p.0 n p.3) a.2 p.4 in
+    let b = path_in (nth_part v i) p.0 path p.2 t (step_numbers s i p.1 p.0 n p.3) a.2 p.4 in
     ((a.0, b.0), ap₂ (λ x y. x + y) a.1 b.1 ∙ sym p.5, b.2)
 
 -- a step further
@@ -182,8 +182,8 @@ pub path_put : (v : Value) (s : Shape) (path : List ℕ) (o : ℕ) (t : Shape) (
 path_put v s [] o t new n h p g = subst (λ x. has_shape new x ≡ true) (sym p.1) g
 path_put v s (i ∷ path) o t new n h p g =
     let a = step_in v s i p.1 p.0 n h p.3 in
-    step_put v s i p.1 p.0 (put_part (nth (parts_of v) i) path new) h p.3
-    (path_put (nth (parts_of v) i) p.0 path p.2 t new (step_numbers s i p.1 p.0 n p.3) a.2 p.4 g)
+    step_put v s i p.1 p.0 (put_part (nth_part v i) path new) h p.3
+    (path_put (nth_part v i) p.0 path p.2 t new (step_numbers s i p.1 p.0 n p.3) a.2 p.4 g)
 
 -- ---- parts of a shape are inside of it
 

@@ -25,6 +25,8 @@ use Rattle.flat_code.specs.Fits.{all_fit, start_places, result_at}
 use Rattle.flat_code.specs.Running.{before_last, from_label as line_from}
 use Rattle.flat_code.specs.Codes.{block_plain, block_label}
 use Rattle.flat_code.specs.Sizes.{lines_texts, code_texts}
+use Rattle.word_code.specs.Joined.{moved}
+use Rattle.heap_memory.specs.declared.numbers.TheConstants.{HEAP_DATA}
 use Rattle.word_lowering.specs.declared.homes.TheConstants.{OWN_FROM}
 use Rattle.word_lowering.specs.declared.homes.Alias.TheVariants as alias
 use Rattle.word_lowering.specs.declared.homes.Home.{Home}
@@ -140,7 +142,7 @@ module _ (table : List TypeDef) (blocks : Code BlockLine) where
   }
 
   abbrev pub word_of : Body → WordProc
-  word_of b = word_proc (around b) b.number b.proc
+  word_of b = moved HEAP_DATA (word_proc (around b) b.number b.proc)
 
   abbrev pub sigs : List Signature
   sigs = signatures block_plain (known_in table) (before_last blocks.procs)
@@ -239,6 +241,8 @@ module _ (table : List TypeDef) (blocks : Code BlockLine) where
     pub once : (name : ℕ) (before after found_there : List BlockLine) → b.proc.lines ≡ before ++ after
         → line_from block_label name after ≡ Some found_there → line_from block_label name b.proc.lines ≡ Some found_there
     pub result : ResultIs b.own.all (result_at (known_in table) b.proc.places) (result_in b.own.all)
+    -- nothing waits yet
+    pub waiters : b.own.waiters ≡ []
     pub room_whole : room b % 4 ≡ 0
     pub room_most : room b ≤ MOST_ROOM
     -- a result stands within the room for arguments

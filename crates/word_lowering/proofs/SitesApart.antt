@@ -8,8 +8,8 @@ use Rattle.flat_code.specs.declared.place.PlaceKind.{PlaceKind}
 use Rattle.flat_code.specs.declared.place.PlaceKind.TheVariants as K
 use Rattle.flat_code.specs.declared.block.BlockLine.{BlockLine}
 use Rattle.flat_code.specs.declared.code.Code.{Code}
-use Rattle.word_code.specs.Memory.{own_data_at}
 use Rattle.flat_code.specs.Fits.{is_value, is_location, is_declared}
+use Rattle.word_lowering.specs.Lowered.{data_at}
 use Rattle.word_lowering.proofs.ShapeFacts.{never}
 use Rattle.word_lowering.specs.declared.homes.Home.{Home}
 use Rattle.word_lowering.specs.declared.homes.Home.TheVariants.{Variable, Placed, Static}
@@ -118,12 +118,12 @@ module _ (table : List TypeDef) (blocks : Code BlockLine) where
   -- among the globals, or among the places of a call
   abbrev pub InRange : Site → (a n : ℕ) → Type 0
   InRange s a n =
-      ((s.body.start ≡ true) × (own_data_at + FIXED_BYTES ≤ a) × (a + n ≤ own_data_at + data_end table blocks))
+      ((s.body.start ≡ true) × (data_at + FIXED_BYTES ≤ a) × (a + n ≤ data_at + data_end table blocks))
       ⊎ ((s.base ≤ a) × (a + n ≤ s.base + room s.body))
 
   -- a word of the globals, or of the places of calls
   abbrev pub IsPlace : (a : ℕ) → Type 0
-  IsPlace a = ((own_data_at + FIXED_BYTES ≤ a) × (a + 4 ≤ own_data_at + data_end table blocks)) ⊎ (stack_at ≤ a)
+  IsPlace a = ((data_at + FIXED_BYTES ≤ a) × (a + 4 ≤ data_at + data_end table blocks)) ⊎ (stack_at ≤ a)
 
   pub in_range : (s : Site) (h : Housed) → IsHoused table blocks s.body h → InMemory h.home → InRange s (address_of s.base h.home) h.bytes
   in_range s h x inside = by x.where_is

@@ -1,7 +1,7 @@
 -- Procedures of word code are small, chains of those that don't count are short, and there are no hooks but block code's.
-use Rattle.std.proofs.Common.{◌≡◌, ℕ, suc, ◌≤◌, List, [], ◌∷◌, length, map, Bool, true, false}
+use Rattle.std.proofs.Common.{◌≡◌, ℕ, suc, ◌+◌, ◌≤◌, List, [], ◌∷◌, length, map, Bool, true, false}
 use Rattle.std.proofs.Common.{Option, Some, None}
-use Rattle.std.proofs.Common.{refl, sym, ap, ◌∙◌, arith, ◌++◌}
+use Rattle.std.proofs.Common.{refl, sym, ap, ◌∙◌, arith, ◌++◌, length-append}
 use Rattle.std.proofs.lemmas.Bool.{and_parts, and_from, le-leb, true≢false}
 use Rattle.nim_types.specs.declared.types.TypeDef.{TypeDef}
 use Rattle.nim_program.specs.declared.program.HookOf.{HookOf}
@@ -13,13 +13,14 @@ use Rattle.word_code.specs.declared.word.WordCode.{WordCode}
 use Rattle.flat_code.specs.Codes.{hooks_of, AreNone}
 use Rattle.flat_code.specs.Running.{last_of}
 use Rattle.word_code.specs.Sizes.{AreRanked, longest_chain, has_no_circle}
-use Rattle.word_code.specs.Joined.{all_moved, joined}
-use Rattle.word_code.specs.Runtime.{AreRoutines, IsRuntime}
+use Rattle.word_code.specs.Joined.{moved, all_moved, joined, HaveRoom}
+use Rattle.word_code.specs.Runtime.{AreRoutines, IsSmallRoutine}
 use Rattle.word_code.specs.Words.{is_counted, most_called, is_no_hook, have_no_hooks}
 use Rattle.word_code.proofs.ForCallers.{levels_most}
 use Rattle.word_code.proofs.ForCallers.{joined_ranked, joined_unhooked}
 use Rattle.word_lowering.specs.declared.homes.Layout.{Layout}
-use Rattle.word_code.specs.declared.routine.TheConstants.{ROUTINE_CHAIN}
+use Rattle.heap_memory.specs.declared.numbers.TheConstants.{HEAP_CHAIN, HEAP_DATA}
+use Rattle.word_lowering.specs.Runtimes.{Runtimes, with_runtimes}
 use Rattle.word_lowering.specs.declared.texts.TheConstants.{FIXED_BYTES}
 use Rattle.word_lowering.specs.declared.may_lower.TheConstants.{MOST_ROOM, MOST_VARS}
 use Rattle.word_lowering.specs.Layouts.{is_empty, layouts, layout_of}
@@ -97,11 +98,29 @@ own_small table blocks may =
     let own = last_small table FIXED_BYTES no_layout procs (omega arith) (omega arith) each in
     (proc_small x 0 (last_of code.no_proc procs) own.0 own.1, procs_small table FIXED_BYTES x 0 procs each)
 
-pub are_small : (table : List TypeDef) (blocks : Code BlockLine) → may_lower table blocks ≡ true → (runtime : WordCode) → AreRoutines runtime.procs
-    → AreSmall (joined (code.lowered table blocks) runtime).procs
-are_small table blocks may runtime are =
-    both_small (code.lowered table blocks).procs (all_moved (length (code.lowered table blocks).statics) runtime.procs) (own_small table blocks may)
-    (moved_small (length (code.lowered table blocks).statics) runtime.procs are)
+small_moved : (n : ℕ) (procs : List WordProc) → AreSmall procs → AreSmall (all_moved n procs)
+small_moved n [] h = tt
+small_moved n (p ∷ procs) h = (record { room = h.0.room; variables = h.0.variables; routine = small_routine p h.0 }, small_moved n procs h.1)
+  where
+    small_routine : (p : WordProc) → IsSmall p → is_counted p.kind ≡ false → IsSmallRoutine (moved n p)
+    small_routine p h e = let own = h.routine e in record { room = own.room; variables = own.variables }
+
+routines_small : (procs : List WordProc) → AreRoutines procs → AreSmall procs
+routines_small [] are = tt
+routines_small (p ∷ procs) are =
+    let own = are.0.small in
+    let room = own.room in
+    let variables = own.variables in
+    (record { room = omega (arith, room); variables = omega (arith, variables); routine = λ e. own }, routines_small procs are.1)
+
+pub are_small : (table : List TypeDef) (blocks : Code BlockLine) → may_lower table blocks ≡ true → (r : Runtimes)
+    → AreSmall (with_runtimes r (code.lowered table blocks)).procs
+are_small table blocks may r =
+    let own : List WordProc = all_moved (length r.heap.statics) (code.lowered table blocks).procs in
+    both_small (r.heap.procs ++ own) (all_moved (length (joined r.heap (code.lowered table blocks)).statics) r.others.procs)
+    (both_small r.heap.procs own (routines_small r.heap.procs r.is_heap.routines)
+    (small_moved (length r.heap.statics) (code.lowered table blocks).procs (own_small table blocks may)))
+    (moved_small (length (joined r.heap (code.lowered table blocks)).statics) r.others.procs r.is_others.routines)
 
 -- ---- chains of calls of what doesn't count
 
@@ -130,23 +149,29 @@ module _ (rank : ℕ → ℕ) where
       let all : List Layout = code.all_layouts table blocks.procs in
       (counted_ranked true (last_of code.no_proc blocks.procs).hook _ _, procs_ranked x 0 all blocks.procs)
 
-module _ (table : List TypeDef) (blocks : Code BlockLine) (runtime : WordCode) (is : IsRuntime runtime) where
-  abbrev all_procs : List WordProc
-  all_procs = (joined (code.lowered table blocks) runtime).procs
+module _ (table : List TypeDef) (blocks : Code BlockLine) (r : Runtimes) where
+  abbrev front : WordCode
+  front = joined r.heap (code.lowered table blocks)
 
-  are_ranked : AreRanked is.rank all_procs
+  abbrev all_procs : List WordProc
+  all_procs = (with_runtimes r (code.lowered table blocks)).procs
+
+  are_ranked : AreRanked r.rank all_procs
   are_ranked =
-      joined_ranked is.rank (length (code.lowered table blocks).statics) (code.lowered table blocks).procs runtime.procs
-      (own_ranked is.rank table blocks) is.ranked
+      joined_ranked r.rank (length front.statics) front.procs r.others.procs
+      (joined_ranked r.rank (length r.heap.statics) r.heap.procs (code.lowered table blocks).procs r.heap_ranked (own_ranked r.rank table blocks))
+      r.others_ranked
 
   pub no_circle : has_no_circle all_procs ≡ true
   no_circle =
-      let some : ROUTINE_CHAIN ≤ length all_procs = omega arith in
-      let most = levels_most is.rank all_procs are_ranked ROUTINE_CHAIN is.chain (suc (length all_procs)) in
-      le-leb _ (length all_procs) (omega (arith, most, some))
+      let many = r.many in
+      let l = length-append front.procs (all_moved (length front.statics) r.others.procs) in
+      let f = length-append r.heap.procs (all_moved (length r.heap.statics) (code.lowered table blocks).procs) in
+      let most = levels_most r.rank all_procs are_ranked HEAP_CHAIN r.chain (suc (length all_procs)) in
+      le-leb _ (length all_procs) (omega (arith, most, many, l, f))
 
-  pub chain_short : longest_chain all_procs ≤ ROUTINE_CHAIN
-  chain_short = levels_most is.rank all_procs are_ranked ROUTINE_CHAIN is.chain (length all_procs)
+  pub chain_short : longest_chain all_procs ≤ HEAP_CHAIN
+  chain_short = levels_most r.rank all_procs are_ranked HEAP_CHAIN r.chain (length all_procs)
 
 -- without a runtime there are none
 pub no_chain : (table : List TypeDef) (blocks : Code BlockLine) → longest_chain (code.lowered table blocks).procs ≤ 0
@@ -182,8 +207,26 @@ routines_unhooked [] are = refl
 routines_unhooked (p ∷ procs) are =
     and_from (is_no_hook p.kind) (have_no_hooks procs) (ap is_no_hook are.0.kind) (routines_unhooked procs are.1)
 
-pub unhooked : (table : List TypeDef) (blocks : Code BlockLine) (runtime : WordCode) → AreRoutines runtime.procs → AreNone (hooks_of blocks)
-    → have_no_hooks (joined (code.lowered table blocks) runtime).procs ≡ true
-unhooked table blocks runtime are none =
-    joined_unhooked (length (code.lowered table blocks).statics) (code.lowered table blocks).procs runtime.procs (own_unhooked table blocks none)
-    (routines_unhooked runtime.procs are)
+pub unhooked : (table : List TypeDef) (blocks : Code BlockLine) (r : Runtimes) → AreNone (hooks_of blocks)
+    → have_no_hooks (with_runtimes r (code.lowered table blocks)).procs ≡ true
+unhooked table blocks r none =
+    joined_unhooked (length (front table blocks r).statics) (front table blocks r).procs r.others.procs
+    (joined_unhooked (length r.heap.statics) r.heap.procs (code.lowered table blocks).procs (routines_unhooked r.heap.procs r.is_heap.routines)
+    (own_unhooked table blocks none))
+    (routines_unhooked r.others.procs r.is_others.routines)
+
+-- its procedures have all data
+none_far : (n : ℕ) (x : Around) (index : ℕ) (owns : List Layout) (procs : List (CodeProc BlockLine)) → n ≤ 4294967295
+    → HaveRoom n (code.word_procs x index owns procs)
+none_far n x index owns [] small = tt
+none_far n x index [] (p ∷ procs) small = tt
+none_far n x index (own ∷ owns) (p ∷ []) small = tt
+none_far n x index (own ∷ owns) (p ∷ q ∷ ps) small = room_if own.runs _ _ (omega (arith, small)) (none_far n x (suc index) owns (q ∷ ps) small)
+  where
+    room_if : (runs : Bool) (p : WordProc) (procs : List WordProc) → n + p.data_from ≤ 4294967295 → HaveRoom n procs → HaveRoom n (code.if_runs runs p procs)
+    room_if true p procs h rest = (h, rest)
+    room_if false p procs h rest = rest
+
+pub own_room : (table : List TypeDef) (blocks : Code BlockLine) → HaveRoom HEAP_DATA (code.lowered table blocks).procs
+own_room table blocks =
+    (omega arith, none_far HEAP_DATA (code.start_around table blocks.procs) 0 (code.all_layouts table blocks.procs) blocks.procs (omega arith))

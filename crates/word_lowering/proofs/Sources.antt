@@ -1,11 +1,12 @@
 -- Where values are that lines move: in a variable, or in memory within the place of a call.
-use Rattle.std.proofs.Common.{◌≡◌, ◌≢◌, ◌⊎◌, inl, inr, ℕ, zero, suc, ◌+◌, ◌*◌, ◌%◌, ◌^◌, ◌<◌, ◌≤◌, List, Some}
+use Rattle.std.proofs.Common.{length, ◌≡◌, ◌≢◌, ◌⊎◌, inl, inr, ℕ, zero, suc, ◌+◌, ◌*◌, ◌%◌, ◌^◌, ◌<◌, ◌≤◌, List, Some}
 use Rattle.std.proofs.Common.{ℤ, Bool, true, false, refl, sym, ap₂, subst, ◌∙◌, arith}
 use Rattle.nim_meaning.specs.Values.{Value, Number, Parts, Handle, Fixed, Ref, Resource, Gone, Vacant, bytes}
 use Rattle.word_code.specs.Memory.{Memory}
 use Rattle.word_code.specs.Words.{Vars}
 use Rattle.word_code.specs.declared.word.WordInstr.{WordInstr}
 use Rattle.flat_code.specs.Shapes.{has_shape}
+use Rattle.heap_memory.specs.declared.numbers.TheConstants.{HEAP_DATA}
 use Rattle.word_lowering.proofs.ShapeFacts.{never, bytes_is}
 use Rattle.word_code.specs.RoutineTable.{Cell, Area, Separate}
 use Rattle.word_code.proofs.ForCallers.{Within}
@@ -16,6 +17,9 @@ use Rattle.word_lowering.specs.declared.homes.Housed.{Housed}
 use Rattle.word_lowering.specs.declared.spots.Spot.{Spot}
 use Rattle.word_lowering.specs.declared.spots.Spot.TheVariants.{Held, Lies}
 use Rattle.word_lowering.specs.declared.texts.TheConstants.{FIXED_BYTES}
+use Rattle.rv32_isa.specs.Image.{heap_at}
+use Rattle.word_code.specs.RoutineTable.{Beside as Beside_of}
+use Rattle.word_lowering.specs.Lowered.{data_at}
 use Rattle.word_lowering.specs.Layouts.{is_address}
 use Rattle.word_lowering.specs.Spots.{spot_of, moved, moves}
 use Rattle.word_lowering.proofs.InMemory.{IsAt, HasWords}
@@ -93,6 +97,21 @@ module _ (x : Basis) (sites : List Site) (linked : Linked x.table x.blocks sites
       by (inl r) (inr t) = inr (omega (arith, r.2, t.0))
       by (inr r) (inl t) = let h = s.least in inl (omega (arith, r.0, h, t.1))
       by (inr r) (inr t) = let h = s.least in inl (omega (arith, r.0, h, t.1))
+
+  -- and it is beside the heap, and behind the data in front of the program's
+  pub lying_away : (m : Memory) (a n : ℕ) → MemoryGood x.table x.blocks sites x.first m → Lying a n
+      → (data_at ≤ a) × Beside_of heap_at (length m.heap) a n
+  lying_away m a n good l = by (lying_range a n l)
+    where
+      s : SiteAt x.table x.blocks sites l.site
+      s = site_at x.table x.blocks sites l.site linked l.among
+
+      by : InRange x.table x.blocks l.site a n → (data_at ≤ a) × Beside_of heap_at (length m.heap) a n
+      by (inl r) = let d = x.small in (omega (arith, r.1), inr (omega (arith, r.2, d)))
+      by (inr r) =
+          let h = s.least in
+          let most = good.sized.heap_most in
+          (omega (arith, r.0, h), inl (omega (arith, r.0, h, most)))
 
   -- two ranges of one size, one of which is all of a place, are the same or apart
   pub whole_separate : (a b n : ℕ) (t : Lying a n) (s : Lying b n) → (house t.site t.name).bytes ≡ n → Separate a b n
@@ -250,7 +269,8 @@ module _ (x : Basis) (sites : List Site) (linked : Linked x.table x.blocks sites
 
   -- ---- moves
 
-  module _ (c : Within) (from_first : c.proc.data_from ≡ 0) (g : Vars) (m : Memory) (good : MemoryGood x.table x.blocks sites x.first m) (k : List WordInstr)
+  module _ (c : Within) (from_first : c.proc.data_from ≡ HEAP_DATA) (g : Vars) (m : Memory) (good : MemoryGood x.table x.blocks sites x.first m)
+      (k : List WordInstr)
       (vars : Vars) where
     abbrev IntoMemory : List WordInstr → ℕ → Value → ℕ → Type 0
     IntoMemory lines a v most = ToMemory x.law x.live (all_procs x) c from_first g m lines vars a v most k
@@ -299,7 +319,8 @@ module _ (x : Basis) (sites : List Site) (linked : Linked x.table x.blocks sites
           (Lies other) high
           (b, points', at, readable.near, readable.area))
       lies_to_memory (Parts vs) small lying other high b points' at readable apart =
-          parts_to_memory x.law x.live (all_procs x) c from_first g m good.sized k vars home a points (routines x.table x.blocks) x.runtime.statics (reaches x)
+          parts_to_memory x.law x.live (all_procs x) c from_first g m good.sized k vars home a points (routines x.table x.blocks) x.runtimes.others.statics
+          (reaches x)
           (data_there x sites m good) vs small
           (lying_area m a (bytes (Parts vs)) good lying) (lying_near a (bytes (Parts vs)) lying) other (high_behind other high)
           (b, points', at, readable.near, readable.area) apart

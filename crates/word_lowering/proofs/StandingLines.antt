@@ -1,5 +1,5 @@
 -- Lines that lead to a constant, which stands in the data.
-use Rattle.std.proofs.Common.{inr, ◌≡◌, ℕ, ◌+◌, ◌<◌, ◌^◌, List, [], ◌∷◌, ◌++◌, map, Some, Bool, true, false, refl, sym, ap, subst, ◌∙◌, arith}
+use Rattle.std.proofs.Common.{inl, inr, ◌≡◌, ℕ, ◌+◌, ◌<◌, ◌^◌, List, [], ◌∷◌, ◌++◌, map, Some, Bool, true, false, refl, sym, ap, subst, ◌∙◌, arith}
 use Rattle.std.specs.Prelude.{◌&&◌, ◌||◌, not}
 use Rattle.std.specs.Set.{is_member}
 use Rattle.std.proofs.lemmas.Bool.{and_parts}
@@ -125,4 +125,4 @@ module _ (x : Basis) (labels : LabelsLead x) (g : Both) (rest : List BlockLine) 
       } in
       let near = constant_near x (root_of (Made (value_of pieces)) g.world) address (looked x.table g.call.site (of_location to)) from in
       leads_settles x g standing_here rest y to there address 1 (omega arith) there_to
-      (λ st. both_not may p.1 (y.linked.0.may_be_standing to st)) (inr from) (comes y there_to (omega (arith, near)))
+      (λ st. both_not may p.1 (y.linked.0.may_be_standing to st)) (inr (inl from)) (comes y there_to (omega (arith, near)))

@@ -26,12 +26,14 @@ use Rattle.word_code.specs.Words.{no_words, step}
 use Rattle.word_code.proofs.ForCallers.{Runs, at, none}
 use Rattle.word_lowering.specs.Layouts.{result_in}
 use Rattle.word_lowering.specs.Lowered.{result_cleared}
+use Rattle.word_lowering.specs.WaitingCode.{none_code}
 use Rattle.word_lowering.proofs.LabelsHere.{code_is}
 use Rattle.word_lowering.proofs.Sites.{Body, Site, lines_of, around, word_of, IsBody}
-use Rattle.word_lowering.proofs.Scenes.{Name, of_value, of_location, of_place, HasValue, Filled}
+use Rattle.word_lowering.proofs.Scenes.{is_fixed, Name, of_value, of_location, of_place, HasValue, Filled}
 use Rattle.word_lowering.proofs.Options.{none_some}
 use Rattle.word_lowering.proofs.Related.{Both, code_behind, within, low, MemoryGood, Good}
-use Rattle.word_lowering.proofs.Blocks.{Bytes}
+use Rattle.nim_meaning.specs.Heap.{heap_of}
+use Rattle.word_lowering.proofs.Blocks.{Bytes, HasHeap}
 
 -- ---- both states
 
@@ -98,7 +100,8 @@ module _ (table : List TypeDef) (blocks : Code BlockLine) (b : Body) (is : IsBod
     ground = record { blocks = record { born = 0; inside = λ k. Bytes; stands = λ k. None }; fixed = λ place text. false };
   }
 
-  module _ (memory : MemoryGood table blocks (site ∷ []) first first) (none_given : as_proc.result ≡ []) where
+  module _ (memory : MemoryGood table blocks (site ∷ []) first first)
+      (has_heap : HasHeap (is_fixed first_pair.ground) first_pair.ground.blocks (heap_of heap) first) (none_given : as_proc.result ≡ []) where
     no_slot : (n : ℕ) → Filled first_pair.world 0 n → ⊥
     no_slot n h = none_filled b.proc.span (n - b.proc.first) as_proc.result h.0 none_given h.1
 
@@ -111,6 +114,8 @@ module _ (table : List TypeDef) (blocks : Code BlockLine) (b : Body) (is : IsBod
     first_good = record {
       linked = (is, start, refl, refl, refl, tt);
       memory = memory;
+      heap = has_heap;
+      input = refl;
       hold = (
         record {
           items = λ name x i h. absurd (no_item name x h);
@@ -145,4 +150,7 @@ module _ (table : List TypeDef) (blocks : Code BlockLine) (b : Body) (is : IsBod
         (sym first_code) (none (step live all) (low table blocks first_pair))
       where
         first_code : (word_of table blocks b).lines ≡ code_behind table blocks b b.proc.lines
-        first_code = code_is (around table blocks b) (lines_of b) ∙ ap (λ r. result_cleared r (code_behind table blocks b b.proc.lines)) result
+        first_code =
+            code_is (around table blocks b) (lines_of b)
+            ∙ ap (λ r. result_cleared r (none_code b.own.waiters (code_behind table blocks b b.proc.lines))) result
+            ∙ ap (λ ws. none_code ws (code_behind table blocks b b.proc.lines)) is.waiters

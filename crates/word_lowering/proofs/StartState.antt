@@ -1,5 +1,5 @@
 -- The start of word code: it is at the first line of block code, and both states belong together there.
-use Rattle.std.proofs.Common.{Option, ◌≡◌, ℕ, List, [], ◌∷◌, ◌++◌, map, None, true, refl, sym, ap, subst, ◌+◌}
+use Rattle.std.proofs.Common.{Option, ◌≡◌, ℕ, List, [], ◌∷◌, ◌++◌, map, None, false, true, refl, sym, ap, subst, ◌+◌}
 use Rattle.std.proofs.Common.{◌∙◌}
 use Rattle.std.proofs.lemmas.Bool.{and_parts, false≢true}
 use Rattle.rv32_isa.specs.Machine.{Lives}
@@ -11,10 +11,15 @@ use Rattle.flat_code.specs.declared.code.CodeProc.{CodeProc}
 use Rattle.flat_code.specs.declared.code.Code.{Code}
 use Rattle.nim_meaning.specs.State.{world_of}
 use Rattle.word_code.specs.declared.word.WordCode.{WordCode}
+use Rattle.word_code.specs.declared.word.WordProc.{WordProc}
+use Rattle.word_code.specs.Memory.{Memory, as_state, own_data_at}
+use Rattle.word_code.specs.declared.word.WordCode.{WordCode}
 use Rattle.word_code.specs.Joined.{joined}
-use Rattle.word_code.specs.Memory.{Memory}
+use Rattle.rv32_isa.specs.Regions.{HasRegions}
+use Rattle.nim_meaning.specs.Heap.{heap_of}
+use Rattle.heap_memory.specs.HeapState.{none_stands, IsHeap}
 use Rattle.flat_code.specs.Scene.{known_in}
-use Rattle.word_code.specs.Words.{start as word_start}
+use Rattle.word_code.specs.Words.{WordState, no_words, from_proc, first_of, start as word_start}
 use Rattle.flat_code.specs.Codes.{block_label, block_does, proc_of, procs_of, result_in as slots_of}
 use Rattle.flat_code.specs.Fits.{result_at, params_at, results_at, are_none}
 use Rattle.flat_code.specs.Running.{Proc, no_proc as no_run_proc, last_of, start_of, frame_of, beginning, at_first}
@@ -25,9 +30,14 @@ use Rattle.word_lowering.specs.Lowered.{no_proc, start_layout, lowered}
 use Rattle.word_lowering.specs.Lowers.{IsFitting}
 use Rattle.word_lowering.specs.MayLower.{may_lower}
 use Rattle.word_lowering.specs.Stored.{HaveForms}
-use Rattle.word_lowering.proofs.Sites.{Body, globals_of, ResultIs, IsBody, Site, next_base}
+use Rattle.word_lowering.specs.Runtimes.{Runtimes, with_runtimes}
+use Rattle.word_lowering.proofs.Sites.{Body, globals_of, ResultIs, IsBody, Site, next_base, word_of}
 use Rattle.word_lowering.proofs.Related.{Both, low, high, MemoryGood, Good}
 use Rattle.word_lowering.proofs.FirstMemory.{first_memory, start_room}
+use Rattle.word_lowering.proofs.Blocks.{Bytes, Blocks, HasHeap}
+use Rattle.word_lowering.proofs.JoinedRoutines.{joined_again}
+use Rattle.word_lowering.proofs.NamedProcs.{start_found}
+use Rattle.word_lowering.proofs.Padding.{zeros_length}
 use Rattle.word_lowering.proofs.ProcCodes.{start_laid, start_places, start_is_body}
 use Rattle.word_lowering.proofs.StartPair.{no_results, first_pair, first_good, first_runs}
 use Rattle.rv32_isa.specs.Image.{stack_at}
@@ -41,9 +51,9 @@ last_map : {A B : Type 0} (f : A → B) (none : A) (other : B) (x : A) (xs : Lis
 last_map f none other x [] = refl
 last_map f none other x (y ∷ xs) = last_map f x (f x) y xs
 
-module _ (table : List TypeDef) (blocks : Code BlockLine) (runtime : WordCode) (units : Option ℕ) (heap stack : ℕ) (input : List ℕ) where
+module _ (table : List TypeDef) (blocks : Code BlockLine) (runtime : Runtimes) (units : Option ℕ) (heap stack : ℕ) (input : List ℕ) where
   abbrev code : WordCode
-  code = joined (lowered table blocks) runtime
+  code = with_runtimes runtime (lowered table blocks)
 
   abbrev first : Memory
   first = first_memory code heap stack
@@ -88,8 +98,40 @@ module _ (table : List TypeDef) (blocks : Code BlockLine) (runtime : WordCode) (
     no_place : result_in start_body.own.all ≡ None
     no_place = subst (λ o. ResultIs table blocks start_body.own.all o (result_in start_body.own.all)) no_result.0 start_is.result
 
+    -- the start code is the first procedure
+    start_proc : first_of (from_proc 0 code.procs) ≡ word_of table blocks start_body
+    start_proc = ap first_of (start_found table blocks may runtime)
+
     start_memory : MemoryGood table blocks (record { body = start_body; level = 0; base = stack_at; left = ACTIVE_CALLS } ∷ []) first first
-    start_memory = memory (record { body = start_body; level = 0; base = stack_at; left = ACTIVE_CALLS } ∷ []) refl
+    start_memory =
+        memory (record { body = start_body; level = 0; base = stack_at; left = ACTIVE_CALLS } ∷ []) (ap (λ (p : WordProc). stack_at + p.room) (sym start_proc))
+
+    -- no block was taken
+    abbrev first_blocks : Blocks
+    first_blocks = record { born = 0; inside = λ k. Bytes; stands = λ k. None }
+
+    start_heap : HasHeap (λ place text. false ≡ true) first_blocks (heap_of heap) first
+    unfolding word_start
+    start_heap = record {
+      kept = subst (λ (c : WordCode). IsHeap own_data_at (heap_of heap).classes none_stands (word_start c heap stack input).memory)
+          (sym (joined_again runtime.heap (lowered table blocks) runtime.others))
+          (runtime.is_heap.starts (joined (lowered table blocks) runtime.others) heap stack input
+          (subst (λ (c : WordCode). HasRegions (as_state (word_start c heap stack input).memory))
+          (joined_again runtime.heap (lowered table blocks) runtime.others) start_memory.sized));
+      room = zeros_length heap;
+      born = refl;
+      blocks = λ k. refl;
+    }
+
+    -- word code before its first line, where that procedure is
+    abbrev begun : WordProc → WordState
+    begun p = record {
+      units = units;
+      memory = first;
+      input = input;
+      frame = record { proc = p; left = p.lines; vars = no_words; given = no_words; base = stack_at; awaits = 0 };
+      callers = [];
+    }
 
     pub begins : (live : Lives) → Begins live
     unfolding word_start
@@ -97,8 +139,10 @@ module _ (table : List TypeDef) (blocks : Code BlockLine) (runtime : WordCode) (
         record {
           both = first_pair table blocks start_body start_is refl units heap input first;
           units_are = refl;
-          good = first_good table blocks start_body start_is refl units heap input first start_memory no_result.1;
-          runs = first_runs table blocks start_body start_is refl units heap input first start_memory no_result.1 live code.procs no_place;
+          good = first_good table blocks start_body start_is refl units heap input first start_memory start_heap no_result.1;
+          runs = subst (λ p. Runs live code.procs 0 (begun p) (low table blocks (first_pair table blocks start_body start_is refl units heap input first)))
+              (sym start_proc)
+              (first_runs table blocks start_body start_is refl units heap input first start_memory start_heap no_result.1 live code.procs no_place);
           same = ap (λ (q : Proc BlockLine). record {
             now = beginning q 0 ACTIVE_CALLS;
             waiting = [];

@@ -6,6 +6,7 @@ use Rattle.flat_code.specs.declared.block.BlockLine.{BlockLine}
 use Rattle.word_code.specs.Memory.{Memory}
 use Rattle.word_code.specs.Words.{Vars}
 use Rattle.flat_code.specs.Shapes.{Shape, has_shape}
+use Rattle.word_lowering.proofs.HeapKept.{SameHeap}
 use Rattle.word_lowering.proofs.ShapeFacts.{never, bytes_is, of_numbers}
 use Rattle.word_code.proofs.ForCallers.{Apart, SameOutside, Changed}
 use Rattle.word_lowering.proofs.InMemory.{of_numbers as are_numbers, IsAt}
@@ -15,7 +16,7 @@ use Rattle.word_lowering.proofs.Frames.{slot_here, slot_elsewhere, length_set, I
 use Rattle.word_lowering.proofs.OrdinalRuns.{AllSame}
 use Rattle.word_lowering.proofs.Sites.{Site, AmongSites, IsHoused, next_base}
 use Rattle.word_lowering.proofs.Scenes.{address_of, Name, of_place, Call, site_of, house, IsThere, looked, IsItem, FromPlace, IsFilled, Filled}
-use Rattle.word_lowering.proofs.SitesApart.{houses, site_at, one_level}
+use Rattle.word_lowering.proofs.SitesApart.{IsPlace, houses, site_at, one_level}
 use Rattle.word_lowering.proofs.Keeping.{number_cases, call, AmongCalls, somewhere, Worlds, New, to_memory, from_memory, same_numbers, location_no_place}
 use Rattle.word_lowering.proofs.Keeping.{outside_still}
 use Rattle.word_lowering.proofs.Keeping.{away_cases, value_no_place}
@@ -24,7 +25,7 @@ use Rattle.word_lowering.proofs.Located.{RootAt, root_at, own_place}
 use Rattle.word_lowering.proofs.Sources.{Lying}
 use Rattle.word_lowering.proofs.Lines.{Basis, changed, starts, IsGood, all_sites, good_changed}
 use Rattle.word_lowering.proofs.ReadFacts.{each_call}
-use Rattle.word_lowering.proofs.Gets.{memory_kept, frame_of_site, frames_kept, high_variable, SameTemps, kept_temps}
+use Rattle.word_lowering.proofs.Gets.{memory_kept, heap_kept, frame_of_site, frames_kept, high_variable, SameTemps, kept_temps}
 use Rattle.flat_code.specs.Scene.{Temps}
 use Rattle.nim_meaning.specs.Places.{root_of, through_slot}
 use Rattle.word_lowering.proofs.Items.{item_of}
@@ -169,7 +170,8 @@ module _ (x : Basis) (g : Both) (line : BlockLine) (rest : List BlockLine) (y : 
       store_new : (c : Call) (from : List Site) → AmongSites c.site sites → c.site.level ≡ f.site.level
           → New x.table x.blocks x.small sites y.linked f.site place (store_with g m) new_world from c
       store_new c from i e =
-          subst (λ z. New x.table x.blocks x.small sites y.linked f.site place (store_with g m) new_world from (record { site = z; temps = c.temps; vars = c.vars }))
+          subst (λ z. New x.table x.blocks x.small sites y.linked f.site place (store_with g m) new_world from
+          (record { site = z; temps = c.temps; vars = c.vars }))
           (sym (one_level x.table x.blocks sites c.site f.site y.linked i f.among e)) (record {
             item = λ u i h. subst (λ w. IsItem x.table (store_with g m) (record { site = f.site; temps = c.temps; vars = c.vars }) place w)
                 (ap held (sym slot_new ∙ h))
@@ -188,14 +190,15 @@ module _ (x : Basis) (g : Both) (line : BlockLine) (rest : List BlockLine) (y : 
                 });
           })
 
-      pub good_rewritten : MemoryGood x.table x.blocks (sites_of g) x.first m → (after : List BlockLine) (stand : StandAt x.table x.blocks (body_of g) after)
+      pub good_rewritten : MemoryGood x.table x.blocks (sites_of g) x.first m → SameHeap g.memory m →
+          (after : List BlockLine) (stand : StandAt x.table x.blocks (body_of g) after)
           (temps : Temps) (same_temps : SameTemps x g line rest y temps) (vars words : Vars) (awaits : ℕ) → AllSame g.call.vars vars
           → IsGood x (changed g after temps vars m words awaits (store g.world l v))
-      good_rewritten memory after stand temps same_temps vars words awaits same =
+      good_rewritten memory still after stand temps same_temps vars words awaits same =
           subst (λ w. IsGood x (changed g after temps vars m words awaits w)) (sym store_is)
           (good_changed x g line rest y after f.site place temps vars m words awaits new_world
-          memory
-          (somewhere a (bytes v) (outside_still (next_base (sites_of g)) g.memory m a (bytes v) outside) f.among f.there f.home
+          memory still (refl, refl)
+          (somewhere a (bytes v) (outside_still (IsPlace x.table x.blocks) (next_base (sites_of g)) g.memory m a (bytes v) outside) f.among f.there f.home
           (let e = f.address in omega (arith, e))
           (let e = f.address in let h = inside_place in omega (arith, e, h)))
           store_worlds
@@ -217,5 +220,6 @@ module _ (x : Basis) (g : Both) (line : BlockLine) (rest : List BlockLine) (y : 
         (temps : Temps) (same_temps : SameTemps x g line rest y temps) (vars words : Vars) (awaits : ℕ) → AllSame g.call.vars vars
         → Lying x sites y.linked a (bytes v) → IsGood x (changed g after temps vars m words awaits (store g.world l v))
     good_stored m ch at after stand temps same_temps vars words awaits same lying =
-        good_rewritten m ch.outside at (memory_kept x sites y.linked g.memory m a (bytes v) y.memory ch lying) after stand temps same_temps vars words
+        good_rewritten m ch.outside at (memory_kept x sites y.linked g.memory m a (bytes v) y.memory ch lying)
+        (heap_kept x sites y.linked g.memory m a (bytes v) y.memory ch lying) after stand temps same_temps vars words
         awaits same

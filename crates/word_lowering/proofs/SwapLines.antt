@@ -10,7 +10,7 @@ use Rattle.flat_code.specs.declared.line.UseAt.{UseAt}
 use Rattle.nim_program.specs.Kinds.{same_value}
 use Rattle.nim_program.specs.View.{if_type}
 use Rattle.nim_meaning.specs.Values.{Value, bytes, nothing, Location, At, location_of}
-use Rattle.nim_meaning.specs.State.{World, is_seen, is_there, load, store}
+use Rattle.nim_meaning.specs.State.{World, is_full_at, is_there, load, store}
 use Rattle.nim_meaning.specs.Deeds.{Answers, Deed, Stores, behind, costs, does, give, perform, sets, unless_gone, ◌>>=◌, ◌>>◌}
 use Rattle.nim_meaning.specs.Places.{exchanged, made_by}
 use Rattle.nim_meaning.specs.Table.{swapped}
@@ -33,10 +33,11 @@ use Rattle.word_lowering.specs.declared.homes.TheConstants.{FIRST}
 use Rattle.word_lowering.specs.declared.homes.Home.{Home}
 use Rattle.word_lowering.specs.Aliases.{handed_by, is_among, places_in}
 use Rattle.word_lowering.specs.LineCode.{location, swap_code}
+use Rattle.word_lowering.proofs.HeapKept.{SameHeap, heap_turned, heap_more, heap_beside_both}
 use Rattle.word_lowering.proofs.AddressFacts.{handed_at}
 use Rattle.word_lowering.proofs.ApplyFits.{applies, RowHere}
 use Rattle.word_lowering.proofs.ControlLines.{plain, value_type}
-use Rattle.word_lowering.proofs.Gets.{SameTemps, same_temps}
+use Rattle.word_lowering.proofs.Gets.{heap_kept, SameTemps, same_temps}
 use Rattle.word_lowering.proofs.InMemory.{IsAt, bytes_whole, bytes_some, copied_there}
 use Rattle.word_lowering.proofs.Keeping.{number_cases, same_numbers}
 use Rattle.word_lowering.proofs.LineFits.{are_of, no_type, same_type, has_words}
@@ -45,7 +46,7 @@ use Rattle.word_lowering.proofs.Lines.{stands_next, starts, where_there}
 use Rattle.word_lowering.proofs.Located.{IsThereAt, place_located}
 use Rattle.word_lowering.proofs.Moves.{IsHigh, all_same, words_of}
 use Rattle.word_lowering.proofs.OutPlaces.{written_at, written_stands}
-use Rattle.word_lowering.proofs.ReadFacts.{each_call, read_location}
+use Rattle.word_lowering.proofs.ReadFacts.{each_call, read_location, standing_full}
 use Rattle.word_lowering.proofs.Related.{Both, MemoryGood, body_of, high, routines, within, store_of}
 use Rattle.word_lowering.proofs.RoutineCalls.{awaiting}
 use Rattle.word_lowering.proofs.RoutineMemory.{still_outside}
@@ -56,7 +57,7 @@ use Rattle.word_lowering.proofs.ShapePaths.{PathTo, path_within}
 use Rattle.word_lowering.proofs.ShapesApart.{SameOrApart, paths_apart}
 use Rattle.word_lowering.proofs.Sites.{Linked, Site, around}
 use Rattle.word_lowering.proofs.SitesApart.{Beside, houses, one_level, ranges_apart, site_at}
-use Rattle.word_lowering.proofs.Sources.{Lying, text_beside, lying_area, lying_near, separate_turned}
+use Rattle.word_lowering.proofs.Sources.{Lying, text_beside, lying_away, lying_area, lying_near, separate_turned}
 use Rattle.word_lowering.proofs.StoreLines.{none_temps}
 use Rattle.word_lowering.proofs.Stores.{good_rewritten, good_stored, leads_still}
 use Rattle.word_lowering.proofs.SwapRuns.{Swapped, swap_called}
@@ -144,11 +145,11 @@ module _ (x : Basis) (g : Both) (line : BlockLine) (rest : List BlockLine) (y : 
       let leads : FromPlace x.table sites g.world l a.address shape
       = subst (λ s. FromPlace x.table sites g.world l a.address s) p.look
       (of_a_place x.table x.blocks (written_stands x g line rest y w.written)
-      (subst (λ k. Leads x.table x.blocks sites g.world g.call.site g.call.temps k a.address (looked x.table g.call.site (of_location t))) w.is
+      (subst (λ k. Leads x.table x.blocks sites g.ground g.world g.call.site g.call.temps k a.address (looked x.table g.call.site (of_location t))) w.is
       a.leads_to)) in
       let there_at = place_located x sites y.linked (store_of g) g.world (each_call x g line rest y) l a.address shape leads in
       let size : bytes (load g.world l) ≡ shape_bytes shape = bytes_is (load g.world l) shape there_at.numbers there_at.shaped in
-      let r = read_location x g line rest y t there p.named e in
+      let r = read_location x g line rest y t there p.named e (standing_full x g line rest y t there p.named standing e) in
       let located : location_at g.call.temps there ≡ l = ap (location_at g.call.temps) w.is in
       record {
         at_location = l;
@@ -205,7 +206,7 @@ module _ (x : Basis) (g : Both) (line : BlockLine) (rest : List BlockLine) (y : 
       called =
           let near_left = lying_near x sites y.linked e.address (shape_bytes shape) lying_left in
           let near_right = lying_near x sites y.linked f.address (shape_bytes shape) lying_right in
-          swap_called x.law x.live (all_procs x) (within x.table x.blocks g) refl g.memory (routines x.table x.blocks) x.runtime.statics (reaches x)
+          swap_called x.law x.live (all_procs x) (within x.table x.blocks g) refl g.memory (routines x.table x.blocks) x.runtimes.others.statics (reaches x)
           (code_next x g line rest y) j (house_of left) (house_of right) e.address f.address g.call.vars g.words e.points f.high_is f.points
           (omega (arith, near_left, words)) (omega (arith, near_right, words)) y.memory.sized (data_there x sites g.memory y.memory) area_left area_right
           (subst (Separate e.address f.address) (span_is (suc j)) apart)
@@ -257,6 +258,18 @@ module _ (x : Basis) (g : Both) (line : BlockLine) (rest : List BlockLine) (y : 
                 (text_beside x sites y.linked f.address (4 * suc j) b k right_bytes text) ∙ y.memory.texts b k text;
           }
 
+      heap_stays : SameHeap middle memory
+      heap_stays =
+          let left_bytes = subst (λ n. Lying x sites y.linked e.address n) words lying_left in
+          let right_bytes = subst (λ n. Lying x sites y.linked f.address n) words lying_right in
+          let trade = called.is in
+          let left_away = lying_away x sites y.linked g.memory e.address (4 * suc j) y.memory left_bytes in
+          let right_away = lying_away x sites y.linked g.memory f.address (4 * suc j) y.memory right_bytes in
+          heap_more middle g.memory memory (heap_turned g.memory middle
+          (heap_kept x sites y.linked g.memory middle f.address (4 * suc j) y.memory (subst (Changed g.memory middle f.address) words copy.changed)
+          right_bytes))
+          (heap_beside_both g.memory memory e.address f.address (4 * suc j) trade.sizes.statics trade.sizes.heap trade.beside left_away right_away)
+
       outside : SameOutside middle memory e.address (bytes w)
       outside =
           let out : SameOutside g.memory middle f.address (4 * suc j) = subst (SameOutside g.memory middle f.address) words copy.changed.outside in
@@ -268,7 +281,7 @@ module _ (x : Basis) (g : Both) (line : BlockLine) (rest : List BlockLine) (y : 
       good_behind : IsGood x (changed between rest temps called.vars memory no_words FIRST (store world l w))
       good_behind = good_rewritten x between line rest good_between l e.address shape
           (leads_still x g line rest y m f.address shape f.leads v e.at_address.shaped l e.address shape e.leads) w f.at_address.shaped memory outside
-          w_there memory_good rest (stands_next x.table x.blocks (body_of g) line rest y.stands) temps (same_temps x between line rest good_between)
+          w_there memory_good heap_stays rest (stands_next x.table x.blocks (body_of g) line rest y.stands) temps (same_temps x between line rest good_between)
           called.vars no_words FIRST (all_same called.vars)
 
       trade_settles : code_here x g line rest y
@@ -341,14 +354,14 @@ module _ (x : Basis) (labels : LabelsLead x) (g : Both) (rest : List BlockLine) 
       where_seen : Done (Passes (Answers [] (1 + (bytes first + (bytes second + 0))) (with_value to g.call.temps nothing) (store world_then one second)))
           → Done (given (swapped one other))
       where_seen d =
-          where_there x (starts g swapping rest) rest (is_seen g.world one)
+          where_there x (starts g swapping rest) rest (is_full_at g.world one)
           (λ b. given (unless_gone b (exchanged other first) >>= (λ u. exchanged one u >> give nothing))) (λ before. tt)
-          (λ h. where_there x (starts g swapping rest) rest (is_seen g.world other)
+          (λ h. where_there x (starts g swapping rest) rest (is_full_at g.world other)
           (λ b. given (costs (bytes first) (unless_gone b (sets other first >> give second)) >>= (λ u. exchanged one u >> give nothing))) (λ before. tt)
           (λ h. where_there x (starts g swapping rest) rest (is_there g.world other)
           (λ b. given (costs (bytes first) (unless_gone b (does (Stores other first)) >> give second) >>= (λ u. exchanged one u >> give nothing)))
           (λ before. tt)
-          (λ h. where_there x (starts g swapping rest) rest (is_seen world_then one)
+          (λ h. where_there x (starts g swapping rest) rest (is_full_at world_then one)
           (λ b. given_then first second world_then (unless_gone b (sets one second >> give (load world_then one)))) (λ before. tt)
           (λ h. where_there x (starts g swapping rest) rest (is_there world_then one)
           (λ b. given_then first second world_then (unless_gone b (does (Stores one second)) >> give (load world_then one))) (λ before. tt) (λ h. d)))))
@@ -379,7 +392,8 @@ module _ (x : Basis) (labels : LabelsLead x) (g : Both) (rest : List BlockLine) 
         (costs 1 (swapped k (location_at g.call.temps there)) >>= made_by false (bound_for g how)))) (sym l.is)
         (subst (λ k. Settles x (starts g swapping rest) rest (gives (scene_of (high x.table x.blocks (starts g swapping rest))) to
         (costs 1 (swapped l.at_location k) >>= made_by false (bound_for g how)))) (sym m.is)
-        (where_seen l.at_location m.at_location (both_settle x g swapping rest y w.ty left right here there l m (with_value to g.call.temps nothing) none refl)))))
+        (where_seen l.at_location m.at_location
+        (both_settle x g swapping rest y w.ty left right here there l m (with_value to g.call.temps nothing) none refl)))))
 
   pub swap_line : (ty : Option ℕ) (of : List (Option ℕ)) (from : List From) → RowHere x g rest to O.Swap how ty of from
   swap_line None (a ∷ b ∷ []) (F.Place left ∷ F.Place right ∷ []) y = swap_values a b left right y

@@ -10,6 +10,7 @@ use Rattle.word_code.specs.Words.{Vars, no_words, put}
 use Rattle.word_code.specs.Routines.{HasData}
 use Rattle.word_code.specs.RoutineTable.{Area, Separate, Moving}
 use Rattle.word_code.proofs.ForCallers.{MemoryLaw, Sized, Runs, then_runs, Within, at, run_constant, run_argument, got}
+use Rattle.heap_memory.specs.declared.numbers.TheConstants.{HEAP_DATA}
 use Rattle.word_lowering.specs.declared.homes.TheConstants.{FIRST, THIRD}
 use Rattle.word_lowering.specs.declared.homes.Home.{Home}
 use Rattle.word_lowering.specs.declared.homes.Home.TheVariants.{Variable, Placed, Static}
@@ -20,7 +21,7 @@ use Rattle.word_lowering.proofs.RoutineCalls.{Reaches, awaiting}
 use Rattle.word_lowering.proofs.RoutineMemory.{Trade, swapped_trade}
 use Rattle.word_lowering.proofs.Scenes.{Points}
 
-module _ (law : MemoryLaw) (live : Lives) (procs : List WordProc) (c : Within) (from_first : c.proc.data_from ≡ 0) (m : Memory) where
+module _ (law : MemoryLaw) (live : Lives) (procs : List WordProc) (c : Within) (from_first : c.proc.data_from ≡ HEAP_DATA) (m : Memory) where
   -- ---- the address of a home becomes an argument
 
   pub record WordGiven (k : List WordInstr) (v g : Vars) (index : ℕ) (home : Home) (a : ℕ) : Type 0 where

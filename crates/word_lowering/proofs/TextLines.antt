@@ -8,9 +8,10 @@ use Rattle.flat_code.specs.declared.block.BlockLine.{BlockLine}
 use Rattle.flat_code.specs.Sizes.{lines_texts}
 use Rattle.word_code.specs.declared.word.WordInstr.{WordInstr}
 use Rattle.word_code.specs.declared.word.WordInstr.TheVariants.{Constant}
-use Rattle.word_code.specs.Memory.{Memory, bytes_at, own_data_at}
+use Rattle.word_code.specs.Memory.{Memory, bytes_at}
 use Rattle.word_code.specs.Words.{Vars, WordState, put, scene_of as word_scene, settled, shows, using}
 use Rattle.word_code.proofs.ForCallers.{at, got, on, one, run_constant, run_datum, then_runs, AlwaysSteps}
+use Rattle.word_lowering.specs.Lowered.{data_at}
 use Rattle.word_lowering.specs.declared.homes.TheConstants.{FIRST, SECOND}
 use Rattle.word_lowering.specs.declared.texts.TheConstants.{FIXED_BYTES, LINE_END_AT}
 use Rattle.word_lowering.specs.Aliases.{texts_of}
@@ -23,9 +24,9 @@ use Rattle.word_lowering.proofs.Told.{Tells, none_tells, told_none}
 
 -- a text in the data at the start, beside all places
 pub record TextAt (x : Basis) (from : ℕ) (text : List ℕ) : Type 0 where
-  pub is_text : IsText x.table x.blocks (own_data_at + from) (length text)
-  pub small : own_data_at + from + length text < 2 ^ 32
-  pub bytes : bytes_at x.first (own_data_at + from) (length text) ≡ Some text
+  pub is_text : IsText x.table x.blocks (data_at + from) (length text)
+  pub small : data_at + from + length text < 2 ^ 32
+  pub bytes : bytes_at x.first (data_at + from) (length text) ≡ Some text
 
 -- the line end is there, and so are the texts of a procedure's lines
 pub record LiteralsThere (x : Basis) : Type 0 where
@@ -45,24 +46,24 @@ module _ (x : Basis) (least : FIXED_BYTES ≤ data_end x.table x.blocks) (g : Bo
       ∙ ap (λ o. settled x.live (all_procs x) fresh s k (shows (word_scene s) Out o)) here)
 
   -- a text that is in memory from the beginning
-  pub text_still : (from : ℕ) (text : List ℕ) → TextAt x from text → bytes_at g.memory (own_data_at + from) (length text) ≡ Some text
-  text_still from text t = y.memory.texts (own_data_at + from) (length text) t.is_text ∙ t.bytes
+  pub text_still : (from : ℕ) (text : List ℕ) → TextAt x from text → bytes_at g.memory (data_at + from) (length text) ≡ Some text
+  text_still from text t = y.memory.texts (data_at + from) (length text) t.is_text ∙ t.bytes
 
   pub text_tells : (from : ℕ) (text : List ℕ) (k : List WordInstr) → TextAt x from text → Tells x least g line rest y (text_code from (length text) k) k text
   text_tells from [] k t = none_tells x least g line rest y k
   text_tells from (c ∷ text) k t =
       let n : ℕ = length (c ∷ text) in
-      let v1 : Vars = put g.call.vars FIRST (own_data_at + 0 + from) in
+      let v1 : Vars = put g.call.vars FIRST (data_at + 0 + from) in
       let v2 : Vars = put v1 SECOND n in
       let small = t.small in
-      let place : (own_data_at + 0 + from) ≡ own_data_at + from = omega arith in
-      let e1 : v2 FIRST ≡ Some (own_data_at + from) = got (own_data_at + 0 + from) (omega (arith, small)) ∙ ap Some place in
+      let place : (data_at + 0 + from) ≡ data_at + from = omega arith in
+      let e1 : v2 FIRST ≡ Some (data_at + from) = got (data_at + 0 + from) (omega (arith, small)) ∙ ap Some place in
       let e2 : v2 SECOND ≡ Some n = got n (omega (arith, small)) in
       let r1 = run_datum x.live (all_procs x) (within x.table x.blocks g) g.memory (Constant SECOND n ∷ write_code k) g.call.vars g.words FIRST from in
       let r2 = run_constant x.live (all_procs x) (within x.table x.blocks g) g.memory (write_code k) v1 g.words SECOND n in
       record {
         vars = v2;
-        same = same_more g.call.vars v1 v2 (same_first g.call.vars (own_data_at + 0 + from)) (same_second v1 n);
+        same = same_more g.call.vars v1 v2 (same_first g.call.vars (data_at + 0 + from)) (same_second v1 n);
         memory = g.memory;
         told = told_none x least (sites_of g) g.memory y.memory;
         words = g.words;
@@ -70,5 +71,5 @@ module _ (x : Basis) (least : FIXED_BYTES ≤ data_end x.table x.blocks) (g : Bo
         count = 3;
         few = omega arith;
         steps = on (lower x) (then_runs x.live (all_procs x) r1 r2)
-            (write_one g.memory k v2 (own_data_at + from) n (c ∷ text) e1 e2 (text_still from (c ∷ text) t));
+            (write_one g.memory k v2 (data_at + from) n (c ∷ text) e1 e2 (text_still from (c ∷ text) t));
       }

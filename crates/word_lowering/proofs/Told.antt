@@ -13,11 +13,13 @@ use Rattle.flat_code.specs.declared.block.BlockLine.{BlockLine}
 use Rattle.flat_code.specs.Scene.{Passes, Temps}
 use Rattle.word_code.specs.declared.routine.TheConstants.{SCRATCH_BYTES}
 use Rattle.word_code.specs.declared.word.WordInstr.{WordInstr}
-use Rattle.word_code.specs.Memory.{Memory, as_state, number_at, own_data_at}
+use Rattle.word_code.specs.Memory.{Memory, as_state, number_at}
 use Rattle.word_code.specs.RoutineTable.{Beside, Cell, IsRewritten}
 use Rattle.word_code.specs.Words.{Vars}
 use Rattle.word_code.proofs.ForCallers.{at, none, on, AlwaysSteps}
+use Rattle.word_lowering.specs.Lowered.{data_at}
 use Rattle.word_lowering.specs.declared.texts.TheConstants.{FIXED_BYTES}
+use Rattle.word_lowering.proofs.HeapKept.{SameHeap, heap_same, heap_more, heap_beside}
 use Rattle.word_lowering.proofs.Gets.{SameTemps, high_variable, kept_temps, same_temps}
 use Rattle.word_lowering.proofs.Keeping.{AmongCalls, aside, worlds_same}
 use Rattle.word_lowering.proofs.Lines.{Basis, IsGood, Settles, all_sites, changed, good_changed, lower, stands_next, starts}
@@ -29,24 +31,25 @@ use Rattle.word_lowering.proofs.Scenes.{Call, of_value, site_of}
 use Rattle.word_lowering.proofs.Settling.{code_here, code_next}
 use Rattle.word_lowering.proofs.Sites.{AmongSites, Site, data_end}
 use Rattle.word_lowering.proofs.SitesApart.{IsPlace, site_at}
-use Rattle.rv32_isa.specs.Image.{stack_at}
+use Rattle.rv32_isa.specs.Image.{heap_at, stack_at}
 
 -- what is true where bytes beside all places and texts are others
 module _ (x : Basis) (least : FIXED_BYTES ≤ data_end x.table x.blocks) (sites : List Site) where
   pub record IsTold (m m' : Memory) : Type 0 where
     pub good : MemoryGood x.table x.blocks sites x.first m'
+    pub heap : SameHeap m m'
     pub places : (a : ℕ) → IsPlace x.table x.blocks a → number_at m' a Word ≡ number_at m a Word
 
   pub told_more : (m m' m'' : Memory) → IsTold m m' → IsTold m' m'' → IsTold m m''
-  told_more m m' m'' s t = record { good = t.good; places = λ a h. t.places a h ∙ s.places a h }
+  told_more m m' m'' s t = record { good = t.good; heap = heap_more m m' m'' s.heap t.heap; places = λ a h. t.places a h ∙ s.places a h }
 
   pub told_none : (m : Memory) → MemoryGood x.table x.blocks sites x.first m → IsTold m m
-  told_none m good = record { good = good; places = λ a h. refl }
+  told_none m good = record { good = good; heap = heap_same m; places = λ a h. refl }
 
   module _ (m m' : Memory) (good : MemoryGood x.table x.blocks sites x.first m) where
     told_beside : (at n : ℕ) → IsRewritten m m' at n → ((a : ℕ) → IsPlace x.table x.blocks a → Beside a 4 at n)
-        → ((b k : ℕ) → IsText x.table x.blocks b k → Beside b k at n) → IsTold m m'
-    told_beside at n new place text = record {
+        → ((b k : ℕ) → IsText x.table x.blocks b k → Beside b k at n) → data_at ≤ at → at + n ≤ heap_at → IsTold m m'
+    told_beside at n new place text behind before = record {
       good = record {
         sized = x.law.regions (as_state m) (as_state m') good.sized new.sizes;
         statics = new.sizes.statics ∙ good.statics;
@@ -55,6 +58,7 @@ module _ (x : Basis) (least : FIXED_BYTES ≤ data_end x.table x.blocks) (sites 
         cells = λ a whole h. cell a (place a (open_place a h)) (good.cells a whole h);
         texts = λ b k h. new.beside b k (text b k h) ∙ good.texts b k h;
       };
+      heap = heap_beside m m' at n new.sizes.statics new.sizes.heap new.beside behind (inr before);
       places = λ a h. word_still a (place a h);
     }
       where
@@ -73,20 +77,20 @@ module _ (x : Basis) (least : FIXED_BYTES ≤ data_end x.table x.blocks) (sites 
         open_place a (inr h) = inr h.0
 
     -- the byte of a character
-    pub told_letter : IsRewritten m m' own_data_at 1 → IsTold m m'
-    told_letter new = told_beside own_data_at 1 new place (λ b k h. text b k h.0)
+    pub told_letter : IsRewritten m m' data_at 1 → IsTold m m'
+    told_letter new = told_beside data_at 1 new place (λ b k h. text b k h.0) (omega arith) (omega arith)
       where
-        place : (a : ℕ) → IsPlace x.table x.blocks a → Beside a 4 own_data_at 1
+        place : (a : ℕ) → IsPlace x.table x.blocks a → Beside a 4 data_at 1
         place a (inl h) = inr (omega (arith, h.0))
         place a (inr h) = inr (omega (arith, h))
 
-        text : (b k : ℕ) → IsClosed x.table x.blocks b k → Beside b k own_data_at 1
+        text : (b k : ℕ) → IsClosed x.table x.blocks b k → Beside b k data_at 1
         text b k (inl h) = inr (omega (arith, h.0))
         text b k (inr h) = inr (omega (arith, h.0, least))
 
     -- those that routines may change
     pub told_scratch : IsRewritten m m' (routines x.table x.blocks) SCRATCH_BYTES → IsTold m m'
-    told_scratch new = told_beside (routines x.table x.blocks) SCRATCH_BYTES new place (λ b k h. h.1)
+    told_scratch new = told_beside (routines x.table x.blocks) SCRATCH_BYTES new place (λ b k h. h.1) (omega arith) (let d = x.data_most in omega (arith, d))
       where
         place : (a : ℕ) → IsPlace x.table x.blocks a → Beside a 4 (routines x.table x.blocks) SCRATCH_BYTES
         place a (inl h) = let g = x.globals_inside in inl (omega (arith, h.1, g))
@@ -130,7 +134,7 @@ module _ (x : Basis) (least : FIXED_BYTES ≤ data_end x.table x.blocks) (g : Bo
       → IsTold x least (sites_of g) g.memory memory → AllSame g.call.vars vars → StandAt x.table x.blocks (body_of g) after
       → IsGood x (changed g after temps vars memory words awaits g.world)
   good_told after temps same_at vars words awaits memory told same stand =
-      good_changed x g line rest y after above (of_value 0) temps vars memory words awaits g.world told.good (aside told.places)
+      good_changed x g line rest y after above (of_value 0) temps vars memory words awaits g.world told.good told.heap (refl, refl) (aside told.places)
       (worlds_same x.table x.blocks x.small (all_sites x g line rest y) y.linked above (of_value 0) g.world)
       (kept_temps x g line rest y above (of_value 0) temps vars same_at (λ h u other away home. same.others u (high_variable x g line rest y h u other home))
       same.left)

@@ -221,7 +221,7 @@ module _ (table : List TypeDef) where
     type_bytes ty = let h = has_form ty in ap size (the_form h.1) ∙ sym (bytes_of h.1)
 
     -- a distinct type looks as its base
-    distinct_looks : (ty : ℕ) (name : List ℕ) (at : Place) (j : ℕ) → slice_get table ty ≡ Some (D.Distinct name at j)
+    pub distinct_looks : (ty : ℕ) (name : List ℕ) (at : Place) (j : ℕ) → slice_get table ty ≡ Some (D.Distinct name at j)
         → shape_of facts (type_at ts ty) ≡ shape_of facts (type_at ts j)
     distinct_looks ty name at j e =
         let is = by_entry table is_table ty (Some (D.Distinct name at j)) e in
@@ -268,8 +268,8 @@ module _ (table : List TypeDef) where
     word_at (Some D.Int) s l n = ap is_one_word l
     word_at (Some D.Bool) s l n = ap is_one_word l
     word_at (Some D.Char) s l n = ap is_one_word l
-    word_at (Some D.Text) s l n = never (sym (ap of_numbers l) ∙ n)
-    word_at (Some (D.Seq i)) s l n = never (sym (ap of_numbers l) ∙ n)
+    word_at (Some D.Text) s l n = ap is_one_word l
+    word_at (Some (D.Seq i)) s l n = ap is_one_word l
     word_at (Some (D.Param k)) s l n = ap is_one_word l
     word_at (Some (D.Enum name at all)) s l n = ap is_one_word l
     word_at (Some (D.Array k i)) s l n = ap is_one_word l
@@ -311,7 +311,7 @@ module _ (table : List TypeDef) where
 
     -- ---- parts
 
-    bytes_before : (is : List ℕ) (i : ℕ) → bytes_all table (take i is) ≡ shapes_before (shapes_of facts (types_at ts is)) i
+    pub bytes_before : (is : List ℕ) (i : ℕ) → bytes_all table (take i is) ≡ shapes_before (shapes_of facts (types_at ts is)) i
     bytes_before [] zero = refl
     bytes_before [] (suc i) = refl
     bytes_before (j ∷ is) zero = refl

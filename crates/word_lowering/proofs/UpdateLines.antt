@@ -20,7 +20,7 @@ use Rattle.nim_program.specs.View.{if_type}
 use Rattle.nim_meaning.specs.Acts.{line_of}
 use Rattle.nim_meaning.specs.Deeds.{Answers, Finishes, Stores, behind, costs, does, give, perform, unless_gone, ◌>>=◌, ◌>>◌}
 use Rattle.nim_meaning.specs.Places.{made_by, place_at, put as put_to}
-use Rattle.nim_meaning.specs.State.{held, is_seen, is_there, load, slot_at, store, with_slot}
+use Rattle.nim_meaning.specs.State.{held, is_full_at, is_there, load, slot_at, store, with_slot}
 use Rattle.nim_meaning.specs.Table.{operate, outcome, updated}
 use Rattle.nim_meaning.specs.Values.{At, Given, Holds, Location, Number, Value, bytes, location_of, nothing, number_of, value_of}
 use Rattle.flat_code.specs.declared.block.BlockLine.{BlockLine}
@@ -51,6 +51,7 @@ use Rattle.word_lowering.specs.LineCode.{label_before, location, updated_code}
 use Rattle.word_lowering.specs.Lowered.{any_branches, branches_to}
 use Rattle.word_lowering.specs.Operations.{binary_code, trap_label, word}
 use Rattle.word_lowering.specs.Spots.{address, spot_of}
+use Rattle.word_lowering.proofs.HeapKept.{heap_same}
 use Rattle.word_lowering.proofs.ApplyFits.{applies, RowHere}
 use Rattle.word_lowering.proofs.Arithmetic.{word_small}
 use Rattle.word_lowering.proofs.ControlLines.{int_read, plain, value_type}
@@ -217,6 +218,7 @@ module _ (x : Basis) (g : Both) (line : BlockLine) (rest : List BlockLine) (y : 
               words = g.words;
               awaits = g.awaits;
               good = y.memory;
+              heap = heap_same g.memory;
               edit = nowhere refl;
               variables = λ f u other ne e. w.but.others u (high_variable x g line rest y f u other e)
                   (variables_apart x.table x.blocks g.call.site (of_place n) f t u y.linked.0 there other (λ k. ne (sym k)) home e)
@@ -406,7 +408,7 @@ module _ (x : Basis) (traps : TrapsStop x) (labels : LabelsLead x) (g : Both) (r
         let at_word = word_at x g line rest y h w.at (subst (λ q. Written x g line rest y h w.at q) (int_shape (facts_in x.table) s.0 s.2) w.written) in
         subst (λ l. Settles x (starts g line rest) rest (gives (scene_of (high x.table x.blocks (starts g line rest))) to
         (costs 1 (updated l (λ n. operate operator n step)) >>= made_by false (bound_for g how)))) (sym w.is)
-        (where_there x (starts g line rest) rest (is_seen g.world w.at) (λ b. gives (scene_of (high x.table x.blocks (starts g line rest))) to
+        (where_there x (starts g line rest) rest (is_full_at g.world w.at) (λ b. gives (scene_of (high x.table x.blocks (starts g line rest))) to
         (costs 1 (unless_gone b (costs (bytes (load g.world w.at)) (operate operator (number_of (load g.world w.at)) step >>= put_to w.at)))
         >>= made_by false (bound_for g how))) (λ before. tt)
         (λ seen. as_deed (applied operator (number_of (load g.world w.at)) step) (load g.world w.at) w.at same_at

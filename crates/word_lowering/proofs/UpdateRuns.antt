@@ -16,6 +16,7 @@ use Rattle.word_code.specs.Memory.{Memory, with_number}
 use Rattle.word_code.specs.RoutineTable.{Cell}
 use Rattle.word_code.specs.Words.{Vars, put, from_label}
 use Rattle.word_code.proofs.ForCallers.{MemoryLaw, Runs, Sized, Within, at, changed_word, got, put_here, run_store, then_runs}
+use Rattle.heap_memory.specs.declared.numbers.TheConstants.{HEAP_DATA}
 use Rattle.word_lowering.specs.declared.homes.TheConstants.{FIRST, FOURTH}
 use Rattle.word_lowering.specs.declared.homes.Home.{Home}
 use Rattle.word_lowering.specs.Operations.{binary_code, trap_label, word}
@@ -56,7 +57,8 @@ module _ (live : Lives) (procs : List WordProc) (c : Within) (m : Memory) (g : V
     update_comes operator h = never h
 
 -- the number in FOURTH is put to an address
-pub fourth_stored : (law : MemoryLaw) (live : Lives) (procs : List WordProc) (c : Within) (from_first : c.proc.data_from ≡ 0) (g : Vars) (m : Memory) → Sized m
+pub fourth_stored : (law : MemoryLaw) (live : Lives) (procs : List WordProc) (c : Within) (from_first : c.proc.data_from ≡ HEAP_DATA) (g : Vars) (m : Memory) →
+    Sized m
     → (k : List WordInstr) (v : Vars) (home : Home) (a : ℕ) → Points c.base v home a → (z : ℤ) → word z < 2 ^ 32 → v FOURTH ≡ Some (word z) → Cell m a
     → a < 2 ^ 32 → ToMemory law live procs c from_first g m (address FIRST home ∷ Store FIRST FOURTH whole ∷ k) v a (Number z) 4 k
 fourth_stored law live procs c from_first g m sized k v home a points z small e cell near =

@@ -15,6 +15,7 @@ use Rattle.word_code.specs.Words.{Vars}
 use Rattle.flat_code.specs.Scene.{with_value, put, known_in}
 use Rattle.flat_code.specs.Shapes.{number, has_shape, shape_of}
 use Rattle.flat_code.specs.Fits.{is_value, place_named, if_type_of}
+use Rattle.word_lowering.proofs.HeapKept.{heap_same}
 use Rattle.word_lowering.proofs.ShapeFacts.{never, of_numbers}
 use Rattle.word_lowering.specs.declared.homes.TheConstants.{OWN_FROM}
 use Rattle.word_lowering.specs.declared.homes.Alias.TheVariants as alias
@@ -180,7 +181,7 @@ module _ (x : Basis) where
         → (awaits : ℕ) → IsGood x (changed g after (with_value t g.call.temps v) vars g.memory g.words awaits g.world)
     good_word after t v vars there shaped one but is stands awaits =
         good_changed x g line rest y after g.call.site (of_value t) (with_value t g.call.temps v) vars g.memory g.words awaits g.world
-        y.memory (nowhere refl)
+        y.memory (heap_same g.memory) (refl, refl) (nowhere refl)
         (worlds_same x.table x.blocks x.small (all_sites x g line rest y) y.linked g.call.site (of_value t) g.world)
         kept (λ e. new)
         (λ c from i e. absurd (waits_below x g line rest y c i e)) y.frames y.levels stands

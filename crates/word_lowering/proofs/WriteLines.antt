@@ -17,9 +17,10 @@ use Rattle.flat_code.specs.declared.block.BlockLine.{BlockLine}
 use Rattle.word_code.specs.declared.word.WordOperation.TheVariants as operation
 use Rattle.word_code.specs.declared.word.WordInstr.{WordInstr}
 use Rattle.word_code.specs.declared.word.WordInstr.TheVariants.{Constant, Compute, Datum, Load, Store}
-use Rattle.word_code.specs.Memory.{Memory, bytes_at, number_at, own_data_at, with_number}
+use Rattle.word_code.specs.Memory.{Memory, bytes_at, number_at, with_number}
 use Rattle.word_code.specs.Words.{Vars, no_words, put}
 use Rattle.word_code.proofs.ForCallers.{got, at, on, then_runs, run_datum, run_constant, run_compute, run_load, run_store, AlwaysSteps}
+use Rattle.word_lowering.specs.Lowered.{data_at}
 use Rattle.word_lowering.specs.declared.homes.TheConstants.{FIRST, SECOND, THIRD, OWN_FROM}
 use Rattle.word_lowering.specs.declared.texts.TheConstants.{FIXED_BYTES, FALSE_AT}
 use Rattle.word_lowering.specs.Operations.{word}
@@ -46,11 +47,11 @@ pub record NameAt (x : Basis) (ends names a : ℕ) (text : List ℕ) : Type 0 wh
   pub from : ℕ
   pub some : 1 ≤ length text
   pub here : TextAt x (names + from) text
-  pub begins : number_at x.first (own_data_at + (ends + 4 * a)) Word ≡ Ok from
-  pub begins_text : IsText x.table x.blocks (own_data_at + (ends + 4 * a)) 4
-  pub closes : number_at x.first (own_data_at + (ends + 4 * a) + 4) Word ≡ Ok (from + length text)
-  pub closes_text : IsText x.table x.blocks (own_data_at + (ends + 4 * a) + 4) 4
-  pub small : own_data_at + (ends + 4 * a) + 4 < 2 ^ 32
+  pub begins : number_at x.first (data_at + (ends + 4 * a)) Word ≡ Ok from
+  pub begins_text : IsText x.table x.blocks (data_at + (ends + 4 * a)) 4
+  pub closes : number_at x.first (data_at + (ends + 4 * a) + 4) Word ≡ Ok (from + length text)
+  pub closes_text : IsText x.table x.blocks (data_at + (ends + 4 * a) + 4) 4
+  pub small : data_at + (ends + 4 * a) + 4 < 2 ^ 32
 
 one_byte : (n : ℕ) → n < 256 → low_bytes Byte n ≡ n ∷ []
 unfolding word_bytes
@@ -100,32 +101,32 @@ module _ (x : Basis) (least : FIXED_BYTES ≤ data_end x.table x.blocks) (g : Bo
       → Tells x least g line rest y (char_code from k) k (n ∷ [])
   char_tells n from k small high e =
       let m : Memory = g.memory in
-      let m1 : Memory = with_number m own_data_at Byte n in
-      let a : ℕ = own_data_at + 0 + 0 in
+      let m1 : Memory = with_number m data_at Byte n in
+      let a : ℕ = data_at + 0 + 0 in
       let v1 : Vars = put g.call.vars FIRST a in
       let v2 : Vars = put v1 SECOND 1 in
       let may = letter_there x (sites_of g) m y.memory in
       let l3 : List WordInstr = write_code k in
       let l2 : List WordInstr = Constant SECOND 1 ∷ l3 in
       let l1 : List WordInstr = Store FIRST from Byte ∷ l2 in
-      let e1 : v1 FIRST ≡ Some own_data_at = got own_data_at (omega arith) in
+      let e1 : v1 FIRST ≡ Some data_at = got data_at (omega arith) in
       let e2 : v1 from ≡ Some n = put_low g.call.vars FIRST a from (omega arith) high ∙ e in
       let r1 = run_datum x.live (all_procs x) (within x.table x.blocks g) m l1 g.call.vars g.words FIRST 0 in
       let r2 = run_store x.live (all_procs x) (within x.table x.blocks g) m l2 v1 g.words FIRST from Byte e1 e2 may in
       let r3 = run_constant x.live (all_procs x) (within x.table x.blocks g) m1 l3 v1 g.words SECOND 1 in
-      let here : bytes_at m1 own_data_at 1 ≡ Some (n ∷ [])
-      = store_here x.law m own_data_at Byte n y.memory.sized may ∙ ap Some (one_byte n small) in
+      let here : bytes_at m1 data_at 1 ≡ Some (n ∷ [])
+      = store_here x.law m data_at Byte n y.memory.sized may ∙ ap Some (one_byte n small) in
       record {
         vars = v2;
         same = same_more g.call.vars v1 v2 (same_first g.call.vars a) (same_second v1 1);
         memory = m1;
-        told = told_letter x least (sites_of g) m m1 y.memory (store_rewritten x.law m own_data_at Byte n y.memory.sized may);
+        told = told_letter x least (sites_of g) m m1 y.memory (store_rewritten x.law m data_at Byte n y.memory.sized may);
         words = g.words;
         awaits = g.awaits;
         count = 4;
         few = omega arith;
         steps = on (lower x) (then_runs x.live (all_procs x) (then_runs x.live (all_procs x) r1 r2) r3)
-            (write_one x least g line rest y m1 k v2 own_data_at 1 (n ∷ []) e1 refl here);
+            (write_one x least g line rest y m1 k v2 data_at 1 (n ∷ []) e1 refl here);
       }
 
   -- ---- a bool
@@ -138,14 +139,14 @@ module _ (x : Basis) (least : FIXED_BYTES ≤ data_end x.table x.blocks) (g : Bo
       let v : Vars = g.call.vars in
       let v1 : Vars = put v FIRST 3 in
       let v2 : Vars = put v1 FIRST (shifted_left a 3) in
-      let v3 : Vars = put v2 SECOND (own_data_at + 0 + 8) in
-      let v4 : Vars = put v3 FIRST (added (own_data_at + 0 + 8) (8 * a)) in
+      let v3 : Vars = put v2 SECOND (data_at + 0 + 8) in
+      let v4 : Vars = put v3 FIRST (added (data_at + 0 + 8) (8 * a)) in
       let v5 : Vars = put v4 SECOND 5 in
       let v6 : Vars = put v5 SECOND (subtracted 5 a) in
       let s1 : AllSame v v1 = same_first v 3 in
       let s2 : AllSame v v2 = same_more v v1 v2 s1 (same_first v1 (shifted_left a 3)) in
-      let s3 : AllSame v v3 = same_more v v2 v3 s2 (same_second v2 (own_data_at + 0 + 8)) in
-      let s4 : AllSame v v4 = same_more v v3 v4 s3 (same_first v3 (added (own_data_at + 0 + 8) (8 * a))) in
+      let s3 : AllSame v v3 = same_more v v2 v3 s2 (same_second v2 (data_at + 0 + 8)) in
+      let s4 : AllSame v v4 = same_more v v3 v4 s3 (same_first v3 (added (data_at + 0 + 8) (8 * a))) in
       let s5 : AllSame v v5 = same_more v v4 v5 s4 (same_second v4 5) in
       let s6 : AllSame v v6 = same_more v v5 v6 s5 (same_second v5 (subtracted 5 a)) in
       let l6 : List WordInstr = write_code k in
@@ -155,19 +156,19 @@ module _ (x : Basis) (least : FIXED_BYTES ≤ data_end x.table x.blocks) (g : Bo
       let l2 : List WordInstr = Datum SECOND FALSE_AT ∷ l3 in
       let l1 : List WordInstr = Compute FIRST operation.ShiftLeft from FIRST ∷ l2 in
       let shift : shifted_left a 3 % 2 ^ 32 ≡ 8 * a = omega (arith, less) in
-      let place : added (own_data_at + 0 + 8) (8 * a) % 2 ^ 32 ≡ own_data_at + (8 + 8 * a) = omega (arith, less) in
+      let place : added (data_at + 0 + 8) (8 * a) % 2 ^ 32 ≡ data_at + (8 + 8 * a) = omega (arith, less) in
       let count : subtracted 5 a % 2 ^ 32 ≡ length text = omega (arith, less, long) in
       let r1 = run_constant x.live (all_procs x) (within x.table x.blocks g) m l1 v g.words FIRST 3 in
       let r2 = run_compute x.live (all_procs x) (within x.table x.blocks g) m l2 v1 g.words FIRST operation.ShiftLeft from FIRST
       (s1.others from high ∙ e) refl in
       let r3 = run_datum x.live (all_procs x) (within x.table x.blocks g) m l3 v2 g.words SECOND FALSE_AT in
       let r4 = run_compute x.live (all_procs x) (within x.table x.blocks g) m l4 v3 g.words FIRST operation.Add SECOND FIRST
-      (got (own_data_at + 0 + 8) (omega arith))
+      (got (data_at + 0 + 8) (omega arith))
       (ap Some shift) in
       let r5 = run_constant x.live (all_procs x) (within x.table x.blocks g) m l5 v4 g.words SECOND 5 in
       let r6 = run_compute x.live (all_procs x) (within x.table x.blocks g) m l6 v5 g.words SECOND operation.Subtract SECOND from refl
       (s5.others from high ∙ e) in
-      let w = write_one x least g line rest y m k v6 (own_data_at + (8 + 8 * a)) (length text) text (ap Some place) (ap Some count)
+      let w = write_one x least g line rest y m k v6 (data_at + (8 + 8 * a)) (length text) text (ap Some place) (ap Some count)
       (text_still x least g line rest y (8 + 8 * a) text t) in
       record {
         vars = v6;
@@ -194,29 +195,29 @@ module _ (x : Basis) (least : FIXED_BYTES ≤ data_end x.table x.blocks) (g : Bo
       let n : ℕ = length text in
       let near = t.small in
       let far = t.here.small in
-      let p : ℕ = own_data_at + (ends + 4 * a) in
+      let p : ℕ = data_at + (ends + 4 * a) in
       let v1 : Vars = put v FIRST 2 in
       let v2 : Vars = put v1 FIRST (shifted_left a 2) in
-      let v3 : Vars = put v2 SECOND (own_data_at + 0 + ends) in
-      let v4 : Vars = put v3 SECOND (added (own_data_at + 0 + ends) (4 * a)) in
+      let v3 : Vars = put v2 SECOND (data_at + 0 + ends) in
+      let v4 : Vars = put v3 SECOND (added (data_at + 0 + ends) (4 * a)) in
       let v5 : Vars = put v4 FIRST t.from in
       let v6 : Vars = put v5 THIRD 4 in
       let v7 : Vars = put v6 SECOND (added p 4) in
       let v8 : Vars = put v7 SECOND (t.from + n) in
       let v9 : Vars = put v8 SECOND (subtracted (t.from + n) t.from) in
-      let v10 : Vars = put v9 THIRD (own_data_at + 0 + names) in
-      let v11 : Vars = put v10 FIRST (added (own_data_at + 0 + names) t.from) in
+      let v10 : Vars = put v9 THIRD (data_at + 0 + names) in
+      let v11 : Vars = put v10 FIRST (added (data_at + 0 + names) t.from) in
       let s1 : AllSame v v1 = same_first v 2 in
       let s2 : AllSame v v2 = same_more v v1 v2 s1 (same_first v1 (shifted_left a 2)) in
-      let s3 : AllSame v v3 = same_more v v2 v3 s2 (same_second v2 (own_data_at + 0 + ends)) in
-      let s4 : AllSame v v4 = same_more v v3 v4 s3 (same_second v3 (added (own_data_at + 0 + ends) (4 * a))) in
+      let s3 : AllSame v v3 = same_more v v2 v3 s2 (same_second v2 (data_at + 0 + ends)) in
+      let s4 : AllSame v v4 = same_more v v3 v4 s3 (same_second v3 (added (data_at + 0 + ends) (4 * a))) in
       let s5 : AllSame v v5 = same_more v v4 v5 s4 (same_first v4 t.from) in
       let s6 : AllSame v v6 = same_more v v5 v6 s5 (same_third v5 4) in
       let s7 : AllSame v v7 = same_more v v6 v7 s6 (same_second v6 (added p 4)) in
       let s8 : AllSame v v8 = same_more v v7 v8 s7 (same_second v7 (t.from + n)) in
       let s9 : AllSame v v9 = same_more v v8 v9 s8 (same_second v8 (subtracted (t.from + n) t.from)) in
-      let s10 : AllSame v v10 = same_more v v9 v10 s9 (same_third v9 (own_data_at + 0 + names)) in
-      let s11 : AllSame v v11 = same_more v v10 v11 s10 (same_first v10 (added (own_data_at + 0 + names) t.from)) in
+      let s10 : AllSame v v10 = same_more v v9 v10 s9 (same_third v9 (data_at + 0 + names)) in
+      let s11 : AllSame v v11 = same_more v v10 v11 s10 (same_first v10 (added (data_at + 0 + names) t.from)) in
       let l11 : List WordInstr = write_code k in
       let l10 : List WordInstr = Compute FIRST operation.Add THIRD FIRST ∷ l11 in
       let l9 : List WordInstr = Datum THIRD names ∷ l10 in
@@ -229,16 +230,16 @@ module _ (x : Basis) (least : FIXED_BYTES ≤ data_end x.table x.blocks) (g : Bo
       let l2 : List WordInstr = Datum SECOND ends ∷ l3 in
       let l1 : List WordInstr = Compute FIRST operation.ShiftLeft from FIRST ∷ l2 in
       let shift : shifted_left a 2 % 2 ^ 32 ≡ 4 * a = omega (arith, near) in
-      let place : added (own_data_at + 0 + ends) (4 * a) % 2 ^ 32 ≡ p = omega (arith, near) in
+      let place : added (data_at + 0 + ends) (4 * a) % 2 ^ 32 ≡ p = omega (arith, near) in
       let next : added p 4 % 2 ^ 32 ≡ p + 4 = omega (arith, near) in
       let count : subtracted (t.from + n) t.from % 2 ^ 32 ≡ n = omega (arith, far) in
-      let first : added (own_data_at + 0 + names) t.from % 2 ^ 32 ≡ own_data_at + (names + t.from) = omega (arith, far) in
+      let first : added (data_at + 0 + names) t.from % 2 ^ 32 ≡ data_at + (names + t.from) = omega (arith, far) in
       let r1 = run_constant x.live (all_procs x) (within x.table x.blocks g) m l1 v g.words FIRST 2 in
       let r2 = run_compute x.live (all_procs x) (within x.table x.blocks g) m l2 v1 g.words FIRST operation.ShiftLeft from FIRST
       (s1.others from high ∙ e) refl in
       let r3 = run_datum x.live (all_procs x) (within x.table x.blocks g) m l3 v2 g.words SECOND ends in
       let r4 = run_compute x.live (all_procs x) (within x.table x.blocks g) m l4 v3 g.words SECOND operation.Add SECOND FIRST
-      (got (own_data_at + 0 + ends) (omega (arith, near))) (ap Some shift) in
+      (got (data_at + 0 + ends) (omega (arith, near))) (ap Some shift) in
       let r5 = run_load x.live (all_procs x) (within x.table x.blocks g) m l5 v4 g.words FIRST SECOND Word (ap Some place)
       (word_still p t.begins_text ∙ t.begins) in
       let r6 = run_constant x.live (all_procs x) (within x.table x.blocks g) m l6 v5 g.words THIRD 4 in
@@ -249,8 +250,8 @@ module _ (x : Basis) (least : FIXED_BYTES ≤ data_end x.table x.blocks) (g : Bo
       (got (t.from + n) (omega (arith, far))) (got t.from (omega (arith, far))) in
       let r10 = run_datum x.live (all_procs x) (within x.table x.blocks g) m l10 v9 g.words THIRD names in
       let r11 = run_compute x.live (all_procs x) (within x.table x.blocks g) m l11 v10 g.words FIRST operation.Add THIRD FIRST
-      (got (own_data_at + 0 + names) (omega (arith, far))) (got t.from (omega (arith, far))) in
-      let w = write_one x least g line rest y m k v11 (own_data_at + (names + t.from)) n text (ap Some first) (ap Some count)
+      (got (data_at + 0 + names) (omega (arith, far))) (got t.from (omega (arith, far))) in
+      let w = write_one x least g line rest y m k v11 (data_at + (names + t.from)) n text (ap Some first) (ap Some count)
       (text_still x least g line rest y (names + t.from) text t.here) in
       let front = then_runs x.live (all_procs x) (then_runs x.live (all_procs x) (then_runs x.live (all_procs x) r1 r2)
       (then_runs x.live (all_procs x) r3 r4)) (then_runs x.live (all_procs x) (then_runs x.live (all_procs x) r5 r6)

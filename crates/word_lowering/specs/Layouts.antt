@@ -1,7 +1,7 @@
 -- Where the places and temporaries of a procedure are in word code. An ordinal is a variable, unless a line hands its address on; a location is one
 -- too, with the address to which it leads, unless it is another name for a place or a value. All else is in memory: globals in the data, the rest in
 -- the places of the call. No public contract speaks of it.
-use Rattle.std.specs.Prelude.{◌≤◌, ℕ, suc, ◌+◌, Bool, true, false, not, ◌&&◌, List, [], ◌∷◌, map}
+use Rattle.std.specs.Prelude.{◌≤◌, ℕ, suc, ◌+◌, Bool, true, false, not, ◌&&◌, List, [], ◌∷◌, map, Option, Some, None}
 use Rattle.nim_types.specs.declared.types.TypeDef.{TypeDef}
 use Rattle.nim_types.specs.declared.types.TheConstants.{WORD_BYTES}
 use Rattle.nim_program.specs.declared.program.Mode.TheVariants.{Var}
@@ -20,8 +20,9 @@ use Rattle.word_lowering.specs.declared.homes.Home.{Home}
 use Rattle.word_lowering.specs.declared.homes.Home.TheVariants.{Variable, Placed, Static}
 use Rattle.word_lowering.specs.declared.homes.Housed.{Housed}
 use Rattle.word_lowering.specs.declared.homes.Free.{Free}
+use Rattle.word_lowering.specs.declared.homes.Waiter.{Waiter}
 use Rattle.word_lowering.specs.declared.homes.Layout.{Layout}
-use Rattle.word_lowering.specs.Stored.{bytes_at, entry_at, is_word}
+use Rattle.word_lowering.specs.Stored.{bytes_at, entry_at, is_word, is_hooked}
 use Rattle.word_lowering.specs.Aliases.{alias_for, addressed, is_among}
 pub use Rattle.word_lowering.specs.Lookups.{nowhere, is_sort, found, is_param, is_result, params_in, result_in, is_address, kept_by, kept_in}
 
@@ -69,6 +70,11 @@ abbrev pub bytes_by : PlaceKind → ℕ → ℕ
 bytes_by K.Counter bytes = WORD_BYTES
 bytes_by kind bytes = bytes
 
+-- what waits is a temporary's own value that has something to do at its end
+abbrev pub waits_by : PlaceKind → Alias → (hooked : Bool) → Option ℕ → Option ℕ
+waits_by K.Temp Own true waits = waits
+waits_by kind alias hooked waits = None
+
 module _ (table : List TypeDef) (start : Bool) (lines : List Line) where
   abbrev pub place_word : FlatPlace → Bool
   place_word p = word_by p.kind (is_word (entry_at table p.ty))
@@ -91,6 +97,7 @@ module _ (table : List TypeDef) (start : Bool) (lines : List Line) where
     is_word = place_word p;
     alias = place_alias p;
     home = home_by (place_alias p) (home_at (is_static start p.kind) (place_kept p) free);
+    waits = waits_by p.kind (place_alias p) (is_hooked table p.ty) p.waits;
   }
 
   abbrev pub behind : Free → FlatPlace → Free
@@ -104,6 +111,24 @@ module _ (table : List TypeDef) (start : Bool) (lines : List Line) where
   behind_all free [] = free
   behind_all free (p ∷ ps) = behind_all (behind free p) ps
 
+-- ---- what waits: while it does, it stands in a home of its own, whose address is in a variable
+
+abbrev pub behind_waiter : (waits : Option ℕ) → (bytes : ℕ) → Free → Free
+behind_waiter None bytes free = free
+behind_waiter (Some node) bytes free = record free { variable = suc free.variable; byte = free.byte + bytes }
+
+abbrev pub and_waiter : (waits : Option ℕ) → (ty bytes : ℕ) → Free → List Waiter → List Waiter
+and_waiter None ty bytes free rest = rest
+and_waiter (Some node) ty bytes free rest = record { node = node; ty = ty; bytes = bytes; at = free.byte; variable = free.variable } ∷ rest
+
+abbrev pub waiters : Free → List Housed → List Waiter
+waiters free [] = []
+waiters free (h ∷ hs) = and_waiter h.waits h.ty h.bytes free (waiters (behind_waiter h.waits h.bytes free) hs)
+
+abbrev pub behind_waiters : Free → List Housed → Free
+behind_waiters free [] = free
+behind_waiters free (h ∷ hs) = behind_waiters (behind_waiter h.waits h.bytes free) hs
+
 abbrev pub is_empty : {A : Type 0} → List A → Bool
 is_empty [] = true
 is_empty (x ∷ xs) = false
@@ -115,7 +140,10 @@ free_at datum = record { variable = OWN_FROM; byte = 0; datum = datum }
 abbrev pub laid : List TypeDef → (start : Bool) → (datum : ℕ) → List BlockLine → List FlatPlace → Layout
 laid table start datum lines places = record {
   all = all_housed table start (map block_plain lines) (free_at datum) places;
-  free = behind_all table start (map block_plain lines) (free_at datum) places;
+  waiters = waiters (behind_all table start (map block_plain lines) (free_at datum) places)
+      (all_housed table start (map block_plain lines) (free_at datum) places);
+  free = behind_waiters (behind_all table start (map block_plain lines) (free_at datum) places)
+      (all_housed table start (map block_plain lines) (free_at datum) places);
   runs = not (is_empty lines);
 }
 

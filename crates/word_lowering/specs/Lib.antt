@@ -8,9 +8,11 @@ pub mod PlaceTable
 pub mod Emission
 pub mod Spots
 pub mod Operations
+pub mod WaitingCode
 pub mod Texts
 pub mod LaidTexts
 pub mod LineCode
+pub mod Runtimes
 pub mod Scope
 pub mod Lowered
 pub mod MayLower

@@ -141,7 +141,7 @@ swap_code left right bytes k =
 -- ---- calls
 
 abbrev pub no_layout : Layout
-no_layout = record { all = []; free = free_at 0; runs = false }
+no_layout = record { all = []; waiters = []; free = free_at 0; runs = false }
 
 abbrev pub or_none : Option Layout → Layout
 or_none None = no_layout

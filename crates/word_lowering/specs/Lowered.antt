@@ -17,7 +17,9 @@ use Rattle.word_code.specs.declared.word.ProcKind.{ProcKind}
 use Rattle.word_code.specs.declared.word.ProcKind.TheVariants as kind
 use Rattle.word_code.specs.declared.word.WordProc.{WordProc}
 use Rattle.word_code.specs.declared.word.WordCode.{WordCode}
+use Rattle.word_code.specs.Memory.{own_data_at}
 use Rattle.word_code.specs.RoutineTable.{trap_number}
+use Rattle.heap_memory.specs.declared.numbers.TheConstants.{HEAP_DATA}
 use Rattle.word_lowering.specs.declared.homes.TheConstants.{FIRST, OWN_FROM}
 use Rattle.word_lowering.specs.declared.homes.Housed.{Housed}
 use Rattle.word_lowering.specs.declared.homes.Layout.{Layout}
@@ -25,6 +27,7 @@ use Rattle.word_lowering.specs.declared.texts.TheConstants.{FIXED_BYTES}
 use Rattle.word_lowering.specs.Layouts.{is_empty, layouts, params_in, result_in, kept_in}
 use Rattle.word_lowering.specs.Spots.{clears}
 use Rattle.word_lowering.specs.Operations.{trap_label}
+use Rattle.word_lowering.specs.WaitingCode.{none_code}
 use Rattle.word_lowering.specs.Texts.{padded, names_at, texts_at, texts_in, data_in}
 use Rattle.word_lowering.specs.LineCode.{Around, no_layout, lines_code, proc_number}
 
@@ -61,8 +64,12 @@ last_code lines = trap_end lines Overflow (trap_end lines DivisionByZero (trap_e
 abbrev pub and_last : List WordInstr → List WordInstr
 and_last lines = lines ++ last_code lines
 
+-- what stands before the lines of a procedure: its result is at its default, and nothing waits
+abbrev pub begin_code : Layout → List WordInstr → List WordInstr
+begin_code own k = result_cleared (result_in own.all) (none_code own.waiters k)
+
 abbrev pub code_of : Around → List Line → List WordInstr
-code_of x lines = and_last (result_cleared (result_in x.own.all) (lines_code x lines []))
+code_of x lines = and_last (begin_code x.own (lines_code x lines []))
 
 abbrev pub kind_of : Option HookOf → ProcKind
 kind_of None = kind.Counted
@@ -141,6 +148,10 @@ lowered_procs x procs = word_proc x 0 (last_of no_proc procs) ∷ word_procs x 0
 
 abbrev pub data_of : List TypeDef → List (CodeProc BlockLine) → List ℕ
 data_of table procs = padded (data_in table (globals_end table procs) procs)
+
+-- where a program's data begins, behind that of the heap's routines
+abbrev pub data_at : ℕ
+data_at = own_data_at + HEAP_DATA
 
 abbrev pub lowered : List TypeDef → Code BlockLine → WordCode
 lowered table blocks = record {

@@ -1,6 +1,6 @@
 -- What word code has to do with the block code that it comes from.
 --
---     block code ──words──> word code ──join──> word code with a runtime
+--     block code ──words──> word code ──join──> word code with routines
 --         │ block_meaning                           │ word_meaning
 --         └────────────────── Agrees ───────────────┘        paced by WORD_PACE
 use Rattle.std.specs.Prelude.{◌≡◌, ◌≤◌, ◌+◌, ◌*◌, ◌%◌, ℕ, true, false, List, [], ◌∷◌, length, None}
@@ -16,18 +16,20 @@ use Rattle.flat_code.specs.Fits.{code_fits}
 use Rattle.flat_code.specs.Running.{ShowsAlike}
 use Rattle.flat_code.specs.Scene.{known_in}
 use Rattle.flat_code.specs.Sizes.{code_weight, data_bytes}
-use Rattle.word_code.specs.declared.routine.TheConstants.{ROUTINE_CHAIN, RUNTIME_DATA}
+use Rattle.word_code.specs.declared.routine.TheConstants.{RUNTIME_DATA}
 use Rattle.word_code.specs.declared.word.WordProc.{WordProc}
 use Rattle.word_code.specs.declared.word.WordCode.{WordCode}
 use Rattle.word_code.specs.Memory.{Memory, as_state}
 use Rattle.word_code.specs.Sizes.{word_weight, longest_chain, has_no_circle}
 use Rattle.word_code.specs.Words.{is_counted, have_no_hooks, is_word_code, word_meaning, word_by_units, Fresh}
-use Rattle.word_code.specs.Joined.{joined, AreApart}
-use Rattle.word_code.specs.Runtime.{IsSmallRoutine, IsRuntime}
+use Rattle.word_code.specs.Joined.{joined, AreApart, HaveRoom}
+use Rattle.word_code.specs.Runtime.{IsSmallRoutine}
+use Rattle.heap_memory.specs.declared.numbers.TheConstants.{HEAP_CHAIN, HEAP_DATA}
 use Rattle.word_lowering.specs.declared.lowering.TheConstants.{WORD_PACE, MOST_HEAP, START_WEIGHT, MORE_DATA}
 use Rattle.word_lowering.specs.declared.may_lower.TheConstants.{MOST_ROOM, MOST_VARS, MOST_DATA}
 use Rattle.word_lowering.specs.Lowered.{lowered}
 use Rattle.word_lowering.specs.MayLower.{may_lower}
+use Rattle.word_lowering.specs.Runtimes.{Runtimes, with_runtimes}
 
 pub record IsSmall (p : WordProc) : Type 0 where
   pub room : p.room ≤ MOST_ROOM
@@ -68,23 +70,25 @@ pub record Lowers (table : List TypeDef) (blocks : Code BlockLine) (code : WordC
       ShowsAlike (word_by_units live code fresh heap stack input units (from + more)) (block_within table blocks units heap input (lines + more)))
   pub bounded : (live : Lives) (fresh : Fresh) (heap stack : ℕ) (input : List ℕ) → HasNoObjects live → heap ≤ MOST_HEAP → IsFitting table blocks
       → AreSilent blocks.procs → Sound (block_meaning table blocks heap input) → (units : ℕ)
-      → (n : ℕ) → (m : ℕ) × ((word_by_units live code fresh heap stack input units n).work ≤ WORD_PACE * ((block_within table blocks units heap input m).work + 1))
+      → (n : ℕ) → (m : ℕ) × ((word_by_units live code fresh heap stack input units n).work ≤ WORD_PACE *
+      ((block_within table blocks units heap input m).work + 1))
   -- it is well formed, whatever block code does
   pub formed : is_word_code code ≡ true
-  -- frames and places of 2,001 calls have room in a machine's stack
+  -- frames and places of 2,001 calls have room in a machine's stack, with those of routines
   pub no_circle : has_no_circle code.procs ≡ true
-  pub chain : longest_chain code.procs ≤ ROUTINE_CHAIN
+  pub chain : longest_chain code.procs ≤ HEAP_CHAIN
   pub small : AreSmall code.procs
   -- data is whole words, and as much as an image has
   pub whole : length code.statics % 4 ≡ 0
-  pub data_most : length code.statics ≤ MOST_DATA + RUNTIME_DATA
+  pub data_most : length code.statics ≤ HEAP_DATA + MOST_DATA + RUNTIME_DATA
   -- a hook is one of block code
   pub hooks : AreNone (hooks_of blocks) → have_no_hooks code.procs ≡ true
 
--- word code that calls routines by their numbers, and lowers block code with each runtime that it is joined with
+-- word code that calls routines by their numbers, and lowers block code with all routines that it is joined with
 pub record LowersWithRuntime (table : List TypeDef) (blocks : Code BlockLine) (code : WordCode) : Type 0 where
-  pub apart : (runtime : WordCode) → IsRuntime runtime → AreApart code.procs runtime.procs
-  pub lowers : (runtime : WordCode) → IsRuntime runtime → Lowers table blocks (joined code runtime)
+  pub apart : (r : Runtimes) → AreApart r.heap.procs code.procs × AreApart (joined r.heap code).procs r.others.procs
+  pub room : HaveRoom HEAP_DATA code.procs
+  pub lowers : (r : Runtimes) → Lowers table blocks (with_runtimes r code)
   -- its own lines, and one for each of its procedures, by what block code weighs
   pub weight : word_weight code.procs ≤ code_weight block_plain blocks.procs + START_WEIGHT
   -- its own data is whole words, by what block code's is

@@ -4,8 +4,6 @@ use Rattle.std.specs.Prelude.{ℕ, ◌+◌, nat_eq, nat_le, nat_lt, Bool, true, 
 use Rattle.std.specs.Prelude.{List, [], ◌∷◌, length, map, Option, Some, None}
 use Rattle.nim_types.specs.declared.types.TypeDef.{TypeDef}
 use Rattle.nim_types.specs.declared.types.TypeDef.TheVariants as D
-use Rattle.nim_types.specs.Table.{type_at, types_in, facts_in}
-use Rattle.nim_types.specs.Forms.{hooked, form_of}
 use Rattle.nim_program.specs.declared.expr.Label.TheVariants as C
 use Rattle.nim_program.specs.declared.operation.Operation.{Operation}
 use Rattle.nim_program.specs.declared.operation.Operation.TheVariants as O
@@ -35,6 +33,7 @@ use Rattle.word_lowering.specs.declared.may_lower.TheConstants.{MOST_ROOM, MOST_
 use Rattle.word_lowering.specs.Aliases.{value_to, location_to, alias_by, is_it, text_in, texts_of}
 use Rattle.word_lowering.specs.Layouts.{is_empty, found, params_in, kept_in, is_param, result_in}
 use Rattle.word_lowering.specs.Lowered.{all_layouts, data_of}
+pub use Rattle.word_lowering.specs.Stored.{is_hooked}
 
 -- ---- places
 
@@ -46,10 +45,6 @@ no_params (p ∷ ps) = not (is_param p.kind) && no_params ps
 abbrev pub params_lead : List FlatPlace → Bool
 params_lead [] = true
 params_lead (p ∷ ps) = if is_param p.kind then params_lead ps else no_params ps
-
--- a type of the table for whose values there would be something to do
-abbrev pub is_hooked : List TypeDef → (ty : ℕ) → Bool
-is_hooked table ty = nat_lt ty (length table) && hooked (form_of (facts_in table) (type_at (types_in table) ty))
 
 abbrev pub is_text : Alias → Bool
 is_text (Text behind bytes) = true

@@ -1,9 +1,9 @@
 -- Values in memory: how many bytes those of a type have, by its number in the table, and where their parts stand.
-use Rattle.std.specs.Prelude.{◌<◌, ℕ, zero, suc, ◌+◌, Bool, true, false, List, [], ◌∷◌, length, take, Option, Some, None, slice_get}
+use Rattle.std.specs.Prelude.{◌<◌, nat_lt, ◌&&◌, ℕ, zero, suc, ◌+◌, Bool, true, false, List, [], ◌∷◌, length, take, Option, Some, None, slice_get}
 use Rattle.nim_types.specs.declared.types.TypeDef.{TypeDef}
 use Rattle.nim_types.specs.declared.types.TypeDef.TheVariants as D
 use Rattle.nim_types.specs.Table.{type_at, types_in, facts_in}
-use Rattle.nim_types.specs.Forms.{Form, HasForm, size, form_of}
+use Rattle.nim_types.specs.Forms.{Form, HasForm, size, hooked, form_of}
 
 abbrev pub bytes_at : List TypeDef → ℕ → ℕ
 bytes_at table ty = size (form_of (facts_in table) (type_at (types_in table) ty))
@@ -12,6 +12,10 @@ bytes_at table ty = size (form_of (facts_in table) (type_at (types_in table) ty)
 abbrev pub bytes_all : List TypeDef → List ℕ → ℕ
 bytes_all table [] = 0
 bytes_all table (ty ∷ tys) = bytes_at table ty + bytes_all table tys
+
+-- a type of the table for whose values there would be something to do
+abbrev pub is_hooked : List TypeDef → (ty : ℕ) → Bool
+is_hooked table ty = nat_lt ty (length table) && hooked (form_of (facts_in table) (type_at (types_in table) ty))
 
 -- ---- a distinct type is as its base
 
@@ -32,8 +36,10 @@ entry_at table ty = slice_get table (base_at table ty)
 
 -- ---- parts
 
--- what is one word: no array, no tuple, no object
+-- what is one word: no text, no sequence, no array, no tuple, no object
 abbrev pub is_word : Option TypeDef → Bool
+is_word (Some D.Text) = false
+is_word (Some (D.Seq ty)) = false
 is_word (Some (D.Array n ty)) = false
 is_word (Some (D.Tuple names tys)) = false
 is_word (Some (D.Object name at arguments fields own_hooks tys)) = false

@@ -1,5 +1,6 @@
 // Where the places and temporaries of a procedure are in word code.
 use crate::place_table::PlaceTable;
+use arc_base::Items;
 use flat_code::PlaceKind;
 use nim_types::TypeId;
 
@@ -65,6 +66,20 @@ pub struct Housed {
     pub is_word: bool,
     pub alias: Alias,
     pub home: Home,
+    /// The node at which it may wait: of a temporary whose type has something to do at its end.
+    pub waits: Option<u32>,
+}
+
+/// Where a value stands while it waits at a node.
+#[derive(Clone, Copy)]
+pub struct Waiter {
+    pub node: u32,
+    pub ty: TypeId,
+    pub bytes: u32,
+    /// In the places of the call, from this byte on.
+    pub at: u32,
+    /// The variable of the address there while a value waits, and of 0 while none does.
+    pub variable: u32,
 }
 
 /// What isn't taken yet: the next variable, the next byte of places, the next byte of data.
@@ -80,6 +95,8 @@ pub struct Free {
 pub struct Layout {
     /// Its places and temporaries, in their order.
     pub all: PlaceTable,
+    /// Where what waits stands, in their order.
+    pub waiters: Items<Waiter>,
     /// What isn't taken behind them.
     pub free: Free,
     /// Whether it has lines.

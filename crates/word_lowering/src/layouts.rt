@@ -5,6 +5,8 @@ ghost use Rattle.word_lowering.specs.Aliases.{is_among, addressed, alias_for};
 ghost use Rattle.word_lowering.specs.Layouts.{is_kept, is_static, home_at, free_behind};
 ghost use Rattle.word_lowering.specs.Layouts.{home_by, free_by, housed, behind};
 ghost use Rattle.word_lowering.specs.Layouts.{all_housed, behind_all, laid, layout_of, layouts};
+ghost use Rattle.word_lowering.specs.Layouts.{waits_by, behind_waiter, and_waiter, waiters};
+ghost use Rattle.word_lowering.specs.Layouts.{behind_waiters};
 ghost use Rattle.word_lowering.specs.Layouts.{is_sort, is_param, params_in};
 ghost use Rattle.word_lowering.specs.Layouts.{result_in, kept_in, nowhere, AreNumbers, AreCounted};
 ghost use Rattle.word_lowering.specs.Survey.{IsSurvey};
@@ -12,9 +14,9 @@ ghost use Rattle.word_lowering.specs.Stored.{HaveForms};
 
 use crate::addresses::{addressed, is_among};
 use crate::aliases::put_aliases;
-use crate::homes::{Alias, FIRST, Free, Home, Housed, Layout, OWN_FROM, Sort};
+use crate::homes::{Alias, FIRST, Free, Home, Housed, Layout, OWN_FROM, Sort, Waiter};
 use crate::place_table::places_of;
-use crate::stored::{bytes_at, is_word};
+use crate::stored::{bytes_at, is_hooked, is_word};
 use crate::survey::Survey;
 use arc_base::{Items, Memory};
 use flat_code::{BlockLine, CodeProc, FlatPlace, PlaceKind};
@@ -84,6 +86,16 @@ fn home_by(alias: Alias, home: Home) -> Home
     }
 }
 
+// What waits is a temporary's own value that has something to do at its end.
+fn waits_by(kind: PlaceKind, alias: Alias, hooked: bool, waits: Option<u32>) -> Option<u32>
+    ensures { result ≡ waits_by kind alias hooked waits }
+{
+    match (kind, alias, hooked) {
+        (PlaceKind::Temp, Alias::Own, true) => waits,
+        _ => None,
+    }
+}
+
 // Where one place is.
 fn housed(
     types: &TypeTable,
@@ -114,6 +126,7 @@ fn housed(
         is_word: word,
         alias,
         home: home_by(alias, home_at(is_static(start, place.kind), kept, free)),
+        waits: waits_by(place.kind, alias, is_hooked(types, place.ty), place.waits),
     })
 }
 
@@ -187,6 +200,52 @@ fn put_all_housed(
     Ok(())
 }
 
+// What isn't taken behind one that may wait.
+fn behind_waiter(waits: Option<u32>, bytes: u32, free: Free) -> Free
+    requires { AreNumbers (behind_waiter waits bytes free) }
+    ensures { result ≡ behind_waiter waits bytes free }
+{
+    match waits {
+        None => free,
+        Some(_) => Free {
+            variable: free.variable + 1,
+            byte: free.byte + bytes,
+            datum: free.datum,
+        },
+    }
+}
+
+// Adds where one stands that may wait, if it may.
+fn put_waiter(made: &mut Items<Waiter>, place: Housed, free: Free) -> Result<(), Memory>
+    ensures { OnOk result
+        (made.new ≡ made.old ++ and_waiter place.waits place.ty place.bytes free []) }
+{
+    if let Some(node) = place.waits {
+        made.push(Waiter {
+            node,
+            ty: place.ty,
+            bytes: place.bytes,
+            at: free.byte,
+            variable: free.variable,
+        })?;
+    }
+    Ok(())
+}
+
+// The same of places, one after another.
+fn put_waiters(made: &mut Items<Waiter>, free: &mut Free, all: &[Housed]) -> Result<(), Memory>
+    requires small { AreNumbers (behind_waiters free.old all.now) }
+    ensures made { OnOk result (made.new ≡ made.old ++ waiters free.old all.now) }
+    ensures free { OnOk result (free.new ≡ behind_waiters free.old all.now) }
+{
+    for h in all {
+        let other = behind_waiter(h.waits, h.bytes, *free);
+        put_waiter(made, *h, *free)?;
+        *free = other;
+    }
+    Ok(())
+}
+
 // The layout of a procedure with these places and lines.
 fn laid(
     alloc: Global,
@@ -210,9 +269,16 @@ fn laid(
         datum,
     };
     put_all_housed(types, start, survey, &mut homes, &mut free, places)?;
+    let mut waiters = Items::new(alloc);
+    put_waiters(&mut waiters, &mut free, homes.as_slice())?;
     let all = places_of(alloc, homes)?;
     let runs = !survey.lines.is_empty();
-    Ok(Layout { all, free, runs })
+    Ok(Layout {
+        all,
+        waiters,
+        free,
+        runs,
+    })
 }
 
 /// The layout of a procedure, where the data of globals begins at a byte.
@@ -296,6 +362,7 @@ pub fn nowhere() -> Housed
         is_word: true,
         alias: Alias::Own,
         home: Home::Variable(FIRST),
+        waits: None,
     }
 }
 

@@ -11,6 +11,7 @@ mod line_code;
 mod locations;
 mod lowering;
 mod may_lower;
+mod nodes;
 mod operations;
 mod place_table;
 mod rows;
@@ -26,7 +27,7 @@ mod values;
 mod writing;
 
 pub use aliases::Names;
-pub use homes::{Alias, Free, Home, Housed, Layout, Sort};
+pub use homes::{Alias, Free, Home, Housed, Layout, Sort, Waiter};
 pub use laid_texts::{LaidTexts, Laying, Places};
 pub use lowering::{MORE_DATA, MOST_HEAP, START_WEIGHT, WORD_PACE, words};
 pub use may_lower::{MOST_DATA, MOST_ROOM, MOST_VARS};

@@ -16,6 +16,7 @@ use crate::homes::{Housed, Layout, OWN_FROM};
 use crate::laid_texts::{LaidTexts, laid_texts};
 use crate::layouts::{kept_in, layouts, result_in};
 use crate::line_code::emit_lines;
+use crate::nodes::emit_none;
 use crate::scope::Scope;
 use crate::setting::Setting;
 use crate::spots::{emit_clears, sum};
@@ -58,7 +59,10 @@ fn code_of(alloc: Global, x: &Scope, lines: &[BlockLine]) -> Result<Items<WordIn
     ensures { IfOk result (λ code. code ≡ code_of (around_of x.now) (map block_plain lines.now)) }
 {
     let mut code = Items::new(alloc);
-    emit_result(&mut code, result_in(x.own.all.as_slice()))?;
+    let places = x.own.all.as_slice();
+    emit_result(&mut code, result_in(places))?;
+    let waiters = x.own.waiters.as_slice();
+    emit_none(&mut code, waiters)?;
     emit_lines(&mut code, x, lines)?;
     emit_last(&mut code)?;
     Ok(code)

@@ -7,6 +7,6 @@ pub const MOST_ROOM: u32 = 65_536;
 /// How many variables a procedure may have.
 pub const MOST_VARS: u32 = 16_384;
 
-/// How many bytes the data may have: an image's, less the two words before it and what routines may
-/// have.
-pub const MOST_DATA: u32 = 1_046_520;
+/// How many bytes the data may have: an image's, less the two words before it and what routines
+/// have, with those of the heap.
+pub const MOST_DATA: u32 = 1_046_392;

@@ -2,7 +2,7 @@
 ghost use Rattle.std.specs.Prelude.{◌≡◌, IfOk, option_map, slice_get, take};
 ghost use Rattle.word_lowering.specs.Stored.{bytes_at, bytes_all, base_within, base_at, entry_at};
 ghost use Rattle.word_lowering.specs.Stored.{is_word, part_at, count_in, element_bytes};
-ghost use Rattle.word_lowering.specs.Stored.{limit_in, limit_at, HaveForms};
+ghost use Rattle.word_lowering.specs.Stored.{limit_in, limit_at, is_hooked, HaveForms};
 
 use crate::spots::sum;
 use arc_base::Memory;
@@ -22,6 +22,19 @@ pub fn bytes_at(types: &TypeTable, ty: TypeId) -> Result<u32, Memory>
         return Err(Memory);
     }
     Ok(bytes)
+}
+
+/// Whether it is a type of the table for whose values there is something to do when they are
+/// copied, moved or destroyed.
+pub fn is_hooked(types: &TypeTable, ty: TypeId) -> bool
+    requires { HaveForms types.now }
+    ensures { result ≡ is_hooked types.now ty }
+{
+    type_forms();
+    if ty >= types.count() {
+        return false;
+    }
+    types.is_hooked(ty)
 }
 
 // The bytes of types one behind the other.
@@ -68,7 +81,13 @@ pub fn is_word(types: &TypeTable, ty: TypeId) -> bool
     ensures { result ≡ is_word (entry_at types.now ty) }
 {
     match entry_at(types, ty) {
-        Some(TypeDef::Array { .. } | TypeDef::Tuple { .. } | TypeDef::Object { .. }) => false,
+        Some(
+            TypeDef::Text
+            | TypeDef::Seq(_)
+            | TypeDef::Array { .. }
+            | TypeDef::Tuple { .. }
+            | TypeDef::Object { .. },
+        ) => false,
         _ => true,
     }
 }

@@ -41,6 +41,16 @@ same_either_way a b = by (a == b) refl
     by true e = e ∙ sym (eq-eqb b a (sym (eqb-true a b e)))
     by false e = e ∙ sym (ne_eqb b a (λ f. eqb-false a b e (sym f)))
 
+-- what is found by numbers, where one more stands in front: it, or what was found before
+chosen : {B : Type 0} (of : Option ℕ → B) (here rest : B) (i other name : ℕ) (before now : Option ℕ) → here ≡ of (Some i) → rest ≡ of before
+    → now ≡ (if name == other then Some i else before) → (if other == name then here else rest) ≡ of now
+chosen of here rest i other name before now e f g =
+    by (other == name) ∙ ap (λ (b : Bool). of (if b then Some i else before)) (same_either_way other name) ∙ ap of (sym g)
+  where
+    by : (b : Bool) → (if b then here else rest) ≡ of (if b then Some i else before)
+    by true = e
+    by false = f
+
 -- ---- labels
 
 -- those from a line on
@@ -60,18 +70,8 @@ from_line lines i line name e =
 pub label_more : (lines : List WordInstr) (i other : ℕ) (labels new : List (Option ℕ)) → slice_get lines i ≡ Some (L.Label other)
     → LabelsFrom (suc i) lines labels → ((v : ℕ) → held_in new v ≡ (if v == other then Some i else held_in labels v)) → LabelsFrom i lines new
 label_more lines i other labels new e h f name =
-    from_line lines i (L.Label other) name e ∙ by (other == name) refl
-    ∙ ap (λ b. option_map (λ k. drop k lines) (if b then Some i else held_in labels name)) (same_either_way other name)
-    ∙ ap (option_map (λ k. drop k lines)) (sym (f name))
-  where
-    by : (b : Bool) → (other == name) ≡ b → (if other == name then Some (drop i lines) else from_label name (drop (suc i) lines))
-        ≡ option_map (λ k. drop k lines) (if other == name then Some i else held_in labels name)
-    by true g =
-        ap (λ b. if b then Some (drop i lines) else from_label name (drop (suc i) lines)) g
-        ∙ sym (ap (λ b. option_map (λ k. drop k lines) (if b then Some i else held_in labels name)) g)
-    by false g =
-        ap (λ b. if b then Some (drop i lines) else from_label name (drop (suc i) lines)) g ∙ h name
-        ∙ sym (ap (λ b. option_map (λ k. drop k lines) (if b then Some i else held_in labels name)) g)
+    from_line lines i (L.Label other) name e
+    ∙ chosen (option_map (λ k. drop k lines)) (Some (drop i lines)) _ i other name (held_in labels name) (held_in new name) refl (h name) (f name)
 
 -- another line
 pub label_same : (lines : List WordInstr) (i : ℕ) (line : WordInstr) (labels : List (Option ℕ)) → slice_get lines i ≡ Some line
@@ -96,18 +96,8 @@ from_here procs i p number e =
 pub number_more : (procs : List WordProc) (i : ℕ) (p : WordProc) (numbers new : List (Option ℕ)) → slice_get procs i ≡ Some p
     → NumbersFrom (suc i) procs numbers → ((v : ℕ) → held_in new v ≡ (if v == p.number then Some i else held_in numbers v)) → NumbersFrom i procs new
 number_more procs i p numbers new e h f number =
-    from_here procs i p number e ∙ by (p.number == number) refl
-    ∙ ap (λ b. from_position procs (if b then Some i else held_in numbers number)) (same_either_way p.number number)
-    ∙ ap (from_position procs) (sym (f number))
-  where
-    by : (b : Bool) → (p.number == number) ≡ b → (if p.number == number then drop i procs else from_proc number (drop (suc i) procs))
-        ≡ from_position procs (if p.number == number then Some i else held_in numbers number)
-    by true g =
-        ap (λ b. if b then drop i procs else from_proc number (drop (suc i) procs)) g
-        ∙ sym (ap (λ b. from_position procs (if b then Some i else held_in numbers number)) g)
-    by false g =
-        ap (λ b. if b then drop i procs else from_proc number (drop (suc i) procs)) g ∙ h number
-        ∙ sym (ap (λ b. from_position procs (if b then Some i else held_in numbers number)) g)
+    from_here procs i p number e
+    ∙ chosen (from_position procs) (drop i procs) _ i p.number number (held_in numbers number) (held_in new number) refl (h number) (f number)
 
 -- ---- all procedures
 

@@ -34,21 +34,21 @@ bytes_append stream (Write other byte ∷ es) fs =
     ap (byte_on stream other byte) (bytes_append stream es fs) ∙ byte_first stream other byte (bytes_on stream es) (bytes_on stream fs)
 bytes_append stream (Hook kind of ∷ es) fs = bytes_append stream es fs
 
-output_own : (bytes : List ℕ) → bytes_on Output (writes Output bytes) ≡ bytes
-output_own [] = refl
-output_own (b ∷ bytes) = ap (λ l. b ∷ l) (output_own bytes)
+own : (stream : Stream) (bytes : List ℕ) → bytes_on stream (writes stream bytes) ≡ bytes
+own stream [] = refl
+own Output (b ∷ bytes) = ap (λ l. b ∷ l) (own Output bytes)
+own Errors (b ∷ bytes) = ap (λ l. b ∷ l) (own Errors bytes)
 
 output_other : (bytes : List ℕ) → bytes_on Errors (writes Output bytes) ≡ []
 output_other [] = refl
 output_other (b ∷ bytes) = output_other bytes
 
-errors_own : (bytes : List ℕ) → bytes_on Errors (writes Errors bytes) ≡ bytes
-errors_own [] = refl
-errors_own (b ∷ bytes) = ap (λ l. b ∷ l) (errors_own bytes)
-
 errors_other : (bytes : List ℕ) → bytes_on Output (writes Errors bytes) ≡ []
 errors_other [] = refl
 errors_other (b ∷ bytes) = errors_other bytes
+
+written : (stream : Stream) (es : List Event) (line : List ℕ) → bytes_on stream (es ++ writes stream line) ≡ bytes_on stream es ++ line
+written stream es line = bytes_append stream es (writes stream line) ∙ ap (λ l. bytes_on stream es ++ l) (own stream line)
 
 -- ---- fronts
 
@@ -117,39 +117,35 @@ module _ {S : Type 0} (m : S → Next Event S) where
         → (n : ℕ) → shown (lines + 1 + n) ≡ run m n new (out ++ es) (work + w)
     goes s new lines out es work w same e n = later lines n ∙ same (suc n) ∙ ap (λ r. after r (run m n) out work) e
 
-    pub holding_goes : (s new : S) (es : List Event) (out err : Told) → Holding m shown s out err → m s ≡ Goes es 1 new → IsQuiet es
-        → Holding m shown new out err
-    holding_goes s new es out err h e quiet = record {
+    -- behind a line, where the sinks got what it wrote too
+    stepped : (s new : S) (es : List Event) (out err out' err' : Told) (h : Holding m shown s out err) → m s ≡ Goes es 1 new
+        → Got out' (bytes_on Output (h.events ++ es)) → Got err' (bytes_on Errors (h.events ++ es)) → Holding m shown new out' err'
+    stepped s new es out err out' err' h e output errors = record {
       lines = h.lines + 1;
       events = h.events ++ es;
       work = h.work + 1;
       same = goes s new h.lines h.events es h.work 1 h.same e;
-      output = got_same out Output h.events es quiet.0 h.output;
-      errors = got_same err Errors h.events es quiet.1 h.errors;
+      output = output;
+      errors = errors;
     }
+
+    pub holding_goes : (s new : S) (es : List Event) (out err : Told) → Holding m shown s out err → m s ≡ Goes es 1 new → IsQuiet es
+        → Holding m shown new out err
+    holding_goes s new es out err h e quiet =
+        stepped s new es out err out err h e (got_same out Output h.events es quiet.0 h.output) (got_same err Errors h.events es quiet.1 h.errors)
 
     module _ (s new : S) (a b c : Option (List ℕ)) (n k j : ℕ) (line : List ℕ) (grown : Grown b c line) (f : j ≡ k) where
       pub holding_says : (err : Told) → Holding m shown s (told a b n k) err → m s ≡ Goes (writes Output line) 1 new → Holding m shown new (told a c n j) err
-      holding_says err h e = record {
-        lines = h.lines + 1;
-        events = h.events ++ writes Output line;
-        work = h.work + 1;
-        same = goes s new h.lines h.events (writes Output line) h.work 1 h.same e;
-        output = got_more a b c n k j (bytes_on Output h.events) line _
-            (bytes_append Output h.events (writes Output line) ∙ ap (λ l. bytes_on Output h.events ++ l) (output_own line)) h.output grown f;
-        errors = got_same err Errors h.events (writes Output line) (output_other line) h.errors;
-      }
+      holding_says err h e =
+          stepped s new (writes Output line) (told a b n k) err (told a c n j) err h e
+          (got_more a b c n k j (bytes_on Output h.events) line _ (written Output h.events line) h.output grown f)
+          (got_same err Errors h.events (writes Output line) (output_other line) h.errors)
 
       pub holding_warns : (out : Told) → Holding m shown s out (told a b n k) → m s ≡ Goes (writes Errors line) 1 new → Holding m shown new out (told a c n j)
-      holding_warns out h e = record {
-        lines = h.lines + 1;
-        events = h.events ++ writes Errors line;
-        work = h.work + 1;
-        same = goes s new h.lines h.events (writes Errors line) h.work 1 h.same e;
-        output = got_same out Output h.events (writes Errors line) (errors_other line) h.output;
-        errors = got_more a b c n k j (bytes_on Errors h.events) line _
-            (bytes_append Errors h.events (writes Errors line) ∙ ap (λ l. bytes_on Errors h.events ++ l) (errors_own line)) h.errors grown f;
-      }
+      holding_warns out h e =
+          stepped s new (writes Errors line) out (told a b n k) out (told a c n j) h e
+          (got_same out Output h.events (writes Errors line) (errors_other line) h.output)
+          (got_more a b c n k j (bytes_on Errors h.events) line _ (written Errors h.events line) h.errors grown f)
 
     -- what is seen from some number of lines on
     comes : (lines : ℕ) (x : Seen Event) (end : MeanEnd) (out err : Told) → ((n : ℕ) → shown (lines + 1 + n) ≡ x) → Means x end out err
@@ -197,46 +193,40 @@ module _ {S : Type 0} (m : S → Next Event S) where
     pub no_input : (s : S) (out err : Told) → Holding m shown s out err → Comes shown M.ReadFault out err
     no_input s out err h = (h.lines, λ n. fronts s out err h n)
 
+    -- what the sinks got is a front of all that will be written
+    abbrev BothFront : (events : List Event) (out err : Told) → Type 0
+    BothFront events out err =
+        ((all : List ℕ) → ((zs : List ℕ) × (bytes_on Output events ++ zs ≡ all)) → GotFront out all)
+        × ((all : List ℕ) → ((zs : List ℕ) × (bytes_on Errors events ++ zs ≡ all)) → GotFront err all)
+
+    failed : (s new : S) (es : List Event) (out err out' err' : Told) (h : Holding m shown s out err) → m s ≡ Goes es 1 new → (end : MeanEnd)
+        → ((x : Seen Event) → BothGotFronts x out' err' → Means x end out' err') → BothFront (h.events ++ es) out' err' → Comes shown end out' err'
+    failed s new es out err out' err' h e end means both = (
+      h.lines + 1,
+      λ more.
+          let fs = events_first new (h.lines + 1) more (h.events ++ es) (h.work + 1) (goes s new h.lines h.events es h.work 1 h.same e more) in
+          means (shown (h.lines + 1 + more))
+          (both.0 _ (bytes_first Output (h.events ++ es) _ fs), both.1 _ (bytes_first Errors (h.events ++ es) _ fs)),
+    )
+
     module _ (s new : S) (a b c : Option (List ℕ)) (n k i j : ℕ) (line : List ℕ) (grown : Grown b c (take j line)) (rose : Rose n i) where
+      -- a front of what was due for a stream
+      due : (stream : Stream) (es : List Event) → Got (told a b n k) (bytes_on stream es) → (all : List ℕ)
+          → ((zs : List ℕ) × (bytes_on stream (es ++ writes stream line) ++ zs ≡ all)) → GotFront (told a c n i) all
+      due stream es g all zs =
+          front_more a b c n k i j (bytes_on stream es) line all (zs.0, ap (λ l. l ++ zs.0) (sym (written stream es line)) ∙ zs.1) g grown
+
       pub out_fails : (err : Told) → Holding m shown s (told a b n k) err → m s ≡ Goes (writes Output line) 1 new
           → Comes shown (M.WriteFault Output) (told a c n i) err
-      out_fails err h e = (h.lines + 1, each)
-        where
-          each : (more : ℕ) → Means (shown (h.lines + 1 + more)) (M.WriteFault Output) (told a c n i) err
-          each more =
-              let said = h.events ++ writes Output line in
-              let fs = events_first new (h.lines + 1) more said (h.work + 1) (goes s new h.lines h.events (writes Output line) h.work 1 h.same e more) in
-              let all = (shown (h.lines + 1 + more)).events in
-              let zs = bytes_first Output said all fs in
-              let f : bytes_on Output said ≡ bytes_on Output h.events ++ line =
-              bytes_append Output h.events (writes Output line) ∙ ap (λ l. bytes_on Output h.events ++ l) (output_own line) in (
-                rose,
-                (
-                  front_more a b c n k i j (bytes_on Output h.events) line (bytes_on Output all) (zs.0, ap (λ l. l ++ zs.0) (sym f) ∙ zs.1) h.output grown,
-                  front_of err (bytes_on Errors said) (bytes_on Errors all) (bytes_first Errors said all fs)
-                      (got_same err Errors h.events (writes Output line) (output_other line) h.errors),
-                ),
-              )
+      out_fails err h e =
+          failed s new (writes Output line) (told a b n k) err (told a c n i) err h e (M.WriteFault Output) (λ x fronts. (rose, fronts))
+          (due Output h.events h.output, λ all zs. front_of err _ all zs (got_same err Errors h.events (writes Output line) (output_other line) h.errors))
 
       pub err_fails : (out : Told) → Holding m shown s out (told a b n k) → m s ≡ Goes (writes Errors line) 1 new
           → Comes shown (M.WriteFault Errors) out (told a c n i)
-      err_fails out h e = (h.lines + 1, each)
-        where
-          each : (more : ℕ) → Means (shown (h.lines + 1 + more)) (M.WriteFault Errors) out (told a c n i)
-          each more =
-              let said = h.events ++ writes Errors line in
-              let fs = events_first new (h.lines + 1) more said (h.work + 1) (goes s new h.lines h.events (writes Errors line) h.work 1 h.same e more) in
-              let all = (shown (h.lines + 1 + more)).events in
-              let zs = bytes_first Errors said all fs in
-              let f : bytes_on Errors said ≡ bytes_on Errors h.events ++ line =
-              bytes_append Errors h.events (writes Errors line) ∙ ap (λ l. bytes_on Errors h.events ++ l) (errors_own line) in (
-                rose,
-                (
-                  front_of out (bytes_on Output said) (bytes_on Output all) (bytes_first Output said all fs)
-                      (got_same out Output h.events (writes Errors line) (errors_other line) h.output),
-                  front_more a b c n k i j (bytes_on Errors h.events) line (bytes_on Errors all) (zs.0, ap (λ l. l ++ zs.0) (sym f) ∙ zs.1) h.errors grown,
-                ),
-              )
+      err_fails out h e =
+          failed s new (writes Errors line) out (told a b n k) out (told a c n i) h e (M.WriteFault Errors) (λ x fronts. (rose, fronts))
+          (λ all zs. front_of out _ all zs (got_same out Output h.events (writes Errors line) (errors_other line) h.output), due Errors h.events h.errors)
 
 -- ---- the beginning
 

@@ -2,6 +2,7 @@
 -- It serves proofs alone: the promise of `mean_words` doesn't speak of it.
 use Rattle.std.specs.Prelude.{◌≡◌, ◌≤◌, ℕ, length, Bool, true, false, IsTrue, List, [], ◌∷◌, drop, Some}
 use Rattle.arc_base.specs.declared.outside.Stream.TheVariants.{Out as Output, Err as Errors}
+use Rattle.arc_base.specs.Behaviour.{Live}
 use Rattle.arc_base.specs.Event.{Event, writes}
 use Rattle.arc_base.specs.Stepping.{Next, Goes, Ends, Faults}
 use Rattle.rv32_isa.specs.Machine.{Lives}
@@ -50,15 +51,12 @@ IsQuiet es = (bytes_on Output es ≡ []) × (bytes_on Errors es ≡ [])
 abbrev pub Followed : Next Event WordState → Went → (old new : WordState) → Type 0
 Followed next W.Memory old new = Unit {0}
 Followed next (W.Wants n) old new = new ≡ old
-Followed (Goes es w s) W.Goes old new = IsQuiet es × (w ≡ 1) × (s ≡ new)
-Followed (Goes es w s) (W.Says at len) old new =
-    (bytes : List ℕ) × (bytes_at new.memory at len ≡ Some bytes) × (es ≡ writes Output bytes) × (w ≡ 1) × (s ≡ new)
-Followed (Goes es w s) (W.Warns at len) old new =
-    (bytes : List ℕ) × (bytes_at new.memory at len ≡ Some bytes) × (es ≡ writes Errors bytes) × (w ≡ 1) × (s ≡ new)
-Followed (Ends es w status live) (W.Ends other) old new = (es ≡ []) × (w ≡ 1) × (status ≡ other)
-Followed (Goes es w s) W.Waits old new = (es ≡ []) × (w ≡ 0) × (s ≡ old)
-Followed Faults W.Faults old new = Unit {0}
-Followed next went old new = ⊥
+Followed next W.Goes old new = (es : List Event) × IsQuiet es × (next ≡ Goes es 1 new)
+Followed next (W.Says at len) old new = (bytes : List ℕ) × (bytes_at new.memory at len ≡ Some bytes) × (next ≡ Goes (writes Output bytes) 1 new)
+Followed next (W.Warns at len) old new = (bytes : List ℕ) × (bytes_at new.memory at len ≡ Some bytes) × (next ≡ Goes (writes Errors bytes) 1 new)
+Followed next (W.Ends status) old new = (live : Live) × (next ≡ Ends [] 1 status live)
+Followed next W.Waits old new = next ≡ Goes [] 0 old
+Followed next W.Faults old new = next ≡ Faults
 
 -- more is wanted only where the input hasn't ended
 abbrev pub Wants : Went → (ended : Bool) → Type 0

@@ -1,9 +1,8 @@
 // What a line does, by the words of its variables.
 ghost use Rattle.rv32_isa.specs.Values.{one_if};
-ghost use Rattle.std.specs.Prelude.{List, ℕ, ◌%◌, ◌^◌, ◌≡◌};
-ghost use Rattle.word_code.specs.Words.{WordScene, computed, does, holds, sets, using};
+ghost use Rattle.std.specs.Prelude.{List, ℕ, [], if◌then◌else◌, ◌%◌, ◌+◌, ◌^◌, ◌≡◌};
+ghost use Rattle.word_code.specs.Words.{Exits, Passes, Returns, WordScene, computed, does, holds, put, sets, using};
 ghost use Rattle.word_code.specs.declared.word.WordInstr.TheVariants as line;
-ghost use Rattle.word_runner.specs.declared.state.Space.{Space as SpecSpace};
 ghost use Rattle.word_runner.specs.Acts.{IsAct, May, both_of, did, scene_at};
 ghost use Rattle.word_runner.specs.View.{held_in};
 
@@ -120,9 +119,9 @@ fn holds(test: Test, a: u32, b: u32) -> bool
 
 // A variable gets a word, if there is one.
 #[inline(always)]
-fn sets(to: u32, word: Option<u32>) -> Act
+fn sets(space: &Space, to: u32, word: Option<u32>) -> Act
     ensures did { (x : WordScene) → did x result ≡ using word (λ a. sets x to a) }
-    ensures may { (s : SpecSpace) → May s result }
+    ensures may { May space.now result }
 {
     match word {
         None => Act::Fails,
@@ -130,9 +129,16 @@ fn sets(to: u32, word: Option<u32>) -> Act
     }
 }
 
-fn compute(frame: &Frame, to: u32, operation: WordOperation, left: u32, right: u32) -> Act
-    ensures did { (s : SpecSpace) → IsAct frame.now s (line.Compute to operation left right) result }
-    ensures may { (s : SpecSpace) → May s result }
+fn compute(
+    frame: &Frame,
+    space: &Space,
+    to: u32,
+    operation: WordOperation,
+    left: u32,
+    right: u32,
+) -> Act
+    ensures did { IsAct frame.now space.now (line.Compute to operation left right) result }
+    ensures may { May space.now result }
 {
     match both(&frame.vars, left, right) {
         None => Act::Fails,
@@ -145,11 +151,11 @@ fn compute(frame: &Frame, to: u32, operation: WordOperation, left: u32, right: u
 
 fn load(frame: &Frame, space: &Space, to: u32, address: u32, size: Size) -> Act
     ensures did { IsAct frame.now space.now (line.Load to address size) result }
-    ensures may { (s : SpecSpace) → May s result }
+    ensures may { May space.now result }
 {
     match get(&frame.vars, address) {
         None => Act::Fails,
-        Some(a) => sets(to, space.number(a, size)),
+        Some(a) => sets(space, to, space.number(a, size)),
     }
 }
 
@@ -173,35 +179,16 @@ fn store(frame: &Frame, space: &Space, address: u32, from: u32, size: Size) -> A
     }
 }
 
-fn branch(frame: &Frame, test: Test, left: u32, right: u32, to: u32) -> Act
-    ensures did { (s : SpecSpace) → IsAct frame.now s (line.Branch test left right to) result }
-    ensures may { (s : SpecSpace) → May s result }
+// An act follows where a test of two variables holds.
+fn where_holds(frame: &Frame, space: &Space, test: Test, left: u32, right: u32, act: Act) -> Act
+    requires { May space.now act }
+    ensures did { (x : WordScene) → did x result ≡ using (held_in frame.now.vars.items left) (λ a.
+        using (held_in frame.now.vars.items right) (λ b. if holds test a b then did x act else Passes [] x)) }
+    ensures may { May space.now result }
 {
     match both(&frame.vars, left, right) {
         None => Act::Fails,
-        Some((a, b)) => {
-            if holds(test, a, b) {
-                Act::Leaps(to)
-            } else {
-                Act::Passes
-            }
-        }
-    }
-}
-
-fn spend_if(frame: &Frame, test: Test, left: u32, right: u32) -> Act
-    ensures did { (s : SpecSpace) → IsAct frame.now s (line.SpendIf test left right) result }
-    ensures may { (s : SpecSpace) → May s result }
-{
-    match both(&frame.vars, left, right) {
-        None => Act::Fails,
-        Some((a, b)) => {
-            if holds(test, a, b) {
-                Act::Spends
-            } else {
-                Act::Passes
-            }
-        }
+        Some((a, b)) => { if holds(test, a, b) { act } else { Act::Passes } }
     }
 }
 
@@ -238,44 +225,44 @@ fn write(frame: &Frame, space: &Space, stream: Stream, address: u32, len: u32) -
     }
 }
 
-fn sum(frame: &Frame, to: u32, from: u32, value: u32) -> Act
-    ensures did { (s : SpecSpace) → IsAct frame.now s (line.Sum to from value) result }
-    ensures may { (s : SpecSpace) → May s result }
+fn sum(space: &Space, to: u32, word: Option<u32>, value: u32) -> Act
+    ensures did { (x : WordScene) → did x result ≡ using word (λ a. sets x to (a + value)) }
+    ensures may { May space.now result }
 {
-    match get(&frame.vars, from) {
+    match word {
         None => Act::Fails,
-        Some(a) => Act::Sets {
+        Some(word) => Act::Sets {
             to,
-            word: a.wrapping_add(value),
+            word: word.wrapping_add(value),
         },
     }
 }
 
-fn argument(frame: &Frame, index: u32, from: u32) -> Act
-    ensures did { (s : SpecSpace) → IsAct frame.now s (line.Argument index from) result }
-    ensures may { (s : SpecSpace) → May s result }
+fn argument(space: &Space, index: u32, word: Option<u32>) -> Act
+    ensures did { (x : WordScene) → did x result ≡ using word (λ a. Passes [] (record x { given = put x.given index a })) }
+    ensures may { May space.now result }
 {
-    match get(&frame.vars, from) {
+    match word {
         None => Act::Fails,
         Some(word) => Act::Gives { index, word },
     }
 }
 
-fn give_back(frame: &Frame, from: u32) -> Act
-    ensures did { (s : SpecSpace) → IsAct frame.now s (line.Return from) result }
-    ensures may { (s : SpecSpace) → May s result }
+fn give_back(space: &Space, word: Option<u32>) -> Act
+    ensures did { (x : WordScene) → did x result ≡ using word (λ a. Returns a) }
+    ensures may { May space.now result }
 {
-    match get(&frame.vars, from) {
+    match word {
         None => Act::Fails,
         Some(word) => Act::Returns(word),
     }
 }
 
-fn exit(frame: &Frame, status: u32) -> Act
-    ensures did { (s : SpecSpace) → IsAct frame.now s (line.Exit status) result }
-    ensures may { (s : SpecSpace) → May s result }
+fn exit(space: &Space, word: Option<u32>) -> Act
+    ensures did { (x : WordScene) → did x result ≡ using word (λ a. Exits (a % 256)) }
+    ensures may { May space.now result }
 {
-    match get(&frame.vars, status) {
+    match word {
         None => Act::Fails,
         Some(word) => Act::Exits((word % 256) as u8),
     }
@@ -290,16 +277,18 @@ pub fn act_of(frame: &Frame, space: &Space, data_at: u32, line: WordInstr) -> Ac
     match line {
         WordInstr::Label { .. } => Act::Passes,
         WordInstr::Spend => Act::Spends,
-        WordInstr::SpendIf { test, left, right } => spend_if(frame, test, left, right),
+        WordInstr::SpendIf { test, left, right } => {
+            where_holds(frame, space, test, left, right, Act::Spends)
+        }
         WordInstr::Constant { to, value } => Act::Sets { to, word: value },
-        WordInstr::Copy { to, from } => sets(to, get(&frame.vars, from)),
+        WordInstr::Copy { to, from } => sets(space, to, get(&frame.vars, from)),
         WordInstr::Compute {
             to,
             operation,
             left,
             right,
-        } => compute(frame, to, operation, left, right),
-        WordInstr::Sum { to, from, value } => sum(frame, to, from, value),
+        } => compute(frame, space, to, operation, left, right),
+        WordInstr::Sum { to, from, value } => sum(space, to, get(&frame.vars, from), value),
         WordInstr::Place { to, at } => Act::Sets {
             to,
             word: frame.base.wrapping_add(at),
@@ -320,16 +309,16 @@ pub fn act_of(frame: &Frame, space: &Space, data_at: u32, line: WordInstr) -> Ac
             left,
             right,
             to,
-        } => branch(frame, test, left, right, to),
-        WordInstr::Argument { index, from } => argument(frame, index, from),
+        } => where_holds(frame, space, test, left, right, Act::Leaps(to)),
+        WordInstr::Argument { index, from } => argument(space, index, get(&frame.vars, from)),
         WordInstr::Call { to, callee } => Act::Calls { to, callee },
-        WordInstr::Return { from } => give_back(frame, from),
+        WordInstr::Return { from } => give_back(space, get(&frame.vars, from)),
         WordInstr::Read { to, address, len } => read(frame, space, to, address, len),
         WordInstr::Write {
             stream,
             address,
             len,
         } => write(frame, space, stream, address, len),
-        WordInstr::Exit { status } => exit(frame, status),
+        WordInstr::Exit { status } => exit(space, get(&frame.vars, status)),
     }
 }

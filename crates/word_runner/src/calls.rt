@@ -23,21 +23,14 @@ fn is_counted(kind: ProcKind) -> bool
     }
 }
 
-// Whether the call at a procedure counts.
-fn counts(procs: &[WordProc], proc: usize) -> bool
-    ensures { result ≡ is_counted (proc_in procs.now proc).kind }
-{
-    match procs.get(proc) {
-        None => true,
-        Some(p) => is_counted(p.kind),
-    }
-}
-
 fn own_count(procs: &[WordProc], proc: usize) -> usize
     ensures is { result ≡ (if is_counted (proc_in procs.now proc).kind then 1 else 0) }
     ensures few { result ≤ 1 }
 {
-    if counts(procs, proc) { 1 } else { 0 }
+    match procs.get(proc) {
+        None => 1,
+        Some(p) => { if is_counted(p.kind) { 1 } else { 0 } }
+    }
 }
 
 // How many of these calls count.

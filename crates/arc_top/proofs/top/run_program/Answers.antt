@@ -7,14 +7,11 @@ use Rattle.nim_meaning.specs.Meaning.{meaning}
 use Rattle.core_compiler.specs.Mean.{CameTo}
 use Rattle.rv32_runner.specs.Streams.{feed, tally}
 use Rattle.check_decls.specs.Modules.{program_in}
-use Rattle.source_compiler.specs.Compile.{empty_plan}
-use Rattle.source_compiler.proofs.ForCallers.{plan_is, plan_ordered, meaning_same}
+use Rattle.plain_plan.specs.Plain.{plain_plan}
+use Rattle.source_compiler.specs.Source.{read_program}
+use Rattle.source_compiler.proofs.ForCallers.{meaning_same}
 use Rattle.arc_top.specs.Top.{told}
 use Rattle.arc_top.proofs.top.run_program.Goals as goal
-
--- the empty plan has its lists in order
-pub mean_core-end-requires-clause-ordered : goal.mean_core-end-requires-clause-ordered
-mean_core-end-requires-clause-ordered g c = plan_ordered c.new-plan.result c.new-plan.ensures.sites c.new-plan.ensures.sinks c.new-plan.ensures.skips
 
 pub returns : goal.returns
 returns g c =
@@ -26,7 +23,6 @@ returns g c =
     let err = c.args.err.now in
     let input = c.args.input.now in
     let new = c.mean_core-end.new in
-    let plan = plan_is c.new-plan.result c.new-plan.ensures.sites c.new-plan.ensures.sinks c.new-plan.ensures.skips in
     record {
       ran = record {
         end = c.mean_core-end.result;
@@ -35,7 +31,8 @@ returns g c =
             (feed (I.left new.input) (I.ended new.input) (I.faults new.input) (I.gave new.input))
             (told (tally (O.written out) (O.faults out)) (tally (O.written new.out) (O.faults new.out)))
             (told (tally (E.written err) (E.faults err)) (tally (E.written new.err) (E.faults new.err))))
-            (fun_ext (λ input. ap (λ (p : Plan). meaning program p c.args.heap input) plan ∙ meaning_same program empty_plan c.args.heap input))
+            (fun_ext (λ input. ap (λ (p : Plan). meaning program p c.args.heap input) c.requires.plain
+            ∙ meaning_same program (plain_plan (read_program c.args.program.now)) c.args.heap input))
             c.mean_core-end.ensures.came;
         ends = c.mean_core-end.ensures.ends;
         answers = c.meant.ensures;

@@ -1,23 +1,43 @@
-use Rattle.std.proofs.Common.{sym, subst, length}
+use Rattle.std.proofs.Common.{◌≤◌, sym, ap, subst, ◌∙◌, arith, length}
 use Rattle.std.proofs.lemmas.Result.{IfOk-weaker}
+use Rattle.word_code.specs.declared.word.WordCode.{WordCode}
+use Rattle.word_code.specs.Joined.{joined, AreApart, HaveRoom}
+use Rattle.word_code.proofs.ForCallers.{routines_room}
 use Rattle.core_compiler.specs.Stages.{AreWordsOf}
-use Rattle.core_compiler.proofs.Composing.{words_of_flat, own_data_small}
+use Rattle.core_compiler.proofs.Composing.{both_of, words_of_flat, front_small}
 use Rattle.core_compiler.proofs.MayLower.{may_be, some_blocks}
 use Rattle.core_compiler.proofs.program.words_of.Goals as goal
-use Rattle.word_code.proofs.ForCallers.{routines_room}
 
--- `join` asks that no procedure is in both
+-- `join` asks that no procedure is in both, and that data begins at numbers of 32 bits
 pub join-requires-clause-apart : goal.join-requires-clause-apart
-join-requires-clause-apart c = c.in_ok-words.ensures.apart c.in_ok-runtime.runtime c.in_ok-runtime.ensures
+join-requires-clause-apart c =
+    (c.in_ok-words.ensures.apart (both_of c.in_ok-runtimes.runtimes.heap c.in_ok-runtimes.runtimes.others c.in_ok-runtimes.ensures)).0
 
--- and that data begins at numbers of 32 bits
 pub join-requires-clause-small : goal.join-requires-clause-small
-join-requires-clause-small c = own_data_small c.in_ok-words.words c.in_ok-runtime.runtime c.in_ok-words.ensures c.in_ok-runtime.ensures
+join-requires-clause-small c = omega (arith, c.in_ok-runtimes.ensures.is_heap.long)
 
 pub join-requires-clause-room : goal.join-requires-clause-room
 join-requires-clause-room c =
-    routines_room (length c.in_ok-words.words.statics) c.in_ok-runtime.runtime.procs c.in_ok-runtime.ensures.routines
-    (own_data_small c.in_ok-words.words c.in_ok-runtime.runtime c.in_ok-words.ensures c.in_ok-runtime.ensures)
+    subst (λ n. HaveRoom n c.in_ok-words.words.procs) (sym c.in_ok-runtimes.ensures.is_heap.long) c.in_ok-words.ensures.room
+
+pub join-requires-2-clause-apart : goal.join-requires-2-clause-apart
+join-requires-2-clause-apart c =
+    subst (λ (w : WordCode). AreApart w.procs c.in_ok-runtimes.runtimes.others.procs) (sym c.in_ok-front.ensures)
+    (c.in_ok-words.ensures.apart (both_of c.in_ok-runtimes.runtimes.heap c.in_ok-runtimes.runtimes.others c.in_ok-runtimes.ensures)).1
+
+pub join-requires-2-clause-small : goal.join-requires-2-clause-small
+join-requires-2-clause-small c =
+    subst (λ (w : WordCode). length w.statics ≤ 4294967295) (sym c.in_ok-front.ensures)
+    (front_small c.in_ok-words.words (both_of c.in_ok-runtimes.runtimes.heap c.in_ok-runtimes.runtimes.others c.in_ok-runtimes.ensures)
+    c.in_ok-words.ensures)
+
+pub join-requires-2-clause-room : goal.join-requires-2-clause-room
+join-requires-2-clause-room c =
+    subst (λ (w : WordCode). HaveRoom (length w.statics) c.in_ok-runtimes.runtimes.others.procs) (sym c.in_ok-front.ensures)
+    (routines_room (length (joined c.in_ok-runtimes.runtimes.heap c.in_ok-words.words).statics) c.in_ok-runtimes.runtimes.others.procs
+    c.in_ok-runtimes.ensures.is_others.routines
+    (front_small c.in_ok-words.words (both_of c.in_ok-runtimes.runtimes.heap c.in_ok-runtimes.runtimes.others c.in_ok-runtimes.ensures)
+    c.in_ok-words.ensures))
 
 -- `words` asks that block code may become word code
 pub words-requires-clause-may : goal.words-requires-clause-may
@@ -32,10 +52,12 @@ words-requires-clause-some c =
 
 pub returns : goal.returns
 returns c =
-    IfOk-weaker c.join.result _ _
-    (λ words is. subst (AreWordsOf c.args.types.now c.args.plan.now c.args.flat.now) (sym is)
+    IfOk-weaker c.join-2.result _ _
+    (λ words is. subst (AreWordsOf c.args.types.now c.args.plan.now c.args.flat.now)
+    (sym (is ∙ ap (λ (w : WordCode). joined w c.in_ok-runtimes.runtimes.others) c.in_ok-front.ensures))
     (words_of_flat c.agreement.ensures.law c.agreement.ensures.pace c.args.types.now c.args.plan.now c.args.flat.now
-    c.in_ok-owned.owned c.in_ok-blocks.blocks c.in_ok-words.words c.in_ok-runtime.runtime
-    (c.in_ok-owned.ensures c.requires.ordered) c.in_ok-blocks.ensures c.in_ok-words.ensures c.in_ok-runtime.ensures
+    c.in_ok-owned.owned c.in_ok-blocks.blocks c.in_ok-words.words
+    (both_of c.in_ok-runtimes.runtimes.heap c.in_ok-runtimes.runtimes.others c.in_ok-runtimes.ensures)
+    (c.in_ok-owned.ensures c.requires.ordered) c.in_ok-blocks.ensures c.in_ok-words.ensures
     c.owned_codes.ensures.units c.block_codes.ensures.units))
-    c.join.ensures
+    c.join-2.ensures

@@ -1,4 +1,5 @@
-use Rattle.nim_meaning.proofs.Whole.{meaning_steady, meaning_sound, frames_kept, demand_within, blocks_balanced, blocks_once, demand_asked}
+use Rattle.nim_meaning.proofs.Whole.{meaning_steady, frames_kept, demand_within, blocks_balanced, blocks_once, demand_asked}
+use Rattle.nim_meaning.proofs.MildPrograms.{meaning_sound}
 use Rattle.nim_meaning.proofs.laws.meanings.Goals as goal
 
 pub returns-clause-steady : goal.returns-clause-steady

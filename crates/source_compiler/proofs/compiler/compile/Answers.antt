@@ -1,15 +1,15 @@
-use Rattle.std.proofs.Common.{◌≡◌, refl, sym, subst, arith, Ok}
+use Rattle.std.proofs.Common.{◌≡◌, refl, sym, subst, ◌∙◌, arith, Ok}
 use Rattle.std.proofs.lemmas.Result.{err_from_is_err_and}
 use Rattle.rv32_isa.specs.declared.image.Image.{Image as RustImage}
 use Rattle.elf32.specs.declared.file.ElfFile.{ElfFile}
 use Rattle.elf32.specs.Elf.{file_of}
 use Rattle.check_decls.specs.Modules.{program_in}
 use Rattle.nim_plan.specs.declared.plan.Plan.{Plan}
+use Rattle.plain_plan.specs.Plain.{plain_plan}
 use Rattle.core_compiler.specs.Compile.{HasCodeWhereWithin}
 use Rattle.core_compiler.specs.Limits.{build_limits}
-use Rattle.source_compiler.specs.Compile.{empty_plan}
 use Rattle.source_compiler.specs.Source.{alone, read_program}
-use Rattle.source_compiler.proofs.PlainFiles.{plain_file, plan_is, plan_ordered, image_is}
+use Rattle.source_compiler.proofs.PlainFiles.{plain_file, built_plain, no_sites, image_is}
 use Rattle.source_compiler.proofs.Taking.{never_refused, down_by_limits, no_long, for_limits, code_read, unread_code, stopped_code}
 use Rattle.source_compiler.proofs.Stages.{limits_down}
 use Rattle.source_compiler.proofs.Unlisted.{within_same, does_same}
@@ -33,10 +33,19 @@ returns-in_err-program-clause-decided c =
       rw p.1 tt,
     )
 
--- ---- none that can be compiled
+-- ---- no memory for its plan
 
-pub compile_core-requires-clause-ordered : goal.compile_core-requires-clause-ordered
-compile_core-requires-clause-ordered c = plan_ordered c.new-plan.result c.new-plan.ensures.sites c.new-plan.ensures.sinks c.new-plan.ensures.skips
+pub returns-in_err-plan-clause-too_long : goal.returns-in_err-plan-clause-too_long
+returns-in_err-plan-clause-too_long c =
+    let p = err_from_is_err_and c.from_residual-in_err-plan.result c.from_residual-in_err-plan.ensures.1 in
+    rw (p.1, p.2) tt
+
+pub returns-in_err-plan-clause-decided : goal.returns-in_err-plan-clause-decided
+returns-in_err-plan-clause-decided c =
+    let p = err_from_is_err_and c.from_residual-in_err-plan.result c.from_residual-in_err-plan.ensures.1 in
+    rw (p.1, p.2) (0, record { refused = tt; complete = λ name is. tt; code = tt }, tt)
+
+-- ---- none that can be compiled
 
 pub returns-in_err-image-clause-too_long : goal.returns-in_err-image-clause-too_long
 returns-in_err-image-clause-too_long c =
@@ -50,10 +59,10 @@ returns-in_err-image-clause-decided c =
     let answer = c.in_err-image.ensures.answers in
     let limits = build_limits answer.0 in
     let program = c.in_ok-program.program in
-    let plan = plan_is c.new-plan.result c.new-plan.ensures.sites c.new-plan.ensures.sinks c.new-plan.ensures.skips in
+    let plan = c.in_ok-plan.ensures.plain in
     let down = limits_down RustImage limits (read_program program) source c.in_ok-program.ensures.reads _ _ answer.1 in
     let said = down_by_limits limits source p.0 _ c.in_ok-program.ensures.within p.2 down in
-    let code = stopped_code ElfFile RustImage c.one_answer.ensures.program source (program_in program) c.new-plan.result answer.0 plan
+    let code = stopped_code ElfFile RustImage c.one_answer.ensures.program source (program_in program) c.in_ok-plan.plan answer.0 plan
     c.in_ok-program.ensures.reads p.0 _ p.2 answer.2 in (
       answer.0,
       record {
@@ -72,14 +81,14 @@ returns-clause-decided c =
     let source = c.args.source.now in
     let answer = c.in_ok-image.ensures.answers in
     let program = c.in_ok-program.program in
-    let plan = plan_is c.new-plan.result c.new-plan.ensures.sites c.new-plan.ensures.sinks c.new-plan.ensures.skips in
+    let plan = c.in_ok-plan.ensures.plain in
     let has = subst (λ (plan : Plan). HasCodeWhereWithin (program_in program) plan answer.0) plan answer.2 in (
       answer.0,
       record {
         refused = tt;
         complete = λ name is. tt;
         code = λ name. code_read c.one_answer.ensures.program name source (read_program program) answer.0
-            (c.in_ok-program.ensures.reads name) (within_same (program_in program) empty_plan has);
+            (c.in_ok-program.ensures.reads name) (within_same (program_in program) (plain_plan (read_program program)) has);
       },
       answer.3,
     )
@@ -87,14 +96,16 @@ returns-clause-decided c =
 pub returns-clause-compiled : goal.returns-clause-compiled
 returns-clause-compiled c =
     let source = c.args.source.now in
-    let made = c.new-plan.ensures in
     let image = c.in_ok-image.image in
-    let does = does_same (program_in c.in_ok-program.program) c.new-plan.result c.in_ok-image.ensures.does in
+    let does = does_same (program_in c.in_ok-program.program) c.in_ok-plan.plan c.in_ok-image.ensures.does in
     let answer = c.in_ok-image.ensures.answers in
     let program = read_program c.in_ok-program.program in
     let reads = c.in_ok-program.ensures.reads in
-    let file = file_of (record { image = image; version = 1; plan = c.new-plan.result }) in
-    let plan = plan_is c.new-plan.result made.sites made.sinks made.skips in
+    let file = file_of (record { image = image; version = 1; plan = c.in_ok-plan.plan }) in
+    let plan = c.in_ok-plan.ensures.plain in
+    let plain = built_plain answer.0 program answer.1 in
+    let none = c.without_hooks.ensures (program_in c.in_ok-program.program) c.in_ok-program.ensures.typed plain in
+    let laws = c.plain_plans.ensures in
     λ name. record {
       program = program;
       reads = reads name;
@@ -105,7 +116,7 @@ returns-clause-compiled c =
         image = image_is image;
         heap_least = omega (arith, does.heap_is, c.requires.heap_least);
         hooks = does.hooks;
-        plan = plan;
+        plan = plan ∙ no_sites laws.is laws.only laws.without_hooks program none;
       });
       agrees = λ input. does.agrees input;
       paced = λ input. does.paced input;

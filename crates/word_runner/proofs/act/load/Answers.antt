@@ -1,22 +1,16 @@
 use Rattle.std.proofs.Common.{◌∙◌}
 use Rattle.word_code.specs.Memory.{number_at}
-use Rattle.word_code.specs.Words.{loads, sets}
 use Rattle.word_runner.specs.Acts.{scene_at}
-use Rattle.word_runner.specs.View.{held_in}
-use Rattle.word_runner.proofs.ActRows.{by_one, by_load}
+use Rattle.word_runner.proofs.ActRows.{by_load, none_at, one_there}
 use Rattle.word_runner.proofs.act.load.Goals as goal
 
 pub returns-in-None-clause-did : goal.returns-in-None-clause-did
 returns-in-None-clause-did c =
-    λ input d.
-    let x = scene_at c.args.frame.now c.args.space.now input d in
-    rw c.in-None.is at (by_one (held_in c.args.frame.now.vars.items c.args.address) c.get.result (λ a. loads x c.args.to (number_at x.memory a c.args.size))
-    c.get.ensures)
+    λ input d. none_at _ _ (rw c.in-None.is at c.get.ensures)
 
 pub returns-in-Some-clause-did : goal.returns-in-Some-clause-did
 returns-in-Some-clause-did c =
     λ input d.
     let x = scene_at c.args.frame.now c.args.space.now input d in
     c.sets.ensures.did x ∙ by_load x c.args.to c.number.result (number_at x.memory c.in-Some.a c.args.size) c.number.ensures
-    ∙ (rw c.in-Some.is at (by_one (held_in c.args.frame.now.vars.items c.args.address) c.get.result (λ a. loads x c.args.to (number_at x.memory a c.args.size))
-    c.get.ensures))
+    ∙ one_there _ _ _ (rw c.in-Some.is at c.get.ensures)

@@ -38,20 +38,23 @@ go-requires g c κs within = (
 
 pub takes-preserved : goal.takes-preserved
 takes-preserved g c =
-    let under = goes_on c.args.code.now c.args.heap c.args.units _ c.takes.run _ _ _ c.takes.invariant c.go.new.run _ _ c.go.ensures.kept _ c.as_slice-procs.ensures
+    let under = goes_on c.args.code.now c.args.heap c.args.units _ c.takes.run _ _ _ c.takes.invariant c.go.new.run _ _ c.go.ensures.kept _
+    c.as_slice-procs.ensures
     (λ live rest ends shown h. rw c.in_default-go.is at (c.go.ensures.goes live rest ends shown _ _ _ _ h)) in
     takes_more c.args.code.now c.args.heap c.args.units _ c.go.new.run _ _ _ under c.take_more.new.run _ (rw c.in_default-go.is at c.go.ensures.wants)
     (rw c.in-More.is at c.take_more.ensures)
 
 pub returns-in-Failed : goal.returns-in-Failed
 returns-in-Failed g c =
-    let under = goes_on c.args.code.now c.args.heap c.args.units _ c.takes.run _ _ _ c.takes.invariant c.go.new.run _ _ c.go.ensures.kept _ c.as_slice-procs.ensures
+    let under = goes_on c.args.code.now c.args.heap c.args.units _ c.takes.run _ _ _ c.takes.invariant c.go.new.run _ _ c.go.ensures.kept _
+    c.as_slice-procs.ensures
     (λ live rest ends shown h. rw c.in_default-go.is at (c.go.ensures.goes live rest ends shown _ _ _ _ h)) in
     fails c.args.code.now c.args.heap c.args.units _ c.go.new.run _ _ _ under _ c.take_more.new.run (rw c.in-Failed.is at c.take_more.ensures)
 
 pub returns-in-Memory : goal.returns-in-Memory
 returns-in-Memory g c =
-    let under = goes_on c.args.code.now c.args.heap c.args.units _ c.takes.run _ _ _ c.takes.invariant c.go.new.run _ _ c.go.ensures.kept _ c.as_slice-procs.ensures
+    let under = goes_on c.args.code.now c.args.heap c.args.units _ c.takes.run _ _ _ c.takes.invariant c.go.new.run _ _ c.go.ensures.kept _
+    c.as_slice-procs.ensures
     (λ live rest ends shown h. rw c.in_default-go.is at (c.go.ensures.goes live rest ends shown _ _ _ _ h)) in
     refuses c.args.code.now c.args.heap c.args.units _ c.go.new.run _ _ _ under _ c.take_more.new.run (rw c.in-Memory.is at c.take_more.ensures)
 

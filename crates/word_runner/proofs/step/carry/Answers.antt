@@ -1,11 +1,10 @@
 use Rattle.std.proofs.Common.{refl}
-use Rattle.word_runner.specs.View.{state_is}
-use Rattle.word_runner.proofs.StepRows.{kept_same, silent}
+use Rattle.word_runner.proofs.StepRows.{at_fault, kept_same, quietly}
 use Rattle.word_runner.proofs.step.carry.Goals as goal
 
 pub returns-in-Passes : goal.returns-in-Passes
 returns-in-Passes c =
-    rw c.in-Passes.is (record { follows = λ live rest ends. silent _ _ (state_is c.args.procs.now c.args.run.now rest) refl; wants = tt; kept = kept_same _ })
+    rw c.in-Passes.is (quietly c.args.procs.now _ _ _ _ (kept_same _) (λ live rest. refl))
 
 pub returns-in-Sets : goal.returns-in-Sets
 returns-in-Sets c = rw c.in-Sets.is (c.set.ensures c.args.procs.now)
@@ -35,10 +34,10 @@ pub returns-in-Spends : goal.returns-in-Spends
 returns-in-Spends c = rw c.in-Spends.is (c.spend.ensures c.args.procs.now)
 
 pub returns-in-Exits : goal.returns-in-Exits
-returns-in-Exits c = rw c.in-Exits.is (record { follows = λ live rest ends. (refl, refl, refl); wants = tt; kept = kept_same _ })
+returns-in-Exits c = rw c.in-Exits.is (record { follows = λ live rest ends. (_, refl); wants = tt; kept = kept_same _ })
 
 pub returns-in-Fails : goal.returns-in-Fails
-returns-in-Fails c = rw c.in-Fails.is (record { follows = λ live rest ends. tt; wants = tt; kept = kept_same _ })
+returns-in-Fails c = rw c.in-Fails.is (at_fault c.args.procs.now _ _ _ _ (kept_same _) (λ live rest. refl))
 
 pub store-requires : goal.store-requires
 store-requires c = rw c.in-Stores.is at c.requires.may

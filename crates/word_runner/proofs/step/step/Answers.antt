@@ -5,7 +5,6 @@ use Rattle.word_code.specs.declared.word.WordProc.{WordProc}
 use Rattle.word_code.specs.Memory.{own_data_at}
 use Rattle.word_code.specs.Words.{WordDid, does, scene_of, settled, step_lines}
 use Rattle.word_runner.specs.Acts.{did}
-use Rattle.word_runner.specs.declared.state.Went.TheVariants as W
 use Rattle.word_runner.specs.Steps.{Followed}
 use Rattle.word_runner.specs.View.{proc_in, proc_or, state_is}
 use Rattle.word_runner.proofs.BookRows.{drop_all, drop_at, got, none_past}
@@ -19,7 +18,7 @@ returns-in-None-clause-follows c =
     let s = state_is procs run rest in
     let none : slice_get procs run.frame.proc ≡ None = none_past procs run.frame.proc c.in-None.ensures.lookup.3 in
     let left : s.frame.left ≡ [] = ap (λ (p : Option WordProc). drop run.frame.at (proc_or p).lines) none ∙ drop_all [] run.frame.at (omega arith) in
-    subst (λ (l : List WordInstr). Followed (step_lines live procs [] s l) W.Faults s s) (sym left) tt
+    ap (step_lines live procs [] s) left
 
 pub returns-in-None-get-clause-follows : goal.returns-in-None-get-clause-follows
 returns-in-None-get-clause-follows c =
@@ -31,7 +30,7 @@ returns-in-None-get-clause-follows c =
     let there = got procs run.frame.proc own c.in-Some.ensures.lookup.3.0 c.in-Some.ensures.lookup.1 in
     let le : length own.lines ≤ run.frame.at = subst (λ (l : List WordInstr). length l ≤ run.frame.at) c.as_slice.ensures c.in-None-get.ensures.lookup.3 in
     let left : s.frame.left ≡ [] = ap (λ (p : Option WordProc). drop run.frame.at (proc_or p).lines) there ∙ drop_all own.lines run.frame.at le in
-    subst (λ (l : List WordInstr). Followed (step_lines live procs [] s l) W.Faults s s) (sym left) tt
+    ap (step_lines live procs [] s) left
 
 pub returns-in-Some-get-clause-follows : goal.returns-in-Some-get-clause-follows
 returns-in-Some-get-clause-follows c =

@@ -1,0 +1,17 @@
+mod CallRuns
+mod Env
+mod Fitting
+mod Follow
+mod HookNumbers
+mod HookRankings
+mod HookRanks
+mod HookRuns
+mod HookShapes
+mod HookSizes
+mod Kept
+mod Known
+mod LineRuns
+mod Lines
+mod Needed
+mod Ordered
+mod Seen

@@ -1,0 +1,8 @@
+use Rattle.std.proofs.Common.{◌≡◌, ◌<◌, ◌^◌, ℕ, length, Some}
+use Rattle.std.specs.Prelude.{slice_get}
+use Rattle.nim_types.specs.declared.types.TypeDef.TheVariants as D
+use Rattle.hook_code.proofs.arrays.arrays_are_short.Given as goal
+
+-- those before it
+abbrev pub invariant-loop-ty : goal.invariant-loop-ty
+invariant-loop-ty l = ((i n of : ℕ) → i < l.ty → slice_get l.types i ≡ Some (D.Array n of) → n < 2 ^ 32) × (l.ty-end ≡ length l.types)

@@ -1,0 +1,9 @@
+-- The lemmas that proofs of other crates may cite.
+
+-- ---- what deeds come to, one behind another
+pub use Rattle.hook_lifting.proofs.Deeds.{done_then, performs_then}
+-- ---- the form of a type by its entry
+pub use Rattle.hook_lifting.proofs.EntryForms.{forms_at, entry_form, form_at}
+-- ---- what walks work at least
+pub use Rattle.hook_lifting.proofs.Follows.{LeastDone}
+pub use Rattle.hook_lifting.proofs.Least.{least_walk}

@@ -1,0 +1,6 @@
+pub mod Sites
+pub mod TreeSites
+pub mod Adding
+pub mod Hooks
+pub mod Views
+pub mod Plain

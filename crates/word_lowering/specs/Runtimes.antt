@@ -1,0 +1,25 @@
+-- The routines that a program's word code is joined with: those of the heap, whose data stands in front of all, and the others behind it.
+use Rattle.std.specs.Prelude.{◌≤◌, ℕ, length}
+use Rattle.word_code.specs.declared.word.WordCode.{WordCode}
+use Rattle.word_code.specs.Joined.{joined, AreApart}
+use Rattle.word_code.specs.Runtime.{IsRuntime}
+use Rattle.word_code.specs.Sizes.{AreRanked}
+use Rattle.heap_memory.specs.declared.numbers.TheConstants.{HEAP_CHAIN}
+use Rattle.heap_memory.specs.HeapRuntime.{IsHeapRuntime}
+
+pub record Runtimes : Type 0 where
+  pub heap : WordCode
+  pub others : WordCode
+  pub is_heap : IsHeapRuntime heap
+  pub is_others : IsRuntime others
+  -- no number is in both
+  pub apart : AreApart heap.procs others.procs
+  -- each of both calls only what has a lower rank
+  pub rank : ℕ → ℕ
+  pub heap_ranked : AreRanked rank heap.procs
+  pub others_ranked : AreRanked rank others.procs
+  pub chain : (number : ℕ) → rank number ≤ HEAP_CHAIN
+  pub many : HEAP_CHAIN ≤ length heap.procs
+
+abbrev pub with_runtimes : Runtimes → WordCode → WordCode
+with_runtimes r code = joined (joined r.heap code) r.others
