@@ -27,7 +27,7 @@ use Rattle.core_compiler.specs.Compile.{live_objects}
 use Rattle.core_compiler.specs.Mean.{CameTo, IsEnd}
 use Rattle.source_compiler.specs.Source.{alone, Reads}
 use Rattle.program_limits.specs.Limits.{tree_limits}
-use Rattle.core_compiler.specs.Limits.{build_limits}
+use Rattle.source_compiler.specs.Limits.{build_limits}
 use Rattle.source_compiler.specs.Limits.{Limits}
 use Rattle.source_compiler.specs.Compile.{Compiled, IsNoProgram, DecidedBy, by_limits, source_most, OnRefused}
 use Rattle.arc_top.specs.declared.answer.Answer.{Answer}

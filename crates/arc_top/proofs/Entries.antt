@@ -14,7 +14,7 @@ use Rattle.nim_meaning.specs.Meaning.{meaning}
 use Rattle.plain_plan.specs.Plain.{plain_plan}
 use Rattle.elf32.specs.Elf.{File}
 use Rattle.program_limits.specs.Limits.{tree_limits}
-use Rattle.core_compiler.specs.Limits.{build_limits, check_limits}
+use Rattle.source_compiler.specs.Limits.{build_limits, check_limits}
 use Rattle.core_compiler.specs.Compile.{HasCode}
 use Rattle.source_compiler.specs.Source.{Module, alone}
 use Rattle.source_compiler.specs.Compile.{Compiled, HaveCodeWhereWithin, IsProgram, IsNoProgram, source_most}

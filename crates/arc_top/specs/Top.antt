@@ -23,7 +23,7 @@ use Rattle.word_runner.specs.Sinks.{Told}
 use Rattle.command_words.specs.Command.{Command, check, build, run, mean, exec}
 use Rattle.source_compiler.specs.Source.{Module, alone, Reads}
 use Rattle.program_limits.specs.Limits.{tree_limits}
-use Rattle.core_compiler.specs.Limits.{build_limits, check_limits}
+use Rattle.source_compiler.specs.Limits.{build_limits, check_limits}
 use Rattle.core_compiler.specs.Compile.{HasImageWhereBuilt}
 use Rattle.core_compiler.specs.Mean.{CameTo, IsEnd}
 use Rattle.source_compiler.specs.Limits.{Limits, no_limits}

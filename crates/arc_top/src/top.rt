@@ -13,7 +13,7 @@ ghost use Rattle.check_decls.specs.Modules.{program_in};
 ghost use Rattle.source_compiler.specs.Source.{alone, read_program, Reads};
 ghost use Rattle.program_limits.specs.Limits.{tree_limits};
 ghost use Rattle.core_compiler.specs.Compile.{MembersNamed};
-ghost use Rattle.core_compiler.specs.Limits.{build_limits, check_limits};
+ghost use Rattle.source_compiler.specs.Limits.{build_limits, check_limits};
 ghost use Rattle.core_compiler.specs.Mean.{IsEnd};
 ghost use Rattle.source_compiler.specs.Compile.{Compiled, IsNoProgram, source_most, OnTooLong};
 ghost use Rattle.arc_top.specs.Answer.{OnQuiet, OnUsage, OnCommand};

@@ -1,6 +1,6 @@
 -- Which limits say no, and which say yes.
-use Rattle.std.proofs.Common.{◌≡◌, ◌≤◌, ◌<◌, ℕ, ◌+◌, ◌*◌, false, List, Option, Some, None, Result, Ok, Err}
-use Rattle.std.proofs.Common.{refl, ap, ◌∙◌, arith, inl, inr}
+use Rattle.std.proofs.Common.{◌≡◌, ◌≤◌, ◌<◌, ℕ, ◌+◌, ◌*◌, Bool, false, List, Option, Some, None, Result, Ok, Err}
+use Rattle.std.proofs.Common.{refl, sym, ap, ◌∙◌, arith, inl, inr}
 use Rattle.std.specs.Prelude.{nat_le}
 use Rattle.std.proofs.lemmas.Bool.{leb-true, le-leb, cases_Bool}
 use Rattle.arc_base.specs.declared.place.Place.{Place}
@@ -21,18 +21,23 @@ use Rattle.program_limits.specs.Limits.{unless_left_out, unless_large, data_limi
 use Rattle.flattening.specs.Counted.{program_parts, program_pairs}
 use Rattle.flattening.specs.Flattened.{modes_of}
 use Rattle.rv32_codegen.specs.Lowering.{most_bytes}
-use Rattle.core_compiler.specs.Limits.{code_bound, code_limits, build_limits}
+use Rattle.core_compiler.specs.Limits.{code_bound, code_limits, note_bytes, note_limits, build_limits}
 use Rattle.core_compiler.specs.Limits.{where_built, check_limits}
 use Rattle.core_compiler.specs.Compile.{HasCode, HasCodeWhereWithin, UnlessMemory}
 
 module _ (program : Program) where
-  -- ---- by the bytes of the code
+  -- ---- by the bytes of the code and of the note
 
-  pub code_fits : (code : ℕ) → tree_limits program ≡ Ok tt → code ≤ 524288 → build_limits code program ≡ Ok tt
-  code_fits code small few = ap (λ r. and_then r (λ small. code_limits code)) small ∙ ap unless_large (le-leb code 524288 few)
+  behind : (plan : Plan) (code : ℕ) → tree_limits program ≡ Ok tt → build_limits plan code program ≡ and_then (code_limits code) (λ few. note_limits plan)
+  behind plan code small = ap (λ r. and_then r (λ small. and_then (code_limits code) (λ few. note_limits plan))) small
 
-  pub code_large : (code : ℕ) → tree_limits program ≡ Ok tt → 524288 < code → build_limits code program ≡ refused TooLarge beginning
-  code_large code small large = ap (λ r. and_then r (λ small. code_limits code)) small ∙ ap unless_large no
+  pub note_said : (plan : Plan) (code : ℕ) (fits : Bool) → tree_limits program ≡ Ok tt → code ≤ 524288 → fits ≡ nat_le (note_bytes plan) 2097152 →
+      build_limits plan code program ≡ unless_large fits
+  note_said plan code fits small few e =
+      behind plan code small ∙ ap (λ f. and_then (unless_large f) (λ few. note_limits plan)) (le-leb code 524288 few) ∙ ap unless_large (sym e)
+
+  pub code_large : (plan : Plan) (code : ℕ) → tree_limits program ≡ Ok tt → 524288 < code → build_limits plan code program ≡ refused TooLarge beginning
+  code_large plan code small large = behind plan code small ∙ ap (λ f. and_then (unless_large f) (λ few. note_limits plan)) no
     where
       no : nat_le code 524288 ≡ false
       no = elim (cases_Bool (nat_le code 524288)) [
@@ -50,11 +55,11 @@ module _ (program : Program) where
 -- ---- where all of it is built
 
 module _ (program : Program) where
-  pub checks_nothing : (code : ℕ) (at : Place) → first_left_out program ≡ Some at → check_limits code program ≡ Ok tt
-  checks_nothing code at e = ap (λ o. where_built o (build_limits code program)) e
+  pub checks_nothing : (plan : Plan) (code : ℕ) (at : Place) → first_left_out program ≡ Some at → check_limits plan code program ≡ Ok tt
+  checks_nothing plan code at e = ap (λ o. where_built o (build_limits plan code program)) e
 
-  pub checks_all : (code : ℕ) → first_left_out program ≡ None → check_limits code program ≡ build_limits code program
-  checks_all code e = ap (λ o. where_built o (build_limits code program)) e
+  pub checks_all : (plan : Plan) (code : ℕ) → first_left_out program ≡ None → check_limits plan code program ≡ build_limits plan code program
+  checks_all plan code e = ap (λ o. where_built o (build_limits plan code program)) e
 
 pub not_both : (found : Option Place) (at : Place) → found ≡ Some at → found ≡ None → ⊥
 not_both found at some none = cc

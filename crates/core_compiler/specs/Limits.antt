@@ -1,6 +1,6 @@
 -- Which typed programs a command takes, and how others are refused: by what is said of the program alone (program_limits/specs/Limits.antt: E23,
--- E21, E25 of its data), and then by the bytes of its code (E25).
-use Rattle.std.specs.Prelude.{ℕ, ◌+◌, ◌*◌, nat_le, Option, Some, None, Result, Ok}
+-- E21, E25 of its data), and then by the bytes of its code and of its file's note (E25).
+use Rattle.std.specs.Prelude.{ℕ, ◌+◌, ◌*◌, nat_le, length, Option, Some, None, Result, Ok}
 use Rattle.arc_base.specs.declared.place.Place.{Place}
 use Rattle.arc_base.specs.Refusal.{Refusal, and_then}
 use Rattle.nim_plan.specs.declared.plan.Plan.{Plan}
@@ -10,6 +10,7 @@ use Rattle.program_limits.specs.Limits.{unless_large, tree_limits}
 use Rattle.flattening.specs.Counted.{program_parts, program_pairs}
 use Rattle.flattening.specs.Flattened.{modes_of}
 use Rattle.rv32_codegen.specs.declared.layout.TheConstants.{MOST_CODE_BYTES}
+use Rattle.core_compiler.specs.declared.note.TheConstants.{MOST_NOTE_BYTES}
 use Rattle.core_compiler.specs.declared.program.TheConstants.{BYTES_OF_PART, BYTES_OF_PAIR, BYTES_OF_ALL}
 
 -- code under a plan never has more bytes
@@ -20,9 +21,16 @@ code_bound program plan = BYTES_OF_PART * program_parts program + (BYTES_OF_PAIR
 abbrev pub code_limits : (code : ℕ) → Result (Unit {0}) Refusal
 code_limits code = unless_large (nat_le code MOST_CODE_BYTES)
 
--- the program's code has so many bytes: which code that is, `HasCode` says
-abbrev pub build_limits : (code : ℕ) → Program → Result (Unit {0}) Refusal
-build_limits code program = and_then (tree_limits program) (λ small. code_limits code)
+-- the bytes of a file's note under a plan, where there are no hooks
+abbrev pub note_bytes : Plan → ℕ
+note_bytes plan = 40 + (8 * length plan.sites + (4 * length plan.sinks + 8 * length plan.skips))
+
+abbrev pub note_limits : Plan → Result (Unit {0}) Refusal
+note_limits plan = unless_large (nat_le (note_bytes plan) MOST_NOTE_BYTES)
+
+-- the program's code under a plan has so many bytes: which code that is, `HasCode` says
+abbrev pub build_limits : Plan → (code : ℕ) → Program → Result (Unit {0}) Refusal
+build_limits plan code program = and_then (tree_limits program) (λ small. and_then (code_limits code) (λ few. note_limits plan))
 
 -- what is said of a program all of which is built; of another one nothing
 abbrev pub where_built : Option Place → Result (Unit {0}) Refusal → Result (Unit {0}) Refusal
@@ -30,5 +38,5 @@ where_built None said = said
 where_built (Some at) said = Ok tt
 
 -- what only waits to be built is a program for `check`
-abbrev pub check_limits : (code : ℕ) → Program → Result (Unit {0}) Refusal
-check_limits code program = where_built (first_left_out program) (build_limits code program)
+abbrev pub check_limits : Plan → (code : ℕ) → Program → Result (Unit {0}) Refusal
+check_limits plan code program = where_built (first_left_out program) (build_limits plan code program)

@@ -15,6 +15,7 @@ ghost use Rattle.core_compiler.specs.Compile.{MembersNamed, HasImageWhereBuilt};
 ghost use Rattle.core_compiler.specs.Stages.{IsFlatOf, MayBeLowered, AreWordsOf, too_large};
 
 use crate::image::image_of_words;
+use crate::note::note_fits;
 use arc_base::{Code, Memory, Place, Stop, agreement};
 use destructor_injection::{owned_codes, owned_of};
 use flat_code::{Flat, Line, by_units};
@@ -128,7 +129,7 @@ pub fn within_core(alloc: Global, program: &Program) -> Result<(), Stop>
 /// program means under the plan, with a heap of that many bytes, at most 16,777,216.
 ///
 /// Refused is a program with a form that isn't built (E23), with a procedure that is too large to be
-/// called (E21), and one whose data or code is too large (E25). The bytes of code by which it is taken
+/// called (E21), and one whose data or code is too large, or its file's note (E25). The bytes of code by which it is taken
 /// or refused are those of code that does what the program means.
 pub fn compile_core(alloc: Global, program: &Program, plan: &Plan, heap: u32) -> Result<Image, Stop>
     requires typed { IsTyped (program_in program.now) }
@@ -137,7 +138,7 @@ pub fn compile_core(alloc: Global, program: &Program, plan: &Plan, heap: u32) ->
     requires ordered { IsInOrder plan.now }
     requires heap { heap ≤ 16777216 }
     ensures answers { (code : ℕ) × Answers (λ (image : RustImage). tt)
-        (build_limits code (program_in program.now)) result
+        (build_limits plan.now code (program_in program.now)) result
         × UnlessMemory result (HasCodeWhereWithin (program_in program.now) plan.now code)
         × IfOk result (λ image. length image.code ≡ code) }
     ensures does { IfOk result (λ image.
@@ -149,7 +150,12 @@ pub fn compile_core(alloc: Global, program: &Program, plan: &Plan, heap: u32) ->
     let words = words_of(alloc, &program.types, plan, &flat)?;
     agreement();
     match image_of_words(alloc, &words, heap) {
-        Ok(image) => Ok(image),
+        Ok(image) => {
+            if !note_fits(plan) {
+                return Err(too_large());
+            }
+            Ok(image)
+        }
         Err(LayFault::TooLarge(_)) => Err(too_large()),
         Err(LayFault::Memory) => Err(Stop::Memory),
     }
@@ -163,7 +169,7 @@ pub fn check_core(alloc: Global, program: &Program, plan: &Plan) -> Result<(), S
     requires named { MembersNamed (program_in program.now).facts }
     requires ordered { IsInOrder plan.now }
     ensures answers { (code : ℕ) × Answers (λ (done : Unit {0}). tt)
-        (check_limits code (program_in program.now)) result
+        (check_limits plan.now code (program_in program.now)) result
         × UnlessMemory result (HasCodeWhereWithin (program_in program.now) plan.now code)
         × IfOk result (λ done. HasImageWhereBuilt (program_in program.now) plan.now code) }
 {

@@ -1,5 +1,5 @@
 -- A copy at each site is the plain plan, and it is what was found.
-use Rattle.std.proofs.Common.{◌≡◌, ◌⊎◌, inl, inr, ⊎_elim, ℕ, List, [], ◌∷◌, Option, Some, refl, sym, ap, subst, ◌∙◌}
+use Rattle.std.proofs.Common.{◌≡◌, ◌⊎◌, inl, inr, ⊎_elim, append_assoc, ℕ, List, [], ◌∷◌, ◌++◌, Option, Some, refl, sym, ap, subst, ◌∙◌}
 use Rattle.std.specs.Prelude.{map}
 use Rattle.std.proofs.lemmas.Option.{same_Some}
 use Rattle.std.specs.List.{Contains, AllByRecursion}
@@ -9,6 +9,7 @@ use Rattle.std.specs.declared.cmp.Ordering.TheVariants.{Less}
 use Rattle.nim_plan.specs.declared.plan.Act.{Act}
 use Rattle.nim_plan.specs.declared.plan.Act.TheVariants.{Copy}
 use Rattle.nim_plan.specs.declared.plan.Plan.{Plan}
+use Rattle.nim_plan.specs.declared.plan.SiteAct.{SiteAct}
 use Rattle.nim_plan.specs.Order.{HasOneMore, IsInOrder, skip_order, site_order, with_site}
 use Rattle.nim_program.specs.Program.{Program}
 use Rattle.plain_plan.specs.Adding.{with_all, Adds}
@@ -19,6 +20,13 @@ use Rattle.plain_plan.proofs.Programs.{contains_first, contains_later, first_or_
 use Rattle.plain_plan.proofs.Whole.{from_site, into_site}
 
 -- ---- copies
+
+-- one more of a list that is gone through
+pub copied_more : (acts new : List SiteAct) (a : SiteAct) (site : ℕ) (left rest : List ℕ) (all : List SiteAct) → new ≡ acts ++ a ∷ [] → a ≡ copied site →
+    left ≡ site ∷ rest → acts ++ map copied left ≡ all → new ++ map copied rest ≡ all
+copied_more acts new a site left rest all more is step done =
+    ap (λ xs. xs ++ map copied rest) more ∙ append_assoc acts (a ∷ []) (map copied rest) ∙ ap (λ x. acts ++ (x ∷ map copied rest)) is
+    ∙ sym (ap (λ ns. acts ++ map copied ns) step) ∙ done
 
 from_copies : (sites : List ℕ) (n : ℕ) (act : Act) → Contains (map copied sites) (entry n act) → Contains sites n × (act ≡ Copy)
 from_copies [] n act h = absurd (none_in_none (entry n act) h)

@@ -1,6 +1,7 @@
 // Sites that were found.
-ghost use Rattle.std.specs.Prelude.{◌≡◌, ◌∷◌, [], ℕ, List, Option, Some, IfOk, map};
+ghost use Rattle.std.specs.Prelude.{◌≡◌, ◌<◌, ◌^◌, ◌∷◌, [], ℕ, List, Option, Some, IfOk, map};
 ghost use Rattle.plain_plan.specs.Adding.{Adds};
+ghost use Rattle.plain_plan.specs.Plain.{AreWords};
 ghost use Rattle.plain_plan.specs.Sites.{copied};
 
 use arc_base::{Items, Memory};
@@ -47,7 +48,7 @@ impl Found {
     /// A copy at each site, in order, unless one was lost.
     pub fn finish(self, alloc: Global) -> Result<Items<SiteAct>, Memory>
         ensures { IfOk result (λ acts. (sites : List ℕ) × (self ≡ Some sites)
-            × (acts ≡ map copied sites)) }
+            × (acts ≡ map copied sites) × AreWords acts) }
     {
         if !self.kept {
             return Err(Memory);
@@ -56,16 +57,24 @@ impl Found {
     }
 }
 
+fn copy_at(site: u32) -> SiteAct
+    ensures is { result ≡ copied site }
+    ensures word { site < 2 ^ 32 }
+{
+    SiteAct {
+        site,
+        act: Act::Copy,
+    }
+}
+
 // A copy at each site.
 fn copies(alloc: Global, sites: &BTreeSet<u32>) -> Result<Items<SiteAct>, Memory>
-    ensures { IfOk result (λ acts. acts ≡ map copied sites.now.keys) }
+    ensures copies { IfOk result (λ acts. acts ≡ map copied sites.now.keys) }
+    ensures words { IfOk result AreWords }
 {
     let mut acts = Items::new(alloc);
     for site in sites {
-        acts.push(SiteAct {
-            site: *site,
-            act: Act::Copy,
-        })?;
+        acts.push(copy_at(*site))?;
     }
     Ok(acts)
 }

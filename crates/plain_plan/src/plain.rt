@@ -4,7 +4,7 @@ ghost use Rattle.nim_types.specs.Table.{types_in, facts_in};
 ghost use Rattle.nim_program.specs.Sizes.{HaveForms};
 ghost use Rattle.nim_program.specs.View.{proc_of, program_under};
 ghost use Rattle.plain_plan.specs.Adding.{Adds};
-ghost use Rattle.plain_plan.specs.Plain.{plain_plan};
+ghost use Rattle.plain_plan.specs.Plain.{plain_plan, AreWords};
 ghost use Rattle.plain_plan.specs.TreeSites.{sites_if_body, proc_sites};
 ghost use Rattle.plain_plan.specs.Views.{types_of, facts_of, modes_of};
 
@@ -41,8 +41,9 @@ fn add_procs(found: &mut Found, around: &Around, procs: &Vec<Proc>)
 /// none was found.
 pub fn plain_plan(alloc: Global, program: &Program) -> Result<Plan, Memory>
     requires forms { HaveForms program.now.types }
-    ensures { IfOk result (λ plan. plan ≡ plain_plan (program_under (types_in program.now.types)
+    ensures is { IfOk result (λ plan. plan ≡ plain_plan (program_under (types_in program.now.types)
         (facts_in program.now.types) program.now)) }
+    ensures words { IfOk result (λ plan. AreWords plan.sites) }
 {
     type_forms();
     let around = Around {

@@ -1,12 +1,12 @@
 -- What the stages of the compiler give one another.
-use Rattle.std.proofs.Common.{◌≡◌, ◌≢◌, ℕ, zero, suc, List, [], ◌∷◌, true, Result, Ok, Err, arith}
+use Rattle.std.proofs.Common.{◌≡◌, ◌≢◌, ℕ, zero, suc, List, [], ◌∷◌, true, Result, Ok, Err, subst, arith}
 use Rattle.std.specs.Prelude.{All, IfOk, IfErr}
 use Rattle.std.specs.List.{list_all}
 use Rattle.std.proofs.lemmas.Bool.{and_parts}
 use Rattle.arc_base.specs.Stops.{OnRefusal}
 use Rattle.arc_base.specs.declared.place.Stop.{Stop}
 use Rattle.arc_base.specs.declared.place.Stop.TheVariants.{Refused, Memory}
-use Rattle.arc_base.specs.Refusal.{Answers}
+use Rattle.arc_base.specs.Refusal.{Refusal, Answers}
 use Rattle.indent_scanner.specs.declared.token.Token.{Token}
 use Rattle.indent_scanner.specs.Tokens.{Tokens}
 use Rattle.indent_scanner.specs.Tokens.{IsRefused as IsRefusedByBytes}
@@ -14,6 +14,7 @@ use Rattle.nim_tree.specs.Statements.{Statements}
 use Rattle.nim_types.specs.Types as type
 use Rattle.nim_types.specs.Types.{Ty, members, Facts}
 use Rattle.nim_types.specs.Table.{types_in}
+use Rattle.nim_plan.specs.declared.plan.Plan.{Plan}
 use Rattle.nim_program.specs.declared.program.Program.{Program as RustProgram}
 use Rattle.nim_program.specs.Numbering.{is_numbered_program}
 use Rattle.nim_program.specs.Program.{Program}
@@ -122,3 +123,8 @@ pub limits_down : (T : Type 0) (limits : Limits) (program : Program) (source : L
     → OnRefusal stop (λ code at. (name : List ℕ) → AreTurnedDown limits (alone name source) code at)
 limits_down T limits program source reads of (Refused code at) said = λ name. by_limits program (reads name) said
 limits_down T limits program source reads of Memory said = tt
+
+-- what is said under a plan, under one that is equal
+pub under_plan : (T : Type 0) (said : Plan → Result (Unit {0}) Refusal) (p q : Plan) (of : T → Unit {0}) (stop : Stop) → p ≡ q →
+    Answers of (said p) (Err stop) → Answers of (said q) (Err stop)
+under_plan T said p q of stop e h = subst (λ (r : Plan). Answers of (said r) (Err stop)) e h

@@ -21,9 +21,8 @@ use Rattle.source_compiler.specs.declared.compiler.NotCompiled.TheVariants.{TooL
 use Rattle.source_compiler.specs.declared.source.TheConstants.{SOURCE_MOST}
 use Rattle.source_compiler.specs.Source.{Module, alone, Reads, Refuses}
 use Rattle.core_compiler.specs.declared.program.TheConstants.{IMAGE_PACE, IMAGE_LATE}
-use Rattle.core_compiler.specs.Limits.{build_limits}
 use Rattle.core_compiler.specs.Compile.{live_objects, EndsInTime, HasCode, HasCodeWhereWithin, image_with}
-use Rattle.source_compiler.specs.Limits.{Limits}
+use Rattle.source_compiler.specs.Limits.{Limits, build_limits}
 
 -- THE HEADLINE. The modules are one typed program, which can be compiled. For every input and every number of steps the machine on the
 -- file's image agrees with the meaning of the program under the file's plan and this heap, in bytes; its work is in proportion, and where

@@ -8,7 +8,6 @@ use crate::source::{one_answer, plan_of, typed};
 use arc_base::{Code, Memory, Place, Stop};
 use core_compiler::compile_core;
 use elf32::ElfFile;
-use formed_programs::without_hooks;
 use plain_plan::plain_plans;
 use std::alloc::Global;
 
@@ -66,7 +65,6 @@ pub fn compile(alloc: Global, source: &[u8], heap: u32) -> Result<ElfFile, NotCo
         × IfOk result (λ file. length file.image.code ≡ bytes) }
 {
     one_answer();
-    without_hooks();
     plain_plans();
     let program = typed(alloc, source)?;
     let plan = plan_of(alloc, &program)?;

@@ -7,7 +7,7 @@ ghost use Rattle.nim_plan.specs.Order.{IsInOrder};
 ghost use Rattle.nim_program.specs.Program.{Program as TypedProgram};
 ghost use Rattle.nim_program.specs.Numbering.{is_numbered_program};
 ghost use Rattle.nim_program.specs.Typed.{IsTyped};
-ghost use Rattle.plain_plan.specs.Plain.{plain_plan};
+ghost use Rattle.plain_plan.specs.Plain.{plain_plan, AreWords};
 ghost use Rattle.check_decls.specs.Modules.{program_in};
 ghost use Rattle.core_compiler.specs.Compile.{MembersNamed};
 ghost use Rattle.source_compiler.specs.Source.{Module, alone, read_program, ReadsAlone, RefusesAlone, Reads, Refuses};
@@ -80,6 +80,7 @@ pub fn plan_of(alloc: Global, program: &Program) -> Result<Plan, Memory>
     requires { IsTyped (program_in program.now) }
     ensures plain { IfOk result (λ plan. plan ≡ plain_plan (read_program program.now)) }
     ensures ordered { IfOk result IsInOrder }
+    ensures words { IfOk result (λ plan. AreWords plan.sites) }
 {
     table_forms();
     plain_plans();

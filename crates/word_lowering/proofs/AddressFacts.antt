@@ -5,11 +5,12 @@ use Rattle.nim_types.specs.Table.{facts_in}
 use Rattle.nim_types.specs.Types.{Ty}
 use Rattle.nim_meaning.specs.Values.{Standing}
 use Rattle.nim_meaning.specs.Places.{root_of, through_slot}
+use Rattle.nim_meaning.specs.State.{is_seen, load}
 use Rattle.flat_code.specs.declared.block.BlockLine.{BlockLine}
 use Rattle.flat_code.specs.Fits.{is_own, is_standing}
 use Rattle.flat_code.specs.Codes.{block_plain}
-use Rattle.flat_code.specs.Scene.{Where, Located}
-use Rattle.flat_code.specs.Shapes.{Shape, shape_of}
+use Rattle.flat_code.specs.Scene.{Where, Located, location_at}
+use Rattle.flat_code.specs.Shapes.{Shape, row, shape_of}
 use Rattle.word_lowering.specs.declared.homes.Alias.{Alias}
 use Rattle.word_lowering.specs.declared.homes.Alias.TheVariants as alias
 use Rattle.word_lowering.specs.declared.homes.Home.{Home}
@@ -23,11 +24,12 @@ use Rattle.word_lowering.proofs.HandedPlaces.{handed_among, is_addressed}
 use Rattle.word_lowering.specs.Aliases.{handed_by, places_in, handed_in, is_among}
 use Rattle.word_lowering.proofs.Keeping.{declared_address, location_address, points_there}
 use Rattle.word_lowering.proofs.Lines.{Basis, IsGood, all_sites, starts}
+use Rattle.word_lowering.proofs.Located.{RowRead, led_row}
 use Rattle.word_lowering.proofs.MovedLines.{own_plain}
 use Rattle.word_lowering.proofs.Moves.{IsHigh}
 use Rattle.word_lowering.proofs.ReadFacts.{global_root, own_root}
 use Rattle.word_lowering.proofs.Related.{Both, body_of, within}
-use Rattle.word_lowering.proofs.Scenes.{Leads, Filled, FromPlace, IsInValue, IsLedBy, IsNamed, IsRoot, IsThere, Name, Points, address_of, house, looked}
+use Rattle.word_lowering.proofs.Scenes.{Leads, Filled, FromOwned, owned_leads, IsInValue, IsLedBy, IsNamed, IsRoot, IsThere, Name, Points, address_of, house, looked}
 use Rattle.word_lowering.proofs.Scenes.{of_location, of_place, of_value}
 use Rattle.word_lowering.proofs.ShapeFacts.{never, of_numbers}
 use Rattle.word_lowering.proofs.Sites.{Housing, InMemory, IsHoused, around, by_address, data_end, in_data, in_places, in_variable, is_one_word, room}
@@ -198,7 +200,8 @@ module _ (x : Basis) (g : Both) (line : BlockLine) (rest : List BlockLine) (y : 
                 address = v.address;
                 points = q.points;
                 leads_to = subst (λ w. Leads x.table x.blocks (all_sites x g line rest y) g.ground g.world g.call.site g.call.temps w v.address s) (sym same)
-                    (inl (subst (λ k. FromPlace x.table (all_sites x g line rest y) g.world v.location v.address k) look v.leads));
+                    (owned_leads x.table x.blocks
+                    (subst (λ k. FromOwned x.table (all_sites x g line rest y) g.ground g.world v.location v.address k) look v.leads));
               }
 
       by_value : (u : ℕ) → (house g.call.site (of_location t)).alias ≡ alias.Value u → IsInValue x.table g.call u there → AtAddress (location here t) there s
@@ -265,3 +268,12 @@ module _ (x : Basis) (g : Both) (line : BlockLine) (rest : List BlockLine) (y : 
     where
       among : is_among t (handed_in (lines_of (body_of g))) ≡ true
       among = subst (λ l. is_among t (handed_in (map block_plain l)) ≡ true) (sym y.stands.whole) (handed_among t y.stands.before line rest handed)
+
+  -- an array there
+  pub read_row : (t : ℕ) (there : Where) → IsNamed g.call.site (of_location t) → g.call.temps.places t ≡ Some there → (count : ℕ) (of : Shape)
+      → looked x.table g.call.site (of_location t) ≡ row count of → is_seen g.world (location_at g.call.temps there) ≡ true
+      → RowRead (load g.world (location_at g.call.temps there)) count
+  read_row t there n e count of look seen =
+      let a = at_address t there n e (ap is_one_word look) in
+      led_row x (starts g line rest) y g.call (inl refl) there a.address count of seen
+      (subst (λ s. Leads x.table x.blocks (all_sites x g line rest y) g.ground g.world g.call.site g.call.temps there a.address s) look a.leads_to)

@@ -89,8 +89,8 @@ module _ (x : Basis) (g : Both) (line : BlockLine) (rest : List BlockLine) (y : 
     pub words_then : Vars
     pub same : AllSame vars vars_then
     pub good : IsGood x (starts (between x g line rest y vars_then memory_then words_then) line rest)
-    pub stays : Stays x.table sites g.world base m memory_then words words_then params
-    pub gave : Gave x.table memory_then sites g.world words_then base slots params
+    pub stays : Stays x.table sites g.ground g.world base m memory_then words words_then params
+    pub gave : Gave x.table memory_then sites g.ground g.world words_then base slots params
     pub steps : ℕ
     pub few : steps ≤ most
     pub runs : Runs x.live (all_procs x) steps (at (within x.table x.blocks g) m lines vars words)
@@ -110,7 +110,7 @@ module _ (x : Basis) (g : Both) (line : BlockLine) (rest : List BlockLine) (y : 
     same = same_more vars one.vars all.vars_then one.same all.same;
     good = all.good;
     stays = λ s d beyond given. all.stays s d beyond.1
-        (slot_stays x.table sites g.world base m one.memory words one.words h d one.gives beyond.0 s given);
+        (slot_stays x.table sites g.ground g.world base m one.memory words one.words h d one.gives beyond.0 s given);
     gave = (all.stays slot h (beyond_all h params own.0 own.1 apart.0) one.gave, all.gave);
     steps = one.steps + all.steps;
     few = (let a = one.few in let b = all.few in omega (arith, a, b));

@@ -17,6 +17,7 @@ use Rattle.word_lowering.proofs.HomesApart.{Apart, Each, Parted, AllApart}
 use Rattle.word_lowering.proofs.InMemory.{IsAt}
 use Rattle.word_lowering.proofs.Keeping.{at_beside}
 use Rattle.word_lowering.proofs.OrdinalRuns.{put_other}
+use Rattle.word_lowering.proofs.Scenes.{Ground}
 use Rattle.word_lowering.proofs.Sites.{Among, Site}
 
 -- ---- parameters don't overlap
@@ -54,7 +55,7 @@ pub beyond_all : (d : Housed) (hs : List Housed) → d.alias ≡ Own → AllOwn 
 beyond_all d [] own owns e = tt
 beyond_all d (h ∷ hs) own owns e = (e.0 own owns.0, beyond_all d hs own owns.1 e.1)
 
-module _ (table : List TypeDef) (sites : List Site) (w : World) (base : ℕ) where
+module _ (table : List TypeDef) (sites : List Site) (ground : Ground) (w : World) (base : ℕ) where
   -- a parameter gets a word, or bytes
   pub data Gives (m m' : Memory) (words words' : Vars) (h : Housed) : Type 0 where
     to_variable : (v n : ℕ) → h.home ≡ Variable v → m ≡ m' → words' ≡ put words v n → Gives m m' words words' h
@@ -62,10 +63,10 @@ module _ (table : List TypeDef) (sites : List Site) (w : World) (base : ℕ) whe
 
   module _ (m m' : Memory) (words words' : Vars) where
     abbrev Was : Home → Value → Type 0
-    Was = GivenAt table m sites w words base
+    Was = GivenAt table m sites ground w words base
 
     abbrev Is : Home → Value → Type 0
-    Is = GivenAt table m' sites w words' base
+    Is = GivenAt table m' sites ground w words' base
 
     -- what was given to another one stays
     given_stays : (h d : Housed) → Gives m m' words words' h → Apart d.home d.bytes h.home h.bytes → (x : Value) → bytes x ≡ d.bytes → Was d.home x
@@ -91,7 +92,7 @@ module _ (table : List TypeDef) (sites : List Site) (w : World) (base : ℕ) whe
     address_stays h d (to_place at n home long ch same) apart v a e given = ap (λ f. f v) (sym same) ∙ given
 
     pub slot_stays : (h d : Housed) → Gives m m' words words' h → Apart d.home d.bytes h.home h.bytes → (slot : Slot)
-        → GaveSlot table m sites w words base slot d → GaveSlot table m' sites w words' base slot d
+        → GaveSlot table m sites ground w words base slot d → GaveSlot table m' sites ground w words' base slot d
     slot_stays h d g apart (Holds x) s = record {
       plain = s.plain;
       shaped = s.shaped;
@@ -110,4 +111,4 @@ module _ (table : List TypeDef) (sites : List Site) (w : World) (base : ℕ) whe
 
     -- what was given to others than these stays
     abbrev pub Stays : List Housed → Type 0
-    Stays hs = (slot : Slot) (d : Housed) → Beyond d hs → GaveSlot table m sites w words base slot d → GaveSlot table m' sites w words' base slot d
+    Stays hs = (slot : Slot) (d : Housed) → Beyond d hs → GaveSlot table m sites ground w words base slot d → GaveSlot table m' sites ground w words' base slot d

@@ -1,14 +1,14 @@
 -- Homes: where values stand that may have blocks. Memory holds what stands at each of them, and the heap of the meaning; homes lie apart from one another
 -- and from the heap. A location has an address: in a home, or in a block.
-use Rattle.std.proofs.Common.{◌≡◌, ◌⊎◌, inl, inr, ℕ, zero, suc, ◌+◌, ◌*◌, ◌<◌, ◌≤◌, List, [], ◌∷◌, length, Bool, true, false, Option, Some, None}
+use Rattle.std.proofs.Common.{◌≡◌, ◌⊎◌, inl, inr, ℕ, zero, suc, ◌+◌, ◌*◌, ◌<◌, ◌≤◌, List, [], ◌∷◌, length, true, Option, Some, None}
 use Rattle.std.proofs.Common.{refl, sym, ap, subst, ◌∙◌, arith}
 use Rattle.std.specs.Prelude.{slice_get}
-use Rattle.std.proofs.lemmas.Bool.{ltb-true, true≢false}
-use Rattle.nim_meaning.specs.Values.{Value, Parts, Vacant, Values, Nil, More, count, parts_of, nth, part, put_part, Base, Location, nth_part}
+use Rattle.std.proofs.lemmas.Bool.{ltb-true}
+use Rattle.nim_meaning.specs.Values.{Value, Parts, Values, count, parts_of, part, put_part, Base, Location}
 use Rattle.nim_meaning.specs.Values.{Standing, Waiting, InBlock, InHand, InException, Made}
 use Rattle.nim_meaning.specs.Heap.{Block, Heap, flat, block_at}
 use Rattle.nim_meaning.specs.State.{World, whole_at, load, stored, store, is_there, is_so_in, has_item, leads_from, contents_value, object_in}
-use Rattle.flat_code.specs.Shapes.{Shape, block, row, parts, Shapes, no_shapes, shapes}
+use Rattle.flat_code.specs.Shapes.{Shape, block}
 use Rattle.rv32_isa.specs.Image.{heap_at, statics_at}
 use Rattle.word_code.specs.Memory.{Memory, bytes_at, own_data_at}
 use Rattle.word_code.specs.RoutineTable.{Beside, IsRewritten}
@@ -18,14 +18,13 @@ use Rattle.heap_memory.specs.HeapUse.{IsElsewhere}
 use Rattle.word_lowering.proofs.InMemory.{Carries}
 use Rattle.word_lowering.proofs.RoutineMemory.{same_word}
 use Rattle.word_lowering.proofs.Options.{none_some}
-use Rattle.word_lowering.proofs.PartsInMemory.{InPath}
-use Rattle.word_lowering.proofs.ShapeFacts.{never, nth_shape, shape_bytes, of_numbers}
-use Rattle.word_lowering.proofs.ShapePaths.{Step, PathTo, path_numbers, path_within}
-use Rattle.word_lowering.proofs.Blocks.{Blocks, AreLater, Stored, AreStored, PartsStored, HasHeap}
+use Rattle.word_lowering.proofs.ShapeFacts.{never, shape_bytes}
+use Rattle.word_lowering.proofs.ShapePaths.{PathTo, path_within}
+use Rattle.word_lowering.proofs.Blocks.{Blocks, AreLater, Stored, AreStored, HasHeap}
 use Rattle.word_lowering.proofs.BlockPaths.{LeadsInBlock, read_in_block, block_here, elements_here}
 use Rattle.word_lowering.proofs.CarriedBeside.{rewritten_carried, rewritten_spares}
 use Rattle.word_lowering.proofs.StoredLater.{stored_kept}
-use Rattle.word_lowering.proofs.StoredParts.{step_part, path_part, path_put, row_part, Spares}
+use Rattle.word_lowering.proofs.StoredParts.{path_part, path_put, Spares}
 use Rattle.word_lowering.proofs.BaseValues.{HoldsAt, IsOwn, Differ, in_frame, whole_held, held_here, held_away, heap_stays}
 
 get_none : {A : Type 0} (xs : List A) (k : ℕ) → slice_get xs k ≡ None → length xs ≤ k
@@ -84,63 +83,6 @@ abbrev pub SameOrApart : Home → Home → Type 0
 SameOrApart g h = (g ≡ h) ⊎ AreApart g h
 
 module _ (StandsFixed : (place : ℕ) → List ℕ → Type 0) where
-  -- ---- paths of values that are stored
-
-  field_inside : (d : Blocks) (m : Memory) (a : ℕ) (ss : Shapes) (vs : Values) (i : ℕ) (t : Shape) → nth_shape ss i ≡ Some t
-      → PartsStored StandsFixed d m a ss vs → i < count vs
-  field_inside d m a no_shapes vs i t is at = absurd (none_some t is)
-  field_inside d m a (shapes s ss) Nil i t is at = absurd at
-  field_inside d m a (shapes s ss) (More v vs) zero t is at = omega arith
-  field_inside d m a (shapes s ss) (More v vs) (suc i) t is at =
-      let h = field_inside d m (a + shape_bytes s) ss vs i t is at.1 in omega (arith, h)
-
-  -- what has hooks has parts, all the way to a part of something that has hooks
-  abbrev pub UnderHooks : (s : Shape) (path : List ℕ) (o : ℕ) (t : Shape) → PathTo s path o t → Type 0
-  UnderHooks s [] o t way = Unit {0}
-  UnderHooks s (i ∷ []) o t way = of_numbers s ≡ false
-  UnderHooks s (i ∷ k ∷ path) o t way = UnderHooks way.0 (k ∷ path) way.2 t way.4
-
-  one_numbers : (s : Shape) (i o : ℕ) (t : Shape) → Step s i o t → of_numbers s ≡ true → of_numbers t ≡ true
-  one_numbers s i o t step n = path_numbers s (i ∷ []) (o + 0) t n (t, o, 0, step, (refl, refl), refl)
-
-  -- such a part isn't in what is without hooks
-  not_numbers : (s : Shape) (i : ℕ) (path : List ℕ) (o : ℕ) (t : Shape) (way : PathTo s (i ∷ path) o t) → UnderHooks s (i ∷ path) o t way
-      → of_numbers s ≡ true → ⊥
-  not_numbers s i [] o t way under n = true≢false (sym n ∙ under)
-  not_numbers s i (k ∷ path) o t way under n = not_numbers way.0 k path way.2 t way.4 under (one_numbers s i way.1 way.0 way.3 n)
-
-  pub under_hooks : (s : Shape) (path : List ℕ) (o : ℕ) (t : Shape) (way : PathTo s path o t) → of_numbers t ≡ false → UnderHooks s path o t way
-  under_hooks s [] o t way hooked = tt
-  under_hooks s (i ∷ []) o t way hooked = by (of_numbers s) refl
-    where
-      by : (b : Bool) → of_numbers s ≡ b → of_numbers s ≡ false
-      by false e = e
-      by true e = never (sym hooked ∙ path_numbers s (i ∷ []) o t e way)
-  under_hooks s (i ∷ k ∷ path) o t way hooked = under_hooks way.0 (k ∷ path) way.2 t way.4 hooked
-
-  pub path_there : (d : Blocks) (m : Memory) (a : ℕ) (s : Shape) (v : Value) (path : List ℕ) (o : ℕ) (t : Shape) (way : PathTo s path o t)
-      → UnderHooks s path o t way → Stored StandsFixed d m a s v → InPath v path
-  path_there d m a s v [] o t way under at = tt
-  path_there d m a s v (i ∷ path) o t way under at =
-      let less = inside s v way.3 (not_numbers s i path o t way under) at in (
-        less,
-        path_there d m (a + way.1) way.0 (nth_part v i) path way.2 t way.4 (rest path way under)
-            (step_part StandsFixed d m a s v i way.1 way.0 way.3 less at),
-      )
-    where
-      rest : (path : List ℕ) (way : PathTo s (i ∷ path) o t) → UnderHooks s (i ∷ path) o t way → UnderHooks way.0 path way.2 t way.4
-      rest [] way under = tt
-      rest (k ∷ path) way under = under
-
-      inside : (s : Shape) (v : Value) → Step s i way.1 way.0 → (of_numbers s ≡ true → ⊥) → Stored StandsFixed d m a s v → i < count (parts_of v)
-      inside (row n s) (Parts vs) step hooked at = let e = at.0 in let l = step.0 in omega (arith, e, l)
-      inside (parts ss) (Parts vs) step hooked at = field_inside d m a ss vs i way.0 step.0 at
-      inside (row n s) Vacant step hooked at = absurd (hooked at)
-      inside (parts ss) Vacant step hooked at = absurd (hooked at)
-      inside (row n s) v step hooked at = absurd at
-      inside (parts ss) v step hooked at = absurd at
-      inside s v step hooked at = absurd step
-
   -- ---- homes
 
   -- a value stands at a home, beside the heap and its data
@@ -176,24 +118,19 @@ module _ (StandsFixed : (place : ℕ) → List ℕ → Type 0) where
     abbrev pub LeadsTo : Blocks → Location → (a : ℕ) → Shape → Type 0
     LeadsTo d l a t = FromHome l a t ⊎ FromBlock d l a t
 
-    -- it is a part of what has hooks, or a whole
-    abbrev pub IsUnder : (d : Blocks) (l : Location) (a : ℕ) (t : Shape) → LeadsTo d l a t → Type 0
-    IsUnder d l a t (inl f) = UnderHooks f.home.shape l.path f.offset t f.way
-    IsUnder d l a t (inr f) = UnderHooks f.leads.of f.leads.rest f.leads.offset t f.leads.way
-
     module _ (d : Blocks) (w : World) (m : Memory) (x : HomesHold d w m) where
       -- ---- what is read
 
       home_whole : (l : Location) (a : ℕ) (t : Shape) (f : FromHome l a t) → whole_at w l.base ≡ (x.homes f.home f.among).value
       home_whole l a t f = let h = x.homes f.home f.among in ap (whole_at w) f.base ∙ whole_held w f.home.base h.value h.holds
 
-      home_read : (l : Location) (a : ℕ) (t : Shape) (f : FromHome l a t) → InPath (whole_at w l.base) l.path → Stored StandsFixed d m a t (load w l)
-      home_read l a t f inside =
+      home_read : (l : Location) (a : ℕ) (t : Shape) (f : FromHome l a t) → Stored StandsFixed d m a t (load w l)
+      home_read l a t f =
           let h = x.homes f.home f.among in
           let is = home_whole l a t f in
           subst (λ v. Stored StandsFixed d m a t (part v l.path)) (sym is)
           (subst (λ n. Stored StandsFixed d m n t (part h.value l.path)) (sym f.address)
-          (path_part StandsFixed d m f.home.at f.home.shape h.value l.path f.offset t f.way (subst (λ v. InPath v l.path) is inside) h.stored))
+          (path_part StandsFixed d m f.home.at f.home.shape h.value l.path f.offset t f.way h.stored))
 
       -- a block to which a location leads that is there
       pub record BlockRead (k : ℕ) (path : List ℕ) : Type 0 where
@@ -234,41 +171,31 @@ module _ (StandsFixed : (place : ℕ) → List ℕ → Type 0) where
             fits = all.fits;
           }
 
-      blocks_read : (l : Location) (a : ℕ) (t : Shape) (f : FromBlock d l a t) → is_there w l ≡ true → InPath (whole_at w l.base) l.path
-          → Stored StandsFixed d m a t (load w l)
-      blocks_read l a t f there inside =
+      -- the element is one of those in the block
+      pub element_there : (l : Location) (a : ℕ) (t : Shape) (f : FromBlock d l a t) (there : is_there w l ≡ true)
+          → f.leads.element < count (elements_here StandsFixed d w.heap m x.heap f.block (block_seen l a t f there).read.block
+          (block_seen l a t f there).read.there l.path a t f.leads).all
+      element_there l a t f there =
           let s = block_seen l a t f there in
           let all = elements_here StandsFixed d w.heap m x.heap f.block s.read.block s.read.there l.path a t f.leads in
           let is : whole_at w l.base ≡ Parts all.all = ap (whole_at w) f.base ∙ ap contents_value s.read.there ∙ ap object_in all.is in
-          let both : InPath (Parts all.all) (f.leads.element ∷ f.leads.rest)
-          = subst (λ p. InPath (Parts all.all) p) f.leads.is (subst (λ v. InPath v l.path) is inside) in
+          subst (λ vs. f.leads.element < count vs) (ap parts_of (sym s.whole ∙ is)) s.less
+
+      blocks_read : (l : Location) (a : ℕ) (t : Shape) (f : FromBlock d l a t) → is_there w l ≡ true → Stored StandsFixed d m a t (load w l)
+      blocks_read l a t f there =
+          let s = block_seen l a t f there in
           subst (λ b. Stored StandsFixed d m a t (part (whole_at w b) l.path)) (sym f.base)
-          (read_in_block StandsFixed d w.heap m x.heap f.block s.read.block s.read.there l.path a t f.leads both.0 both.1)
+          (read_in_block StandsFixed d w.heap m x.heap f.block s.read.block s.read.there l.path a t f.leads (element_there l a t f there))
 
       -- what is stored at the address of a location
-      pub read_at : (l : Location) (a : ℕ) (t : Shape) → LeadsTo d l a t → is_there w l ≡ true → InPath (whole_at w l.base) l.path
-          → Stored StandsFixed d m a t (load w l)
-      read_at l a t (inl f) there inside = home_read l a t f inside
-      read_at l a t (inr f) there inside = blocks_read l a t f there inside
-
-      -- a part of what has hooks is there
-      pub path_at : (l : Location) (a : ℕ) (t : Shape) (f : LeadsTo d l a t) → IsUnder d l a t f → is_there w l ≡ true → InPath (whole_at w l.base) l.path
-      path_at l a t (inl f) under there =
-          let h = x.homes f.home f.among in
-          subst (λ v. InPath v l.path) (sym (home_whole l a t f))
-          (path_there d m f.home.at f.home.shape h.value l.path f.offset t f.way under h.stored)
-      path_at l a t (inr f) under there =
-          let s = block_seen l a t f there in
-          subst (λ v. InPath v l.path) (sym s.whole) (subst (λ p. InPath (Parts s.all) p) (sym f.leads.is) (
-            s.less,
-            path_there d m _ f.leads.of (nth s.all f.leads.element) f.leads.rest f.leads.offset t f.leads.way under
-                (row_part StandsFixed d m _ f.leads.of s.all f.leads.element s.less s.stored),
-          ))
+      pub read_at : (l : Location) (a : ℕ) (t : Shape) → LeadsTo d l a t → is_there w l ≡ true → Stored StandsFixed d m a t (load w l)
+      read_at l a t (inl f) there = home_read l a t f
+      read_at l a t (inr f) there = blocks_read l a t f there
 
       -- ---- another value is put at a place in a home
 
       module _ (after : Blocks) (ahead : AreLater d after) (other : Memory) (sized : Sized other) (l : Location) (a : ℕ) (t : Shape) (f : FromHome l a t)
-          (own : IsOwn l.base) (inside : InPath (whole_at w l.base) l.path) (new : Value) (written : IsRewritten m other a (shape_bytes t))
+          (own : IsOwn l.base) (new : Value) (written : IsRewritten m other a (shape_bytes t))
           (there : Stored StandsFixed after other a t new) (heap : HasHeap StandsFixed after w.heap other) where
         abbrev put_value : Value
         put_value = put_part (whole_at w l.base) l.path new
@@ -285,8 +212,7 @@ module _ (StandsFixed : (place : ℕ) → List ℕ → Type 0) where
               value = put_part h.value l.path new;
               holds = subst (λ b. HoldsAt (stored w l.base put_value) b (put_part h.value l.path new)) f.base
                   (subst (λ v. HoldsAt (stored w l.base put_value) l.base (put_part v l.path new)) is (held_here w put_value l.base h.value own holds));
-              stored = path_put StandsFixed d after ahead m other f.home.at f.home.shape h.value l.path f.offset t new f.way
-                  (subst (λ v. InPath v l.path) is inside) h.stored
+              stored = path_put StandsFixed d after ahead m other f.home.at f.home.shape h.value l.path f.offset t new f.way h.stored
                   (subst (λ n. Spares StandsFixed d after ahead m other f.home.at (home_bytes f.home) n (shape_bytes t)) f.address
                   (rewritten_spares m other a (shape_bytes t) f.home.at (home_bytes f.home) written))
                   (subst (λ n. Stored StandsFixed after other n t new) f.address there);

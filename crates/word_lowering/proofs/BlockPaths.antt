@@ -7,7 +7,6 @@ use Rattle.flat_code.specs.Shapes.{Shape, row}
 use Rattle.word_code.specs.Memory.{Memory}
 use Rattle.word_code.specs.RoutineTable.{IsRewritten}
 use Rattle.heap_memory.specs.HeapState.{Standing}
-use Rattle.word_lowering.proofs.PartsInMemory.{InPath}
 use Rattle.word_lowering.proofs.ShapeFacts.{shape_bytes}
 use Rattle.word_lowering.proofs.ShapePaths.{PathTo}
 use Rattle.word_lowering.proofs.Blocks.{Each, Blocks, AreLater, Stored, AreStored, HasContents, IsBlockThere, IfBlockThere, HasHeap}
@@ -69,7 +68,7 @@ module _ (StandsFixed : (place : ℕ) → List ℕ → Type 0) where
     pub at_place : a ≡ block_here.standing.place + (l.element * shape_bytes l.of + l.offset)
     at_place = l.address block_here.standing block_here.stands
 
-    module _ (element_in : l.element < count elements_here.all) (rest_in : InPath (nth elements_here.all l.element) l.rest) where
+    module _ (element_in : l.element < count elements_here.all) where
       way_there : PathTo all_of (l.element ∷ l.rest) (l.element * shape_bytes l.of + l.offset) t
       way_there = (l.of, l.element * shape_bytes l.of, l.offset, (element_in, refl, refl), l.way, refl)
 
@@ -81,7 +80,7 @@ module _ (StandsFixed : (place : ℕ) → List ℕ → Type 0) where
           (subst (λ c. Stored StandsFixed d m a t (part (contents_value (Some (record b { contents = c }))) (l.element ∷ l.rest))) (sym elements_here.is)
           (subst (λ n. Stored StandsFixed d m n t (part (Parts elements_here.all) (l.element ∷ l.rest))) (sym at_place)
           (path_part StandsFixed d m block_here.standing.place all_of (Parts elements_here.all) (l.element ∷ l.rest)
-          (l.element * shape_bytes l.of + l.offset) t way_there (element_in, rest_in) (refl, elements_here.stored)))))
+          (l.element * shape_bytes l.of + l.offset) t way_there (refl, elements_here.stored)))))
 
       -- and where another value is put there
       pub put_in_block : (after : Blocks) → AreLater d after → (other : Memory) (new : Value) → IsRewritten m other a (shape_bytes t)
@@ -90,7 +89,7 @@ module _ (StandsFixed : (place : ℕ) → List ℕ → Type 0) where
           (with_nth elements_here.all l.element (put_part (nth elements_here.all l.element) l.rest new))
       put_in_block after ahead other new written stored =
           (path_put StandsFixed d after ahead m other block_here.standing.place all_of (Parts elements_here.all) (l.element ∷ l.rest)
-          (l.element * shape_bytes l.of + l.offset) t new way_there (element_in, rest_in) (refl, elements_here.stored)
+          (l.element * shape_bytes l.of + l.offset) t new way_there (refl, elements_here.stored)
           (subst (λ n. Spares StandsFixed d after ahead m other block_here.standing.place (shape_bytes all_of) n (shape_bytes t)) at_place
           (rewritten_spares m other a (shape_bytes t) block_here.standing.place (shape_bytes all_of) written))
           (subst (λ n. Stored StandsFixed after other n t new) at_place stored)).1

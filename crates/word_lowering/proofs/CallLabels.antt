@@ -16,7 +16,7 @@ use Rattle.word_lowering.specs.declared.spots.Spot.TheVariants.{Held, Lies}
 use Rattle.word_lowering.specs.Spots.{spot_of, address, handed}
 use Rattle.word_lowering.specs.LineCode.{Around, arguments_of, label_before, word_argument, argument_code, arguments_code}
 use Rattle.word_lowering.proofs.Lines.{Basis, IsGood, starts}
-use Rattle.word_lowering.proofs.Related.{Both, body_of, code_behind}
+use Rattle.word_lowering.proofs.Related.{Both, body_of, code_past}
 use Rattle.word_lowering.proofs.Settling.{code_of_line}
 use Rattle.word_lowering.proofs.Sites.{word_of}
 
@@ -25,7 +25,7 @@ abbrev pub ArgumentLabels : Basis → Type 0
 ArgumentLabels x = (g : Both) (line : BlockLine) (rest : List BlockLine) → IsGood x (starts g line rest)
     → (i : ℕ) → i < length (arguments_of (block_plain line))
     → from_label (label_before (map block_plain rest) + 2 * suc i) (word_of x.table x.blocks (body_of g)).lines
-    ≡ from_label (label_before (map block_plain rest) + 2 * suc i) (code_of_line x g line rest (code_behind x.table x.blocks (body_of g) rest))
+    ≡ from_label (label_before (map block_plain rest) + 2 * suc i) (code_of_line x g line rest (code_past x.table x.blocks (body_of g) line rest))
 
 -- ---- other labels are passed by
 

@@ -48,6 +48,7 @@ use Rattle.word_lowering.proofs.PieceWeights.{moved_weighs, cleared_weighs, hand
 use Rattle.word_lowering.proofs.PieceWeights.{turn_weighs, beyond_weighs, constant_weighs, part_weighs, element_weighs, word_argument_weighs}
 use Rattle.word_lowering.proofs.PieceWeights.{literal_weighs, back_weighs, parts_weigh, moves_weigh, clears_weigh, passes_weigh, starts_weigh}
 use Rattle.word_lowering.proofs.PieceWeights.{converted_weighs, update_weighs, quit_weighs, swap_weighs}
+use Rattle.word_lowering.proofs.KeptCode.{kept_quiet, owning_quiet}
 use Rattle.word_lowering.proofs.WaiterHomes.{none_waits}
 
 module _ (x : Around) where
@@ -184,66 +185,70 @@ module _ (x : Around) where
   operands_length [] = refl
   operands_length (f ∷ from) = ap suc (operands_length from)
 
-  line_weighs : (line : Line) (label : ℕ) (k : List WordInstr) → length (lines.line_code x line label k) ≤ weight line + length k
-  line_weighs (L.Apply to operation how ty of from) label k =
+  line_weighs : x.own.waiters ≡ [] → (line : Line) (label : ℕ) (k : List WordInstr) → length (lines.line_code x line label k) ≤ weight line + length k
+  line_weighs quiet (L.Apply to operation how ty of from) label k =
       subst (λ n. length (lines.line_code x (L.Apply to operation how ty of from) label k) ≤ weight_of operation n + length k) (operands_length from)
       (row_weighs operation label ty of (lines.value x to) (lines.operands x from) k)
-  line_weighs (L.Construct to how ty fields from) label k =
+  line_weighs quiet (L.Construct to how ty fields from) label k =
       let h = clears_weigh (lines.value x to) (lines.fields_code x (lines.value x to).home ty fields (lines.operands x from) k) in
       let i = fields_weigh (lines.value x to).home ty fields (lines.operands x from) k in
       let n = operands_length from in
       omega (arith, h, i, n)
-  line_weighs (L.Constant to how ty pieces) label k = constant_weighs (text_in pieces) (lines.value x to) pieces k
-  line_weighs (L.Call to how ty proc from) label k =
+  line_weighs quiet (L.Constant to how ty pieces) label k = constant_weighs (text_in pieces) (lines.value x to) pieces k
+  line_weighs quiet (L.Call to how ty proc from) label k =
       let h = called_weighs (lines.layout_at x proc).runs label proc ty to (lines.operands x from) k in
       let n = operands_length from in
       omega (arith, h, n)
-  line_weighs (L.Get to from how ty) label k = moves_weigh (lines.value x to) (lines.location x from) k
-  line_weighs (L.Look to from) label k = moves_weigh (lines.value x to) (lines.location x from) k
-  line_weighs (L.Root to p global) label k = omega arith
-  line_weighs (L.Fresh to from waits) label k = omega arith
-  line_weighs (L.Standing to ty pieces) label k = omega arith
-  line_weighs (L.Part to from field) label k = part_weighs (lines.led x to) (lines.location x from).home _ k
-  line_weighs (L.Item to from index) label k =
+  line_weighs quiet (L.Get to from how ty) label k = moves_weigh (lines.value x to) (lines.location x from) k
+  line_weighs quiet (L.Look to from) label k = moves_weigh (lines.value x to) (lines.location x from) k
+  line_weighs quiet (L.Root to p global) label k = omega arith
+  line_weighs quiet (L.Fresh to from waits) label k = omega arith
+  line_weighs quiet (L.Standing to ty pieces) label k = omega arith
+  line_weighs quiet (L.Part to from field) label k = part_weighs (lines.led x to) (lines.location x from).home _ k
+  line_weighs quiet (L.Item to from index) label k =
       let h = element_weighs (lines.led x to) (lines.location x from).home (lines.held x index) (lines.bytes_each x from) k in omega (arith, h)
-  line_weighs (L.Object to from) label k = omega arith
-  line_weighs (L.Pass to from how ty) label k = passes_weigh (lines.value x from).bytes (lines.value x to) (lines.value x from) k
-  line_weighs (L.Truth to holds) label k = omega arith
-  line_weighs (L.Fill p from) label k = moves_weigh (lines.own_place x p) (lines.value x from) k
-  line_weighs (L.Blank p ty) label k = clears_weigh (lines.own_place x p) k
-  line_weighs (L.Give p from) label k = moves_weigh (lines.own_place x p) (lines.value x from) k
-  line_weighs (L.Zero to) label k = omega arith
-  line_weighs (L.Length to from) label k = omega arith
-  line_weighs (L.Still from len) label k = omega arith
-  line_weighs (L.Element to from index) label k =
+  line_weighs quiet (L.Object to from) label k = omega arith
+  line_weighs quiet (L.Pass to from how ty) label k = passes_weigh (lines.value x from).bytes (lines.value x to) (lines.value x from) k
+  line_weighs quiet (L.Truth to holds) label k = omega arith
+  line_weighs quiet (L.Fill p from) label k = moves_weigh (lines.own_place x p) (lines.value x from) k
+  line_weighs quiet (L.Blank p ty) label k = clears_weigh (lines.own_place x p) k
+  line_weighs quiet (L.Give p from) label k = moves_weigh (lines.own_place x p) (lines.value x from) k
+  line_weighs quiet (L.Zero to) label k = omega arith
+  line_weighs quiet (L.Length to from) label k = omega arith
+  line_weighs quiet (L.Still from len) label k = omega arith
+  line_weighs quiet (L.Element to from index) label k =
       let v : Housed = lines.value x to in
       let h = moved_weighs v.is_word v.bytes (spot_of v) (Lies (Variable FIFTH)) k in
       let i = element_weighs FIFTH (lines.location x from).home (lines.held x index) (lines.bytes_each x from)
       (moved v.is_word v.bytes (spot_of v) (Lies (Variable FIFTH)) k) in
       omega (arith, h, i)
-  line_weighs (L.Beyond counter last inclusive to) label k =
+  line_weighs quiet (L.Beyond counter last inclusive to) label k =
       let h = beyond_weighs inclusive (lines.held x counter) (lines.held x last) (lines.own_label to) k in omega (arith, h)
-  line_weighs (L.Next counter last) label k = omega arith
-  line_weighs (L.Label name) label k = omega arith
-  line_weighs (L.Jump to) label k = omega arith
-  line_weighs (L.Unless from to) label k = omega arith
-  line_weighs (L.Fits from (C.Ordinals low high) to) label k = fits_weighs (lines.held x from) (lines.own_label to) low high k
-  line_weighs (L.Fits from (C.Text text) to) label k = omega arith
-  line_weighs (L.Own what from) label k = omega arith
-  line_weighs L.Enter label k = omega arith
-  line_weighs (L.Turn to) label k = omega arith
-  line_weighs (L.TurnIf from to) label k = omega arith
-  line_weighs (L.CountTurn counter last inclusive to) label k =
+  line_weighs quiet (L.Next counter last) label k = omega arith
+  line_weighs quiet (L.Label name) label k = omega arith
+  line_weighs quiet (L.Jump to) label k = omega arith
+  line_weighs quiet (L.Unless from to) label k = omega arith
+  line_weighs quiet (L.Fits from (C.Ordinals low high) to) label k = fits_weighs (lines.held x from) (lines.own_label to) low high k
+  line_weighs quiet (L.Fits from (C.Text text) to) label k = omega arith
+  line_weighs quiet (L.Own what from) label k =
+      let e = ap length (owning_quiet x what from k quiet) in omega (arith, e)
+  line_weighs quiet L.Enter label k = omega arith
+  line_weighs quiet (L.Turn to) label k = omega arith
+  line_weighs quiet (L.TurnIf from to) label k = omega arith
+  line_weighs quiet (L.CountTurn counter last inclusive to) label k =
       let h = turn_weighs label (lines.held x counter) (lines.held x last) inclusive (lines.own_label to) k in omega (arith, h)
-  line_weighs (L.Return result) label k = return_weighs x.setting.start result k
+  line_weighs quiet (L.Return result) label k = return_weighs x.setting.start result k
 
-  lines_weigh : (all : List Line) (k : List WordInstr) → length (lines.lines_code x all k) ≤ summed weight all + length k
-  lines_weigh [] k = omega arith
-  lines_weigh (line ∷ rest) k =
-      let h : length (lines.line_code x line (lines.label_before rest) (lines.lines_code x rest k)) ≤ weight line + length (lines.lines_code x rest k)
-      = line_weighs line (lines.label_before rest) (lines.lines_code x rest k) in
-      let i : length (lines.lines_code x rest k) ≤ summed weight rest + length k = lines_weigh rest k in
-      omega (arith, h, i)
+  lines_weigh : x.own.waiters ≡ [] → (all : List Line) (k : List WordInstr) → length (lines.lines_code x all k) ≤ summed weight all + length k
+  lines_weigh quiet [] k = omega arith
+  lines_weigh quiet (line ∷ rest) k =
+      let next : List WordInstr = lines.lines_code x rest k in
+      let behind : List WordInstr = lines.behind_line x line next in
+      let e = ap length (kept_quiet x.table x.own.waiters (lines.value x) line next quiet) in
+      let h : length (lines.line_code x line (lines.label_before rest) behind) ≤ weight line + length behind
+      = line_weighs quiet line (lines.label_before rest) behind in
+      let i : length next ≤ summed weight rest + length k = lines_weigh quiet rest k in
+      omega (arith, e, h, i)
 
 -- ---- a procedure
 
@@ -282,7 +287,7 @@ code_weighs x all quiet =
     let waiting : List WordInstr = none_code x.own.waiters body in
     let front : List WordInstr = code.result_cleared (result_in x.own.all) waiting in
     let f : length (code.last_code front) ≤ 12 = last_weighs front in
-    let g : length body ≤ summed weight all + 0 = lines_weigh x all [] in
+    let g : length body ≤ summed weight all + 0 = lines_weigh x quiet all [] in
     let n : length waiting ≡ length body = none_length x.own.waiters body quiet in
     let h : length front ≤ 5 + length waiting = cleared_first (result_in x.own.all) waiting in
     let i = length-append front (code.last_code front) in

@@ -38,7 +38,7 @@ use Rattle.word_lowering.specs.LineCode.{behind_code, element_code, location}
 use Rattle.word_lowering.specs.Operations.{word}
 use Rattle.word_lowering.specs.Spots.{address, moved, spot_of}
 use Rattle.word_lowering.specs.Stored.{element_bytes, entry_at}
-use Rattle.word_lowering.proofs.AddressFacts.{AtAddress, at_address, in_memory}
+use Rattle.word_lowering.proofs.AddressFacts.{AtAddress, at_address, in_memory, read_row}
 use Rattle.word_lowering.proofs.Arithmetic.{fits_signed, word_small}
 use Rattle.word_lowering.proofs.ControlLines.{FollowedHere, int_read, kind_at, plain, value_type}
 use Rattle.word_lowering.proofs.Gets.{Gets, gets_bytes, gets_word, good_value}
@@ -54,8 +54,7 @@ use Rattle.word_lowering.proofs.NumberLines.{variable}
 use Rattle.word_lowering.proofs.OpRuns.{same_put}
 use Rattle.word_lowering.proofs.OrdinalRuns.{AllSame, put_here, put_low, put_other}
 use Rattle.word_lowering.proofs.PartLines.{deeper_in, leads_near, leads_on}
-use Rattle.word_lowering.proofs.ReadFacts.{each_call, read_row}
-use Rattle.word_lowering.proofs.Related.{Both, body_of, high, routines, within, store_of}
+use Rattle.word_lowering.proofs.Related.{Both, body_of, high, routines, within}
 use Rattle.word_lowering.proofs.Scenes.{IsNamed, Leads, Points, address_of, house, looked, of_location, of_value}
 use Rattle.word_lowering.proofs.Settling.{LabelsLead, code_here, code_next}
 use Rattle.word_lowering.proofs.ShapeFacts.{never, of_numbers, shape_bytes}
@@ -266,10 +265,8 @@ module _ (x : Basis) (labels : LabelsLead x) (g : Both) (rest : List BlockLine) 
           (with_value to g.call.temps (load g.world (location_at g.call.temps l))) g.world))
       element_settles l leads_there full =
           let v : Value = load g.world (location_at g.call.temps l) in
-          let there = led_located x sites good_there.linked (store_of g) g.world (each_call x led element_here rest good_there) good_there.memory
-          good_there.heap led.call
-          (inl refl)
-          good_there.hold.0.items l a (looked x.table g.call.site (of_value to)) (ap of_numbers place.look ∙ place.numbers) (λ b. full) leads_there in
+          let there = led_located x (starts led element_here rest) good_there led.call (inl refl) (inl refl) l a (looked x.table g.call.site (of_value to))
+          (ap of_numbers place.look ∙ place.numbers) full leads_there in
           let get = comes v there in
           goes_on x (starts g element_here rest)
           (changed led rest (with_value to g.call.temps v) get.vars get.memory get.words get.awaits g.world) rest
@@ -371,7 +368,7 @@ module _ (x : Basis) (labels : LabelsLead x) (g : Both) (rest : List BlockLine) 
           where_there x (starts g element_here rest) rest (is_seen g.world (location_at g.call.temps there))
           (λ b. gives (scene_of (high x.table x.blocks (starts g element_here rest))) to
           (costs 1 (unless_gone b (fetched (item_of v (location_at g.call.temps there) (unsigned_abs (number_of w))))))) (λ before. tt)
-          (λ seen. let r = read_row x g element_here rest y from there named_from e count (looked x.table g.call.site (of_value to)) look (λ o b. seen) in
+          (λ seen. let r = read_row x g element_here rest y from there named_from e count (looked x.table g.call.site (of_value to)) look seen in
           subst (λ l. Settles x (starts g element_here rest) rest
           (gives (scene_of (high x.table x.blocks (starts g element_here rest))) to (costs 1 (fetched l))))
           (sym (ap (λ u. item_of u (location_at g.call.temps there) (unsigned_abs (number_of w))) r.is))

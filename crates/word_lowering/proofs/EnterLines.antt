@@ -22,7 +22,7 @@ use Rattle.word_lowering.specs.WaitingCode.{none_code}
 use Rattle.word_lowering.proofs.HeapKept.{SameHeap}
 use Rattle.word_lowering.proofs.Callees.{Callee}
 use Rattle.word_lowering.proofs.EnterRuns.{code_called, within_then, enters, memory_then}
-use Rattle.word_lowering.proofs.FirstPlaces.{Gave, slots_of, gave_still}
+use Rattle.word_lowering.proofs.FirstPlaces.{Gave, gave_still}
 use Rattle.word_lowering.proofs.LabelsHere.{code_is}
 use Rattle.word_lowering.proofs.Lines.{Basis, FollowsFrom, all_procs, IsGood, known, starts, machine}
 use Rattle.word_lowering.proofs.NewCalls.{VarsThen, sites_then, linked_then}
@@ -43,7 +43,7 @@ no_more (Some hook) = refl
 
 module _ (x : Basis) (g : Both) (line : BlockLine) (rest : List BlockLine) (y : IsGood x (starts g line rest)) {proc : ℕ} {s : Signature}
     (c : Callee x.table x.blocks proc s) (slots : List Slot)
-    (gave : Gave x.table g.memory (sites_of g) g.world g.words (g.call.site.base + room (body_of g)) slots (params_in c.body.own.all))
+    (gave : Gave x.table g.memory (sites_of g) g.ground g.world g.words (g.call.site.base + room (body_of g)) slots (params_in c.body.own.all))
     (left : ℕ) (e : g.call.site.left ≡ suc left) (to : ℕ)
     (answers : Answers x.table x.blocks c.body (record { call = g.call; rest = rest; to = to; proc = proc })) where
   abbrev limit : ℕ
@@ -83,8 +83,8 @@ module _ (x : Basis) (g : Both) (line : BlockLine) (rest : List BlockLine) (y : 
     comes : Grown g.memory memory (room c.body)
     comes = places_come g.memory (room c.body) bytes
 
-    gave_then : Gave x.table memory (sites_of g) g.world g.words (g.call.site.base + room (body_of g)) slots (params_in c.body.own.all)
-    gave_then = gave_still x.table g.memory memory (sites_of g) g.world g.words (g.call.site.base + room (body_of g))
+    gave_then : Gave x.table memory (sites_of g) g.ground g.world g.words (g.call.site.base + room (body_of g)) slots (params_in c.body.own.all)
+    gave_then = gave_still x.table g.memory memory (sites_of g) g.ground g.world g.words (g.call.site.base + room (body_of g))
         (λ a w h r. still_read g.memory memory (room c.body) comes a w (let p = y.memory.places in omega (arith, h, p)) r)
         slots (params_in c.body.own.all) c.spare gave
 

@@ -21,7 +21,7 @@ use Rattle.word_lowering.specs.Layouts.{found, params_in, result_in, is_address,
 use Rattle.word_lowering.specs.Operations.{word}
 use Rattle.word_lowering.proofs.InMemory.{IsAt, carries}
 use Rattle.word_lowering.proofs.Sites.{Body, type_of, looks, There, Site, Among}
-use Rattle.word_lowering.proofs.Scenes.{FromPlace}
+use Rattle.word_lowering.proofs.Scenes.{FromOwned, Ground}
 use Rattle.word_code.specs.declared.word.TheConstants.{SPARE_ROOM}
 use Rattle.rv32_isa.specs.declared.micro_op.Size.TheVariants.{Word}
 
@@ -76,7 +76,7 @@ module _ (table : List TypeDef) where
 
   -- ---- arguments that were given for a call whose places begin at an address
 
-  module _ (m : Memory) (sites : List Site) (w : World) (words : Vars) (base : ℕ) where
+  module _ (m : Memory) (sites : List Site) (ground : Ground) (w : World) (words : Vars) (base : ℕ) where
     abbrev pub GivenAt : Home → Value → Type 0
     GivenAt (Variable v) x = words v ≡ Some (word (number_of x))
     GivenAt (Placed at) x = IsAt m (base + at) x
@@ -94,7 +94,7 @@ module _ (table : List TypeDef) where
       pub home : h.home ≡ Variable variable
       pub address : ℕ
       pub given : words variable ≡ Some address
-      pub leads : FromPlace table sites w location address (looks table h)
+      pub leads : FromOwned table sites ground w location address (looks table h)
 
     abbrev pub GaveSlot : Slot → Housed → Type 0
     GaveSlot (Holds x) h = GaveValue h x
@@ -140,18 +140,18 @@ module _ (table : List TypeDef) where
 
   -- ---- the same in memory in which words up to those for arguments are as they were
 
-  module _ (m m' : Memory) (sites : List Site) (w : World) (words : Vars) (base : ℕ)
+  module _ (m m' : Memory) (sites : List Site) (ground : Ground) (w : World) (words : Vars) (base : ℕ)
       (still : (a n : ℕ) → a + 4 ≤ base + SPARE_ROOM → number_at m a Word ≡ Ok n → number_at m' a Word ≡ Ok n) where
-    given_still : (home : Home) (x : Value) → ((at : ℕ) → home ≡ Placed at → at + bytes x ≤ SPARE_ROOM) → GivenAt m sites w words base home x
-        → GivenAt m' sites w words base home x
+    given_still : (home : Home) (x : Value) → ((at : ℕ) → home ≡ Placed at → at + bytes x ≤ SPARE_ROOM) → GivenAt m sites ground w words base home x
+        → GivenAt m' sites ground w words base home x
     given_still (Variable v) x within given = given
     given_still (Placed at) x within given =
         let l = within at refl in
         carries m m' (base + at) (base + at) x (λ o n inner is read. still (base + at + o) n (omega (arith, l, inner)) read) given
     given_still (Static at) x within given = absurd given
 
-    slot_still : (slot : Slot) (h : Housed) → ((at : ℕ) → h.home ≡ Placed at → at + h.bytes ≤ SPARE_ROOM) → GaveSlot m sites w words base slot h
-        → GaveSlot m' sites w words base slot h
+    slot_still : (slot : Slot) (h : Housed) → ((at : ℕ) → h.home ≡ Placed at → at + h.bytes ≤ SPARE_ROOM) → GaveSlot m sites ground w words base slot h
+        → GaveSlot m' sites ground w words base slot h
     slot_still (Holds x) h within g = record {
       plain = g.plain;
       shaped = g.shaped;
@@ -169,7 +169,7 @@ module _ (table : List TypeDef) where
     slot_still (Lends x from seen) h within g = absurd g
 
     pub gave_still : (slots : List Slot) (hs : List Housed) → ((h : Housed) (at : ℕ) → Among h hs → h.home ≡ Placed at → at + h.bytes ≤ SPARE_ROOM)
-        → Gave m sites w words base slots hs → Gave m' sites w words base slots hs
+        → Gave m sites ground w words base slots hs → Gave m' sites ground w words base slots hs
     gave_still [] [] within g = tt
     gave_still [] (h ∷ hs) within g = absurd g
     gave_still (slot ∷ slots) [] within g = absurd g

@@ -1,23 +1,12 @@
--- What a stored value has that is all there: its parts along the path that leads to it, and its shape.
-use Rattle.std.proofs.Common.{◌≡◌, ℕ, zero, suc, ◌+◌, ◌<◌, true, refl, sym, ap, ap₂, ◌∙◌, arith, List, [], ◌∷◌, ◌&&◌, Some}
+-- What is all there: it has its parts, and where it is stored its shape.
+use Rattle.std.proofs.Common.{◌≡◌, ℕ, zero, suc, ◌+◌, true, refl, ap, ap₂, arith, List, ◌&&◌}
 use Rattle.std.proofs.lemmas.Bool.{and_parts}
-use Rattle.nim_meaning.specs.Values.{Value, Number, Parts, Handle, Fixed, Ref, Resource, Gone, Vacant, Values, Nil, More, count, parts_of, nth, part, nth_part}
+use Rattle.nim_meaning.specs.Values.{Value, Number, Parts, Handle, Fixed, Ref, Resource, Gone, Vacant, Values, Nil, More, count, parts_of, nth, nth_part}
 use Rattle.nim_meaning.specs.Values.{is_full, all_full}
 use Rattle.flat_code.specs.Shapes.{Shape, number, reference, block, elements, row, parts, resource, Shapes, no_shapes, shapes, has_shape, are_rows, have_shapes}
 use Rattle.word_code.specs.Memory.{Memory}
-use Rattle.word_lowering.proofs.Options.{none_some}
-use Rattle.word_lowering.proofs.ShapeFacts.{never, nth_shape, shape_bytes}
-use Rattle.word_lowering.proofs.ShapePaths.{Step, PathTo}
-use Rattle.word_lowering.proofs.PartsInMemory.{InPath}
+use Rattle.word_lowering.proofs.ShapeFacts.{never, shape_bytes}
 use Rattle.word_lowering.proofs.Blocks.{Blocks, Stored, AreStored, PartsStored}
-use Rattle.word_lowering.proofs.StoredParts.{step_part}
-
--- ---- what is vacant
-
--- what is vacant has no parts but vacant ones
-pub vacant_part : (path : List ℕ) → part Vacant path ≡ Vacant
-vacant_part [] = refl
-vacant_part (i ∷ path) = vacant_part path
 
 -- a part that is there is one of the parts
 pub full_nth : (v : Value) (i : ℕ) → is_full (nth_part v i) ≡ true → nth_part v i ≡ nth (parts_of v) i
@@ -33,30 +22,6 @@ full_nth Vacant i h = never h
 -- ---- shapes
 
 module _ (StandsFixed : (place : ℕ) → List ℕ → Type 0) (d : Blocks) (m : Memory) where
-  fields_there : (a : ℕ) (ss : Shapes) (vs : Values) (i : ℕ) (t : Shape) → nth_shape ss i ≡ Some t → PartsStored StandsFixed d m a ss vs → i < count vs
-  fields_there a no_shapes vs i t is at = absurd (none_some t is)
-  fields_there a (shapes s ss) Nil i t is at = absurd at
-  fields_there a (shapes s ss) (More v vs) zero t is at = omega arith
-  fields_there a (shapes s ss) (More v vs) (suc i) t is at =
-      let less = fields_there (a + shape_bytes s) ss vs i t is at.1 in omega (arith, less)
-
-  -- nothing on the way to it is vacant
-  pub full_there : (a : ℕ) (s : Shape) (v : Value) (path : List ℕ) (o : ℕ) (t : Shape) → PathTo s path o t → Stored StandsFixed d m a s v
-      → is_full (part v path) ≡ true → InPath v path
-  full_there a s v [] o t way at full = tt
-  full_there a s v (i ∷ path) o t way at full =
-      let less = inside s v way.3 at full in
-      (less, full_there (a + way.1) way.0 (nth_part v i) path way.2 t way.4 (step_part StandsFixed d m a s v i way.1 way.0 way.3 less at) full)
-    where
-      inside : (s : Shape) (v : Value) → Step s i way.1 way.0 → Stored StandsFixed d m a s v → is_full (part v (i ∷ path)) ≡ true → i < count (parts_of v)
-      inside (row n s) (Parts vs) step at full = let e = at.0 in let l = step.0 in omega (arith, e, l)
-      inside (parts ss) (Parts vs) step at full = fields_there a ss vs i way.0 step.0 at
-      inside (row n s) Vacant step at full = never (sym (ap is_full (vacant_part path)) ∙ full)
-      inside (parts ss) Vacant step at full = never (sym (ap is_full (vacant_part path)) ∙ full)
-      inside (row n s) v step at full = absurd at
-      inside (parts ss) v step at full = absurd at
-      inside s v step at full = absurd step
-
   mutual
     pub full_shape : (a : ℕ) (s : Shape) (v : Value) → Stored StandsFixed d m a s v → is_full v ≡ true → has_shape v s ≡ true
     full_shape a s Vacant at full = never full

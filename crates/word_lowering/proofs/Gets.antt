@@ -29,7 +29,7 @@ use Rattle.word_lowering.proofs.SitesApart.{IsPlace, houses, site_at, one_level,
 use Rattle.word_lowering.proofs.Keeping.{number_cases, spot_held, spot_memory, points_there, to_memory, value_no_location, value_no_place, outside_still}
 use Rattle.word_lowering.proofs.Keeping.{location_no_place, call, Edit, nowhere, somewhere, Worlds, worlds_same, Kept, New, same_numbers, away_cases}
 use Rattle.word_lowering.proofs.Keeping.{own_text, AmongCalls}
-use Rattle.word_lowering.proofs.Related.{Both, body_of, within, low, code_behind, StandAt, MemoryGood, AllFrames, called_by, store_with}
+use Rattle.word_lowering.proofs.Related.{Both, body_of, within, low, code_behind, code_past, StandAt, MemoryGood, AllFrames, called_by, store_with}
 use Rattle.word_lowering.proofs.Lines.{Basis, all_procs, changed, starts, IsGood, Settles, goes_on, all_sites, good_changed, waits_below, stands_next}
 use Rattle.word_lowering.proofs.ValueFacts.{different, value_plain, put_here, put_away, put_still, numbers_there}
 use Rattle.word_lowering.proofs.Items.{item_of}
@@ -81,7 +81,7 @@ module _ (x : Basis) (g : Both) (line : BlockLine) (rest : List BlockLine) (y : 
   code_here = code_behind x.table x.blocks (body_of g) (line ∷ rest)
 
   abbrev code_next : List WordInstr
-  code_next = code_behind x.table x.blocks (body_of g) rest
+  code_next = code_past x.table x.blocks (body_of g) line rest
 
   -- what code does that gives a value to a place of the running call, before some other code
   pub record Gets (lines k : List WordInstr) (f : Name) (v : Value) (most : ℕ) : Type 0 where
@@ -450,7 +450,7 @@ module _ (x : Basis) (g : Both) (line : BlockLine) (rest : List BlockLine) (y : 
           item = λ u i h. subst (λ w. IsItem x.table (store_with g r.memory) (call site temps r.vars) (of_place n) w) (held_is u h) item_then;
           text = λ u a b w e f h. absurd (value_no_place u n e);
           led = λ u other e i k. absurd (location_no_place u n e);
-          filled = λ m e k. subst (λ j. IsFilled x.table sites filled_world (call site temps r.vars) j)
+          filled = λ m e k. subst (λ j. IsFilled x.table sites g.ground filled_world (call site temps r.vars) j)
               (sym (same_numbers (of_place m) (of_place n) e)) (record {
                 own = λ o. (v, slot_is);
                 other = λ o. never (sym o ∙ own);

@@ -36,9 +36,9 @@ use Rattle.word_lowering.proofs.MovedLines.{value_read}
 use Rattle.word_lowering.proofs.Moves.{is_single, single_word, all_same, same_first, address_runs, single_small}
 use Rattle.word_lowering.proofs.OrdinalRuns.{put_here as put_same, AllSame}
 use Rattle.word_lowering.proofs.OutPlaces.{WrittenAt, written_at, written_stands}
-use Rattle.word_lowering.proofs.ReadFacts.{ValueRead, place_near, item_read}
+use Rattle.word_lowering.proofs.ReadFacts.{ValueRead, owned_near, item_read}
 use Rattle.word_lowering.proofs.Related.{Both, body_of, called_by, within, MemoryGood}
-use Rattle.word_lowering.proofs.Scenes.{At, Call, site_of, of_value, of_location, house, looked, FromPlace, Leads, Points, of_a_place}
+use Rattle.word_lowering.proofs.Scenes.{At, Call, site_of, of_value, of_location, house, looked, FromOwned, Leads, Points, of_owned}
 use Rattle.word_lowering.proofs.ShapeFacts.{never, bytes_is, values_of_numbers}
 use Rattle.word_lowering.proofs.Sites.{room, looks, type_of, Among, AmongSites, Housing, in_variable, by_address, in_places, in_data, Site, IsHoused}
 use Rattle.word_lowering.proofs.Sites.{around, data_end, is_one_word, word_of}
@@ -100,8 +100,8 @@ module _ (x : Basis) (g : Both) (line : BlockLine) (rest : List BlockLine) (y : 
     pub words : Vars
     pub same : AllSame g.call.vars vars
     pub good : IsGood x (starts (between vars memory words) line rest)
-    pub gives : Gives x.table sites g.world (next_at x g line rest y) g.memory memory g.words words h
-    pub gave : GaveSlot x.table memory sites g.world words (next_at x g line rest y) slot h
+    pub gives : Gives x.table sites g.ground g.world (next_at x g line rest y) g.memory memory g.words words h
+    pub gave : GaveSlot x.table memory sites g.ground g.world words (next_at x g line rest y) slot h
     pub steps : ℕ
     pub few : steps ≤ most
     pub runs : Runs x.live (all_procs x) steps (at (within x.table x.blocks g) g.memory lines g.call.vars g.words)
@@ -157,7 +157,7 @@ module _ (x : Basis) (g : Both) (line : BlockLine) (rest : List BlockLine) (y : 
               plain = plain;
               shaped = r.1;
               size = size;
-              given = subst (λ p. GivenAt x.table g.memory sites g.world words (next_at x g line rest y) p v) (sym home) given;
+              given = subst (λ p. GivenAt x.table g.memory sites g.ground g.world words (next_at x g line rest y) p v) (sym home) given;
             };
             steps = 1;
             few = omega (arith, b);
@@ -193,7 +193,7 @@ module _ (x : Basis) (g : Both) (line : BlockLine) (rest : List BlockLine) (y : 
               plain = plain;
               shaped = r.1;
               size = size;
-              given = subst (λ p. GivenAt x.table q.memory sites g.world g.words (next_at x g line rest y) p v) (sym home)
+              given = subst (λ p. GivenAt x.table q.memory sites g.ground g.world g.words (next_at x g line rest y) p v) (sym home)
                   (subst (λ a. IsAt q.memory a v) there q.there);
             };
             steps = q.steps;
@@ -271,12 +271,12 @@ module _ (x : Basis) (g : Both) (line : BlockLine) (rest : List BlockLine) (y : 
           let p = names in
           let w = stands_at in
           let q = addressed in
-          let leads : FromPlace x.table sites g.world w.location_is q.address (looks x.table h)
-          = subst (FromPlace x.table sites g.world w.location_is q.address) p.look
-          (of_a_place x.table x.blocks (written_stands x g line rest y w.written)
+          let leads : FromOwned x.table sites g.ground g.world w.location_is q.address (looks x.table h)
+          = subst (FromOwned x.table sites g.ground g.world w.location_is q.address) p.look
+          (of_owned x.table x.blocks (written_stands x g line rest y w.written)
           (subst (λ z. Leads x.table x.blocks sites g.ground g.world g.call.site g.call.temps z q.address (looked x.table g.call.site (of_location t))) w.is
           q.leads_to)) in
-          let near = place_near x sites y.linked sites g.world w.location_is q.address (looks x.table h) (λ s i. i) leads in
+          let near = owned_near x sites y.linked g.ground g.world w.location_is q.address (looks x.table h) leads in
           let small : q.address < 2 ^ 32 = omega (arith, near) in
           let words : Vars = put g.words u q.address in
           let r = told u q.address q.home small q.points in

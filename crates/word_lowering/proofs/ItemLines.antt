@@ -51,7 +51,7 @@ use Rattle.rv32_isa.specs.Values.{low_product}
 use Rattle.std.proofs.lemmas.Bool.{and_parts}
 use Rattle.std.specs.Prelude.{int_le, int_lt, nat_lt, not, ◌&&◌}
 use Rattle.word_code.proofs.ForCallers.{got, then_runs}
-use Rattle.word_lowering.proofs.AddressFacts.{AtAddress, at_address}
+use Rattle.word_lowering.proofs.AddressFacts.{AtAddress, at_address, read_row}
 use Rattle.word_lowering.proofs.Arithmetic.{fits_signed}
 use Rattle.word_lowering.proofs.LineFits.{are_of, elements_shape, some_kind}
 use Rattle.word_lowering.proofs.LocationHouses.{location_house}
@@ -60,7 +60,6 @@ use Rattle.word_lowering.proofs.OperationRuns.{Given, Led}
 use Rattle.word_lowering.proofs.OrdinalChecks.{inside_is}
 use Rattle.word_lowering.proofs.PartLines.{deeper_in, leads_near, leads_on, leads_settles, led_home, led_variable, own_location, part_standing}
 use Rattle.word_lowering.proofs.PartLines.{same_bool_true}
-use Rattle.word_lowering.proofs.ReadFacts.{read_row}
 use Rattle.word_lowering.proofs.Sites.{around, is_one_word, word_of}
 use Rattle.word_lowering.proofs.Targets.{location_alias, own_alias, pointed}
 use Rattle.word_lowering.proofs.ValueFacts.{Operand, location_of_numbers, type_in, with_home}
@@ -315,7 +314,7 @@ module _ (x : Basis) (traps : TrapsStop x) (labels : LabelsLead x) (g : Both) (r
           (λ b. leads (scene_of (high x.table x.blocks (starts g item_here rest))) to there
           (costs 1 (unless_gone b (deeds.branch (inside (number_of w) (length_of v))
           (give (item_of v (location_at g.call.temps there) (unsigned_abs (number_of w)))) (stop IndexOutOfBounds))))) (λ before. tt)
-          (λ seen. let r = read_row x g item_here rest y from there named_from e count (looked x.table g.call.site (of_location to)) look (λ o b. seen) in
+          (λ seen. let r = read_row x g item_here rest y from there named_from e count (looked x.table g.call.site (of_location to)) look seen in
           let long : length_of v ≡ count = ap length_of r.is ∙ r.long in
           let deep : item_of v (location_at g.call.temps there) (unsigned_abs (number_of w)) ≡ deeper (location_at g.call.temps there)
           (unsigned_abs (number_of w)) = ap (λ u. item_of u (location_at g.call.temps there) (unsigned_abs (number_of w))) r.is in

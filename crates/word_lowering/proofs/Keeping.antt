@@ -38,7 +38,7 @@ use Rattle.word_lowering.proofs.BlocksBorn.{later_same}
 use Rattle.word_lowering.proofs.StoredLater.{stored_kept}
 use Rattle.word_lowering.proofs.Sites.{room, Housing, in_variable, by_address, in_places, in_data, InMemory, Site, next_base, AmongSites, data_end, Linked}
 use Rattle.word_lowering.proofs.Scenes.{address_of, Points, At, Name, of_value, of_location, of_place, number_in, Call, house, Filled, HasValue}
-use Rattle.word_lowering.proofs.Scenes.{IsThere, IsNamed, IsLiteral, looked, IsItem, FromPlace, Leads, IsLedBy, IsLed}
+use Rattle.word_lowering.proofs.Scenes.{IsThere, IsNamed, IsLiteral, looked, IsItem, FromBlock, FromOwned, FromPlace, Leads, IsLedBy, IsLed}
 use Rattle.word_lowering.proofs.Scenes.{IsFilled, Holding}
 use Rattle.word_lowering.proofs.Scenes.{site_of, AllHold, Ground, Store, is_fixed, StoredIn, IsLater, AtHome}
 use Rattle.word_lowering.proofs.SitesApart.{Beside, InRange, in_range, houses, ranges_apart, SiteAt, site_at, IsPlace}
@@ -262,7 +262,7 @@ module _ (table : List TypeDef) (blocks : Code BlockLine) (small : data_end tabl
         → c.temps.values t ≡ Some x → IsLiteral c.site.body behind bytes x
     pub led : (t : ℕ) (there : Where) → of_location t ≡ e → IsNamed c.site (of_location t) → c.temps.places t ≡ Some there →
         IsLed table blocks from k.ground w c t there
-    pub filled : (n : ℕ) → of_place n ≡ e → Filled w c.site.level n → IsFilled table from w c n
+    pub filled : (n : ℕ) → of_place n ≡ e → Filled w c.site.level n → IsFilled table from k.ground w c n
 
   module _ (k k' : Store) (edit : Edit k.memory k'.memory) (later : IsLater k.ground k'.ground) (w w' : World) (worlds : Worlds w w') where
     -- words of a place
@@ -349,18 +349,26 @@ module _ (table : List TypeDef) (blocks : Code BlockLine) (small : data_end tabl
       address = x.address;
     }
 
+    block_kept : (location : Location) (a : ℕ) (t : Shape) → FromBlock k.ground location a t → FromBlock k'.ground location a t
+    block_kept location a t x = record {
+      block = x.block;
+      base = x.base;
+      leads = leads_later k.ground.blocks k'.ground.blocks later.blocks x.block location.path a t x.leads;
+      near = x.near;
+    }
+
+    owned_kept : (from : List Site) → ((r : Site) → AmongSites r from → AmongSites r sites) → (location : Location) (a : ℕ) (t : Shape)
+        → FromOwned table from k.ground w location a t → FromOwned table from k'.ground w' location a t
+    owned_kept from up location a t (inl x) = inl (from_kept from up location a t x)
+    owned_kept from up location a t (inr x) = inr (block_kept location a t x)
+
     leads_kept : (from : List Site) → ((r : Site) → AmongSites r from → AmongSites r sites) → (s : Site) (temps temps' : Temps) (vars vars' : Vars)
         → Kept s temps temps' vars vars'
         → (there : Where) (a : ℕ) (t : Shape) → Leads table blocks from k.ground w s temps there a t
         → Leads table blocks from k'.ground w' s temps' there a t
     leads_kept from up s temps temps' vars vars' kept (Located location) a t (inl x) = inl (from_kept from up location a t x)
     leads_kept from up s temps temps' vars vars' kept (Located location) a t (inr (inl x)) = inr (inl x)
-    leads_kept from up s temps temps' vars vars' kept (Located location) a t (inr (inr x)) = inr (inr (record {
-      block = x.block;
-      base = x.base;
-      leads = leads_later k.ground.blocks k'.ground.blocks later.blocks x.block location.path a t x.leads;
-      near = x.near;
-    }))
+    leads_kept from up s temps temps' vars vars' kept (Located location) a t (inr (inr x)) = inr (inr (block_kept location a t x))
     leads_kept from up s temps temps' vars vars' kept (Within temp path) a t x =
         let y = kept.still temp x.value x.has in
         record {
@@ -455,10 +463,10 @@ module _ (table : List TypeDef) (blocks : Code BlockLine) (small : data_end tabl
             by (inl y) = (new y.0).led t there y.1 named h
             by (inr away) = led_kept from up s temps temps' vars vars' i kept t there named away (old.led t there named (sym (kept.places t away) ∙ h))
 
-        filled : (n : ℕ) → IsThere s (of_place n) → Filled w' s.level n → IsFilled table from w' (call s temps' vars') n
+        filled : (n : ℕ) → IsThere s (of_place n) → Filled w' s.level n → IsFilled table from k'.ground w' (call s temps' vars') n
         filled n there h = by (away_cases s (of_place n))
           where
-            by : ((s.level ≡ lo.level) × (of_place n ≡ e)) ⊎ Away s (of_place n) → IsFilled table from w' (call s temps' vars') n
+            by : ((s.level ≡ lo.level) × (of_place n ≡ e)) ⊎ Away s (of_place n) → IsFilled table from k'.ground w' (call s temps' vars') n
             by (inl y) = (new y.0).filled n y.1 h
             by (inr away) =
                 let slots = worlds.slots s n i there away in
@@ -471,7 +479,7 @@ module _ (table : List TypeDef) (blocks : Code BlockLine) (small : data_end tabl
                     address = y.address;
                     holds = variable_kept s temps temps' vars vars' (of_place n) y.address i kept away there
                         (declared_address (house s (of_place n)).kind there.kind other) y.holds;
-                    leads = from_kept from up y.location y.address (looked table s (of_place n)) y.leads;
+                    leads = owned_kept from up y.location y.address (looked table s (of_place n)) y.leads;
                   };
                 }
 

@@ -17,7 +17,7 @@ use Rattle.word_lowering.specs.LineCode as code
 use Rattle.word_lowering.specs.LineCode.{Around, arguments_of, labels_in, label_before}
 use Rattle.word_lowering.specs.Lowered.{branches_to, any_branches}
 use Rattle.word_lowering.proofs.Fronts.{Coding, Note, stands, leads, neither, note, IsFine, AllFine, IsFront}
-use Rattle.word_lowering.proofs.LineFronts.{IsNoLabel, Kind, is_other, kind_of, line_front, line_appends}
+use Rattle.word_lowering.proofs.LineFronts.{IsNoLabel, Kind, is_other, kind_of, line_front, line_appends, whole_code, whole_front}
 use Rattle.word_lowering.proofs.LineFronts as kinds
 
 -- ---- code that lets a search for a label pass
@@ -76,14 +76,14 @@ own_high rest = omega arith
 
 -- the code of a line lets a search pass for what is none of its labels
 quiet_line : (x : Around) (n own : ℕ) (line : Line) → 7 < own → IsNoLabel line → ((i : ℕ) → i ≤ length (arguments_of line) → own + 2 * i ≢ n)
-    → Quiet n (code.line_code x line own)
-quiet_line x n own line high plain apart = front_quiet own (length (arguments_of line)) n apart (code.line_code x line own) (line_front x line own high plain)
+    → Quiet n (whole_code x line own)
+quiet_line x n own line high plain apart = front_quiet own (length (arguments_of line)) n apart (whole_code x line own) (whole_front x line own high plain)
 
 quiet_all : (x : Around) (n own : ℕ) (line : Line) → 7 < own → ((i : ℕ) → i ≤ length (arguments_of line) → own + 2 * i ≢ n)
-    → ((name : ℕ) → code.own_label name ≢ n) → Quiet n (code.line_code x line own)
+    → ((name : ℕ) → code.own_label name ≢ n) → Quiet n (whole_code x line own)
 quiet_all x n own line high apart even = by line (kind_of line) apart
   where
-    by : (line : Line) → Kind line → ((i : ℕ) → i ≤ length (arguments_of line) → own + 2 * i ≢ n) → Quiet n (code.line_code x line own)
+    by : (line : Line) → Kind line → ((i : ℕ) → i ≤ length (arguments_of line) → own + 2 * i ≢ n) → Quiet n (whole_code x line own)
     by _ (kinds.is_label name) apart k =
         cond-false (code.own_label name == n) (Some (Label (code.own_label name) ∷ k)) (from_label n k) (ne_eqb (code.own_label name) n (even name))
     by line (is_other plain e) apart k = quiet_line x n own line high plain apart k
@@ -93,7 +93,7 @@ pub lines_append : (x : Around) (lines : List Line) (k : List WordInstr) → cod
 lines_append x [] k = refl
 lines_append x (line ∷ rest) k =
     let own : ℕ = label_before rest in
-    let front : List WordInstr = code.line_code x line own [] in
+    let front : List WordInstr = whole_code x line own [] in
     line_appends x line own (own_high rest) (code.lines_code x rest k)
     ∙ ap (λ l. front ++ l) (lines_append x rest k)
     ∙ sym (append_assoc front (code.lines_code x rest []) k)
@@ -129,7 +129,7 @@ label_found x k name (line ∷ rest) = by line (kind_of line) (label_found x k n
     here other false e = e
 
     by : (line : Line) → Kind line → Behind
-        → from_label (code.own_label name) (code.line_code x line (label_before rest) (code.lines_code x rest k))
+        → from_label (code.own_label name) (whole_code x line (label_before rest) (code.lines_code x rest k))
         ≡ code_from x k (code.own_label name) (if is_name name (label_in line) then Some (line ∷ rest) else line_from label_in name rest)
     by _ (kinds.is_label other) e =
         ap (λ b. if b then Some (Label (code.own_label other) ∷ code.lines_code x rest k) else from_label (code.own_label name) (code.lines_code x rest k))
@@ -148,7 +148,7 @@ labels_more (first ∷ before) line rest = let l = labels_more before line rest 
 -- a label that the code of a line has of its own
 pub own_found : (x : Around) (k : List WordInstr) (i : ℕ) (before : List Line) (line : Line) (rest : List Line) → i ≤ length (arguments_of line)
     → from_label (label_before rest + 2 * i) (code.lines_code x (before ++ line ∷ rest) k)
-    ≡ from_label (label_before rest + 2 * i) (code.line_code x line (label_before rest) (code.lines_code x rest k))
+    ≡ from_label (label_before rest + 2 * i) (whole_code x line (label_before rest) (code.lines_code x rest k))
 own_found x k i [] line rest few = refl
 own_found x k i (first ∷ before) line rest few =
     let more = labels_more before line rest in
@@ -177,13 +177,13 @@ any_behind n (line ∷ k) l h = ap (λ b. branches_to n line || b) (any_behind n
 
 -- where the code of a line branches to a label, that of all lines does
 pub any_among : (x : Around) (n : ℕ) (before : List Line) (line : Line) (rest : List Line)
-    → any_branches n (code.line_code x line (label_before rest) (code.lines_code x rest [])) ≡ true
+    → any_branches n (whole_code x line (label_before rest) (code.lines_code x rest [])) ≡ true
     → any_branches n (code.lines_code x (before ++ line ∷ rest) []) ≡ true
 any_among x n [] line rest h = h
 any_among x n (first ∷ before) line rest h =
     let own : ℕ = label_before (before ++ line ∷ rest) in
     ap (any_branches n) (line_appends x first own (own_high (before ++ line ∷ rest)) (code.lines_code x (before ++ line ∷ rest) []))
-    ∙ any_behind n (code.line_code x first own []) (code.lines_code x (before ++ line ∷ rest) []) (any_among x n before line rest h)
+    ∙ any_behind n (whole_code x first own []) (code.lines_code x (before ++ line ∷ rest) []) (any_among x n before line rest h)
 
 -- none branches to a trap that isn't built
 abbrev leads_to : ℕ → Note → Bool

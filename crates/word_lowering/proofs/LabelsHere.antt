@@ -123,7 +123,7 @@ module _ (table : List TypeDef) (blocks : Code BlockLine) (b : Body) where
   -- a branch of a line is one of all
   pub branches_here : (n : ℕ) (line : BlockLine) (rest : List BlockLine) → StandAt table blocks b (line ∷ rest)
       → any_branches n (code.line_code (around table blocks b) (block_plain line) (label_before (map block_plain rest))
-      (code.lines_code (around table blocks b) (map block_plain rest) [])) ≡ true
+      (code.behind_line (around table blocks b) (block_plain line) (code.lines_code (around table blocks b) (map block_plain rest) []))) ≡ true
       → any_branches n (first_lines (around table blocks b) (lines_of b)) ≡ true
   branches_here n line rest s h =
       let x : Around = around table blocks b in

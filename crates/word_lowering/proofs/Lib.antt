@@ -9,7 +9,9 @@ mod BasisOf
 mod BaseValues
 mod BitFacts
 mod BlockPaths
+mod BlockRanges
 mod BlockHomes
+mod BlockWrites
 mod Blocks
 mod BlockLists
 mod BlocksBorn
@@ -67,8 +69,11 @@ mod HandedLines
 mod HandedPlaces
 mod HeapChanged
 mod HeapKept
+mod GoodHomes
 mod OpenCells
-mod BlocksRead
+mod PlaceWorlds
+mod GoodRows
+mod GoodLeads
 mod HeapsThen
 mod HeapLines
 mod HomesApart
@@ -76,6 +81,7 @@ mod InMemory
 mod ItemLines
 mod Items
 mod Keeping
+mod KeptCode
 mod LabelFacts
 mod LabelsFirst
 mod LabelsHere
@@ -162,6 +168,7 @@ mod TextLines
 mod TextRoom
 mod Told
 mod TrapEnds
+mod TradedWords
 mod Traps
 mod TypeDefaults
 mod TypeEntries

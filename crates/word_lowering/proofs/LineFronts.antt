@@ -37,6 +37,7 @@ use Rattle.word_lowering.specs.LineCode.{Around, arguments_of}
 use Rattle.word_lowering.proofs.Fronts.{Coding, IsFront, front_on, front_none, front_more, front_address, moved_front, cleared_front, handed_front}
 use Rattle.word_lowering.proofs.Fronts.{binary_front, turn_front, turn_if_front, unary_front, compare_front, narrow_front, unless_front, beyond_front}
 use Rattle.word_lowering.proofs.Fronts.{fits_front}
+use Rattle.word_lowering.proofs.KeptCode.{behind_front, owning_front}
 
 module _ (own many : ℕ) where
   moves_front : (to from : Housed) → IsFront own many (moves to from)
@@ -350,7 +351,7 @@ line_front x (L.Jump to) own high plain = record { is = λ k. refl; fine = tt }
 line_front x (L.Unless from to) own high plain = unless_front own 0 (code.held x from) (code.own_label to) (far to)
 line_front x (L.Fits from (C.Ordinals low most) to) own high plain = fits_front own 0 (code.held x from) (code.own_label to) low most (far to)
 line_front x (L.Fits from (C.Text text) to) own high plain = front_none own 0
-line_front x (L.Own what from) own high plain = front_none own 0
+line_front x (L.Own what from) own high plain = owning_front own 0 x what from
 line_front x L.Enter own high plain = record { is = λ k. refl; fine = tt }
 line_front x (L.Turn to) own high plain = record { is = λ k. refl; fine = tt }
 line_front x (L.TurnIf from to) own high plain = turn_if_front own 0 (code.held x from) (code.own_label to) (far to)
@@ -398,10 +399,20 @@ kind_of (L.TurnIf from to) = is_other tt refl
 kind_of (L.CountTurn counter last inclusive to) = is_other tt refl
 kind_of (L.Return result) = is_other tt refl
 
+-- ---- with what stands behind it
+
+abbrev pub whole_code : Around → Line → (own : ℕ) → Coding
+whole_code x line own k = code.line_code x line own (code.behind_line x line k)
+
+pub whole_front : (x : Around) (line : Line) (own : ℕ) → 7 < own → IsNoLabel line → IsFront own (length (arguments_of line)) (whole_code x line own)
+whole_front x line own high plain =
+    front_on own (length (arguments_of line)) (code.line_code x line own) (code.behind_line x line) (line_front x line own high plain)
+    (behind_front own (length (arguments_of line)) x line)
+
 -- whatever follows
-pub line_appends : (x : Around) (line : Line) (own : ℕ) → 7 < own → (k : List WordInstr) → code.line_code x line own k ≡ code.line_code x line own [] ++ k
+pub line_appends : (x : Around) (line : Line) (own : ℕ) → 7 < own → (k : List WordInstr) → whole_code x line own k ≡ whole_code x line own [] ++ k
 line_appends x line own high k = by line (kind_of line)
   where
-    by : (line : Line) → Kind line → code.line_code x line own k ≡ code.line_code x line own [] ++ k
+    by : (line : Line) → Kind line → whole_code x line own k ≡ whole_code x line own [] ++ k
     by _ (is_label name) = refl
-    by line (is_other plain e) = (line_front x line own high plain).is k
+    by line (is_other plain e) = (whole_front x line own high plain).is k

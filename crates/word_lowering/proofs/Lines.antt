@@ -56,12 +56,12 @@ use Rattle.word_lowering.specs.declared.homes.TheConstants.{OWN_FROM}
 use Rattle.word_lowering.specs.declared.homes.Home.TheVariants.{Variable}
 use Rattle.word_lowering.specs.declared.texts.TheConstants.{FIXED_BYTES}
 use Rattle.word_lowering.specs.declared.may_lower.TheConstants.{MOST_DATA}
-use Rattle.word_lowering.specs.LineCode.{variable_in}
+use Rattle.word_lowering.specs.LineCode.{variable_in, value}
 use Rattle.word_lowering.specs.Lowered.{data_at, lowered}
 use Rattle.word_lowering.specs.Runtimes.{Runtimes, with_runtimes}
 use Rattle.word_lowering.proofs.RoutineCalls.{Reaches}
 use Rattle.word_lowering.proofs.Sites.{Body, room, Housing, in_variable, by_address, in_places, in_data, InMemory, Site, AmongSites, next_base, data_end}
-use Rattle.word_lowering.proofs.Sites.{Linked, sigs, globals_of}
+use Rattle.word_lowering.proofs.Sites.{Linked, around, sigs, globals_of}
 use Rattle.word_lowering.proofs.Blocks.{HasHeap}
 use Rattle.word_lowering.proofs.HeapKept.{SameHeap, heap_then}
 use Rattle.word_lowering.proofs.Scenes.{Ground, is_fixed, IsLater, Name, of_value, Call, site_of, house, IsThere, Holding}
@@ -69,7 +69,8 @@ use Rattle.word_lowering.proofs.SitesApart.{houses, site_at}
 use Rattle.word_lowering.proofs.Keeping.{AmongCalls, call, Edit, nowhere, Worlds, worlds_same, Kept, New, holding_kept, all_kept, later_ground}
 use Rattle.word_lowering.proofs.OrdinalRuns.{AllSame}
 use Rattle.word_lowering.proofs.Callees.{Callee}
-use Rattle.word_lowering.proofs.Related.{Both, body_of, called_by, sites_of, with_rest, with_units, procs, low, high, within as call_within, IsClosed, routines}
+use Rattle.word_lowering.proofs.KeptCode.{kept_quiet}
+use Rattle.word_lowering.proofs.Related.{Both, body_of, called_by, sites_of, with_rest, with_units, procs, low, high, within as call_within, code_behind, code_past, IsClosed, routines}
 use Rattle.word_lowering.proofs.Related.{MemoryGood}
 use Rattle.word_lowering.proofs.Related.{StandAt, AllFrames, Good, StandsThere, store_of, store_with}
 use Rattle.rv32_isa.specs.Regions.{KeepsSizes}
@@ -308,13 +309,27 @@ module _ (x : Basis) where
   where_there g rest true did fault h = h refl
   where_there g rest false did fault h = fault
 
+  -- where it goes on with lines, in front of the code for what a line's value waits in
+  abbrev pub low_past : (lines : List BlockLine) → Both → WordState
+  low_past [] g = low x.table x.blocks g
+  low_past (line ∷ rest) g =
+      at (call_within x.table x.blocks g) g.memory (code_past x.table x.blocks (body_of g) line g.rest) g.call.vars g.words
+
+  -- nothing waits yet
+  pub past_is : (lines : List BlockLine) (g : Both) → IsGood g → low_past lines g ≡ low x.table x.blocks g
+  past_is [] g good = refl
+  past_is (line ∷ rest) g good =
+      ap (λ k. at (call_within x.table x.blocks g) g.memory k g.call.vars g.words)
+      (kept_quiet x.table (body_of g).own.waiters (value (around x.table x.blocks (body_of g))) (block_plain line) (code_behind x.table x.blocks (body_of g) g.rest)
+      good.linked.0.waiters)
+
   -- so many silent lines
   pub goes_from : (t : WordState) (g g' : Both) (rest : List BlockLine) (good : IsGood g') (n w : ℕ) (temps : Temps) (world : World)
-      → Runs x.live (all_procs x) n t (low x.table x.blocks g') → 0 < n → n ≤ 16 * w
+      → Runs x.live (all_procs x) n t (low_past g.rest g') → 0 < n → n ≤ 16 * w
       → going g' ≡ Going g.units (onward (high x.table x.blocks g) rest temps world)
       → FollowsFrom t g (settles g rest (Passes (Answers [] w temps world)))
   goes_from t g g' rest good n w temps world runs some few e = λ before.
-      let r = runs.by x.fresh before in (
+      let r = (subst (Runs x.live (all_procs x) n t) (past_is g.rest g' good) runs).by x.fresh before in (
         (r.0, low x.table x.blocks g'),
         n,
         record { work = r.1.work; within = omega (arith, r.1.within, few); by = r.1.by },
@@ -323,19 +338,19 @@ module _ (x : Basis) where
       )
 
   pub goes_on : (g g' : Both) (rest : List BlockLine) (good : IsGood g') (n w : ℕ) (temps : Temps) (world : World)
-      → Runs x.live (all_procs x) n (low x.table x.blocks g) (low x.table x.blocks g') → 0 < n → n ≤ 16 * w
+      → Runs x.live (all_procs x) n (low x.table x.blocks g) (low_past g.rest g') → 0 < n → n ≤ 16 * w
       → going g' ≡ Going g.units (onward (high x.table x.blocks g) rest temps world) → Settles g rest (Passes (Answers [] w temps world))
   goes_on g g' rest good n w temps world runs some few e = goes_from (low x.table x.blocks g) g g' rest good n w temps world runs some few e
 
   -- no line at all
   pub stays_on : (g g' : Both) (rest : List BlockLine) (good : IsGood g') (w : ℕ) (temps : Temps) (world : World)
-      → low x.table x.blocks g' ≡ low x.table x.blocks g → going g' ≡ Going g.units (onward (high x.table x.blocks g) rest temps world)
+      → low_past g.rest g' ≡ low x.table x.blocks g → going g' ≡ Going g.units (onward (high x.table x.blocks g) rest temps world)
       → length rest < length g.rest → Settles g rest (Passes (Answers [] w temps world))
   stays_on g g' rest good w temps world same e less = λ before. (
     (before, low x.table x.blocks g),
     0,
     steps_none machine (before, low x.table x.blocks g) (16 * w),
-    (inl (g', good, before), ap (λ s. (before, s)) same, e),
+    (inl (g', good, before), ap (λ s. (before, s)) (sym (past_is g.rest g' good) ∙ same), e),
     inr less,
   )
 

@@ -1,213 +1,248 @@
 -- What is at locations.
-use Rattle.std.proofs.Common.{◌≡◌, ◌⊎◌, inl, inr, ℕ, ◌+◌, ◌-◌, ◌%◌, ◌≤◌, List, [], ◌∷◌, map, Some, true, false, sym, ap, subst, ◌∙◌, arith}
-use Rattle.std.proofs.lemmas.Bool.{cases_Bool}
-use Rattle.nim_meaning.specs.Values.{Value, bytes, Location, Holds, part}
-use Rattle.nim_meaning.specs.State.{World, held, whole_at, load, slot_at, is_full_at}
-use Rattle.word_code.specs.Memory.{Memory}
-use Rattle.word_code.specs.Words.{Vars}
-use Rattle.flat_code.specs.Scene.{Where, Located, Within, Temps, if_value, location_at}
-use Rattle.flat_code.specs.Shapes.{Shape, has_shape}
-use Rattle.flat_code.specs.Fits.{is_own}
-use Rattle.word_lowering.proofs.Blocks.{HasHeap}
-use Rattle.word_lowering.proofs.BlocksRead.{block_located}
-use Rattle.word_lowering.proofs.Scenes.{is_fixed, IsInBlock}
-use Rattle.word_lowering.proofs.ShapeFacts.{never, of_numbers, bytes_is, values_of_numbers}
-use Rattle.word_lowering.specs.declared.texts.TheConstants.{FIXED_BYTES}
-use Rattle.word_lowering.specs.Layouts.{is_address}
-use Rattle.word_lowering.proofs.InMemory.{IsAt, of_numbers as are_numbers}
-use Rattle.word_lowering.proofs.PartsInMemory.{offset, part_within, offset_whole, part_at}
-use Rattle.word_lowering.proofs.ShapePaths.{PathTo, path_in, path_numbers}
-use Rattle.word_lowering.proofs.Sites.{room, Housing, in_variable, by_address, in_places, in_data, InMemory, Site, AmongSites, data_end, Linked, IsBody}
-use Rattle.word_lowering.proofs.Scenes.{address_of, Name, of_value, of_place, Call, site_of, house, HasValue, IsThere, looked, IsItem, FromPlace, FromValue}
-use Rattle.word_lowering.proofs.Scenes.{Filled, FromConstant, standing_from, Leads, Holding, AllHold, Store, IsNumbers}
-use Rattle.word_lowering.proofs.Items.{numbers_of}
-use Rattle.word_lowering.proofs.SitesApart.{houses, site_at}
-use Rattle.word_lowering.proofs.Keeping.{declared_address, from_memory}
-use Rattle.word_lowering.proofs.Lines.{Basis}
-use Rattle.word_lowering.proofs.Sources.{Lying, Readable, lying_readable, text_readable, address_whole}
-use Rattle.word_lowering.proofs.StandingWords.{words_still, cell_still}
-use Rattle.word_lowering.proofs.Related.{MemoryGood, text_part}
-use Rattle.word_lowering.proofs.SmallWords.{AllSmall, small_words}
-use Rattle.word_lowering.proofs.PieceWords.{WordsAt, room_of, words_room, words_are, by_words}
+use Rattle.std.proofs.Common.{◌≡◌, inl, inr, ℕ, ◌+◌, ◌-◌, ◌%◌, ◌≤◌, List, length, None, true, refl, sym, ap, subst, ◌∙◌, arith}
+use Rattle.std.specs.Prelude.{◌==◌}
+use Rattle.std.proofs.lemmas.Bool.{and_parts, and_from, eq-eqb}
+use Rattle.rv32_isa.specs.Image.{heap_at}
+use Rattle.rv32_isa.specs.State.{writable}
+use Rattle.nim_meaning.specs.Values.{Value, Number, Parts, Handle, Fixed, Ref, Resource, Gone, Vacant, bytes, Location, Made, Values, count, part, is_full}
+use Rattle.nim_meaning.specs.State.{World, load, whole_at, is_there, is_seen, is_whole, is_full_at}
+use Rattle.word_code.specs.Memory.{Memory, as_state}
+use Rattle.word_code.specs.RoutineTable.{Cell, Separate}
+use Rattle.heap_memory.proofs.ForCallers.{heap_open}
 use Rattle.flat_code.specs.Pieces.{value_of, piece_words}
-use Rattle.word_code.specs.RoutineTable.{Cell}
+use Rattle.flat_code.specs.Scene.{Where, Located, Within, if_value, location_at}
+use Rattle.flat_code.specs.Shapes.{Shape, row, has_shape}
+use Rattle.word_lowering.proofs.BlockHomes.{LeadsTo, FromBlock as InBlocks, read_at}
+use Rattle.word_lowering.proofs.BlockRanges.{block_range, block_whole}
+use Rattle.word_lowering.proofs.Blocks.{Blocks, Stored}
+use Rattle.word_lowering.proofs.FullValues.{full_shape}
+use Rattle.word_lowering.proofs.GoodHomes.{HomeOf, homes_apart, good_homes}
+use Rattle.word_lowering.proofs.GoodLeads.{owned_to, value_home}
+use Rattle.word_lowering.proofs.InMemory.{IsAt}
+use Rattle.word_lowering.proofs.Keeping.{AmongCalls}
+use Rattle.word_lowering.proofs.LineFits.{row_length}
+use Rattle.word_lowering.proofs.Lines.{Basis, IsGood}
+use Rattle.word_lowering.proofs.NumbersStored.{numbers_at}
+use Rattle.word_lowering.proofs.OpenCells.{cell_by}
+use Rattle.word_lowering.proofs.PartsInMemory.{offset, part_within, offset_whole, part_at}
+use Rattle.word_lowering.proofs.PieceWords.{WordsAt, room_of, words_room, words_are, by_words}
+use Rattle.word_lowering.proofs.Related.{Both, calls_of, sites_of, text_part}
+use Rattle.word_lowering.proofs.Scenes.{is_fixed, address_of, Name, of_value, of_place, Call, house, IsThere, looked, FromBlock, FromOwned, FromPlace}
+use Rattle.word_lowering.proofs.Scenes.{FromValue}
+use Rattle.word_lowering.proofs.Scenes.{FromConstant, standing_from, Leads}
+use Rattle.word_lowering.proofs.ShapeFacts.{never, of_numbers, bytes_is, shape_bytes, values_of_numbers}
+use Rattle.word_lowering.proofs.ShapePaths.{PathTo, path_in, path_numbers, path_within}
+use Rattle.word_lowering.proofs.Sites.{InMemory, Site, AmongSites, Linked}
+use Rattle.word_lowering.proofs.SitesApart.{InRange, houses, site_at}
+use Rattle.word_lowering.proofs.SmallWords.{AllSmall, small_words}
+use Rattle.word_lowering.proofs.Sources.{Lying, lying_range, Readable, lying_readable, text_readable, area_by, address_whole}
+use Rattle.word_lowering.proofs.StandingWords.{words_still, cell_still}
+use Rattle.word_lowering.proofs.StoredParts.{path_whole}
 
-module _ (x : Basis) (sites : List Site) (linked : Linked x.table x.blocks sites) where
-  -- a value at an address: it is there, looks as it should, and lies within a place
-  pub record IsThereAt (m : Memory) (v : Value) (a : ℕ) (t : Shape) : Type 0 where
-    pub is_at : IsAt m a v
-    pub shaped : has_shape v t ≡ true
-    pub numbers : of_numbers t ≡ true
-    pub lying : Lying x sites linked a (bytes v)
+-- ---- rows
 
-  -- a value at an address that may be read
-  pub record IsReadAt (m : Memory) (v : Value) (a : ℕ) (t : Shape) : Type 0 where
-    pub is_at : IsAt m a v
-    pub shaped : has_shape v t ≡ true
-    pub numbers : of_numbers t ≡ true
-    pub readable : Readable x sites linked m a (bytes v)
+pub record RowRead (v : Value) (n : ℕ) : Type 0 where
+  pub all : Values
+  pub is : v ≡ Parts all
+  pub long : count all ≡ n
 
-  pub read_there : (m : Memory) (v : Value) (a : ℕ) (t : Shape) → MemoryGood x.table x.blocks sites x.first m → IsThereAt m v a t → IsReadAt m v a t
-  read_there m v a t good at = record {
-    is_at = at.is_at;
-    shaped = at.shaped;
-    numbers = at.numbers;
-    readable = lying_readable x sites linked m a (bytes v) good at.lying;
-  }
+pub row_parts : (v : Value) (n : ℕ) (s : Shape) → has_shape v (row n s) ≡ true → RowRead v n
+row_parts (Parts vs) n s h = record { all = vs; is = refl; long = row_length (Parts vs) n s h }
+row_parts (Number z) n s h = never h
+row_parts (Handle m k) n s h = never h
+row_parts (Fixed t) n s h = never h
+row_parts (Ref r) n s h = never h
+row_parts (Resource vs j) n s h = never h
+row_parts (Gone v f) n s h = never h
+row_parts Vacant n s h = never h
 
-  -- a part of a value that is in memory
-  pub part_there : (m : Memory) (c : Call) (f : Name) (v : Value) (path : List ℕ) (o : ℕ) (a : ℕ) (t : Shape) → AmongSites c.site sites
-      → IsNumbers x.table m c f v → InMemory (house c.site f).home → PathTo (looked x.table c.site f) path o t
-      → a ≡ address_of c.site.base (house c.site f).home + o → IsThereAt m (part v path) a t
-  part_there m c f v path o a t i item inside to is =
-      let place = houses x.table x.blocks c.site f (site_at x.table x.blocks sites c.site linked i).body item.there in
-      let p = path_in v (looked x.table c.site f) path o t place.numbers item.shaped to in
-      let at = from_memory m c.site.base c.vars (house c.site f) v item.plain inside item.at in
-      let address : address_of c.site.base (house c.site f).home + offset v path ≡ a = ap (λ n. address_of c.site.base (house c.site f).home + n) p.1
-      ∙ sym is in
-      let within = part_within v path (are_numbers m (address_of c.site.base (house c.site f).home) v at) p.0 in
-      let size = bytes_is v (looked x.table c.site f) place.numbers item.shaped in
-      let size' = place.bytes in
-      let whole = address_whole x sites linked c.site f i item.there inside in
-      let whole' = offset_whole v path in
+stored_row : (w : World) (StandsFixed : (place : ℕ) → List ℕ → Type 0) (d : Blocks) (m : Memory) (a n : ℕ) (s : Shape) (v : Value)
+    → Stored StandsFixed d m a (row n s) v → is_whole w v ≡ true → RowRead v n
+stored_row w F d m a n s (Parts vs) at h = record { all = vs; is = refl; long = at.0 }
+stored_row w F d m a n s Vacant at h = never h
+stored_row w F d m a n s (Number z) at h = absurd at
+stored_row w F d m a n s (Handle j k) at h = absurd at
+stored_row w F d m a n s (Fixed t) at h = absurd at
+stored_row w F d m a n s (Ref r) at h = absurd at
+stored_row w F d m a n s (Resource vs j) at h = absurd at
+stored_row w F d m a n s (Gone v f) at h = absurd at
+
+-- ---- locations
+
+-- a value at an address that may be read
+pub record IsReadAt (x : Basis) (sites : List Site) (linked : Linked x.table x.blocks sites) (m : Memory) (v : Value) (a : ℕ) (t : Shape) : Type 0 where
+  pub is_at : IsAt m a v
+  pub shaped : has_shape v t ≡ true
+  pub numbers : of_numbers t ≡ true
+  pub readable : Readable x sites linked m a (bytes v)
+
+module _ (x : Basis) (g : Both) (y : IsGood x g) where
+  abbrev sites : List Site
+  sites = sites_of g
+
+  abbrev ReadHere : Value → (a : ℕ) → Shape → Type 0
+  ReadHere v a t = IsReadAt x sites y.linked g.memory v a t
+
+  abbrev Lies_at : (a n : ℕ) → Type 0
+  Lies_at a n = Lying x sites y.linked a n
+
+  abbrev pub Leading : Location → (a : ℕ) → Shape → Type 0
+  Leading l a t = LeadsTo (is_fixed g.ground) (HomeOf x g) (homes_apart x g y) g.ground.blocks l a t
+
+  -- ---- ranges
+
+  -- a part of what a name has
+  abbrev part_lying : (s : Site) (f : Name) (path : List ℕ) (o a : ℕ) (t : Shape) → AmongSites s sites → IsThere s f → InMemory (house s f).home
+      → PathTo (looked x.table s f) path o t → a ≡ address_of s.base (house s f).home + o → Lies_at a (shape_bytes t)
+  part_lying s f path o a t i there inside way is =
+      let size = (houses x.table x.blocks s f (site_at x.table x.blocks sites s y.linked i).body there).bytes in
+      let within = path_within (looked x.table s f) path o t way in
+      let whole = address_whole x sites y.linked s f i there inside in
+      let whole_part = path_whole (looked x.table s f) path o t way in
       record {
-        is_at = subst (λ n. IsAt m n (part v path)) address (part_at m (address_of c.site.base (house c.site f).home) v path p.0 at);
-        shaped = p.2;
-        numbers = path_numbers (looked x.table c.site f) path o t place.numbers to;
-        lying = record {
-          site = c.site;
-          name = f;
-          among = i;
-          there = item.there;
-          home = inside;
-          low = omega (arith, address);
-          high = omega (arith, address, within, size, size');
-          whole = omega (arith, address, whole, whole');
-        };
+        site = s;
+        name = f;
+        among = i;
+        there = there;
+        home = inside;
+        low = omega (arith, is);
+        high = omega (arith, is, within, size);
+        whole = omega (arith, is, whole, whole_part);
       }
 
-  -- a place in memory has a value of its own
-  pub own_place : (s : Site) (n : ℕ) → AmongSites s sites → IsThere s (of_place n) → InMemory (house s (of_place n)).home
-      → is_own (house s (of_place n)).kind ≡ true
-  own_place s n i there inside = by (cases_Bool (is_own (house s (of_place n)).kind))
+  abbrev pub place_lying : (l : Location) (a : ℕ) (t : Shape) → FromPlace x.table sites g.world l a t → Lies_at a (shape_bytes t)
+  place_lying l a t f = part_lying f.site (of_place f.number) l.path f.offset a t f.among f.there f.home f.path f.address
+
+  pub value_lying : (c : Call) → AmongSites c.site sites → (temp : ℕ) (path : List ℕ) (a : ℕ) (t : Shape) → FromValue x.table c.site c.temps temp path a t
+      → Lies_at a (shape_bytes t)
+  value_lying c i temp path a t f = part_lying c.site (of_value temp) path f.offset a t i f.there f.home f.leads f.address
+
+  -- in the heap
+  pub block_readable : (l : Location) (a : ℕ) (t : Shape) → FromBlock g.ground l a t → is_there g.world l ≡ true
+      → Readable x sites y.linked g.memory a (shape_bytes t)
+  block_readable l a t f live =
+      let at : InBlocks (is_fixed g.ground) (HomeOf x g) (homes_apart x g y) g.ground.blocks l a t
+      = record { block = f.block; base = f.base; leads = f.leads } in
+      let range = block_range (is_fixed g.ground) (HomeOf x g) (homes_apart x g y) g.ground.blocks g.world g.memory (good_homes x g y) l a t at live in
+      let whole = block_whole (is_fixed g.ground) (HomeOf x g) (homes_apart x g y) g.ground.blocks g.world g.memory (good_homes x g y) l a t at live in
+      let near = f.near in
+      record {
+        area = λ n le. area_by g.memory n a whole (λ b low high is. heap_cell b (omega (arith, range.0, low)) (omega (arith, range.1, high, le)) is);
+        near = omega (arith, near);
+        separate = λ b place all. apart (shape_bytes t) b place (omega (arith, range.0)) (omega (arith, range.1)) (lying_range x sites y.linked b
+            (shape_bytes t) place);
+      }
     where
-      other : is_address (house s (of_place n)).kind ≡ true → is_own (house s (of_place n)).kind ≡ true
-      other address = go (houses x.table x.blocks s (of_place n) (site_at x.table x.blocks sites s linked i).body there).where_is
-        where
-          go : Housing (room s.body) FIXED_BYTES (data_end x.table x.blocks) s.body.start (house s (of_place n)) → is_own (house s (of_place n)).kind ≡ true
-          go (in_variable v e plain low is_word) = absurd (subst InMemory e inside)
-          go (by_address v e k low) = absurd (subst InMemory e inside)
-          go (in_places a e plain whole within) = never (sym plain ∙ address)
-          go (in_data a e plain whole low within start) = never (sym plain ∙ address)
+      heap_cell : (b : ℕ) → heap_at ≤ b → b + 4 ≤ heap_at + length g.memory.heap → b % 4 ≡ 0 → Cell g.memory b
+      heap_cell b low high whole =
+          cell_by g.memory y.memory.sized b (and_from (b % 4 == 0) (writable (as_state g.memory) b 4) (eq-eqb (b % 4) 0 whole)
+          (heap_open g.memory y.memory.sized b 4 low high))
 
-      by : (is_own (house s (of_place n)).kind ≡ true) ⊎ (is_own (house s (of_place n)).kind ≡ false) → is_own (house s (of_place n)).kind ≡ true
-      by (inl h) = h
-      by (inr h) = other (declared_address (house s (of_place n)).kind there.kind h)
+      -- places are beside the heap
+      apart : (n b : ℕ) (place : Lies_at b n) → heap_at ≤ a → a + n ≤ heap_at + length g.memory.heap
+          → InRange x.table x.blocks place.site b n → Separate b a n
+      apart n b place low high (inl r) = let d = x.small in inr (inl (omega (arith, r.2, d, low)))
+      apart n b place low high (inr r) =
+          let s = site_at x.table x.blocks sites place.site y.linked place.among in
+          let h = s.least in
+          let most = y.memory.sized.heap_most in
+          inr (inr (omega (arith, high, r.0, h, most)))
 
-  -- a call at a site
-  pub record CallAt (k : Store) (w : World) (s : Site) : Type 0 where
-    pub call : Call
-    pub site : call.site ≡ s
-    pub from : List Site
-    pub holding : Holding x.table x.blocks k w from call
+  -- where what is owned stands
+  pub owned_readable : (l : Location) (a : ℕ) (t : Shape) → FromOwned x.table sites g.ground g.world l a t → is_there g.world l ≡ true
+      → Readable x sites y.linked g.memory a (shape_bytes t)
+  owned_readable l a t (inl f) live = lying_readable x sites y.linked g.memory a (shape_bytes t) y.memory (place_lying l a t f)
+  owned_readable l a t (inr f) live = block_readable l a t f live
 
-  pub call_at : (k : Store) (w : World) (cs : List Call) (s : Site) → AllHold x.table x.blocks k w cs → AmongSites s (map site_of cs)
-      → CallAt k w s
-  call_at k w [] s all i = absurd i
-  call_at k w (c ∷ cs) s all (inl e) = record { call = c; site = e; from = map site_of (c ∷ cs); holding = all.0 }
-  call_at k w (c ∷ cs) s all (inr i) = call_at k w cs s all.1 i
+  -- ---- what is there
 
-  -- the value of a place that a location begins at
-  pub record RootAt (m : Memory) (w : World) (s : Site) (n : ℕ) : Type 0 where
-    pub vars : Vars
-    pub temps : Temps
-    pub value : Value
-    pub slot : slot_at w s.level n ≡ Some (Holds value)
-    pub item : IsNumbers x.table m (record { site = s; temps = temps; vars = vars }) (of_place n) value
+  -- all is there at it
+  pub full_there : (l : Location) → is_full_at g.world l ≡ true
+      → (is_there g.world l ≡ true) × (is_whole g.world (load g.world l) ≡ true) × (is_full (load g.world l) ≡ true)
+  full_there l full =
+      let p = and_parts (is_seen g.world l) (is_full (load g.world l)) full in
+      let q = and_parts (is_there g.world l) (is_whole g.world (load g.world l)) p.0 in
+      (q.0, q.1, p.1)
 
-  pub root_at : (k : Store) (w : World) (s : Site) (n : ℕ) → AmongSites s sites → CallAt k w s → Filled w s.level n → IsThere s (of_place n)
-      → InMemory (house s (of_place n)).home → RootAt k.memory w s n
-  root_at k w s n i at filled there inside = by at.call at.site at.holding
+  read_numbers : (l : Location) (a : ℕ) (t : Shape) → Leading l a t → of_numbers t ≡ true → is_full_at g.world l ≡ true
+      → Readable x sites y.linked g.memory a (shape_bytes t) → ReadHere (load g.world l) a t
+  read_numbers l a t f numbers full readable =
+      let h = full_there l full in
+      let stored = read_at (is_fixed g.ground) (HomeOf x g) (homes_apart x g y) g.ground.blocks g.world g.memory (good_homes x g y) l a t f h.0 in
+      let shaped = full_shape (is_fixed g.ground) g.ground.blocks g.memory a t (load g.world l) stored h.2 in
+      record {
+        is_at = numbers_at (is_fixed g.ground) g.ground.blocks g.memory a t (load g.world l) numbers shaped stored;
+        shaped = shaped;
+        numbers = numbers;
+        readable = subst (λ n. Readable x sites y.linked g.memory a n) (sym (bytes_is (load g.world l) t numbers shaped)) readable;
+      }
+
+  -- at a location that something owned is at
+  pub owned_located : (l : Location) (a : ℕ) (t : Shape) → FromOwned x.table sites g.ground g.world l a t → of_numbers t ≡ true
+      → is_full_at g.world l ≡ true → ReadHere (load g.world l) a t
+  owned_located l a t f numbers full =
+      read_numbers l a t (owned_to x g y l a t f) numbers full (owned_readable l a t f (full_there l full).0)
+
+  -- a part of a constant
+  constant_located : (location : Location) (a : ℕ) (t : Shape) → FromConstant x.table x.blocks location a t → ReadHere (load g.world location) a t
+  constant_located location a t f =
+      let m : Memory = g.memory in
+      let good = y.memory in
+      let v : Value = value_of f.pieces in
+      let numbers = values_of_numbers v f.shape f.numbers f.shaped in
+      let words = words_are f.pieces f.one in
+      let there = x.constants f.pieces (subst AllSmall (sym words) (small_words v f.shape f.numbers f.shaped)) f.among in
+      let base : ℕ = standing_from x.table x.blocks f.pieces in
+      let at = by_words m base v numbers (subst (WordsAt m base) words (words_still x sites m good base (piece_words f.pieces) there.is_text there.words)) in
+      let room : room_of (piece_words f.pieces) ≡ bytes v = ap room_of words ∙ words_room v numbers in
+      let p = path_in v f.shape location.path f.offset t f.numbers f.shaped f.path in
+      let address : base + offset v location.path ≡ a = ap (λ n. base + n) p.1 ∙ sym f.address in
+      let within = part_within v location.path numbers p.0 in
+      let whole : a % 4 ≡ 0 = let h = there.whole in let i = offset_whole v location.path in omega (arith, address, h, i) in
+      let text = text_part x.table x.blocks base (room_of (piece_words f.pieces)) a (bytes (part v location.path)) there.is_text
+      (omega (arith, address)) (omega (arith, address, within, room)) in
+      subst (λ b. IsReadAt x (sites_of g) y.linked m (part (whole_at g.world b) location.path) a t) (sym f.base) (record {
+        is_at = subst (λ n. IsAt m n (part v location.path)) address (part_at m base v location.path p.0 at);
+        shaped = p.2;
+        numbers = path_numbers f.shape location.path f.offset t f.numbers f.path;
+        readable = text_readable x sites y.linked m a (bytes (part v location.path)) good text whole (λ b low high is.
+            cell_still x sites m good b (text_part x.table x.blocks a (bytes (part v location.path)) b 4 text low high)
+            (subst (Cell x.first) (from_base b (omega (arith, low, address)))
+            (there.cells (b - base) (omega (arith, address, within, room, low, high)) (let h = there.whole in omega (arith, h, is, low, address)))));
+      })
     where
-      by : (c : Call) → c.site ≡ s → Holding x.table x.blocks k w at.from c → RootAt k.memory w s n
-      by c e h =
-          let was : Filled w c.site.level n = subst (λ z. Filled w z.level n) (sym e) filled in
-          let here : IsThere c.site (of_place n) = subst (λ z. IsThere z (of_place n)) (sym e) there in
-          let own : is_own (house c.site (of_place n)).kind ≡ true = subst (λ z. is_own (house z (of_place n)).kind ≡ true) (sym e)
-          (own_place s n i there inside) in
-          let v = (h.filled n here was).own own in
-          let numbers = (houses x.table x.blocks c.site (of_place n) (subst (λ z. IsBody x.table x.blocks z.body) (sym e)
-          (site_at x.table x.blocks sites s linked i).body) here).numbers in
-          let item = numbers_of x.table k c (of_place n) v.0 numbers (h.items (of_place n) v.0 here v.1) in
-          subst (λ z. RootAt k.memory w z n) e (record { vars = c.vars; temps = c.temps; value = v.0; slot = v.1; item = item })
+      from_base : (b : ℕ) → standing_from x.table x.blocks f.pieces ≤ b
+          → standing_from x.table x.blocks f.pieces + (b - standing_from x.table x.blocks f.pieces) ≡ b
+      from_base b low = omega (arith, low)
 
-  -- ---- at a location
+  -- what a line reads at a location, where all of it is there
+  pub led_located : (c : Call) → AmongCalls c (calls_of g) → AmongSites c.site (sites_of g) → (there : Where) (a : ℕ) (t : Shape) → of_numbers t ≡ true
+      → is_full_at g.world (location_at c.temps there) ≡ true → Leads x.table x.blocks (sites_of g) g.ground g.world c.site c.temps there a t
+      → ReadHere (load g.world (location_at c.temps there)) a t
+  led_located c i s (Located location) a t numbers full (inl l) = owned_located location a t (inl l) numbers full
+  led_located c i s (Located location) a t numbers full (inr (inl l)) = constant_located location a t l
+  led_located c i s (Located location) a t numbers full (inr (inr l)) = owned_located location a t (inr l) numbers full
+  led_located c i s (Within temp path) a t numbers full l =
+      let at : Location = record { base = Made l.value; path = path; through = None } in
+      subst (λ o. IsReadAt x (sites_of g) y.linked g.memory (part (if_value o) path) a t) (sym l.has)
+      (read_numbers at a t (inl (value_home x g y c i temp path a t l)) numbers
+      (subst (λ o. is_full_at g.world (record { base = Made (if_value o); path = path; through = None }) ≡ true) l.has full)
+      (lying_readable x (sites_of g) y.linked g.memory a (shape_bytes t) y.memory (value_lying c s temp path a t l)))
 
-  module _ (k : Store) (w : World) (each : (s : Site) → AmongSites s sites → CallAt k w s) where
-    abbrev m : Memory
-    m = k.memory
+  -- an array there
+  leading_row : (l : Location) (a n : ℕ) (s : Shape) → Leading l a (row n s) → is_seen g.world l ≡ true → RowRead (load g.world l) n
+  leading_row l a n s f seen =
+      let p = and_parts (is_there g.world l) (is_whole g.world (load g.world l)) seen in
+      stored_row g.world (is_fixed g.ground) g.ground.blocks g.memory a n s (load g.world l)
+      (read_at (is_fixed g.ground) (HomeOf x g) (homes_apart x g y) g.ground.blocks g.world g.memory (good_homes x g y) l a (row n s) f p.0) p.1
 
-    pub place_located : (location : Location) (a : ℕ) (t : Shape) → FromPlace x.table sites w location a t → IsThereAt k.memory (load w location) a t
-    place_located location a t f =
-        let r = root_at k w f.site f.number f.among (each f.site f.among) f.filled f.there f.home in
-        let value : whole_at w location.base ≡ r.value = ap (whole_at w) f.base ∙ ap held r.slot in
-        subst (λ y. IsThereAt m (part y location.path) a t) (sym value)
-        (part_there m (record { site = f.site; temps = r.temps; vars = r.vars })
-        (of_place f.number) r.value location.path f.offset a t f.among r.item f.home f.path f.address)
-
-    pub value_located : (c : Call) (temp : ℕ) (path : List ℕ) (a : ℕ) (t : Shape) → AmongSites c.site sites
-        → ((f : Name) (v : Value) → IsThere c.site f → HasValue w c f v → IsItem x.table k c f v)
-        → FromValue x.table c.site c.temps temp path a t → (v : Value) → c.temps.values temp ≡ Some v → IsThereAt k.memory (part v path) a t
-    value_located c temp path a t i items f v e =
-        part_there m c (of_value temp) v path f.offset a t i (numbers_of x.table k c (of_value temp) v
-        (houses x.table x.blocks c.site (of_value temp) (site_at x.table x.blocks sites c.site linked i).body f.there).numbers
-        (items (of_value temp) v f.there e)) f.home f.leads f.address
-
-    -- a part of a constant
-    constant_located : MemoryGood x.table x.blocks sites x.first k.memory → (location : Location) (a : ℕ) (t : Shape) →
-        FromConstant x.table x.blocks location a t
-        → IsReadAt k.memory (load w location) a t
-    constant_located good location a t f =
-        let v : Value = value_of f.pieces in
-        let numbers = values_of_numbers v f.shape f.numbers f.shaped in
-        let words = words_are f.pieces f.one in
-        let there = x.constants f.pieces (subst AllSmall (sym words) (small_words v f.shape f.numbers f.shaped)) f.among in
-        let base : ℕ = standing_from x.table x.blocks f.pieces in
-        let at = by_words m base v numbers (subst (WordsAt m base) words (words_still x sites m good base (piece_words f.pieces) there.is_text there.words)) in
-        let room : room_of (piece_words f.pieces) ≡ bytes v = ap room_of words ∙ words_room v numbers in
-        let p = path_in v f.shape location.path f.offset t f.numbers f.shaped f.path in
-        let address : base + offset v location.path ≡ a = ap (λ n. base + n) p.1 ∙ sym f.address in
-        let within = part_within v location.path numbers p.0 in
-        let whole : a % 4 ≡ 0 = let h = there.whole in let i = offset_whole v location.path in omega (arith, address, h, i) in
-        let text = text_part x.table x.blocks base (room_of (piece_words f.pieces)) a (bytes (part v location.path)) there.is_text
-        (omega (arith, address)) (omega (arith, address, within, room)) in
-        subst (λ y. IsReadAt m (part (whole_at w y) location.path) a t) (sym f.base) (record {
-          is_at = subst (λ n. IsAt m n (part v location.path)) address (part_at m base v location.path p.0 at);
-          shaped = p.2;
-          numbers = path_numbers f.shape location.path f.offset t f.numbers f.path;
-          readable = text_readable x sites linked m a (bytes (part v location.path)) good text whole (λ b low high is.
-              cell_still x sites m good b (text_part x.table x.blocks a (bytes (part v location.path)) b 4 text low high)
-              (subst (Cell x.first) (from_base b (omega (arith, low, address)))
-              (there.cells (b - base) (omega (arith, address, within, room, low, high)) (let h = there.whole in omega (arith, h, is, low, address)))));
-        })
-      where
-        from_base : (b : ℕ) → standing_from x.table x.blocks f.pieces ≤ b
-            → standing_from x.table x.blocks f.pieces + (b - standing_from x.table x.blocks f.pieces) ≡ b
-        from_base b low = omega (arith, low)
-
-    -- what a line reads at a location
-    pub led_located : MemoryGood x.table x.blocks sites x.first k.memory → HasHeap (is_fixed k.ground) k.ground.blocks w.heap k.memory
-        → (c : Call) → AmongSites c.site sites
-        → ((f : Name) (v : Value) → IsThere c.site f → HasValue w c f v → IsItem x.table k c f v)
-        → (there : Where) (a : ℕ) (t : Shape) → of_numbers t ≡ true
-        → (IsInBlock (location_at c.temps there).base → is_full_at w (location_at c.temps there) ≡ true)
-        → Leads x.table x.blocks sites k.ground w c.site c.temps there a t
-        → IsReadAt k.memory (load w (location_at c.temps there)) a t
-    led_located good has c i items (Located location) a t numbers full (inl l) = read_there m (load w location) a t good (place_located location a t l)
-    led_located good has c i items (Located location) a t numbers full (inr (inl l)) = constant_located good location a t l
-    led_located good has c i items (Located location) a t numbers full (inr (inr l)) =
-        let r = block_located x sites linked k w good has location a t l numbers (full (subst IsInBlock (sym l.base) tt)) in
-        record { is_at = r.is_at; shaped = r.shaped; numbers = numbers; readable = r.readable }
-    led_located good has c i items (Within temp path) a t numbers full l =
-        subst (λ o. IsReadAt m (part (if_value o) path) a t) (sym l.has)
-        (read_there m (part l.value path) a t good (value_located c temp path a t i items l l.value l.has))
+  pub led_row : (c : Call) → AmongCalls c (calls_of g) → (there : Where) (a n : ℕ) (s : Shape) → is_seen g.world (location_at c.temps there) ≡ true
+      → Leads x.table x.blocks (sites_of g) g.ground g.world c.site c.temps there a (row n s) → RowRead (load g.world (location_at c.temps there)) n
+  led_row c i (Located location) a n s seen (inl l) = leading_row location a n s (owned_to x g y location a (row n s) (inl l)) seen
+  led_row c i (Located location) a n s seen (inr (inl l)) = row_parts (load g.world location) n s (constant_located location a (row n s) l).shaped
+  led_row c i (Located location) a n s seen (inr (inr l)) = leading_row location a n s (owned_to x g y location a (row n s) (inr l)) seen
+  led_row c i (Within temp path) a n s seen l =
+      let at : Location = record { base = Made l.value; path = path; through = None } in
+      subst (λ o. RowRead (part (if_value o) path) n) (sym l.has)
+      (leading_row at a n s (inl (value_home x g y c i temp path a (row n s) l))
+      (subst (λ o. is_seen g.world (record { base = Made (if_value o); path = path; through = None }) ≡ true) l.has seen))

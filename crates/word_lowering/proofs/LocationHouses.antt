@@ -10,12 +10,13 @@ use Rattle.word_lowering.specs.declared.homes.Alias.TheVariants as alias
 use Rattle.word_lowering.specs.declared.homes.Housed.{Housed}
 use Rattle.flat_code.specs.Fits.{is_location}
 use Rattle.flat_code.specs.Scene.{Where, location_at}
-use Rattle.nim_meaning.specs.State.{load}
+use Rattle.nim_meaning.specs.State.{is_seen, load}
 use Rattle.nim_meaning.specs.Values.{length_of}
 use Rattle.nim_program.specs.Kinds.{has_length, kind_if}
 use Rattle.word_lowering.proofs.LineFits.{array_shape, some_kind}
 use Rattle.word_lowering.proofs.Lines.{Basis, IsGood, all_sites, starts}
-use Rattle.word_lowering.proofs.ReadFacts.{IsSeenThere, read_row, start_site}
+use Rattle.word_lowering.proofs.AddressFacts.{read_row}
+use Rattle.word_lowering.proofs.ReadFacts.{start_site}
 use Rattle.word_lowering.proofs.Related.{Both, body_of, called_by}
 use Rattle.word_lowering.proofs.Scenes.{IsLedBy, IsNamed, IsThere, house, looked, of_location, of_place, of_value, site_of}
 use Rattle.word_lowering.proofs.ShapeFacts.{of_numbers, shape_bytes}
@@ -94,7 +95,7 @@ module _ (x : Basis) (g : Both) (line : BlockLine) (rest : List BlockLine) (y : 
     pub look : looked x.table g.call.site (of_location from) ≡ row count of
     pub count_is : count_in (entry_at x.table (location (around x.table x.blocks (body_of g)) from).ty) ≡ count
     pub bytes_is : 0 < count → element_bytes x.table (entry_at x.table (location (around x.table x.blocks (body_of g)) from).ty) ≡ shape_bytes of
-    pub long : IsSeenThere x g line rest y from there → length_of (load g.world (location_at g.call.temps there)) ≡ count
+    pub long : is_seen g.world (location_at g.call.temps there) ≡ true → length_of (load g.world (location_at g.call.temps there)) ≡ count
 
   pub row_at : (from : ℕ) (there : Where) → has_length (kind_if (facts_in x.table) (type_in x is_location (body_of g) from)) ≡ true
       → g.call.temps.places from ≡ Some there → RowAt from there

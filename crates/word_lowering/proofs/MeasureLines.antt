@@ -32,7 +32,6 @@ use Rattle.nim_program.specs.Kinds.{has_length, is_int, kind_if, same_value}
 use Rattle.nim_program.specs.View.{if_type}
 use Rattle.flat_code.specs.declared.line.UseAt.{UseAt}
 use Rattle.nim_types.specs.Table.{facts_in}
-use Rattle.word_lowering.proofs.ReadFacts.{IsSeenThere}
 use Rattle.word_lowering.proofs.ApplyFits.{applies, RowHere}
 use Rattle.word_lowering.proofs.Arithmetic.{fits_signed, signed_fits, equal_is}
 use Rattle.word_lowering.proofs.ControlLines.{FollowedHere, kind_at, plain, value_type, int_read}
@@ -79,7 +78,7 @@ module _ (x : Basis) (g : Both) (line : BlockLine) (rest : List BlockLine) (y : 
   count_at_location from = count_in (entry_at x.table (location (around x.table x.blocks (body_of g)) from).ty)
 
   measured_settles : (to : ℕ) (m : Measure) (from : ℕ) (there : Where) (r : RowAt x g line rest y from there)
-      → IsSeenThere x g line rest y from there → Getting x g line rest y to (measured m r.count)
+      → is_seen g.world (location_at g.call.temps there) ≡ true → Getting x g line rest y to (measured m r.count)
       → code_here x g line rest y ≡ Constant (variable x g line rest y to) (measure_word m (count_at_location from)) ∷ code_next x g line rest y
       → Settles x (starts g line rest) rest
       (Passes (Answers [] 1 (with_value to g.call.temps (Number (measured m (length_of (load g.world (location_at g.call.temps there)))))) g.world))
@@ -106,7 +105,7 @@ module _ (x : Basis) (labels : LabelsLead x) (g : Both) (rest : List BlockLine) 
       where_there x (starts g line rest) rest (is_seen g.world (location_at g.call.temps there))
       (λ b. gives (scene_of (high x.table x.blocks (starts g line rest))) to
       (costs 1 (unless_gone b (give (length_of (load g.world (location_at g.call.temps there)))) >>= (λ n. give (Number (pos n)))))) (λ before. tt)
-      (λ seen. measured_settles x g line rest y to Len from there r (λ o b. seen) (int_target x g line rest y to refl refl kinds.0 (pos r.count) r.fits) refl))
+      (λ seen. measured_settles x g line rest y to Len from there r seen (int_target x g line rest y to refl refl kinds.0 (pos r.count) r.fits) refl))
 
   pub measure_line : (m : Measure) (to : ℕ) (how : UseAt) (ty a : Option ℕ) (from : ℕ)
       → RowHere x g rest to (O.Measure m) how ty (a ∷ []) (F.Place from ∷ [])
@@ -133,7 +132,7 @@ module _ (x : Basis) (labels : LabelsLead x) (g : Both) (rest : List BlockLine) 
       (λ b. gives (scene_of (high x.table x.blocks (starts g line rest))) to
       (costs 1 (unless_gone b (give (Number (measured m (length_of (load g.world (location_at g.call.temps there)))))))
       >>= made_by false (bound_for g how))) (λ before. tt)
-      (λ seen. measured_settles x g line rest y to m from there r (λ o b. seen)
+      (λ seen. measured_settles x g line rest y to m from there r seen
       (getting x g line rest y to s.0 None (measured m r.count) t (int_shape (facts_in x.table) s.0 s.2) (measured_fits m r.count r.fits)) refl)))
 
 -- ---- a length that a loop checks
@@ -226,7 +225,7 @@ module _ (x : Basis) (traps : TrapsStop x) (labels : LabelsLead x) (g : Both) (r
       (λ b. acts (scene_of (high x.table x.blocks (starts g still_here rest))) (costs 1 (unless_gone b
       (deeds.branch (int_eq (pos (length_of (load g.world (location_at g.call.temps there)))) (number_of w)) (give nothing) (stop LengthChanged)))))
       (λ before. tt)
-      (λ seen. subst (λ n. Still_does y (int_eq (pos n) (number_of w))) (sym (r.long (λ o b. seen)))
+      (λ seen. subst (λ n. Still_does y (int_eq (pos n) (number_of w))) (sym (r.long seen))
       (still_by y there r w (int_read x g still_here rest y len w kinds.1 f) (int_eq (pos r.count) (number_of w)) refl))))
 
 -- ---- the row, whatever stands in the line

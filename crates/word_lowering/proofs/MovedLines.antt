@@ -191,7 +191,7 @@ module _ (x : Basis) (g : Both) (line : BlockLine) (rest : List BlockLine) (y : 
       let v = load g.world (location_at g.call.temps there) in
       where_there x (starts g line rest) rest (is_full_at g.world (location_at g.call.temps there))
       (λ b. gives (scene_of (high x.table x.blocks (starts g line rest))) to (unless_gone b (costs (bytes v) (give v)))) (λ before. tt)
-      (λ seen. let r = read_location x g line rest y from there p.named e (λ o b. seen) in
+      (λ seen. let r = read_location x g line rest y from there p.named e seen in
       let shaped : has_shape v (shape_of (facts_in x.table) ty) ≡ true = subst (λ s. has_shape v s ≡ true) p.look r.shaped in
       let some = bytes_some v (values_of_numbers v (shape_of (facts_in x.table) ty) t.numbers shaped) in
       moved_value to ty v t shaped (location (around x.table x.blocks (body_of g)) from) r.all r.read code (bytes v + 0) (omega (arith, some)))

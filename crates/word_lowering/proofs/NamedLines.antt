@@ -33,11 +33,13 @@ use Rattle.word_lowering.specs.Operations.{word}
 use Rattle.word_lowering.specs.LineCode.{Around}
 use Rattle.word_lowering.specs.LineCode as lines
 use Rattle.word_lowering.proofs.HomesApart.{Each}
+use Rattle.word_lowering.proofs.KeptCode.{past_named, owning_named}
 use Rattle.word_lowering.proofs.LayoutBounds.{IsBelow, IsParamBelow, IsGlobalBelow, found_below, global_below, params_each}
 use Rattle.word_lowering.proofs.NamedCode.{AllNamed, IsSpotBelow, spot_below, shifted_below, first_is, second_is, third_is, fourth_is, fifth_is, left_is}
 use Rattle.word_lowering.proofs.NamedCode.{binary_named, unary_named, compare_named, narrow_named, unless_named, turn_if_named}
 use Rattle.word_lowering.proofs.NamedCode.{fits_named, beyond_named, turn_named}
 use Rattle.word_lowering.proofs.NamedCode as named
+use Rattle.word_lowering.proofs.WaiterHomes.{AreBelow}
 
 variable_below : (n : ℕ) (home : Home) → FIRST < n → IsBelow n home → lines.variable_in home < n
 variable_below n (Variable v) some h = h
@@ -49,6 +51,7 @@ pub record IsAroundBelow (vars : ℕ) (x : Around) : Type 0 where
   pub own : Each (λ h. IsBelow vars h.home) x.own.all
   pub globals : Each (IsGlobalBelow vars) x.globals
   pub params : (proc : ℕ) → Each (IsParamBelow MOST_ARGUMENTS) (lines.layout_at x proc).all
+  pub waiting : AreBelow vars x.own.waiters
 
 module _ (vars : ℕ) (many : OWN_FROM ≤ vars) where
   -- ---- constants
@@ -452,7 +455,7 @@ module _ (vars : ℕ) (many : OWN_FROM ≤ vars) where
     line_named (L.Unless from to) label k = unless_named vars many _ (lines.own_label to) (held_below from) k
     line_named (L.Fits from (C.Ordinals low high) to) label k = fits_named vars many _ (lines.own_label to) low high (held_below from) k
     line_named (L.Fits from (C.Text text) to) label k = k
-    line_named (L.Own what from) label k = k
+    line_named (L.Own what from) label k = owning_named vars many x below.waiting value_below what from k
     line_named L.Enter label k = named.spend vars many k
     line_named (L.Turn to) label k = named.spend vars many (named.jump vars many k)
     line_named (L.TurnIf from to) label k = turn_if_named vars many _ (lines.own_label to) (held_below from) k
@@ -462,4 +465,5 @@ module _ (vars : ℕ) (many : OWN_FROM ≤ vars) where
 
     pub lines_named : (all : List Line) {k : List WordInstr} → AllNamed vars k → AllNamed vars (lines.lines_code x all k)
     lines_named [] rest = rest
-    lines_named (line ∷ all) rest = line_named line (lines.label_before all) (lines_named all rest)
+    lines_named (line ∷ all) rest =
+        line_named line (lines.label_before all) (past_named vars many x below.waiting value_below line (lines_named all rest))

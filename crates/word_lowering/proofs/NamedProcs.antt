@@ -69,10 +69,10 @@ module _ (vars : ℕ) (many : OWN_FROM ≤ vars) where
       end_named lines Overflow (end_named lines DivisionByZero (end_named lines IndexOutOfBounds
       (end_named lines OutOfRange (end_named lines LengthChanged (end_named lines CallDepth none_named)))))
 
-  code_named : (x : Around) (lines : List Line) → AreBelow vars x.own.waiters → IsAroundBelow vars x → AllNamed vars (code.code_of x lines)
-  code_named x lines waiting below =
+  code_named : (x : Around) (lines : List Line) → IsAroundBelow vars x → AllNamed vars (code.code_of x lines)
+  code_named x lines below =
       named_on (result_named (result_in x.own.all) (result_each (λ h. IsBelow vars h.home) x.own.all below.own)
-      (none_named_of x.own.waiters waiting (lines_named vars many x below lines none_named)))
+      (none_named_of x.own.waiters below.waiting (lines_named vars many x below lines none_named)))
       (last_named (code.begin_code x.own (lines_code x lines [])))
 
 -- ---- a procedure
@@ -143,7 +143,7 @@ proc_formed x number p own below vars kind =
     and_from _ _ (le-leb (OWN_FROM + kept_in (params_in x.own.all)) x.own.free.variable own.many)
     (and_from _ _ (le-leb x.own.free.variable MOST_VARIABLES (omega (arith, vars)))
     (and_from _ _ (eq-eqb (x.own.free.byte % 4) 0 own.whole)
-    (and_from _ _ kind (named_true (code_named x.own.free.variable many x (map block_plain p.lines) own.waiting below)))))
+    (and_from _ _ kind (named_true (code_named x.own.free.variable many x (map block_plain p.lines) below)))))
 
 -- ---- what holds of procedures one by one
 
@@ -171,7 +171,12 @@ record IsShared (x : Around) : Type 0 where
   params : (proc : ℕ) → Each (IsParamBelow MOST_ARGUMENTS) (layout_at x proc).all
 
 around_below : (x : Around) → IsShared x → IsLaid x.own → IsAroundBelow x.own.free.variable x
-around_below x shared own = record { own = own.below; globals = shared.globals x.own.free.variable; params = shared.params }
+around_below x shared own = record {
+  own = own.below;
+  globals = shared.globals x.own.free.variable;
+  params = shared.params;
+  waiting = own.waiting;
+}
 
 shared_with : (x : Around) (own : Layout) (behind : ℕ) → IsShared x → IsShared (code.with_own x own behind)
 shared_with x own behind shared = record { globals = shared.globals; params = shared.params }

@@ -1,5 +1,5 @@
 -- A call that begins: its parameters have what was given, and nothing else has a value yet.
-use Rattle.std.proofs.Common.{◌≡◌, inr, ℕ, suc, ◌+◌, ◌-◌, ◌<◌, ◌≤◌, List, [], ◌∷◌, ◌++◌, length, Some, true, false}
+use Rattle.std.proofs.Common.{◌≡◌, inl, inr, ℕ, suc, ◌+◌, ◌-◌, ◌<◌, ◌≤◌, List, [], ◌∷◌, ◌++◌, length, Some, true, false}
 use Rattle.std.proofs.Common.{refl, sym, ap, subst, ◌∙◌, arith, length-append, append-nil}
 use Rattle.std.specs.Prelude.{slice_get}
 use Rattle.nim_meaning.specs.Values.{Value, Location, Slot, Holds, Stands, Lends}
@@ -28,7 +28,7 @@ use Rattle.word_lowering.proofs.Lines.{Basis, IsGood, known, starts}
 use Rattle.word_lowering.proofs.MovedLines.{own_plain}
 use Rattle.word_lowering.proofs.Options.{none_some}
 use Rattle.word_lowering.proofs.Related.{AllFrames, Both, body_of, calls_of, sites_of, store_with}
-use Rattle.word_lowering.proofs.Scenes.{address_of, At, Call, FromPlace, HasValue, Holding, house, IsFilled, IsItem, IsThere, looked, Name, of_location}
+use Rattle.word_lowering.proofs.Scenes.{address_of, At, Call, FromOwned, FromPlace, HasValue, Holding, house, IsFilled, IsItem, IsThere, looked, Name, of_location}
 use Rattle.word_lowering.proofs.Scenes.{of_place, of_value, StandsFor}
 use Rattle.word_lowering.proofs.ShapeFacts.{never}
 use Rattle.word_lowering.proofs.Sites.{Housing, by_address, in_data, in_places, in_variable, data_end, InMemory, Linked, room, Site}
@@ -39,7 +39,7 @@ use Rattle.word_lowering.proofs.ValueFacts.{numbers_there}
 
 module _ (x : Basis) (g : Both) (line : BlockLine) (rest : List BlockLine) (y : IsGood x (starts g line rest)) {proc : ℕ} {s : Signature}
     (c : Callee x.table x.blocks proc s) (m : Memory) (slots : List Slot)
-    (gave : Gave x.table m (sites_of g) g.world g.words (g.call.site.base + room (body_of g)) slots (params_in c.body.own.all))
+    (gave : Gave x.table m (sites_of g) g.ground g.world g.words (g.call.site.base + room (body_of g)) slots (params_in c.body.own.all))
     (left : ℕ) (e : g.call.site.left ≡ suc left) where
   abbrev all : List Housed
   all = c.body.own.all
@@ -78,7 +78,7 @@ module _ (x : Basis) (g : Both) (line : BlockLine) (rest : List BlockLine) (y : 
   -- ---- frames
 
   pub params_long : length slots ≡ length (params_in all)
-  params_long = given_long x.table m (sites_of g) g.world g.words (g.call.site.base + room (body_of g)) slots (params_in all) gave
+  params_long = given_long x.table m (sites_of g) g.ground g.world g.words (g.call.site.base + room (body_of g)) slots (params_in all) gave
 
   pub slots_few : length slots + length (slots_of x.table c.body) ≤ c.body.proc.span
   slots_few = let l = params_long in let f = c.orderly.few in omega (arith, l, f)
@@ -106,7 +106,7 @@ module _ (x : Basis) (g : Both) (line : BlockLine) (rest : List BlockLine) (y : 
   -- a filled place is a parameter
   record IsParameter (n : ℕ) (slot : Slot) : Type 0 where
     below : (v : ℕ) → (house site_then (of_place n)).home ≡ Variable v → v < limit
-    gave_it : GaveSlot x.table m (sites_of g) g.world g.words (g.call.site.base + room (body_of g)) slot (house site_then (of_place n))
+    gave_it : GaveSlot x.table m (sites_of g) g.ground g.world g.words (g.call.site.base + room (body_of g)) slot (house site_then (of_place n))
 
   parameter : (n : ℕ) (slot : Slot) → IsThere site_then (of_place n) → slot_at world_first (suc g.call.site.level) n ≡ Some slot → IsParameter n slot
   parameter n slot there h =
@@ -115,12 +115,12 @@ module _ (x : Basis) (g : Both) (line : BlockLine) (rest : List BlockLine) (y : 
       let got : slice_get (slots ++ []) i ≡ Some slot = filled_get c.body.proc.span (slots ++ []) i slot
       (sym (slot_last g.world (frame_with []) (suc g.call.site.level) n level_last) ∙ h) in
       let has : slice_get slots i ≡ Some slot = sym (ap (λ l. slice_get l i) (append-nil slots)) ∙ got in
-      let r = given_here x.table m (sites_of g) g.world g.words (g.call.site.base + room (body_of g)) all limit slots (params_in all)
+      let r = given_here x.table m (sites_of g) g.ground g.world g.words (g.call.site.base + room (body_of g)) all limit slots (params_in all)
       c.body.proc.first i n gave c.orderly.params (get_inside slots i slot has) (omega (arith, inside.0)) in
       let same : r.slot ≡ slot = some_is r.slot (sym r.is ∙ has) in
       record {
         below = r.first.below;
-        gave_it = subst (λ z. GaveSlot x.table m (sites_of g) g.world g.words (g.call.site.base + room (body_of g)) z (house site_then (of_place n)))
+        gave_it = subst (λ z. GaveSlot x.table m (sites_of g) g.ground g.world g.words (g.call.site.base + room (body_of g)) z (house site_then (of_place n)))
             same r.gave;
       }
     where
@@ -147,18 +147,18 @@ module _ (x : Basis) (g : Both) (line : BlockLine) (rest : List BlockLine) (y : 
     })
       where
         by : is_address (house site_then (of_place n)).kind ≡ false
-            → GivenAt x.table m (sites_of g) g.world g.words (g.call.site.base + room (body_of g)) (house site_then (of_place n)).home u
+            → GivenAt x.table m (sites_of g) g.ground g.world g.words (g.call.site.base + room (body_of g)) (house site_then (of_place n)).home u
             → Housing (room c.body) FIXED_BYTES (data_end x.table x.blocks) c.body.start (house site_then (of_place n))
             → At m (g.call.site.base + room (body_of g)) vars (spot_of (house site_then (of_place n))) u
         by plain given (in_variable v home p low is_word) =
             subst (λ z. At m (g.call.site.base + room (body_of g)) vars z u) (sym (spot_held (house site_then (of_place n)) v plain home))
             (is.handed v low (r.below v home)
-            ∙ subst (λ z. GivenAt x.table m (sites_of g) g.world g.words (g.call.site.base + room (body_of g)) z u) home given)
+            ∙ subst (λ z. GivenAt x.table m (sites_of g) g.ground g.world g.words (g.call.site.base + room (body_of g)) z u) home given)
         by plain given (by_address v home address low) = never (sym plain ∙ address)
         by plain given (in_places at home p whole within) =
             to_memory m (g.call.site.base + room (body_of g)) vars (house site_then (of_place n)) u plain (subst InMemory (sym home) tt)
             (subst (λ z. IsAt m (address_of (g.call.site.base + room (body_of g)) z) u) (sym home)
-            (subst (λ z. GivenAt x.table m (sites_of g) g.world g.words (g.call.site.base + room (body_of g)) z u) home given))
+            (subst (λ z. GivenAt x.table m (sites_of g) g.ground g.world g.words (g.call.site.base + room (body_of g)) z u) home given))
         by plain given (in_data at home p whole low within start) = never (sym c.start ∙ start)
 
     -- a location that leads to a place of a caller
@@ -177,8 +177,13 @@ module _ (x : Basis) (g : Both) (line : BlockLine) (rest : List BlockLine) (y : 
       address = f.address;
     }
 
+    owned_then : (location : Location) (a : ℕ) (t : Shape) → FromOwned x.table (sites_of g) g.ground g.world location a t
+        → FromOwned x.table sites_then g.ground world_first location a t
+    owned_then location a t (inl f) = inl (from_then location a t f)
+    owned_then location a t (inr f) = inr f
+
     location_stands : (n : ℕ) (l : Location) → IsThere site_then (of_place n) → slot_at world_first (suc g.call.site.level) n ≡ Some (Stands l)
-        → IsParameter n (Stands l) → StandsFor x.table sites_then world_first call_then n
+        → IsParameter n (Stands l) → StandsFor x.table sites_then g.ground world_first call_then n
     location_stands n l there slot r =
         record {
           location = l;
@@ -186,7 +191,7 @@ module _ (x : Basis) (g : Both) (line : BlockLine) (rest : List BlockLine) (y : 
           address = r.gave_it.address;
           holds = by r.gave_it.address r.gave_it.variable r.gave_it.home r.gave_it.by_address r.gave_it.given
               (houses x.table x.blocks site_then (of_place n) c.is there).where_is;
-          leads = from_then l r.gave_it.address (looked x.table site_then (of_place n)) r.gave_it.leads;
+          leads = owned_then l r.gave_it.address (looked x.table site_then (of_place n)) r.gave_it.leads;
         }
       where
         by : (a v : ℕ) → (house site_then (of_place n)).home ≡ Variable v → is_address (house site_then (of_place n)).kind ≡ true
@@ -202,7 +207,7 @@ module _ (x : Basis) (g : Both) (line : BlockLine) (rest : List BlockLine) (y : 
 
     -- what a slot has
     slot_filled : (n : ℕ) (slot : Slot) → IsThere site_then (of_place n) → slot_at world_first (suc g.call.site.level) n ≡ Some slot
-        → IsParameter n slot → IsFilled x.table sites_then world_first call_then n
+        → IsParameter n slot → IsFilled x.table sites_then g.ground world_first call_then n
     slot_filled n (Holds u) there h r = record {
       own = λ own. (u, h);
       other = λ other. never (sym r.gave_it.plain ∙ declared_address (house site_then (of_place n)).kind there.kind other);

@@ -53,7 +53,7 @@ own_type k ty h = refl
 
 module _ (x : Basis) (g : Both) (line : BlockLine) (rest : List BlockLine) (y : IsGood x (starts g line rest)) {proc : ℕ} {s : Signature}
     (c : Callee x.table x.blocks proc s) (m : Memory) (slots : List Slot)
-    (gave : Gave x.table m (sites_of g) g.world g.words (g.call.site.base + room (body_of g)) slots (params_in c.body.own.all))
+    (gave : Gave x.table m (sites_of g) g.ground g.world g.words (g.call.site.base + room (body_of g)) slots (params_in c.body.own.all))
     (left : ℕ) (e : g.call.site.left ≡ suc left) (to : ℕ)
     (answers : Answers x.table x.blocks c.body (record { call = g.call; rest = rest; to = to; proc = proc }))
     (good_m : MemoryGood x.table x.blocks (sites_then x g line rest y c m slots gave left e) x.first m)

@@ -21,19 +21,20 @@ use Rattle.word_lowering.proofs.RoutineCalls.{awaiting}
 use Rattle.word_lowering.proofs.Clears.{gets_cleared}
 use Rattle.word_lowering.proofs.Gets.{Gets, SameTemps, good_place, gets_moved, good_value, same_temps}
 use Rattle.word_lowering.proofs.InMemory.{AllZero, blank_zero, bytes_some}
-use Rattle.word_lowering.proofs.Lines.{reaches, Basis, IsGood, all_procs, all_sites, changed, data_there, stands_next, starts, Settles, goes_on, known}
+use Rattle.word_lowering.proofs.Lines.{reaches, Basis, IsGood, all_procs, all_sites, changed, changed_later, data_there, stands_next, starts, Settles, goes_on}
+use Rattle.word_lowering.proofs.Lines.{known}
 use Rattle.word_lowering.proofs.Lines.{bound_for}
 use Rattle.word_lowering.proofs.Lines.{mapped_settles, where_there}
-use Rattle.word_lowering.proofs.Located.{place_located}
+use Rattle.word_lowering.proofs.Located.{full_there, owned_readable}
 use Rattle.word_lowering.proofs.MovedLines.{own_plain}
 use Rattle.word_lowering.proofs.Moves.{ToMemory, is_single, zero_to_memory, zeros_to_memory}
 use Rattle.word_lowering.proofs.OutPlaces.{Written, far_written, own_written, written_at}
-use Rattle.word_lowering.proofs.ReadFacts.{each_call, read_location, standing_full}
-use Rattle.word_lowering.proofs.Related.{routines, Both, body_of, within, high, store_of}
-use Rattle.word_lowering.proofs.Scenes.{Points, house, looked, of_place, of_location, of_value}
-use Rattle.word_lowering.proofs.ShapeFacts.{bytes_is, never, values_of_numbers}
-use Rattle.word_lowering.proofs.Sources.{Lying, lying_area, lying_near, more_steps}
-use Rattle.word_lowering.proofs.Stores.{good_stored}
+use Rattle.word_lowering.proofs.ReadFacts.{read_location}
+use Rattle.word_lowering.proofs.Related.{routines, Both, body_of, within, high}
+use Rattle.word_lowering.proofs.Scenes.{Ground, Points, house, looked, of_place, of_location, of_value}
+use Rattle.word_lowering.proofs.ShapeFacts.{bytes_is, never, of_numbers, values_of_numbers}
+use Rattle.word_lowering.proofs.Sources.{Readable, more_steps}
+use Rattle.word_lowering.proofs.Stores.{good_written, ground_then}
 use Rattle.flat_code.specs.Fits.{if_kind, is_location, is_standing, place_named}
 use Rattle.flat_code.specs.Lines.{gives}
 use Rattle.flat_code.specs.Running.{scene_of}
@@ -69,40 +70,41 @@ module _ (x : Basis) (g : Both) (line : BlockLine) (rest : List BlockLine) (y : 
     pub few : steps ≤ 9 + bytes d
     pub runs : Runs x.live (all_procs x) steps (at (within x.table x.blocks g) g.memory (clears h k) g.call.vars g.words)
         (at (awaiting (within x.table x.blocks g) awaits) memory k vars words)
-    pub good : IsGood x (changed g rest temps vars memory words awaits (store g.world l d))
+    pub ground : Ground
+    pub good : IsGood x (changed_later g rest temps vars memory words awaits (store g.world l d) ground g.input)
 
-  module _ (h : Housed) (l : Location) (s : Shape) (d : Value) (shaped : has_shape d s ≡ true) (zero_value : AllZero d)
+  module _ (h : Housed) (l : Location) (s : Shape) (numbers : of_numbers s ≡ true) (live : is_there g.world l ≡ true) (d : Value)
+      (shaped : has_shape d s ≡ true) (zero_value : AllZero d)
       (word_is : h.is_word ≡ is_single d) (size_is : h.bytes ≡ bytes d) (temps : Temps) (same : SameTemps x g line rest y temps) (k : List WordInstr) where
     -- zeros at an address
-    zeros_at : (home : Home) (a : ℕ) → Points g.call.site.base g.call.vars home a → Lying x (all_sites x g line rest y) y.linked a (bytes d)
+    zeros_at : (home : Home) (a : ℕ) → Points g.call.site.base g.call.vars home a → Readable x (all_sites x g line rest y) y.linked g.memory a (bytes d)
         → ToMemory x.law x.live (all_procs x) (within x.table x.blocks g) refl g.words g.memory (cleared (is_single d) (bytes d) (Lies home) k) g.call.vars a
         d (9 + bytes d) k
     zeros_at = by d zero_value
       where
         by : (d : Value) → AllZero d → (home : Home) (a : ℕ) → Points g.call.site.base g.call.vars home a
-            → Lying x (all_sites x g line rest y) y.linked a (bytes d)
+            → Readable x (all_sites x g line rest y) y.linked g.memory a (bytes d)
             → ToMemory x.law x.live (all_procs x) (within x.table x.blocks g) refl g.words g.memory (cleared (is_single d) (bytes d) (Lies home) k)
             g.call.vars a d (9 + bytes d) k
-        by (Number z) zero_value home a points lying =
-            let area = lying_area x (all_sites x g line rest y) y.linked g.memory a 4 y.memory lying 1 (omega arith) in
-            let near = lying_near x (all_sites x g line rest y) y.linked a 4 lying in
+        by (Number z) zero_value home a points range =
+            let area = range.area 1 (omega arith) in
+            let near = range.near in
             subst (λ u. ToMemory x.law x.live (all_procs x) (within x.table x.blocks g) refl g.words g.memory (cleared true 4 (Lies home) k) g.call.vars a
             (Number u) 13 k) (sym zero_value)
             (more_steps x (all_sites x g line rest y) y.linked (within x.table x.blocks g) refl g.words g.memory y.memory k g.call.vars
             (cleared true 4 (Lies home) k) a 4 13 (Number (pos 0)) (omega arith)
             (zero_to_memory x.law x.live (all_procs x) (within x.table x.blocks g) refl g.words g.memory y.memory.sized k g.call.vars home a points 4 area.0
             (omega (arith, near))))
-        by (Parts vs) zero_value home a points lying =
+        by (Parts vs) zero_value home a points range =
             zeros_to_memory x.law x.live (all_procs x) (within x.table x.blocks g) refl g.words g.memory y.memory.sized k g.call.vars home a points
             (routines x.table x.blocks) x.runtimes.others.statics (reaches x) (data_there x (all_sites x g line rest y) g.memory y.memory) vs zero_value
-            (lying_area x (all_sites x g line rest y) y.linked g.memory a (bytes (Parts vs)) y.memory lying)
-            (lying_near x (all_sites x g line rest y) y.linked a (bytes (Parts vs)) lying)
-        by (Handle n b) zero_value home a points lying = absurd zero_value
-        by (Fixed text) zero_value home a points lying = absurd zero_value
-        by (Ref object) zero_value home a points lying = absurd zero_value
-        by (Resource all n) zero_value home a points lying = absurd zero_value
-        by (Gone value final) zero_value home a points lying = absurd zero_value
-        by Vacant zero_value home a points lying = absurd zero_value
+            range.area range.near
+        by (Handle n b) zero_value home a points range = absurd zero_value
+        by (Fixed text) zero_value home a points range = absurd zero_value
+        by (Ref object) zero_value home a points range = absurd zero_value
+        by (Resource all n) zero_value home a points range = absurd zero_value
+        by (Gone value final) zero_value home a points range = absurd zero_value
+        by Vacant zero_value home a points range = absurd zero_value
 
     pub cleared_there : Written x g line rest y h l s → Cleared h l d temps k
     cleared_there (own_written n there own is look old slot l_is) =
@@ -119,15 +121,15 @@ module _ (x : Basis) (g : Both) (line : BlockLine) (rest : List BlockLine) (y : 
           some = get.some;
           few = get.few;
           runs = get.runs;
+          ground = g.ground;
           good = good_place x g line rest y n there own d rest (stands_next x.table x.blocks (body_of g) line rest y.stands) temps same
               (clears h k) k (9 + bytes d) shape plain_is get;
         })
     cleared_there (far_written home spot up a points f) =
         let sites = all_sites x g line rest y in
-        let was = place_located x sites y.linked (store_of g) g.world (each_call x g line rest y) l a s f in
-        let size : bytes (load g.world l) ≡ bytes d = bytes_is (load g.world l) s was.numbers was.shaped ∙ sym (bytes_is d s was.numbers shaped) in
-        let lying : Lying x sites y.linked a (bytes d) = subst (λ k. Lying x sites y.linked a k) size was.lying in
-        let r = zeros_at home a points lying in
+        let range : Readable x sites y.linked g.memory a (bytes d)
+        = subst (λ n. Readable x sites y.linked g.memory a n) (sym (bytes_is d s numbers shaped)) (owned_readable x (starts g line rest) y l a s f live) in
+        let r = zeros_at home a points range in
         let code : clears h k ≡ cleared (is_single d) (bytes d) (Lies home) k
         = ap₂ (λ b n. cleared b n (spot_of h) k) word_is size_is ∙ ap (λ p. cleared (is_single d) (bytes d) p k) spot in
         record {
@@ -140,8 +142,9 @@ module _ (x : Basis) (g : Both) (line : BlockLine) (rest : List BlockLine) (y : 
           few = r.few;
           runs = subst (λ c. Runs x.live (all_procs x) r.steps (at (within x.table x.blocks g) g.memory c g.call.vars g.words)
               (at (awaiting (within x.table x.blocks g) r.awaits) r.memory k r.vars r.words)) (sym code) r.runs;
-          good = good_stored x g line rest y l a s f d shaped r.memory r.changed r.there rest
-              (stands_next x.table x.blocks (body_of g) line rest y.stands) temps same r.vars r.words r.awaits r.same lying;
+          ground = ground_then x g line rest y l a s numbers live d shaped r.memory r.changed r.there f;
+          good = good_written x g line rest y l a s numbers live d shaped r.memory r.changed r.there f rest
+              (stands_next x.table x.blocks (body_of g) line rest y.stands) temps same r.vars r.words r.awaits r.same;
         }
 
 -- ---- the line
@@ -164,13 +167,13 @@ module _ (x : Basis) (labels : LabelsLead x) (g : Both) (rest : List BlockLine) 
     moved_out : (y : IsGood x (starts g moving rest)) (there : Where) → g.call.temps.places from ≡ Some there
         → value_type x g moving rest y to ≡ Some to_type → type_in x is_location (body_of g) from ≡ Some to_type
         → if_kind is_standing (place_named is_location (body_of g).proc.places from) ≡ true
+        → is_full_at g.world (location_at g.call.temps there) ≡ true
         → Settles x (starts g moving rest) rest (Passes (Answers [] (1 + (bytes start_value + 0))
         (with_value to g.call.temps (load g.world (location_at g.call.temps there))) (store g.world (location_at g.call.temps there) start_value)))
-    moved_out y there e typed from_typed may =
+    moved_out y there e typed from_typed may full =
         let t = target x g moving rest y to to_type refl refl typed in
         let p = pointed x g moving rest y from to_type from_typed in
-        let r = read_location x g moving rest y from there p.named e
-        (standing_full x g moving rest y from there p.named (y.linked.0.standing from may) e) in
+        let r = read_location x g moving rest y from there p.named e full in
         let v : Value = load g.world (location_at g.call.temps there) in
         let from_house : Housed = location (around x.table x.blocks (body_of g)) from in
         let next : List WordInstr = code_next x g moving rest y in
@@ -182,11 +185,15 @@ module _ (x : Basis) (labels : LabelsLead x) (g : Both) (rest : List BlockLine) 
         let y1 : IsGood x (starts g1 moving rest) = good_value x g moving rest y (moving ∷ rest) y.stands
         (moves (house g.call.site (of_value to)) from_house (clears from_house next)) (clears from_house next) to v (10 + 2 * bytes v) t.there look get in
         let w = written_at x g1 moving rest y1 from there p.named (y.linked.0.standing from may) e in
+        let live : is_there g.world w.location_is ≡ true
+        = subst (λ l. is_there g.world l ≡ true) (ap (location_at g.call.temps) w.is)
+        (full_there x (starts g moving rest) y (location_at g.call.temps there) full).0 in
         let size : bytes v ≡ bytes start_value = bytes_is v (shape_of (facts_in x.table) to_type) t.numbers v_shaped
         ∙ sym (bytes_is start_value (shape_of (facts_in x.table) to_type) t.numbers (x.defaults ty)) in
         let single : is_single v ≡ is_single start_value = single_is v (shape_of (facts_in x.table) to_type) t.numbers v_shaped
         ∙ sym (single_is start_value (shape_of (facts_in x.table) to_type) t.numbers (x.defaults ty)) in
-        let c = cleared_there x g1 moving rest y1 from_house w.location_is (looked x.table g.call.site (of_location from)) start_value
+        let c = cleared_there x g1 moving rest y1 from_house w.location_is (looked x.table g.call.site (of_location from))
+        (ap of_numbers p.look ∙ t.numbers) live start_value
         (subst (λ s. has_shape start_value s ≡ true) (sym p.look) (x.defaults ty))
         (blank_zero (form_of (facts_in x.table) to_type) t.unhooked) (r.read.word ∙ single) (r.read.size ∙ size) (with_value to g.call.temps v)
         (same_temps x g1 moving rest y1) next w.written in
@@ -194,7 +201,8 @@ module _ (x : Basis) (labels : LabelsLead x) (g : Both) (rest : List BlockLine) 
         subst (λ l. Settles x (starts g moving rest) rest (Passes (Answers [] (1 + (bytes start_value + 0)) (with_value to g.call.temps v)
         (store g.world l start_value)))) (sym (ap (location_at g.call.temps) w.is))
         (goes_on x (starts g moving rest)
-        (changed g1 rest (with_value to g.call.temps v) c.vars c.memory c.words c.awaits (store g.world w.location_is start_value)) rest c.good
+        (changed_later g1 rest (with_value to g.call.temps v) c.vars c.memory c.words c.awaits (store g.world w.location_is start_value) c.ground g.input)
+        rest c.good
         (get.steps + c.steps) (1 + (bytes start_value + 0)) (with_value to g.call.temps v) (store g.world w.location_is start_value)
         (then_runs x.live (all_procs x) get.runs c.runs) (let h = get.some in omega (arith, h))
         (let h = get.few in let i = c.few in omega (arith, h, i, size, some)) refl)
@@ -222,7 +230,7 @@ module _ (x : Basis) (labels : LabelsLead x) (g : Both) (rest : List BlockLine) 
         (λ b. gives (scene_of (high x.table x.blocks (starts g moving rest))) to (costs 1 (costs (bytes start_value)
         (unless_gone b (does (Stores (location_at g.call.temps there) start_value)) >> give (load g.world (location_at g.call.temps there))))
         >>= made_by false (bound_for g how))) (λ before. tt)
-        (λ h. moved_out y there e typed from_typed may.0))))
+        (λ h. moved_out y there e typed from_typed may.0 seen))))
 
   pub move_line : (ty : Option ℕ) (of : List (Option ℕ)) (from : List From) → RowHere x g rest to O.Move how ty of from
   move_line (Some ty) (a ∷ []) (F.Place from ∷ []) y = move_value ty a from y

@@ -4,7 +4,7 @@ use Rattle.std.proofs.lemmas.Bool.{cases_Bool}
 use Rattle.word_code.proofs.ForCallers.{at, Runs}
 use Rattle.word_lowering.proofs.RoutineCalls.{awaiting}
 use Rattle.nim_meaning.specs.Values.{Value, bytes, Location, Standing, Holds}
-use Rattle.nim_meaning.specs.State.{slot_at, load, store, with_slot}
+use Rattle.nim_meaning.specs.State.{is_there, slot_at, store, with_slot}
 use Rattle.nim_meaning.specs.Places.{place_at, root_of, through_slot}
 use Rattle.word_lowering.specs.LineCode.{location, named, place, Around, variable_in, variable_of}
 use Rattle.flat_code.specs.declared.block.BlockLine.{BlockLine}
@@ -23,21 +23,21 @@ use Rattle.nim_types.specs.Table.{facts_in}
 use Rattle.word_lowering.proofs.ControlLines.{plain}
 use Rattle.word_lowering.proofs.Gets.{Gets, SameTemps, gets_moved, good_place}
 use Rattle.word_lowering.proofs.Keeping.{declared_address, location_address, spot_address, spot_memory}
-use Rattle.word_lowering.proofs.Lines.{Basis, IsGood, Settles, all_procs, all_sites, changed, goes_on, stands_next, starts}
-use Rattle.word_lowering.proofs.Located.{place_located}
+use Rattle.word_lowering.proofs.Lines.{Basis, IsGood, Settles, all_procs, all_sites, changed, changed_later, goes_on, stands_next, starts}
+use Rattle.word_lowering.proofs.Located.{owned_readable}
 use Rattle.word_lowering.proofs.MovedLines.{own_plain}
 use Rattle.word_lowering.proofs.Moves.{IsHigh}
-use Rattle.word_lowering.proofs.ReadFacts.{Read, each_call, global_root, own_root}
-use Rattle.word_lowering.proofs.Related.{Both, body_of, within, store_of}
-use Rattle.word_lowering.proofs.Scenes.{Leads, IsOfPlace, OfPlace, of_a_place, Filled, FromPlace, IsAddressed, IsFilled, IsLedBy, IsNamed, IsRoot, IsThere}
+use Rattle.word_lowering.proofs.ReadFacts.{Read, global_root, own_root}
+use Rattle.word_lowering.proofs.Related.{Both, body_of, within}
+use Rattle.word_lowering.proofs.Scenes.{Leads, IsOwned, Owned, of_owned, Filled, FromOwned, FromPlace, IsAddressed, IsFilled, IsLedBy, IsNamed, IsRoot, IsThere}
 use Rattle.word_lowering.proofs.Scenes.{Name, Points, address_of}
 use Rattle.word_lowering.proofs.Scenes.{house, looked, of_location, of_place}
 use Rattle.word_lowering.proofs.Settling.{code_here, code_next}
-use Rattle.word_lowering.proofs.ShapeFacts.{bytes_is, never}
+use Rattle.word_lowering.proofs.ShapeFacts.{bytes_is, never, of_numbers}
 use Rattle.word_lowering.proofs.Sites.{Housing, InMemory, around, by_address, data_end, in_data, in_places, in_variable, room, type_of}
 use Rattle.word_lowering.proofs.SitesApart.{houses}
-use Rattle.word_lowering.proofs.Sources.{Lying, to_bytes_by}
-use Rattle.word_lowering.proofs.Stores.{good_stored}
+use Rattle.word_lowering.proofs.Sources.{Readable, separate_turned, to_range_by}
+use Rattle.word_lowering.proofs.Stores.{good_written, ground_then}
 use Rattle.word_lowering.proofs.ValueFacts.{has_type, look_of, place_there}
 use Rattle.word_lowering.specs.Spots.{moves, spot_of}
 use Rattle.word_lowering.specs.declared.homes.TheConstants.{OWN_FROM}
@@ -52,17 +52,18 @@ module _ (x : Basis) (g : Both) (line : BlockLine) (rest : List BlockLine) (y : 
   abbrev here : Around
   here = around x.table x.blocks (body_of g)
 
-  -- all of a place of the call, or a part of some place
+  -- all of a place of the call, or a part of some place or of an element in a block
   pub data Written (h : Housed) (l : Location) (s : Shape) : Type 0 where
     own_written : (n : ℕ) → IsThere g.call.site (of_place n) → is_own (house g.call.site (of_place n)).kind ≡ true
         → h ≡ house g.call.site (of_place n) → looked x.table g.call.site (of_place n) ≡ s
         → (old : Value) → slot_at g.world g.call.site.level n ≡ Some (Holds old) → l ≡ place_at g.call.site.level n → Written h l s
     far_written : (home : Home) → spot_of h ≡ Lies home → IsHigh home → (a : ℕ) → Points g.call.site.base g.call.vars home a
-        → FromPlace x.table (all_sites x g line rest y) g.world l a s → Written h l s
+        → FromOwned x.table (all_sites x g line rest y) g.ground g.world l a s → Written h l s
 
-  pub written_stands : {h : Housed} {l : Location} {s : Shape} → Written h l s → IsOfPlace l.base
-  written_stands (own_written n there own same look old slot at) = subst (λ k. IsOfPlace k.base) (sym at) tt
-  written_stands (far_written home spot high a points f) = subst IsOfPlace (sym f.base) tt
+  pub written_stands : {h : Housed} {l : Location} {s : Shape} → Written h l s → IsOwned l.base
+  written_stands (own_written n there own same look old slot at) = subst (λ k. IsOwned k.base) (sym at) tt
+  written_stands (far_written home spot high a points (inl f)) = subst IsOwned (sym f.base) tt
+  written_stands (far_written home spot high a points (inr f)) = subst IsOwned (sym f.base) tt
 
   -- what is in the variable of a place that has an address
   record AddressIn (f : Name) (a : ℕ) : Type 0 where
@@ -102,7 +103,7 @@ module _ (x : Basis) (g : Both) (line : BlockLine) (rest : List BlockLine) (y : 
           → Written (named here a (house g.call.site (of_location t))) l s → Written (location here t) l s
       as_location a l is w = subst (λ b. Written (named here b (house g.call.site (of_location t))) l s) (sym is) w
 
-      far_own : (is : (house g.call.site (of_location t)).alias ≡ alias.Own) (other : Where) → there ≡ other → OfPlace other
+      far_own : (is : (house g.call.site (of_location t)).alias ≡ alias.Own) (other : Where) → there ≡ other → Owned other
           → IsAddressed x.table x.blocks (all_sites x g line rest y) g.ground g.world g.call t there → WrittenAt t there
       far_own is (Within temp path) at_l of r = absurd of
       far_own is (Located l) at_l of r =
@@ -112,7 +113,7 @@ module _ (x : Basis) (g : Both) (line : BlockLine) (rest : List BlockLine) (y : 
             location_is = l;
             is = at_l;
             written = as_location alias.Own l is (far_written (Variable p.variable_is) p.spot p.high_is r.address p.points
-                (of_a_place x.table x.blocks of
+                (of_owned x.table x.blocks of
                 (subst (λ w. Leads x.table x.blocks (all_sites x g line rest y) g.ground g.world g.call.site g.call.temps w r.address s) at_l r.leads)));
           }
 
@@ -136,7 +137,7 @@ module _ (x : Basis) (g : Both) (line : BlockLine) (rest : List BlockLine) (y : 
             written = as_location (alias.Place p true) l is
                 (subst (λ h. Written h l s) same (far_written (house site0 (of_place p)).home
                 (spot_memory (house site0 (of_place p)) u.root.item.plain u.home) (high_in_memory (house site0 (of_place p)).home u.home) a points
-                (subst (λ k. FromPlace x.table (all_sites x g line rest y) g.world k a s) (sym own) (record {
+                (inl (subst (λ k. FromPlace x.table (all_sites x g line rest y) g.world k a s) (sym own) (record {
                   site = site0;
                   among = u.start.among;
                   number = p;
@@ -147,7 +148,7 @@ module _ (x : Basis) (g : Both) (line : BlockLine) (rest : List BlockLine) (y : 
                   offset = 0;
                   path = (refl, ap (shape_of (facts_in x.table)) u.global.typed);
                   address = omega arith;
-                }))));
+                })))));
           }
       by_place p false is r =
           let ty = y.linked.0.aliased t p false n is in
@@ -166,7 +167,7 @@ module _ (x : Basis) (g : Both) (line : BlockLine) (rest : List BlockLine) (y : 
           }
         where
           of_call : (p : ℕ) (l : Location) → IsThere g.call.site (of_place p) → looked x.table g.call.site (of_place p) ≡ s
-              → IsFilled x.table (all_sites x g line rest y) g.world g.call p → l ≡ root_of (Standing g.call.site.level p) g.world
+              → IsFilled x.table (all_sites x g line rest y) g.ground g.world g.call p → l ≡ root_of (Standing g.call.site.level p) g.world
               → (is_own (house g.call.site (of_place p)).kind ≡ true) ⊎ (is_own (house g.call.site (of_place p)).kind ≡ false)
               → Written (house g.call.site (of_place p)) l s
           of_call p l there_is look f root (inl own) =
@@ -177,8 +178,8 @@ module _ (x : Basis) (g : Both) (line : BlockLine) (rest : List BlockLine) (y : 
               let q = address_in (of_place p) v.address there_is (declared_address (house g.call.site (of_place p)).kind there_is.kind no_own) v.holds in
               let same : v.location ≡ l = sym (ap (through_slot (Standing g.call.site.level p)) v.slot) ∙ sym root in
               far_written (Variable q.variable_is) q.spot q.high_is v.address q.points
-              (subst (λ k. FromPlace x.table (all_sites x g line rest y) g.world l v.address k) look
-              (subst (λ k. FromPlace x.table (all_sites x g line rest y) g.world k v.address (looked x.table g.call.site (of_place p))) same v.leads))
+              (subst (λ k. FromOwned x.table (all_sites x g line rest y) g.ground g.world l v.address k) look
+              (subst (λ k. FromOwned x.table (all_sites x g line rest y) g.ground g.world k v.address (looked x.table g.call.site (of_place p))) same v.leads))
 
       by : (a : Alias) → (house g.call.site (of_location t)).alias ≡ a → IsLedBy x.table x.blocks a (all_sites x g line rest y) g.ground g.world g.call t there
           → WrittenAt t there
@@ -189,7 +190,8 @@ module _ (x : Basis) (g : Both) (line : BlockLine) (rest : List BlockLine) (y : 
 
   -- ---- a value is written
 
-  module _ (h : Housed) (l : Location) (s : Shape) (v : Value) (shaped : has_shape v s ≡ true) (from : Housed) (r : Read x g line rest y true from v)
+  module _ (h : Housed) (l : Location) (s : Shape) (numbers : of_numbers s ≡ true) (live : is_there g.world l ≡ true) (v : Value)
+      (shaped : has_shape v s ≡ true) (from : Housed) (r : Read x g line rest y true from v)
       (code : code_here x g line rest y ≡ moves h from (code_next x g line rest y)) (temps : Temps) (same : SameTemps x g line rest y temps) (work : ℕ)
       (le : 10 + 2 * bytes v ≤ 16 * work) where
     abbrev Stored : Type 0
@@ -208,18 +210,20 @@ module _ (x : Basis) (g : Both) (line : BlockLine) (rest : List BlockLine) (y : 
         (good_place x g line rest y n there own v rest (stands_next x.table x.blocks (body_of g) line rest y.stands) temps same
         (code_here x g line rest y) next (10 + 2 * bytes v) shape plain_is get)
         get.steps work temps (with_slot g.world g.call.site.level n (Some (Holds v))) get.runs get.some (let f = get.few in omega (arith, f, le)) refl)
-    stored_settles (far_written home spot high_is a points f) =
+    stored_settles (far_written home spot high a points f) =
         let sites = all_sites x g line rest y in
-        let was = place_located x sites y.linked (store_of g) g.world (each_call x g line rest y) l a s f in
-        let size : bytes (load g.world l) ≡ bytes v = bytes_is (load g.world l) s was.numbers was.shaped ∙ sym (bytes_is v s was.numbers shaped) in
-        let lying : Lying x sites y.linked a (bytes v) = subst (λ k. Lying x sites y.linked a k) size was.lying in
+        let range : Readable x sites y.linked g.memory a (bytes v)
+        = subst (λ k. Readable x sites y.linked g.memory a k) (sym (bytes_is v s numbers shaped))
+        (owned_readable x (starts g line rest) y l a s f live) in
         let next = code_next x g line rest y in
-        let put_there = to_bytes_by x sites y.linked (within x.table x.blocks g) refl g.words g.memory y.memory next g.call.vars h from v r.word r.size r.small
-        home spot a points lying true r.source (inr refl) in
+        let put_there = to_range_by x sites y.linked (within x.table x.blocks g) refl g.words g.memory y.memory next g.call.vars h from v r.word r.size r.small
+        home spot a points range true r.source
+        (λ b readable is_all. let w = is_all refl in separate_turned x sites y.linked b a (bytes v) (range.separate b w.0 w.1)) in
         goes_on x (starts g line rest)
-        (changed g rest temps put_there.vars put_there.memory put_there.words put_there.awaits (store g.world l v)) rest
-        (good_stored x g line rest y l a s f v shaped put_there.memory put_there.changed put_there.there rest
-        (stands_next x.table x.blocks (body_of g) line rest y.stands) temps same put_there.vars put_there.words put_there.awaits put_there.same lying)
+        (changed_later g rest temps put_there.vars put_there.memory put_there.words put_there.awaits (store g.world l v)
+        (ground_then x g line rest y l a s numbers live v shaped put_there.memory put_there.changed put_there.there f) g.input) rest
+        (good_written x g line rest y l a s numbers live v shaped put_there.memory put_there.changed put_there.there f rest
+        (stands_next x.table x.blocks (body_of g) line rest y.stands) temps same put_there.vars put_there.words put_there.awaits put_there.same)
         put_there.steps work temps (store g.world l v)
         (subst (λ k. Runs x.live (all_procs x) put_there.steps (at (within x.table x.blocks g) g.memory k g.call.vars g.words)
         (at (awaiting (within x.table x.blocks g) put_there.awaits) put_there.memory next put_there.vars put_there.words)) (sym code) put_there.runs)

@@ -31,9 +31,9 @@ use Rattle.word_lowering.proofs.OpRuns.{gives_sum}
 use Rattle.word_lowering.proofs.OperationRuns.{Given}
 use Rattle.word_lowering.proofs.OrdinalRuns.{but_one, put_here}
 use Rattle.word_lowering.proofs.OutPlaces.{written_at, written_stands}
-use Rattle.word_lowering.proofs.ReadFacts.{constant_near, place_near, value_near}
+use Rattle.word_lowering.proofs.ReadFacts.{constant_near, owned_near, value_near}
 use Rattle.word_lowering.proofs.Related.{Both, body_of, within, high}
-use Rattle.word_lowering.proofs.Scenes.{Ground, Leads, OfPlace, IsLedBy, IsNamed, IsThere, Points, house, looked, of_location, of_place, of_value}
+use Rattle.word_lowering.proofs.Scenes.{Ground, Leads, Owned, IsLedBy, IsNamed, IsThere, Points, house, looked, of_location, of_place, of_value}
 use Rattle.word_lowering.proofs.Settling.{code_here, code_next, LabelsLead}
 use Rattle.word_lowering.proofs.ShapeFacts.{never, shape_bytes, nth_shape, of_numbers}
 use Rattle.word_lowering.proofs.ShapePaths.{Step, path_on, shape_some, shapes_before, step_within}
@@ -128,7 +128,7 @@ module _ (x : Basis) (g : Both) (line : BlockLine) (rest : List BlockLine) (y : 
       → Leads x.table x.blocks (all_sites x g line rest y) g.ground g.world g.call.site g.call.temps there a t → a + shape_bytes t < 2 ^ 32
   leads_near (Located l) a t (inr (inr f)) = f.near
   leads_near (Located l) a t (inr (inl f)) = constant_near x l a t f
-  leads_near (Located l) a t (inl f) = place_near x (all_sites x g line rest y) y.linked (all_sites x g line rest y) g.world l a t (λ s i. i) f
+  leads_near (Located l) a t (inl f) = owned_near x (all_sites x g line rest y) y.linked g.ground g.world l a t (inl f)
   leads_near (Within from path) a t f = value_near x (all_sites x g line rest y) y.linked g.call.site g.call.temps from path a t (inl refl) f
 
   pub own_location : (t : ℕ) → IsThere g.call.site (of_location t)
@@ -157,7 +157,7 @@ module _ (x : Basis) (g : Both) (line : BlockLine) (rest : List BlockLine) (y : 
 
   -- a run that gives the address
   pub leads_settles : (t : ℕ) (there : Where) (a work : ℕ) → 1 ≤ work → IsThere g.call.site (of_location t)
-      → (is_standing (house g.call.site (of_location t)).kind ≡ true → OfPlace there)
+      → (is_standing (house g.call.site (of_location t)).kind ≡ true → Owned there)
       → Leads x.table x.blocks (all_sites x g line rest y) g.ground g.world g.call.site (with_place t g.call.temps there) there a
       (looked x.table g.call.site (of_location t))
       → Given x.live (all_procs x) (within x.table x.blocks g) g.memory g.words (code_here x g line rest y) g.call.vars (led_variable t) a
@@ -216,10 +216,10 @@ module _ (x : Basis) (g : Both) (line : BlockLine) (rest : List BlockLine) (y : 
   pub part_standing : (to from i : ℕ) (there : Where) → IsNamed g.call.site (of_location from) → g.call.temps.places from ≡ Some there
       → (is_standing (house g.call.site (of_location to)).kind ≡ true → is_standing (house g.call.site (of_location from)).kind ≡ true)
       → is_standing (house g.call.site (of_location to)).kind ≡ true
-      → OfPlace (deeper_in g.call.temps there i)
+      → Owned (deeper_in g.call.temps there i)
   part_standing to from i there n e as_base standing =
       let w = written_at x g line rest y from there n (as_base standing) e in
-      subst (λ t. OfPlace (deeper_in g.call.temps t i)) (sym w.is) (written_stands x g line rest y w.written)
+      subst (λ t. Owned (deeper_in g.call.temps t i)) (sym w.is) (written_stands x g line rest y w.written)
 
 -- ---- a field
 

@@ -5,14 +5,14 @@ use Rattle.std.proofs.lemmas.Bool.{cases_Bool}
 use Rattle.nim_types.specs.declared.types.TypeDef.{TypeDef}
 use Rattle.nim_types.specs.Types.{Ty}
 use Rattle.nim_types.specs.Table.{facts_in}
-use Rattle.nim_meaning.specs.Values.{Value, bytes, Standing, Location, Holds, Base, Waiting, InBlock, InHand, InException, Made}
-use Rattle.nim_meaning.specs.State.{World, held, load, slot_at, is_seen, is_full_at}
+use Rattle.nim_meaning.specs.Values.{Value, bytes, Standing, Location, Holds}
+use Rattle.nim_meaning.specs.State.{World, held, load, slot_at, is_full_at}
 use Rattle.nim_meaning.specs.Places.{place_at, through_slot, root_of}
 use Rattle.flat_code.specs.declared.block.BlockLine.{BlockLine}
 use Rattle.flat_code.specs.declared.code.Code.{Code}
-use Rattle.flat_code.specs.Scene.{known_in, Where, Located, Within, Temps, if_value, location_at}
-use Rattle.flat_code.specs.Shapes.{Shape, row, has_shape, shape_of}
-use Rattle.flat_code.specs.Fits.{is_own, is_standing, is_global, place_named, if_type_of}
+use Rattle.flat_code.specs.Scene.{known_in, Where, Located, Temps, if_value, location_at}
+use Rattle.flat_code.specs.Shapes.{Shape, has_shape, shape_of}
+use Rattle.flat_code.specs.Fits.{is_own, is_global, place_named, if_type_of}
 use Rattle.word_lowering.specs.declared.homes.Alias.{Alias}
 use Rattle.word_lowering.specs.declared.homes.Alias.TheVariants as alias
 use Rattle.word_lowering.specs.declared.homes.Home.TheVariants.{Variable, Static}
@@ -21,8 +21,7 @@ use Rattle.word_lowering.specs.declared.spots.Spot.TheVariants.{Lies}
 use Rattle.word_lowering.specs.declared.texts.TheConstants.{FIXED_BYTES}
 use Rattle.word_lowering.specs.Layouts.{is_address}
 use Rattle.word_lowering.specs.LineCode.{variable_in, variable_of, named, place, location}
-use Rattle.word_lowering.proofs.BlocksRead.{RowRead, row_parts, block_row}
-use Rattle.word_lowering.proofs.Scenes.{IsInBlock, IsOfPlace, OfPlace, FromBlock, Leads}
+use Rattle.word_lowering.proofs.Scenes.{FromOwned, Ground}
 use Rattle.word_lowering.proofs.InMemory.{IsAt, HasWords}
 use Rattle.word_lowering.proofs.ShapeFacts.{never, shape_bytes, of_numbers, bytes_is, values_of_numbers}
 use Rattle.word_lowering.proofs.ShapePaths.{path_within}
@@ -34,21 +33,16 @@ use Rattle.word_lowering.proofs.Scenes.{address_of, Name, of_value, of_location,
 use Rattle.word_lowering.proofs.Scenes.{FromPlace, FromConstant, standing_from, FromValue, IsRoot, IsInValue, IsLedBy, IsFilled, IsNumbers, HasValue}
 use Rattle.word_lowering.proofs.SitesApart.{houses, site_at}
 use Rattle.word_lowering.proofs.Keeping.{location_address, declared_address, spot_memory, spot_address, from_memory}
-use Rattle.word_lowering.proofs.Located.{IsReadAt, read_there, CallAt, call_at, RootAt, root_at, place_located, led_located}
+use Rattle.word_lowering.proofs.GoodLeads.{OwnHome, own_home}
+use Rattle.word_lowering.proofs.Located.{IsReadAt, owned_located, led_located}
 use Rattle.word_lowering.proofs.Sources.{Lying, lying_all, lying_near, lying_readable, Source, lies_at, item_source, size_is, word_is, small_word}
-use Rattle.word_lowering.proofs.Related.{Both, IsClosed, body_of, called_by, calls_of, store_of}
+use Rattle.word_lowering.proofs.Related.{Both, IsClosed, body_of, called_by, store_of}
 use Rattle.word_lowering.proofs.PieceWords.{room_of, words_room, words_are}
 use Rattle.word_lowering.proofs.SmallWords.{AllSmall, small_words}
 use Rattle.flat_code.specs.Pieces.{value_of, piece_words}
 use Rattle.word_lowering.proofs.Lines.{Basis, starts, IsGood, all_sites}
 use Rattle.word_lowering.proofs.ValueFacts.{has_type, look_of, value_there, place_there, location_of_numbers, numbers_there}
 use Rattle.word_lowering.proofs.Items.{numbers_of}
-
-place_not_own : (p : ℕ) (global : Bool) → alias.Place p global ≡ alias.Own → ⊥
-place_not_own p global e = cc
-
-value_not_own : (u : ℕ) → alias.Value u ≡ alias.Own → ⊥
-value_not_own u e = cc
 
 module _ (x : Basis) where
   -- the address of a location is one of the machine's
@@ -69,8 +63,7 @@ module _ (x : Basis) where
       text_near b n (inr c) = omega (arith, c.1)
 
 module _ (x : Basis) (sites : List Site) (linked : Linked x.table x.blocks sites) where
-  -- the address of a location is one of the machine's
-  pub place_near : (from : List Site) (w : World) (location : Location) (a : ℕ) (t : Shape) → ((s : Site) → AmongSites s from → AmongSites s sites)
+  place_near : (from : List Site) (w : World) (location : Location) (a : ℕ) (t : Shape) → ((s : Site) → AmongSites s from → AmongSites s sites)
       → FromPlace x.table from w location a t → a + shape_bytes t < 2 ^ 32
   place_near from w location a t among f =
       let s = site_at x.table x.blocks sites f.site linked (among f.site f.among) in
@@ -81,6 +74,11 @@ module _ (x : Basis) (sites : List Site) (linked : Linked x.table x.blocks sites
       let within = path_within (looked x.table f.site (of_place f.number)) location.path f.offset t f.path in
       let e = f.address in
       omega (arith, near, within, e, size)
+
+  pub owned_near : (ground : Ground) (w : World) (location : Location) (a : ℕ) (t : Shape) → FromOwned x.table sites ground w location a t
+      → a + shape_bytes t < 2 ^ 32
+  owned_near ground w location a t (inl f) = place_near sites w location a t (λ s i. i) f
+  owned_near ground w location a t (inr f) = f.near
 
   pub value_near : (s : Site) (temps : Temps) (temp : ℕ) (path : List ℕ) (a : ℕ) (t : Shape) → AmongSites s sites
       → FromValue x.table s temps temp path a t → a + shape_bytes t < 2 ^ 32
@@ -166,9 +164,6 @@ module _ (x : Basis) (g : Both) (line : BlockLine) (rest : List BlockLine) (y : 
             (λ no_all. never no_all);
       }
 
-  pub each_call : (s : Site) → AmongSites s sites → CallAt x sites y.linked (store_of g) g.world s
-  each_call s i = call_at x sites y.linked (store_of g) g.world (calls_of g) s y.hold i
-
   -- ---- of declared places
 
   -- where it has a value of its own, and where it stands for a location
@@ -187,10 +182,11 @@ module _ (x : Basis) (g : Both) (line : BlockLine) (rest : List BlockLine) (y : 
     pub read : Read all (place (around x.table x.blocks (body_of g)) n global) (root_value level n)
 
   pub read_own : (n : ℕ) → IsThere g.call.site (of_place n) → Filled g.world g.call.site.level n
+      → is_full_at g.world (root_of (Standing g.call.site.level n) g.world) ≡ true
       → PlaceRead g.call.site.level n false (looked x.table g.call.site (of_place n))
-  read_own n there filled = by (cases_Bool (is_own (house g.call.site (of_place n)).kind))
+  read_own n there filled full = by (cases_Bool (is_own (house g.call.site (of_place n)).kind))
     where
-      f : IsFilled x.table (all_sites x g line rest y) g.world g.call n
+      f : IsFilled x.table (all_sites x g line rest y) g.ground g.world g.call n
       f = y.hold.0.filled n there filled
 
       owned : is_own (house g.call.site (of_place n)).kind ≡ true → PlaceRead g.call.site.level n false (looked x.table g.call.site (of_place n))
@@ -207,18 +203,16 @@ module _ (x : Basis) (g : Both) (line : BlockLine) (rest : List BlockLine) (y : 
       other : is_own (house g.call.site (of_place n)).kind ≡ false → PlaceRead g.call.site.level n false (looked x.table g.call.site (of_place n))
       other no_own =
           let s = f.other no_own in
-          let at = place_located x (all_sites x g line rest y) y.linked (store_of g) g.world each_call s.location s.address
-          (looked x.table g.call.site (of_place n)) s.leads in
-          let read = read_there x (all_sites x g line rest y) y.linked g.memory (load g.world s.location) s.address
-          (looked x.table g.call.site (of_place n)) y.memory at in
-          let same : load g.world s.location ≡ root_value g.call.site.level n
-          = sym (ap (λ o. load g.world (through_slot (Standing g.call.site.level n) o)) s.slot) in
+          let is : root_of (Standing g.call.site.level n) g.world ≡ s.location = ap (through_slot (Standing g.call.site.level n)) s.slot in
+          let at = owned_located x (starts g line rest) y s.location s.address (looked x.table g.call.site (of_place n)) s.leads
+          (numbers_there x g.call.site (of_place n) y.linked.0 there) (subst (λ l. is_full_at g.world l ≡ true) is full) in
+          let same : load g.world s.location ≡ root_value g.call.site.level n = ap (load g.world) (sym is) in
           record {
             shaped = subst (λ u. has_shape u (looked x.table g.call.site (of_place n)) ≡ true) same at.shaped;
             all = false;
             read = subst (λ u. Read false (house g.call.site (of_place n)) u) same
                 (read_address (of_place n) there (declared_address (house g.call.site (of_place n)).kind there.kind no_own) (load g.world s.location)
-                s.address s.holds read);
+                s.address s.holds at);
           }
 
       by : (is_own (house g.call.site (of_place n)).kind ≡ true) ⊎ (is_own (house g.call.site (of_place n)).kind ≡ false)
@@ -233,7 +227,8 @@ module _ (x : Basis) (g : Both) (line : BlockLine) (rest : List BlockLine) (y : 
     pub there : IsThere start.site (of_place n)
     pub home : InMemory (house start.site (of_place n)).home
     pub filled : Filled g.world start.site.level n
-    pub root : RootAt x sites y.linked g.memory g.world start.site n
+    pub root : OwnHome x (starts g line rest) y start.site n
+    pub item : IsNumbers x.table g.memory (record { site = start.site; temps = root.temps; vars = root.vars }) (of_place n) root.value
 
   pub global_root : (n : ℕ) (ty : Ty) → if_type_of (known_in x.table) (place_named is_global (globals_of x.table x.blocks) n) ≡ Some ty → Filled g.world 0 n
       → GlobalRoot n ty
@@ -243,13 +238,16 @@ module _ (x : Basis) (g : Both) (line : BlockLine) (rest : List BlockLine) (y : 
       let global = s.body.global s.start n ty is in
       let there : IsThere s.site (of_place n) = place_there x s.site n s.body global.there in
       let home : InMemory (house s.site (of_place n)).home = subst InMemory (sym global.home) tt in
+      let root = own_home x (starts g line rest) y s.site n s.among filled there home in
       record {
         start = s;
         global = global;
         there = there;
         home = home;
         filled = filled;
-        root = root_at x sites y.linked (store_of g) g.world s.site n s.among (each_call s.site s.among) filled there home;
+        root = root;
+        item = numbers_of x.table (store_of g) (record { site = s.site; temps = root.temps; vars = root.vars }) (of_place n) root.value
+            (numbers_there x s.site (of_place n) s.body there) root.item;
       }
 
   -- the same range, at an address in other words
@@ -269,7 +267,7 @@ module _ (x : Basis) (g : Both) (line : BlockLine) (rest : List BlockLine) (y : 
       → PlaceRead 0 n true (shape_of (facts_in x.table) ty)
   read_global n ty is h =
       let r = global_root n ty is h in
-      let item = r.root.item in
+      let item = r.item in
       let site0 = r.start.site in
       let c : Call = record { site = site0; temps = r.root.temps; vars = r.root.vars } in
       let v = r.root.value in
@@ -308,13 +306,9 @@ module _ (x : Basis) (g : Both) (line : BlockLine) (rest : List BlockLine) (y : 
   abbrev named_as : Alias → ℕ → Housed
   named_as a t = named (around x.table x.blocks (body_of g)) a (house g.call.site (of_location t))
 
-  -- where a location of its own leads into a block, all is there
-  abbrev pub IsFullThere : (t : ℕ) (there : Where) → Type 0
-  IsFullThere t there = (house g.call.site (of_location t)).alias ≡ alias.Own → IsInBlock (location_at g.call.temps there).base
-      → is_full_at g.world (location_at g.call.temps there) ≡ true
-
-  pub read_location : (t : ℕ) (there : Where) → IsNamed g.call.site (of_location t) → g.call.temps.places t ≡ Some there → IsFullThere t there
-      → LocationRead t there
+  -- where all of it is there
+  pub read_location : (t : ℕ) (there : Where) → IsNamed g.call.site (of_location t) → g.call.temps.places t ≡ Some there
+      → is_full_at g.world (location_at g.call.temps there) ≡ true → LocationRead t there
   read_location t there n e full = by (house g.call.site (of_location t)).alias refl (y.hold.0.led t there n e)
     where
       as_location : (a : Alias) (all : Bool) (v : Value) → (house g.call.site (of_location t)).alias ≡ a → Read all (named_as a t) v
@@ -349,7 +343,9 @@ module _ (x : Basis) (g : Both) (line : BlockLine) (rest : List BlockLine) (y : 
           let there_is = place_there x g.call.site p y.linked.0 typed.named in
           of_place_read p false g.call.site.level (looked x.table g.call.site (of_place p)) is
           (r.is ∙ ap (λ l. Located (root_of (Standing l p) g.world)) r.level)
-          (look_of x g.call.site (of_place p) (type_of x.table (house g.call.site (of_location t))) typed) (read_own p there_is filled)
+          (look_of x g.call.site (of_place p) (type_of x.table (house g.call.site (of_location t))) typed) (read_own p there_is filled
+          (subst (λ w. is_full_at g.world (location_at g.call.temps w) ≡ true)
+          (r.is ∙ ap (λ l. Located (root_of (Standing l p) g.world)) r.level) full))
 
       by_value : (u : ℕ) → (house g.call.site (of_location t)).alias ≡ alias.Value u → IsInValue x.table g.call u there → LocationRead t there
       by_value u is r =
@@ -372,8 +368,8 @@ module _ (x : Basis) (g : Both) (line : BlockLine) (rest : List BlockLine) (y : 
           → LocationRead t there
       by alias.Own is r =
           let there_is : IsThere g.call.site (of_location t) = record { among = n.among; number = n.number; kind = n.kind; own = is } in
-          let at = led_located x (all_sites x g line rest y) y.linked (store_of g) g.world each_call y.memory y.heap g.call (inl refl) y.hold.0.items there
-          r.address (looked x.table g.call.site (of_location t)) (location_of_numbers x g.call.site t y.linked.0 n) (full is) r.leads in
+          let at = led_located x (starts g line rest) y g.call (inl refl) (inl refl) there r.address (looked x.table g.call.site (of_location t))
+          (location_of_numbers x g.call.site t y.linked.0 n) full r.leads in
           record {
             shaped = at.shaped;
             all = false;
@@ -384,67 +380,3 @@ module _ (x : Basis) (g : Both) (line : BlockLine) (rest : List BlockLine) (y : 
       by (alias.Place p global) is r = by_place p global is r
       by (alias.Value u) is r = by_value u is r
       by (alias.Text behind size) is r = absurd r
-
-  -- an array there, which is seen where it is in a block
-  abbrev pub IsSeenThere : (t : ℕ) (there : Where) → Type 0
-  IsSeenThere t there = (house g.call.site (of_location t)).alias ≡ alias.Own → IsInBlock (location_at g.call.temps there).base
-      → is_seen g.world (location_at g.call.temps there) ≡ true
-
-  pub read_row : (t : ℕ) (there : Where) → IsNamed g.call.site (of_location t) → g.call.temps.places t ≡ Some there → (count : ℕ) (of : Shape)
-      → looked x.table g.call.site (of_location t) ≡ row count of → IsSeenThere t there → RowRead (located there) count
-  read_row t there n e count of look seen = by (house g.call.site (of_location t)).alias refl (y.hold.0.led t there n e)
-    where
-      shaped_row : IsFullThere t there → RowRead (located there) count
-      shaped_row full =
-          row_parts (located there) count of (subst (λ s. has_shape (located there) s ≡ true) look (read_location t there n e full).shaped)
-
-      own : (w : Where) → there ≡ w → (a : ℕ) → Leads x.table x.blocks (all_sites x g line rest y) g.ground g.world g.call.site g.call.temps w a
-          (looked x.table g.call.site (of_location t)) → (house g.call.site (of_location t)).alias ≡ alias.Own → RowRead (located there) count
-      own (Located l) same a (inl f) is =
-          shaped_row (λ o h. absurd (subst IsInBlock f.base (subst (λ u. IsInBlock (location_at g.call.temps u).base) same h)))
-      own (Located l) same a (inr (inl f)) is =
-          shaped_row (λ o h. absurd (subst IsInBlock f.base (subst (λ u. IsInBlock (location_at g.call.temps u).base) same h)))
-      own (Located l) same a (inr (inr f)) is =
-          let in_block : FromBlock x.table x.blocks g.ground l a (row count of) = subst (FromBlock x.table x.blocks g.ground l a) look f in
-          let there_seen : is_seen g.world l ≡ true
-          = subst (λ u. is_seen g.world (location_at g.call.temps u) ≡ true) same
-          (seen is (subst (λ u. IsInBlock (location_at g.call.temps u).base) (sym same) (subst IsInBlock (sym f.base) tt))) in
-          subst (λ u. RowRead (located u) count) (sym same)
-          (block_row (store_of g) g.world y.memory.sized y.heap l a count of
-          (record { block = in_block.block; base = in_block.base; leads = in_block.leads }) there_seen)
-      own (Within temp path) same a f is =
-          shaped_row (λ o h. absurd (subst (λ u. IsInBlock (location_at g.call.temps u).base) same h))
-
-      other : (a : Alias) → (house g.call.site (of_location t)).alias ≡ a → (a ≡ alias.Own → ⊥) → RowRead (located there) count
-      other a is not_own = shaped_row (λ o h. absurd (not_own (sym is ∙ o)))
-
-      by : (a : Alias) → (house g.call.site (of_location t)).alias ≡ a
-          → IsLedBy x.table x.blocks a (all_sites x g line rest y) g.ground g.world g.call t there → RowRead (located there) count
-      by alias.Own is r = own there refl r.address r.leads is
-      by (alias.Place p global) is r = other (alias.Place p global) is (place_not_own p global)
-      by (alias.Value u) is r = other (alias.Value u) is (value_not_own u)
-      by (alias.Text behind size) is r = absurd r
-
-  -- one that may be written leads into no block
-  pub standing_full : (t : ℕ) (there : Where) → IsNamed g.call.site (of_location t) → is_standing (house g.call.site (of_location t)).kind ≡ true
-      → g.call.temps.places t ≡ Some there → IsFullThere t there
-  standing_full t there n standing e own b = by (house g.call.site (of_location t)).alias own (y.hold.0.led t there n e)
-    where
-      of_place_base : (w : Where) → OfPlace w → IsInBlock (location_at g.call.temps w).base → ⊥
-      of_place_base (Located l) is b = no_both l.base is b
-        where
-          no_both : (base : Base) → IsOfPlace base → IsInBlock base → ⊥
-          no_both (Standing level number) is b = b
-          no_both (Waiting level node) is b = is
-          no_both (InBlock k) is b = is
-          no_both (InHand i) is b = is
-          no_both (InException i) is b = is
-          no_both (Made v) is b = is
-      of_place_base (Within u path) is b = is
-
-      by : (a : Alias) → a ≡ alias.Own → IsLedBy x.table x.blocks a (all_sites x g line rest y) g.ground g.world g.call t there
-          → is_full_at g.world (location_at g.call.temps there) ≡ true
-      by alias.Own o r = absurd (of_place_base there (r.standing standing) b)
-      by (alias.Place p global) o r = absurd (place_not_own p global o)
-      by (alias.Value u) o r = absurd (value_not_own u o)
-      by (alias.Text behind size) o r = absurd r

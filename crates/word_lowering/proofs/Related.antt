@@ -26,7 +26,7 @@ use Rattle.word_lowering.specs.declared.texts.TheConstants.{FIXED_BYTES}
 use Rattle.word_lowering.specs.declared.may_lower.TheConstants.{MOST_DATA}
 use Rattle.word_lowering.specs.Layouts.{result_in}
 use Rattle.word_lowering.specs.Spots.{spot_of}
-use Rattle.word_lowering.specs.LineCode.{lines_code, result_code, value, layout_at}
+use Rattle.word_lowering.specs.LineCode.{lines_code, behind_line, result_code, value, layout_at}
 use Rattle.word_lowering.specs.Lowered.{data_at, lowered, last_code, begin_code}
 use Rattle.word_lowering.proofs.Blocks.{HasHeap}
 use Rattle.word_lowering.proofs.Frames.{IsFrame}
@@ -96,6 +96,10 @@ module _ (table : List TypeDef) (blocks : Code BlockLine) where
 
   abbrev pub code_behind : Body → List BlockLine → List WordInstr
   code_behind b rest = lines_code (around table blocks b) (map block_plain rest) (code_last b)
+
+  -- what stands behind the code of a line, whose value may wait
+  abbrev pub code_past : Body → BlockLine → List BlockLine → List WordInstr
+  code_past b line rest = behind_line (around table blocks b) (block_plain line) (code_behind b rest)
 
   -- the variable that awaits the result of a call, and the lines that follow it
   abbrev pub awaits_in : Spot → ℕ

@@ -153,14 +153,22 @@ abbrev pub IsInBlock : Base → Type 0
 IsInBlock (InBlock block) = Unit {0}
 IsInBlock base = ⊥
 
--- in a place, and in no value, constant or block
-abbrev pub IsOfPlace : Base → Type 0
-IsOfPlace (Standing level number) = Unit {0}
-IsOfPlace base = ⊥
+-- in a place or a block, and in no value or constant
+abbrev pub IsOwned : Base → Type 0
+IsOwned (Standing level number) = Unit {0}
+IsOwned (InBlock block) = Unit {0}
+IsOwned base = ⊥
 
-abbrev pub OfPlace : Where → Type 0
-OfPlace (Located location) = IsOfPlace location.base
-OfPlace (Within temp path) = ⊥
+abbrev pub Owned : Where → Type 0
+Owned (Located location) = IsOwned location.base
+Owned (Within temp path) = ⊥
+
+-- An address is that of a location in a block; it is known while that stands.
+pub record FromBlock (ground : Ground) (location : Location) (a : ℕ) (t : Shape) : Type 0 where
+  pub block : ℕ
+  pub base : location.base ≡ InBlock block
+  pub leads : LeadsInBlock ground.blocks block location.path a t
+  pub near : a + shape_bytes t < 2 ^ 32
 
 module _ (table : List TypeDef) where
   abbrev pub looked : Site → Name → Shape
@@ -181,7 +189,7 @@ module _ (table : List TypeDef) where
     pub shaped : has_shape x (looked c.site name) ≡ true
     pub at : At m c.site.base c.vars (spot_of (house c.site name)) x
 
-  -- An address is that of a location: a part of a filled place of one of these calls, in memory. What is there looks so.
+  -- An address is that of a location: a part of a filled place of one of these calls, in memory.
   pub record FromPlace (sites : List Site) (w : World) (location : Location) (a : ℕ) (t : Shape) : Type 0 where
     pub site : Site
     pub among : AmongSites site sites
@@ -193,6 +201,10 @@ module _ (table : List TypeDef) where
     pub offset : ℕ
     pub path : PathTo (looked site (of_place number)) location.path offset t
     pub address : a ≡ address_of site.base (house site (of_place number)).home + offset
+
+  -- or of one in a block: of a part of something that is owned
+  abbrev pub FromOwned : (sites : List Site) → Ground → World → Location → (a : ℕ) → Shape → Type 0
+  FromOwned sites ground w location a t = FromPlace sites w location a t ⊎ FromBlock ground location a t
 
   -- the same of a part of a temporary's value
   pub record FromValue (s : Site) (temps : Temps) (temp : ℕ) (path : List ℕ) (a : ℕ) (t : Shape) : Type 0 where
@@ -224,16 +236,16 @@ module _ (table : List TypeDef) where
   -- ---- places
 
   -- a filled place: it has a value of its own, or stands for a location
-  pub record StandsFor (sites : List Site) (w : World) (c : Call) (n : ℕ) : Type 0 where
+  pub record StandsFor (sites : List Site) (ground : Ground) (w : World) (c : Call) (n : ℕ) : Type 0 where
     pub location : Location
     pub slot : slot_at w c.site.level n ≡ Some (Stands location)
     pub address : ℕ
     pub holds : c.vars (variable_of (house c.site (of_place n))) ≡ Some address
-    pub leads : FromPlace sites w location address (looked c.site (of_place n))
+    pub leads : FromOwned sites ground w location address (looked c.site (of_place n))
 
-  pub record IsFilled (sites : List Site) (w : World) (c : Call) (n : ℕ) : Type 0 where
+  pub record IsFilled (sites : List Site) (ground : Ground) (w : World) (c : Call) (n : ℕ) : Type 0 where
     pub own : is_own (house c.site (of_place n)).kind ≡ true → (x : Value) × (slot_at w c.site.level n ≡ Some (Holds x))
-    pub other : is_own (house c.site (of_place n)).kind ≡ false → StandsFor sites w c n
+    pub other : is_own (house c.site (of_place n)).kind ≡ false → StandsFor sites ground w c n
 
   module _ (blocks : Code BlockLine) where
     -- ---- constants that stand in the data
@@ -254,29 +266,27 @@ module _ (table : List TypeDef) where
       pub path : PathTo shape location.path offset t
       pub address : a ≡ standing_from pieces + offset
 
-    -- or in a block; the address is known while that stands
-    pub record FromBlock (ground : Ground) (location : Location) (a : ℕ) (t : Shape) : Type 0 where
-      pub block : ℕ
-      pub base : location.base ≡ InBlock block
-      pub leads : LeadsInBlock ground.blocks block location.path a t
-      pub near : a + shape_bytes t < 2 ^ 32
-
     abbrev pub Leads : (sites : List Site) → Ground → World → (s : Site) → Temps → Where → ℕ → Shape → Type 0
     Leads sites ground w s temps (Located location) a t = FromPlace sites w location a t ⊎ (FromConstant location a t ⊎ FromBlock ground location a t)
     Leads sites ground w s temps (Within temp path) a t = FromValue s temps temp path a t
 
-    pub of_a_place : {sites : List Site} {ground : Ground} {w : World} {location : Location} {a : ℕ} {t : Shape} → IsOfPlace location.base
-        → FromPlace sites w location a t ⊎ (FromConstant location a t ⊎ FromBlock ground location a t) → FromPlace sites w location a t
-    of_a_place is (inl f) = f
-    of_a_place is (inr (inl f)) = absurd (subst IsOfPlace f.base is)
-    of_a_place is (inr (inr f)) = absurd (subst IsOfPlace f.base is)
+    pub of_owned : {sites : List Site} {ground : Ground} {w : World} {location : Location} {a : ℕ} {t : Shape} → IsOwned location.base
+        → FromPlace sites w location a t ⊎ (FromConstant location a t ⊎ FromBlock ground location a t) → FromOwned sites ground w location a t
+    of_owned is (inl f) = inl f
+    of_owned is (inr (inl f)) = absurd (subst IsOwned f.base is)
+    of_owned is (inr (inr f)) = inr f
+
+    pub owned_leads : {sites : List Site} {ground : Ground} {w : World} {location : Location} {a : ℕ} {t : Shape} → FromOwned sites ground w location a t
+        → FromPlace sites w location a t ⊎ (FromConstant location a t ⊎ FromBlock ground location a t)
+    owned_leads (inl f) = inl f
+    owned_leads (inr f) = inr (inr f)
 
     -- ---- temporaries with locations
 
     -- with the address in a variable
     pub record IsAddressed (sites : List Site) (ground : Ground) (w : World) (c : Call) (temp : ℕ) (there : Where) : Type 0 where
-      -- one that may be written is of a place
-      pub standing : is_standing (house c.site (of_location temp)).kind ≡ true → OfPlace there
+      -- one that may be written is of something that is owned
+      pub standing : is_standing (house c.site (of_location temp)).kind ≡ true → Owned there
       pub address : ℕ
       pub holds : c.vars (variable_of (house c.site (of_location temp))) ≡ Some address
       pub leads : Leads sites ground w c.site c.temps there address (looked c.site (of_location temp))
@@ -297,7 +307,7 @@ module _ (table : List TypeDef) where
       pub texts : (t behind bytes : ℕ) (x : Value) → IsNamed c.site (of_value t) → (house c.site (of_value t)).alias ≡ alias.Text behind bytes
           → c.temps.values t ≡ Some x → IsLiteral c.site.body behind bytes x
       pub led : (t : ℕ) (there : Where) → IsNamed c.site (of_location t) → c.temps.places t ≡ Some there → IsLed sites k.ground w c t there
-      pub filled : (n : ℕ) → IsThere c.site (of_place n) → Filled w c.site.level n → IsFilled sites w c n
+      pub filled : (n : ℕ) → IsThere c.site (of_place n) → Filled w c.site.level n → IsFilled sites k.ground w c n
       pub left : c.site.body.start ≡ false → c.vars LEFT ≡ Some c.site.left
 
     abbrev pub AllHold : Store → World → List Call → Type 0

@@ -28,7 +28,7 @@ use Rattle.word_lowering.proofs.Lines.{stands_next, stays_on, changed, lower, st
 use Rattle.word_lowering.proofs.Moves.{all_same, same_more}
 use Rattle.word_lowering.proofs.OperationRuns.{Given, Led}
 use Rattle.word_lowering.proofs.OrdinalRuns.{AllSame, Leads}
-use Rattle.word_lowering.proofs.Related.{Both, with_units, StandAt, body_of, code_behind, high, low, within}
+use Rattle.word_lowering.proofs.Related.{Both, with_units, StandAt, body_of, code_behind, code_past, high, low, within}
 use Rattle.word_lowering.proofs.Scenes.{IsThere, of_value, house, looked}
 use Rattle.word_lowering.proofs.Sites.{is_one_word, word_of, around}
 use Rattle.word_lowering.proofs.ValueFacts.{good_word}
@@ -72,14 +72,14 @@ module _ (x : Basis) where
   abbrev pub OwnLabels : Type 0
   OwnLabels = (g : Both) (line : BlockLine) (rest : List BlockLine) → IsGood x (starts g line rest)
       → from_label (label_before (map block_plain rest)) (word_of x.table x.blocks (body_of g)).lines
-      ≡ from_label (label_before (map block_plain rest)) (code_of_line g line rest (code_behind x.table x.blocks (body_of g) rest))
+      ≡ from_label (label_before (map block_plain rest)) (code_of_line g line rest (code_past x.table x.blocks (body_of g) line rest))
 
   module _ (g : Both) (line : BlockLine) (rest : List BlockLine) (y : IsGood x (starts g line rest)) where
     abbrev pub code_here : List WordInstr
     code_here = code_behind x.table x.blocks (body_of g) (line ∷ rest)
 
     abbrev pub code_next : List WordInstr
-    code_next = code_behind x.table x.blocks (body_of g) rest
+    code_next = code_past x.table x.blocks (body_of g) line rest
 
     -- words for what comes between lead to other lines of the procedure
     abbrev pub Comes : List WordInstr → Type 0

@@ -36,7 +36,7 @@ nth_numbers (shapes s ss) zero t o e =
     subst (λ x. of_numbers x ≡ true) (some_same s t e) (and_parts (of_numbers s) (all_of_numbers ss) o).0
 nth_numbers (shapes s ss) (suc i) t o e = nth_numbers ss i t (and_parts (of_numbers s) (all_of_numbers ss) o).1 e
 
-step_numbers : (s : Shape) (i o : ℕ) (t : Shape) → of_numbers s ≡ true → Step s i o t → of_numbers t ≡ true
+pub step_numbers : (s : Shape) (i o : ℕ) (t : Shape) → of_numbers s ≡ true → Step s i o t → of_numbers t ≡ true
 step_numbers (number x) i o t n st = absurd st
 step_numbers reference i o t n st = absurd st
 step_numbers block i o t n st = absurd st

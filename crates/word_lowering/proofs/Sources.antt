@@ -62,7 +62,7 @@ module _ (x : Basis) (sites : List Site) (linked : Linked x.table x.blocks sites
       by (inl r) = inl (r.0, omega (arith, r.1, l.low), omega (arith, r.2, l.high))
       by (inr r) = inr (omega (arith, r.0, l.low), omega (arith, r.1, l.high))
 
-  lying_open : (a n : ℕ) → Lying a n → (b : ℕ) → a ≤ b → b + 4 ≤ a + n → IsOpen x.table x.blocks sites b
+  pub lying_open : (a n : ℕ) → Lying a n → (b : ℕ) → a ≤ b → b + 4 ≤ a + n → IsOpen x.table x.blocks sites b
   lying_open a n l b low high = by (lying_range a n l)
     where
       s : SiteAt x.table x.blocks sites l.site
@@ -145,7 +145,7 @@ module _ (x : Basis) (sites : List Site) (linked : Linked x.table x.blocks sites
   abbrev pub IsAll : (a n : ℕ) → Lying a n → Type 0
   IsAll a n l = (house l.site l.name).bytes ≡ n
 
-  -- ---- what may be read: within a place, or in a constant of the data
+  -- ---- what may be read: within a place, in a block, or in a constant of the data
 
   pub record Readable (m : Memory) (a n : ℕ) : Type 0 where
     pub area : IsArea m a n
@@ -291,45 +291,45 @@ module _ (x : Basis) (sites : List Site) (linked : Linked x.table x.blocks sites
     }
 
     module _ (home : Home) (a : ℕ) (points : Points c.base vars home a) where
-      held_to_memory : (v : Value) → HasWords v → Lying a (bytes v) → (u : ℕ) → MaySpot (Held u) v → vars u ≡ Some (single_word v)
+      held_to_memory : (v : Value) → HasWords v → Readable m a (bytes v) → (u : ℕ) → MaySpot (Held u) v → vars u ≡ Some (single_word v)
           → IntoMemory (moved (is_single v) (bytes v) (Lies home) (Held u) k) a v (10 + 2 * bytes v)
-      held_to_memory (Parts vs) small lying u may is = absurd may
-      held_to_memory (Handle n k) small lying u may is = absurd may
-      held_to_memory (Fixed t) small lying u may is = absurd may
-      held_to_memory (Ref r) small lying u may is = absurd may
-      held_to_memory (Resource vs i) small lying u may is = absurd may
-      held_to_memory (Gone v f) small lying u may is = absurd may
-      held_to_memory Vacant small lying u may is = absurd may
-      held_to_memory (Number z) small lying u may is =
-          let area = lying_area m a 4 good lying 1 (omega arith) in
-          let near = lying_near a 4 lying in
+      held_to_memory (Parts vs) small range u may is = absurd may
+      held_to_memory (Handle n k) small range u may is = absurd may
+      held_to_memory (Fixed t) small range u may is = absurd may
+      held_to_memory (Ref r) small range u may is = absurd may
+      held_to_memory (Resource vs i) small range u may is = absurd may
+      held_to_memory (Gone v f) small range u may is = absurd may
+      held_to_memory Vacant small range u may is = absurd may
+      held_to_memory (Number z) small range u may is =
+          let area = range.area 1 (omega arith) in
+          let near = range.near in
           more_steps (moved true 4 (Lies home) (Held u) k) a 4 18 (Number z) (omega arith)
           (number_to_memory x.law x.live (all_procs x) c from_first g m good.sized k vars home a points z small area.0 (omega (arith, near)) 4
           (Held u) may is)
 
-      lies_to_memory : (v : Value) → HasWords v → Lying a (bytes v) → (other : Home) → IsHigh other → (b : ℕ)
+      lies_to_memory : (v : Value) → HasWords v → Readable m a (bytes v) → (other : Home) → IsHigh other → (b : ℕ)
           → Points c.base vars other b → IsAt m b v
           → Readable m b (bytes v) → Separate a b (bytes v) → IntoMemory (moved (is_single v) (bytes v) (Lies home) (Lies other) k) a v
           (10 + 2 * bytes v)
-      lies_to_memory (Number z) small lying other high b points' at readable apart =
-          let area = lying_area m a 4 good lying 1 (omega arith) in
-          let near = lying_near a 4 lying in
+      lies_to_memory (Number z) small range other high b points' at readable apart =
+          let area = range.area 1 (omega arith) in
+          let near = range.near in
           more_steps (moved true 4 (Lies home) (Lies other) k) a 4 18 (Number z) (omega arith)
           (number_to_memory x.law x.live (all_procs x) c from_first g m good.sized k vars home a points z small area.0 (omega (arith, near)) 4
           (Lies other) high
           (b, points', at, readable.near, readable.area))
-      lies_to_memory (Parts vs) small lying other high b points' at readable apart =
+      lies_to_memory (Parts vs) small range other high b points' at readable apart =
           parts_to_memory x.law x.live (all_procs x) c from_first g m good.sized k vars home a points (routines x.table x.blocks) x.runtimes.others.statics
           (reaches x)
           (data_there x sites m good) vs small
-          (lying_area m a (bytes (Parts vs)) good lying) (lying_near a (bytes (Parts vs)) lying) other (high_behind other high)
+          range.area range.near other (high_behind other high)
           (b, points', at, readable.near, readable.area) apart
-      lies_to_memory (Handle n k) small lying other high b points' at readable apart = absurd at
-      lies_to_memory (Fixed t) small lying other high b points' at readable apart = absurd at
-      lies_to_memory (Ref r) small lying other high b points' at readable apart = absurd at
-      lies_to_memory (Resource vs i) small lying other high b points' at readable apart = absurd at
-      lies_to_memory (Gone v f) small lying other high b points' at readable apart = absurd at
-      lies_to_memory Vacant small lying other high b points' at readable apart = absurd at
+      lies_to_memory (Handle n k) small range other high b points' at readable apart = absurd at
+      lies_to_memory (Fixed t) small range other high b points' at readable apart = absurd at
+      lies_to_memory (Ref r) small range other high b points' at readable apart = absurd at
+      lies_to_memory (Resource vs i) small range other high b points' at readable apart = absurd at
+      lies_to_memory (Gone v f) small range other high b points' at readable apart = absurd at
+      lies_to_memory Vacant small range other high b points' at readable apart = absurd at
 
     module _ (to from : Housed) (v : Value) (word_from : from.is_word ≡ is_single v) (size_from : from.bytes ≡ bytes v)
         (small : HasWords v) where
@@ -353,17 +353,25 @@ module _ (x : Basis) (sites : List Site) (linked : Linked x.table x.blocks sites
           (subst (λ y. ToVariable x.law x.live (all_procs x) c from_first g m (moved (is_single v) (bytes v) (Held t) (spot_of from) k) vars t y k)
           (sym is) w)
 
+      -- to a range that is the source or apart from it
+      pub to_range_by : (home : Home) → spot_of to ≡ Lies home → (a : ℕ) → Points c.base vars home a → Readable m a (bytes v) → (all : Bool)
+          → Source m c.base vars all from v
+          → ((b : ℕ) → Readable m b (bytes v) → (all ≡ true → WholePlace b (bytes v)) → Separate a b (bytes v))
+          → IntoMemory (moves to from k) a v (10 + 2 * bytes v)
+      to_range_by home e a points range all (held_in u f may is) apart =
+          subst (λ l. IntoMemory l a v (10 + 2 * bytes v)) (sym (code_is (Lies home) (Held u) e f)) (held_to_memory home a points v small range u may is)
+      to_range_by home e a points range all (lies_at other f high b points' at readable is_all) apart =
+          subst (λ l. IntoMemory l a v (10 + 2 * bytes v)) (sym (code_is (Lies home) (Lies other) e f))
+          (lies_to_memory home a points v small range other high b points' at readable (apart b readable is_all))
+
       pub to_bytes_by : (home : Home) → spot_of to ≡ Lies home → (a : ℕ) → Points c.base vars home a → (lying : Lying a (bytes v)) → (all : Bool)
           → Source m c.base vars all from v → (IsAll a (bytes v) lying ⊎ (all ≡ true)) → IntoMemory (moves to from k) a v (10 + 2 * bytes v)
-      to_bytes_by home e a points lying all (held_in u f may is) apart =
-          subst (λ l. IntoMemory l a v (10 + 2 * bytes v)) (sym (code_is (Lies home) (Held u) e f)) (held_to_memory home a points v small lying u may is)
-      to_bytes_by home e a points lying all (lies_at other f high b points' at readable is_all) apart =
-          subst (λ l. IntoMemory l a v (10 + 2 * bytes v)) (sym (code_is (Lies home) (Lies other) e f))
-          (lies_to_memory home a points v small lying other high b points' at readable (by apart))
+      to_bytes_by home e a points lying all source apart =
+          to_range_by home e a points (lying_readable m a (bytes v) good lying) all source (λ b readable is_all. by b readable is_all apart)
         where
-          by : (IsAll a (bytes v) lying ⊎ (all ≡ true)) → Separate a b (bytes v)
-          by (inl h) = readable.separate a lying h
-          by (inr h) = let w = is_all h in separate_turned b a (bytes v) (whole_separate b a (bytes v) w.0 lying w.1)
+          by : (b : ℕ) → Readable m b (bytes v) → (all ≡ true → WholePlace b (bytes v)) → (IsAll a (bytes v) lying ⊎ (all ≡ true)) → Separate a b (bytes v)
+          by b readable is_all (inl h) = readable.separate a lying h
+          by b readable is_all (inr h) = let w = is_all h in separate_turned b a (bytes v) (whole_separate b a (bytes v) w.0 lying w.1)
 
       pub number_of_single : (w : Value) → is_single w ≡ true → (z : ℤ) × (w ≡ Number z)
       number_of_single w h = single_number w h

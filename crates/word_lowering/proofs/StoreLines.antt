@@ -101,7 +101,7 @@ module _ (x : Basis) (labels : LabelsLead x) (g : Both) (rest : List BlockLine) 
         (where_there x (starts g assign rest) rest (is_there g.world s.at)
         (λ b. gives (scene_of (high x.table x.blocks (starts g assign rest))) to
         (costs 1 (costs (bytes z) (unless_gone b (does (Stores s.at z)) >> give nothing)) >>= made_by false (bound_for g how))) (λ before. tt)
-        (λ seen. stored_settles x g assign rest y (location (around x.table x.blocks (body_of g)) at) s.at (shape_of (facts_in x.table) w.ty) z r.1
+        (λ seen. stored_settles x g assign rest y (location (around x.table x.blocks (body_of g)) at) s.at (shape_of (facts_in x.table) w.ty) s.numbers seen z r.1
         (house g.call.site (of_value from)) r.0.read refl (with_value to g.call.temps nothing) (none_temps x g assign rest y to none)
         (1 + (bytes z + 0)) (omega arith) s.written))))
 

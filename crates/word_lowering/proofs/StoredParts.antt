@@ -1,6 +1,6 @@
--- Parts of what is stored: where they are, and what it does to put another value there.
-use Rattle.std.proofs.Common.{◌≡◌, ℕ, zero, suc, ◌+◌, ◌*◌, ◌%◌, ◌<◌, ◌≤◌, inl, inr, List, [], ◌∷◌, Some, Ok, refl, sym, ap, subst, ◌∙◌, arith}
-use Rattle.nim_meaning.specs.Values.{Value, Parts, Vacant, Values, Nil, More, count, parts_of, nth, with_nth, nth_part}
+-- Parts of what is stored: where they are, and what it does to put another value there. Of what is vacant each part is vacant, and it stays so.
+use Rattle.std.proofs.Common.{◌≡◌, ℕ, zero, suc, ◌+◌, ◌*◌, ◌%◌, ◌<◌, ◌≤◌, inl, inr, List, [], ◌∷◌, Some, Ok, true, refl, sym, ap, subst, ◌∙◌, arith}
+use Rattle.nim_meaning.specs.Values.{Value, Parts, Vacant, Values, Nil, More, count, nth, with_nth, nth_part}
 use Rattle.nim_meaning.specs.Values.{part, with_part, put_part}
 use Rattle.flat_code.specs.Shapes.{Shape, number, reference, block, elements, row, parts, resource, Shapes, no_shapes, shapes}
 use Rattle.rv32_isa.specs.declared.micro_op.Size.TheVariants.{Word}
@@ -8,16 +8,21 @@ use Rattle.word_code.specs.Memory.{Memory, number_at}
 use Rattle.word_code.proofs.ForCallers.{at_same, Apart}
 use Rattle.word_lowering.proofs.InMemory.{Carries, or_word_least}
 use Rattle.word_lowering.proofs.Options.{none_some, some_same}
-use Rattle.word_lowering.proofs.PartsInMemory.{InPath}
-use Rattle.word_lowering.proofs.ShapeFacts.{nth_shape, shape_bytes, shapes_bytes}
-use Rattle.word_lowering.proofs.ShapePaths.{shapes_before, Step, PathTo, step_within, path_within}
-use Rattle.word_lowering.proofs.Blocks.{Blocks, AreLater, Stored, AreStored, PartsStored}
+use Rattle.word_lowering.proofs.ShapeFacts.{nth_shape, of_numbers, shape_bytes, shapes_bytes}
+use Rattle.word_lowering.proofs.ShapePaths.{shapes_before, Step, PathTo, step_numbers, step_within, path_within}
+use Rattle.word_lowering.proofs.Blocks.{Blocks, AreLater, MayBeVacant, Stored, AreStored, PartsStored}
 use Rattle.word_lowering.proofs.StoredLater.{shape_whole, times_whole, stored_kept, all_kept, parts_kept}
 
 count_same : (vs : Values) (i : ℕ) (new : Value) → count (with_nth vs i new) ≡ count vs
 count_same Nil i new = refl
 count_same (More v vs) zero new = refl
 count_same (More v vs) (suc i) new = ap suc (count_same vs i new)
+
+-- what is made of numbers may be vacant
+may_be_vacant : (t : Shape) → of_numbers t ≡ true → MayBeVacant t
+may_be_vacant (row n s) numbers = numbers
+may_be_vacant (parts ss) numbers = numbers
+may_be_vacant t numbers = tt
 
 -- ---- a part begins with a word
 
@@ -66,28 +71,27 @@ module _ (StandsFixed : (place : ℕ) → List ℕ → Type 0) where
         moved_to d m (a + shape_bytes s + shapes_before ss i) (a + (shape_bytes s + shapes_before ss i)) t (nth vs i) (omega arith)
         (field_part (a + shape_bytes s) ss vs i t is at.1)
 
-    pub step_part : (a : ℕ) (s : Shape) (v : Value) (i o : ℕ) (t : Shape) → Step s i o t → i < count (parts_of v) → Here d m a s v
-        → Here d m (a + o) t (nth_part v i)
-    step_part a (row n s) (Parts vs) i o t step less at =
+    pub step_part : (a : ℕ) (s : Shape) (v : Value) (i o : ℕ) (t : Shape) → Step s i o t → Here d m a s v → Here d m (a + o) t (nth_part v i)
+    step_part a (row n s) (Parts vs) i o t step at =
         subst (λ x. Here d m (a + o) x (nth vs i)) step.2
-        (moved_to d m (a + i * shape_bytes s) (a + o) s (nth vs i) (ap (λ n. a + n) (sym step.1)) (row_part a s vs i less at.1))
-    step_part a (parts ss) (Parts vs) i o t step less at =
+        (moved_to d m (a + i * shape_bytes s) (a + o) s (nth vs i) (ap (λ n. a + n) (sym step.1))
+        (row_part a s vs i (let less = step.0 in let e = at.0 in omega (arith, less, e)) at.1))
+    step_part a (parts ss) (Parts vs) i o t step at =
         moved_to d m (a + shapes_before ss i) (a + o) t (nth vs i) (ap (λ n. a + n) (sym step.1)) (field_part a ss vs i t step.0 at)
-    step_part a (row n s) Vacant i o t step less at = absurd (omega (arith, less))
-    step_part a (parts ss) Vacant i o t step less at = absurd (omega (arith, less))
-    step_part a (row n s) v i o t step less at = absurd at
-    step_part a (parts ss) v i o t step less at = absurd at
-    step_part a s v i o t step less at = absurd step
+    step_part a (row n s) Vacant i o t step at = may_be_vacant t (step_numbers (row n s) i o t at step)
+    step_part a (parts ss) Vacant i o t step at = may_be_vacant t (step_numbers (parts ss) i o t at step)
+    step_part a (row n s) v i o t step at = absurd at
+    step_part a (parts ss) v i o t step at = absurd at
+    step_part a s v i o t step at = absurd step
 
-    pub path_part : (a : ℕ) (s : Shape) (v : Value) (path : List ℕ) (o : ℕ) (t : Shape) → PathTo s path o t → InPath v path → Here d m a s v
+    pub path_part : (a : ℕ) (s : Shape) (v : Value) (path : List ℕ) (o : ℕ) (t : Shape) → PathTo s path o t → Here d m a s v
         → Here d m (a + o) t (part v path)
-    path_part a s v [] o t way inside at =
-        subst (λ x. Here d m (a + o) x v) way.1 (moved_to d m a (a + o) s v (let e = way.0 in omega (arith, e)) at)
-    path_part a s v (i ∷ path) o t way inside at =
+    path_part a s v [] o t way at = subst (λ x. Here d m (a + o) x v) way.1 (moved_to d m a (a + o) s v (let e = way.0 in omega (arith, e)) at)
+    path_part a s v (i ∷ path) o t way at =
         let first : ℕ = way.1 in let rest : ℕ = way.2 in
         let e = way.5 in
         moved_to d m (a + first + rest) (a + o) t (part (nth_part v i) path) (omega (arith, e))
-        (path_part (a + first) way.0 (nth_part v i) path rest t way.4 inside.1 (step_part a s v i first way.0 way.3 inside.0 at))
+        (path_part (a + first) way.0 (nth_part v i) path rest t way.4 (step_part a s v i first way.0 way.3 at))
 
   -- ---- another value in place of a part
 
@@ -171,9 +175,9 @@ module _ (StandsFixed : (place : ℕ) → List ℕ → Type 0) where
               (moved_to later other (a + (shape_bytes s + shapes_before ss i)) (a + shape_bytes s + shapes_before ss i) t new at_i there),
         )
 
-    step_put : (a : ℕ) (s : Shape) (v : Value) (i o : ℕ) (t : Shape) (new : Value) → Step s i o t → i < count (parts_of v) → Here d m a s v
+    step_put : (a : ℕ) (s : Shape) (v : Value) (i o : ℕ) (t : Shape) (new : Value) → Step s i o t → Here d m a s v
         → Spares a (shape_bytes s) (a + o) (shape_bytes t) → Then (a + o) t new → Then a s (with_part v i new)
-    step_put a (row n s) (Parts vs) i o t new step less at same there =
+    step_put a (row n s) (Parts vs) i o t new step at same there =
         let e = step.1 in let f = ap shape_bytes step.2 in
         let there_too : Then (a + i * shape_bytes s) s new = moved_to later other (a + o) (a + i * shape_bytes s) s new (omega (arith, e))
         (subst (λ x. Then (a + o) x new) (sym step.2) there) in (
@@ -182,34 +186,34 @@ module _ (StandsFixed : (place : ℕ) → List ℕ → Type 0) where
               (wider a (n * shape_bytes s) (a + o) (shape_bytes t) (a + i * shape_bytes s) (shape_bytes s) (omega (arith, e)) (omega (arith, e, f))
               (λ p w within. same p w (omega (arith, or_word_least (n * shape_bytes s), within)))) there_too,
         )
-    step_put a (parts ss) (Parts vs) i o t new step less at same there =
+    step_put a (parts ss) (Parts vs) i o t new step at same there =
         let e = step.1 in
         field_put a ss vs i t new step.0 at
         (wider a (shapes_bytes ss) (a + o) (shape_bytes t) (a + shapes_before ss i) (shape_bytes t) (omega (arith, e)) (omega (arith, e))
         (λ p w within. same p w (omega (arith, or_word_least (shapes_bytes ss), within))))
         (moved_to later other (a + o) (a + shapes_before ss i) t new (omega (arith, e)) there)
-    step_put a (row n s) Vacant i o t new step less at same there = absurd (omega (arith, less))
-    step_put a (parts ss) Vacant i o t new step less at same there = absurd (omega (arith, less))
-    step_put a (row n s) v i o t new step less at same there = absurd at
-    step_put a (parts ss) v i o t new step less at same there = absurd at
-    step_put a s v i o t new step less at same there = absurd step
+    step_put a (row n s) Vacant i o t new step at same there = at
+    step_put a (parts ss) Vacant i o t new step at same there = at
+    step_put a (row n s) v i o t new step at same there = absurd at
+    step_put a (parts ss) v i o t new step at same there = absurd at
+    step_put a s v i o t new step at same there = absurd step
 
     -- a value with another part, where only the part's words are others
-    pub path_put : (a : ℕ) (s : Shape) (v : Value) (path : List ℕ) (o : ℕ) (t : Shape) (new : Value) → PathTo s path o t → InPath v path → Here d m a s v
+    pub path_put : (a : ℕ) (s : Shape) (v : Value) (path : List ℕ) (o : ℕ) (t : Shape) (new : Value) → PathTo s path o t → Here d m a s v
         → Spares a (shape_bytes s) (a + o) (shape_bytes t) → Then (a + o) t new → Then a s (put_part v path new)
-    path_put a s v [] o t new way inside at same there =
+    path_put a s v [] o t new way at same there =
         subst (λ x. Then a x new) (sym way.1) (moved_to later other (a + o) a t new (let e = way.0 in omega (arith, e)) there)
-    path_put a s v (i ∷ path) o t new way inside at same there =
+    path_put a s v (i ∷ path) o t new way at same there =
         let first : ℕ = way.1 in let rest : ℕ = way.2 in let sub : Value = nth_part v i in
         let e = way.5 in
         let in_step = step_within s i first way.0 way.3 in
         let in_rest = path_within way.0 path rest t way.4 in
         let is : a + o ≡ a + first + rest = omega (arith, e) in
-        let part_at = step_part d m a s v i first way.0 way.3 inside.0 at in
+        let part_at = step_part d m a s v i first way.0 way.3 at in
         let here : Spares (a + first) (shape_bytes way.0) (a + first + rest) (shape_bytes t)
         = subst (λ x. Spares (a + first) (shape_bytes way.0) x (shape_bytes t)) is
         (inner a (shape_bytes s) first (shape_bytes way.0) (a + o) (shape_bytes t) (step_whole s i first way.0 way.3) in_step same) in
-        let made = path_put (a + first) way.0 sub path rest t new way.4 inside.1 part_at here
+        let made = path_put (a + first) way.0 sub path rest t new way.4 part_at here
         (moved_to later other (a + o) (a + first + rest) t new is there) in
-        step_put a s v i first way.0 (put_part sub path new) way.3 inside.0 at
+        step_put a s v i first way.0 (put_part sub path new) way.3 at
         (wider a (shape_bytes s) (a + o) (shape_bytes t) (a + first) (shape_bytes way.0) (omega (arith, e)) (omega (arith, e, in_rest)) same) made

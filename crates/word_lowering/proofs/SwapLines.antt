@@ -1,8 +1,8 @@
 -- Values at two locations trade places: what the line does is followed.
-use Rattle.std.proofs.Common.{◌≡◌, ◌≢◌, ◌⊎◌, inl, inr, ℕ, suc, ◌+◌, ◌*◌, ◌≤◌, List, [], ◌∷◌, Option, Some, None, Bool, true, false}
+use Rattle.std.proofs.Common.{◌≡◌, ◌≢◌, ◌⊎◌, inl, inr, ℕ, suc, ◌+◌, ◌-◌, ◌*◌, ◌%◌, ◌≤◌, List, [], ◌∷◌, length, Option, Some, None, Bool, true, false}
 use Rattle.std.proofs.Common.{refl, sym, ap, ap₂, subst, ◌∙◌, arith}
 use Rattle.std.proofs.lemmas.Bool.{and_parts, eq-eqb}
-use Rattle.std.specs.Prelude.{option_map, nat_eq, ◌&&◌, ◌||◌}
+use Rattle.std.specs.Prelude.{option_map, nat_eq, ◌==◌, ◌&&◌, ◌||◌}
 use Rattle.nim_types.specs.Types.{Ty}
 use Rattle.nim_types.specs.Table.{facts_in}
 use Rattle.nim_program.specs.declared.operation.Operation.TheVariants as O
@@ -25,52 +25,58 @@ use Rattle.flat_code.specs.Running.{scene_of}
 use Rattle.flat_code.specs.Scene.{Where, Temps, Did, Passes, location_at, with_value}
 use Rattle.flat_code.specs.Shapes.{Shape, shape_of}
 use Rattle.word_code.specs.declared.word.WordInstr.{WordInstr}
-use Rattle.word_code.specs.Memory.{Memory}
-use Rattle.word_code.specs.RoutineTable.{Area, Separate}
+use Rattle.word_code.specs.Memory.{Memory, as_state}
+use Rattle.word_code.specs.RoutineTable.{Beside as BesideOf, Separate}
 use Rattle.word_code.specs.Words.{no_words}
-use Rattle.word_code.proofs.ForCallers.{with_copied, span, span_is, SameOutside, Changed, CopiedTo, copied_to, Runs, at}
+use Rattle.word_code.proofs.ForCallers.{Changed, Runs, at}
+use Rattle.heap_memory.proofs.ForCallers.{heap_open}
 use Rattle.word_lowering.specs.declared.homes.TheConstants.{FIRST}
 use Rattle.word_lowering.specs.declared.homes.Home.{Home}
 use Rattle.word_lowering.specs.Aliases.{handed_by, is_among, places_in}
 use Rattle.word_lowering.specs.LineCode.{location, swap_code}
-use Rattle.word_lowering.proofs.HeapKept.{SameHeap, heap_turned, heap_more, heap_beside_both}
+use Rattle.word_lowering.proofs.BlockRanges.{block_range, blocks_apart}
 use Rattle.word_lowering.proofs.AddressFacts.{handed_at}
 use Rattle.word_lowering.proofs.ApplyFits.{applies, RowHere}
 use Rattle.word_lowering.proofs.ControlLines.{plain, value_type}
-use Rattle.word_lowering.proofs.Gets.{heap_kept, SameTemps, same_temps}
+use Rattle.word_lowering.proofs.Gets.{SameTemps, same_temps}
+use Rattle.word_lowering.proofs.GoodHomes.{HomeOf, homes_apart, good_homes}
 use Rattle.word_lowering.proofs.InMemory.{IsAt, bytes_whole, bytes_some, copied_there}
 use Rattle.word_lowering.proofs.Keeping.{number_cases, same_numbers}
 use Rattle.word_lowering.proofs.LineFits.{are_of, no_type, same_type, has_words}
-use Rattle.word_lowering.proofs.Lines.{Basis, IsGood, Settles, all_procs, all_sites, changed, data_there, goes_on, known, mapped_settles, reaches, bound_for}
+use Rattle.word_lowering.proofs.Lines.{Basis, IsGood, Settles, all_procs, all_sites, changed_later, data_there, goes_on, known, mapped_settles, reaches}
+use Rattle.word_lowering.proofs.Lines.{bound_for}
 use Rattle.word_lowering.proofs.Lines.{stands_next, starts, where_there}
-use Rattle.word_lowering.proofs.Located.{IsThereAt, place_located}
+use Rattle.word_lowering.proofs.Located.{IsReadAt, full_there, owned_located, owned_readable, place_lying}
+use Rattle.word_lowering.proofs.LocationHouses.{location_house}
 use Rattle.word_lowering.proofs.Moves.{IsHigh, all_same, words_of}
 use Rattle.word_lowering.proofs.OutPlaces.{written_at, written_stands}
-use Rattle.word_lowering.proofs.ReadFacts.{each_call, read_location, standing_full}
-use Rattle.word_lowering.proofs.Related.{Both, MemoryGood, body_of, high, routines, within, store_of}
+use Rattle.word_lowering.proofs.Related.{Both, body_of, high, routines, sites_of, within}
 use Rattle.word_lowering.proofs.RoutineCalls.{awaiting}
-use Rattle.word_lowering.proofs.RoutineMemory.{still_outside}
-use Rattle.word_lowering.proofs.Scenes.{FromPlace, Leads, Points, of_a_place, address_of, house, looked, of_location, of_place}
+use Rattle.word_lowering.proofs.Scenes.{is_fixed, Ground, FromBlock, FromOwned, FromPlace, Leads, Points, of_owned, address_of, house, looked, of_location}
+use Rattle.word_lowering.proofs.Scenes.{of_place}
 use Rattle.word_lowering.proofs.Settling.{LabelsLead, code_here, code_next}
-use Rattle.word_lowering.proofs.ShapeFacts.{bytes_is, never, shape_bytes, values_of_numbers}
-use Rattle.word_lowering.proofs.ShapePaths.{PathTo, path_within}
+use Rattle.word_lowering.proofs.ShapeFacts.{bytes_is, never, of_numbers, shape_bytes, values_of_numbers}
+use Rattle.word_lowering.proofs.ShapePaths.{PathTo, path_within, shape_some}
 use Rattle.word_lowering.proofs.ShapesApart.{SameOrApart, paths_apart}
 use Rattle.word_lowering.proofs.Sites.{Linked, Site, around}
-use Rattle.word_lowering.proofs.SitesApart.{Beside, houses, one_level, ranges_apart, site_at}
-use Rattle.word_lowering.proofs.Sources.{Lying, text_beside, lying_away, lying_area, lying_near, separate_turned}
+use Rattle.word_lowering.proofs.SitesApart.{Beside, InRange, houses, one_level, ranges_apart, site_at}
+use Rattle.word_lowering.proofs.Sources.{Lying, Readable, lying_away, lying_open, lying_range}
 use Rattle.word_lowering.proofs.StoreLines.{none_temps}
-use Rattle.word_lowering.proofs.Stores.{good_rewritten, good_stored, leads_still}
+use Rattle.word_lowering.proofs.Stores.{good_written, ground_then, leads_still}
+use Rattle.word_lowering.proofs.StoredLater.{shape_whole}
 use Rattle.word_lowering.proofs.SwapRuns.{Swapped, swap_called}
 use Rattle.word_lowering.proofs.Targets.{pointed}
-use Rattle.word_lowering.proofs.ValueFacts.{type_in}
-use Rattle.rv32_isa.specs.Image.{stack_at}
+use Rattle.word_lowering.proofs.TradedWords.{TwoWrites, range_open, two_writes}
+use Rattle.word_lowering.proofs.ValueFacts.{location_of_numbers, type_in}
+use Rattle.rv32_isa.specs.Image.{heap_at, stack_at}
+use Rattle.rv32_isa.specs.State.{writable}
 
 -- ---- parts of one shape, at two locations
 
 module _ (x : Basis) (sites : List Site) (linked : Linked x.table x.blocks sites) (w : World) where
-  locations_apart : (l m : Location) (a b : ℕ) (t : Shape) → FromPlace x.table sites w l a t → FromPlace x.table sites w m b t
+  places_apart : (l m : Location) (a b : ℕ) (t : Shape) → FromPlace x.table sites w l a t → FromPlace x.table sites w m b t
       → Separate a b (shape_bytes t)
-  locations_apart l m a b t f h = by (number_cases f.site.level h.site.level) (number_cases f.number h.number)
+  places_apart l m a b t f h = by (number_cases f.site.level h.site.level) (number_cases f.number h.number)
     where
       -- a part is inside of its place
       inside : (k : Location) (c : ℕ) (p : FromPlace x.table sites w k c t)
@@ -110,6 +116,61 @@ module _ (x : Basis) (sites : List Site) (linked : Linked x.table x.blocks sites
       by (inl e) (inr ne) = apart (inr (λ k. ne (same_numbers (of_place f.number) (of_place h.number) k)))
       by (inl e) (inl n) = same (one_level x.table x.blocks sites f.site h.site linked f.among h.among e) n
 
+module _ (x : Basis) (g : Both) (y : IsGood x g) where
+  abbrev Owns : Location → (a : ℕ) → Shape → Type 0
+  Owns l a t = FromOwned x.table (sites_of g) g.ground g.world l a t
+
+  -- a place is beside the heap, in which blocks are
+  beside_block : (l k : Location) (a b : ℕ) (t : Shape) → FromPlace x.table (sites_of g) g.world l a t → FromBlock g.ground k b t
+      → is_there g.world k ≡ true → (a + shape_bytes t ≤ b) ⊎ (b + shape_bytes t ≤ a)
+  beside_block l k a b t f h live =
+      let r = block_range (is_fixed g.ground) (HomeOf x g) (homes_apart x g y) g.ground.blocks g.world g.memory (good_homes x g y) k b t
+      (record { block = h.block; base = h.base; leads = h.leads }) live in
+      by r.0 r.1 (lying_away x (sites_of g) y.linked g.memory a (shape_bytes t) y.memory (place_lying x g y l a t f)).1
+    where
+      by : heap_at ≤ b → b + shape_bytes t ≤ heap_at + length g.memory.heap → BesideOf heap_at (length g.memory.heap) a (shape_bytes t)
+          → (a + shape_bytes t ≤ b) ⊎ (b + shape_bytes t ≤ a)
+      by low high (inl away) = inr (omega (arith, high, away))
+      by low high (inr away) = inl (omega (arith, low, away))
+
+  locations_apart : (l k : Location) (a b : ℕ) (t : Shape) → Owns l a t → Owns k b t → is_there g.world l ≡ true → is_there g.world k ≡ true
+      → Separate a b (shape_bytes t)
+  locations_apart l k a b t (inl f) (inl h) live live_too = places_apart x (sites_of g) y.linked g.world l k a b t f h
+  locations_apart l k a b t (inl f) (inr h) live live_too = inr (beside_block l k a b t f h live_too)
+  locations_apart l k a b t (inr f) (inl h) live live_too = inr (by (beside_block k l b a t h f live))
+    where
+      by : (b + shape_bytes t ≤ a) ⊎ (a + shape_bytes t ≤ b) → (a + shape_bytes t ≤ b) ⊎ (b + shape_bytes t ≤ a)
+      by (inl z) = inr z
+      by (inr z) = inl z
+  locations_apart l k a b t (inr f) (inr h) live live_too =
+      blocks_apart (is_fixed g.ground) (HomeOf x g) (homes_apart x g y) g.ground.blocks g.world g.memory (good_homes x g y) l k a b t
+      (record { block = f.block; base = f.base; leads = f.leads }) (record { block = h.block; base = h.base; leads = h.leads }) live live_too
+
+  -- all of it may be written at once
+  owned_open : (l : Location) (a : ℕ) (t : Shape) → Owns l a t → is_there g.world l ≡ true → writable (as_state g.memory) a (shape_bytes t) ≡ true
+  owned_open l a t (inr f) live =
+      let r = block_range (is_fixed g.ground) (HomeOf x g) (homes_apart x g y) g.ground.blocks g.world g.memory (good_homes x g y) l a t
+      (record { block = f.block; base = f.base; leads = f.leads }) live in
+      heap_open g.memory y.memory.sized a (shape_bytes t) r.0 r.1
+  owned_open l a t (inl f) live =
+      let lying = place_lying x g y l a t f in
+      let n : ℕ = shape_bytes t in
+      let some = shape_some t in
+      let whole = lying.whole in
+      let long = shape_whole t in
+      range_open g.memory y.memory.sized a n some (word a lying (omega arith) (omega (arith, some)) whole)
+      (word (a + n - 4) lying (omega (arith, some)) (omega (arith, some)) (omega (arith, whole, long, some)))
+      (beside (lying_range x (sites_of g) y.linked a n lying))
+    where
+      word : (b : ℕ) → Lying x (sites_of g) y.linked a (shape_bytes t) → a ≤ b → b + 4 ≤ a + shape_bytes t → b % 4 ≡ 0 → writable (as_state g.memory) b 4 ≡ true
+      word b lying low high is =
+          (and_parts (b % 4 == 0) (writable (as_state g.memory) b 4)
+          (y.memory.cells b is (lying_open x (sites_of g) y.linked a (shape_bytes t) lying b low high)).may).1
+
+      beside : InRange x.table x.blocks f.site a (shape_bytes t) → (a + shape_bytes t ≤ heap_at) ⊎ (stack_at ≤ a)
+      beside (inl r) = let d = x.small in inl (omega (arith, r.2, d))
+      beside (inr r) = let s = (site_at x.table x.blocks (sites_of g) f.site y.linked f.among).least in inr (omega (arith, r.0, s))
+
 -- ---- a location that the line hands on
 
 module _ (x : Basis) (g : Both) (line : BlockLine) (rest : List BlockLine) (y : IsGood x (starts g line rest)) (ty : Ty) where
@@ -128,9 +189,8 @@ module _ (x : Basis) (g : Both) (line : BlockLine) (rest : List BlockLine) (y : 
     high_is : IsHigh (house_of t)
     address : ℕ
     points : Points g.call.site.base g.call.vars (house_of t) address
-    leads : FromPlace x.table sites g.world at_location address shape
-    at_address : IsThereAt x sites y.linked g.memory (load g.world at_location) address shape
-    size : bytes (load g.world at_location) ≡ shape_bytes shape
+    leads : FromOwned x.table sites g.ground g.world at_location address shape
+    numbers : of_numbers shape ≡ true
     long : (location (around x.table x.blocks (body_of g)) t).bytes ≡ shape_bytes shape
 
   end_at : (t : ℕ) (there : Where) → type_in x is_location (body_of g) t ≡ Some ty
@@ -142,28 +202,25 @@ module _ (x : Basis) (g : Both) (line : BlockLine) (rest : List BlockLine) (y : 
       let w = written_at x g line rest y t there p.named standing e in
       let l : Location = w.location_is in
       let a = handed_at x g line rest y t there p.named e standing handed in
-      let leads : FromPlace x.table sites g.world l a.address shape
-      = subst (λ s. FromPlace x.table sites g.world l a.address s) p.look
-      (of_a_place x.table x.blocks (written_stands x g line rest y w.written)
+      let leads : FromOwned x.table sites g.ground g.world l a.address shape
+      = subst (λ s. FromOwned x.table sites g.ground g.world l a.address s) p.look
+      (of_owned x.table x.blocks (written_stands x g line rest y w.written)
       (subst (λ k. Leads x.table x.blocks sites g.ground g.world g.call.site g.call.temps k a.address (looked x.table g.call.site (of_location t))) w.is
       a.leads_to)) in
-      let there_at = place_located x sites y.linked (store_of g) g.world (each_call x g line rest y) l a.address shape leads in
-      let size : bytes (load g.world l) ≡ shape_bytes shape = bytes_is (load g.world l) shape there_at.numbers there_at.shaped in
-      let r = read_location x g line rest y t there p.named e (standing_full x g line rest y t there p.named standing e) in
-      let located : location_at g.call.temps there ≡ l = ap (location_at g.call.temps) w.is in
+      let h = location_house x g line rest y t there p.named e in
       record {
         at_location = l;
-        is = located;
+        is = ap (location_at g.call.temps) w.is;
         high_is = subst IsHigh (sym a.home_is) a.high_is;
         address = a.address;
         points = subst (λ h. Points g.call.site.base g.call.vars h a.address) (sym a.home_is) a.points;
         leads = leads;
-        at_address = there_at;
-        size = size;
-        long = r.read.size ∙ (ap (λ k. bytes (load g.world k)) located ∙ size);
+        numbers = sym (ap of_numbers p.look) ∙ location_of_numbers x g.call.site t y.linked.0 p.named;
+        long = sym h.housed.bytes ∙ ap shape_bytes (ap (shape_of (facts_in x.table)) h.typed ∙ p.look);
       }
 
-  module _ (left right : ℕ) (here there : Where) (e : End left here) (f : End right there) (temps : Temps) (same_at : SameTemps x g line rest y temps) where
+  module _ (left right : ℕ) (here there : Where) (e : End left here) (f : End right there) (temps : Temps) (same_at : SameTemps x g line rest y temps)
+      (full_left : is_full_at g.world e.at_location ≡ true) (full_right : is_full_at g.world f.at_location ≡ true) where
     abbrev l : Location
     l = e.at_location
 
@@ -176,135 +233,125 @@ module _ (x : Basis) (g : Both) (line : BlockLine) (rest : List BlockLine) (y : 
     abbrev w : Value
     w = load g.world m
 
-    -- so many words trade places
-    module _ (j : ℕ) (words : shape_bytes shape ≡ 4 * suc j) where
-      -- with the first value at the second location alone
-      abbrev middle : Memory
-      middle = with_copied (suc j) g.memory f.address e.address
+    read_left : IsReadAt x sites y.linked g.memory v e.address shape
+    read_left = owned_located x (starts g line rest) y l e.address shape e.leads e.numbers full_left
 
-      all : span (suc j) ≡ shape_bytes shape
-      all = span_is (suc j) ∙ sym words
+    read_right : IsReadAt x sites y.linked g.memory w f.address shape
+    read_right = owned_located x (starts g line rest) y m f.address shape f.leads f.numbers full_right
 
-      lying_left : Lying x sites y.linked e.address (shape_bytes shape)
-      lying_left = subst (Lying x sites y.linked e.address) e.size e.at_address.lying
+    live_left : is_there g.world l ≡ true
+    live_left = (full_there x (starts g line rest) y l full_left).0
 
-      lying_right : Lying x sites y.linked f.address (shape_bytes shape)
-      lying_right = subst (Lying x sites y.linked f.address) f.size f.at_address.lying
+    live_right : is_there g.world m ≡ true
+    live_right = (full_there x (starts g line rest) y m full_right).0
 
-      area_left : Area g.memory e.address (suc j)
-      area_left = lying_area x sites y.linked g.memory e.address (shape_bytes shape) y.memory lying_left (suc j) (omega (arith, words))
+    size_left : bytes v ≡ shape_bytes shape
+    size_left = bytes_is v shape e.numbers read_left.shaped
 
-      area_right : Area g.memory f.address (suc j)
-      area_right = lying_area x sites y.linked g.memory f.address (shape_bytes shape) y.memory lying_right (suc j) (omega (arith, words))
+    size_right : bytes w ≡ shape_bytes shape
+    size_right = bytes_is w shape f.numbers read_right.shaped
 
-      apart : Separate e.address f.address (span (suc j))
-      apart = subst (Separate e.address f.address) (sym all)
-          (locations_apart x sites y.linked g.world l m e.address f.address shape e.leads f.leads)
+    -- the world in between
+    abbrev world : World
+    world = store g.world m v
+
+    -- where that leads to the first one still, so many words trade places
+    module _ (live_then : is_there world l ≡ true) (j : ℕ) (words : shape_bytes shape ≡ 4 * suc j) where
+      range_left : Readable x sites y.linked g.memory e.address (shape_bytes shape)
+      range_left = owned_readable x (starts g line rest) y l e.address shape e.leads live_left
+
+      range_right : Readable x sites y.linked g.memory f.address (shape_bytes shape)
+      range_right = owned_readable x (starts g line rest) y m f.address shape f.leads live_right
+
+      apart : Separate e.address f.address (4 * suc j)
+      apart = subst (Separate e.address f.address) words
+          (locations_apart x (starts g line rest) y l m e.address f.address shape e.leads f.leads live_left live_right)
 
       called : Swapped x.law x.live (all_procs x) (within x.table x.blocks g) refl g.memory (code_next x g line rest y) j (house_of left) (house_of right)
           e.address f.address g.call.vars g.words
       called =
-          let near_left = lying_near x sites y.linked e.address (shape_bytes shape) lying_left in
-          let near_right = lying_near x sites y.linked f.address (shape_bytes shape) lying_right in
+          let near_left = range_left.near in
+          let near_right = range_right.near in
           swap_called x.law x.live (all_procs x) (within x.table x.blocks g) refl g.memory (routines x.table x.blocks) x.runtimes.others.statics (reaches x)
           (code_next x g line rest y) j (house_of left) (house_of right) e.address f.address g.call.vars g.words e.points f.high_is f.points
-          (omega (arith, near_left, words)) (omega (arith, near_right, words)) y.memory.sized (data_there x sites g.memory y.memory) area_left area_right
-          (subst (Separate e.address f.address) (span_is (suc j)) apart)
+          (omega (arith, near_left, words)) (omega (arith, near_right, words)) y.memory.sized (data_there x sites g.memory y.memory)
+          (range_left.area (suc j) (omega (arith, words))) (range_right.area (suc j) (omega (arith, words))) apart
 
       abbrev memory : Memory
       memory = called.memory
 
-      copy : CopiedTo g.memory middle f.address e.address (shape_bytes shape)
-      copy = subst (CopiedTo g.memory middle f.address e.address) all
-          (copied_to x.law (suc j) g.memory f.address e.address y.memory.sized area_right area_left
-          (separate_turned x sites y.linked e.address f.address (span (suc j)) apart))
+      writes : TwoWrites g.memory memory e.address f.address (4 * suc j)
+      writes = two_writes x.law g.memory memory y.memory.sized e.address f.address (4 * suc j) (omega arith)
+          (subst (λ n. writable (as_state g.memory) e.address n ≡ true) words
+          (owned_open x (starts g line rest) y l e.address shape e.leads live_left)) called.is apart
 
-      -- the world in between
-      abbrev world : World
-      world = store g.world m v
+      -- with the first value at the second location alone
+      abbrev middle : Memory
+      middle = writes.middle
 
       v_there : IsAt middle f.address v
       v_there =
-          let size = e.size in
-          copied_there g.memory middle e.address f.address v (has_words v shape e.at_address.shaped)
-          (λ o within is. copy.same o (omega (arith, within, size)) is) e.at_address.is_at
+          let size = size_left in
+          copied_there g.memory middle e.address f.address v (has_words v shape read_left.shaped)
+          (λ o within is. writes.there o (omega (arith, within, size, words)) is) read_left.is_at
 
       w_there : IsAt memory e.address w
       w_there =
-          let size = f.size in
-          copied_there g.memory memory f.address e.address w (has_words w shape f.at_address.shaped)
-          (λ o within is. called.is.to_left o (omega (arith, within, size, words)) is) f.at_address.is_at
+          let size = size_right in
+          copied_there g.memory memory f.address e.address w (has_words w shape read_right.shaped)
+          (λ o within is. called.is.to_left o (omega (arith, within, size, words)) is) read_right.is_at
+
+      first_write : Changed g.memory middle f.address (bytes v)
+      first_write = subst (Changed g.memory middle f.address) (sym (size_left ∙ words)) writes.first
+
+      second_write : Changed middle memory e.address (bytes w)
+      second_write = subst (Changed middle memory e.address) (sym (size_right ∙ words)) writes.second
+
+      abbrev ground_between : Ground
+      ground_between = ground_then x g line rest y m f.address shape f.numbers live_right v read_left.shaped middle first_write v_there f.leads
 
       abbrev between : Both
-      between = changed g rest temps called.vars middle no_words FIRST world
+      between = changed_later g rest temps called.vars middle no_words FIRST world ground_between g.input
 
       good_between : IsGood x (starts between line rest)
-      good_between = good_stored x g line rest y m f.address shape f.leads v e.at_address.shaped middle
-          (subst (Changed g.memory middle f.address) (sym e.size) copy.changed) v_there (line ∷ rest) y.stands temps same_at called.vars no_words FIRST
-          called.same (subst (Lying x sites y.linked f.address) (sym e.size) lying_right)
+      good_between = good_written x g line rest y m f.address shape f.numbers live_right v read_left.shaped middle first_write v_there f.leads (line ∷ rest)
+          y.stands temps same_at called.vars no_words FIRST called.same
 
-      memory_good : MemoryGood x.table x.blocks sites x.first memory
-      memory_good =
-          let left_bytes = subst (λ n. Lying x sites y.linked e.address n) words lying_left in
-          let right_bytes = subst (λ n. Lying x sites y.linked f.address n) words lying_right in
-          let trade = called.is in
-          record {
-            sized = trade.sized;
-            statics = trade.sizes.statics ∙ y.memory.statics;
-            heap = trade.sizes.heap ∙ y.memory.heap;
-            places = ap (λ n. stack_at + n) trade.sizes.stack ∙ y.memory.places;
-            cells = λ b whole is_open. trade.cells b (y.memory.cells b whole is_open);
-            texts = λ b k text. trade.beside b k (text_beside x sites y.linked e.address (4 * suc j) b k left_bytes text)
-                (text_beside x sites y.linked f.address (4 * suc j) b k right_bytes text) ∙ y.memory.texts b k text;
-          }
+      leads_then : FromOwned x.table sites ground_between world l e.address shape
+      leads_then = leads_still x g line rest y m f.address shape f.numbers live_right v read_left.shaped middle first_write v_there f.leads l e.address shape
+          e.leads
 
-      heap_stays : SameHeap middle memory
-      heap_stays =
-          let left_bytes = subst (λ n. Lying x sites y.linked e.address n) words lying_left in
-          let right_bytes = subst (λ n. Lying x sites y.linked f.address n) words lying_right in
-          let trade = called.is in
-          let left_away = lying_away x sites y.linked g.memory e.address (4 * suc j) y.memory left_bytes in
-          let right_away = lying_away x sites y.linked g.memory f.address (4 * suc j) y.memory right_bytes in
-          heap_more middle g.memory memory (heap_turned g.memory middle
-          (heap_kept x sites y.linked g.memory middle f.address (4 * suc j) y.memory (subst (Changed g.memory middle f.address) words copy.changed)
-          right_bytes))
-          (heap_beside_both g.memory memory e.address f.address (4 * suc j) trade.sizes.statics trade.sizes.heap trade.beside left_away right_away)
-
-      outside : SameOutside middle memory e.address (bytes w)
-      outside =
-          let out : SameOutside g.memory middle f.address (4 * suc j) = subst (SameOutside g.memory middle f.address) words copy.changed.outside in
-          let size : 4 * suc j ≡ bytes w = sym words ∙ sym f.size in
-          subst (SameOutside middle memory e.address) size
-          (still_outside g.memory middle memory e.address f.address (4 * suc j) lying_right.whole (omega arith) out
-          (λ o within whole. copy.same o (omega (arith, within, words)) whole) called.is)
-
-      good_behind : IsGood x (changed between rest temps called.vars memory no_words FIRST (store world l w))
-      good_behind = good_rewritten x between line rest good_between l e.address shape
-          (leads_still x g line rest y m f.address shape f.leads v e.at_address.shaped l e.address shape e.leads) w f.at_address.shaped memory outside
-          w_there memory_good heap_stays rest (stands_next x.table x.blocks (body_of g) line rest y.stands) temps (same_temps x between line rest good_between)
-          called.vars no_words FIRST (all_same called.vars)
+      good_behind : IsGood x (changed_later between rest temps called.vars memory no_words FIRST (store world l w)
+          (ground_then x between line rest good_between l e.address shape e.numbers live_then w read_right.shaped memory second_write w_there leads_then)
+          g.input)
+      good_behind = good_written x between line rest good_between l e.address shape e.numbers live_then w read_right.shaped memory second_write w_there
+          leads_then
+          rest (stands_next x.table x.blocks (body_of g) line rest y.stands) temps (same_temps x between line rest good_between) called.vars no_words FIRST
+          (all_same called.vars)
 
       trade_settles : code_here x g line rest y
           ≡ swap_code (house_of left) (house_of right) (location (around x.table x.blocks (body_of g)) left).bytes (code_next x g line rest y)
           → Settles x (starts g line rest) rest (Passes (Answers [] (1 + (bytes v + (bytes w + 0))) temps (store world l w)))
       trade_settles code =
-          let size_left = e.size in
-          let size_right = f.size in
+          let long_left = size_left in
+          let long_right = size_right in
           let few = called.few in
           let next : List WordInstr = code_next x g line rest y in
-          goes_on x (starts g line rest) (changed between rest temps called.vars memory no_words FIRST (store world l w)) rest good_behind called.steps
-          (1 + (bytes v + (bytes w + 0))) temps (store world l w)
+          goes_on x (starts g line rest) (changed_later between rest temps called.vars memory no_words FIRST (store world l w)
+          (ground_then x between line rest good_between l e.address shape e.numbers live_then w read_right.shaped memory second_write w_there leads_then)
+          g.input)
+          rest good_behind called.steps (1 + (bytes v + (bytes w + 0))) temps (store world l w)
           (subst (λ c. Runs x.live (all_procs x) called.steps (at (within x.table x.blocks g) g.memory c g.call.vars g.words)
           (at (awaiting (within x.table x.blocks g) FIRST) memory next called.vars no_words))
           (sym (code ∙ ap (λ n. swap_code (house_of left) (house_of right) n next) (e.long ∙ words))) called.runs)
-          called.some (omega (arith, size_left, size_right, words, few)) refl
+          called.some (omega (arith, long_left, long_right, words, few)) refl
 
-    both_settle : code_here x g line rest y
+    both_settle : is_there world l ≡ true → code_here x g line rest y
         ≡ swap_code (house_of left) (house_of right) (location (around x.table x.blocks (body_of g)) left).bytes (code_next x g line rest y)
         → Settles x (starts g line rest) rest (Passes (Answers [] (1 + (bytes v + (bytes w + 0))) temps (store (store g.world m v) l w)))
-    both_settle code =
-        let n = words_of (bytes v) (bytes_whole v) (bytes_some v (values_of_numbers v shape e.at_address.numbers e.at_address.shaped)) in
-        trade_settles n.0 (sym e.size ∙ n.1) code
+    both_settle live_then code =
+        let n = words_of (bytes v) (bytes_whole v) (bytes_some v (values_of_numbers v shape e.numbers read_left.shaped)) in
+        trade_settles live_then n.0 (sym size_left ∙ n.1) code
 
 -- ---- the line
 
@@ -351,20 +398,22 @@ module _ (x : Basis) (labels : LabelsLead x) (g : Both) (rest : List BlockLine) 
       abbrev Done : Did → Type 0
       Done did = Settles x (starts g swapping rest) rest did
 
-      where_seen : Done (Passes (Answers [] (1 + (bytes first + (bytes second + 0))) (with_value to g.call.temps nothing) (store world_then one second)))
+      where_seen : (is_full_at g.world one ≡ true → is_full_at g.world other ≡ true → is_there world_then one ≡ true
+          → Done (Passes (Answers [] (1 + (bytes first + (bytes second + 0))) (with_value to g.call.temps nothing) (store world_then one second))))
           → Done (given (swapped one other))
       where_seen d =
           where_there x (starts g swapping rest) rest (is_full_at g.world one)
           (λ b. given (unless_gone b (exchanged other first) >>= (λ u. exchanged one u >> give nothing))) (λ before. tt)
-          (λ h. where_there x (starts g swapping rest) rest (is_full_at g.world other)
+          (λ full. where_there x (starts g swapping rest) rest (is_full_at g.world other)
           (λ b. given (costs (bytes first) (unless_gone b (sets other first >> give second)) >>= (λ u. exchanged one u >> give nothing))) (λ before. tt)
-          (λ h. where_there x (starts g swapping rest) rest (is_there g.world other)
+          (λ full_other. where_there x (starts g swapping rest) rest (is_there g.world other)
           (λ b. given (costs (bytes first) (unless_gone b (does (Stores other first)) >> give second) >>= (λ u. exchanged one u >> give nothing)))
           (λ before. tt)
           (λ h. where_there x (starts g swapping rest) rest (is_full_at world_then one)
           (λ b. given_then first second world_then (unless_gone b (sets one second >> give (load world_then one)))) (λ before. tt)
           (λ h. where_there x (starts g swapping rest) rest (is_there world_then one)
-          (λ b. given_then first second world_then (unless_gone b (does (Stores one second)) >> give (load world_then one))) (λ before. tt) (λ h. d)))))
+          (λ b. given_then first second world_then (unless_gone b (does (Stores one second)) >> give (load world_then one))) (λ before. tt)
+          (λ live. d full full_other live)))))
 
     swap_values : RowHere x g rest to O.Swap how None (a ∷ b ∷ []) (F.Place left ∷ F.Place right ∷ [])
     swap_values y =
@@ -393,7 +442,8 @@ module _ (x : Basis) (labels : LabelsLead x) (g : Both) (rest : List BlockLine) 
         (subst (λ k. Settles x (starts g swapping rest) rest (gives (scene_of (high x.table x.blocks (starts g swapping rest))) to
         (costs 1 (swapped l.at_location k) >>= made_by false (bound_for g how)))) (sym m.is)
         (where_seen l.at_location m.at_location
-        (both_settle x g swapping rest y w.ty left right here there l m (with_value to g.call.temps nothing) none refl)))))
+        (λ full full_other live.
+        both_settle x g swapping rest y w.ty left right here there l m (with_value to g.call.temps nothing) none full full_other live refl)))))
 
   pub swap_line : (ty : Option ℕ) (of : List (Option ℕ)) (from : List From) → RowHere x g rest to O.Swap how ty of from
   swap_line None (a ∷ b ∷ []) (F.Place left ∷ F.Place right ∷ []) y = swap_values a b left right y

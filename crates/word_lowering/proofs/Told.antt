@@ -22,7 +22,7 @@ use Rattle.word_lowering.specs.declared.texts.TheConstants.{FIXED_BYTES}
 use Rattle.word_lowering.proofs.HeapKept.{SameHeap, heap_same, heap_more, heap_beside}
 use Rattle.word_lowering.proofs.Gets.{SameTemps, high_variable, kept_temps, same_temps}
 use Rattle.word_lowering.proofs.Keeping.{AmongCalls, aside, worlds_same}
-use Rattle.word_lowering.proofs.Lines.{Basis, IsGood, Settles, all_sites, changed, good_changed, lower, stands_next, starts}
+use Rattle.word_lowering.proofs.Lines.{Basis, IsGood, Settles, all_sites, changed, good_changed, lower, past_is, stands_next, starts}
 use Rattle.word_lowering.proofs.Moves.{all_same, same_more}
 use Rattle.word_lowering.proofs.OrdinalRuns.{AllSame}
 use Rattle.word_lowering.proofs.Related.{Both, IsClosed, IsOpen, IsText, MemoryGood, StandAt, body_of, called_by, low, routines, within, sites_of}
@@ -161,7 +161,8 @@ module _ (x : Basis) (least : FIXED_BYTES ≤ data_end x.table x.blocks) (g : Bo
   tells_settles temps same_at text s work enough =
       let behind : Both = changed g rest temps s.vars s.memory s.words s.awaits g.world in
       let good = good_told rest temps same_at s.vars s.words s.awaits s.memory s.told s.same (stands_next x.table x.blocks (body_of g) line rest y.stands) in
-      λ before. let r = s.steps.by x.fresh before in (
+      λ before. let r = (subst (AlwaysSteps (lower x) s.count (low x.table x.blocks (starts g line rest)) (writes Out text) s.count)
+      (past_is x (line ∷ rest) behind good) s.steps).by x.fresh before in (
         (r.0, low x.table x.blocks behind),
         s.count,
         record { work = r.1.work; within = (let h = r.1.within in let f = s.few in omega (arith, h, f, enough)); by = r.1.by },

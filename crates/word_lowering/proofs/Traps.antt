@@ -17,7 +17,7 @@ use Rattle.word_code.specs.RoutineTable.{WritesTrap, trap_number, is_built}
 use Rattle.word_code.proofs.ForCallers.{stops_on, Within, at, run_label, AlwaysStops}
 use Rattle.word_lowering.specs.declared.homes.TheConstants.{FIRST}
 use Rattle.word_lowering.specs.Operations.{trap_label}
-use Rattle.word_lowering.specs.LineCode.{label_before, lines_code}
+use Rattle.word_lowering.specs.LineCode.{Around, label_before, behind_line, lines_code}
 use Rattle.word_lowering.specs.Lowered.{any_branches}
 use Rattle.word_lowering.proofs.CallLabels.{ArgumentLabels}
 use Rattle.word_lowering.proofs.LabelFacts.{line_branches}
@@ -46,7 +46,8 @@ module _ (x : Basis) where
     built_stops : (trap : Trap) → is_built trap ≡ true → trap_label trap < 8
         → ((k : List WordInstr) → any_branches (trap_label trap) (code_of_line x g line rest k) ≡ true) → TrapStops x (starts g line rest) trap
     built_stops trap built low leads =
-        let behind : List WordInstr = lines_code (around x.table x.blocks (body_of g)) (map block_plain rest) [] in
+        let here : Around = around x.table x.blocks (body_of g) in
+        let behind : List WordInstr = behind_line here (block_plain line) (lines_code here (map block_plain rest) []) in
         let branches = branches_here x.table x.blocks (body_of g) (trap_label trap) line rest y.stands (leads behind) in
         let s = trap_stands (first_lines (around x.table x.blocks (body_of g)) (lines_of (body_of g))) trap built branches in
         record {

@@ -59,9 +59,10 @@ use Rattle.word_lowering.proofs.Gets.{Gets, SameTemps, good_place, high_variable
 use Rattle.word_lowering.proofs.InMemory.{IsAt}
 use Rattle.word_lowering.proofs.Keeping.{nowhere, points_there, spot_held, spot_memory}
 use Rattle.word_lowering.proofs.LineFits.{int_shape, no_type, number_fits, number_value, same_type, some_kind}
-use Rattle.word_lowering.proofs.Lines.{Basis, IsGood, Settles, all_procs, all_sites, changed, goes_on, known, lower, mapped_settles, stands_next, starts}
+use Rattle.word_lowering.proofs.Lines.{Basis, IsGood, Settles, all_procs, all_sites, changed, changed_later, goes_on, known, lower, mapped_settles, stands_next}
+use Rattle.word_lowering.proofs.Lines.{starts}
 use Rattle.word_lowering.proofs.Lines.{bound_for, where_there}
-use Rattle.word_lowering.proofs.Located.{IsThereAt, place_located}
+use Rattle.word_lowering.proofs.Located.{IsReadAt, full_there, owned_located}
 use Rattle.word_lowering.proofs.MovedLines.{own_plain}
 use Rattle.word_lowering.proofs.Moves.{IsHigh, address_runs, all_same, points_same, same_more, same_second}
 use Rattle.word_lowering.proofs.NumberLines.{variable}
@@ -69,16 +70,16 @@ use Rattle.word_lowering.proofs.OperandLines.{MayTrap, binary_may}
 use Rattle.word_lowering.proofs.OpRuns.{same_put}
 use Rattle.word_lowering.proofs.OrdinalRuns.{AllSame, beyond, put_here, put_other, put_under}
 use Rattle.word_lowering.proofs.OutPlaces.{Written, far_written, high_in_memory, own_written}
-use Rattle.word_lowering.proofs.ReadFacts.{each_call, item_read}
-use Rattle.word_lowering.proofs.Related.{Both, body_of, high, within, store_of}
-use Rattle.word_lowering.proofs.Scenes.{At as IsHeldAt, FromPlace, IsThere, Points, address_of, house, looked, of_place}
+use Rattle.word_lowering.proofs.ReadFacts.{item_read}
+use Rattle.word_lowering.proofs.Related.{Both, body_of, high, within}
+use Rattle.word_lowering.proofs.Scenes.{At as IsHeldAt, FromOwned, FromPlace, IsThere, Points, address_of, house, looked, of_place}
 use Rattle.word_lowering.proofs.Settling.{LabelsLead, TrapsStop, code_here, code_next, code_of_line, trap_settles}
 use Rattle.word_lowering.proofs.ShapeFacts.{never}
 use Rattle.word_lowering.proofs.Sites.{Housing, InMemory, Site, around, by_address, data_end, in_data, in_places, in_variable, room}
 use Rattle.word_lowering.proofs.SitesApart.{houses, variables_apart}
-use Rattle.word_lowering.proofs.Sources.{Lying, lying_area, lying_near}
+use Rattle.word_lowering.proofs.Sources.{Readable}
 use Rattle.word_lowering.proofs.StoreLines.{none_temps, writes_at}
-use Rattle.word_lowering.proofs.Stores.{good_stored}
+use Rattle.word_lowering.proofs.Stores.{good_written, ground_then}
 use Rattle.word_lowering.proofs.UpdateRuns.{Comes, fourth_stored, update_comes}
 use Rattle.word_lowering.proofs.ValueFacts.{type_in}
 
@@ -122,7 +123,7 @@ module _ (x : Basis) (g : Both) (line : BlockLine) (rest : List BlockLine) (y : 
         → h ≡ house g.call.site (of_place n) → (old : Value) → slot_at g.world g.call.site.level n ≡ Some (Holds old)
         → l ≡ place_at g.call.site.level n → WordAt h l
     lies_at : (home : Home) → spot_of h ≡ Lies home → IsHigh home → (a : ℕ) → Points g.call.site.base g.call.vars home a
-        → FromPlace x.table sites g.world l a (number None) → WordAt h l
+        → FromOwned x.table sites g.ground g.world l a (number None) → WordAt h l
 
   word_at : (h : Housed) (l : Location) → Written x g line rest y h l (number None) → WordAt h l
   word_at h l (far_written home spot up a points f) = lies_at home spot up a points f
@@ -137,7 +138,7 @@ module _ (x : Basis) (g : Both) (line : BlockLine) (rest : List BlockLine) (y : 
           let a : ℕ = address_of g.call.site.base home in
           lies_at home (ap spot_of is ∙ spot_memory (house g.call.site (of_place n)) plain_is inside) (high_in_memory home inside) a
           (points_there g.call.site.base g.call.vars home inside)
-          (subst (λ k. FromPlace x.table (all_sites x g line rest y) g.world k a (number None)) (sym l_is) (record {
+          (inl (subst (λ k. FromPlace x.table (all_sites x g line rest y) g.world k a (number None)) (sym l_is) (record {
             site = g.call.site;
             among = inl refl;
             number = n;
@@ -148,7 +149,7 @@ module _ (x : Basis) (g : Both) (line : BlockLine) (rest : List BlockLine) (y : 
             offset = 0;
             path = (refl, look);
             address = omega arith;
-          }))
+          })))
 
       by : Housing (room (body_of g)) FIXED_BYTES (data_end x.table x.blocks) (body_of g).start (house g.call.site (of_place n)) → WordAt h l
       by (in_variable v e p least w) = held_at n v there own look e least is old slot l_is
@@ -261,12 +262,16 @@ module _ (x : Basis) (g : Both) (line : BlockLine) (rest : List BlockLine) (y : 
 
       -- at an address
       module _ (l : Location) (home : Home) (spot : spot_of h ≡ Lies home) (up : IsHigh home) (a : ℕ)
-          (points : Points g.call.site.base g.call.vars home a) (f : FromPlace x.table sites g.world l a (number None)) where
+          (points : Points g.call.site.base g.call.vars home a) (f : FromOwned x.table sites g.ground g.world l a (number None))
+          (full : is_full_at g.world l ≡ true) where
         abbrev old : Value
         old = load g.world l
 
-        at_there : IsThereAt x sites y.linked g.memory old a (number None)
-        at_there = place_located x sites y.linked (store_of g) g.world (each_call x g line rest y) l a (number None) f
+        at_there : IsReadAt x sites y.linked g.memory old a (number None)
+        at_there = owned_located x (starts g line rest) y l a (number None) f refl full
+
+        live : is_there g.world l ≡ true
+        live = (full_there x (starts g line rest) y l full).0
 
         old_fits : is_int_number (number_of old) ≡ true
         old_fits = number_fits old (number None) at_there.shaped
@@ -276,14 +281,14 @@ module _ (x : Basis) (g : Both) (line : BlockLine) (rest : List BlockLine) (y : 
             let n = number_value old None at_there.shaped in
             subst (λ u. number_at g.memory a Word ≡ Ok (word (number_of u))) (sym n.1) (subst (λ u. IsAt g.memory a u) n.1 at_there.is_at)
 
-        lying : Lying x sites y.linked a 4
-        lying = subst (λ n. Lying x sites y.linked a n) (ap bytes (number_value old None at_there.shaped).1) at_there.lying
+        range : Readable x sites y.linked g.memory a 4
+        range = subst (λ n. Readable x sites y.linked g.memory a n) (ap bytes (number_value old None at_there.shaped).1) at_there.readable
 
         near : a + 4 < 2 ^ 32
-        near = lying_near x sites y.linked a 4 lying
+        near = range.near
 
         cell : Cell g.memory a
-        cell = (lying_area x sites y.linked g.memory a 4 y.memory lying 1 (omega arith)).0
+        cell = (range.area 1 (omega arith)).0
 
         abbrev v1 : Vars
         v1 = put v SECOND a
@@ -331,10 +336,11 @@ module _ (x : Basis) (g : Both) (line : BlockLine) (rest : List BlockLine) (y : 
             (points_same x.law x.live (all_procs x) (within x.table x.blocks g) refl g.words g.call.vars w.vars home a up same3 points) z
             (word_small z c.0) w.given cell (omega (arith, near)) in
             let few = s.few in
-            goes_on x (starts g line rest) (changed g rest temps s.vars s.memory s.words s.awaits (store g.world l (Number z))) rest
-            (good_stored x g line rest y l a (number None) f (Number z) c.0 s.memory s.changed s.there rest
+            goes_on x (starts g line rest) (changed_later g rest temps s.vars s.memory s.words s.awaits (store g.world l (Number z))
+            (ground_then x g line rest y l a (number None) refl live (Number z) c.0 s.memory s.changed s.there f) g.input) rest
+            (good_written x g line rest y l a (number None) refl live (Number z) c.0 s.memory s.changed s.there f rest
             (stands_next x.table x.blocks (body_of g) line rest y.stands) temps same_at s.vars s.words s.awaits
-            (same_more g.call.vars w.vars s.vars same3 s.same) lying)
+            (same_more g.call.vars w.vars s.vars same3 s.same))
             (front + (1 + 1) + 6 + s.steps) (1 + (bytes old + (4 + 0))) temps (store g.world l (Number z))
             (then_runs x.live (all_procs x) (then_runs x.live (all_procs x) loads w.runs) s.runs) (omega arith) (omega (arith, short, few)) refl
         lies_did (Trapped trap) leads c =
@@ -353,11 +359,12 @@ module _ (x : Basis) (g : Both) (line : BlockLine) (rest : List BlockLine) (y : 
         lies_settles : Outcome old l (applied operator (number_of old) step)
         lies_settles = lies_did (applied operator (number_of old) step) (line_may (number_of old)) lies_comes
 
-      update_settles : (l : Location) → WordAt h l → Outcome (load g.world l) l (applied operator (number_of (load g.world l)) step)
-      update_settles l (held_at n t there own look home least is old slot l_is) =
+      update_settles : (l : Location) → WordAt h l → is_full_at g.world l ≡ true
+          → Outcome (load g.world l) l (applied operator (number_of (load g.world l)) step)
+      update_settles l (held_at n t there own look home least is old slot l_is) full =
           subst (λ k. Outcome (load g.world k) k (applied operator (number_of (load g.world k)) step)) (sym l_is)
           (held_settles n t there own look home least is old slot)
-      update_settles l (lies_at home spot up a points f) = lies_settles l home spot up a points f
+      update_settles l (lies_at home spot up a points f) full = lies_settles l home spot up a points f full
 
 -- ---- the line
 
@@ -412,7 +419,8 @@ module _ (x : Basis) (traps : TrapsStop x) (labels : LabelsLead x) (g : Both) (r
         (costs 1 (unless_gone b (costs (bytes (load g.world w.at)) (operate operator (number_of (load g.world w.at)) step >>= put_to w.at)))
         >>= made_by false (bound_for g how))) (λ before. tt)
         (λ seen. as_deed (applied operator (number_of (load g.world w.at)) step) (load g.world w.at) w.at same_at
-        (update_settles x g line rest y traps temps same_at h operator up label by high_by step step_fits v same step_is front short runs shown w.at at_word)))
+        (update_settles x g line rest y traps temps same_at h operator up label by high_by step step_fits v same step_is front short runs shown w.at
+        at_word seen)))
 
   -- by 1
   module _ (a : Option ℕ) (t : ℕ) where

@@ -21,6 +21,8 @@ use Rattle.flat_code.specs.declared.line.From.{From}
 use Rattle.flat_code.specs.declared.line.From.TheVariants as F
 use Rattle.flat_code.specs.declared.line.Line.{Line}
 use Rattle.flat_code.specs.declared.line.Line.TheVariants as L
+use Rattle.flat_code.specs.declared.line.Owning.{Owning}
+use Rattle.flat_code.specs.declared.line.Owning.TheVariants as W
 use Rattle.flat_code.specs.declared.line.Piece.{Piece}
 use Rattle.flat_code.specs.declared.line.Piece.TheVariants as P
 use Rattle.flat_code.specs.Pieces.{piece_words}
@@ -49,6 +51,7 @@ use Rattle.word_lowering.specs.Operations.{word, trap_label, binary_code, unary_
 use Rattle.word_lowering.specs.Operations.{beyond_code, turn_code}
 use Rattle.word_lowering.specs.Aliases.{text_in}
 use Rattle.word_lowering.specs.Texts.{names_before, place_of, standing_place}
+use Rattle.word_lowering.specs.WaitingCode.{waiter_at, waits_code, leaves_code, kept_code}
 
 -- ---- labels: those of traps are below 8, those of the lines are even, and those that code of a line has are odd
 
@@ -430,6 +433,13 @@ module _ (x : Around) where
   row_code O.Swap label ty of to hs k = swap_code (operand_at hs 0).home (operand_at hs 1).home (operand_at hs 0).bytes k
   row_code _ label ty of to hs k = k
 
+  -- ---- what somebody owns: it waits at a node, or doesn't any more; what ends, and places, come with hooks
+
+  abbrev pub owning_code : Owning → List From → List WordInstr → List WordInstr
+  owning_code (W.TakenUp node) from k = leaves_code (waiter_at node x.own.waiters) k
+  owning_code (W.Waits node) (F.Value t ∷ []) k = waits_code (waiter_at node x.own.waiters) (value t) k
+  owning_code what from k = k
+
   -- ---- lines
 
   abbrev pub line_code : Line → (label : ℕ) → List WordInstr → List WordInstr
@@ -463,17 +473,20 @@ module _ (x : Around) where
   line_code (L.Jump to) label k = Jump (own_label to) ∷ k
   line_code (L.Unless from to) label k = unless_code (held from) (own_label to) k
   line_code (L.Fits from these to) label k = choice_code these (held from) (own_label to) k
-  -- what is owned comes with the heap
-  line_code (L.Own what from) label k = k
+  line_code (L.Own what from) label k = owning_code what from k
   line_code L.Enter label k = Spend ∷ k
   line_code (L.Turn to) label k = Spend ∷ Jump (own_label to) ∷ k
   line_code (L.TurnIf from to) label k = turn_if_code (held from) (own_label to) k
   line_code (L.CountTurn counter last inclusive to) label k = turn_code label (held counter) (held last) inclusive (own_label to) k
   line_code (L.Return result) label k = return_code x.setting.start result k
 
+  -- behind a line whose value waits it stands where it waits
+  abbrev pub behind_line : Line → List WordInstr → List WordInstr
+  behind_line line k = kept_code x.table x.own.waiters value line k
+
   abbrev pub lines_code : List Line → List WordInstr → List WordInstr
   lines_code [] k = k
-  lines_code (line ∷ rest) k = line_code line (label_before rest) (lines_code rest k)
+  lines_code (line ∷ rest) k = line_code line (label_before rest) (behind_line line (lines_code rest k))
 
 -- ---- lines of control: labels, lines that may lead to one, and the next number of a loop
 

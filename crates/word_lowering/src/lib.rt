@@ -5,6 +5,7 @@ mod addresses;
 mod aliases;
 mod calls;
 mod homes;
+mod kept;
 mod laid_texts;
 mod layouts;
 mod line_code;

@@ -4,9 +4,9 @@ ghost use Rattle.nim_program.specs.Traps.{LengthChanged};
 ghost use Rattle.flat_code.specs.Codes.{block_plain};
 ghost use Rattle.word_lowering.specs.Emission.{Puts};
 ghost use Rattle.word_lowering.specs.LineCode.{part_code, item_code, element_code, own_label};
-ghost use Rattle.word_lowering.specs.LineCode.{value, location, held, led, count_at, bytes_each};
+ghost use Rattle.word_lowering.specs.LineCode.{value, own_place, location, held, led, count_at, bytes_each};
 ghost use Rattle.word_lowering.specs.LineCode.{operands, row_code, choice_code, line_code, lines_code, labels_in};
-ghost use Rattle.word_lowering.specs.LineCode.{is_control, standing_at};
+ghost use Rattle.word_lowering.specs.LineCode.{is_control, standing_at, behind_line};
 ghost use Rattle.word_lowering.specs.Operations.{trap_label};
 ghost use Rattle.word_lowering.specs.Scope.{around_of, HasRoom};
 ghost use Rattle.word_lowering.specs.Spots.{spot_of, moved, moves};
@@ -14,6 +14,7 @@ ghost use Rattle.word_lowering.specs.Stored.{part_at, HaveForms};
 
 use crate::calls::{emit_call, emit_return};
 use crate::homes::{FIFTH, FIRST, Home};
+use crate::kept::{emit_behind_line, emit_owning};
 use crate::locations::{emit_element, emit_item, emit_part};
 use crate::operations::{LENGTH, emit_beyond, emit_fits, emit_turn, emit_turn_if, emit_unless};
 use crate::rows::emit_row;
@@ -225,6 +226,14 @@ fn emit_got(code: &mut Items<WordInstr>, x: &Scope, to: u32, from: u32) -> Resul
     emit_moves(code, x.value(to), x.location(from))
 }
 
+// A declared place gets a value.
+fn emit_put(code: &mut Items<WordInstr>, x: &Scope, place: u32, from: u32) -> Result<(), Memory>
+    ensures { OnOk result (Puts code.old code.new
+        (moves (own_place (around_of x.now) place) (value (around_of x.now) from))) }
+{
+    emit_moves(code, x.own_place(place), x.value(from))
+}
+
 // The code of a line with a label of its own. Another name needs none, and what comes with the heap
 // has none yet.
 fn emit_line(code: &mut Items<WordInstr>, x: &Scope, line: &Line, label: u32) -> Result<(), Memory>
@@ -261,13 +270,13 @@ fn emit_line(code: &mut Items<WordInstr>, x: &Scope, line: &Line, label: u32) ->
         Line::Get { to, from, .. } => emit_got(code, x, *to, *from),
         Line::Look { to, from } => emit_got(code, x, *to, *from),
         Line::Standing { to, pieces, .. } => emit_standing(code, x, *to, pieces.as_slice()),
+        Line::Own { what, from } => emit_owning(code, x, *what, from.as_slice()),
         Line::Part { to, from, field } => emit_part_at(code, x, *to, *from, *field),
         Line::Item { to, from, index } => emit_item_at(code, x, *to, *from, *index),
         Line::Pass { to, from, .. } => emit_passes(code, x.value(*to), x.value(*from)),
         Line::Truth { to, value } => emit(code, &[constant(x.held(*to), truth_word(*value))]),
-        Line::Fill { place, from } | Line::Give { place, from } => {
-            emit_moves(code, x.own_place(*place), x.value(*from))
-        }
+        Line::Fill { place, from } => emit_put(code, x, *place, *from),
+        Line::Give { place, from } => emit_put(code, x, *place, *from),
         Line::Blank { place, .. } => emit_clears(code, x.own_place(*place)),
         Line::Zero { to } => emit(code, &[constant(x.held(*to), 0)]),
         Line::Length { to, from } => emit(code, &[constant(x.held(*to), x.count_at(*from))]),
@@ -288,7 +297,7 @@ fn emit_line(code: &mut Items<WordInstr>, x: &Scope, line: &Line, label: u32) ->
     }
 }
 
-fn emit_next_line(
+fn emit_block_line(
     code: &mut Items<WordInstr>,
     x: &Scope,
     line: &BlockLine,
@@ -304,6 +313,22 @@ fn emit_next_line(
             emit_moves(code, x.value(*to), x.location(*from))
         }
     }
+}
+
+// With what stands behind it.
+fn emit_next_line(
+    code: &mut Items<WordInstr>,
+    x: &Scope,
+    line: &BlockLine,
+    label: u32,
+) -> Result<(), Memory>
+    requires { HasRoom (around_of x.now) }
+    ensures { OnOk result (Puts code.old code.new
+        (λ k. line_code (around_of x.now) (block_plain line.now) label
+        (behind_line (around_of x.now) (block_plain line.now) k))) }
+{
+    emit_block_line(code, x, line, label)?;
+    emit_behind_line(code, x, line)
 }
 
 /// The code of lines.

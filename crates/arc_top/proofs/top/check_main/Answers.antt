@@ -1,12 +1,14 @@
-use Rattle.std.proofs.Common.{subst, inl, Err}
+use Rattle.std.proofs.Common.{◌≡◌, subst, inl, Ok, Err}
 use Rattle.std.proofs.lemmas.Result.{err_from_is_err_and}
 use Rattle.check_decls.specs.Modules.{program_in}
-use Rattle.core_compiler.specs.Limits.{check_limits}
+use Rattle.source_compiler.specs.Limits.{check_limits}
+use Rattle.nim_plan.specs.declared.plan.Plan.{Plan}
+use Rattle.core_compiler.specs.Limits as core
 use Rattle.core_compiler.specs.Compile.{UnlessMemory, HasCodeWhereWithin, HasImageWhereBuilt}
 use Rattle.plain_plan.specs.Plain.{plain_plan}
 use Rattle.source_compiler.specs.Compile.{source_most}
 use Rattle.source_compiler.specs.Source.{read_program}
-use Rattle.source_compiler.proofs.ForCallers.{code_read, within_same, image_same}
+use Rattle.source_compiler.proofs.ForCallers.{code_read, under_plan, within_same, image_same}
 use Rattle.arc_top.specs.Loads.{files_state}
 use Rattle.arc_top.specs.Top.{IsChecked, IsTurnedDown}
 use Rattle.arc_top.proofs.Commands.{limits_stop, wants_behind}
@@ -49,7 +51,7 @@ returns-in_err-check_core-clause-stops g c =
           (subst (λ s. UnlessMemory {T = Unit {0}} (Err s) (HasCodeWhereWithin program c.in_ok-plan.plan answer.0)) e answer.2)));
       refused = down;
     })
-    answer.1 p.2)
+    (under_plan (Unit {0}) (λ (p : Plan). core.check_limits p answer.0 (read_program c.in_ok-program.program)) c.in_ok-plan.plan plain _ _ plan answer.1) p.2)
 
 pub returns-clause-checked : goal.returns-clause-checked
 returns-clause-checked g c =
@@ -59,11 +61,12 @@ returns-clause-checked g c =
     let plain = plain_plan (read_program c.in_ok-program.program) in
     let plan = c.in_ok-plan.ensures.plain in
     let answer = c.in_ok-check_core.ensures.answers in
+    let taken = subst (λ (p : Plan). core.check_limits p answer.0 (read_program c.in_ok-program.program) ≡ Ok tt) plan answer.1 in
     let is : IsChecked main given.0 = record {
       bytes = answer.0;
       code = code_read c.one_answer.ensures.program main given.0 (read_program c.in_ok-program.program) answer.0 given.2
           (within_same program plain (subst (λ p. HasCodeWhereWithin program p answer.0) plan answer.2));
-      program = record { within = given.1.within; program = read_program c.in_ok-program.program; reads = given.2; taken = answer.1 };
+      program = record { within = given.1.within; program = read_program c.in_ok-program.program; reads = given.2; taken = taken };
       image = image_same program plain (subst (λ p. HasImageWhereBuilt program p answer.0) plan answer.3);
     } in
     (given.0, given.1, is)

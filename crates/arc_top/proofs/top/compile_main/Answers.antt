@@ -1,6 +1,4 @@
-use Rattle.core_compiler.specs.Limits.{build_limits}
 use Rattle.arc_top.specs.Loads.{files_state}
-use Rattle.arc_top.specs.Top.{IsTurnedDown}
 use Rattle.arc_top.proofs.Commands.{compiling_stops}
 use Rattle.arc_top.proofs.top.compile_main.Goals as goal
 

@@ -1,6 +1,6 @@
 use Rattle.std.proofs.Common.{ℕ, List}
 use Rattle.program_limits.specs.Limits.{tree_limits}
-use Rattle.core_compiler.specs.Limits.{check_limits}
+use Rattle.source_compiler.specs.Limits.{check_limits}
 use Rattle.source_compiler.specs.Limits.{Limits}
 use Rattle.source_compiler.specs.Compile.{IsNoProgram}
 use Rattle.source_compiler.proofs.ForCallers.{unread}

@@ -18,7 +18,7 @@ returns-in-Some c =
     record {
       answers = (
         0,
-        checks_nothing program 0 c.in-Some.field-0 out,
+        checks_nothing program c.args.plan.now 0 c.in-Some.field-0 out,
         left_out_before program c.args.plan.now 0 c.in-Some.field-0 out,
         λ none. absurd (not_both (first_left_out program) c.in-Some.field-0 out none),
       );
@@ -34,8 +34,8 @@ returns-in_err-image c =
     rw (p.1, p.2) (record {
       answers = (
         answer.0,
-        refused_too (λ (image : RustImage). tt) (build_limits answer.0 program) (check_limits answer.0 program)
-            (checks_all program answer.0 (sym c.in_ok-left_out.ensures ∙ c.in-None.is)) _ answer.1,
+        refused_too (λ (image : RustImage). tt) (build_limits c.args.plan.now answer.0 program) (check_limits c.args.plan.now answer.0 program)
+            (checks_all program c.args.plan.now answer.0 (sym c.in_ok-left_out.ensures ∙ c.in-None.is)) _ answer.1,
         still_refused RustImage (Unit {0}) (HasCodeWhereWithin program c.args.plan.now answer.0) _ answer.2,
         tt,
       );
@@ -49,7 +49,7 @@ returns c =
     record {
       answers = (
         answer.0,
-        checks_all program answer.0 (sym c.in_ok-left_out.ensures ∙ c.in-None.is) ∙ answer.1,
+        checks_all program c.args.plan.now answer.0 (sym c.in_ok-left_out.ensures ∙ c.in-None.is) ∙ answer.1,
         answer.2,
         λ none. record { heap = 0; image = image_of image; does = c.in_ok-image.ensures.does; bytes = answer.3 },
       );

@@ -1,18 +1,19 @@
-use Rattle.std.proofs.Common.{refl, subst, length}
+use Rattle.std.proofs.Common.{rules, ◌≡◌, true, length, refl, ap, subst, ◌∙◌}
 use Rattle.std.proofs.lemmas.Bool.{and_parts}
 use Rattle.std.proofs.lemmas.Result.{err_from_is_err_and}
 use Rattle.arc_base.specs.declared.place.Code.TheVariants.{TooLarge}
+use Rattle.arc_base.specs.Refusal.{and_then}
 use Rattle.arc_base.proofs.ForCallers.{refuses, stops}
 use Rattle.rv32_isa.specs.declared.image.Image.{Image as RustImage}
 use Rattle.rv32_isa.specs.Image.{image_of}
 use Rattle.nim_program.specs.Kinds.{are_declared}
 use Rattle.program_limits.specs.Frames.{beginning}
-use Rattle.program_limits.specs.Limits.{program_in, tree_limits}
-use Rattle.core_compiler.specs.Limits.{code_limits, build_limits}
+use Rattle.program_limits.specs.Limits.{program_in, unless_large, tree_limits}
+use Rattle.core_compiler.specs.Limits.{code_limits, note_limits, build_limits}
 use Rattle.core_compiler.specs.Stages.{IsTooLarge}
 use Rattle.core_compiler.proofs.Composing.{has_code, does_program}
 use Rattle.core_compiler.proofs.EnumMembers.{enums_may}
-use Rattle.core_compiler.proofs.Refusals.{code_fits, code_large, refused_before, refused_with}
+use Rattle.core_compiler.proofs.Refusals.{note_said, code_large, refused_before, refused_with}
 use Rattle.core_compiler.proofs.program.compile_core.Goals as goal
 
 -- what flat code is may be lowered, and enums have members with names
@@ -34,7 +35,8 @@ returns-in_err-within_core-clause-answers c =
     let answers = c.in_err-within_core.ensures in
     rw (p.1, p.2) (
       0,
-      stops (λ (image : RustImage). tt) (λ (done : Unit {0}). tt) (tree_limits program) (λ small. code_limits 0) _ answers,
+      stops (λ (image : RustImage). tt) (λ (done : Unit {0}). tt) (tree_limits program)
+          (λ small. and_then (code_limits 0) (λ few. note_limits c.args.plan.now)) _ answers,
       refused_before (λ (done : Unit {0}). tt) RustImage program c.args.plan.now 0 _ answers,
       tt,
     )
@@ -49,9 +51,11 @@ returns-in_err-words-clause-answers c =
 pub returns-in-Ok-clause-answers : goal.returns-in-Ok-clause-answers
 returns-in-Ok-clause-answers c =
     let program = program_in c.args.program.now in
-    let image = c.in-Ok.image in (
+    let image = c.in-Ok.image in
+    let said = note_said program c.args.plan.now (length image.code) c.note_fits.result c.in_ok-within_core.ensures image.code_most c.note_fits.ensures in
+    let fits : c.note_fits.result ≡ true = search rules in (
       length image.code,
-      code_fits program (length image.code) c.in_ok-within_core.ensures image.code_most,
+      said ∙ ap unless_large fits,
       λ small. has_code c.agreement.ensures.law c.agreement.ensures.pace program c.args.program.now.types c.args.plan.now c.in_ok-flat.flat c.in_ok-words.words
           c.in_ok-flat.ensures c.in_ok-words.ensures
           (length image.code) c.in-Ok.ensures.is.from,
@@ -65,7 +69,23 @@ returns-in-Ok-clause-does c =
     c.in_ok-flat.ensures c.in_ok-words.ensures
     c.args.heap c.requires.heap (image_of c.in-Ok.image) c.in-Ok.ensures.is
 
--- ---- the code is too large
+-- ---- the note or the code is too large
+
+pub returns-then-not-note_fits-clause-answers : goal.returns-then-not-note_fits-clause-answers
+returns-then-not-note_fits-clause-answers c =
+    let program = program_in c.args.program.now in
+    let plan = c.args.plan.now in
+    let image = c.in-Ok.image in
+    let bytes = length image.code in
+    let has = has_code c.agreement.ensures.law c.agreement.ensures.pace program c.args.program.now.types plan c.in_ok-flat.flat c.in_ok-words.words
+    c.in_ok-flat.ensures c.in_ok-words.ensures bytes c.in-Ok.ensures.is.from in
+    let said = note_said program plan bytes c.note_fits.result c.in_ok-within_core.ensures image.code_most c.note_fits.ensures in (
+      bytes,
+      refuses (λ (image : RustImage). tt) (build_limits plan bytes program) TooLarge beginning c.too_large.result c.too_large.ensures
+          (said ∙ ap unless_large c.if-not-note_fits.true),
+      refused_with RustImage program plan bytes c.too_large.result has,
+      tt,
+    )
 
 pub returns-in-Err-TooLarge-clause-answers : goal.returns-in-Err-TooLarge-clause-answers
 returns-in-Err-TooLarge-clause-answers c =
@@ -75,8 +95,8 @@ returns-in-Err-TooLarge-clause-answers c =
     let has = has_code c.agreement.ensures.law c.agreement.ensures.pace program c.args.program.now.types c.args.plan.now c.in_ok-flat.flat c.in_ok-words.words
     c.in_ok-flat.ensures c.in_ok-words.ensures bytes large.1 in (
       bytes,
-      refuses (λ (image : RustImage). tt) (build_limits bytes program) TooLarge beginning c.too_large.result c.too_large.ensures
-          (code_large program bytes c.in_ok-within_core.ensures large.0),
-      refused_with RustImage program c.args.plan.now bytes c.too_large.result has,
+      refuses (λ (image : RustImage). tt) (build_limits c.args.plan.now bytes program) TooLarge beginning c.too_large-in-Err-TooLarge.result c.too_large-in-Err-TooLarge.ensures
+          (code_large program c.args.plan.now bytes c.in_ok-within_core.ensures large.0),
+      refused_with RustImage program c.args.plan.now bytes c.too_large-in-Err-TooLarge.result has,
       tt,
     )

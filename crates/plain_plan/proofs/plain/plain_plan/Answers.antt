@@ -13,8 +13,8 @@ invariant_of-around c = record {
       h true f.0 f.1 ∙ ap hooked (sym (c.type_forms.ensures.computed _ _ f.0 f.1));
 }
 
-pub returns : goal.returns
-returns c =
+pub returns-clause-is : goal.returns-clause-is
+returns-clause-is c =
     let p = c.args.program.now in
     let program = program_under (types_in p.types) (facts_in p.types) p in
     let sites = c.in_ok-sites.ensures in

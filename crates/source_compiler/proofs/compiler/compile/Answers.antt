@@ -1,4 +1,4 @@
-use Rattle.std.proofs.Common.{◌≡◌, refl, sym, subst, ◌∙◌, arith, Ok}
+use Rattle.std.proofs.Common.{◌≡◌, refl, sym, ap, subst, ◌∙◌, arith, Ok}
 use Rattle.std.proofs.lemmas.Result.{err_from_is_err_and}
 use Rattle.rv32_isa.specs.declared.image.Image.{Image as RustImage}
 use Rattle.elf32.specs.declared.file.ElfFile.{ElfFile}
@@ -7,11 +7,12 @@ use Rattle.check_decls.specs.Modules.{program_in}
 use Rattle.nim_plan.specs.declared.plan.Plan.{Plan}
 use Rattle.plain_plan.specs.Plain.{plain_plan}
 use Rattle.core_compiler.specs.Compile.{HasCodeWhereWithin}
-use Rattle.core_compiler.specs.Limits.{build_limits}
+use Rattle.core_compiler.specs.Limits as core
+use Rattle.source_compiler.specs.Limits.{build_limits}
 use Rattle.source_compiler.specs.Source.{alone, read_program}
-use Rattle.source_compiler.proofs.PlainFiles.{plain_file, built_plain, no_sites, image_is}
+use Rattle.source_compiler.proofs.PlainFiles.{plain_file, built_note, image_is}
 use Rattle.source_compiler.proofs.Taking.{never_refused, down_by_limits, no_long, for_limits, code_read, unread_code, stopped_code}
-use Rattle.source_compiler.proofs.Stages.{limits_down}
+use Rattle.source_compiler.proofs.Stages.{limits_down, under_plan}
 use Rattle.source_compiler.proofs.Unlisted.{within_same, does_same}
 use Rattle.source_compiler.proofs.compiler.compile.Goals as goal
 
@@ -60,7 +61,9 @@ returns-in_err-image-clause-decided c =
     let limits = build_limits answer.0 in
     let program = c.in_ok-program.program in
     let plan = c.in_ok-plan.ensures.plain in
-    let down = limits_down RustImage limits (read_program program) source c.in_ok-program.ensures.reads _ _ answer.1 in
+    let answered = under_plan RustImage (λ (p : Plan). core.build_limits p answer.0 (read_program program)) c.in_ok-plan.plan
+    (plain_plan (read_program program)) _ _ plan answer.1 in
+    let down = limits_down RustImage limits (read_program program) source c.in_ok-program.ensures.reads _ _ answered in
     let said = down_by_limits limits source p.0 _ c.in_ok-program.ensures.within p.2 down in
     let code = stopped_code ElfFile RustImage c.one_answer.ensures.program source (program_in program) c.in_ok-plan.plan answer.0 plan
     c.in_ok-program.ensures.reads p.0 _ p.2 answer.2 in (
@@ -103,20 +106,23 @@ returns-clause-compiled c =
     let reads = c.in_ok-program.ensures.reads in
     let file = file_of (record { image = image; version = 1; plan = c.in_ok-plan.plan }) in
     let plan = c.in_ok-plan.ensures.plain in
-    let plain = built_plain answer.0 program answer.1 in
-    let none = c.without_hooks.ensures (program_in c.in_ok-program.program) c.in_ok-program.ensures.typed plain in
-    let laws = c.plain_plans.ensures in
+    let is = c.plain_plans.ensures.is program in
+    let built = subst (λ (p : Plan). core.build_limits p answer.0 program ≡ Ok tt) plan answer.1 in
     λ name. record {
       program = program;
       reads = reads name;
       reads_only = λ other r. c.one_answer.ensures.program (alone name source) other program r (reads name);
-      built = subst (λ n. build_limits n program ≡ Ok tt) (sym answer.3) answer.1;
+      built = subst (λ n. build_limits n program ≡ Ok tt) (sym answer.3) built;
       allowed = plain_file file (record {
         version = refl;
         image = image_is image;
         heap_least = omega (arith, does.heap_is, c.requires.heap_least);
         hooks = does.hooks;
-        plan = plan ∙ no_sites laws.is laws.only laws.without_hooks program none;
+        ordered = c.in_ok-plan.ensures.ordered.sites;
+        fit = c.in_ok-plan.ensures.words;
+        sinks = ap (λ (p : Plan). p.sinks) plan ∙ is.sinks;
+        skips = ap (λ (p : Plan). p.skips) plan ∙ is.skips;
+        few = built_note c.in_ok-plan.plan answer.0 program answer.1;
       });
       agrees = λ input. does.agrees input;
       paced = λ input. does.paced input;

@@ -12,9 +12,9 @@ plain_plan-requires c =
 pub returns-clause-plain : goal.returns-clause-plain
 returns-clause-plain c =
     let laws = c.plain_plans.ensures in
-    IfOk-weaker c.plain_plan.result _ _ (λ plan is. is ∙ plan_same laws.is laws.only (program_in c.args.program.now)) c.plain_plan.ensures
+    IfOk-weaker c.plain_plan.result _ _ (λ plan is. is ∙ plan_same laws.is laws.only (program_in c.args.program.now)) c.plain_plan.ensures.is
 
 pub returns-clause-ordered : goal.returns-clause-ordered
 returns-clause-ordered c =
     IfOk-weaker c.plain_plan.result _ _
-    (λ plan is. subst IsInOrder (sym is) (c.plain_plans.ensures.is (program_in c.args.program.now)).ordered) c.plain_plan.ensures
+    (λ plan is. subst IsInOrder (sym is) (c.plain_plans.ensures.is (program_in c.args.program.now)).ordered) c.plain_plan.ensures.is

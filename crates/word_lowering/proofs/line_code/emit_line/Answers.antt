@@ -27,6 +27,12 @@ returns-in-Get c = rw c.in-Get.is c.emit_got.ensures
 pub returns-in-Look : goal.returns-in-Look
 returns-in-Look c = rw c.in-Look.is c.emit_got-in-Look.ensures
 
+pub returns-in-Fill : goal.returns-in-Fill
+returns-in-Fill c = rw c.in-Fill.is c.emit_put.ensures
+
+pub returns-in-Give : goal.returns-in-Give
+returns-in-Give c = rw c.in-Give.is c.emit_put-in-Give.ensures
+
 pub returns-in-Item : goal.returns-in-Item
 returns-in-Item c = rw c.in-Item.is c.emit_item_at.ensures
 

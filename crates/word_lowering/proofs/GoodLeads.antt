@@ -1,0 +1,118 @@
+-- What a location leads to, in homes: a place that has a value of its own, or the value of a temporary; or in a block.
+use Rattle.std.proofs.Common.{◌≡◌, ◌⊎◌, inl, inr, ℕ, List, [], ◌∷◌, map, Some, None, true, false, refl, sym, subst, ◌∙◌}
+use Rattle.std.proofs.lemmas.Bool.{cases_Bool}
+use Rattle.nim_meaning.specs.Values.{Value, Standing, Made, Location, Holds}
+use Rattle.nim_meaning.specs.State.{slot_at}
+use Rattle.flat_code.specs.Fits.{is_own}
+use Rattle.flat_code.specs.Scene.{Temps}
+use Rattle.flat_code.specs.Shapes.{Shape}
+use Rattle.word_code.specs.Words.{Vars}
+use Rattle.word_lowering.specs.declared.texts.TheConstants.{FIXED_BYTES}
+use Rattle.word_lowering.specs.Layouts.{is_address}
+use Rattle.word_lowering.proofs.BlockHomes.{Home, FromHome, LeadsTo}
+use Rattle.word_lowering.proofs.GoodHomes.{among_sites, held_of, home_at, HomeOf, homes_apart}
+use Rattle.word_lowering.proofs.Keeping.{AmongCalls, declared_address}
+use Rattle.word_lowering.proofs.Lines.{Basis, IsGood}
+use Rattle.word_lowering.proofs.Related.{Both, calls_of, sites_of, store_of}
+use Rattle.word_lowering.proofs.Scenes.{is_fixed, address_of, of_value, of_place, Call, site_of, house, Filled, IsThere, looked, IsItem, FromOwned, FromPlace}
+use Rattle.word_lowering.proofs.Scenes.{FromValue}
+use Rattle.word_lowering.proofs.ShapeFacts.{never}
+use Rattle.word_lowering.proofs.Sites.{room, Housing, in_variable, by_address, in_places, in_data, InMemory, Site, AmongSites, data_end, Linked}
+use Rattle.word_lowering.proofs.SitesApart.{houses, site_at}
+
+-- a place in memory has a value of its own
+pub own_place : (x : Basis) (sites : List Site) (linked : Linked x.table x.blocks sites) (s : Site) (n : ℕ) → AmongSites s sites → IsThere s (of_place n)
+    → InMemory (house s (of_place n)).home → is_own (house s (of_place n)).kind ≡ true
+own_place x sites linked s n i there inside = by (cases_Bool (is_own (house s (of_place n)).kind))
+  where
+    other : is_address (house s (of_place n)).kind ≡ true → is_own (house s (of_place n)).kind ≡ true
+    other address = go (houses x.table x.blocks s (of_place n) (site_at x.table x.blocks sites s linked i).body there).where_is
+      where
+        go : Housing (room s.body) FIXED_BYTES (data_end x.table x.blocks) s.body.start (house s (of_place n)) → is_own (house s (of_place n)).kind ≡ true
+        go (in_variable v e plain low is_word) = absurd (subst InMemory e inside)
+        go (by_address v e k low) = absurd (subst InMemory e inside)
+        go (in_places a e plain whole within) = never (sym plain ∙ address)
+        go (in_data a e plain whole low within start) = never (sym plain ∙ address)
+
+    by : (is_own (house s (of_place n)).kind ≡ true) ⊎ (is_own (house s (of_place n)).kind ≡ false) → is_own (house s (of_place n)).kind ≡ true
+    by (inl h) = h
+    by (inr h) = other (declared_address (house s (of_place n)).kind there.kind h)
+
+-- a call at a site
+call_of : (cs : List Call) (s : Site) → AmongSites s (map site_of cs) → (c : Call) × AmongCalls c cs × (c.site ≡ s)
+call_of [] s i = absurd i
+call_of (c ∷ cs) s (inl e) = (c, inl refl, e)
+call_of (c ∷ cs) s (inr i) = let r = call_of cs s i in (r.0, inr r.1, r.2)
+
+module _ (x : Basis) (g : Both) (y : IsGood x g) where
+  -- ---- places with values of their own
+
+  abbrev pub home_of : Site → (place : ℕ) → Home
+  home_of s n = record {
+    base = Standing s.level n;
+    at = address_of s.base (house s (of_place n)).home;
+    shape = looked x.table s (of_place n);
+  }
+
+  pub record OwnHome (s : Site) (n : ℕ) : Type 0 where
+    pub temps : Temps
+    pub vars : Vars
+    pub value : Value
+    pub slot : slot_at g.world s.level n ≡ Some (Holds value)
+    pub item : IsItem x.table (store_of g) (record { site = s; temps = temps; vars = vars }) (of_place n) value
+    pub among : HomeOf x g (home_of s n)
+
+  pub own_home : (s : Site) (n : ℕ) → AmongSites s (sites_of g) → Filled g.world s.level n → IsThere s (of_place n) → InMemory (house s (of_place n)).home
+      → OwnHome s n
+  own_home s n i filled there inside = let c = call_of (calls_of g) s i in by c.0 c.1 c.2
+    where
+      by : (c : Call) → AmongCalls c (calls_of g) → c.site ≡ s → OwnHome s n
+      by c k e =
+          let here : IsThere c.site (of_place n) = subst (λ (z : Site). IsThere z (of_place n)) (sym e) there in
+          let home : InMemory (house c.site (of_place n)).home = subst (λ (z : Site). InMemory (house z (of_place n)).home) (sym e) inside in
+          let was : Filled g.world c.site.level n = subst (λ (z : Site). Filled g.world z.level n) (sym e) filled in
+          let own : is_own (house c.site (of_place n)).kind ≡ true
+          = own_place x (sites_of g) y.linked c.site n (among_sites (calls_of g) c k) here home in
+          let held = (held_of x (store_of g) g.world (calls_of g) c y.hold k).1 in
+          let v = (held.filled n here was).own own in
+          subst (λ (z : Site). OwnHome z n) e (record {
+            temps = c.temps;
+            vars = c.vars;
+            value = v.0;
+            slot = v.1;
+            item = held.items (of_place n) v.0 here v.1;
+            among = record { call = c; among = k; name = of_place n; there = here; inside = home; value = v.0; has = v.1; is = refl };
+          })
+
+  -- ---- locations
+
+  -- such a location, and an address
+  abbrev pub IsInHome : Location → (a : ℕ) → Shape → Type 0
+  IsInHome l a t = FromHome (is_fixed g.ground) (HomeOf x g) (homes_apart x g y) l a t
+
+  pub place_home : (l : Location) (a : ℕ) (t : Shape) → FromPlace x.table (sites_of g) g.world l a t → IsInHome l a t
+  place_home l a t f = record {
+    home = home_of f.site f.number;
+    among = (own_home f.site f.number f.among f.filled f.there f.home).among;
+    base = f.base;
+    offset = f.offset;
+    way = f.path;
+    address = f.address;
+  }
+
+  pub value_home : (c : Call) → AmongCalls c (calls_of g) → (temp : ℕ) (path : List ℕ) (a : ℕ) (t : Shape)
+      → (f : FromValue x.table c.site c.temps temp path a t) → IsInHome (record { base = Made f.value; path = path; through = None }) a t
+  value_home c i temp path a t f = record {
+    home = home_at x g c (of_value temp) f.value;
+    among = record { call = c; among = i; name = of_value temp; there = f.there; inside = f.home; value = f.value; has = f.has; is = refl };
+    base = refl;
+    offset = f.offset;
+    way = f.leads;
+    address = f.address;
+  }
+
+  -- into a home or a block
+  abbrev pub owned_to : (l : Location) (a : ℕ) (t : Shape) → FromOwned x.table (sites_of g) g.ground g.world l a t
+      → LeadsTo (is_fixed g.ground) (HomeOf x g) (homes_apart x g y) g.ground.blocks l a t
+  owned_to l a t (inl f) = inl (place_home l a t f)
+  owned_to l a t (inr f) = inr (record { block = f.block; base = f.base; leads = f.leads })
