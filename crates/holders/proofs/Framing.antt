@@ -1,6 +1,7 @@
 -- A part of a part: what else the whole has stays as it is meanwhile.
 use Rattle.std.proofs.Common.{◌≡◌, true, refl, sym, ap, subst, ◌∙◌, arith, ℕ, ◌<◌, ◌≤◌, inl, inr, ◌⊎◌, List, [], ◌∷◌, ◌++◌}
-use Rattle.nim_meaning.specs.Values.{InBlock}
+use Rattle.nim_types.specs.Forms.{Form}
+use Rattle.nim_meaning.specs.Values.{Value, InBlock}
 use Rattle.nim_meaning.specs.Marks.{Member, Distinct}
 use Rattle.nim_meaning.specs.State.{World}
 use Rattle.holders.specs.Owned.{Apart, Active}
@@ -8,7 +9,7 @@ use Rattle.holders.specs.Becoming.{taken_in}
 use Rattle.holders.specs.Beside.{OtherPart, other_base}
 use Rattle.holders.specs.Territory.{Owner, Cells, no_cells, a_cell, AllOwners, OtherThan, ClearOf, Territory, IsUnder}
 use Rattle.holders.specs.Running.{Region, IsOutside, Passes, AreOwn, Wider}
-use Rattle.holders.specs.Staging.{Stage}
+use Rattle.holders.specs.Staging.{Stage, Holding}
 use Rattle.holders.proofs.Owning.{in_first, in_second, distinct_first, distinct_second, distinct_apart, has_stays}
 use Rattle.holders.proofs.Ending.{same_number}
 use Rattle.holders.proofs.Copying.{distinct_both, either_block}
@@ -223,3 +224,92 @@ stage_framed {r} {inner} ms ts {ns} {gs} {first} {places} {more} {old} {start} {
     further k (inl m) = came k m
     further k (inr (inl m)) = elim m [ ]
     further k (inr (inr le)) = inr (inr (later k le))
+
+-- ---- a value comes out of a part of a part
+
+record ThereWith (ps : List Owner) (blocks old : List ℕ) (start now : World) : Type 0 where
+  territory : Territory ps now
+  came : (k : ℕ) → Member k territory.blocks → Member k old ⊎ (Member k [] ⊎ (taken_in start ≤ k))
+  same : territory.blocks ≡ blocks
+
+-- and which blocks there are then
+record StageWith (r : Region) (ms gs : List Owner) (first places : ℕ) (nodes old blocks : List ℕ) (start now : World) : Type 0 where
+  stage : Stage r ms gs first places nodes old start now
+  same : stage.runs.territory.blocks ≡ blocks
+
+module _ (r inner : Region) (ms gs : List Owner) (old : List ℕ) (start mid : World) (w : Wider r inner)
+    (own : AreOwn r ms) (t : Territory (ms ++ gs) mid) (came : (k : ℕ) → Member k t.blocks → Member k old ⊎ (Member k [] ⊎ (taken_in start ≤ k)))
+    (passes : Passes r gs old start mid) (out : AllOwners (λ m. IsOutside inner m.at.base) ms) where
+  later : (k : ℕ) → taken_in mid ≤ k → taken_in start ≤ k
+  later k le = omega (arith, le, passes.grows)
+
+  further : (k : ℕ) → Member k t.blocks ⊎ (Member k [] ⊎ (taken_in mid ≤ k)) → Member k old ⊎ (Member k [] ⊎ (taken_in start ≤ k))
+  further k (inl m) = came k m
+  further k (inr (inl m)) = elim m [ ]
+  further k (inr (inr le)) = inr (inr (later k le))
+
+  framed_with : {ns : List Owner} {first places : ℕ} {more : List ℕ} {last : World}
+      (u : Stage inner ns gs first places more (others_alone ms [] gs mid t).blocks mid last) →
+      StageWith r (ms ++ ns) gs first places more old ((pieces ms [] gs mid t).first ++ u.runs.territory.blocks) start last
+  unfolding with_waiting
+  framed_with {ns} {first} {places} {more} {last} u =
+      let all = with_waiting ms [] gs mid t inner last u.runs.passes ns u.runs.territory u.runs.came out u.runs.own in
+      let blocks = (pieces ms [] gs mid t).first ++ u.runs.territory.blocks in
+      let there = subst (λ ps. ThereWith ps blocks old start last) (owners_assoc ms ns gs)
+      (record { territory = all.territory; came = λ k m. further k (all.came k m); same = refl }) in
+      record {
+        stage = record {
+          runs = record {
+            territory = there.territory;
+            own = all_both (λ m. IsOutside r m.at.base → ⊥) ms ns own (own_wider w ns u.runs.own);
+            came = there.came;
+            passes = passes_then passes came (passes_wider [] w tt (in_others ms [] gs mid t) u.runs.passes);
+          };
+          active = subst (λ l. Active last.frames l first places more) w.level u.active;
+        };
+        same = there.same;
+      }
+
+  pub holding_framed : {f : Form} {v : Value} {ns : List Owner} {first places : ℕ} {more : List ℕ} {last : World} →
+      Holding f v inner ns gs first places more (others_alone ms [] gs mid t).blocks mid last →
+      Holding f v r (ms ++ ns) gs first places more old start last
+  holding_framed {ns = ns} h =
+      let fs = framed_with h.stage in
+      let p = pieces ms [] gs mid t in
+      record {
+        stage = fs.stage;
+        under = record {
+          given = h.under.given;
+          has = h.under.has;
+          distinct = h.under.distinct;
+          strange = λ k m n. either_block k p.first h.stage.runs.territory.blocks ⊥ (subst (λ ds. Member k ds) fs.same n) (λ q. waits k q (h.came k m))
+              (λ q. h.under.strange k m q);
+          clear = all_both (λ o. Apart o.at.base h.under.given) (ms ++ ns) gs
+              (all_both (λ o. Apart o.at.base h.under.given) ms ns
+              (cells_clear ms p.first t.blocks [] h.under.given p.cells (all_first (λ o. Apart o.at.base t.blocks) ms gs t.clear) (none_clear ms)
+              (λ k m. wide k (h.came k m)))
+              (all_first (λ o. Apart o.at.base h.under.given) ns gs h.under.clear))
+              (all_second (λ o. Apart o.at.base h.under.given) ns gs h.under.clear);
+        };
+        came = λ k m. from k (h.came k m);
+      }
+    where
+      too_far : (k : ℕ) → k < taken_in mid → taken_in mid ≤ k → ⊥
+      too_far k less le = omega (arith, less, le)
+
+      waits : (k : ℕ) → Member k (pieces ms [] gs mid t).first → Member k (others_alone ms [] gs mid t).blocks ⊎ (taken_in mid ≤ k) → ⊥
+      waits k q (inl m) = distinct_apart k (pieces ms [] gs mid t).first (pieces ms [] gs mid t).second (split ms [] gs mid t) q m
+      waits k q (inr le) = too_far k (cells_below ms (pieces ms [] gs mid t).first (pieces ms [] gs mid t).cells k q) le
+
+      wide : (k : ℕ) → Member k (others_alone ms [] gs mid t).blocks ⊎ (taken_in mid ≤ k) → Member k t.blocks ⊎ (Member k [] ⊎ (taken_in mid ≤ k))
+      wide k (inl m) = inl (in_others ms [] gs mid t k m)
+      wide k (inr le) = inr (inr le)
+
+      simple : (k : ℕ) → Member k old ⊎ (Member k [] ⊎ (taken_in start ≤ k)) → Member k old ⊎ (taken_in start ≤ k)
+      simple k (inl m) = inl m
+      simple k (inr (inl m)) = elim m [ ]
+      simple k (inr (inr le)) = inr le
+
+      from : (k : ℕ) → Member k (others_alone ms [] gs mid t).blocks ⊎ (taken_in mid ≤ k) → Member k old ⊎ (taken_in start ≤ k)
+      from k (inl m) = simple k (came k (in_others ms [] gs mid t k m))
+      from k (inr le) = inr (later k le)

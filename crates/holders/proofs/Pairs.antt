@@ -36,7 +36,7 @@ use Rattle.holders.proofs.PlainRows.{cell_moves, none_clear}
 -- ---- forms are finite
 
 abbrev mutual
-  depth : Form → ℕ
+  pub depth : Form → ℕ
   depth plain = 0
   depth reference = 0
   depth block = 0

@@ -8,7 +8,7 @@ use Rattle.nim_meaning.specs.Values.{Value, Handle, Fixed, nothing, nth, charact
 use Rattle.nim_meaning.specs.Values.{Location}
 use Rattle.nim_meaning.specs.Heap.{Contents, Characters, Block}
 use Rattle.nim_meaning.specs.Marks.{Distinct}
-use Rattle.nim_meaning.specs.State.{World, whole_at, stored, store, with_value_in, new_contents}
+use Rattle.nim_meaning.specs.State.{World, load, whole_at, stored, store, with_value_in, new_contents}
 use Rattle.nim_meaning.specs.Heap.{with_contents}
 use Rattle.nim_meaning.specs.Deeds.{Deed, Stores, costs, sets, give, does, unless_gone, ◌>>=◌}
 use Rattle.nim_meaning.specs.Places.{put, fetched}
@@ -22,7 +22,7 @@ use Rattle.holders.specs.Finding.{Found, in_cell, a_character, to_be_read, Read,
 use Rattle.holders.proofs.Sure.{sure_then, sure_weaker}
 use Rattle.holders.proofs.Bases.{whole_is, loaded, block_filled, stored_elsewhere}
 use Rattle.holders.proofs.Staying.{stored_stays}
-use Rattle.holders.proofs.PathLemmas.{put_same}
+use Rattle.holders.proofs.PathLemmas.{put_same, part_of_put}
 use Rattle.holders.proofs.Copying.{stored_length, length_set}
 use Rattle.holders.proofs.Owning.{plain_anywhere, from_full}
 use Rattle.holders.proofs.Guards.{sure_takes, sure_sets, part_is_there, read_at}
@@ -60,12 +60,13 @@ text_stored {world} {k} new (in_text there e f) =
     (subst (λ (c : Contents). IsBase (record world { heap = with_contents world.heap k (new_contents c (Fixed new)) }) (InBlock k) (Fixed new)) (sym f)
     (in_text (record there { contents = Characters new }) (block_filled world k there (Characters new) e) refl))
 
-character_put : (m : Location) (w v x : Value) (bs : List ℕ) (world : World) → Cell block m w v bs world → (j : ℕ) → j < length_of v →
-    Sure (put (item_of v m j) x) (becomes_bare block m w bs world) world
-character_put m w v x bs world c j le = by v bs c.at c.is c.has c.distinct c.apart le
+-- a character of a text is put: the text's place keeps its handle
+pub character_stays : (m : Location) (w v x : Value) (bs : List ℕ) (world : World) → Cell block m w v bs world → (j : ℕ) → j < length_of v →
+    Sure (put (item_of v m j) x) (λ u after. Becomes block m w [] bs world after × (load after m ≡ v)) world
+character_stays m w v x bs world c j le = by v bs c.at c.is c.has c.distinct c.apart le
   where
     by : (v : Value) (bs : List ℕ) → At world m w → part w m.path ≡ v → Has world Full block v bs → Distinct bs → Apart m.base bs → j < length_of v →
-        Sure (put (item_of v m j) x) (becomes_bare block m w bs world) world
+        Sure (put (item_of v m j) x) (λ u after. Becomes block m w [] bs world after × (load after m ≡ v)) world
     by _ _ at e no_text d apart le = absurd (omega (arith, le))
     by _ _ at e (a_text {n = n} {k = k} {t = t} same there) d apart le =
         let item : Location = record m { base = InBlock k; path = j ∷ [] } in
@@ -74,22 +75,32 @@ character_put m w v x bs world c j le = by v bs c.at c.is c.has c.distinct c.apa
         let text_is : stored world (InBlock k) (put_part (whole_at world (InBlock k)) (j ∷ []) x) ≡ stored world (InBlock k) (Fixed new) =
         ap (λ u. stored world (InBlock k) (put_part u (j ∷ []) x)) (whole_is world (InBlock k) (Fixed t) there) in
         let off : m.base ≡ InBlock k → ⊥ = λ q. apart k q (inl refl) in
-        sure_then (sets item x) (λ u. give nothing) (λ u after. Becomes block m w [] (k ∷ []) world after)
-        (becomes_bare block m w (k ∷ []) world) world
-        (subst (λ b. Sure (unless_gone b (does (Stores item x))) (λ u after. Becomes block m w [] (k ∷ []) world after) world) (sym here)
-        (subst (λ after. Becomes block m w [] (k ∷ []) world after) (sym text_is) (record {
-          now = Handle n (Some k);
-          blocks = k ∷ [];
-          has = a_text (length_set t j (low_byte (number_of x)) ∙ same) (text_stored new there);
-          distinct = d;
-          came = λ i q. inl q;
-          grows = omega (arith, stored_length world (InBlock k) (Fixed new));
-          is = subst (λ y. IsBase (stored world (InBlock k) (Fixed new)) m.base y) (sym (ap (put_part w m.path) (sym e) ∙ put_same at.part))
-              (stored_elsewhere world (Fixed new) off there at.base);
-          elsewhere = λ b y is q far. stored_elsewhere world (Fixed new) (λ z. far k z (inl refl)) there is;
-          stays = stored_stays world (Fixed new) there;
-        })))
+        let base_is : IsBase (stored world (InBlock k) (Fixed new)) m.base w = stored_elsewhere world (Fixed new) off there at.base in
+        sure_then (sets item x) (λ u. give nothing) (λ u after. Becomes block m w [] (k ∷ []) world after × (load after m ≡ Handle n (Some k)))
+        (λ u after. Becomes block m w [] (k ∷ []) world after × (load after m ≡ Handle n (Some k))) world
+        (subst (λ b. Sure (unless_gone b (does (Stores item x))) (λ u after. Becomes block m w [] (k ∷ []) world after × (load after m ≡ Handle n (Some k)))
+        world) (sym here)
+        (subst (λ after. Becomes block m w [] (k ∷ []) world after × (load after m ≡ Handle n (Some k))) (sym text_is) (
+          record {
+            now = Handle n (Some k);
+            blocks = k ∷ [];
+            has = a_text (length_set t j (low_byte (number_of x)) ∙ same) (text_stored new there);
+            distinct = d;
+            came = λ i q. inl q;
+            grows = omega (arith, stored_length world (InBlock k) (Fixed new));
+            is = subst (λ y. IsBase (stored world (InBlock k) (Fixed new)) m.base y) (sym (ap (put_part w m.path) (sym e) ∙ put_same at.part)) base_is;
+            elsewhere = λ b y is q far. stored_elsewhere world (Fixed new) (λ z. far k z (inl refl)) there is;
+            stays = stored_stays world (Fixed new) there;
+          },
+          loaded (stored world (InBlock k) (Fixed new)) m w base_is ∙ e,
+        )))
         (λ u after b. b)
+
+character_put : (m : Location) (w v x : Value) (bs : List ℕ) (world : World) → Cell block m w v bs world → (j : ℕ) → j < length_of v →
+    Sure (put (item_of v m j) x) (becomes_bare block m w bs world) world
+character_put m w v x bs world c j le =
+    sure_weaker (put (item_of v m j) x) (λ u after. Becomes block m w [] bs world after × (load after m ≡ v)) (becomes_bare block m w bs world) world
+    (character_stays m w v x bs world c j le) (λ u after p. p.0)
 
 -- ---- where it was found
 

@@ -17,3 +17,6 @@ pub mod Called
 pub mod Scenes
 pub mod Entering
 pub mod Used
+pub mod Asked
+pub mod Evaluating
+pub mod Claimed

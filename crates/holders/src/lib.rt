@@ -6,4 +6,6 @@ mod laws;
 mod territories;
 
 pub use laws::{deeds, parts, sequences, texts, walks};
-pub use territories::{calls_as_a_whole, cells, entered, parts_of_bodies, paths, rows_on_cells};
+pub use territories::{
+    calls_as_a_whole, cells, entered, expressions, parts_of_bodies, paths, rows_on_cells,
+};

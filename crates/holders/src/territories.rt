@@ -7,9 +7,12 @@ ghost use Rattle.nim_types.specs.Forms.{Form, plain, block, elements, hooked, Fo
 ghost use Rattle.nim_types.specs.Forms.{HasForm};
 ghost use Rattle.nim_program.specs.Kinds.{kind_of, field_at, element_of, is_held};
 ghost use Rattle.nim_program.specs.Kinds.{is_declared_as};
-ghost use Rattle.nim_program.specs.Program.{Declared, Param, Body, Path, type_at, node_at};
+ghost use Rattle.nim_program.specs.Program.{Declared, Param, Body, Expr, Path, type_at, node_at};
+ghost use Rattle.nim_program.specs.Typed.{is_typed, is_typed_path};
+ghost use Rattle.nim_program.specs.Folds.{lists, node_numbers, total};
+ghost use Rattle.nim_program.specs.Numbering.{rise_to};
 ghost use Rattle.nim_program.specs.declared.operation.Use.{Use};
-ghost use Rattle.nim_program.specs.Scopes.{Placed, look};
+ghost use Rattle.nim_program.specs.Scopes.{Placed, look, Here as Scope};
 ghost use Rattle.nim_meaning.specs.Values.{Value, Values, Base, Slot, Holds, count, length_of, Location};
 ghost use Rattle.nim_meaning.specs.Values.{Standing, Waiting, at_base, Given, At as Place};
 ghost use Rattle.nim_meaning.specs.Heap.{Elements};
@@ -45,6 +48,9 @@ ghost use Rattle.holders.specs.Staging.{Stage, Holding, Up};
 ghost use Rattle.holders.specs.Used.{Used, Made, read_by, used_as};
 ghost use Rattle.holders.specs.Groups.{without_node, without_waits, Ends, AllMine};
 ghost use Rattle.holders.specs.Entering.{Handed, own_cells, StandThere};
+ghost use Rattle.holders.specs.Asked.{Limits, FactsOfTheirSort, Asked, AskedAt};
+ghost use Rattle.holders.specs.Evaluating.{value_nodes, path_nodes};
+ghost use Rattle.holders.specs.Claimed.{ValueSo, AimSo, NoCalls, known_at};
 ghost use Rattle.holders.specs.Called.{ParamsEnd, Result, CameBack, NotRaised};
 
 /// A territory is worked on by some of its cells alone, in another order, or by the parts of one of
@@ -251,6 +257,25 @@ pub fn parts_of_bodies()
         (nodes old : List ℕ) (start now : World) → Wider r inner → AreOwn r ks →
         Stage inner ms (ks ++ gs) first places nodes old start now →
         Stage r (ms ++ ks) gs first places nodes old start now }
+{}
+
+/// An expression without calls is never at a fault: it comes to its value, of its type, and what it
+/// leaves waits for its group; likewise a path. Asked is that it is typed, and what `Asked` says.
+pub fn expressions()
+    ensures value { (here : Here) (scope : Scope) (limits : Limits)
+        (root : (global : Bool) → ℕ → ℕ) (first places : ℕ) (os : List Owner) →
+        FactsOfTheirSort here.facts → (e : Expr) (how : Use) →
+        is_typed (known_at here scope) e ≡ true → Asked here.facts limits NoCalls e →
+        Distinct (value_nodes e) →
+        ValueSo here (known_at here scope) limits root first places os e how }
+    ensures path { (here : Here) (scope : Scope) (limits : Limits)
+        (root : (global : Bool) → ℕ → ℕ) (first places : ℕ) (os : List Owner) →
+        FactsOfTheirSort here.facts → (path : Path) →
+        is_typed_path (known_at here scope) path ≡ true → AskedAt here.facts limits NoCalls path →
+        Distinct (path_nodes path) →
+        AimSo here (known_at here scope) limits root first places os path }
+    ensures distinct { (h : Scope) (from to : ℕ) (e : Expr) → is_typed h e ≡ true →
+        rise_to from to (total lists node_numbers e) ≡ true → Distinct (value_nodes e) }
 {}
 
 /// A call begins with cells for the values that were handed over to it.

@@ -1,0 +1,15 @@
+use Rattle.nim_program.specs.Folds.{lists, node_numbers, total}
+use Rattle.holders.proofs.territories.expressions.Goals as goal
+use Rattle.holders.proofs.WholeExpressions.{value_comes, path_comes}
+use Rattle.holders.proofs.NodesRise.{value_distinct, rises}
+
+pub returns-clause-value : goal.returns-clause-value
+returns-clause-value c here scope limits root first places os sorted e how typed asked d =
+    value_comes here scope limits root first places os sorted e how typed asked d
+
+pub returns-clause-path : goal.returns-clause-path
+returns-clause-path c here scope limits root first places os sorted path typed asked d =
+    path_comes here scope limits root first places os sorted path typed asked d
+
+pub returns-clause-distinct : goal.returns-clause-distinct
+returns-clause-distinct c h from to e typed r = value_distinct h from e typed (rises from to (total lists node_numbers e) r)
