@@ -12,6 +12,7 @@ use Rattle.nim_tree.specs.Terms.{Term, Parts, no_parts, part, Choices}
 use Rattle.nim_types.specs.Types.{Ty}
 use Rattle.nim_program.specs.Program.{NoArg}
 use Rattle.expr_rules.specs.Env.{Env}
+use Rattle.expr_rules.specs.Builtins.{is_new_sequence}
 use Rattle.expr_rules.specs.Answers.{Answer, Typed, value_of, Want, wanted, within, nothing, Operand}
 use Rattle.expr_rules.specs.Choices.{Chosen, Picked, branch_want, undecided}
 use Rattle.expr_rules.specs.Constructions.{Plan, part_names, part_count, tuple_wants, array_want, sequence_want, types_in}
@@ -20,9 +21,10 @@ use Rattle.expr_rules.specs.Demands.{anything, selector, Demand, arguments, dema
 use Rattle.expr_rules.specs.Names.{callee_rule, count_rule, quoted_rule, bracket_rule, formed_type, is_array, array_type, length_rule}
 use Rattle.expr_rules.specs.Typed.{Value, Part, Several, typed, values, operands, read_type, read_array, read_types, is_pair}
 use Rattle.expr_steps.specs.ViewDemands.{SameDemand}
-use Rattle.expr_steps.specs.ViewEndings.{tuple_end, array_end, sequence_end, object_end, field_end, call_end, new_sequence_end, unary_end, binary_end}
+use Rattle.expr_steps.specs.ViewEndings.{tuple_end, array_end, sequence_end, object_end, field_end, call_end, new_sequence_end, conversion_end, unary_end}
+use Rattle.expr_steps.specs.ViewEndings.{binary_end}
 use Rattle.expr_steps.specs.ViewEndings.{index_end, if_end, case_end, case_else_end}
-use Rattle.check_exprs.specs.ViewTyped.{value_said, operand_said, operands_said, operands_onto, conditions_said, picks_said}
+use Rattle.check_exprs.specs.ViewTyped.{sequence_said, conversion_said, value_said, operand_said, operands_said, operands_onto, conditions_said, picks_said}
 use Rattle.check_exprs.proofs.Folding.{operands_first, conditions_first, picks_first, opened, nested}
 
 -- ---- constructions
@@ -151,10 +153,35 @@ behind_chain env n at y d e ps o before h b =
 abbrev pub new_then : Env → ℕ → Place → Parts → Ty → Answer Typed
 new_then env n at ps ty = and_then (operands env arguments (suc n) ps) (new_sequence_end n at ty)
 
-pub new_chain : (env : Env) (want : Want) (n : ℕ) (at p q : Place) (x y : List ℕ) (t : Term) (ps : Parts) → y ≡ normal x
-    → typed env want n (term.call at (term.index p (term.name q x) (part t no_parts)) ps)
-    ≡ and_then (bracket_rule at y) (λ (_ : Unit {0}). and_then (read_type env t) (new_then env n at ps))
-new_chain env want n at p q x y t ps w = ap (λ z. and_then (bracket_rule at z) (λ (_ : Unit {0}). and_then (read_type env t) (new_then env n at ps))) (sym w)
+-- of `newSeq`, and of another name with one part in its brackets
+pub bracket_chain : (env : Env) (want : Want) (n : ℕ) (at p q : Place) (x y : List ℕ) (given : Parts) (t : Term) (ps : Parts) (b : Bool) → y ≡ normal x
+    → given ≡ part t no_parts → is_new_sequence y ≡ b
+    → typed env want n (term.call at (term.index p (term.name q x) given) ps)
+    ≡ (if b then sequence_said env n at t ps else conversion_said env n at p q x (part t no_parts) ps)
+bracket_chain env want n at p q x y given t ps b w alone is =
+    ap (λ g. typed env want n (term.call at (term.index p (term.name q x) g) ps)) alone
+    ∙ ap (λ b. if b then sequence_said env n at t ps else conversion_said env n at p q x (part t no_parts) ps) (ap is_new_sequence (sym w) ∙ is)
+
+abbrev pub conversion_then : Env → ℕ → Place → Parts → Ty → Answer Typed
+conversion_then env n at ps ty = and_then (operands env arguments (suc n) ps) (conversion_end env n at ty)
+
+-- behind the test of the name
+abbrev pub conversion_go : Env → ℕ → (at p q : Place) → List ℕ → (given ps : Parts) → Answer Typed
+conversion_go env n at p q x given ps = and_then (read_type env (term.index p (term.name q x) given)) (conversion_then env n at ps)
+
+pub conversion_chain : (env : Env) (n : ℕ) (at p q : Place) (x y : List ℕ) (given ps : Parts) → y ≡ normal x
+    → conversion_said env n at p q x given ps ≡ and_then (bracket_rule env at y) (λ (_ : Unit {0}). conversion_go env n at p q x given ps)
+conversion_chain env n at p q x y given ps w =
+    ap (λ z. and_then (bracket_rule env at z) (λ (_ : Unit {0}). conversion_go env n at p q x given ps)) (sym w)
+
+pub conversion_behind : (env : Env) (n : ℕ) (at p q : Place) (x y : List ℕ) (given ps : Parts) → y ≡ normal x → bracket_rule env at y ≡ Ok tt
+    → conversion_said env n at p q x given ps ≡ conversion_go env n at p q x given ps
+conversion_behind env n at p q x y given ps w c =
+    conversion_chain env n at p q x y given ps w ∙ ap (λ z. and_then z (λ (_ : Unit {0}). conversion_go env n at p q x given ps)) c
+
+pub converted_chain : (env : Env) (n : ℕ) (at : Place) (ps : Parts) (ty : Ty) (k : ℕ) (before : List Operand) → k ≡ suc n → before ≡ []
+    → conversion_then env n at ps ty ≡ and_then (operands_said env arguments k before ps) (conversion_end env n at ty)
+converted_chain env n at ps ty k before e b = operands_alone env arguments n k before ps (conversion_end env n at ty) e b
 
 pub length_chain : (env : Env) (n : ℕ) (at : Place) (ps : Parts) (ty : Ty) (k : ℕ) (before : List Operand) → k ≡ suc n → before ≡ []
     → new_then env n at ps ty ≡ and_then (operands_said env arguments k before ps) (new_sequence_end n at ty)

@@ -16,7 +16,7 @@ use Rattle.expr_rules.specs.Answers.{Want, not_typed}
 use Rattle.expr_rules.specs.Constructions.{part_count}
 use Rattle.expr_rules.specs.Names.{is_single}
 use Rattle.expr_rules.specs.Typed.{is_callee, is_range, is_type_term, is_pair, typed, read_type, read_array}
-use Rattle.check_exprs.specs.ViewTyped.{label_said, one_label_said, test_said, case_by}
+use Rattle.check_exprs.specs.ViewTyped.{conversion_said, label_said, one_label_said, test_said, case_by}
 
 -- what can't be called
 pub call_none : (env : Env) (want : Want) (n : ℕ) (at : Place) (a : Term) (ps : Parts) → is_callee a ≡ false
@@ -38,9 +38,7 @@ call_none env want n at (term.call b_at b_a b_ps) ps h = refl
 call_none env want n at (term.index p (term.int c_at c_z) given) ps h = refl
 call_none env want n at (term.index p (term.char c_at c_z) given) ps h = refl
 call_none env want n at (term.index p (term.text c_at c_z) given) ps h = refl
-call_none env want n at (term.index p (term.name q x) no_parts) ps h = refl
-call_none env want n at (term.index p (term.name q x) (part t no_parts)) ps h = absurd (false≢true (sym h))
-call_none env want n at (term.index p (term.name q x) (part t (part u more))) ps h = refl
+call_none env want n at (term.index p (term.name q x) given) ps h = absurd (false≢true (sym h))
 call_none env want n at (term.index p (term.quoted c_at c_z) given) ps h = refl
 call_none env want n at (term.index p (term.nil c_at) given) ps h = refl
 call_none env want n at (term.index p (term.paren c_at c_a) given) ps h = refl
@@ -149,7 +147,7 @@ index_none env want n at a (x ∷ []) h = absurd (false≢true (sym h))
 index_none env want n at a (x ∷ (y ∷ xs)) h = refl
 
 pub bracket_none : (env : Env) (want : Want) (n : ℕ) (at p q : Place) (x : List ℕ) (xs : List Tree) (ps : Parts) → nat_eq (length xs) 1 ≡ false
-    → typed env want n (term.call at (term.index p (term.name q x) (parts_of xs)) ps) ≡ not_typed at
+    → typed env want n (term.call at (term.index p (term.name q x) (parts_of xs)) ps) ≡ conversion_said env n at p q x (parts_of xs) ps
 bracket_none env want n at p q x [] ps h = refl
 bracket_none env want n at p q x (y ∷ []) ps h = absurd (false≢true (sym h))
 bracket_none env want n at p q x (y ∷ (z ∷ xs)) ps h = refl

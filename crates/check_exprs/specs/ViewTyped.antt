@@ -1,5 +1,5 @@
 -- What each function of the cycle of typing answers. Contracts of that cycle alone speak of it.
-use Rattle.std.specs.Prelude.{◌≡◌, ℕ, ◌<◌, List, [], ◌++◌, map, Option, Some, None, Result, Ok}
+use Rattle.std.specs.Prelude.{◌≡◌, ℕ, suc, ◌<◌, List, [], ◌++◌, map, Option, Some, None, Result, Ok}
 use Rattle.arc_base.specs.declared.place.Place.{Place}
 use Rattle.arc_base.specs.declared.place.Stop.{Stop}
 use Rattle.arc_base.specs.Refusal.{and_then}
@@ -30,9 +30,12 @@ use Rattle.expr_steps.specs.declared.choices.Conditions.{Conditions as RustCondi
 use Rattle.expr_steps.specs.declared.choices.Picked.{Picked as RustPicked}
 use Rattle.expr_steps.specs.declared.choices.Tests.{Tests as RustTests}
 use Rattle.expr_rules.specs.Env.{Env}
-use Rattle.expr_rules.specs.Answers.{Answer, Valued, not_typed, nothing, Operand, a_type}
+use Rattle.expr_rules.specs.Answers.{Answer, Typed, Valued, not_typed, nothing, Operand, a_type}
 use Rattle.expr_rules.specs.Choices.{Chosen, Picked, range_of, branch_want}
-use Rattle.expr_rules.specs.Demands.{Asks, anything, exactly, want_in, Demand, ordinary}
+use Rattle.expr_rules.specs.Demands.{Asks, anything, exactly, want_in, Demand, ordinary, arguments}
+use Rattle.expr_rules.specs.Names.{bracket_rule}
+use Rattle.expr_steps.specs.ViewEndings.{new_sequence_end, conversion_end}
+use Rattle.indent_scanner.specs.Words.{normal}
 use Rattle.expr_rules.specs.Typed.{Value, Values, Part, Several, typed, values, value_by, operand_by, part_by, operands, conditions, picks, labels}
 use Rattle.expr_rules.specs.Typed.{label_from, read_type, read_array, read_types}
 use Rattle.expr_rules.specs.Typed as typing
@@ -202,6 +205,23 @@ IdWithin n id = id < n
 
 abbrev pub TypeSo : (old new : List TypeDef) → Scope → Term → Result ℕ Stop → Type 0
 TypeSo old new s t r = Judges old new type_at (λ ts facts. read_type (env_of ts facts s) t) IdWithin r
+
+-- what is called with something in brackets: `newSeq` of a type, or a type
+abbrev pub sequence_said : Env → ℕ → Place → Term → Parts → Answer Typed
+sequence_said env n at t inside =
+    and_then (read_type env t) (λ ty. and_then (operands env arguments (suc n) inside) (new_sequence_end n at ty))
+
+abbrev pub conversion_said : Env → ℕ → (at p q : Place) → List ℕ → (given inside : Parts) → Answer Typed
+conversion_said env n at p q x given inside =
+    and_then (bracket_rule env at (normal x)) (λ _. and_then (read_type env (term.index p (term.name q x) given)) (λ ty.
+    and_then (operands env arguments (suc n) inside) (conversion_end env n at ty)))
+
+abbrev pub SequenceSo : (old new : List TypeDef) → Scope → ℕ → Place → Term → Parts → Result RustTyped Stop → Type 0
+SequenceSo old new s n at t inside r = Judges old new typed_of (λ ts facts. sequence_said (env_of ts facts s) n at t inside) TypedWithin r
+
+abbrev pub ConversionSo : (old new : List TypeDef) → Scope → ℕ → (at p q : Place) → List ℕ → (given inside : Parts) → Result RustTyped Stop → Type 0
+ConversionSo old new s n at p q x given inside r =
+    Judges old new typed_of (λ ts facts. conversion_said (env_of ts facts s) n at p q x given inside) TypedWithin r
 
 abbrev pub ArraySo : (old new : List TypeDef) → Scope → Place → Parts → Result ℕ Stop → Type 0
 ArraySo old new s at given r = Judges old new type_at (λ ts facts. read_array (env_of ts facts s) at given) IdWithin r

@@ -1,5 +1,4 @@
 mod Adding
-mod Stamping
 mod Listing
 mod Searching
 mod Timing

@@ -7,12 +7,12 @@ use Rattle.nim_program.specs.declared.stmt.Stmt.{Stmt as RustStmt}
 use Rattle.nim_program.specs.Program.{Stmts}
 use Rattle.decl_rules.specs.State.{Item, completes, code}
 use Rattle.decl_rules.specs.Whole.{declares_any, comes_in_time}
-use Rattle.check_uses.specs.Numbers.{is_among, with_number}
+use Rattle.number_sets.specs.Numbers.{is_among, with_number}
 use Rattle.check_uses.specs.InTime.{AreInTime}
 use Rattle.check_uses.specs.declared.text.Item.{Item as RustItem}
 use Rattle.check_uses.specs.View.{item_of, items_of}
 use Rattle.check_uses.proofs.Adding.{drop_at}
-use Rattle.check_uses.proofs.Stamping.{with_is}
+use Rattle.number_sets.proofs.ForCallers.{with_is}
 
 pub time_completed : (numbers : List ℕ) (rest : List Item) (q : ℕ) (stmts : Stmts) → AreInTime numbers rest →
     AreInTime (with_number q numbers) (completes q stmts ∷ rest)

@@ -2,7 +2,7 @@
 use Rattle.std.specs.Prelude.{◌≡◌, ℕ, List}
 use Rattle.decl_rules.specs.State.{Item}
 use Rattle.decl_rules.specs.Whole.{comes_in_time}
-use Rattle.check_uses.specs.Numbers.{is_among}
+use Rattle.number_sets.specs.Numbers.{is_among}
 
 -- those that the items complete before they declare a global
 abbrev pub AreInTime : List ℕ → List Item → Type 0

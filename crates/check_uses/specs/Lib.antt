@@ -1,6 +1,5 @@
 pub mod View
 pub mod Uses
-pub mod Numbers
 pub mod Known
 pub mod Search
 pub mod InTime

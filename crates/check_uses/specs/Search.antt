@@ -4,7 +4,7 @@ use Rattle.nim_program.specs.Program.{Proc}
 use Rattle.decl_rules.specs.Occurrences.{Occurrence, global, calls, hands}
 use Rattle.decl_rules.specs.Naming.{OccursIn, Names}
 use Rattle.decl_rules.specs.Whole.{occurring}
-use Rattle.check_uses.specs.Numbers.{is_among, with_number}
+use Rattle.number_sets.specs.Numbers.{is_among, with_number}
 
 abbrev pub unless : Bool → Option (List ℕ) → Option (List ℕ)
 unless true found = None

@@ -5,7 +5,6 @@
 mod exprs;
 mod known;
 mod names;
-mod numbers;
 mod paths;
 mod stmts;
 mod text;

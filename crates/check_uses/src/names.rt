@@ -7,10 +7,10 @@ ghost use Rattle.check_uses.specs.Known.{all_procs};
 ghost use Rattle.check_uses.specs.Search.{visited, Leaves};
 
 use crate::known::{Known, uses_of};
-use crate::numbers::Numbers;
 use crate::uses::Occurrence;
 use arc_base::{Code, Memory, Stop};
 use decl_rules::names_found;
+use number_sets::Numbers;
 
 // Adds the procedure that is called, unless the global is used: whether it is.
 fn visit_one(reached: &mut Numbers, occurrence: Occurrence, global: u32) -> Result<bool, Memory>

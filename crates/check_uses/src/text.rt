@@ -14,10 +14,10 @@ ghost use Rattle.check_uses.specs.InTime.{AreInTime};
 
 use crate::known::{Known, known_of, uses_of};
 use crate::names::check_each;
-use crate::numbers::Numbers;
 use crate::stmts::{add_part, declares_any, part};
 use arc_base::{Code, Items, Memory, Place, Stop};
 use nim_program::{Proc, Stmt};
+use number_sets::Numbers;
 use std::alloc::Global;
 
 /// The text in order, as far as what needs the whole of it asks.

@@ -1,5 +1,5 @@
 -- What the stages do, one behind the other.
-use Rattle.std.proofs.Common.{◌≡◌, ◌≤◌, ℕ, ◌+◌, ◌*◌, List, [], ◌∷◌, map, length, refl, sym, ap, subst, ◌∙◌, arith, true, Result, Ok, Err, length-append}
+use Rattle.std.proofs.Common.{◌≡◌, ◌≤◌, ℕ, ◌+◌, ◌*◌, ◌%◌, List, [], ◌∷◌, map, length, refl, sym, ap, subst, ◌∙◌, arith, true, Result, Ok, Err, length-append}
 use Rattle.std.specs.Prelude.{IfOk, IfErr}
 use Rattle.arc_base.specs.Event.{Event}
 use Rattle.arc_base.specs.Behaviour.{Behaviour, Agrees, Seen, Sound}
@@ -21,17 +21,21 @@ use Rattle.flat_code.specs.Codes.{flat_plain, flat_meaning, owned_meaning, block
 use Rattle.flat_code.specs.Codes.{block_within, by_lines, flat_within, owned_within, under}
 use Rattle.flat_code.specs.Fits.{code_fits}
 use Rattle.flat_code.specs.Scene.{known_in}
-use Rattle.word_code.specs.Words.{word_by_units, word_meaning, have_no_hooks, Fresh}
+use Rattle.rv32_isa.specs.Machine.{Lives}
+use Rattle.word_code.specs.Words.{word_by_units, word_meaning, is_word_code, have_no_hooks, Fresh}
+use Rattle.word_code.specs.Sizes.{AreRanked, has_no_circle, longest_chain}
+use Rattle.reachable_procs.specs.Reachable.{IsPruned, kept}
+use Rattle.heap_memory.specs.declared.numbers.TheConstants.{HEAP_CHAIN}
 use Rattle.word_code.specs.Memory.{data_of}
 use Rattle.word_code.specs.Joined.{joined}
 use Rattle.refc_runtime.specs.BothRuntimes.{AreRuntimes}
 use Rattle.destructor_injection.specs.Injecting.{IsOwned}
 use Rattle.goto_exceptions.specs.Branches.{IsBranched}
 use Rattle.rv32_codegen.specs.Layout.{DoesCode, IsFault, laid_out}
-use Rattle.rv32_codegen.specs.Lowering.{CanRun, most_bytes, DoesWords}
+use Rattle.rv32_codegen.specs.Lowering.{CanRun, most_bytes, procs_bytes, DoesWords}
 use Rattle.rv32_codegen.specs.Stack.{stack_need}
 use Rattle.word_lowering.specs.Runtimes.{Runtimes, with_runtimes}
-use Rattle.word_lowering.specs.Lowers.{Lowers, LowersWithRuntime, IsFitting, AreSilent}
+use Rattle.word_lowering.specs.Lowers.{Lowers, LowersWithRuntime, IsFitting, AreSilent, AreSmall}
 use Rattle.core_compiler.specs.Compile.{live_objects, HasCode, DoesProgram}
 use Rattle.core_compiler.specs.Limits.{code_bound}
 use Rattle.rv32_codegen.specs.declared.layout.LayFault.{LayFault}
@@ -40,6 +44,7 @@ use Rattle.program_limits.specs.Data.{data_counted}
 use Rattle.core_compiler.specs.Stages.{HasLines, IsTooLarge, IsImageOf, IsFlatOf, AreWordsOf, DoesWith, ShowsSame}
 use Rattle.core_compiler.proofs.Refusals.{bound_is}
 use Rattle.core_compiler.proofs.CodeSizes.{joined_bytes}
+use Rattle.core_compiler.proofs.PrunedWords.{agrees_alike, paced_alike, kept_small, kept_bytes, kept_unhooked}
 use Rattle.core_compiler.proofs.InTime.{in_time}
 
 abbrev pub AgreesLaw : Type 0
@@ -57,6 +62,19 @@ OwnedLaw = (table : List TypeDef) (plan : Plan) (flat : Code Line) (units heap :
 abbrev pub BlockLaw : Type 0
 BlockLaw = (table : List TypeDef) (owned : Code OwnedLine) (units heap : ℕ) (input : List ℕ) (n : ℕ)
     → block_within table (by_lines Plain owned) units heap input n ≡ owned_within table owned units heap input n
+
+-- what pruned code does, and how it is formed
+pub record PruningLaws : Type 0 where
+  pub meaning : (code pruned : WordCode) → IsPruned code pruned → is_word_code code ≡ true
+      → (live : Lives) (fresh : Fresh) (heap stack : ℕ) (input : List ℕ) (n : ℕ)
+      → word_meaning live pruned fresh heap stack input n ≡ word_meaning live code fresh heap stack input n
+  pub by_units : (code pruned : WordCode) → IsPruned code pruned → is_word_code code ≡ true
+      → (live : Lives) (fresh : Fresh) (heap stack : ℕ) (input : List ℕ) (units n : ℕ)
+      → word_by_units live pruned fresh heap stack input units n ≡ word_by_units live code fresh heap stack input units n
+  pub formed : (code pruned : WordCode) → IsPruned code pruned → is_word_code code ≡ true → is_word_code pruned ≡ true
+  pub no_circle : (code pruned : WordCode) → IsPruned code pruned → (rank : ℕ → ℕ) → AreRanked rank code.procs → has_no_circle pruned.procs ≡ true
+  pub chain : (code pruned : WordCode) → IsPruned code pruned → (rank : ℕ → ℕ) → AreRanked rank code.procs
+      → (most : ℕ) → ((n : ℕ) → rank n ≤ most) → longest_chain pruned.procs ≤ most
 
 pub of_three : {T E : Type 0} (r : Result T E) (P Q R S : T → Type 0) → ((x : T) → P x → Q x → R x → S x) →
     IfOk r P → IfOk r Q → IfOk r R → IfOk r S
@@ -91,7 +109,6 @@ both_of heap others are = record {
   heap_ranked = are.heap_ranked;
   others_ranked = are.others_ranked;
   chain = are.chain;
-  many = are.many;
 }
 
 -- word code without other routines than those of the heap has data of few bytes
@@ -145,13 +162,13 @@ module _ (law : AgreesLaw) (pace : PaceLaw) where
 
       words_paced : (fresh : Fresh) (heap stack : ℕ) (input : List ℕ) → heap ≤ 16777216 → Fits → AreNone (hooks_of flat) →
           Sound (flat_meaning table flat plan heap input) →
-          PacedFrom 16 1 (word_meaning live_objects words fresh heap stack input) (flat_meaning table flat plan heap input)
+          PacedFrom 256 1 (word_meaning live_objects words fresh heap stack input) (flat_meaning table flat plan heap input)
       words_paced fresh heap stack input few fits none sound =
           let upper = injected.paced table heap input sound in
           let middle = branched.paced table heap input (sound_low (owned_flat heap input sound)) in
           let lower = low.paced live_objects fresh heap stack input (λ m. refl) few (blocks_fit fits) (silent blocks.procs (none_before none))
           (sound_low (blocks_owned heap input sound)) in
-          pace 16 1 1 0 _ _ _ (omega arith) (pace 16 1 1 0 _ _ _ (omega arith) lower middle) upper
+          pace 256 1 1 0 _ _ _ (omega arith) (pace 256 1 1 0 _ _ _ (omega arith) lower middle) upper
 
       -- also by units
       blocks_within : (units heap : ℕ) (input : List ℕ) (n : ℕ) → block_within table blocks units heap input n
@@ -160,48 +177,71 @@ module _ (law : AgreesLaw) (pace : PaceLaw) where
           ap (λ ps. block_within table (record { procs = ps }) units heap input n) branched.each ∙ blocks_so table owned units heap input n
           ∙ ap (λ ps. owned_within table (record { procs = ps }) units heap input n) injected.each ∙ owned_so table plan flat units heap input n
 
-      pub words_of_flat : AreWordsOf table plan flat words
-      words_of_flat = record {
-        agrees = words_agree;
-        paced = words_paced;
-        exact = λ fresh heap stack input few fits none sound units.
-            let e = low.exact live_objects fresh heap stack input (λ m. refl) few (blocks_fit fits) (silent blocks.procs (none_before none))
-            (sound_low (blocks_owned heap input sound)) units in (
-              e.0,
-              e.1,
-              λ more.
-                  let s = e.2 more in
-                  let b = blocks_within units heap input (e.1 + more) in
-                  record { events = s.0 ∙ ap (λ (z : Seen Event). z.events) b; phase = s.1 ∙ ap (λ (z : Seen Event). z.phase) b },
-            );
-        within = λ fresh heap stack input few fits none sound units n.
-            let e = low.bounded live_objects fresh heap stack input (λ m. refl) few (blocks_fit fits) (silent blocks.procs (none_before none))
-            (sound_low (blocks_owned heap input sound)) units n in (
-              e.0,
-              subst (λ (z : Seen Event). (word_by_units live_objects words fresh heap stack input units n).work ≤ 16 * (z.work + 1))
-                  (blocks_within units heap input e.0) e.1,
-            );
-        can = record {
-          formed = low.formed;
-          no_circle = low.no_circle;
-          chain = low.chain;
-          small = low.small;
-          whole = low.whole;
-          statics_most = low.data_most;
-        };
-        code_most =
-            let most = joined_bytes (length (joined r.heap own).statics) (length r.heap.statics) r.heap.procs own.procs r.others.procs r.is_heap.routines
-            r.is_others.routines in
-            omega (arith, most, lowered.weight, r.is_heap.weight, r.is_others.weight, injected.form.weight, branched.form.weight);
-        data_size =
-            let few = lowered.data_size in
-            let more = branched.form.statics table in
-            let most = injected.form.statics table in
-            let front = length-append r.heap.statics own.statics in
-            let all = length-append (joined r.heap own).statics r.others.statics in
-            omega (arith, few, more, most, r.is_others.data_most, r.is_heap.long, front, all);
-        hooks = λ none. low.hooks (none_before none);
-      }
+      -- without the procedures that no call can reach
+      module _ (laws : PruningLaws) (pruned : WordCode) (is : IsPruned words pruned) where
+        same : (fresh : Fresh) (heap stack : ℕ) (input : List ℕ) (n : ℕ)
+            → word_meaning live_objects pruned fresh heap stack input n ≡ word_meaning live_objects words fresh heap stack input n
+        same = laws.meaning words pruned is low.formed live_objects
+
+        same_units : (fresh : Fresh) (heap stack : ℕ) (input : List ℕ) (units n : ℕ)
+            → word_by_units live_objects pruned fresh heap stack input units n ≡ word_by_units live_objects words fresh heap stack input units n
+        same_units = laws.by_units words pruned is low.formed live_objects
+
+        statics_same : length pruned.statics ≡ length words.statics
+        statics_same = ap length is.statics
+
+        pub words_of_flat : AreWordsOf table plan flat pruned
+        words_of_flat = record {
+          agrees = λ fresh heap stack input few fits none sound.
+              agrees_alike _ _ _ (same fresh heap stack input) (words_agree fresh heap stack input few fits none sound);
+          paced = λ fresh heap stack input few fits none sound.
+              paced_alike _ _ _ (same fresh heap stack input) 256 1 (words_paced fresh heap stack input few fits none sound);
+          exact = λ fresh heap stack input few fits none sound units.
+              let e = low.exact live_objects fresh heap stack input (λ m. refl) few (blocks_fit fits) (silent blocks.procs (none_before none))
+              (sound_low (blocks_owned heap input sound)) units in (
+                e.0,
+                e.1,
+                λ more.
+                    let p = same_units fresh heap stack input units (e.0 + more) in
+                    let s = e.2 more in
+                    let b = blocks_within units heap input (e.1 + more) in
+                    record {
+                      events = ap (λ (z : Seen Event). z.events) p ∙ s.0 ∙ ap (λ (z : Seen Event). z.events) b;
+                      phase = ap (λ (z : Seen Event). z.phase) p ∙ s.1 ∙ ap (λ (z : Seen Event). z.phase) b;
+                    },
+              );
+          within = λ fresh heap stack input few fits none sound units n.
+              let e = low.bounded live_objects fresh heap stack input (λ m. refl) few (blocks_fit fits) (silent blocks.procs (none_before none))
+              (sound_low (blocks_owned heap input sound)) units n in (
+                e.0,
+                subst (λ (z : Seen Event). z.work ≤ 256 * ((flat_within table flat plan units heap input e.0).work + 1))
+                    (sym (same_units fresh heap stack input units n))
+                    (subst (λ (z : Seen Event). (word_by_units live_objects words fresh heap stack input units n).work ≤ 256 * (z.work + 1))
+                    (blocks_within units heap input e.0) e.1),
+              );
+          can = record {
+            formed = laws.formed words pruned is low.formed;
+            no_circle = laws.no_circle words pruned is low.rank low.ranked;
+            chain = laws.chain words pruned is low.rank low.ranked HEAP_CHAIN low.chain;
+            small = subst AreSmall (sym is.procs) (kept_small is.numbers words.procs low.small);
+            whole = ap (λ n. n % 4) statics_same ∙ low.whole;
+            statics_most = omega (arith, statics_same, low.data_most);
+          };
+          code_most =
+              let most = joined_bytes (length (joined r.heap own).statics) (length r.heap.statics) r.heap.procs own.procs r.others.procs r.is_heap.routines
+              r.is_others.routines in
+              let less = kept_bytes is.numbers words.procs in
+              let bytes : procs_bytes pruned.procs ≡ procs_bytes (kept is.numbers words.procs) = ap procs_bytes is.procs in
+              omega (arith, most, less, bytes, lowered.weight, r.is_heap.weight, r.is_others.weight, injected.form.weight, branched.form.weight);
+          data_size =
+              let few = lowered.data_size in
+              let more = branched.form.statics table in
+              let most = injected.form.statics table in
+              let front = length-append r.heap.statics own.statics in
+              let all = length-append (joined r.heap own).statics r.others.statics in
+              omega (arith, statics_same, few, more, most, r.is_others.data_most, r.is_heap.long, front, all);
+          hooks = λ none. ap have_no_hooks is.procs ∙ kept_unhooked is.numbers words.procs (low.hooks (none_before none));
+        }
 
   -- ---- word code and its image
 
@@ -268,7 +308,7 @@ module _ (law : AgreesLaw) (pace : PaceLaw) where
         crossed a b c = omega arith
 
     pub words_within : (fresh : Fresh) (heap stack : ℕ) (input : List ℕ) → heap ≤ 16777216 → (units n : ℕ) →
-        (word_by_units live_objects words fresh heap stack input units n).work ≤ 16 * (12 * ((meaning program plan heap input units).work + 1) + 2)
+        (word_by_units live_objects words fresh heap stack input units n).work ≤ 256 * (12 * ((meaning program plan heap input units).work + 1) + 2)
     words_within fresh heap stack input few units n =
         let w = middle.within fresh heap stack input few top.fits top.hooks (sound_low (top.agrees heap input)) units n in
         let f = top.within heap input units w.0 in
@@ -293,13 +333,13 @@ module _ (law : AgreesLaw) (pace : PaceLaw) where
           let mid = words_do d.0 heap image.stack input few in
           law _ _ _ (d.1 (sound_low mid)).agrees mid
 
-      does_paced : (input : List ℕ) → PacedFrom 12288 4 (machine live_objects image input) (meaning program plan heap input)
+      does_paced : (input : List ℕ) → PacedFrom 196608 4 (machine live_objects image input) (meaning program plan heap input)
       does_paced input =
           let upper = top.agrees heap input in
           let d = low.does input in
           let between = middle.agrees d.0 heap image.stack input few top.fits top.hooks (sound_low upper) in
-          pace 64 192 2 2 _ _ _ (omega arith) (d.1 (sound_low between)).paced
-          (pace 16 12 1 1 _ _ _ (omega arith) (middle.paced d.0 heap image.stack input few top.fits top.hooks (sound_low upper)) (top.paced heap input))
+          pace 64 3072 2 2 _ _ _ (omega arith) (d.1 (sound_low between)).paced
+          (pace 256 12 1 1 _ _ _ (omega arith) (middle.paced d.0 heap image.stack input few top.fits top.hooks (sound_low upper)) (top.paced heap input))
 
       pub does_program : DoesProgram program plan heap image
       does_program = record {

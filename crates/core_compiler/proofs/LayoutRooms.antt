@@ -20,11 +20,12 @@ use Rattle.flat_code.specs.PlainCode.{is_counter, is_temporary, has_hooks, gets_
 use Rattle.flat_code.specs.PlainCode as plain
 use Rattle.flattening.proofs.ForCallers.{bytes_least}
 use Rattle.word_lowering.specs.declared.homes.Alias.{Alias}
-use Rattle.word_lowering.specs.declared.homes.Alias.TheVariants.{Own, Place, Value, Text}
+use Rattle.word_lowering.specs.declared.homes.Alias.TheVariants.{Own, Place, Value, Node, Text}
 use Rattle.word_lowering.specs.declared.homes.Free.{Free}
 use Rattle.word_lowering.specs.declared.homes.Housed.{Housed}
 use Rattle.word_lowering.specs.Aliases.{value_to, location_to, alias_in, alias_for, addressed, is_among}
-use Rattle.word_lowering.specs.Layouts.{is_kept, is_static, home_at, home_by, free_behind, free_by, word_by, bytes_by, place_word, place_kept, place_alias}
+use Rattle.word_lowering.specs.Layouts.{is_kept, is_static, home_at, home_by, free_behind, free_by, word_by, bytes_by, place_word, place_lent, place_kept}
+use Rattle.word_lowering.specs.Layouts.{place_alias}
 use Rattle.word_lowering.specs.Layouts.{housed, behind, all_housed, behind_all}
 use Rattle.word_lowering.specs.Stored.{is_word, entry_at}
 use Rattle.word_lowering.specs.Lookups.{found, is_param, params_in, kept_by, kept_in, is_result, result_in}
@@ -58,13 +59,14 @@ kept_word word out K.Within n g l = omega arith
 kept_word word out K.Counter n g l = omega arith
 kept_word word out kind n g l = l
 
-placed_most : (out word : Bool) (kind : PlaceKind) (n : ℕ) → is_global kind ≡ false → is_kept out word kind ≡ false → bytes_by kind n ≤ kind_bytes kind n
-placed_most out word K.Global n g k = absurd (both_ways true g refl)
-placed_most out word (K.Param Var) n g k = absurd (both_ways true k refl)
-placed_most out word K.Location n g k = absurd (both_ways true k refl)
-placed_most out word K.Within n g k = absurd (both_ways true k refl)
-placed_most out word K.Counter n g k = absurd (both_ways true k refl)
-placed_most out word kind n g k = omega arith
+placed_most : (lent out word : Bool) (kind : PlaceKind) (n : ℕ) → is_global kind ≡ false → is_kept lent out word kind ≡ false →
+    bytes_by kind n ≤ kind_bytes kind n
+placed_most lent out word K.Global n g k = absurd (both_ways true g refl)
+placed_most lent out word (K.Param Var) n g k = absurd (both_ways true k refl)
+placed_most lent out word K.Location n g k = absurd (both_ways true k refl)
+placed_most lent out word K.Within n g k = absurd (both_ways true k refl)
+placed_most lent out word K.Counter n g k = absurd (both_ways true k refl)
+placed_most lent out word kind n g k = omega arith
 
 -- what isn't lent has its value's bytes
 own_bytes : (kind : PlaceKind) (hooked : Bool) (n : ℕ) → not (is_lent kind hooked) ≡ true → lent_bytes kind hooked n ≡ kind_bytes kind n
@@ -97,16 +99,19 @@ module _ (table : List TypeDef) (start : Bool) (lines : List Line) where
       out : Bool
       out = is_among p.number (addressed lines)
 
-      by : (alias : Alias) (static : Bool) → is_static start p.kind ≡ static → (kept : Bool) → is_kept out (place_word table start lines p) p.kind ≡ kept →
+      by : (alias : Alias) (static : Bool) → is_static start p.kind ≡ static → (kept : Bool) →
+          is_kept (place_lent table start lines p) out (place_word table start lines p) p.kind ≡ kept →
           4 * (free_by alias free (free_behind static kept (bytes_by p.kind n) free)).variable
           + (free_by alias free (free_behind static kept (bytes_by p.kind n) free)).byte ≤ 4 * free.variable + free.byte + kind_bytes p.kind n
       by (Place q other) static s kept k = omega arith
       by (Value t) static s kept k = omega arith
+      by (Node n) static s kept k = omega arith
       by (Text other more) static s kept k = omega arith
       by Own true s kept k = omega arith
       by Own false s true k =
           let h = kept_word out out p.kind n (of_static p.kind g s) (bytes_least (facts_in table) (type_at (types_in table) p.ty)) in omega (arith, h)
-      by Own false s false k = let h = placed_most out (place_word table start lines p) p.kind n (of_static p.kind g s) k in omega (arith, h)
+      by Own false s false k = let h = placed_most (place_lent table start lines p) out (place_word table start lines p) p.kind n (of_static p.kind g s) k in
+          omega (arith, h)
 
   abbrev Globals : List FlatPlace → Type 0
   Globals ps = start ≡ false → no_globals ps ≡ true
@@ -137,7 +142,7 @@ module _ (table : List TypeDef) (start : Bool) (lines : List Line) where
   param_kept : (p : FlatPlace) (free : Free) (rest : ℕ) (more : ℕ) → is_param p.kind ≡ true →
       4 * kept_by (housed table start lines free p).home rest + and_placed (housed table start lines free p).home (housed table start lines free p).bytes more
       ≤ one_bytes p + (4 * rest + more)
-  param_kept p free rest more is = of p.kind is
+  param_kept p free rest more is = of (place_lent table start lines p) p.kind is
     where
       n : ℕ
       n = type_bytes (facts_in table) (type_at (types_in table) p.ty)
@@ -149,16 +154,16 @@ module _ (table : List TypeDef) (start : Bool) (lines : List Line) where
       by true = let h = l in omega (arith, h)
       by false = omega arith
 
-      of : (kind : PlaceKind) → is_param kind ≡ true →
+      of : (lent : Bool) (kind : PlaceKind) → is_param kind ≡ true →
           4 * kept_by (home_by (alias_for kind p.number lines) (home_at (is_static start kind)
-          (is_kept (is_among p.number (addressed lines)) (word_by kind (is_word (entry_at table p.ty))) kind) free)) rest
+          (is_kept lent (is_among p.number (addressed lines)) (word_by kind (is_word (entry_at table p.ty))) kind) free)) rest
           + and_placed (home_by (alias_for kind p.number lines) (home_at (is_static start kind)
-          (is_kept (is_among p.number (addressed lines)) (word_by kind (is_word (entry_at table p.ty))) kind) free)) (bytes_by kind n) more
+          (is_kept lent (is_among p.number (addressed lines)) (word_by kind (is_word (entry_at table p.ty))) kind) free)) (bytes_by kind n) more
           ≤ kind_bytes kind n + (4 * rest + more)
-      of (K.Param Plain) e = by _
-      of (K.Param Sink) e = by _
-      of (K.Param Var) e = omega arith
-      of kind e = never e
+      of lent (K.Param Plain) e = by _
+      of lent (K.Param Sink) e = by _
+      of lent (K.Param Var) e = omega arith
+      of lent kind e = never e
 
   pub params_room : (ps : List FlatPlace) (free : Free) → none_lent ps ≡ true →
       4 * kept_in (params_in (all_housed table start lines free ps)) + placed_bytes (params_in (all_housed table start lines free ps))
@@ -197,19 +202,22 @@ module _ (table : List TypeDef) (start : Bool) (lines : List Line) where
       out : Bool
       out = is_among p.number (addressed lines)
 
-      by : (alias : Alias) (static : Bool) → is_static start p.kind ≡ static → (kept : Bool) → is_kept out (place_word table start lines p) p.kind ≡ kept →
+      by : (alias : Alias) (static : Bool) → is_static start p.kind ≡ static → (kept : Bool) →
+          is_kept (place_lent table start lines p) out (place_word table start lines p) p.kind ≡ kept →
           (free_by alias free (free_behind static kept (bytes_by p.kind n) free)).byte ≤ free.byte + kind_bytes p.kind n
       by (Place q other) static s kept k = omega arith
       by (Value t) static s kept k = omega arith
+      by (Node n) static s kept k = omega arith
       by (Text other more) static s kept k = omega arith
       by Own true s kept k = omega arith
       by Own false s true k = omega arith
-      by Own false s false k = let h = placed_most out (place_word table start lines p) p.kind n (of_static p.kind g s) k in omega (arith, h)
+      by Own false s false k = let h = placed_most (place_lent table start lines p) out (place_word table start lines p) p.kind n (of_static p.kind g s) k in
+          omega (arith, h)
 
   -- where one place ends
   one_end : (free : Free) (p : FlatPlace) → plain.is_result p.kind ≡ true →
       placed_end (housed table start lines free p).home (housed table start lines free p).bytes ≤ free.byte + one_bytes p
-  one_end free p is = of p.kind is
+  one_end free p is = of (place_lent table start lines p) p.kind is
     where
       n : ℕ
       n = type_bytes (facts_in table) (type_at (types_in table) p.ty)
@@ -218,12 +226,12 @@ module _ (table : List TypeDef) (start : Bool) (lines : List Line) where
       by true = omega arith
       by false = omega arith
 
-      of : (kind : PlaceKind) → plain.is_result kind ≡ true →
+      of : (lent : Bool) (kind : PlaceKind) → plain.is_result kind ≡ true →
           placed_end (home_by (alias_for kind p.number lines) (home_at (is_static start kind)
-          (is_kept (is_among p.number (addressed lines)) (word_by kind (is_word (entry_at table p.ty))) kind) free)) (bytes_by kind n)
+          (is_kept lent (is_among p.number (addressed lines)) (word_by kind (is_word (entry_at table p.ty))) kind) free)) (bytes_by kind n)
           ≤ free.byte + kind_bytes kind n
-      of K.Result e = by _
-      of kind e = never e
+      of lent K.Result e = by _
+      of lent kind e = never e
 
   same_result : (kind : PlaceKind) → plain.is_result kind ≡ is_result kind
   same_result K.Result = refl

@@ -101,4 +101,6 @@ own_value line behind t e bare = refl
 -- where a line leads is the same whatever stands behind
 pub same_place : (line : Line) (a b t : ℕ) → is_it t (location_to line) ≡ true → alias_by line a ≡ alias_by line b
 same_place (L.Constant to how ty pieces) a b t e = absurd (both_ways false refl e)
+same_place (L.Fresh to from None) a b t e = refl
+same_place (L.Fresh to from (Some node)) a b t e = refl
 same_place line a b t e = refl

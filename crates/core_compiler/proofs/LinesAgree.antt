@@ -29,7 +29,7 @@ use Rattle.flat_code.specs.Shapes.{shape_of, has_shape}
 use Rattle.flat_code.specs.Alike.{value_name, location_name, name_of, is_one_text, gives_text, IsProperty, is_named, is_as as has_as, gives_as, AreAlike}
 use Rattle.flat_code.specs.PlainCode.{is_counter, has_hooks, any_has_hooks, gets_text, ReadsPlain, ReadPlain}
 use Rattle.word_lowering.specs.declared.homes.Alias.{Alias}
-use Rattle.word_lowering.specs.declared.homes.Alias.TheVariants.{Own, Place, Value, Text}
+use Rattle.word_lowering.specs.declared.homes.Alias.TheVariants.{Own, Place, Value, Node, Text}
 use Rattle.word_lowering.specs.declared.homes.Housed.{Housed}
 use Rattle.word_lowering.specs.Aliases.{value_to, location_to, alias_by, alias_in, is_it, text_in, texts_of}
 use Rattle.word_lowering.specs.Lookups.{found}
@@ -56,6 +56,7 @@ itself Own = refl
 itself (Place p true) = and_from _ _ (eq-eqb p p refl) refl
 itself (Place p false) = and_from _ _ (eq-eqb p p refl) refl
 itself (Value t) = eq-eqb t t refl
+itself (Node n) = eq-eqb n n refl
 itself (Text behind bytes) = and_from _ _ (eq-eqb behind behind refl) (eq-eqb bytes bytes refl)
 
 -- what is the same as a text is one
@@ -64,6 +65,7 @@ text_too Own behind bytes h = never h
 text_too (Place p true) behind bytes h = never h
 text_too (Place p false) behind bytes h = never h
 text_too (Value t) behind bytes h = never h
+text_too (Node n) behind bytes h = never h
 text_too (Text other more) behind bytes h = refl
 
 -- ---- a text's line

@@ -27,6 +27,7 @@ use nim_plan::Plan;
 use nim_program::Program;
 use nim_types::TypeTable;
 use program_limits::{left_out, within};
+use reachable_procs::{prune, pruning};
 use refc_runtime::runtime_pair;
 use rv32_codegen::LayFault;
 use rv32_isa::Image;
@@ -35,7 +36,7 @@ use word_code::WordCode;
 use word_lowering::words;
 
 /// The machine does at most so many times the work of the meaning and `IMAGE_LATE` more.
-pub const IMAGE_PACE: u32 = 12_288;
+pub const IMAGE_PACE: u32 = 196_608;
 
 /// So much more.
 pub const IMAGE_LATE: u32 = 4;
@@ -91,7 +92,7 @@ pub fn flat_of(alloc: Global, program: &Program, plan: &Plan) -> Result<Flat, Me
     Ok(flat)
 }
 
-/// Flat code without its plan and its exceptions, as word code with all routines.
+/// Flat code without its plan and its exceptions, as word code with the routines that it may call.
 pub fn words_of(
     alloc: Global,
     types: &TypeTable,
@@ -112,7 +113,9 @@ pub fn words_of(
     let words = words(alloc, &blocks, types)?;
     let runtimes = runtime_pair(alloc)?;
     let front = runtimes.heap.join(alloc, words)?;
-    front.join(alloc, runtimes.others)
+    let whole = front.join(alloc, runtimes.others)?;
+    pruning();
+    prune(alloc, &whole)
 }
 
 /// Refuses a typed program with a form that isn't built (E23), one with a procedure that is too large

@@ -12,7 +12,7 @@ ghost use Rattle.expr_rules.specs.Builtins.{is_echo, is_default, is_new_sequence
 ghost use Rattle.expr_rules.specs.Names.{bracket_rule, quoted_rule, count_rule, is_single};
 ghost use Rattle.expr_rules.specs.Names.{is_array};
 ghost use Rattle.indent_scanner.specs.Words.{normal};
-ghost use Rattle.expr_rules.specs.Demands.{former_by, former_of};
+ghost use Rattle.expr_rules.specs.Demands.{former_by, former_of, is_former};
 ghost use Rattle.nim_tree.specs.Terms.{Parts};
 ghost use Rattle.expr_parts.specs.View.{former_in};
 ghost use Rattle.expr_parts.specs.View.{env_of, entry_by, WhatWithin, DeclsWithin};
@@ -92,11 +92,12 @@ pub fn is_array(name: &[u8]) -> bool
     is_word(name, b"array")
 }
 
-/// Refuses a name, in normal form, before a type in brackets and operands, but that of `newSeq`.
-pub fn check_brackets(at: Place, name: &[u8]) -> Result<(), Stop>
-    ensures { Answers (λ _. tt) (bracket_rule at name.now) result }
+/// Refuses a name, in normal form, before brackets and operands, but those that make types of others.
+pub fn check_brackets(scope: &Scope, at: Place, name: &[u8]) -> Result<(), Stop>
+    ensures { (ts : List Ty) (facts : Facts)
+        → Answers (λ _. tt) (bracket_rule (env_of ts facts scope.now) at name.now) result }
 {
-    allow(is_new_sequence(name), Code::NotTyped, at)
+    allow(makes_types(former_of(scope, name)), Code::NotTyped, at)
 }
 
 /// Refuses a name in backticks that is called, but `$` with one operand.
@@ -143,6 +144,17 @@ pub fn former_of(scope: &Scope, name: &[u8]) -> Former
     match scope.find(name) {
         Some(_) => Former::Nothing,
         None => former_named(name),
+    }
+}
+
+/// Whether that makes any.
+pub fn makes_types(former: Former) -> bool
+    ensures { is_former (former_in former) ≡ result }
+{
+    match former {
+        Former::Sequences => true,
+        Former::Arrays => true,
+        Former::Nothing => false,
     }
 }
 

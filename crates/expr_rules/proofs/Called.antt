@@ -86,7 +86,7 @@ value_of_settled t {w} {v} e = by_test (same t w.of) e
     by_test true e = sym (some_one e)
     by_test false e = none_some e
 
-conversion_back : {env : Env} {n : ℕ} {at : Place} {ty : Ty} {os : List Operand} {e : Expr} → IsConversion env n at ty os e
+pub conversion_back : {env : Env} {n : ℕ} {at : Place} {ty : Ty} {os : List Operand} {e : Expr} → IsConversion env n at ty os e
     → conversion_rule env n at ty os ≡ Ok e
 conversion_back {env} {n} {at} {ty} (M.empty_object f) = empty_back (fact_of env.facts ty) f
 conversion_back {env} {n} {at} {ty} (M.from_source {o = o} {v = v} s h) =
@@ -113,33 +113,43 @@ fit_never at (value v ∷ rest) e = fit_never at rest e
 fit_never at (a_type t ∷ rest) e = fit_never at rest e
 fit_never at (the_input ∷ rest) e = fit_never at rest e
 
-conversion_sound : (env : Env) (n : ℕ) (at : Place) (x : List ℕ) (ty : Ty) (os : List Operand) → IsChosen x → known_as env x ≡ env_of.a_type ty
-    → Means (λ e. IsCall env n at x os e) (λ c p. IsNoCall env n at x os c p) (conversion_rule env n at ty os)
+-- none, and why
+abbrev pub NoConversion : Env → ℕ → Place → Ty → List Operand → Code → Place → Type 0
+NoConversion env n at ty os c p = (c ≡ NotTyped) × (ConvertsNot env n at ty os × Unfit at os p)
+
+pub conversion_sound : (env : Env) (n : ℕ) (at : Place) (ty : Ty) (os : List Operand)
+    → Means (λ e. IsConversion env n at ty os e) (λ c p. NoConversion env n at ty os c p) (conversion_rule env n at ty os)
 unfolding Converted
-conversion_sound env n at x ty [] c k = by_fact (fact_of env.facts ty) refl
+conversion_sound env n at ty [] = by_fact (fact_of env.facts ty) refl
   where
     no_object : (f : Option Fact) → fact_of env.facts ty ≡ f → ((all : List Field) (resource : Bool) → f ≡ Some (type.fields all resource) → ⊥)
         → ConvertsNot env n at ty []
     no_object f h g e (M.empty_object i) = g _ _ (sym h ∙ i)
 
     by_fact : (f : Option Fact) → fact_of env.facts ty ≡ f
-        → Means (λ e. IsCall env n at x [] e) (λ c p. IsNoCall env n at x [] c p) (empty_object n at ty f)
-    by_fact (Some (type.fields all resource)) f = m_ok (M.a_conversion c k (M.empty_object f))
-    by_fact (Some (type.members names)) f = m_err (M.not_converted c k (no_object _ f (λ a r h. cc)) (nothing_fits no_operand))
-    by_fact (Some (type.base t)) f = m_err (M.not_converted c k (no_object _ f (λ a r h. cc)) (nothing_fits no_operand))
-    by_fact (Some (type.below t)) f = m_err (M.not_converted c k (no_object _ f (λ a r h. cc)) (nothing_fits no_operand))
-    by_fact None f = m_err (M.not_converted c k (no_object _ f (λ a r h. none_some h)) (nothing_fits no_operand))
-conversion_sound env n at x ty (o ∷ []) c k =
+        → Means (λ e. IsConversion env n at ty [] e) (λ c p. NoConversion env n at ty [] c p) (empty_object n at ty f)
+    by_fact (Some (type.fields all resource)) f = m_ok (M.empty_object f)
+    by_fact (Some (type.members names)) f = m_err (refl, (no_object _ f (λ a r h. cc), nothing_fits no_operand))
+    by_fact (Some (type.base t)) f = m_err (refl, (no_object _ f (λ a r h. cc), nothing_fits no_operand))
+    by_fact (Some (type.below t)) f = m_err (refl, (no_object _ f (λ a r h. cc), nothing_fits no_operand))
+    by_fact None f = m_err (refl, (no_object _ f (λ a r h. none_some h), nothing_fits no_operand))
+conversion_sound env n at ty (o ∷ []) =
     by_value (or_from (settled_as (source_of env.facts ty) o) (from_distinct env.facts ty o)) refl (conversion_so env n at ty o)
   where
     by_value : (a : Option Valued) → or_from (settled_as (source_of env.facts ty) o) (from_distinct env.facts ty o) ≡ a → Converted env n at ty o a
-        → Means (λ e. IsCall env n at x (o ∷ []) e) (λ c p. IsNoCall env n at x (o ∷ []) c p) (convert_by n at ty o a)
-    by_value (Some v) a f = m_ok (M.a_conversion c k (f v refl))
+        → Means (λ e. IsConversion env n at ty (o ∷ []) e) (λ c p. NoConversion env n at ty (o ∷ []) c p) (convert_by n at ty o a)
+    by_value (Some v) a f = m_ok (f v refl)
     by_value None a f =
         unfit_means at (o ∷ []) _ _
-        (λ p h. M.not_converted c k (λ e i. fit_never at (o ∷ []) (sym (ap (λ a. convert_by n at ty o a) a) ∙ conversion_back i)) h)
-conversion_sound env n at x ty (o ∷ q ∷ rest) c k =
-    unfit_means at (o ∷ q ∷ rest) _ _ (λ p h. M.not_converted c k (λ e i. fit_never at (o ∷ q ∷ rest) (conversion_back i)) h)
+        (λ p h. (refl, (λ e i. fit_never at (o ∷ []) (sym (ap (λ a. convert_by n at ty o a) a) ∙ conversion_back i), h)))
+conversion_sound env n at ty (o ∷ q ∷ rest) =
+    unfit_means at (o ∷ q ∷ rest) _ _ (λ p h. (refl, (λ e i. fit_never at (o ∷ q ∷ rest) (conversion_back i), h)))
+
+type_called : (env : Env) (n : ℕ) (at : Place) (x : List ℕ) (ty : Ty) (os : List Operand) → IsChosen x → known_as env x ≡ env_of.a_type ty
+    → Means (λ e. IsCall env n at x os e) (λ c p. IsNoCall env n at x os c p) (conversion_rule env n at ty os)
+type_called env n at x ty os chosen k =
+    means_map (conversion_sound env n at ty os) (λ e i. M.a_conversion chosen k i)
+    (λ c p r. subst (λ d. IsNoCall env n at x os d p) (sym r.0) (M.not_converted chosen k r.1.0 r.1.1))
 
 -- ---- what is borrowed
 
@@ -244,7 +254,7 @@ called_sound env n at x os fit true c b h =
 
 type_sound : (env : Env) (n : ℕ) (at : Place) (x : List ℕ) (os : List Operand) (k : Known) → IsChosen x → known_as env x ≡ k
     → NoneFits (overloads env x) os → Means (λ e. IsCall env n at x os e) (λ c p. IsNoCall env n at x os c p) (unless_type env n at k x os)
-type_sound env n at x os (env_of.a_type ty) c k h = conversion_sound env n at x ty os c k
+type_sound env n at x os (env_of.a_type ty) c k h = type_called env n at x ty os c k
 type_sound env n at x os env_of.unknown c k h = operation_sound env n at x os (no_procedure c h (ap is_a_type k))
 type_sound env n at x os (env_of.a_variable place of w g) c k h = operation_sound env n at x os (no_procedure c h (ap is_a_type k))
 type_sound env n at x os (env_of.a_constant of l) c k h = operation_sound env n at x os (no_procedure c h (ap is_a_type k))
@@ -331,7 +341,7 @@ several_refused n at x [] o h = elim h [ ]
 several_refused n at x (f ∷ []) o h = elim h [ ]
 several_refused n at x (f ∷ g ∷ fs) o h = refl
 
-no_conversion : (env : Env) (n : ℕ) (at : Place) (ty : Ty) (os : List Operand) (p : Place) → ConvertsNot env n at ty os → Unfit at os p
+pub no_conversion : (env : Env) (n : ℕ) (at : Place) (ty : Ty) (os : List Operand) (p : Place) → ConvertsNot env n at ty os → Unfit at os p
     → IsRefusal (conversion_rule env n at ty os) NotTyped p
 unfolding Converted
 no_conversion env n at ty [] p f h = by_fact (fact_of env.facts ty) refl

@@ -1,5 +1,5 @@
 -- What the rules say is computed: each term has one node at most, and that is found.
-use Rattle.std.proofs.Common.{◌≡◌, ℕ, Bool, true, false, List, [], ◌∷◌, ◌++◌, refl, ap, ◌∙◌}
+use Rattle.std.proofs.Common.{◌≡◌, ℕ, suc, Bool, true, false, List, [], ◌∷◌, ◌++◌, refl, ap, ◌∙◌}
 use Rattle.std.specs.Prelude.{codes, None, Ok, if◌then◌else◌, ◌&&◌}
 use Rattle.arc_base.specs.declared.place.Place.{Place}
 use Rattle.arc_base.specs.declared.place.Code.TheVariants.{NotTyped}
@@ -11,20 +11,22 @@ use Rattle.nim_tree.specs.Terms.{Term, Parts, no_parts, part, Choices, no_choice
 use Rattle.nim_types.specs.Types.{Ty}
 use Rattle.nim_program.specs.Program.{Expr, Label}
 use Rattle.expr_rules.specs.Env.{Env}
-use Rattle.expr_rules.specs.Builtins.{is_built_in}
-use Rattle.expr_rules.specs.Answers.{Answer, Typed, typed_as, Valued, Want, nothing, Operand, value}
-use Rattle.expr_rules.specs.Demands.{Asks, anything, want_in, Demand, bare, Special, special, ordinary, is_open, is_type, is_stdin}
+use Rattle.expr_rules.specs.Builtins.{is_built_in, is_new_sequence}
+use Rattle.expr_rules.specs.Answers.{Answer, gives, Typed, typed_as, Valued, Want, nothing, Operand, value}
+use Rattle.expr_rules.specs.Demands.{Asks, anything, want_in, Demand, arguments, bare, Special, special, ordinary, is_open, is_type, is_stdin}
 use Rattle.expr_rules.specs.Choices.{Branching, new_label}
 use Rattle.expr_rules.specs.Choices.{Chosen, Picked}
 use Rattle.expr_rules.specs.Names.{name_rule, type_rule, is_array, formed_type, is_single, call_rule, field_of, field_or_call, default_of_value, method_by}
-use Rattle.expr_rules.specs.Names.{method_rule, field_rule, is_shown_by_call}
+use Rattle.expr_rules.specs.Constructions.{conversion_rule}
+use Rattle.expr_rules.specs.Names.{method_rule, field_rule, is_shown_by_call, makes_sequence, bracket_rule, new_sequence_rule}
 use Rattle.expr_rules.specs.Operators.{unary_rule}
 use Rattle.expr_rules.specs.Meant.{IsUnknown}
 use Rattle.expr_rules.specs.Typed.{Value, as_value, value_by, is_callee, is_dollar, unary_call, is_type_term, is_pair}
 use Rattle.expr_rules.specs.Typed.{is_range, shown_by, part_by, operand_by, label_from, typed, values, operands, conditions, picks, labels, read_type}
 use Rattle.expr_rules.specs.Typed.{read_array, read_types}
 use Rattle.expr_rules.specs.Rules.{IsTyped, t_int, t_char, t_text, t_variable, t_constant, t_paren, t_named, t_tuple, t_array, t_sequence, t_construct}
-use Rattle.expr_rules.specs.Rules.{t_field, t_dot, t_index, t_call, t_quoted_call, t_method, t_new_sequence, t_unary, t_dollar, t_binary, t_if, t_case}
+use Rattle.expr_rules.specs.Rules.{t_field, t_dot, t_index, t_call, t_quoted_call, t_method, t_new_sequence, t_conversion, t_unary, t_dollar, t_binary, t_if}
+use Rattle.expr_rules.specs.Rules.{t_case}
 use Rattle.expr_rules.specs.Rules.{t_case_else}
 use Rattle.expr_rules.specs.Rules.{IsValue, v_value, AreValues, v_none, v_more, IsOperand, o_value}
 use Rattle.expr_rules.specs.Rules.{o_shown, o_open, o_type, o_input, AreOperands, o_none, o_more, AreConditions, c_none, c_more, ArePicks, k_none, k_more}
@@ -33,7 +35,7 @@ use Rattle.expr_rules.specs.Rules.{SpellAll, s_none, s_more}
 use Rattle.expr_rules.proofs.Means.{bind_ok}
 use Rattle.expr_rules.proofs.OperationRows.{callee_known}
 use Rattle.expr_rules.proofs.Planned.{plan_back}
-use Rattle.expr_rules.proofs.Called.{call_complete}
+use Rattle.expr_rules.proofs.Called.{call_complete, conversion_back}
 use Rattle.expr_rules.proofs.Covers.{label_new, enough_back}
 
 -- ---- forms that no rule has
@@ -49,7 +51,7 @@ pub callee_refused : (env : Env) (want : Want) (n : ℕ) (at : Place) (a : Term)
 callee_refused env want n at (term.name p x) inside e = cc
 callee_refused env want n at (term.quoted p x) inside e = cc
 callee_refused env want n at (term.field p a x) inside e = cc
-callee_refused env want n at (term.index p (term.name q x) (part t no_parts)) inside e = cc
+callee_refused env want n at (term.index p (term.name q x) given) inside e = cc
 callee_refused env want n at a inside e = refl
 
 pub type_refused : (env : Env) (a : Term) → is_type_term a ≡ false → IsRefusal (read_type env a) NotTyped (place_of a)
@@ -78,6 +80,34 @@ pub types_read : (env : Env) (at : Place) (x : List ℕ) (given : Parts) → (is
     → (if is_array x && is_pair given then read_array env at given else and_then (read_types env given) (λ ts. formed_type env at x ts)) ≡ r
 types_read env at x given e r h =
     ap (λ b. if b then read_array env at given else and_then (read_types env given) (λ ts. formed_type env at x ts)) e ∙ h
+
+-- what is called with something in brackets: `newSeq`, or a type
+abbrev sequence_steps : Env → ℕ → Place → Term → Parts → Answer Typed
+sequence_steps env n at t inside =
+    and_then (read_type env t) (λ ty.
+    and_then (operands env arguments (suc n) inside) (λ os. and_then (new_sequence_rule n at ty os.operands) (λ e. gives e os.next)))
+
+abbrev conversion_steps : Env → ℕ → (at p q : Place) → List ℕ → (given inside : Parts) → Answer Typed
+conversion_steps env n at p q x given inside =
+    and_then (bracket_rule env at (normal x)) (λ _. and_then (read_type env (term.index p (term.name q x) given)) (λ ty.
+    and_then (operands env arguments (suc n) inside) (λ os. and_then (conversion_rule env n at ty os.operands) (λ e. gives e os.next))))
+
+pub sequence_read : (env : Env) (want : Want) (n : ℕ) (at p q : Place) (x : List ℕ) (t : Term) (inside : Parts) → is_new_sequence (normal x) ≡ true
+    → typed env want n (term.call at (term.index p (term.name q x) (part t no_parts)) inside) ≡ sequence_steps env n at t inside
+sequence_read env want n at p q x t inside e =
+    ap (λ b. if b then sequence_steps env n at t inside else conversion_steps env n at p q x (part t no_parts) inside) e
+
+pub conversion_read : (env : Env) (want : Want) (n : ℕ) (at p q : Place) (x : List ℕ) (given inside : Parts) → makes_sequence (normal x) given ≡ false
+    → typed env want n (term.call at (term.index p (term.name q x) given) inside) ≡ conversion_steps env n at p q x given inside
+conversion_read env want n at p q x no_parts inside f = refl
+conversion_read env want n at p q x (part t (part u rest)) inside f = refl
+conversion_read env want n at p q x (part t no_parts) inside f =
+    ap (λ b. if b then sequence_steps env n at t inside else conversion_steps env n at p q x (part t no_parts) inside)
+    (alone (is_new_sequence (normal x)) f)
+  where
+    alone : (b : Bool) → (b && true) ≡ false → b ≡ false
+    alone true e = cc
+    alone false e = refl
 
 -- a label that is no range
 pub labels_plain : (env : Env) (ty : Ty) (before : List Label) (a : Term) (rest : Parts) → is_range a ≡ false → labels env ty before (part a rest)
@@ -140,7 +170,11 @@ mutual
   typed_complete {env} (t_method {at = at} {x = x} f g e h r) =
       bind_ok _ f (bind_ok _ (operand_complete g) (bind_ok _ (callee_known env at (normal x) e)
       (bind_ok _ (operands_complete h) (bind_ok _ (call_complete r) refl))))
-  typed_complete (t_new_sequence e g h r) = bind_ok _ e (bind_ok _ (type_complete g) (bind_ok _ (operands_complete h) (bind_ok _ r refl)))
+  typed_complete {env} {want} {n} (t_new_sequence {at = at} {p = p} {q = q} {x = x} {t = t} {inside = inside} e g h r) =
+      sequence_read env want n at p q x t inside e ∙ bind_ok _ (type_complete g) (bind_ok _ (operands_complete h) (bind_ok _ r refl))
+  typed_complete {env} {want} {n} (t_conversion {at = at} {p = p} {q = q} {x = x} {given = given} {inside = inside} f e g h i) =
+      conversion_read env want n at p q x given inside f
+      ∙ bind_ok _ e (bind_ok _ (type_complete g) (bind_ok _ (operands_complete h) (bind_ok _ (conversion_back i) refl)))
   typed_complete {env} {n = n} (t_unary {at = at} {op = op} {v = v} h d r) =
       bind_ok _ (value_complete h) (bind_ok _ (by_dollar env n at op v false d ∙ r) refl)
   typed_complete {env} {n = n} (t_dollar {at = at} {op = op} {v = v} h d r) =

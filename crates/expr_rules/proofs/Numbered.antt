@@ -23,7 +23,8 @@ use Rattle.expr_rules.specs.Names.{own_dollars, dollar_call}
 use Rattle.expr_rules.specs.Sizes.{is_sized}
 use Rattle.expr_rules.specs.Typed.{accepted, accepted_by}
 use Rattle.expr_rules.specs.Rules.{IsTyped, t_int, t_char, t_text, t_variable, t_constant, t_paren, t_named, t_tuple, t_array, t_sequence, t_construct}
-use Rattle.expr_rules.specs.Rules.{t_field, t_dot, t_index, t_call, t_quoted_call, t_method, t_new_sequence, t_unary, t_dollar, t_binary, t_if, t_case}
+use Rattle.expr_rules.specs.Rules.{t_field, t_dot, t_index, t_call, t_quoted_call, t_method, t_new_sequence, t_conversion, t_unary, t_dollar, t_binary, t_if}
+use Rattle.expr_rules.specs.Rules.{t_case}
 use Rattle.expr_rules.specs.Rules.{t_case_else}
 use Rattle.expr_rules.specs.Rules.{IsValue, v_value, AreValues, v_none, v_more, IsOperand, o_value}
 use Rattle.expr_rules.specs.Rules.{o_shown, o_open, o_type, o_input, AreOperands, o_none, o_more, AreConditions, c_none, c_more, ArePicks, k_none, k_more}
@@ -31,9 +32,9 @@ use Rattle.expr_rules.specs.Numbers.{Run, run_over, run_on}
 use Rattle.expr_rules.specs.Laws.{NumberedSo}
 use Rattle.expr_rules.proofs.Numbers.{Sure, s_ok, s_err, sure_ok, sure_then, sure_if, operand_numbers, all_numbers, value_numbers, Node_of}
 use Rattle.expr_rules.proofs.Listed.{numbers, path_numbers, args_numbers, numbers_are, Leads}
-use Rattle.expr_rules.proofs.Numbers.{parts_same, sequence_made}
+use Rattle.expr_rules.proofs.Numbers.{parts_same, sequence_made, conversion_node}
 use Rattle.expr_rules.proofs.Numbers.{unary_node, one_node, all_fit, binary_node, TypedRuns, leads_node, call_node, field_node, index_runs}
-use Rattle.expr_rules.proofs.Called.{call_complete}
+use Rattle.expr_rules.proofs.Called.{call_complete, conversion_back}
 
 -- ---- rules
 
@@ -141,6 +142,8 @@ mutual
       (sure_ok (call_node env n at (normal x) (o ∷ os)) (call_complete r))
   typed_run {env} {want} {n} (t_new_sequence {at = at} {ty = ty} {os = os} {e = e} f g h r) =
       lead_node (all_numbers os) e (operands_run h) (sure_ok (sequence_made n at ty os) r)
+  typed_run {env} {want} {n} (t_conversion {at = at} {ty = ty} {os = os} {e = e} f b s h i) =
+      lead_node (all_numbers os) e (operands_run h) (sure_ok (conversion_node env n at ty os) (conversion_back i))
   typed_run {env} {want} {n} (t_unary {at = at} {op = op} {v = v} {e = e} h d r) =
       lead_node (numbers v.expr) e (value_run h) (sure_ok (unary_node n at op v) r)
   typed_run {env} {want} {n} (t_dollar {at = at} {v = v} {e = e} h d r) =

@@ -341,7 +341,7 @@ empty_node : (n : ℕ) (at : Place) (ty : Ty) (f : Option Fact) → Sure (Node_o
 empty_node n at ty (Some (type.fields all resource)) = s_ok (λ rest. refl)
 empty_node n at ty _ = s_err
 
-conversion_node : (env : Env) (n : ℕ) (at : Place) (ty : Ty) (os : List Operand) → Sure (Node_of n (all_numbers os)) (conversion_rule env n at ty os)
+pub conversion_node : (env : Env) (n : ℕ) (at : Place) (ty : Ty) (os : List Operand) → Sure (Node_of n (all_numbers os)) (conversion_rule env n at ty os)
 conversion_node env n at ty [] = empty_node n at ty (fact_of env.facts ty)
 conversion_node env n at ty (o ∷ []) =
     convert_node n at ty o _ (or_converts o (settled_as (source_of env.facts ty) o) (from_distinct env.facts ty o)

@@ -22,11 +22,12 @@ use Rattle.expr_rules.specs.Refusals.{IsRefused, IsNoValue, AreNoValues, IsNoOpe
 use Rattle.expr_rules.specs.Refusals.{SpellsNothing}
 use Rattle.expr_rules.specs.Refusals.{SpellsNoTypes}
 use Rattle.expr_rules.proofs.Means.{bind_ok, bind_err}
-use Rattle.expr_rules.proofs.Complete.{indexes_refused, callee_refused, type_refused, tests_refused, array_read, types_read, labels_plain, by_dot, by_dollar}
+use Rattle.expr_rules.proofs.Complete.{sequence_read, conversion_read, indexes_refused, callee_refused, type_refused, tests_refused, array_read, types_read}
+use Rattle.expr_rules.proofs.Complete.{labels_plain, by_dot, by_dollar}
 use Rattle.expr_rules.proofs.Complete.{by_special, by_value}
 use Rattle.expr_rules.proofs.OperationRows.{callee_known, callee_unknown}
 use Rattle.expr_rules.proofs.Planned.{plan_back, no_fields_refused, no_name_refused, no_object_refused}
-use Rattle.expr_rules.proofs.Called.{no_call_complete}
+use Rattle.expr_rules.proofs.Called.{no_call_complete, no_conversion}
 use Rattle.expr_rules.proofs.Covers.{label_new, label_again, lacks_back}
 use Rattle.expr_rules.proofs.Complete.{typed_complete, value_complete, values_complete}
 use Rattle.expr_rules.proofs.Complete.{operand_complete, operands_complete, conditions_complete, picks_complete, labels_complete, label_complete}
@@ -124,10 +125,22 @@ mutual
   refused_complete {env} (R.r_method {at = at} {x = x} f g e h r) =
       bind_ok _ f (bind_ok _ (operand_complete g) (bind_ok _ (callee_known env at (normal x) e)
       (bind_ok _ (operands_complete h) (bind_err _ (no_call_complete r)))))
-  refused_complete (R.r_bracket_callee r) = bind_err _ r
-  refused_complete (R.r_bracket_type e w) = bind_ok _ e (bind_err _ (no_type_complete w))
-  refused_complete (R.r_bracket_argument e g w) = bind_ok _ e (bind_ok _ (type_complete g) (bind_err _ (no_operands_complete w)))
-  refused_complete (R.r_new_sequence e g h r) = bind_ok _ e (bind_ok _ (type_complete g) (bind_ok _ (operands_complete h) (bind_err _ r)))
+  refused_complete {env} {want} {n} (R.r_new_type {at = at} {p = p} {q = q} {x = x} {t = t} {inside = inside} e w) =
+      sequence_read env want n at p q x t inside e ∙ bind_err _ (no_type_complete w)
+  refused_complete {env} {want} {n} (R.r_new_length {at = at} {p = p} {q = q} {x = x} {t = t} {inside = inside} e g w) =
+      sequence_read env want n at p q x t inside e ∙ bind_ok _ (type_complete g) (bind_err _ (no_operands_complete w))
+  refused_complete {env} {want} {n} (R.r_new_sequence {at = at} {p = p} {q = q} {x = x} {t = t} {inside = inside} e g h r) =
+      sequence_read env want n at p q x t inside e ∙ bind_ok _ (type_complete g) (bind_ok _ (operands_complete h) (bind_err _ r))
+  refused_complete {env} {want} {n} (R.r_bracket_callee {at = at} {p = p} {q = q} {x = x} {given = given} {inside = inside} f r) =
+      conversion_read env want n at p q x given inside f ∙ bind_err _ r
+  refused_complete {env} {want} {n} (R.r_bracket_type {at = at} {p = p} {q = q} {x = x} {given = given} {inside = inside} f e w) =
+      conversion_read env want n at p q x given inside f ∙ bind_ok _ e (bind_err _ (no_type_complete w))
+  refused_complete {env} {want} {n} (R.r_bracket_argument {at = at} {p = p} {q = q} {x = x} {given = given} {inside = inside} f e g w) =
+      conversion_read env want n at p q x given inside f ∙ bind_ok _ e (bind_ok _ (type_complete g) (bind_err _ (no_operands_complete w)))
+  refused_complete {env} {want} {n}
+      (R.r_conversion {at = at} {p = p} {q = q} {r = r} {x = x} {given = given} {inside = inside} {ty = ty} {os = os} f e g h i j) =
+      conversion_read env want n at p q x given inside f
+      ∙ bind_ok _ e (bind_ok _ (type_complete g) (bind_ok _ (operands_complete h) (bind_err _ (no_conversion env n at ty os r i j))))
   refused_complete (R.r_no_callee e) = callee_refused _ _ _ _ _ _ e
   refused_complete (R.r_unary_operand w) = bind_err _ (no_value_complete w)
   refused_complete {env} {n = n} (R.r_unary {at = at} {op = op} {v = v} h d r) =

@@ -1,6 +1,6 @@
 -- What is computed is what the rules say: the node of a term, or the refusal.
-use Rattle.std.proofs.Common.{◌≡◌, ℕ, suc, true, List, [], ◌∷◌, ◌++◌, refl}
-use Rattle.std.specs.Prelude.{None}
+use Rattle.std.proofs.Common.{◌≡◌, ℕ, suc, Bool, true, false, List, [], ◌∷◌, ◌++◌, refl}
+use Rattle.std.specs.Prelude.{None, ◌&&◌}
 use Rattle.arc_base.specs.declared.place.Place.{Place}
 use Rattle.indent_scanner.specs.Words.{normal}
 use Rattle.indent_scanner.specs.Meaning.{inner as inside_of}
@@ -10,6 +10,7 @@ use Rattle.nim_types.specs.Types as type
 use Rattle.nim_types.specs.Types.{Ty}
 use Rattle.nim_program.specs.Program.{Label, type_of}
 use Rattle.expr_rules.specs.Env.{Env, known}
+use Rattle.expr_rules.specs.Builtins.{is_new_sequence}
 use Rattle.expr_rules.specs.Answers.{Want, nothing, wanted, within}
 use Rattle.expr_rules.specs.Demands.{Asks, anything, exactly, selector, parts, fields, elements, want_in, asks_behind, Demand, arguments, demand_behind}
 use Rattle.expr_rules.specs.Demands.{operator_demand, call_demand, receiver_demand, bare}
@@ -21,7 +22,7 @@ use Rattle.expr_rules.specs.Meant.{IsUnknown}
 use Rattle.expr_rules.specs.Typed.{typed, values, operands}
 use Rattle.expr_rules.specs.Typed.{conditions, picks, labels, is_dollar, is_pair, read_type, read_array, read_types}
 use Rattle.expr_rules.specs.Rules.{t_int, t_char, t_text, t_paren, t_named, t_tuple, t_array, t_sequence}
-use Rattle.expr_rules.specs.Rules.{t_index, t_call, t_quoted_call, t_method, t_new_sequence, t_binary, t_if}
+use Rattle.expr_rules.specs.Rules.{t_index, t_call, t_quoted_call, t_method, t_binary, t_if}
 use Rattle.expr_rules.specs.Rules.{t_case_else}
 use Rattle.expr_rules.specs.Rules.{v_none, v_more}
 use Rattle.expr_rules.specs.Rules.{o_none, o_more, c_none, c_more, k_none, k_more}
@@ -37,7 +38,11 @@ use Rattle.expr_rules.proofs.Called.{call_sound}
 use Rattle.expr_rules.proofs.Steps.{TypedSo, ValuesSo, OperandsSo, ConditionsSo, PicksSo, LabelsSo, SpellsSo, SpellAllSo, name_sound, type_name_sound}
 use Rattle.expr_rules.proofs.Steps.{unknown_as, value_sound, operand_sound, label_sound, formed_sound, field_sound, unary_sound, case_sound, case_typed}
 use Rattle.expr_rules.proofs.Steps.{case_refused, new_sound, label_typed, label_behind, label_refused, range_typed, range_behind, range_again}
-use Rattle.expr_rules.proofs.Steps.{construct_made, fields_refused, plan_refused}
+use Rattle.expr_rules.proofs.Steps.{construct_made, fields_refused, plan_refused, conversion_typed, bracket_typed}
+
+and_false : (b : Bool) → (b && false) ≡ false
+and_false true = refl
+and_false false = refl
 
 -- ---- terms
 
@@ -93,9 +98,14 @@ mutual
       (unknown_as (λ c q. IsRefused env want n (term.call at (term.field p a x) inside) c q) (λ r. R.r_no_method f g r)))
       (λ c p r. R.r_method_base f r)) (λ c p r. R.r_method_count r)
   typed_sound env want n (term.call at (term.index p (term.name q x) (part t no_parts)) inside) =
-      means_then (itself _) (λ _ e. means_then (type_sound env t) (λ ty g. means_then (operands_sound env arguments (suc n) inside) (λ os h.
-      means_then (itself _) (λ y r. m_ok (t_new_sequence e g h r)) (λ c p r. R.r_new_sequence e g h r)) (λ c p r. R.r_bracket_argument e g r))
-      (λ c p r. R.r_bracket_type e r)) (λ c p r. R.r_bracket_callee r)
+      bracket_typed env want n at p q x t inside _ _ _ (is_new_sequence (normal x)) refl (type_sound env t)
+      (type_sound env (term.index p (term.name q x) (part t no_parts))) (operands_sound env arguments (suc n) inside)
+  typed_sound env want n (term.call at (term.index p (term.name q x) no_parts) inside) =
+      conversion_typed env want n at p q x no_parts inside _ _ (and_false (is_new_sequence (normal x)))
+      (type_sound env (term.index p (term.name q x) no_parts)) (operands_sound env arguments (suc n) inside)
+  typed_sound env want n (term.call at (term.index p (term.name q x) (part t (part u rest))) inside) =
+      conversion_typed env want n at p q x (part t (part u rest)) inside _ _ (and_false (is_new_sequence (normal x)))
+      (type_sound env (term.index p (term.name q x) (part t (part u rest)))) (operands_sound env arguments (suc n) inside)
   typed_sound env want n (term.call at a inside) = m_err (R.r_no_callee refl)
   typed_sound env want n (term.unary at op a) =
       means_then (value_sound env anything (suc n) a _ (typed_sound env nothing (suc n) a))

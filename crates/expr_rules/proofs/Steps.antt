@@ -13,22 +13,22 @@ use Rattle.nim_types.specs.Types.{Ty}
 use Rattle.nim_program.specs.Program.{Expr, Label}
 use Rattle.expr_rules.specs.Env as env_of
 use Rattle.expr_rules.specs.Env.{Env, Known, known}
-use Rattle.expr_rules.specs.Builtins.{is_built_in, unless_built_in}
+use Rattle.expr_rules.specs.Builtins.{is_built_in, unless_built_in, is_new_sequence}
 use Rattle.expr_rules.specs.Answers.{Answer, gives, Typed, Valued, Want, nothing, within, Operand, value}
-use Rattle.expr_rules.specs.Demands.{Asks, anything, selector, fields, want_in, Demand}
+use Rattle.expr_rules.specs.Demands.{Asks, anything, selector, fields, want_in, Demand, arguments}
 use Rattle.expr_rules.specs.Demands.{receiver_demand, Special, special, ordinary, is_open, is_type, is_stdin, is_a_type, bare}
-use Rattle.expr_rules.specs.Constructions.{part_names, types_in, Plan, construct_rule}
+use Rattle.expr_rules.specs.Constructions.{part_names, types_in, Plan, construct_rule, conversion_rule}
 use Rattle.expr_rules.specs.Choices.{Branching, undecided}
 use Rattle.expr_rules.specs.Choices.{Chosen, Picked, gives_in, case_node, case_rule, range_of, new_label}
 use Rattle.expr_rules.specs.Names.{is_unknown, is_value_name, name_rule, type_rule, call_rule, field_of, field_or_call, default_of_value, method_by}
-use Rattle.expr_rules.specs.Names.{is_array, formed_type, is_shown_by_call}
+use Rattle.expr_rules.specs.Names.{is_array, formed_type, is_shown_by_call, makes_sequence, bracket_rule, new_sequence_rule}
 use Rattle.expr_rules.specs.Operators.{unary_rule}
 use Rattle.expr_rules.specs.Covered.{AreEnough, LacksValue, HasTwice}
 use Rattle.expr_rules.specs.Meant.{IsUnknown, no_declaration}
 use Rattle.expr_rules.specs.Typed.{Value, Values, Part, Several, value_by, shown_by, part_by, operand_by, label_from}
 use Rattle.expr_rules.specs.Typed.{is_dollar, is_range, is_pair, read_array, read_types}
 use Rattle.expr_rules.specs.Rules.{IsTyped, t_variable, t_constant, t_construct}
-use Rattle.expr_rules.specs.Rules.{t_field, t_dot, t_unary, t_dollar, t_case}
+use Rattle.expr_rules.specs.Rules.{t_field, t_dot, t_new_sequence, t_conversion, t_unary, t_dollar, t_case}
 use Rattle.expr_rules.specs.Rules.{IsValue, v_value, AreValues, IsOperand, o_value}
 use Rattle.expr_rules.specs.Rules.{o_shown, o_open, o_type, o_input, AreOperands, AreConditions, ArePicks}
 use Rattle.expr_rules.specs.Rules.{AreLabels, l_value, l_range, IsLabel, l_constant, Spells, s_named, s_formed}
@@ -40,7 +40,7 @@ use Rattle.expr_rules.proofs.Means.{Means, m_ok, m_err, means_then, means_map, m
 use Rattle.expr_rules.proofs.Chosen.{true_false}
 use Rattle.expr_rules.proofs.OperationRows.{unknown_built, unknown_known, callee_sound}
 use Rattle.expr_rules.proofs.Planned.{IsPlan, is_plan, NoPlan, no_name, no_object, no_fields}
-use Rattle.expr_rules.proofs.Called.{call_sound}
+use Rattle.expr_rules.proofs.Called.{call_sound, conversion_sound}
 use Rattle.expr_rules.proofs.Covers.{IsNew, is_new, is_again, label_so, enough_sound}
 
 abbrev pub TypedSo : Env → Want → ℕ → Term → Answer Typed → Type 0
@@ -169,6 +169,35 @@ pub formed_sound : (env : Env) (at p : Place) (x : List ℕ) (given : Parts) (b 
 formed_sound env at p x given true e f h g = let both : (is_array x ≡ true) × (is_pair given ≡ true) = and_parts _ _ e in h both.0 both.1
 formed_sound env at p x given false e f h g =
     means_then g (λ ts k. means_last _ (λ ty r. s_formed f e k r) (λ c q r. R.f_formed f e k r)) (λ c q r. R.f_arguments f e r)
+
+-- ---- calls with brackets
+
+-- of a type that is spelled
+pub conversion_typed : (env : Env) (want : Want) (n : ℕ) (at p q : Place) (x : List ℕ) (given inside : Parts) (written : Answer Ty) (os : Answer Several)
+    → makes_sequence (normal x) given ≡ false → SpellsSo env (term.index p (term.name q x) given) written → OperandsSo env arguments (suc n) inside os
+    → TypedSo env want n (term.call at (term.index p (term.name q x) given) inside)
+    (and_then (bracket_rule env at (normal x)) (λ _. and_then written (λ ty.
+    and_then os (λ os. and_then (conversion_rule env n at ty os.operands) (λ e. gives e os.next)))))
+conversion_typed env want n at p q x given inside written os f g h =
+    means_then (itself _) (λ _ e. means_then g (λ ty s. means_then h (λ os k.
+    means_then (conversion_sound env n at ty os.operands) (λ y r. m_ok (t_conversion f e s k r))
+    (λ c r i. subst (λ d. IsRefused env want n (term.call at (term.index p (term.name q x) given) inside) d r) (sym i.0)
+    (R.r_conversion f e s k i.1.0 i.1.1)))
+    (λ c r i. R.r_bracket_argument f e s i)) (λ c r i. R.r_bracket_type f e i)) (λ c r i. R.r_bracket_callee f i)
+
+-- of `newSeq`, or of another name
+pub bracket_typed : (env : Env) (want : Want) (n : ℕ) (at p q : Place) (x : List ℕ) (t : Term) (inside : Parts) (element written : Answer Ty)
+    (os : Answer Several) (b : Bool) → is_new_sequence (normal x) ≡ b → SpellsSo env t element
+    → SpellsSo env (term.index p (term.name q x) (part t no_parts)) written → OperandsSo env arguments (suc n) inside os
+    → TypedSo env want n (term.call at (term.index p (term.name q x) (part t no_parts)) inside) (
+    if b then and_then element (λ ty. and_then os (λ os. and_then (new_sequence_rule n at ty os.operands) (λ e. gives e os.next)))
+    else and_then (bracket_rule env at (normal x)) (λ _. and_then written (λ ty.
+    and_then os (λ os. and_then (conversion_rule env n at ty os.operands) (λ e. gives e os.next)))))
+bracket_typed env want n at p q x t inside element written os true e g s h =
+    means_then g (λ ty k. means_then h (λ os i. means_then (itself _) (λ y r. m_ok (t_new_sequence e k i r)) (λ c r w. R.r_new_sequence e k i w))
+    (λ c r w. R.r_new_length e k w)) (λ c r w. R.r_new_type e w)
+bracket_typed env want n at p q x t inside element written os false e g s h =
+    conversion_typed env want n at p q x (part t no_parts) inside written os (ap (λ b. b && true) e) s h
 
 -- ---- fields, operators and labels
 

@@ -85,6 +85,18 @@ operands_rows =
     -- §`$`(1, y)
     ∷ row nothing (call (at 1) (quoted (at 1) (codes "`$`")) (part (int (at 5) (pos 1)) (part (name (at 8) (codes "y")) no_parts))) (stops NotTyped
     1)
+    -- §seq[int](1)
+    ∷ row nothing (call (at 1) (index (at 1) (name (at 1) (codes "seq")) (part (name (at 5) (codes "int")) no_parts)) (part (int (at 10) (pos 1))
+    no_parts)) (stops NotTyped 1)
+    -- array[§nothing, int](1)
+    ∷ row nothing (call (at 1) (index (at 1) (name (at 1) (codes "array")) (part (name (at 7) (codes "nothing")) (part (name (at 16) (codes "int"))
+    no_parts))) (part (int (at 21) (pos 1)) no_parts)) (stops UnknownName 7)
+    -- §Point[nothing](1)
+    ∷ row nothing (call (at 1) (index (at 1) (name (at 1) (codes "Point")) (part (name (at 7) (codes "nothing")) no_parts)) (part (int (at 16)
+    (pos 1)) no_parts)) (stops NotTyped 1)
+    -- §newSeq[int, int](1)
+    ∷ row nothing (call (at 1) (index (at 1) (name (at 1) (codes "newSeq")) (part (name (at 8) (codes "int")) (part (name (at 13) (codes "int"))
+    no_parts))) (part (int (at 18) (pos 1)) no_parts)) (stops NotTyped 1)
     -- §`$`()
     ∷ row nothing (call (at 1) (quoted (at 1) (codes "`$`")) no_parts) (stops NotTyped 1)
     -- §isNil

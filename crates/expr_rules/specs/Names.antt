@@ -19,7 +19,7 @@ use Rattle.expr_rules.specs.Builtins.{is_built_in, unless_built_in, is_echo, is_
 use Rattle.expr_rules.specs.Calls.{Fit, fitting, one_of}
 use Rattle.expr_rules.specs.Constants.{constant_rule}
 use Rattle.expr_rules.specs.Constructions.{conversion_rule, field_named, read_field, Found}
-use Rattle.expr_rules.specs.Demands.{Demand, echoed, receiver, Former, of_sequences, of_arrays, former_of}
+use Rattle.expr_rules.specs.Demands.{Demand, echoed, receiver, Former, of_sequences, of_arrays, former_of, is_former}
 use Rattle.expr_rules.specs.Sizes.{is_sized}
 
 abbrev pub is_unknown : Known → Bool
@@ -89,9 +89,13 @@ abbrev pub new_sequence_rule : ℕ → Place → Ty → List Operand → Answer 
 new_sequence_rule n at t (o ∷ []) = made_by n at t (o ∷ []) (settled type.int o)
 new_sequence_rule n at t operands = no_fit at operands
 
--- no other name has types in brackets and operands behind it
-abbrev pub bracket_rule : Place → List ℕ → Answer (Unit {0})
-bracket_rule at x = if is_new_sequence x then Ok tt else not_typed at
+-- with one type in brackets
+abbrev pub makes_sequence : List ℕ → Parts → Bool
+makes_sequence x given = is_new_sequence x && is_single given
+
+-- what else has something in brackets and operands behind it is a type
+abbrev pub bracket_rule : Env → Place → List ℕ → Answer (Unit {0})
+bracket_rule env at x = if is_former (former_of env x) then Ok tt else not_typed at
 
 -- ---- `echo`
 

@@ -26,8 +26,9 @@ use Rattle.expr_rules.specs.Constructions.{part_names, part_count, types_in}
 use Rattle.expr_rules.specs.Choices.{Branching, undecided, branch_want, branching_behind, branch_value, label_value, range_of, gives_in}
 use Rattle.expr_rules.specs.Choices.{Chosen, Picked}
 use Rattle.expr_rules.specs.Covered.{LacksValue, HasTwice}
-use Rattle.expr_rules.specs.Meant.{IsUnknown, IsNoCall}
-use Rattle.expr_rules.specs.Names.{is_value_name, count_rule, quoted_rule, bracket_rule, new_sequence_rule, field_of, default_of_value}
+use Rattle.expr_rules.specs.Meant.{IsUnknown, Unfit, ConvertsNot, IsNoCall}
+use Rattle.expr_rules.specs.Builtins.{is_new_sequence}
+use Rattle.expr_rules.specs.Names.{is_value_name, count_rule, quoted_rule, makes_sequence, bracket_rule, new_sequence_rule, field_of, default_of_value}
 use Rattle.expr_rules.specs.Names.{is_single, formed_type, is_array, length_rule, array_type, is_shown_by_call, dollar_call}
 use Rattle.expr_rules.specs.Typed.{accepted, is_dollar, is_range, is_callee, is_pair, is_type_term}
 use Rattle.expr_rules.specs.Rules.{IsTyped, IsValue, AreValues, IsOperand, AreOperands, AreConditions, ArePicks, AreLabels, IsLabel, Spells, SpellAll}
@@ -132,19 +133,31 @@ mutual
         → (IsUnknown env (normal x) → ⊥)
         → AreOperands env (demand_behind (call_demand env (normal x) (part a inside))) l inside os m
         → IsNoCall env n at (normal x) (o ∷ os) c q → IsRefused env want n (term.call at (term.field p a x) inside) c q
-    r_bracket_callee : {want : Want} {n : ℕ} {at p q r : Place} {x : List ℕ} {t : Term} {inside : Parts} {c : Code}
-        → IsRefusal (bracket_rule at (normal x)) c r
+    r_new_type : {want : Want} {n : ℕ} {at p q r : Place} {x : List ℕ} {t : Term} {inside : Parts} {c : Code}
+        → is_new_sequence (normal x) ≡ true → SpellsNothing env t c r
         → IsRefused env want n (term.call at (term.index p (term.name q x) (part t no_parts)) inside) c r
-    r_bracket_type : {want : Want} {n : ℕ} {at p q r : Place} {x : List ℕ} {t : Term} {inside : Parts} {c : Code}
-        → bracket_rule at (normal x) ≡ Ok tt → SpellsNothing env t c r
-        → IsRefused env want n (term.call at (term.index p (term.name q x) (part t no_parts)) inside) c r
-    r_bracket_argument : {want : Want} {n : ℕ} {at p q r : Place} {x : List ℕ} {t : Term} {inside : Parts} {ty : Ty} {c : Code}
-        → bracket_rule at (normal x) ≡ Ok tt → Spells env t ty → AreNoOperands env arguments (suc n) inside c r
+    r_new_length : {want : Want} {n : ℕ} {at p q r : Place} {x : List ℕ} {t : Term} {inside : Parts} {ty : Ty} {c : Code}
+        → is_new_sequence (normal x) ≡ true → Spells env t ty → AreNoOperands env arguments (suc n) inside c r
         → IsRefused env want n (term.call at (term.index p (term.name q x) (part t no_parts)) inside) c r
     r_new_sequence : {want : Want} {n m : ℕ} {at p q r : Place} {x : List ℕ} {t : Term} {inside : Parts} {ty : Ty} {os : List Operand} {c : Code}
-        → bracket_rule at (normal x) ≡ Ok tt → Spells env t ty → AreOperands env arguments (suc n) inside os m
+        → is_new_sequence (normal x) ≡ true → Spells env t ty → AreOperands env arguments (suc n) inside os m
         → IsRefusal (new_sequence_rule n at ty os) c r
         → IsRefused env want n (term.call at (term.index p (term.name q x) (part t no_parts)) inside) c r
+    r_bracket_callee : {want : Want} {n : ℕ} {at p q r : Place} {x : List ℕ} {given inside : Parts} {c : Code}
+        → makes_sequence (normal x) given ≡ false → IsRefusal (bracket_rule env at (normal x)) c r
+        → IsRefused env want n (term.call at (term.index p (term.name q x) given) inside) c r
+    r_bracket_type : {want : Want} {n : ℕ} {at p q r : Place} {x : List ℕ} {given inside : Parts} {c : Code}
+        → makes_sequence (normal x) given ≡ false → bracket_rule env at (normal x) ≡ Ok tt
+        → SpellsNothing env (term.index p (term.name q x) given) c r
+        → IsRefused env want n (term.call at (term.index p (term.name q x) given) inside) c r
+    r_bracket_argument : {want : Want} {n : ℕ} {at p q r : Place} {x : List ℕ} {given inside : Parts} {ty : Ty} {c : Code}
+        → makes_sequence (normal x) given ≡ false → bracket_rule env at (normal x) ≡ Ok tt
+        → Spells env (term.index p (term.name q x) given) ty → AreNoOperands env arguments (suc n) inside c r
+        → IsRefused env want n (term.call at (term.index p (term.name q x) given) inside) c r
+    r_conversion : {want : Want} {n m : ℕ} {at p q r : Place} {x : List ℕ} {given inside : Parts} {ty : Ty} {os : List Operand}
+        → makes_sequence (normal x) given ≡ false → bracket_rule env at (normal x) ≡ Ok tt
+        → Spells env (term.index p (term.name q x) given) ty → AreOperands env arguments (suc n) inside os m
+        → ConvertsNot env n at ty os → Unfit at os r → IsRefused env want n (term.call at (term.index p (term.name q x) given) inside) NotTyped r
     r_no_callee : {want : Want} {n : ℕ} {at : Place} {a : Term} {inside : Parts} → is_callee a ≡ false
         → IsRefused env want n (term.call at a inside) NotTyped at
     r_unary_operand : {want : Want} {n : ℕ} {at p : Place} {op : UnaryOp} {a : Term} {c : Code} → IsNoValue env anything (suc n) a c p

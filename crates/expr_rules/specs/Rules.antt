@@ -31,8 +31,9 @@ use Rattle.expr_rules.specs.Constructions.{part_names, part_count, types_in, con
 use Rattle.expr_rules.specs.Choices.{Branching, undecided, branch_want, branching_behind, branch_value, label_value, range_of, gives_in}
 use Rattle.expr_rules.specs.Choices.{Chosen, Picked, if_rule, case_node, case_else_rule}
 use Rattle.expr_rules.specs.Covered.{AreEnough, HasTwice}
-use Rattle.expr_rules.specs.Meant.{IsUnknown, IsCall}
-use Rattle.expr_rules.specs.Names.{count_rule, quoted_rule, bracket_rule, new_sequence_rule, field_of, default_of_value}
+use Rattle.expr_rules.specs.Meant.{IsUnknown, IsConversion, IsCall}
+use Rattle.expr_rules.specs.Builtins.{is_new_sequence}
+use Rattle.expr_rules.specs.Names.{count_rule, quoted_rule, makes_sequence, bracket_rule, new_sequence_rule, field_of, default_of_value}
 use Rattle.expr_rules.specs.Names.{formed_type, is_array, length_rule, array_type, is_shown_by_call, dollar_call}
 use Rattle.expr_rules.specs.Typed.{accepted, is_dollar, is_range, is_pair}
 
@@ -88,9 +89,14 @@ mutual
         → AreOperands env (demand_behind (call_demand env (normal x) (part a inside))) l inside os m
         → IsCall env n at (normal x) (o ∷ os) e → IsTyped env want n (term.call at (term.field p a x) inside) e m
     t_new_sequence : {want : Want} {n m : ℕ} {at p q : Place} {x : List ℕ} {t : Term} {inside : Parts} {ty : Ty} {os : List Operand} {e : Expr}
-        → bracket_rule at (normal x) ≡ Ok tt → Spells env t ty → AreOperands env arguments (suc n) inside os m
+        → is_new_sequence (normal x) ≡ true → Spells env t ty → AreOperands env arguments (suc n) inside os m
         → new_sequence_rule n at ty os ≡ Ok e
         → IsTyped env want n (term.call at (term.index p (term.name q x) (part t no_parts)) inside) e m
+    t_conversion : {want : Want} {n m : ℕ} {at p q : Place} {x : List ℕ} {given inside : Parts} {ty : Ty} {os : List Operand} {e : Expr}
+        → makes_sequence (normal x) given ≡ false → bracket_rule env at (normal x) ≡ Ok tt
+        → Spells env (term.index p (term.name q x) given) ty → AreOperands env arguments (suc n) inside os m
+        → IsConversion env n at ty os e
+        → IsTyped env want n (term.call at (term.index p (term.name q x) given) inside) e m
     t_unary : {want : Want} {n m : ℕ} {at : Place} {op : UnaryOp} {a : Term} {v : Valued} {e : Expr} → IsValue env anything (suc n) a v m
         → is_dollar op ≡ false → unary_rule n at op v ≡ Ok e → IsTyped env want n (term.unary at op a) e m
     t_dollar : {want : Want} {n m : ℕ} {at : Place} {op : UnaryOp} {a : Term} {v : Valued} {e : Expr} → IsValue env anything (suc n) a v m

@@ -24,9 +24,10 @@ use Rattle.expr_rules.specs.Demands.{Asks, anything, exactly, selector, parts, f
 use Rattle.expr_rules.specs.Demands.{demand_behind}
 use Rattle.expr_rules.specs.Demands.{operator_demand, bare, call_demand, receiver_demand, Special, special, ordinary, is_open, is_type, is_stdin}
 use Rattle.expr_rules.specs.Constructions.{part_names, part_count, tuple_wants, tuple_rule, array_want, array_rule, sequence_want, sequence_rule, index_rule}
-use Rattle.expr_rules.specs.Constructions.{plan_for, types_in, construct_rule}
+use Rattle.expr_rules.specs.Constructions.{plan_for, types_in, construct_rule, conversion_rule}
 use Rattle.expr_rules.specs.Choices.{Branching, undecided, branch_want, branching_behind, branch_value, label_value, range_of, new_label}
 use Rattle.expr_rules.specs.Choices.{Chosen, Picked, if_rule, case_rule, case_else_rule}
+use Rattle.expr_rules.specs.Builtins.{is_new_sequence}
 use Rattle.expr_rules.specs.Names.{named_value, callee_rule, count_rule, quoted_rule, bracket_rule, call_rule, new_sequence_rule, field_rule}
 use Rattle.expr_rules.specs.Names.{named_type, formed_type, is_array, length_rule, array_type, is_shown_by_call, dollar_call}
 
@@ -100,12 +101,12 @@ label_from facts ty answer = and_then answer (λ x. and_then (value_of x.expr) (
 
 -- ---- forms
 
--- what may be called: a name, a name in backticks, a name behind a dot, or a name with a type in brackets
+-- what may be called: a name, a name in backticks, a name behind a dot, or a name with something in brackets
 abbrev pub is_callee : Term → Bool
 is_callee (term.name at x) = true
 is_callee (term.quoted at x) = true
 is_callee (term.field at a x) = true
-is_callee (term.index at (term.name p x) (part a no_parts)) = true
+is_callee (term.index at (term.name p x) given) = true
 is_callee _ = false
 
 abbrev pub is_range : Term → Bool
@@ -169,8 +170,15 @@ abbrev mutual
       and_then (operands env (demand_behind (call_demand env (normal x) (part a inside))) o.next inside) (λ os.
       and_then (call_rule env n at (normal x) (o.operand ∷ os.operands)) (λ e. gives e os.next)))))
   typed env want n (term.call at (term.index p (term.name q x) (part t no_parts)) inside) =
-      and_then (bracket_rule at (normal x)) (λ _. and_then (read_type env t) (λ ty.
-      and_then (operands env arguments (suc n) inside) (λ os. and_then (new_sequence_rule n at ty os.operands) (λ e. gives e os.next))))
+      if is_new_sequence (normal x) then
+      and_then (read_type env t) (λ ty.
+      and_then (operands env arguments (suc n) inside) (λ os. and_then (new_sequence_rule n at ty os.operands) (λ e. gives e os.next)))
+      else
+      and_then (bracket_rule env at (normal x)) (λ _. and_then (read_type env (term.index p (term.name q x) (part t no_parts))) (λ ty.
+      and_then (operands env arguments (suc n) inside) (λ os. and_then (conversion_rule env n at ty os.operands) (λ e. gives e os.next))))
+  typed env want n (term.call at (term.index p (term.name q x) given) inside) =
+      and_then (bracket_rule env at (normal x)) (λ _. and_then (read_type env (term.index p (term.name q x) given)) (λ ty.
+      and_then (operands env arguments (suc n) inside) (λ os. and_then (conversion_rule env n at ty os.operands) (λ e. gives e os.next))))
   typed env want n (term.call at a inside) = not_typed at
   typed env want n (term.unary at op a) =
       and_then (value_by env anything a (typed env nothing (suc n) a)) (λ v. and_then (unary_call env n at op v.given) (λ e. gives e v.next))

@@ -8,7 +8,7 @@ use Rattle.nim_types.specs.Types.{Ty, Facts}
 use Rattle.expr_rules.specs.Env.{Env}
 use Rattle.expr_rules.specs.Answers.{Answer, Typed, gives, Want}
 use Rattle.expr_rules.specs.Operators.{binary_rule}
-use Rattle.expr_rules.specs.Constructions.{Plan, tuple_rule, array_rule, sequence_rule, construct_rule, index_rule}
+use Rattle.expr_rules.specs.Constructions.{Plan, tuple_rule, array_rule, sequence_rule, construct_rule, index_rule, conversion_rule}
 use Rattle.expr_rules.specs.Choices.{Chosen, Picked, branch_value, if_rule, case_node, case_else_rule, cover_rule, gives_in}
 use Rattle.expr_rules.specs.Names.{call_rule, field_rule, new_sequence_rule}
 use Rattle.expr_rules.specs.Typed.{Value, Values, Part, Several, unary_call}
@@ -33,6 +33,9 @@ call_end env n at x os = and_then (call_rule env n at x os.operands) (λ e. give
 
 abbrev pub new_sequence_end : ℕ → Place → Ty → Several → Answer Typed
 new_sequence_end n at ty os = and_then (new_sequence_rule n at ty os.operands) (λ e. gives e os.next)
+
+abbrev pub conversion_end : Env → ℕ → Place → Ty → Several → Answer Typed
+conversion_end env n at ty os = and_then (conversion_rule env n at ty os.operands) (λ e. gives e os.next)
 
 abbrev pub unary_end : Env → ℕ → Place → UnaryOp → Value → Answer Typed
 unary_end env n at op v = and_then (unary_call env n at op v.given) (λ e. gives e v.next)

@@ -12,12 +12,12 @@ ghost use Rattle.expr_rules.specs.Demands.{takes_input};
 ghost use Rattle.expr_rules.specs.Demands.{call_demand, begins_type, receiver_demand, open_at};
 ghost use Rattle.expr_rules.specs.Demands.{special, is_former, former_of, one_type, receiver};
 ghost use Rattle.expr_rules.specs.Demands.{open_or_ordinary};
-ghost use Rattle.expr_parts.specs.View.{env_of, entry_by, former_in};
+ghost use Rattle.expr_parts.specs.View.{env_of, entry_by};
 ghost use Rattle.expr_steps.specs.ViewDemands.{demand_of, special_of, demand_with, SameDemand};
 ghost use Rattle.expr_steps.specs.ViewDemands.{as_receiver_with};
 
 use arc_base::{Place, Stop};
-use expr_parts::names::{Former, former_of, is_default, is_echo, is_word};
+use expr_parts::names::{former_of, is_default, is_echo, is_word, makes_types};
 use expr_parts::operators::is_comparison;
 use expr_parts::scope::{Scope, What};
 use indent_scanner::normal_form;
@@ -300,16 +300,6 @@ fn forms_type(alloc: Global, scope: &Scope, tree: &Tree) -> Result<bool, Stop>
             Ok(is_former(scope, name.as_slice()))
         }
         _ => Ok(false),
-    }
-}
-
-fn makes_types(former: Former) -> bool
-    ensures { is_former (former_in former) ≡ result }
-{
-    match former {
-        Former::Sequences => true,
-        Former::Arrays => true,
-        Former::Nothing => false,
     }
 }
 

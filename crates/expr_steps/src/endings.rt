@@ -19,7 +19,8 @@ ghost use Rattle.expr_steps.specs.ViewTyping.{operands_of, AllOperandsWithin};
 ghost use Rattle.expr_steps.specs.ViewChoices.{conditions_of, ConditionsWithin, picked_of};
 ghost use Rattle.expr_steps.specs.ViewChoices.{PickedWithin};
 ghost use Rattle.expr_steps.specs.ViewEndings.{tuple_end, array_end, sequence_end, object_end};
-ghost use Rattle.expr_steps.specs.ViewEndings.{field_end, call_end, new_sequence_end, unary_end};
+ghost use Rattle.expr_steps.specs.ViewEndings.{field_end, call_end, conversion_end};
+ghost use Rattle.expr_steps.specs.ViewEndings.{new_sequence_end, unary_end};
 ghost use Rattle.expr_steps.specs.ViewEndings.{binary_end, index_end, if_end, case_end};
 ghost use Rattle.expr_steps.specs.ViewEndings.{case_else_end};
 
@@ -35,6 +36,7 @@ use expr_constants::indexing::index_rule;
 use expr_operations::new_sequences::new_sequence_rule;
 use expr_parts::branches::{chosen, selected, selected_else};
 use expr_parts::branching::branch_value;
+use expr_parts::conversions::conversion;
 use expr_parts::nodes::type_number;
 use expr_parts::scope::Scope;
 use expr_parts::value::{Typed, Want};
@@ -177,6 +179,28 @@ pub fn new_sequence_from(
 {
     typed_from(
         new_sequence_rule(alloc, types, scope, number, at, of, given.all),
+        given.next,
+    )
+}
+
+pub fn conversion_from(
+    alloc: Global,
+    types: &TypeTable,
+    scope: &Scope,
+    number: u32,
+    at: Place,
+    ty: TypeId,
+    given: Operands,
+) -> Result<Typed, Stop>
+    requires ready { IsReady types.now scope.now }
+    requires ty { ty < length types.now }
+    requires given { AllOperandsWithin (length types.now) given }
+    ensures { Judges types.now types.now typed_of (λ ts facts. conversion_end
+        (env_of ts facts scope.now) number at (type_at ts ty) (operands_of ts given))
+        TypedWithin result }
+{
+    typed_from(
+        conversion(alloc, types, scope.kinds.int, number, at, ty, given.all),
         given.next,
     )
 }

@@ -76,19 +76,28 @@ argument_weight = 11
 abbrev pub text_weight : ℕ
 text_weight = 12
 
--- an operation with so many operands. What comes with the heap has no word code yet.
+-- an operation with so many operands; refs have no word code yet
 abbrev pub weight_of : Operation → (operands : ℕ) → ℕ
 weight_of O.Default n = clear_weight
 weight_of (O.Unary operator) n = 4
 weight_of (O.Binary operator) n = 8
-weight_of (O.Compare comparison) n = 3
+weight_of (O.Compare comparison) n = 3 + 10 * n
 weight_of O.Convert n = move_weight
+weight_of O.Join n = 1 + 10 * n
+weight_of O.Show n = 7 + 12 * n
 weight_of O.Make n = suc (move_weight * n)
-weight_of (O.Measure measure) n = 1
+weight_of O.Sequence n = 10 + 8 * n
+weight_of O.NewSequence n = 9
+weight_of (O.Measure measure) n = 3
 weight_of O.Echo n = 3 + text_weight * n
 weight_of O.Quit n = 2
+weight_of O.ReadLineInto n = 3
 weight_of O.Assign n = move_weight
 weight_of (O.Update operator) n = 13
+weight_of O.Add n = 12
+weight_of O.Append n = 12
+weight_of O.SetLength n = 2 + 8 * n
+weight_of O.Pop n = 4 + 12 * n
 weight_of O.Move n = move_weight + clear_weight
 weight_of O.Swap n = 7
 weight_of operation n = 1
@@ -132,7 +141,7 @@ weight (L.Root to place global) = 1
 weight (L.Fresh to from waits) = 1
 weight (L.Standing to ty pieces) = 1
 weight (L.Part to from field) = 2
-weight (L.Item to from index) = 6
+weight (L.Item to from index) = 8
 weight (L.Object to from) = 3
 weight (L.Pass to from how ty) = move_weight
 weight (L.Truth to holds) = 1
@@ -141,9 +150,9 @@ weight (L.Blank place ty) = clear_weight
 weight (L.Give place from) = move_weight
 weight (L.Own what from) = owning_weight what
 weight (L.Zero to) = 1
-weight (L.Length to from) = 1
-weight (L.Still from len) = 2
-weight (L.Element to from index) = 11
+weight (L.Length to from) = 2
+weight (L.Still from len) = 3
+weight (L.Element to from index) = 13
 weight (L.Beyond counter last inclusive to) = 1
 weight (L.Next counter last) = 1
 weight (L.Label name) = 1

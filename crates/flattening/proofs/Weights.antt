@@ -105,7 +105,7 @@ module _ (types : List Ty) (facts : Facts) (modes : (proc position : ℕ) → Mo
   act_most t (Calling proc of) how ty operands =
       let r = reserves facts (Calling proc of) operands (use_of modes (Calling proc of)) 0 (suc t) in omega (arith, r)
 
-  weight_bounds : Bounds types facts modes weight 33 taken none_of no_label 12 13 13 3 5 1 7 18
+  weight_bounds : Bounds types facts modes weight 33 taken none_of no_label 12 13 13 3 5 1 7 20
   weight_bounds = record {
     reserves = omega arith;
     act = act_most;
@@ -163,7 +163,7 @@ module _ (program : Program) (plan : Plan) where
       proc_weight (map flat_plain (flat_body program plan hook params body).lines) ≤ body_counted 33 taken none_of no_label body + pairs params body
   body_most hook params body =
       let lines = body_lines program.types program.facts modes params body in
-      let s = body_spare program.types program.facts modes weight 33 taken none_of no_label 12 13 13 3 5 1 7 18
+      let s = body_spare program.types program.facts modes weight 33 taken none_of no_label 12 13 13 3 5 1 7 20
       (weight_bounds program.types program.facts modes)
       params body.result body.stmts in
       let a = some_most lines in

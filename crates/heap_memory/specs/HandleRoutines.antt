@@ -6,12 +6,11 @@ use Rattle.arc_base.specs.declared.outside.Stream.TheVariants.{Out, Err}
 use Rattle.arc_base.specs.Event.{writes}
 use Rattle.rv32_isa.specs.declared.micro_op.Size.TheVariants.{Word}
 use Rattle.rv32_isa.specs.Image.{heap_at}
-use Rattle.rv32_isa.specs.Regions.{KeepsSizes}
 use Rattle.rv32_isa.specs.Values.{signed}
 use Rattle.nim_program.specs.Traps.{OutOfMemory}
 use Rattle.nim_meaning.specs.OwnedRows.{order, text_to}
 use Rattle.word_code.specs.declared.routine.TheConstants.{DIGIT_LINES}
-use Rattle.word_code.specs.Memory.{Memory, as_state, number_at, may_put, bytes_at}
+use Rattle.word_code.specs.Memory.{KeepsShape, Memory, as_state, number_at, may_put, bytes_at}
 use Rattle.word_code.specs.RoutineTable.{Beside, IsRewritten, trap_line}
 use Rattle.word_code.specs.Routines.{Routine}
 use Rattle.heap_memory.specs.declared.numbers.TheConstants.{TEXT_ORDER, TEXT_WRITE, TEXT_COPY, TEXT_APPEND, TEXT_RESIZE, HANDLE_LINES}
@@ -101,7 +100,7 @@ pub record Putting : Type 0 where
 
 -- all beside the heap and the data of its routines is as it was
 pub record IsBesideData (at : ℕ) (m other : Memory) : Type 0 where
-  pub sizes : KeepsSizes (as_state m) (as_state other)
+  pub sizes : KeepsShape (as_state m) (as_state other)
   pub beside : (b n : ℕ) → Beside b n at HEAP_DATA → Beside b n heap_at (length m.heap) → bytes_at other b n ≡ bytes_at m b n
 
 -- The block stands in the middle, where nothing beside the heap is other than before; behind that only the handle is put.
@@ -164,11 +163,11 @@ abbrev pub appends_text : (at : ℕ) → Routine
 appends_text at = puts at TEXT_APPEND AppendingText (λ u. u.to ∷ u.from ∷ []) (λ u m. MayAppendText at u m) appended_text
     (λ u place. place) (λ u. HANDLE_LINES + (appends at).lines u.appending)
 
--- whatever stands there, it is no text that counts
+-- Whatever stands there, it is no text that counts. The place of the handle is asked for where a block can be had.
 pub record MayCopyText (at : ℕ) (u : AppendingText) (m : Memory) : Type 0 where
   pub none : u.appending.growth.present ≡ None
   pub from : HasHandle m u.from (length (source_bytes u.appending.source)) (source_at u.appending.source)
-  pub has : MayHave m u.to
+  pub has : may_grow u.appending.growth ≡ true → MayHave m u.to
   pub appending : MayAppend at u.appending m
 
 abbrev pub copies_text : (at : ℕ) → Routine

@@ -4,12 +4,12 @@ use Rattle.arc_base.specs.declared.outside.Stream.TheVariants.{Err}
 use Rattle.arc_base.specs.Event.{writes}
 use Rattle.rv32_isa.specs.Image.{heap_at}
 use Rattle.rv32_isa.specs.Machine.{Lives}
-use Rattle.rv32_isa.specs.Regions.{HasRegions, KeepsSizes}
+use Rattle.rv32_isa.specs.Regions.{HasRegions}
 use Rattle.nim_program.specs.Traps.{OutOfMemory}
 use Rattle.nim_meaning.specs.Heap.{Class, heap_of, size_count, class_for, one_more, one_less, at_class, has_room}
 use Rattle.word_code.specs.declared.word.WordInstr.{WordInstr}
 use Rattle.word_code.specs.declared.word.WordProc.{WordProc}
-use Rattle.word_code.specs.Memory.{Memory, as_state, bytes_at}
+use Rattle.word_code.specs.Memory.{KeepsShape, Memory, as_state, bytes_at}
 use Rattle.word_code.specs.Words.{WordState}
 use Rattle.word_code.specs.RoutineTable.{Beside, trap_line}
 use Rattle.word_code.specs.Routines.{Routine, IsCalling, Comes}
@@ -23,7 +23,7 @@ class_word class = 4 * suc class
 
 -- all beside the heap and its words is as it was
 pub record IsBesideHeap (at : ℕ) (m other : Memory) : Type 0 where
-  pub sizes : KeepsSizes (as_state m) (as_state other)
+  pub sizes : KeepsShape (as_state m) (as_state other)
   pub beside : (b n : ℕ) → Beside b n at HEAP_WORD_BYTES → Beside b n heap_at (length m.heap) → bytes_at other b n ≡ bytes_at m b n
 
 -- ---- a block is taken

@@ -6,14 +6,14 @@ use Rattle.arc_base.specs.Event.{writes}
 use Rattle.rv32_isa.specs.declared.micro_op.Size.TheVariants.{Word}
 use Rattle.rv32_isa.specs.Image.{heap_at}
 use Rattle.rv32_isa.specs.Machine.{Lives}
-use Rattle.rv32_isa.specs.Regions.{HasRegions, KeepsSizes}
+use Rattle.rv32_isa.specs.Regions.{HasRegions}
 use Rattle.nim_types.specs.declared.blocks.TheConstants.{HEADER_BYTES}
 use Rattle.nim_program.specs.Traps.{OutOfMemory}
 use Rattle.nim_meaning.specs.Heap.{Class, one_more, one_less, at_class, has_room}
 use Rattle.nim_meaning.specs.OwnedRows.{up_to_feed, next_line}
 use Rattle.word_code.specs.declared.word.WordInstr.{WordInstr}
 use Rattle.word_code.specs.declared.word.WordProc.{WordProc}
-use Rattle.word_code.specs.Memory.{Memory, as_state, number_at, bytes_at}
+use Rattle.word_code.specs.Memory.{KeepsShape, Memory, as_state, number_at, bytes_at}
 use Rattle.word_code.specs.Words.{WordState}
 use Rattle.word_code.specs.RoutineTable.{Beside, Area, trap_line}
 use Rattle.word_code.specs.Routines.{Routine, IsCalling, Comes}
@@ -131,7 +131,7 @@ pub record IsUnderWay (at : ℕ) (u : Reading) (w : UnderWay) (text : List ℕ) 
 
 -- all beside the heap, its words and the text's is as it was
 pub record IsBesideText (at : ℕ) (u : Reading) (m other : Memory) : Type 0 where
-  pub sizes : KeepsSizes (as_state m) (as_state other)
+  pub sizes : KeepsShape (as_state m) (as_state other)
   pub beside : (b n : ℕ) → Beside b n at HEAP_WORD_BYTES → Beside b n heap_at (length m.heap) → Beside b n u.to 8 → bytes_at other b n ≡ bytes_at m b n
 
 -- the line stands there, and the address has its length and its block

@@ -6,7 +6,7 @@ use Rattle.word_code.specs.Memory.{Memory, number_at, may_put}
 use Rattle.word_code.specs.RoutineTable.{IsRewritten}
 use Rattle.word_code.specs.Routines.{Routine}
 use Rattle.heap_memory.specs.declared.numbers.TheConstants.{SEQ_NEW, SEQ_ADD, SEQ_RESIZE, SEQ_POP, HANDLE_LINES, SEQUENCE_LINES}
-use Rattle.heap_memory.specs.GrowRoutine.{Growing, place_of, MayGrow, kept_of, grows}
+use Rattle.heap_memory.specs.GrowRoutine.{may_grow, Growing, place_of, MayGrow, kept_of, grows}
 use Rattle.heap_memory.specs.AppendRoutine.{resizes}
 use Rattle.heap_memory.specs.HandleRoutines.{HasHandle, MayHave, Putting, puts}
 
@@ -71,10 +71,10 @@ abbrev pub resizes_sequence : (at : ℕ) → Routine
 resizes_sequence at = puts at SEQ_RESIZE ResizingSequence (λ u. u.to ∷ u.length ∷ u.size ∷ []) (λ u m. MayResizeSequence at u m) sequence_resized
     (λ u place. place) (λ u. SEQUENCE_LINES + (resizes at).lines u.growth)
 
--- whatever stands there, it is no sequence that counts
+-- Whatever stands there, it is no sequence that counts. The place of the handle is asked for where a block can be had.
 pub record MayPutSequence (at : ℕ) (u : ResizingSequence) (m : Memory) : Type 0 where
   pub none : u.growth.present ≡ None
-  pub has : MayHave m u.to
+  pub has : may_grow u.growth ≡ true → MayHave m u.to
   pub growth : MayGrow at u.growth m
   pub some : 0 < u.size
   pub few : u.length < 2 ^ 32

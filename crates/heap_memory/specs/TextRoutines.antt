@@ -9,10 +9,7 @@ use Rattle.word_code.specs.Routines.{Routine}
 use Rattle.heap_memory.specs.declared.numbers.TheConstants.{MOVE, MOVE_START, MOVE_BYTE, ORDER, ORDER_START, ORDER_BYTE}
 use Rattle.heap_memory.specs.declared.numbers.TheConstants.{DIGITS, DIGITS_LINES}
 use Rattle.rv32_isa.specs.Values.{signed}
-
-abbrev pub AreBytes : List ℕ → Type 0
-AreBytes [] = Unit {0}
-AreBytes (b ∷ bytes) = (b < 256) × AreBytes bytes
+pub use Rattle.rv32_isa.specs.Regions.{AreBytes}
 
 -- ---- bytes are copied
 

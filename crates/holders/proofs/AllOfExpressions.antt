@@ -25,7 +25,7 @@ use Rattle.nim_meaning.specs.Values.{literal_value}
 use Rattle.nim_meaning.specs.Marks.{Member, Distinct}
 use Rattle.nim_meaning.specs.Here.{Here, gives_hooked, form_for}
 use Rattle.nim_meaning.specs.Waiting.{wait_if}
-use Rattle.nim_meaning.specs.Shapes.{has_node, is_read as is_node, is_given, waits}
+use Rattle.nim_meaning.specs.Shapes.{has_node, is_read as is_node, is_given}
 use Rattle.nim_meaning.specs.Steps.{gets_copy}
 use Rattle.holders.specs.Territory.{Owner}
 use Rattle.holders.proofs.Owning.{distinct_first, distinct_second}
@@ -40,7 +40,7 @@ use Rattle.holders.proofs.OperandKinds.{Regular, AllRegular, no_hooks, no_own}
 use Rattle.holders.proofs.OperandParts.{none_so, value_then, path_then, value_last}
 use Rattle.holders.proofs.OperandCopies.{value_copied}
 use Rattle.holders.proofs.RowsOfOperands.{takes_held}
-use Rattle.holders.proofs.WholeOperations.{TradeSo, operation_so}
+use Rattle.holders.proofs.WholeOperations.{operation_so}
 use Rattle.holders.proofs.PathsRead.{read_so, early_so}
 use Rattle.holders.proofs.GivingLiterals.{TextForm, giving_so}
 use Rattle.holders.proofs.Choices.{AllParts, Conditions}
@@ -86,7 +86,6 @@ module _ (here : Here) (scope : scopes.Here) (limits : Limits) (root : (global :
 
   -- what is shown elsewhere: constants have their forms; operations that take what waits; calls
   pub record Elsewhere : Type 0 where
-    pub trade : TradeSo here known limits root first places os OfCall
     pub constants : (ty : Ty) (literal : Literal) → Simple here.facts ty → is_constant here.facts ty literal ≡ true →
         Bare (form_for here.facts (Some ty)) (literal_value literal)
     pub texts : (ty : Ty) (t : List ℕ) → Simple here.facts ty → is_constant here.facts ty (Characters t) ≡ true → TextForm (form_for here.facts (Some ty))
@@ -256,7 +255,7 @@ module _ (here : Here) (scope : scopes.Here) (limits : Limits) (root : (global :
       by : (c : Bool) → takes_held operation ≡ c → Value_so (Apply node ty (Doing operation) operands) how
       by true e = rest.taken node ty operation operands how e simple act asked regular typed placed d ready
       by false e =
-          operation_so here known limits root first places os OfCall node ty operation operands how rest.trade e simple act asked typed placed d ready
+          operation_so here known limits root first places os OfCall node ty operation operands how e simple act asked typed placed d ready
 
   -- ---- by induction
 

@@ -3,7 +3,7 @@ use Rattle.std.proofs.Common.{◌≡◌, refl, sym, ap, subst, ◌∙◌, arith,
 use Rattle.std.proofs.Common.{None}
 use Rattle.std.specs.Prelude.{◌&&◌}
 use Rattle.std.proofs.lemmas.Bool.{false≢true, and_parts}
-use Rattle.nim_types.specs.Types.{Ty, Tys, Field, enum, object, distinct, exception, Fact, members, fields, base, below, Facts, fact_of}
+use Rattle.nim_types.specs.Types.{Ty, Tys, Field, enum, exception, Fact, members, fields, base, below, Facts, fact_of}
 use Rattle.nim_types.specs.Forms.{Form, Forms, parts, types_of, HasForm, AreForms, none_of, more_of}
 use Rattle.nim_types.specs.Forms.{of_int, of_bool, of_char, of_text, of_sequence, of_any_sequence, of_array, of_tuple, of_parameter, of_enum}
 use Rattle.nim_types.specs.Forms.{of_object, of_distinct, of_ref, of_exception}
@@ -43,7 +43,7 @@ use Rattle.holders.proofs.Table.{OutOf, out_either}
 use Rattle.holders.proofs.Applying.{node_off, row_valued}
 use Rattle.holders.proofs.WholeOperations.{apply_waits}
 use Rattle.holders.proofs.WaitingTaken.{Taken, none_taken, bare_taken, held_taken, lent_taken, place_taken}
-use Rattle.holders.proofs.TakenRows.{taken_together, not_bare}
+use Rattle.holders.proofs.TakenRows.{not_lent, taken_together, not_bare}
 use Rattle.holders.proofs.TakenOperations.{taken_so}
 
 -- the form of a field, by its type
@@ -123,7 +123,7 @@ module _ {here : Here} {limits : Limits} {root : (global : Bool) → ℕ → ℕ
       record { all = all; same = refl; set = record { blocks = old; has = h; distinct = d; of = λ k m. inl m } }
   fields_set (field ∷ places) args all old h d apart none_taken typed placed = absurd (false≢true typed)
   fields_set (field ∷ places) args all old h d apart (place_taken f e more) typed placed = absurd (false≢true placed)
-  fields_set (field ∷ places) args all old h d apart (lent_taken purpose hooks cell a more) typed placed = not_bare held (inl purpose)
+  fields_set (field ∷ places) args all old h d apart (lent_taken purpose hooks cell a more) typed placed = not_lent held purpose
   fields_set (field ∷ places) args all old h d apart (bare_taken (inr other) b more) typed placed = not_bare held other
   fields_set (field ∷ places) (ByValue value rest) all old h d apart (bare_taken {v = v} {given = given} (inl unhooked) b more) typed placed =
       let q = and_parts (is_of (type_of value) (nth_type ts field)) (are_fields (kind.object own ts) places (types_in rest)) typed in
@@ -131,7 +131,7 @@ module _ {here : Here} {limits : Limits} {root : (global : Bool) → ℕ → ℕ
       set_one h d (field_form here.facts forms_of field (type_of value) q.0) (plain_anywhere world Full unhooked (b world)) tt (λ k m n. elim n [ ]) in
       then_more {mine = []} {given = given} one
       (fields_set places rest (with_nth all field v) one.blocks one.has one.distinct (still_apart given one apart (λ k m n. elim m [ ])) more q.1 placed)
-  fields_set (field ∷ places) (ByValue value rest) all old h d apart (held_taken {v = v} {given = given} u more other) typed placed =
+  fields_set (field ∷ places) (ByValue value rest) all old h d apart (held_taken {v = v} {given = given} purpose u more other) typed placed =
       let q = and_parts (is_of (type_of value) (nth_type ts field)) (are_fields (kind.object own ts) places (types_in rest)) typed in
       let one : Set world fs (with_nth all field v) old u.given =
       set_one h d (field_form here.facts forms_of field (type_of value) q.0) u.has u.distinct

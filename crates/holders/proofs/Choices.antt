@@ -18,7 +18,7 @@ use Rattle.nim_meaning.specs.Ways.{At as Spot}
 use Rattle.nim_meaning.specs.Values.{Value, number_of}
 use Rattle.nim_meaning.specs.Marks.{Member, Distinct}
 use Rattle.nim_meaning.specs.State.{World, State}
-use Rattle.nim_meaning.specs.Acts.{Does, give, branch, with_trail, worked}
+use Rattle.nim_meaning.specs.Acts.{Does, branch, with_trail, worked}
 use Rattle.nim_meaning.specs.Here.{Here, gives_hooked, form_for}
 use Rattle.nim_meaning.specs.Steps.{at_node, ended_value, branch_value, picked, fits_label, label_work}
 use Rattle.nim_meaning.specs.Shapes.{is_last_value}

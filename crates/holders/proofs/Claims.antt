@@ -20,7 +20,6 @@ use Rattle.nim_meaning.specs.Waiting.{Wait, nodes_of, wait_if, waiting, reads_ke
 use Rattle.nim_meaning.specs.Aims.{Aim, Waits_at}
 use Rattle.holders.specs.Owned.{Constant}
 use Rattle.holders.specs.Territory.{Owner}
-use Rattle.holders.specs.Working.{number}
 use Rattle.holders.specs.Finding.{PlaceOf, own_place, a_name_of, of_constant, AimsAt, at_root, at_constant, at_value, at_waiting, at_field, at_element}
 use Rattle.holders.specs.Running.{Passes}
 use Rattle.holders.specs.Staging.{Stage}

@@ -1,5 +1,5 @@
 -- What the form of a type is, by its kind.
-use Rattle.std.proofs.Common.{◌≡◌, refl, sym, ap, ◌∙◌, true, false, Option, Some, None}
+use Rattle.std.proofs.Common.{◌≡◌, refl, sym, ap, ◌∙◌, true, Option, Some, None}
 use Rattle.std.proofs.lemmas.Bool.{false≢true}
 use Rattle.nim_types.specs.Types.{Ty, enum, object, distinct, exception}
 use Rattle.nim_types.specs.Types.{Fact, members, fields, base, below, Facts, fact_of}
@@ -7,7 +7,6 @@ use Rattle.nim_types.specs.Forms.{Form, block, elements, form_of, HasForm}
 use Rattle.nim_types.specs.Forms.{of_int, of_bool, of_char, of_text, of_sequence, of_any_sequence, of_array, of_tuple, of_parameter, of_enum}
 use Rattle.nim_types.specs.Forms.{of_object, of_distinct, of_ref, of_exception}
 use Rattle.nim_types.proofs.ForCallers.{the_form, same_sound}
-use Rattle.nim_program.specs.Kinds as kind
 use Rattle.nim_program.specs.Kinds.{kind_of, kind_if, declared_kind, element_of, is_text, is_sequence, is_of, same_value}
 use Rattle.nim_meaning.specs.Here.{form_for}
 use Rattle.holders.specs.Owned.{HasBlocksAlone}

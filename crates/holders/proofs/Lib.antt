@@ -81,3 +81,6 @@ mod BuildingRows
 mod WholeExpressions
 mod WaitingTaken
 mod Trading
+mod ScenesOfBodies
+mod InBodies
+mod CameBack

@@ -4,7 +4,7 @@ use Rattle.std.specs.Prelude.{◌&&◌, nat_eq, pos}
 use Rattle.std.proofs.lemmas.Bool.{false≢true, and_parts, eqb-true}
 use Rattle.std.proofs.lemmas.Option.{same_Some}
 use Rattle.nim_types.specs.Types.{Ty, Tys, Key, Field, enum, object, distinct, exception, Fact, members, fields, base, below, Facts, fact_of, base_in}
-use Rattle.nim_types.specs.Forms.{Form, Forms, block, elements, parts, wrapped, types_of, HasForm, AreForms, none_of, more_of}
+use Rattle.nim_types.specs.Forms.{Form, Forms, block, wrapped, types_of, HasForm, AreForms, none_of, more_of}
 use Rattle.nim_types.specs.Forms.{of_int, of_bool, of_char, of_text, of_sequence, of_any_sequence, of_array, of_tuple, of_parameter, of_enum}
 use Rattle.nim_types.specs.Forms.{of_object, of_distinct, of_ref, of_exception}
 use Rattle.nim_program.specs.Program.{Literal, Literals, Number, Characters, NoObject, PartsOf, ElementsOf, NoLiteral, ALiteral}

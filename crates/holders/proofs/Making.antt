@@ -42,7 +42,7 @@ module _ (r : Region) (ms gs : List Owner) (first places : ℕ) (nodes old : Lis
   abbrev Made_so : Use → Form → ℕ → Value → World → Type 0
   Made_so how f node v now = Made how f node r ms gs first places nodes old start v now
 
-  kept_so : {f : Form} {v : Value} {now : World} (how : Use) (node : ℕ) → r.nodes node ≡ true → NoBaseOf (Waiting r.level node) (ms ++ gs) →
+  pub kept_so : {f : Form} {v : Value} {now : World} (how : Use) (node : ℕ) → r.nodes node ≡ true → NoBaseOf (Waiting r.level node) (ms ++ gs) →
       Holding_so f v now → Sure (kept_for how r.level node v) (Made_so how f node) now
   kept_so Owned node mine off h = h
   kept_so Given node mine off h = h

@@ -201,9 +201,9 @@ picked_moves {os} {o} {world} t i s given after strange far b = record {
   came = came;
   grows = b.grows;
   alone = record {
-    bases = λ x y h off apart. b.elsewhere x y h (no_base_at off i) (λ k q m. apart k q (mine_in k m));
-    parts = λ l v h other apart. becomes_beside s.cell.at b (other_at other i) (λ k q m. apart k q (mine_in k m)) h;
-    rows = λ l n r leave apart. row_left s.cell.at b (leaves_at leave i) (λ k q m. apart k q (mine_in k m)) r;
+    bases = λ x y h off apart. b.elsewhere x y h (no_base_at off i) (λ k q m. apart k q (in_second k given t.blocks (mine_in k m)));
+    parts = λ l v h other apart. becomes_beside s.cell.at b (other_at other i) (λ k q m. apart k q (in_second k given t.blocks (mine_in k m))) h;
+    rows = λ l n r leave apart. row_left s.cell.at b (leaves_at leave i) (λ k q m. apart k q (in_second k given t.blocks (mine_in k m))) r;
     stays = b.stays;
   };
 }

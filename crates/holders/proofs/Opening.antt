@@ -112,13 +112,13 @@ pub record Closed (o : Owner) (bs ks ds : List ℕ) (after : World) : Type 0 whe
 
 -- what holds where its parts may have become others, with those of other cells
 pub record Around (o : Owner) (kids os : List Owner) (bs ks cs given ds : List ℕ) (world after : World) : Type 0 where
-  pub alone : Alone (kids ++ os) (ks ++ cs) world after
+  pub alone : Alone (kids ++ os) (given ++ (ks ++ cs)) world after
   pub other : OtherThan o.at os
   pub clear : ClearOf bs os
   pub both : (k : ℕ) → Member k bs → Member k cs → ⊥
   pub cells : Cells after kids ds
   pub distinct : Distinct ds
-  pub far : Apart o.at.base (ks ++ cs)
+  pub far : Apart o.at.base (given ++ (ks ++ cs))
   pub apart : Apart o.at.base ds
   pub came : (k : ℕ) → Member k ds → Member k (ks ++ cs) ⊎ (Member k given ⊎ (taken_in world ≤ k))
   pub strange : Strange given (bs ++ cs)
@@ -176,23 +176,30 @@ module _ (o : Owner) (os : List Owner) (world : World) (w v : Value) (bs cs : Li
       grows = m.grows;
       alone = record {
         bases = λ b x h off far. m.alone.bases b x h
-            (all_both (λ p. b ≡ p.at.base → ⊥) kids os (op.no_base b off.0 (λ k e n. far k e (in_first k bs cs n))) off.1)
-            (λ k e n. far k e (kept_within k n));
+            (all_both (λ p. b ≡ p.at.base → ⊥) kids os (op.no_base b off.0 (λ k e n. far k e (in_second k given (bs ++ cs) (in_first k bs cs n)))) off.1)
+            (λ k e n. far k e (wide_in k n));
         parts = λ l x h other far. m.alone.parts l x h
-            (all_both (λ p. OtherPart p.at l) kids os (op.other l other.0 (λ k e n. far k e (in_first k bs cs n))) other.1)
-            (λ k e n. far k e (kept_within k n));
+            (all_both (λ p. OtherPart p.at l) kids os (op.other l other.0 (λ k e n. far k e (in_second k given (bs ++ cs) (in_first k bs cs n)))) other.1)
+            (λ k e n. far k e (wide_in k n));
         rows = λ l n h leave far. m.alone.rows l n h
-            (all_both (λ p. OtherPart p.at l ⊎ IsUnder p.at l) kids os (op.leave l leave.0 (λ k e n. far k e (in_first k bs cs n))) leave.1)
-            (λ k e n. far k e (kept_within k n));
+            (all_both (λ p. OtherPart p.at l ⊎ IsUnder p.at l) kids os
+            (op.leave l leave.0 (λ k e n. far k e (in_second k given (bs ++ cs) (in_first k bs cs n)))) leave.1)
+            (λ k e n. far k e (wide_in k n));
         stays = m.alone.stays;
       };
     };
+    into = λ k a. either_block k cl.blocks s.second (Member k m.territory.blocks ⊎ (Member k (bs ++ cs) × (Member k (op.ks ++ cs) → ⊥))) a
+        (λ q. kids_in k (cl.from k q)) (λ q. inl (subst (λ ds. Member k ds) (sym s.is) (in_second k s.first s.second q)));
     without = λ k a b. subst (λ ds. Member k ds) (sym s.is) (either_block k cl.blocks s.second (Member k (s.first ++ s.second)) a
         (λ q. still_there k b (cl.from k q)) (λ q. in_second k s.first s.second q));
   }
     where
       s : CellsApart kids os m.territory.blocks after
       s = cells_apart kids os m.territory.blocks m.territory.cells
+
+      wide_in : (k : ℕ) → Member k (given ++ (op.ks ++ cs)) → Member k (given ++ (bs ++ cs))
+      wide_in k n = either_block k given (op.ks ++ cs) (Member k (given ++ (bs ++ cs))) n (λ q. in_first k given (bs ++ cs) q)
+          (λ q. in_second k given (bs ++ cs) (kept_within k q))
 
       split : Distinct (s.first ++ s.second)
       split = subst (λ (ds : List ℕ). Distinct ds) s.is m.territory.distinct
@@ -216,11 +223,16 @@ module _ (o : Owner) (os : List Owner) (world : World) (w v : Value) (bs cs : Li
         both = not_both;
         cells = s.cells;
         distinct = distinct_first s.first s.second split;
-        far = λ k e n. clear.0 k e (kept_within k n);
+        far = λ k e n. either_block k given (op.ks ++ cs) ⊥ n (λ q. far_given.0 k e q) (λ q. clear.0 k e (kept_within k q));
         apart = far_first;
         came = λ k n. came k (in_first k s.first s.second n);
         strange = strange;
       })
+
+      kids_in : (k : ℕ) → Member k s.first ⊎ (Member k bs × (Member k op.ks → ⊥)) →
+          Member k m.territory.blocks ⊎ (Member k (bs ++ cs) × (Member k (op.ks ++ cs) → ⊥))
+      kids_in k (inl q) = inl (subst (λ ds. Member k ds) (sym s.is) (in_first k s.first s.second q))
+      kids_in k (inr q) = inr (in_first k bs cs q.0, λ z. either_block k op.ks cs ⊥ z (λ y. q.1 y) (λ y. not_both k q.0 y))
 
       too_far : (k : ℕ) → k < taken_in world → taken_in world ≤ k → ⊥
       too_far k less le = omega (arith, less, le)
@@ -330,7 +342,8 @@ module _ (world : World) (f : Form) (l : Location) (w : Value) (k : ℕ) (all : 
       (λ g j le. inr (record { base = refl; position = j; further = []; path = refl })))
       (all_so (λ p. Apart p.at.base (k ∷ ks)) (λ p. OtherPart p.at (row_of l k) ⊎ IsUnder p.at (row_of l k)) os
       (λ p q. inl (other_base (λ e. off_block p.at.base q (sym e)))) a.clear))
-      (λ j e m. either_block j ks cs ⊥ m (λ n. no_own j e n) (λ n. a.both k (inl refl) (subst (λ i. Member i cs) (sym (same_number k j e)) n))) in
+      (λ j e m. either_block j given (ks ++ cs) ⊥ m (λ g. a.strange j g (inl (sym (same_number k j e))))
+      (λ q. either_block j ks cs ⊥ q (λ n. no_own j e n) (λ n. a.both k (inl refl) (subst (λ i. Member i cs) (sym (same_number k j e)) n)))) in
       let s = a.alone.parts l (Handle (count all) (Some k)) (record { whole = w; at = c.at; is = c.is })
       (all_both (λ p. OtherPart p.at l) kids os
       (all_parts (λ p. OtherPart p.at l) (row_of l k) (copies (count all) f) 0 (λ g j le. other_base (off_block l.base c.apart))) a.other) a.far in

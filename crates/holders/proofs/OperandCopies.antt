@@ -20,7 +20,6 @@ use Rattle.nim_meaning.specs.Steps.{at_path, at_node, gets_copy}
 use Rattle.nim_meaning.specs.Meaning.{eval, aimed, source}
 use Rattle.holders.specs.Sure.{Comes}
 use Rattle.holders.specs.Territory.{Owner}
-use Rattle.holders.specs.Working.{number}
 use Rattle.holders.specs.Ways.{Step}
 use Rattle.holders.specs.Finding.{Found, in_cell, a_character, to_be_read, AimsAt, steps_of}
 use Rattle.holders.proofs.Owning.{in_first}

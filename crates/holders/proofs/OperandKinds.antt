@@ -1,12 +1,12 @@
 -- What becomes of operands, by the kinds of their expressions.
-use Rattle.std.proofs.Common.{◌≡◌, refl, sym, ap, subst, ◌∙◌, ℕ, ◌+◌, Bool, true, false, List, [], ◌∷◌, ◌++◌, length, Option, Some}
+use Rattle.std.proofs.Common.{◌≡◌, refl, sym, ap, subst, ◌∙◌, ℕ, ◌+◌, Bool, true, false, List, [], ◌∷◌, ◌++◌, length, Option, Some, ◌⊎◌, inl, inr, ap₂}
 use Rattle.std.specs.Prelude.{◌&&◌, not}
 use Rattle.std.proofs.lemmas.Bool.{false≢true, and_left, and_right, and_parts}
 use Rattle.nim_types.specs.Types.{Ty, Facts}
 use Rattle.nim_types.specs.Forms.{Form, plain}
 use Rattle.nim_program.specs.declared.expr.Node.{Node}
 use Rattle.nim_program.specs.declared.operation.Use.{Use}
-use Rattle.nim_program.specs.declared.operation.Use.TheVariants.{Lent}
+use Rattle.nim_program.specs.declared.operation.Use.TheVariants.{Lent, Looked}
 use Rattle.nim_program.specs.declared.program.Mode.{Mode}
 use Rattle.nim_program.specs.Program.{Act, Doing, Building, Giving, Calling, Number as ANumber, Characters, NoObject, PartsOf, ElementsOf}
 use Rattle.nim_program.specs.Program.{Expr, Apply, Read, Early, Choose, Path, Args, NoArg, ByValue, ByPath, type_of, type_at, node_at}
@@ -18,7 +18,6 @@ use Rattle.nim_meaning.specs.Waiting.{Wait, wait_if, waiting, reads_kept}
 use Rattle.nim_meaning.specs.Shapes.{has_node, is_read, is_text, is_lent, is_held as is_held_use, waits, waits_from}
 use Rattle.nim_meaning.specs.Aims.{Aim, Waits_at, Ready, is_lent_own, operand_for}
 use Rattle.holders.specs.Territory.{Owner}
-use Rattle.holders.specs.Working.{number}
 use Rattle.holders.specs.Ways.{Step}
 use Rattle.holders.specs.Finding.{Found, in_cell, a_character, to_be_read, AimsAt, at_root, at_constant, at_value, at_waiting, at_field, at_element}
 use Rattle.holders.proofs.Working.{among_second, number_second}
@@ -28,6 +27,9 @@ use Rattle.holders.specs.Evaluating.{waits_itself}
 use Rattle.holders.specs.Evaluating.{Aims, at_place, at_made, Hand}
 use Rattle.holders.specs.Evaluating.{Readied, none_ready, bare_ready, held_ready, lent_ready, aim_ready, seen_ready, copy_ready, hand_ready}
 use Rattle.holders.proofs.Claims.{aims_first, none_is_one}
+use Rattle.holders.specs.Evaluating.{IsBare}
+use Rattle.holders.proofs.Constants.{hooked_is}
+use Rattle.nim_types.specs.Forms.{hooked}
 
 -- ---- among more cells
 
@@ -206,3 +208,15 @@ module _ (facts : Facts) (modes : (proc position : ℕ) → Mode) where
       (and_right (is_read (Read path)) (reads_kept how) c)
   owned_none (Early n ty short left right) how a b c = refl
   owned_none (Choose n ty chooser parts) how a b c = no_wait (gives_hooked facts ty) (waits how) n.number ty (form_for facts ty) a
+
+-- what is lent, and doesn't wait, is a literal text
+pub bare_for : (facts : Facts) (how : Use) (value : Expr) → (hooked (form_for facts (type_of value)) ≡ false) ⊎ ((how ≡ Lent) ⊎ (how ≡ Looked)) →
+    is_lent_own facts how value ≡ false → IsBare facts how value
+bare_for facts how value (inl unhooked) own = inl unhooked
+bare_for facts how value (inr (inr look)) own = inr (inr look)
+bare_for facts how value (inr (inl lent)) own = by (gives_hooked facts (type_of value)) refl (is_text value) refl
+  where
+    by : (b : Bool) → gives_hooked facts (type_of value) ≡ b → (c : Bool) → is_text value ≡ c → IsBare facts how value
+    by false e c t = inl (sym (hooked_is facts (type_of value)) ∙ e)
+    by true e true t = inr (inl (lent, t))
+    by true e false t = absurd (false≢true (sym own ∙ ap₂ (λ m n. m && n) e (ap₂ (λ m n. m && not n) (ap is_lent lent) t)))

@@ -1,5 +1,5 @@
 -- Operands, one after another.
-use Rattle.std.proofs.Common.{◌≡◌, refl, sym, ap, ap₂, subst, ◌∙◌, arith, ℕ, suc, ◌+◌, Bool, true, false, inl, inr, ◌⊎◌, List, [], ◌∷◌, ◌++◌, Option}
+use Rattle.std.proofs.Common.{◌≡◌, refl, sym, ap, ap₂, subst, ◌∙◌, arith, ℕ, suc, Bool, true, false, inl, inr, ◌⊎◌, List, [], ◌∷◌, ◌++◌, Option}
 use Rattle.std.specs.Prelude.{◌&&◌, not}
 use Rattle.std.proofs.lemmas.Bool.{false≢true, and_left, and_right}
 use Rattle.nim_types.specs.Types.{Ty}
@@ -14,14 +14,13 @@ use Rattle.nim_meaning.specs.State.{World, State}
 use Rattle.nim_meaning.specs.Acts.{Does, give, ◌>>=◌, branch}
 use Rattle.nim_meaning.specs.Here.{Here, gives_hooked, form_for}
 use Rattle.nim_meaning.specs.Waiting.{Wait, waiting, waiting_at}
-use Rattle.nim_meaning.specs.Shapes.{is_text, is_lent, waits}
+use Rattle.nim_meaning.specs.Shapes.{is_text, is_lent}
 use Rattle.nim_meaning.specs.Aims.{Ready, Evaluated, Aimed, is_lent_own, operand_for}
 use Rattle.nim_meaning.specs.Steps.{gets_copy}
 use Rattle.nim_meaning.specs.Meaning.{eval, aimed, ready_all, source}
 use Rattle.holders.specs.Owned.{Constant, Has, IsBase}
 use Rattle.holders.specs.Sure.{Comes}
 use Rattle.holders.specs.Territory.{Owner, Cells, a_cell, Territory, first_owner}
-use Rattle.holders.specs.Working.{number}
 use Rattle.holders.specs.Running.{IsOutside}
 use Rattle.holders.specs.Staging.{Stage, Holding}
 use Rattle.holders.specs.Used.{WaitsThere}
@@ -43,6 +42,7 @@ use Rattle.holders.specs.Claimed.{NoExit, HasValue, ValueSo, HasAim, AimSo, Read
 use Rattle.holders.proofs.Claims.{behind_value, value_bare, scene_passes}
 use Rattle.holders.proofs.Claims.{none_is_one, nothing_more}
 use Rattle.holders.proofs.OperandKinds.{readied_behind, aims_more, Regular, plain_operand, not_lent, lent_none, lent_one, one_hooked, owned_none}
+use Rattle.holders.proofs.OperandKinds.{bare_for}
 
 -- ---- a value is ready
 
@@ -148,7 +148,7 @@ module _ (here : Here) (scope : scopes.Here) (limits : Limits) (root : (global :
             stage = after.stage;
             more = λ ks last {h = g} {rest} {xs} kept ready. subst (λ l. Readied_as (after.own ++ ks) last g (ByValue value rest) i
                 (Evaluated (operand_for l here.level (node_of value).number v) ∷ xs))
-                (sym (not_own none)) (bare_ready which bare ready);
+                (sym (not_own none)) (bare_ready (bare_for here.facts (uses i) value which (not_own none)) bare ready);
           }
       by (is_seen look a none s seen) = of_use (λ e. absurd (held_look (sym e ∙ look))) (λ e. absurd (lent_look (sym e ∙ look)))
       by (is_held owner a none held) = of_use (λ e. absurd (held_owned e owner)) (λ e. absurd (lent_owned e owner))
@@ -388,7 +388,8 @@ module _ (here : Here) (scope : scopes.Here) (limits : Limits) (root : (global :
       hooks_so hooked (is_bare which a none s bare) =
           let after = behind_value here value (uses i) d (is_bare which a none s bare) in
           given (bare_alone (uses i) none)
-          (last_ready value i {h = empty} after.leaves (stage_wider (ns ++ []) ns (wide_last ns) after.stage) (bare_ready which bare none_ready))
+          (last_ready value i {h = empty} after.leaves (stage_wider (ns ++ []) ns (wide_last ns) after.stage)
+          (bare_ready (bare_for here.facts (uses i) value which (bare_alone (uses i) none)) bare none_ready))
       hooks_so hooked (is_seen look a none s seen) =
           let after = behind_value here value (uses i) d (is_seen look a none s seen) in
           given (no_own_lent (uses i) (ap is_lent look))

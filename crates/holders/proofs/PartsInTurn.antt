@@ -19,7 +19,6 @@ use Rattle.nim_meaning.specs.Waiting.{Wait, nodes_of, wait_if, own_wait, waiting
 use Rattle.nim_meaning.specs.Here.{gives_hooked, form_for}
 use Rattle.nim_meaning.specs.Shapes.{is_read, waits, waits_from}
 use Rattle.holders.specs.Territory.{Owner, AllOwners, first_owner}
-use Rattle.holders.specs.Working.{without}
 use Rattle.holders.specs.Running.{IsOutside, Wider}
 use Rattle.holders.specs.Staging.{Stage, Holding}
 use Rattle.holders.specs.Groups.{without_node, waiting_cell, Ends, no_waits, one_waits, none_waits}

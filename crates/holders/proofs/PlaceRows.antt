@@ -10,9 +10,9 @@ use Rattle.nim_program.specs.declared.operation.Operator.{Operator}
 use Rattle.nim_program.specs.declared.operation.Measure.{Measure}
 use Rattle.nim_program.specs.Ints.{Checked, Fine, Trapped, applied}
 use Rattle.nim_program.specs.Kinds as kind
-use Rattle.nim_program.specs.Kinds.{TypeKind, kind_if, element_of, is_int, is_bool, is_text, is_sequence, is_resized, has_length, is_of}
+use Rattle.nim_program.specs.Kinds.{TypeKind, kind_if, is_int, is_bool, is_text, is_sequence, is_resized, has_length, is_of}
 use Rattle.nim_program.specs.Fitting.{fits}
-use Rattle.nim_meaning.specs.Values.{Value, Number, nothing, number_of, length_of, bytes, Location, Operand, Given, At, number, value}
+use Rattle.nim_meaning.specs.Values.{Value, Number, nothing, number_of, length_of, bytes, Location, Operand, Given, At, number}
 use Rattle.nim_meaning.specs.State.{World, load, text_of, is_full_at}
 use Rattle.nim_meaning.specs.Heap.{Characters}
 use Rattle.nim_meaning.specs.Texts.{are_seen, shown}
@@ -36,7 +36,6 @@ use Rattle.holders.proofs.Owning.{plain_anywhere, from_full}
 use Rattle.holders.proofs.ElementLists.{blank_has}
 use Rattle.holders.proofs.Guards.{sure_reads, sure_takes}
 use Rattle.holders.proofs.PlainRows.{read_found, puts, updates}
-use Rattle.holders.proofs.Pairs.{swaps}
 use Rattle.holders.proofs.Rows.{reads_line, gives_away}
 use Rattle.holders.proofs.Operations.{appends_text, text_length, sequence_length, pops_element, counted_sure, assigns_value, assigns_copy}
 use Rattle.holders.proofs.Staging.{stage_moves, stage_takes, stage_hands, no_given}
@@ -45,19 +44,10 @@ use Rattle.holders.specs.Evaluating.{Bare}
 use Rattle.holders.proofs.Constants.{hooked_is, int_type, bool_type}
 use Rattle.holders.proofs.FormKinds.{text_form, sequence_form, same_type}
 use Rattle.holders.proofs.Table.{OutOf, At_stage, Numbers, out_bare, out_number, out_none, out_either, operated, one_row, has_hooks}
+use Rattle.holders.proofs.Sure.{sure_answer}
+use Rattle.holders.proofs.Trading.{places_trade}
 
 -- ---- what is answered behind a deed
-
-pub sure_answer : {A B : Type 0} (deed : Deed A) (z y : B) (P : World → Type 0) (world : World) → Sure (deed >>= (λ u. give z)) (λ x after. P after) world →
-    Sure (deed >>= (λ u. give y)) (λ x after. P after × (x ≡ y)) world
-sure_answer (Gives x) z y P world h = (h, refl)
-sure_answer (Ends status) z y P world h = tt
-sure_answer Errs z y P world h = h
-sure_answer (Works n deed) z y P world h = sure_answer deed z y P world h
-sure_answer (Says es deed) z y P world h = sure_answer deed z y P world h
-sure_answer (Looks deed) z y P world h = sure_answer (deed world) z y P world h
-sure_answer (Changes change deed) z y P world h = sure_answer deed z y P (changed change world) h
-sure_answer (Takes class contents deed) z y P world h = sure_answer (deed (length world.heap.blocks)) z y P (with_block class contents world) h
 
 put_answer : (deed : Deed Value) (l : Location) (P : World → Type 0) (world : World) → Sure (deed >>= put l) (λ x after. P after) world →
     Sure (deed >>= put l) (λ x after. P after × (x ≡ nothing)) world
@@ -143,18 +133,6 @@ module _ (facts : Facts) (r : Region) (ms os : List Owner) (first places : ℕ) 
       (sure_reads (λ world v. give (Number (measured m (length_of v)))) (Numbers facts r ms os first places nodes old start) read.from tt read.has
       (s, λ world. a_number)))
   measure m ty (a ∷ b ∷ of) simple typed seen read = absurd (false≢true typed)
-
-  -- two places of numbers
-  abbrev pub Characters_trade : Type 0
-  Characters_trade = (k i : ℕ) (us vs : List Step) (x y : Location) → Found (ms ++ os) now true k us plain x → Found (ms ++ os) now true i vs plain y →
-      Sure (swapped x y) (λ v after. MovesHere after) now
-
-  swap_so : {f : Form} {k i : ℕ} {us vs : List Step} {x y : Location} → Found (ms ++ os) now true k us f x → Found (ms ++ os) now true i vs f y →
-      Characters_trade → Sure (swapped x y) (λ v after. MovesHere after) now
-  swap_so (in_cell c goes) (in_cell d also) characters = swaps s.runs.territory c d
-  swap_so {us = us} {vs = vs} {x = x} {y = y} (in_cell c goes) (a_character j d e le) characters =
-      characters _ _ us vs x y (in_cell c goes) (a_character j d e le)
-  swap_so {us = us} {vs = vs} {x = x} {y = y} (a_character j c e le) other characters = characters _ _ us vs x y (a_character j c e le) other
 
   -- ---- places that are written
 
@@ -331,15 +309,14 @@ module _ (facts : Facts) (r : Region) (ms os : List Owner) (first places : ℕ) 
 
     -- ---- two places trade their values
 
-    -- Characters of texts aren't cells: that they trade their values is asked for.
-    pub swap : (b : Option Ty) {m : ℕ} {ss : List Step} {right : Location} → is_of a b ≡ true → Characters_trade →
+    pub swap : (b : Option Ty) {m : ℕ} {ss : List Step} {right : Location} → is_of a b ≡ true →
         Found (ms ++ os) now true m ss (form_for facts b) right → are_seen now (At l ∷ At right ∷ []) ≡ true →
         Sure (operates O.Swap facts None (a ∷ b ∷ []) (At l ∷ At right ∷ [])) (OutHere None) now
-    swap b {m} {ss} {right} typed characters h seen =
+    swap b {m} {ss} {right} typed h seen =
         one_row facts r ms os first places nodes old start O.Swap None (a ∷ b ∷ []) (At l ∷ At right ∷ []) (OutHere None) now (λ d. refl) seen
         (moved_none (swapped l right)
         (then_answer (takes l (λ world v. exchanged right v)) (λ v. exchanged l v) MovesHere now
-        (swap_so found (subst (λ f. Found (ms ++ os) now true m ss f right) (ap (form_for facts) (sym (same_type typed))) h) characters)))
+        (places_trade s.runs.territory found (subst (λ f. Found (ms ++ os) now true m ss f right) (ap (form_for facts) (sym (same_type typed))) h))))
 
 -- a place gets what is under way
 pub assign_held : (facts : Facts) (r : Region) (ms os : List Owner) (first places : ℕ) (nodes old : List ℕ) (start now : World) {n : ℕ} {steps : List Step}

@@ -22,7 +22,7 @@ use Rattle.holders.specs.Finding.{Found, in_cell, a_character, to_be_read, Read,
 use Rattle.holders.proofs.Sure.{sure_then, sure_weaker}
 use Rattle.holders.proofs.Bases.{whole_is, loaded, block_filled, stored_elsewhere}
 use Rattle.holders.proofs.Staying.{stored_stays}
-use Rattle.holders.proofs.PathLemmas.{put_same, part_of_put}
+use Rattle.holders.proofs.PathLemmas.{put_same}
 use Rattle.holders.proofs.Copying.{stored_length, length_set}
 use Rattle.holders.proofs.Owning.{plain_anywhere, from_full}
 use Rattle.holders.proofs.Guards.{sure_takes, sure_sets, part_is_there, read_at}

@@ -38,7 +38,7 @@ use Rattle.holders.proofs.Constants.{hooked_is}
 use Rattle.holders.proofs.FormKinds.{same_type}
 use Rattle.holders.proofs.Settling.{HandThere, all_are_seen}
 use Rattle.holders.proofs.Table.{OutOf, unary, binary, compare, join, show, new_elements, echo, quit, let_go, default_row}
-use Rattle.holders.proofs.PlaceRows.{measure, read_into, append, set_length, pop, update, assign_bare, assign_copy, assign_held, move, swap, Characters_trade}
+use Rattle.holders.proofs.PlaceRows.{measure, read_into, append, set_length, pop, update, assign_bare, assign_copy, assign_held, move, swap}
 use Rattle.holders.proofs.Converting.{convert_bare, convert_held}
 
 abbrev use_number : Use → ℕ
@@ -195,145 +195,145 @@ module _ (here : Here) (scope : scopes.Here) (limits : Limits) (root : (global :
   path_type path a = asked_at here.facts limits OfCall path a
 
   -- by the operation
-  pub row_so : {h : Hand} (at : HandAt h) → Characters_trade here.facts r ms os first places nodes old start now (stage_at h at) →
+  pub row_so : {h : Hand} (at : HandAt h) →
       (operation : Operation) (ty : Option Ty) (operands : Args) {xs : List Operand} → takes_held operation ≡ false → IfSimple here.facts ty →
       ActAsked here.facts limits OfCall (Doing operation) operands → AskedOf operands → fits here.facts operation ty (types_in operands) ≡ true →
       are_placed (places_in operation) operands ≡ true → SettledBy (λ j. use_by operation) h operands 0 xs →
       Sure (operates operation here.facts ty (types_in operands) xs) (Gives ty) now
-  row_so at trade O.Default ty NoArg takes simple act asked typed placed none_settled =
+  row_so at O.Default ty NoArg takes simple act asked typed placed none_settled =
       default_row here.facts r ms os first places nodes old start ty [] now simple typed at
-  row_so {h} at trade O.Default ty (ByValue value rest) takes simple act asked typed placed settled = absurd (false≢true typed)
-  row_so {h} at trade O.Default ty (ByPath path rest) takes simple act asked typed placed settled = absurd (false≢true typed)
-  row_so {h} at trade (O.Unary o) ty operands {xs} takes simple act asked typed placed settled =
+  row_so {h} at O.Default ty (ByValue value rest) takes simple act asked typed placed settled = absurd (false≢true typed)
+  row_so {h} at O.Default ty (ByPath path rest) takes simple act asked typed placed settled = absurd (false≢true typed)
+  row_so {h} at (O.Unary o) ty operands {xs} takes simple act asked typed placed settled =
       unary here.facts r ms os first places nodes old start o ty (types_in operands) xs now simple typed
       (seen_by (λ j. Looked) operands (λ j e. other_use e (λ q. omega (arith, q))) at settled) (stage_at h at)
-  row_so {h} at trade (O.Binary o) ty operands {xs} takes simple act asked typed placed settled =
+  row_so {h} at (O.Binary o) ty operands {xs} takes simple act asked typed placed settled =
       binary here.facts r ms os first places nodes old start o ty (types_in operands) xs now simple typed
       (seen_by (λ j. Looked) operands (λ j e. other_use e (λ q. omega (arith, q))) at settled) (stage_at h at)
-  row_so {h} at trade (O.Compare c) ty operands {xs} takes simple act asked typed placed settled =
+  row_so {h} at (O.Compare c) ty operands {xs} takes simple act asked typed placed settled =
       compare here.facts r ms os first places nodes old start c ty (types_in operands) xs now simple typed
       (seen_by (λ j. Lent) operands (λ j e. other_use e (λ q. omega (arith, q))) at settled) (stage_at h at)
-  row_so {h} at trade O.Join ty operands {xs} takes simple act asked typed placed settled =
+  row_so {h} at O.Join ty operands {xs} takes simple act asked typed placed settled =
       join here.facts r ms os first places nodes old start ty (types_in operands) xs now simple typed
       (seen_by (λ j. Lent) operands (λ j e. other_use e (λ q. omega (arith, q))) at settled) (stage_at h at)
-  row_so {h} at trade O.Show ty operands {xs} takes simple act asked typed placed settled =
+  row_so {h} at O.Show ty operands {xs} takes simple act asked typed placed settled =
       show here.facts r ms os first places nodes old start ty (types_in operands) xs now simple typed
       (seen_by (λ j. Looked) operands (λ j e. other_use e (λ q. omega (arith, q))) at settled) (stage_at h at)
-  row_so {h} at trade O.NewSequence ty operands {xs} takes simple act asked typed placed settled =
+  row_so {h} at O.NewSequence ty operands {xs} takes simple act asked typed placed settled =
       new_elements here.facts r ms os first places nodes old start ty (types_in operands) xs now simple typed
       (seen_by (λ j. Looked) operands (λ j e. other_use e (λ q. omega (arith, q))) at settled) (stage_at h at)
-  row_so {h} at trade O.Echo ty operands {xs} takes simple act asked typed placed settled =
+  row_so {h} at O.Echo ty operands {xs} takes simple act asked typed placed settled =
       echo here.facts r ms os first places nodes old start ty (types_in operands) xs now typed
       (seen_by (λ j. Lent) operands (λ j e. other_use e (λ q. omega (arith, q))) at settled) (stage_at h at)
-  row_so {h} at trade O.Quit ty operands {xs} takes simple act asked typed placed settled =
+  row_so {h} at O.Quit ty operands {xs} takes simple act asked typed placed settled =
       quit here.facts r ms os first places nodes old start ty (types_in operands) xs now
       (seen_by (λ j. Looked) operands (λ j e. other_use e (λ q. omega (arith, q))) at settled)
-  row_so {h} at trade O.Discard ty operands {xs} takes simple act asked typed placed settled =
+  row_so {h} at O.Discard ty operands {xs} takes simple act asked typed placed settled =
       let_go here.facts r ms os first places nodes old start ty (types_in operands) xs now typed
       (seen_by (λ j. Looked) operands (λ j e. other_use e (λ q. omega (arith, q))) at settled) (stage_at h at)
   -- of one value
-  row_so at trade O.Convert ty (ByValue value NoArg) takes simple act asked typed placed (bare (inl unhooked) b none_settled) =
+  row_so at O.Convert ty (ByValue value NoArg) takes simple act asked typed placed (bare (inl unhooked) b none_settled) =
       convert_bare here.facts r ms os first places nodes old start now ty (type_of value) simple (value_type value asked.0) typed unhooked
       (seen_by (λ j. Owned) (ByValue value NoArg) (λ j e. other_use e (λ q. omega (arith, q))) at (bare (inl unhooked) b none_settled)) at b
-  row_so at trade O.Convert ty (ByValue value NoArg) takes simple act asked typed placed (bare (inr (inl e)) b none_settled) =
+  row_so at O.Convert ty (ByValue value NoArg) takes simple act asked typed placed (bare (inr (inl e)) b none_settled) =
+      other_use e.0 (λ q. omega (arith, q))
+  row_so at O.Convert ty (ByValue value NoArg) takes simple act asked typed placed (bare (inr (inr e)) b none_settled) =
       other_use e (λ q. omega (arith, q))
-  row_so at trade O.Convert ty (ByValue value NoArg) takes simple act asked typed placed (bare (inr (inr e)) b none_settled) =
+  row_so at O.Convert ty (ByValue value NoArg) takes simple act asked typed placed (held e hooks a stands none_settled) =
       other_use e (λ q. omega (arith, q))
-  row_so at trade O.Convert ty (ByValue value NoArg) takes simple act asked typed placed (held e hooks a stands none_settled) =
-      other_use e (λ q. omega (arith, q))
-  row_so at trade O.Convert ty (ByValue value NoArg) takes simple act asked typed placed (lent e hooks own a none_settled) = other_use e (λ q. omega (arith, q))
-  row_so at trade O.Convert ty (ByValue value NoArg) takes simple act asked typed placed (seen e b) = other_use e (λ q. omega (arith, q))
-  row_so at trade O.Convert ty (ByValue value NoArg) takes simple act asked typed placed (copied e hooks f) = other_use e (λ q. omega (arith, q))
-  row_so at trade O.Convert ty (ByValue value NoArg) takes simple act asked typed placed (in_hand e hooks) =
+  row_so at O.Convert ty (ByValue value NoArg) takes simple act asked typed placed (lent e hooks own a none_settled) = other_use e (λ q. omega (arith, q))
+  row_so at O.Convert ty (ByValue value NoArg) takes simple act asked typed placed (seen e b) = other_use e (λ q. omega (arith, q))
+  row_so at O.Convert ty (ByValue value NoArg) takes simple act asked typed placed (copied e hooks f) = other_use e (λ q. omega (arith, q))
+  row_so at O.Convert ty (ByValue value NoArg) takes simple act asked typed placed (in_hand e hooks) =
       convert_held here.facts r ms os first places nodes old start now ty (type_of value) simple (value_type value asked.0) typed
       (seen_by (λ j. Owned) (ByValue value NoArg) (λ j e. other_use e (λ q. omega (arith, q))) at (in_hand e hooks)) at
-  row_so {h} at trade O.Convert ty NoArg takes simple act asked typed placed settled = absurd (false≢true typed)
-  row_so {h} at trade O.Convert ty (ByPath path rest) takes simple act asked typed placed settled = absurd (false≢true placed)
-  row_so {h} at trade O.Convert ty (ByValue value (ByValue other rest)) takes simple act asked typed placed settled = absurd (false≢true typed)
-  row_so {h} at trade O.Convert ty (ByValue value (ByPath path rest)) takes simple act asked typed placed settled = absurd (false≢true typed)
+  row_so {h} at O.Convert ty NoArg takes simple act asked typed placed settled = absurd (false≢true typed)
+  row_so {h} at O.Convert ty (ByPath path rest) takes simple act asked typed placed settled = absurd (false≢true placed)
+  row_so {h} at O.Convert ty (ByValue value (ByValue other rest)) takes simple act asked typed placed settled = absurd (false≢true typed)
+  row_so {h} at O.Convert ty (ByValue value (ByPath path rest)) takes simple act asked typed placed settled = absurd (false≢true typed)
   -- of one place
-  row_so at trade (O.Measure m) ty (ByPath path NoArg) takes simple act asked typed placed (found f w none_settled) =
+  row_so at (O.Measure m) ty (ByPath path NoArg) takes simple act asked typed placed (found f w none_settled) =
       measure here.facts r ms os first places nodes old start now at m ty (type_at path ∷ []) simple typed
       (seen_by (λ j. Looked) (ByPath path NoArg) (λ j e. other_use e (λ q. omega (arith, q))) at (found f w none_settled)) (read_found at.runs.territory f)
-  row_so {h} at trade (O.Measure m) ty NoArg takes simple act asked typed placed settled = absurd (false≢true typed)
-  row_so {h} at trade (O.Measure m) ty (ByValue value rest) takes simple act asked typed placed settled = absurd (false≢true placed)
-  row_so {h} at trade (O.Measure m) ty (ByPath path (ByValue value rest)) takes simple act asked typed placed settled = absurd (false≢true typed)
-  row_so {h} at trade (O.Measure m) ty (ByPath path (ByPath other rest)) takes simple act asked typed placed settled = absurd (false≢true typed)
-  row_so at trade O.ReadLineInto ty (ByPath path NoArg) takes simple act asked typed placed (found f w none_settled) =
+  row_so {h} at (O.Measure m) ty NoArg takes simple act asked typed placed settled = absurd (false≢true typed)
+  row_so {h} at (O.Measure m) ty (ByValue value rest) takes simple act asked typed placed settled = absurd (false≢true placed)
+  row_so {h} at (O.Measure m) ty (ByPath path (ByValue value rest)) takes simple act asked typed placed settled = absurd (false≢true typed)
+  row_so {h} at (O.Measure m) ty (ByPath path (ByPath other rest)) takes simple act asked typed placed settled = absurd (false≢true typed)
+  row_so at O.ReadLineInto ty (ByPath path NoArg) takes simple act asked typed placed (found f w none_settled) =
       read_into here.facts r ms os first places nodes old start now at (type_at path) (written act.0 f) ty simple (path_type path asked.0) typed
       (seen_by (λ j. Looked) (ByPath path NoArg) (λ j e. other_use e (λ q. omega (arith, q))) at (found f w none_settled))
-  row_so {h} at trade O.ReadLineInto ty NoArg takes simple act asked typed placed settled = absurd (false≢true typed)
-  row_so {h} at trade O.ReadLineInto ty (ByValue value rest) takes simple act asked typed placed settled = absurd (false≢true placed)
-  row_so {h} at trade O.ReadLineInto ty (ByPath path (ByValue value rest)) takes simple act asked typed placed settled = absurd (false≢true typed)
-  row_so {h} at trade O.ReadLineInto ty (ByPath path (ByPath other rest)) takes simple act asked typed placed settled = absurd (false≢true typed)
-  row_so at trade O.Pop ty (ByPath path NoArg) takes simple act asked typed placed (found f w none_settled) =
+  row_so {h} at O.ReadLineInto ty NoArg takes simple act asked typed placed settled = absurd (false≢true typed)
+  row_so {h} at O.ReadLineInto ty (ByValue value rest) takes simple act asked typed placed settled = absurd (false≢true placed)
+  row_so {h} at O.ReadLineInto ty (ByPath path (ByValue value rest)) takes simple act asked typed placed settled = absurd (false≢true typed)
+  row_so {h} at O.ReadLineInto ty (ByPath path (ByPath other rest)) takes simple act asked typed placed settled = absurd (false≢true typed)
+  row_so at O.Pop ty (ByPath path NoArg) takes simple act asked typed placed (found f w none_settled) =
       pop here.facts r ms os first places nodes old start now at (type_at path) (written act.0 f) ty (path_type path asked.0) typed
       (seen_by (λ j. Looked) (ByPath path NoArg) (λ j e. other_use e (λ q. omega (arith, q))) at (found f w none_settled))
-  row_so {h} at trade O.Pop ty NoArg takes simple act asked typed placed settled = absurd (false≢true typed)
-  row_so {h} at trade O.Pop ty (ByValue value rest) takes simple act asked typed placed settled = absurd (false≢true placed)
-  row_so {h} at trade O.Pop ty (ByPath path (ByValue value rest)) takes simple act asked typed placed settled = absurd (false≢true typed)
-  row_so {h} at trade O.Pop ty (ByPath path (ByPath other rest)) takes simple act asked typed placed settled = absurd (false≢true typed)
-  row_so at trade O.Move ty (ByPath path NoArg) takes simple act asked typed placed (found f w none_settled) =
+  row_so {h} at O.Pop ty NoArg takes simple act asked typed placed settled = absurd (false≢true typed)
+  row_so {h} at O.Pop ty (ByValue value rest) takes simple act asked typed placed settled = absurd (false≢true placed)
+  row_so {h} at O.Pop ty (ByPath path (ByValue value rest)) takes simple act asked typed placed settled = absurd (false≢true typed)
+  row_so {h} at O.Pop ty (ByPath path (ByPath other rest)) takes simple act asked typed placed settled = absurd (false≢true typed)
+  row_so at O.Move ty (ByPath path NoArg) takes simple act asked typed placed (found f w none_settled) =
       move here.facts r ms os first places nodes old start now at (type_at path) (written act.0 f) ty simple typed
       (seen_by (λ j. Looked) (ByPath path NoArg) (λ j e. other_use e (λ q. omega (arith, q))) at (found f w none_settled))
-  row_so {h} at trade O.Move ty NoArg takes simple act asked typed placed settled = absurd (false≢true typed)
-  row_so {h} at trade O.Move ty (ByValue value rest) takes simple act asked typed placed settled = absurd (false≢true placed)
-  row_so {h} at trade O.Move ty (ByPath path (ByValue value rest)) takes simple act asked typed placed settled = absurd (false≢true typed)
-  row_so {h} at trade O.Move ty (ByPath path (ByPath other rest)) takes simple act asked typed placed settled = absurd (false≢true typed)
-  row_so {h} at trade (O.Update o) (Some ty) (ByPath path NoArg) takes simple act asked typed placed settled = absurd (false≢true typed)
-  row_so at trade (O.Update o) None (ByPath path NoArg) takes simple act asked typed placed (found f w none_settled) =
+  row_so {h} at O.Move ty NoArg takes simple act asked typed placed settled = absurd (false≢true typed)
+  row_so {h} at O.Move ty (ByValue value rest) takes simple act asked typed placed settled = absurd (false≢true placed)
+  row_so {h} at O.Move ty (ByPath path (ByValue value rest)) takes simple act asked typed placed settled = absurd (false≢true typed)
+  row_so {h} at O.Move ty (ByPath path (ByPath other rest)) takes simple act asked typed placed settled = absurd (false≢true typed)
+  row_so {h} at (O.Update o) (Some ty) (ByPath path NoArg) takes simple act asked typed placed settled = absurd (false≢true typed)
+  row_so at (O.Update o) None (ByPath path NoArg) takes simple act asked typed placed (found f w none_settled) =
       update here.facts r ms os first places nodes old start now at (type_at path) (written act.0 f) o [] [] (path_type path asked.0)
       (and_parts (is_stepped o) (is_int (kind_if here.facts (type_at path))) typed).1
       (seen_by (λ j. Looked) (ByPath path NoArg) (λ j e. other_use e (λ q. omega (arith, q))) at (found f w none_settled))
-  row_so {h} at trade O.ReadLine ty operands takes simple act asked typed placed settled = absurd act
-  row_so {h} at trade O.Make ty operands takes simple act asked typed placed settled = absurd (false≢true (sym takes))
-  row_so {h} at trade O.Sequence ty operands takes simple act asked typed placed settled = absurd (false≢true (sym takes))
-  row_so {h} at trade O.Add ty operands takes simple act asked typed placed settled = absurd (false≢true (sym takes))
-  row_so {h} at trade O.IsNil ty NoArg takes simple act asked typed placed settled = absurd (false≢true typed)
-  row_so {h} at trade O.IsNil ty (ByValue value NoArg) takes simple act asked typed placed settled =
+  row_so {h} at O.ReadLine ty operands takes simple act asked typed placed settled = absurd act
+  row_so {h} at O.Make ty operands takes simple act asked typed placed settled = absurd (false≢true (sym takes))
+  row_so {h} at O.Sequence ty operands takes simple act asked typed placed settled = absurd (false≢true (sym takes))
+  row_so {h} at O.Add ty operands takes simple act asked typed placed settled = absurd (false≢true (sym takes))
+  row_so {h} at O.IsNil ty NoArg takes simple act asked typed placed settled = absurd (false≢true typed)
+  row_so {h} at O.IsNil ty (ByValue value NoArg) takes simple act asked typed placed settled =
       absurd (ref_none here.facts (type_of value) (value_type value asked.0)
       (and_parts (is_bool (kind_if here.facts ty)) (is_ref (kind_if here.facts (type_of value))) typed).1)
-  row_so {h} at trade O.IsNil ty (ByValue value (ByValue other rest)) takes simple act asked typed placed settled = absurd (false≢true typed)
-  row_so {h} at trade O.IsNil ty (ByValue value (ByPath other rest)) takes simple act asked typed placed settled = absurd (false≢true typed)
-  row_so {h} at trade O.IsNil ty (ByPath path rest) takes simple act asked typed placed settled = absurd (false≢true placed)
-  row_so {h} at trade O.Destroy (Some ty) operands takes simple act asked typed placed settled = absurd (false≢true typed)
-  row_so {h} at trade O.Destroy None NoArg takes simple act asked typed placed settled = absurd (false≢true typed)
-  row_so {h} at trade O.Destroy None (ByValue value rest) takes simple act asked typed placed settled = absurd (false≢true placed)
-  row_so {h} at trade O.Destroy None (ByPath path NoArg) takes simple act asked typed placed settled =
+  row_so {h} at O.IsNil ty (ByValue value (ByValue other rest)) takes simple act asked typed placed settled = absurd (false≢true typed)
+  row_so {h} at O.IsNil ty (ByValue value (ByPath other rest)) takes simple act asked typed placed settled = absurd (false≢true typed)
+  row_so {h} at O.IsNil ty (ByPath path rest) takes simple act asked typed placed settled = absurd (false≢true placed)
+  row_so {h} at O.Destroy (Some ty) operands takes simple act asked typed placed settled = absurd (false≢true typed)
+  row_so {h} at O.Destroy None NoArg takes simple act asked typed placed settled = absurd (false≢true typed)
+  row_so {h} at O.Destroy None (ByValue value rest) takes simple act asked typed placed settled = absurd (false≢true placed)
+  row_so {h} at O.Destroy None (ByPath path NoArg) takes simple act asked typed placed settled =
       absurd (resource_none here.facts (type_at path) (path_type path asked.0) typed)
-  row_so {h} at trade O.Destroy None (ByPath path (ByValue value rest)) takes simple act asked typed placed settled = absurd (false≢true typed)
-  row_so {h} at trade O.Destroy None (ByPath path (ByPath other rest)) takes simple act asked typed placed settled = absurd (false≢true typed)
-  row_so {h} at trade O.Blank (Some ty) operands takes simple act asked typed placed settled = absurd (false≢true typed)
-  row_so {h} at trade O.Blank None NoArg takes simple act asked typed placed settled = absurd (false≢true typed)
-  row_so {h} at trade O.Blank None (ByValue value rest) takes simple act asked typed placed settled = absurd (false≢true placed)
-  row_so {h} at trade O.Blank None (ByPath path NoArg) takes simple act asked typed placed settled =
+  row_so {h} at O.Destroy None (ByPath path (ByValue value rest)) takes simple act asked typed placed settled = absurd (false≢true typed)
+  row_so {h} at O.Destroy None (ByPath path (ByPath other rest)) takes simple act asked typed placed settled = absurd (false≢true typed)
+  row_so {h} at O.Blank (Some ty) operands takes simple act asked typed placed settled = absurd (false≢true typed)
+  row_so {h} at O.Blank None NoArg takes simple act asked typed placed settled = absurd (false≢true typed)
+  row_so {h} at O.Blank None (ByValue value rest) takes simple act asked typed placed settled = absurd (false≢true placed)
+  row_so {h} at O.Blank None (ByPath path NoArg) takes simple act asked typed placed settled =
       absurd (resource_none here.facts (type_at path) (path_type path asked.0) typed)
-  row_so {h} at trade O.Blank None (ByPath path (ByValue value rest)) takes simple act asked typed placed settled = absurd (false≢true typed)
-  row_so {h} at trade O.Blank None (ByPath path (ByPath other rest)) takes simple act asked typed placed settled = absurd (false≢true typed)
+  row_so {h} at O.Blank None (ByPath path (ByValue value rest)) takes simple act asked typed placed settled = absurd (false≢true typed)
+  row_so {h} at O.Blank None (ByPath path (ByPath other rest)) takes simple act asked typed placed settled = absurd (false≢true typed)
   -- of a place and a value
-  row_so {h} at trade (O.Update o) (Some ty) (ByPath path (ByValue value NoArg)) takes simple act asked typed placed settled = absurd (false≢true typed)
-  row_so {h} at trade (O.Update o) None (ByPath path (ByValue value NoArg)) takes simple act asked typed placed (found {l = l} {xs = ys} f w more) =
+  row_so {h} at (O.Update o) (Some ty) (ByPath path (ByValue value NoArg)) takes simple act asked typed placed settled = absurd (false≢true typed)
+  row_so {h} at (O.Update o) None (ByPath path (ByValue value NoArg)) takes simple act asked typed placed (found {l = l} {xs = ys} f w more) =
       let seen = seen_by (λ j. Looked) (ByPath path (ByValue value NoArg)) (λ j e. other_use e (λ q. omega (arith, q))) at (found f w more) in
       update here.facts r ms os first places nodes old start now (stage_at h at) (type_at path) (written act.0 f) o (type_of value ∷ []) ys
       (path_type path asked.0)
       (and_parts (is_int (kind_if here.facts (type_at path))) (is_int (kind_if here.facts (type_of value)))
       (and_parts (is_updated o) (is_int (kind_if here.facts (type_at path)) && is_int (kind_if here.facts (type_of value))) typed).1).0 seen
-  row_so {h} at trade (O.Update o) ty NoArg takes simple act asked typed placed settled = absurd (false≢true placed)
-  row_so {h} at trade (O.Update o) ty (ByValue value rest) takes simple act asked typed placed settled = absurd (false≢true placed)
-  row_so {h} at trade (O.Update o) ty (ByPath path (ByPath other rest)) takes simple act asked typed placed settled = absurd (false≢true placed)
-  row_so {h} at trade (O.Update o) (Some ty) (ByPath path (ByValue value (ByValue other rest))) takes simple act asked typed placed settled =
+  row_so {h} at (O.Update o) ty NoArg takes simple act asked typed placed settled = absurd (false≢true placed)
+  row_so {h} at (O.Update o) ty (ByValue value rest) takes simple act asked typed placed settled = absurd (false≢true placed)
+  row_so {h} at (O.Update o) ty (ByPath path (ByPath other rest)) takes simple act asked typed placed settled = absurd (false≢true placed)
+  row_so {h} at (O.Update o) (Some ty) (ByPath path (ByValue value (ByValue other rest))) takes simple act asked typed placed settled =
       absurd (false≢true typed)
-  row_so {h} at trade (O.Update o) None (ByPath path (ByValue value (ByValue other rest))) takes simple act asked typed placed settled =
+  row_so {h} at (O.Update o) None (ByPath path (ByValue value (ByValue other rest))) takes simple act asked typed placed settled =
       absurd (false≢true typed)
-  row_so {h} at trade (O.Update o) ty (ByPath path (ByValue value (ByPath other rest))) takes simple act asked typed placed settled = absurd (false≢true placed)
-  row_so {h} at trade O.Append (Some ty) operands takes simple act asked typed placed settled = absurd (false≢true typed)
-  row_so {h} at trade O.Append None NoArg takes simple act asked typed placed settled = absurd (false≢true typed)
-  row_so {h} at trade O.Append None (ByValue value rest) takes simple act asked typed placed settled = absurd (false≢true placed)
-  row_so {h} at trade O.Append None (ByPath path NoArg) takes simple act asked typed placed settled = absurd (false≢true typed)
-  row_so {h} at trade O.Append None (ByPath path (ByPath other rest)) takes simple act asked typed placed settled = absurd (false≢true placed)
-  row_so {h} at trade O.Append None (ByPath path (ByValue value (ByValue other rest))) takes simple act asked typed placed settled = absurd (false≢true typed)
-  row_so {h} at trade O.Append None (ByPath path (ByValue value (ByPath other rest))) takes simple act asked typed placed settled = absurd (false≢true typed)
-  row_so {h} at trade O.Append None (ByPath path (ByValue value NoArg)) takes simple act asked typed placed (found {l = l} f w more) =
+  row_so {h} at (O.Update o) ty (ByPath path (ByValue value (ByPath other rest))) takes simple act asked typed placed settled = absurd (false≢true placed)
+  row_so {h} at O.Append (Some ty) operands takes simple act asked typed placed settled = absurd (false≢true typed)
+  row_so {h} at O.Append None NoArg takes simple act asked typed placed settled = absurd (false≢true typed)
+  row_so {h} at O.Append None (ByValue value rest) takes simple act asked typed placed settled = absurd (false≢true placed)
+  row_so {h} at O.Append None (ByPath path NoArg) takes simple act asked typed placed settled = absurd (false≢true typed)
+  row_so {h} at O.Append None (ByPath path (ByPath other rest)) takes simple act asked typed placed settled = absurd (false≢true placed)
+  row_so {h} at O.Append None (ByPath path (ByValue value (ByValue other rest))) takes simple act asked typed placed settled = absurd (false≢true typed)
+  row_so {h} at O.Append None (ByPath path (ByValue value (ByPath other rest))) takes simple act asked typed placed settled = absurd (false≢true typed)
+  row_so {h} at O.Append None (ByPath path (ByValue value NoArg)) takes simple act asked typed placed (found {l = l} f w more) =
       let y = one_operand (λ j. Lent) more in
       let seen = seen_by (λ j. Lent) (ByPath path (ByValue value NoArg)) (λ j e. other_use e (λ q. omega (arith, q))) at (found f w more) in
       subst (λ zs. Sure (operates O.Append here.facts None (type_at path ∷ type_of value ∷ []) (At l ∷ zs)) (Gives None) now) (sym y.is)
@@ -341,15 +341,15 @@ module _ (here : Here) (scope : scopes.Here) (limits : Limits) (root : (global :
       (path_type path asked.0)
       (and_parts (is_text (kind_if here.facts (type_at path))) (is_joined (kind_if here.facts (type_of value))) typed).0
       (subst (λ zs. are_seen now (At l ∷ zs) ≡ true) y.is seen))
-  row_so {h} at trade O.SetLength (Some ty) operands takes simple act asked typed placed settled = absurd (false≢true typed)
-  row_so {h} at trade O.SetLength None NoArg takes simple act asked typed placed settled = absurd (false≢true typed)
-  row_so {h} at trade O.SetLength None (ByValue value rest) takes simple act asked typed placed settled = absurd (false≢true placed)
-  row_so {h} at trade O.SetLength None (ByPath path NoArg) takes simple act asked typed placed settled = absurd (false≢true typed)
-  row_so {h} at trade O.SetLength None (ByPath path (ByPath other rest)) takes simple act asked typed placed settled = absurd (false≢true placed)
-  row_so {h} at trade O.SetLength None (ByPath path (ByValue value (ByValue other rest))) takes simple act asked typed placed settled =
+  row_so {h} at O.SetLength (Some ty) operands takes simple act asked typed placed settled = absurd (false≢true typed)
+  row_so {h} at O.SetLength None NoArg takes simple act asked typed placed settled = absurd (false≢true typed)
+  row_so {h} at O.SetLength None (ByValue value rest) takes simple act asked typed placed settled = absurd (false≢true placed)
+  row_so {h} at O.SetLength None (ByPath path NoArg) takes simple act asked typed placed settled = absurd (false≢true typed)
+  row_so {h} at O.SetLength None (ByPath path (ByPath other rest)) takes simple act asked typed placed settled = absurd (false≢true placed)
+  row_so {h} at O.SetLength None (ByPath path (ByValue value (ByValue other rest))) takes simple act asked typed placed settled =
       absurd (false≢true typed)
-  row_so {h} at trade O.SetLength None (ByPath path (ByValue value (ByPath other rest))) takes simple act asked typed placed settled = absurd (false≢true typed)
-  row_so {h} at trade O.SetLength None (ByPath path (ByValue value NoArg)) takes simple act asked typed placed (found {l = l} f w more) =
+  row_so {h} at O.SetLength None (ByPath path (ByValue value (ByPath other rest))) takes simple act asked typed placed settled = absurd (false≢true typed)
+  row_so {h} at O.SetLength None (ByPath path (ByValue value NoArg)) takes simple act asked typed placed (found {l = l} f w more) =
       let y = one_operand (λ j. Looked) more in
       let seen = seen_by (λ j. Looked) (ByPath path (ByValue value NoArg)) (λ j e. other_use e (λ q. omega (arith, q))) at (found f w more) in
       subst (λ zs. Sure (operates O.SetLength here.facts None (type_at path ∷ type_of value ∷ []) (At l ∷ zs)) (Gives None) now) (sym y.is)
@@ -357,44 +357,44 @@ module _ (here : Here) (scope : scopes.Here) (limits : Limits) (root : (global :
       (path_type path asked.0)
       (and_parts (is_resized (kind_if here.facts (type_at path))) (is_int (kind_if here.facts (type_of value))) typed).0
       (subst (λ zs. are_seen now (At l ∷ zs) ≡ true) y.is seen))
-  row_so {h} at trade O.Swap (Some ty) operands takes simple act asked typed placed settled = absurd (false≢true typed)
-  row_so {h} at trade O.Swap None NoArg takes simple act asked typed placed settled = absurd (false≢true typed)
-  row_so {h} at trade O.Swap None (ByValue value rest) takes simple act asked typed placed settled = absurd (false≢true placed)
-  row_so {h} at trade O.Swap None (ByPath path NoArg) takes simple act asked typed placed settled = absurd (false≢true typed)
-  row_so {h} at trade O.Swap None (ByPath path (ByValue value rest)) takes simple act asked typed placed settled = absurd (false≢true placed)
-  row_so {h} at trade O.Swap None (ByPath path (ByPath other (ByValue value rest))) takes simple act asked typed placed settled = absurd (false≢true typed)
-  row_so {h} at trade O.Swap None (ByPath path (ByPath other (ByPath third rest))) takes simple act asked typed placed settled = absurd (false≢true typed)
-  row_so at trade O.Swap None (ByPath path (ByPath other NoArg)) takes simple act asked typed placed (found f w (found g v none_settled)) =
-      swap here.facts r ms os first places nodes old start now at (type_at path) (written act.0 f) (type_at other) typed trade (written act.1.0 g)
+  row_so {h} at O.Swap (Some ty) operands takes simple act asked typed placed settled = absurd (false≢true typed)
+  row_so {h} at O.Swap None NoArg takes simple act asked typed placed settled = absurd (false≢true typed)
+  row_so {h} at O.Swap None (ByValue value rest) takes simple act asked typed placed settled = absurd (false≢true placed)
+  row_so {h} at O.Swap None (ByPath path NoArg) takes simple act asked typed placed settled = absurd (false≢true typed)
+  row_so {h} at O.Swap None (ByPath path (ByValue value rest)) takes simple act asked typed placed settled = absurd (false≢true placed)
+  row_so {h} at O.Swap None (ByPath path (ByPath other (ByValue value rest))) takes simple act asked typed placed settled = absurd (false≢true typed)
+  row_so {h} at O.Swap None (ByPath path (ByPath other (ByPath third rest))) takes simple act asked typed placed settled = absurd (false≢true typed)
+  row_so at O.Swap None (ByPath path (ByPath other NoArg)) takes simple act asked typed placed (found f w (found g v none_settled)) =
+      swap here.facts r ms os first places nodes old start now at (type_at path) (written act.0 f) (type_at other) typed (written act.1.0 g)
       (seen_by (λ j. Looked) (ByPath path (ByPath other NoArg)) (λ j e. other_use e (λ q. omega (arith, q))) at (found f w (found g v none_settled)))
-  row_so {h} at trade O.Assign (Some ty) operands takes simple act asked typed placed settled = absurd (false≢true typed)
-  row_so {h} at trade O.Assign None NoArg takes simple act asked typed placed settled = absurd (false≢true typed)
-  row_so {h} at trade O.Assign None (ByValue value rest) takes simple act asked typed placed settled = absurd (false≢true placed)
-  row_so {h} at trade O.Assign None (ByPath path NoArg) takes simple act asked typed placed settled = absurd (false≢true typed)
-  row_so {h} at trade O.Assign None (ByPath path (ByPath other rest)) takes simple act asked typed placed settled = absurd (false≢true placed)
-  row_so {h} at trade O.Assign None (ByPath path (ByValue value (ByValue other rest))) takes simple act asked typed placed settled = absurd (false≢true typed)
-  row_so {h} at trade O.Assign None (ByPath path (ByValue value (ByPath other rest))) takes simple act asked typed placed settled = absurd (false≢true typed)
-  row_so at trade O.Assign None (ByPath path (ByValue value NoArg)) takes simple act asked typed placed (found f w (bare (inl unhooked) b none_settled)) =
+  row_so {h} at O.Assign (Some ty) operands takes simple act asked typed placed settled = absurd (false≢true typed)
+  row_so {h} at O.Assign None NoArg takes simple act asked typed placed settled = absurd (false≢true typed)
+  row_so {h} at O.Assign None (ByValue value rest) takes simple act asked typed placed settled = absurd (false≢true placed)
+  row_so {h} at O.Assign None (ByPath path NoArg) takes simple act asked typed placed settled = absurd (false≢true typed)
+  row_so {h} at O.Assign None (ByPath path (ByPath other rest)) takes simple act asked typed placed settled = absurd (false≢true placed)
+  row_so {h} at O.Assign None (ByPath path (ByValue value (ByValue other rest))) takes simple act asked typed placed settled = absurd (false≢true typed)
+  row_so {h} at O.Assign None (ByPath path (ByValue value (ByPath other rest))) takes simple act asked typed placed settled = absurd (false≢true typed)
+  row_so at O.Assign None (ByPath path (ByValue value NoArg)) takes simple act asked typed placed (found f w (bare (inl unhooked) b none_settled)) =
       assign_bare here.facts r ms os first places nodes old start now at (type_at path) (written act.0 f) (type_of value) typed
       (ap (λ o. hooked (form_for here.facts o)) (sym (same_type {a = type_of value} {b = type_at path} typed)) ∙ unhooked) b
       (seen_by (λ j. ToPlace) (ByPath path (ByValue value NoArg)) (λ j e. other_use e (λ q. omega (arith, q))) at
       (found f w (bare (inl unhooked) b none_settled)))
-  row_so at trade O.Assign None (ByPath path (ByValue value NoArg)) takes simple act asked typed placed (found f w (bare (inr (inl e)) b none_settled)) =
+  row_so at O.Assign None (ByPath path (ByValue value NoArg)) takes simple act asked typed placed (found f w (bare (inr (inl e)) b none_settled)) =
+      other_use e.0 (λ q. omega (arith, q))
+  row_so at O.Assign None (ByPath path (ByValue value NoArg)) takes simple act asked typed placed (found f w (bare (inr (inr e)) b none_settled)) =
       other_use e (λ q. omega (arith, q))
-  row_so at trade O.Assign None (ByPath path (ByValue value NoArg)) takes simple act asked typed placed (found f w (bare (inr (inr e)) b none_settled)) =
+  row_so at O.Assign None (ByPath path (ByValue value NoArg)) takes simple act asked typed placed (found f w (held e hooks a stands none_settled)) =
       other_use e (λ q. omega (arith, q))
-  row_so at trade O.Assign None (ByPath path (ByValue value NoArg)) takes simple act asked typed placed (found f w (held e hooks a stands none_settled)) =
+  row_so at O.Assign None (ByPath path (ByValue value NoArg)) takes simple act asked typed placed (found f w (lent e hooks own a none_settled)) =
       other_use e (λ q. omega (arith, q))
-  row_so at trade O.Assign None (ByPath path (ByValue value NoArg)) takes simple act asked typed placed (found f w (lent e hooks own a none_settled)) =
+  row_so at O.Assign None (ByPath path (ByValue value NoArg)) takes simple act asked typed placed (found f w (seen e b)) =
       other_use e (λ q. omega (arith, q))
-  row_so at trade O.Assign None (ByPath path (ByValue value NoArg)) takes simple act asked typed placed (found f w (seen e b)) =
-      other_use e (λ q. omega (arith, q))
-  row_so at trade O.Assign None (ByPath path (ByValue value NoArg)) takes simple act asked typed placed (found f w (copied e hooks g)) =
+  row_so at O.Assign None (ByPath path (ByValue value NoArg)) takes simple act asked typed placed (found f w (copied e hooks g)) =
       assign_copy here.facts r ms os first places nodes old start now at (type_at path) (written act.0 f) (type_of value) typed
       (ap (λ o. hooked (form_for here.facts o)) (sym (same_type {a = type_of value} {b = type_at path} typed))
       ∙ (sym (hooked_is here.facts (type_of value)) ∙ hooks)) g
       (seen_by (λ j. ToPlace) (ByPath path (ByValue value NoArg)) (λ j e. other_use e (λ q. omega (arith, q))) at (found f w (copied e hooks g)))
-  row_so at trade O.Assign None (ByPath path (ByValue value NoArg)) takes simple act asked typed placed (found f w (in_hand e hooks)) =
+  row_so at O.Assign None (ByPath path (ByValue value NoArg)) takes simple act asked typed placed (found f w (in_hand e hooks)) =
       assign_held here.facts r ms os first places nodes old start now (type_at path) (type_of value) (written act.0 f) typed
       (ap (λ o. hooked (form_for here.facts o)) (sym (same_type {a = type_of value} {b = type_at path} typed))
       ∙ (sym (hooked_is here.facts (type_of value)) ∙ hooks))

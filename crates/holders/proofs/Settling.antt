@@ -1,5 +1,5 @@
 -- The places of operands are looked up; and what operands are is there.
-use Rattle.std.proofs.Common.{◌≡◌, refl, sym, ap, ap₂, subst, ◌∙◌, ℕ, suc, Bool, true, List, ◌∷◌, ◌++◌}
+use Rattle.std.proofs.Common.{◌≡◌, refl, sym, ap₂, subst, ◌∙◌, ℕ, suc, Bool, true, List, ◌∷◌, ◌++◌}
 use Rattle.std.specs.Prelude.{◌&&◌}
 use Rattle.nim_program.specs.declared.operation.Use.{Use}
 use Rattle.nim_program.specs.declared.operation.Use.TheVariants.{Held}

@@ -13,6 +13,7 @@ use Rattle.holders.specs.Handing.{HandsOut}
 use Rattle.holders.specs.Running.{Region, IsOutside, Runs}
 use Rattle.holders.specs.Staging.{Stage, Holding, Up}
 use Rattle.holders.specs.Groups.{without_node}
+use Rattle.holders.proofs.Copying.{either_block}
 use Rattle.holders.proofs.Sure.{sure_weaker}
 use Rattle.holders.proofs.FrameChanges.{place_opened, value_waits, value_leaves}
 use Rattle.holders.proofs.Running.{moves_run, passes_then, declares, waits}
@@ -45,6 +46,17 @@ module _ (r : Region) (gs : List Owner) (first places : ℕ) (old : List ℕ) (s
       by (inr (inr le)) = inr (inr (later le))
 
   -- what comes of something that starts there
+  -- what was given came as well
+  pub came_both : (given blocks : List ℕ) → ((k : ℕ) → Member k given → Member k old ⊎ (taken_in start ≤ k)) →
+      ((k : ℕ) → Member k blocks → Member k old ⊎ (Member k [] ⊎ (taken_in start ≤ k))) → (k : ℕ) → Member k (given ++ blocks) →
+      Member k old ⊎ (Member k [] ⊎ (taken_in start ≤ k))
+  came_both given blocks handed before k m =
+      either_block k given blocks (Member k old ⊎ (Member k [] ⊎ (taken_in start ≤ k))) m (λ q. wide (handed k q)) (λ q. before k q)
+    where
+      wide : Member k old ⊎ (taken_in start ≤ k) → Member k old ⊎ (Member k [] ⊎ (taken_in start ≤ k))
+      wide (inl n) = inl n
+      wide (inr le) = inr (inr le)
+
   abbrev pub goes_on : {ms ns : List Owner} {given : List ℕ} {now after : World} (s : Runs r ms gs [] old start now) →
       ((k : ℕ) → Member k given → Member k old ⊎ (taken_in start ≤ k)) → Runs r ns gs given s.territory.blocks now after →
       Runs r ns gs [] old start after
@@ -52,7 +64,7 @@ module _ (r : Region) (gs : List Owner) (first places : ℕ) (old : List ℕ) (s
     territory = g.territory;
     own = g.own;
     came = further s.territory.blocks given g.territory.blocks now s.passes.grows s.came handed g.came;
-    passes = passes_then s.passes s.came g.passes;
+    passes = passes_then s.passes (came_both given s.territory.blocks handed s.came) g.passes;
   }
 
   pub no_given : (k : ℕ) → Member k [] → Member k old ⊎ (taken_in start ≤ k)

@@ -1,5 +1,5 @@
 -- Operations on values that they take from where they wait: sequences, arrays and tuples of them, and an element that comes.
-use Rattle.std.proofs.Common.{◌≡◌, refl, sym, ap, ap₂, subst, ◌∙◌, arith, ℕ, suc, ◌+◌, ◌≤◌, Bool, true, false, inl, inr, ◌⊎◌, List, [], ◌∷◌, ◌++◌, length}
+use Rattle.std.proofs.Common.{◌≡◌, refl, sym, ap, ap₂, subst, ◌∙◌, arith, ℕ, suc, ◌+◌, ◌≤◌, Bool, true, inl, inr, ◌⊎◌, List, [], ◌++◌, length}
 use Rattle.std.proofs.Common.{Option, Some, None}
 use Rattle.std.specs.Prelude.{◌&&◌, nat_eq}
 use Rattle.std.proofs.lemmas.Bool.{false≢true, and_parts, eqb-true}
@@ -44,12 +44,9 @@ use Rattle.holders.proofs.Settling.{cell_seen}
 use Rattle.holders.proofs.Table.{OutOf, out_held, out_either, operated, one_row, has_hooks, none_bare}
 use Rattle.holders.proofs.WaitingTaken.{Taken, none_taken, bare_taken, held_taken, lent_taken, place_taken}
 use Rattle.holders.proofs.FormKinds.{same_type, sequence_form}
+use Rattle.holders.proofs.Working.{clear_both}
 
 -- ---- blocks of values together
-
-clear_both : (bs cs : List ℕ) (os : List Owner) → ClearOf bs os → ClearOf cs os → ClearOf (bs ++ cs) os
-clear_both bs cs [] a b = tt
-clear_both bs cs (o ∷ os) a b = (λ k e m. either_block k bs cs ⊥ m (λ q. a.0 k e q) (λ q. b.0 k e q), clear_both bs cs os a.1 b.1)
 
 -- no two have a block together, and none has one of the cells
 pub record Together (given blocks : List ℕ) (os : List Owner) : Type 0 where
@@ -64,7 +61,7 @@ taken_together {ms = ms} {os = os} none_taken = record { distinct = tt; strange 
 taken_together (bare_taken which b more) = taken_together more
 taken_together (lent_taken purpose hooks own a more) = taken_together more
 taken_together (place_taken f e more) = taken_together more
-taken_together {ms = ms} {os = os} {blocks = blocks} (held_taken {given = given} u more apart) =
+taken_together {ms = ms} {os = os} {blocks = blocks} (held_taken {given = given} purpose u more apart) =
     let t = taken_together more in
     record {
       distinct = distinct_both u.given given u.distinct t.distinct (λ k m n. apart k m n);
@@ -92,8 +89,11 @@ use_number Held = 2
 use_number Lent = 3
 use_number Looked = 4
 
-pub not_bare : {A : Type 0} {uses : (position : ℕ) → Use} {i : ℕ} → ((j : ℕ) → uses j ≡ Held) → (uses i ≡ Lent) ⊎ (uses i ≡ Looked) → A
-not_bare {i = i} held (inl e) = absurd (omega (arith, ap use_number (sym (held i) ∙ e)))
+pub not_lent : {A : Type 0} {uses : (position : ℕ) → Use} {i : ℕ} → ((j : ℕ) → uses j ≡ Held) → uses i ≡ Lent → A
+not_lent {i = i} held e = absurd (omega (arith, ap use_number (sym (held i) ∙ e)))
+
+pub not_bare : {A T : Type 0} {uses : (position : ℕ) → Use} {i : ℕ} → ((j : ℕ) → uses j ≡ Held) → ((uses i ≡ Lent) × T) ⊎ (uses i ≡ Looked) → A
+not_bare held (inl e) = not_lent held e.0
 not_bare {i = i} held (inr e) = absurd (omega (arith, ap use_number (sym (held i) ∙ e)))
 
 module _ {here : Here} {limits : Limits} {root : (global : Bool) → ℕ → ℕ} {uses : (position : ℕ) → Use} {ms os : List Owner} {blocks : List ℕ}
@@ -106,9 +106,9 @@ module _ {here : Here} {limits : Limits} {root : (global : Bool) → ℕ → ℕ
       one_more {bs = []} {cs = given} (omega arith)
       (subst (λ g. Has world Full g v []) all.0 (plain_anywhere world Full unhooked (b world))) (each_shift v (each_taken f all.1 more))
   each_taken f all (bare_taken (inr other) b more) = not_bare held other
-  each_taken f all (held_taken {v = v} {given = given} u more apart) =
+  each_taken f all (held_taken {v = v} {given = given} purpose u more apart) =
       one_more {bs = u.given} {cs = given} (omega arith) (subst (λ g. Has world Full g v u.given) all.0 u.has) (each_shift v (each_taken f all.1 more))
-  each_taken f all (lent_taken purpose hooks own a more) = not_bare held (inl purpose)
+  each_taken f all (lent_taken purpose hooks own a more) = not_lent held purpose
   each_taken f all (place_taken g e more) = elim all [ ]
 
 -- what was taken is there
@@ -117,7 +117,7 @@ pub taken_seen : {here : Here} {limits : Limits} {root : (global : Bool) → ℕ
     Taken here limits root uses ms os blocks world args i xs given → are_seen world xs ≡ true
 taken_seen os t none_taken = refl
 taken_seen os {world = world} t (bare_taken which b more) = ap₂ (λ m n. m && n) (has_whole tt (b world)) (taken_seen os t more)
-taken_seen os t (held_taken u more apart) = ap₂ (λ m n. m && n) (has_whole tt u.has) (taken_seen os t more)
+taken_seen os t (held_taken purpose u more apart) = ap₂ (λ m n. m && n) (has_whole tt u.has) (taken_seen os t more)
 taken_seen os t (lent_taken purpose hooks own a more) = ap₂ (λ m n. m && n) (cell_seen os t a) (taken_seen os t more)
 taken_seen os t (place_taken f e more) = ap₂ (λ m n. m && n) (seen_read (read_found t f)) (taken_seen os t more)
 
@@ -145,12 +145,12 @@ module _ {here : Here} {limits : Limits} {root : (global : Bool) → ℕ → ℕ
       HasAll world Full fs 0 (values_in xs) given
   all_taken ts i at none_of args none_taken typed placed e = no_parts refl
   all_taken ts i at none_of args (bare_taken which b more) typed placed e = absurd (omega (arith, e))
-  all_taken ts i at none_of args (held_taken u more apart) typed placed e = absurd (omega (arith, e))
+  all_taken ts i at none_of args (held_taken purpose u more apart) typed placed e = absurd (omega (arith, e))
   all_taken ts i at none_of args (lent_taken purpose hooks own a more) typed placed e = absurd (omega (arith, e))
   all_taken ts i at none_of args (place_taken f q more) typed placed e = absurd (omega (arith, e))
   all_taken ts i at (more_of h rest) args none_taken typed placed e = absurd (omega (arith, e))
   all_taken ts i at (more_of h rest) args (place_taken f q more) typed placed e = absurd (false≢true placed)
-  all_taken ts i at (more_of h rest) args (lent_taken purpose hooks own a more) typed placed e = not_bare held (inl purpose)
+  all_taken ts i at (more_of h rest) args (lent_taken purpose hooks own a more) typed placed e = not_lent held purpose
   all_taken ts i at (more_of h rest) args (bare_taken (inr other) b more) typed placed e = not_bare held other
   all_taken _ i at (more_of {t = t} {ts = ts} h rest) (ByValue value args) (bare_taken {v = v} {given = given} (inl unhooked) b more) typed placed e =
       let q = and_parts (is_of (type_of value) (nth_type all i)) (are_parts (kind.tuple all) (suc i) (types_in args)) typed in
@@ -165,7 +165,7 @@ module _ {here : Here} {limits : Limits} {root : (global : Bool) → ℕ → ℕ
 
       later : {y : Option Ty} (j : ℕ) → nth_type all (i + suc j) ≡ y → nth_type all (suc i + j) ≡ y
       later j p = ap (nth_type all) (omega arith) ∙ p
-  all_taken _ i at (more_of {t = t} {ts = ts} h rest) (ByValue value args) (held_taken {v = v} {given = given} u more apart) typed placed e =
+  all_taken _ i at (more_of {t = t} {ts = ts} h rest) (ByValue value args) (held_taken {v = v} {given = given} purpose u more apart) typed placed e =
       let q = and_parts (is_of (type_of value) (nth_type all i)) (are_parts (kind.tuple all) (suc i) (types_in args)) typed in
       a_part {bs = u.given} {cs = given} (omega arith)
       (subst (λ g. Has world Full g v u.given) (form_at value t h (same_type {a = type_of value} {b = nth_type all i} q.0) (at 0)) u.has)
@@ -250,7 +250,7 @@ module _ (here : Here) (limits : Limits) (root : (global : Bool) → ℕ → ℕ
           count (values_in xs) ≡ length (types_in args)
       count_of none_taken = refl
       count_of (bare_taken which b more) = ap suc (count_of more)
-      count_of (held_taken u more apart) = ap suc (count_of more)
+      count_of (held_taken purpose u more apart) = ap suc (count_of more)
       count_of (lent_taken purpose hooks own a more) = ap suc (count_of more)
       count_of (place_taken f e more) = ap suc (count_of more)
 

@@ -1,5 +1,5 @@
 -- Make, sequences, and an element that comes: what comes of them.
-use Rattle.std.proofs.Common.{◌≡◌, refl, sym, ap, subst, ◌∙◌, arith, ℕ, ◌≤◌, Bool, true, false, inl, inr, ◌⊎◌, List, [], ◌∷◌, ◌++◌, Option, Some, None}
+use Rattle.std.proofs.Common.{◌≡◌, refl, sym, ap, subst, ◌∙◌, arith, ℕ, ◌≤◌, Bool, true, inl, inr, ◌⊎◌, List, [], ◌∷◌, ◌++◌, Option, Some, None}
 use Rattle.std.proofs.lemmas.Bool.{false≢true, and_parts, or_left}
 use Rattle.nim_types.specs.Types.{Ty}
 use Rattle.nim_program.specs.declared.expr.Node.{Node}
@@ -30,7 +30,7 @@ use Rattle.holders.specs.Ways.{Step}
 use Rattle.holders.specs.Finding.{Found}
 use Rattle.holders.specs.Running.{Region}
 use Rattle.holders.specs.Staging.{Stage, Holding}
-use Rattle.holders.proofs.Sure.{sure_weaker}
+use Rattle.holders.proofs.Sure.{sure_weaker, sure_answer}
 use Rattle.holders.proofs.Owning.{in_first, plain_anywhere}
 use Rattle.holders.proofs.Operations.{adds_element}
 use Rattle.holders.proofs.Staging.{stage_takes}
@@ -42,7 +42,7 @@ use Rattle.holders.proofs.Claims.{asked_at}
 use Rattle.holders.proofs.OperandKinds.{AllRegular}
 use Rattle.holders.proofs.FormKinds.{sequence_form, same_type}
 use Rattle.holders.proofs.Table.{OutOf, At_stage, out_none, operated, has_hooks, hold_bare}
-use Rattle.holders.proofs.PlaceRows.{sure_answer, found_chain}
+use Rattle.holders.proofs.PlaceRows.{found_chain}
 use Rattle.holders.proofs.RowsOfOperands.{takes_held}
 use Rattle.holders.proofs.Applying.{node_off, row_valued}
 use Rattle.holders.proofs.WholeOperations.{apply_waits}
@@ -106,12 +106,12 @@ module _ (here : Here) (limits : Limits) (root : (global : Bool) → ℕ → ℕ
       add_holding (type_at path) (type_of value) (simple path (ByValue value NoArg) refl) typed
       seen f (hold_bare here.facts r ms os first places nodes old start s (plain_anywhere now Full unhooked (b now)))
   add_of s None (ByPath path (ByValue value NoArg)) simple typed placed seen (place_taken f e (bare_taken (inr (inl q)) b none_taken)) came =
-      other_use q (λ z. omega (arith, z))
+      other_use q.0 (λ z. omega (arith, z))
   add_of s None (ByPath path (ByValue value NoArg)) simple typed placed seen (place_taken f e (bare_taken (inr (inr q)) b none_taken)) came =
       other_use q (λ z. omega (arith, z))
   add_of s None (ByPath path (ByValue value NoArg)) simple typed placed seen (place_taken f e (lent_taken q hooks own a none_taken)) came =
       other_use q (λ z. omega (arith, z))
-  add_of s None (ByPath path (ByValue value NoArg)) simple typed placed seen (place_taken f e (held_taken u none_taken apart)) came =
+  add_of s None (ByPath path (ByValue value NoArg)) simple typed placed seen (place_taken f e (held_taken purpose u none_taken apart)) came =
       add_holding (type_at path) (type_of value) (simple path (ByValue value NoArg) refl) typed
       seen f (record { stage = s; under = u; came = λ k m. came k (in_first k u.given [] m) })
 

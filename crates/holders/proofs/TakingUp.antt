@@ -2,7 +2,7 @@
 use Rattle.std.proofs.Common.{◌≡◌, refl, sym, ap, ap₂, subst, ◌∙◌, arith, ℕ, suc, ◌+◌, Bool, true, false, inl, inr, ◌⊎◌, List, [], ◌∷◌, ◌++◌, length}
 use Rattle.std.specs.Prelude.{◌&&◌}
 use Rattle.std.proofs.lemmas.Bool.{and_left, and_right}
-use Rattle.nim_types.specs.Forms.{Form, hooked}
+use Rattle.nim_types.specs.Forms.{Form}
 use Rattle.nim_program.specs.declared.operation.Use.{Use}
 use Rattle.nim_program.specs.declared.operation.Use.TheVariants.{Owned, Given as ToPlace, Held, Lent, Looked}
 use Rattle.nim_program.specs.Program.{Args, NoArg, ByValue, ByPath, type_of, type_at, node_of}
@@ -19,7 +19,7 @@ use Rattle.nim_meaning.specs.Steps.{taking_up}
 use Rattle.holders.specs.Owned.{IsBase, Apart}
 use Rattle.holders.specs.Sure.{Comes}
 use Rattle.holders.specs.Territory.{Owner, NoBaseOf, Among}
-use Rattle.holders.specs.Working.{number, without}
+use Rattle.holders.specs.Working.{without}
 use Rattle.holders.specs.Ways.{Step}
 use Rattle.holders.specs.Finding.{Found}
 use Rattle.holders.specs.Running.{Region}
@@ -38,6 +38,7 @@ use Rattle.holders.proofs.Constants.{hooked_is}
 use Rattle.holders.specs.Evaluating.{at_nodes, Leaves, empty, root_at, Settled, none_settled, bare, held, lent, found, seen, copied}
 use Rattle.holders.proofs.WaitingTaken.{waiting_node, apart_cells, found_kept, own_numbers, own_rest, own_first, distinct_rest, distinct_one, Taken, Carries}
 use Rattle.holders.proofs.WaitingTaken.{carried_under, StepUp, no_node, step_up, leaves_left, none_taken, bare_taken, held_taken, lent_taken, place_taken}
+use Rattle.holders.specs.Evaluating.{IsBare}
 
 abbrev use_number : Use → ℕ
 use_number Owned = 0
@@ -143,10 +144,10 @@ module _ (here : Here) (scope : scopes.Here) (limits : Limits) (root : (global :
         places_kept = t.places_kept;
       })))
     where
-      skips : (hooked (form_for here.facts (type_of value)) ≡ false) ⊎ ((uses i ≡ Lent) ⊎ (uses i ≡ Looked)) →
+      skips : IsBare here.facts (uses i) value →
           gives_hooked here.facts (type_of value) && is_held_use (uses i) ≡ false
       skips (inl unhooked) = and_left (gives_hooked here.facts (type_of value)) (is_held_use (uses i)) (hooked_is here.facts (type_of value) ∙ unhooked)
-      skips (inr (inl e)) = and_right (gives_hooked here.facts (type_of value)) (is_held_use (uses i)) (ap is_held_use e)
+      skips (inr (inl e)) = and_right (gives_hooked here.facts (type_of value)) (is_held_use (uses i)) (ap is_held_use e.0)
       skips (inr (inr e)) = and_right (gives_hooked here.facts (type_of value)) (is_held_use (uses i)) (ap is_held_use e)
   take_all (ByValue value rest) {i = i} ms nodes s st (lent purpose hooks own a more) d within off write act Q h =
       subst (λ c. Comes Q NoExit (taking_up here (held_if c (node_of value).number (held_from here.facts here.modes rest uses (suc i))) act s))
@@ -243,4 +244,4 @@ module _ (here : Here) (scope : scopes.Here) (limits : Limits) (root : (global :
           held_so now t {x} e =
               subst (λ y. Taken here limits root uses t.own os t.stage.runs.territory.blocks now (ByValue value rest) i (Given y ∷ xs)
               (step.under.given ++ t.given)) e
-              (held_taken (carried_under t.carries step.under) t.taken (λ k m n. step.under.strange k m (t.were k n)))
+              (held_taken purpose (carried_under t.carries step.under) t.taken (λ k m n. step.under.strange k m (t.were k n)))

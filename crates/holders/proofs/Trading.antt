@@ -15,14 +15,13 @@ use Rattle.holders.specs.Working.{Works, number}
 use Rattle.holders.specs.Ways.{Step, arrived, Chain, ChainsPart, goes_nowhere}
 use Rattle.holders.specs.Finding.{Found, in_cell, a_character}
 use Rattle.holders.proofs.Bases.{loaded}
-use Rattle.holders.proofs.Sure.{sure_then, sure_weaker}
+use Rattle.holders.proofs.Sure.{sure_then, sure_weaker, sure_answer}
 use Rattle.holders.proofs.Guards.{sure_takes}
 use Rattle.holders.proofs.Moving.{other_back, becomes_beside, moves_then}
 use Rattle.holders.proofs.Finding.{chain_owns}
 use Rattle.holders.proofs.Separating.{separated}
 use Rattle.holders.proofs.PlainRows.{bare_put, character_stays, puts, read_found, cell_moves, none_clear}
 use Rattle.holders.proofs.Pairs.{depth, chains_compared, two_cells, two_there, swaps}
-use Rattle.holders.proofs.PlaceRows.{sure_answer}
 
 -- a number stands in a cell: it is all of it, or a character of the text there
 data InOwner (world : World) : Form → Location → Location → Type 0 where
@@ -156,9 +155,9 @@ in_same {os} {world} {l = l} {x = x} {y = y} t e q c d (a_part_of_it i h less) (
     (one_trades works.territory (a_part_of_it i h less) (subst (λ n. InOwner world block n y) (sym q) (a_part_of_it j r le)))
     (λ u after n. (works.back [] after (λ k z w. elim z [ ]) (none_clear os) n).moves)
 
-pub numbers_trade : (os : List Owner) (world : World) (t : Territory os world) (k i : ℕ) (us vs : List Step) (x y : Location) →
+numbers_trade : {os : List Owner} {world : World} (t : Territory os world) {k i : ℕ} {us vs : List Step} {x y : Location} →
     Found os world true k us plain x → Found os world true i vs plain y → Sure (swapped x y) (λ u after. Moves os [] t.blocks world after) world
-numbers_trade os world t k i us vs x y found other =
+numbers_trade {os} {world} t {x = x} {y = y} found other =
     let l = located found in
     let r = located other in
     by l r (chains_compared l.chain r.chain (same_depth l.inside r.inside))
@@ -173,3 +172,10 @@ numbers_trade os world t k i us vs x y found other =
         world after)
         (λ u after. Moves os [] t.blocks world after) world (two_trade works.territory l.inside r.inside)
         (λ u after n. (works.back [] after (λ k z w. elim z [ ]) (none_clear os) n).moves)
+
+-- two places of one form
+pub places_trade : {os : List Owner} {world : World} (t : Territory os world) {f : Form} {k i : ℕ} {us vs : List Step} {x y : Location} →
+    Found os world true k us f x → Found os world true i vs f y → Sure (swapped x y) (λ u after. Moves os [] t.blocks world after) world
+places_trade t (in_cell c goes) (in_cell d also) = swaps t c d
+places_trade t {us = us} {vs = vs} (in_cell c goes) (a_character j d e le) = numbers_trade t {us = us} {vs = vs} (in_cell c goes) (a_character j d e le)
+places_trade t {us = us} {vs = vs} (a_character j c e le) other = numbers_trade t {us = us} {vs = vs} (a_character j c e le) other

@@ -1,10 +1,10 @@
 -- A value that waits is taken up: all else stays.
 use Rattle.std.proofs.Common.{◌≡◌, refl, sym, ap, subst, ◌∙◌, arith, ℕ, suc, ◌+◌, Bool, true, false, inl, inr, ◌⊎◌, List, [], ◌∷◌, ◌++◌, length}
-use Rattle.std.specs.Prelude.{nat_eq, if◌then◌else◌}
+use Rattle.std.specs.Prelude.{nat_eq}
 use Rattle.std.proofs.lemmas.Bool.{false≢true, eqb-true, eq-eqb}
-use Rattle.nim_types.specs.Forms.{Form, Forms, plain, hooked}
+use Rattle.nim_types.specs.Forms.{Form, Forms, plain}
 use Rattle.nim_program.specs.declared.operation.Use.{Use}
-use Rattle.nim_program.specs.declared.operation.Use.TheVariants.{Lent, Looked}
+use Rattle.nim_program.specs.declared.operation.Use.TheVariants.{Lent, Held}
 use Rattle.nim_program.specs.Program.{Expr, Path, Args, NoArg, ByValue, ByPath, type_of, type_at, node_of}
 use Rattle.nim_meaning.specs.Values.{Value, Base, Waiting, InBlock, Location, deeper, at_base, Operand, Given, At}
 use Rattle.nim_meaning.specs.Marks.{Member, Distinct}
@@ -33,6 +33,7 @@ use Rattle.holders.proofs.FrameChanges.{value_leaves}
 use Rattle.holders.specs.Asked.{Limits}
 use Rattle.holders.proofs.PartsInTurn.{without_node_in, without_node_distinct, without_node_gone}
 use Rattle.holders.specs.Evaluating.{IsWaiting, Leaves, Bare, root_at, path_steps}
+use Rattle.holders.specs.Evaluating.{IsBare}
 
 -- ---- cells
 
@@ -145,9 +146,9 @@ module _ (here : Here) (limits : Limits) (root : (global : Bool) → ℕ → ℕ
   pub data Taken : Args → (position : ℕ) → List Operand → (given : List ℕ) → Type 0 where
     none_taken : {i : ℕ} → Taken NoArg i [] []
     bare_taken : {value : Expr} {rest : Args} {i : ℕ} {v : Value} {xs : List Operand} {given : List ℕ} →
-        (hooked (form_for here.facts (type_of value)) ≡ false) ⊎ ((uses i ≡ Lent) ⊎ (uses i ≡ Looked)) → Bare (form_for here.facts (type_of value)) v →
+        IsBare here.facts (uses i) value → Bare (form_for here.facts (type_of value)) v →
         Taken rest (suc i) xs given → Taken (ByValue value rest) i (Given v ∷ xs) given
-    held_taken : {value : Expr} {rest : Args} {i : ℕ} {v : Value} {xs : List Operand} {given : List ℕ}
+    held_taken : {value : Expr} {rest : Args} {i : ℕ} {v : Value} {xs : List Operand} {given : List ℕ} → uses i ≡ Held →
         (u : UnderWay (form_for here.facts (type_of value)) v (ms ++ os) blocks world) → Taken rest (suc i) xs given → Strange u.given given →
         Taken (ByValue value rest) i (Given v ∷ xs) (u.given ++ given)
     lent_taken : {value : Expr} {rest : Args} {i : ℕ} {xs : List Operand} {given : List ℕ} → uses i ≡ Lent → gives_hooked here.facts (type_of value) ≡ true →

@@ -1,5 +1,5 @@
 -- Expressions as a whole: what is shown of constants, objects and operations, put together.
-use Rattle.std.proofs.Common.{◌≡◌, sym, subst, ℕ, Bool, true, List, [], ◌∷◌, ◌++◌, Option, Some}
+use Rattle.std.proofs.Common.{◌≡◌, sym, subst, ℕ, Bool, true, List, [], ◌∷◌, Option, Some}
 use Rattle.nim_types.specs.Types.{Ty}
 use Rattle.nim_types.proofs.ForCallers.{the_form}
 use Rattle.nim_program.specs.declared.expr.Node.{Node}
@@ -18,7 +18,6 @@ use Rattle.holders.specs.Asked.{Limits, Simple, IfSimple, ActAsked, Asked, Asked
 use Rattle.holders.specs.Evaluating.{value_nodes, path_nodes, operand_nodes, Bare}
 use Rattle.holders.specs.Claimed.{ValueSo, AimSo, ReadySo, NoCalls, known_at}
 use Rattle.holders.proofs.OperandKinds.{AllRegular}
-use Rattle.holders.proofs.Trading.{numbers_trade}
 use Rattle.holders.proofs.GivingLiterals.{TextForm}
 use Rattle.holders.proofs.LiteralForms.{literal_has, literal_text}
 use Rattle.holders.proofs.TakenSo.{taken_operation_so}
@@ -37,7 +36,6 @@ module _ (here : Here) (scope : scopes.Here) (limits : Limits) (root : (global :
 
   pub all_but_calls : FactsOfTheirSort here.facts → CallsSo → Elsewhere here scope limits root first places os OfCall
   all_but_calls sorted calls = record {
-    trade = λ r ms nodes old start now s k i us vs x y a b. numbers_trade (ms ++ os) now s.runs.territory k i us vs x y a b;
     constants = λ ty literal simple e. constant_has ty literal simple e;
     texts = λ ty t simple e. subst TextForm (sym (the_form simple.has)) (literal_text here.facts sorted t simple.has e);
     taken = λ node ty operation operands how takes simple act asked regular typed placed d ready.

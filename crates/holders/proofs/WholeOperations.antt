@@ -3,7 +3,6 @@ use Rattle.std.proofs.Common.{◌≡◌, refl, sym, ap, ap₂, subst, ◌∙◌,
 use Rattle.std.specs.Prelude.{◌&&◌}
 use Rattle.std.proofs.lemmas.Bool.{false≢true, and_right}
 use Rattle.nim_types.specs.Types.{Ty}
-use Rattle.nim_types.specs.Forms.{plain}
 use Rattle.nim_program.specs.declared.expr.Node.{Node}
 use Rattle.nim_program.specs.declared.operation.Use.{Use}
 use Rattle.nim_program.specs.declared.operation.Operation.{Operation}
@@ -28,7 +27,6 @@ use Rattle.nim_meaning.specs.Steps.{at_node, taking_up, carried}
 use Rattle.nim_meaning.specs.Meaning.{ready_all}
 use Rattle.holders.specs.Sure.{Comes}
 use Rattle.holders.specs.Territory.{Owner}
-use Rattle.holders.specs.Running.{Region}
 use Rattle.holders.specs.Staging.{Stage}
 use Rattle.holders.proofs.Coming.{comes_then}
 use Rattle.holders.specs.Asked.{Limits, IfSimple, ActAsked, AllAsked}
@@ -37,8 +35,7 @@ use Rattle.holders.proofs.PartsInTurn.{begins_part, stage_wider, operands_in, in
 use Rattle.holders.specs.Claimed.{NoExit, From, HasValue, ValueSo, ReadySo}
 use Rattle.holders.proofs.Claims.{scene_passes}
 use Rattle.holders.proofs.Settling.{settle_so}
-use Rattle.holders.proofs.PlaceRows.{Characters_trade}
-use Rattle.holders.proofs.RowsOfOperands.{takes_held, stage_at, row_so}
+use Rattle.holders.proofs.RowsOfOperands.{takes_held, row_so}
 use Rattle.holders.proofs.Applying.{node_off, OwnWaits, row_valued, held_none}
 
 -- how the value of a node waits, which is no literal text
@@ -57,11 +54,6 @@ module _ (here : Here) (scope : scopes.Here) (limits : Limits) (root : (global :
 
   abbrev Ready_so : ((position : ℕ) → Use) → Args → ℕ → Type 0
   Ready_so uses args i = ReadySo here scope limits root first places os uses args i
-
-  -- wherever a part has come to, two places of numbers can trade their values
-  abbrev pub TradeSo : Type 0
-  TradeSo = (r : Region) (ms : List Owner) (nodes old : List ℕ) (start now : World) (s : Stage r ms os first places nodes old start now) →
-      Characters_trade here.facts r ms os first places nodes old start now s
 
   hand_wider : (h : Hand) (ns sub : List ℕ) (ms : List Owner) (nodes old : List ℕ) (start now : World) → ((n : ℕ) → Member n sub → Member n ns) →
       AtHand h (at_nodes here.level sub) ms os first places nodes old start now → AtHand h (at_nodes here.level ns) ms os first places nodes old start now
@@ -151,11 +143,11 @@ module _ (here : Here) (scope : scopes.Here) (limits : Limits) (root : (global :
   not_held O.Destroy e j = refl
   not_held O.Blank e j = refl
 
-  pub operation_so : (node : Node) (ty : Option Ty) (operation : Operation) (operands : Args) (how : Use) → TradeSo → takes_held operation ≡ false →
+  pub operation_so : (node : Node) (ty : Option Ty) (operation : Operation) (operands : Args) (how : Use) → takes_held operation ≡ false →
       IfSimple here.facts ty → ActAsked here.facts limits OfCall (Doing operation) operands → AllAsked here.facts limits OfCall operands →
       fits here.facts operation ty (types_in operands) ≡ true → are_placed (places_in operation) operands ≡ true →
       Distinct (node.number ∷ operand_nodes operands) → Ready_so (λ j. use_by operation) operands 0 → Value_so (Apply node ty (Doing operation) operands) how
-  operation_so node ty operation operands how trade takes simple act asked typed placed d ready_so =
+  operation_so node ty operation operands how takes simple act asked typed placed d ready_so =
       operated_so node ty (Doing operation) operands how d ready_so
       (held_none here.facts here.modes operands (λ j. use_by operation) 0 (not_held operation takes))
       (λ ms h nodes later start xs s b leaves at settled.
@@ -167,7 +159,4 @@ module _ (here : Here) (scope : scopes.Here) (limits : Limits) (root : (global :
       (λ m. d.0 (operands_in here.facts here.modes operands (λ j. use_by operation) 0 node.number m)) leaves.cells)
       (row_so here scope limits root OfCall (at_nodes here.level (node.number ∷ operand_nodes operands)) ms os first places later b.territory.blocks
       start s.world
-      at (trade (at_nodes here.level (node.number ∷ operand_nodes operands)) ms later b.territory.blocks start s.world
-      (stage_at here scope limits root OfCall (at_nodes here.level (node.number ∷ operand_nodes operands)) ms os first places later b.territory.blocks start
-      s.world h at))
-      operation ty operands takes simple act asked typed placed settled))
+      at operation ty operands takes simple act asked typed placed settled))

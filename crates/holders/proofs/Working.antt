@@ -142,7 +142,7 @@ works_same t = record {
   territory = t;
   within = λ k m. m;
   clear = λ given far c. c;
-  back = λ given after far c m. record { moves = m; without = λ k a b. a };
+  back = λ given after far c m. record { moves = m; without = λ k a b. a; into = λ k a. inl a };
 }
 
 pub works_then : {os ms ns : List Owner} {blocks : List ℕ} {world : World} (a : Works os ms blocks world) → Works ms ns a.territory.blocks world →
@@ -157,12 +157,31 @@ works_then {os} {ms} {ns} {blocks} {world} a b = record {
     inner : (given : List ℕ) → Strange given blocks → Strange given a.territory.blocks
     inner given far k m n = far k m (a.within k n)
 
+    onward : (new : List ℕ) (k : ℕ) → Member k new ⊎ (Member k a.territory.blocks × (Member k b.territory.blocks → ⊥)) →
+        Member k new ⊎ (Member k blocks × (Member k b.territory.blocks → ⊥))
+    onward new k (inl q) = inl q
+    onward new k (inr q) = inr (a.within k q.0, q.1)
+
+    joined : (new middle : List ℕ) (k : ℕ) → (Member k middle → Member k new ⊎ (Member k a.territory.blocks × (Member k b.territory.blocks → ⊥))) →
+        Member k middle ⊎ (Member k blocks × (Member k a.territory.blocks → ⊥)) → Member k new ⊎ (Member k blocks × (Member k b.territory.blocks → ⊥))
+    joined new middle k first (inl q) = onward new k (first q)
+    joined new middle k first (inr q) = inr (q.0, λ z. q.1 (b.within k z))
+
     both : (given : List ℕ) (after : World) (far : Strange given blocks) (c : ClearOf given os) (m : Moves ns given b.territory.blocks world after) →
         Back ms given a.territory.blocks b.territory.blocks m.territory.blocks world after →
         Back os given blocks b.territory.blocks m.territory.blocks world after
     both given after far c m r =
         let s = a.back given after far c r.moves in
-        record { moves = s.moves; without = λ k x y. r.without k (s.without k x (b.within k y)) y }
+        record {
+          moves = s.moves;
+          without = λ k x y. r.without k (s.without k x (b.within k y)) y;
+          into = λ k x. joined m.territory.blocks r.moves.territory.blocks k (λ q. r.into k q) (s.into k x);
+        }
+
+-- blocks of both
+pub clear_both : (bs cs : List ℕ) (os : List Owner) → ClearOf bs os → ClearOf cs os → ClearOf (bs ++ cs) os
+clear_both bs cs [] a b = tt
+clear_both bs cs (o ∷ os) a b = (λ k e m. either_block k bs cs ⊥ m (λ q. a.0 k e q) (λ q. b.0 k e q), clear_both bs cs os a.1 b.1)
 
 -- ---- the first ones alone
 
@@ -195,10 +214,12 @@ module _ (os qs : List Owner) (world : World) (t : Territory (os ++ qs) world) w
       territory = record {
         blocks = m.territory.blocks ++ pieces.second;
         cells = cells_both os qs m.territory.blocks pieces.second m.territory.cells
-            (cells_stay os pieces.first world after m.alone qs pieces.second pieces.others (apart_across os qs t.others)
-            (clear_less t.blocks pieces.first qs in_first_of (all_second (λ o. Apart o.at.base t.blocks) os qs t.clear))
+            (cells_stay os (given ++ pieces.first) world after m.alone qs pieces.second pieces.others (apart_across os qs t.others)
+            (clear_both given pieces.first qs (all_second (λ o. Apart o.at.base given) os qs c)
+            (clear_less t.blocks pieces.first qs in_first_of (all_second (λ o. Apart o.at.base t.blocks) os qs t.clear)))
             (clear_less t.blocks pieces.second os in_second_of (all_first (λ o. Apart o.at.base t.blocks) os qs t.clear))
-            (λ k a b. distinct_apart k pieces.first pieces.second both_distinct b a));
+            (λ k a b. either_block k given pieces.first ⊥ b (λ q. strange k q (in_second_of k a))
+            (λ q. distinct_apart k pieces.first pieces.second both_distinct q a)));
         distinct = distinct_both m.territory.blocks pieces.second m.territory.distinct (distinct_second pieces.first pieces.second both_distinct)
             (λ k a b. new_apart k b (m.came k a));
         others = t.others;
@@ -207,17 +228,23 @@ module _ (os qs : List Owner) (world : World) (t : Territory (os ++ qs) world) w
       came = came_all;
       grows = m.grows;
       alone = record {
-        bases = λ b x h off far. m.alone.bases b x h (all_first (λ o. b ≡ o.at.base → ⊥) os qs off) (λ k e n. far k e (in_first_of k n));
-        parts = λ l v h other far. m.alone.parts l v h (all_first (λ o. OtherPart o.at l) os qs other) (λ k e n. far k e (in_first_of k n));
+        bases = λ b x h off far. m.alone.bases b x h (all_first (λ o. b ≡ o.at.base → ⊥) os qs off) (λ k e n. far k e (wide_in k n));
+        parts = λ l v h other far. m.alone.parts l v h (all_first (λ o. OtherPart o.at l) os qs other) (λ k e n. far k e (wide_in k n));
         rows = λ l n h leave far. m.alone.rows l n h (all_first (λ o. OtherPart o.at l ⊎ IsUnder o.at l) os qs leave)
-            (λ k e n. far k e (in_first_of k n));
+            (λ k e n. far k e (wide_in k n));
         stays = m.alone.stays;
       };
     };
+    into = λ k a. either_block k m.territory.blocks pieces.second (Member k m.territory.blocks ⊎ (Member k t.blocks × (Member k pieces.first → ⊥))) a
+        (λ q. inl q) (λ q. inr (in_second_of k q, λ b. distinct_apart k pieces.first pieces.second both_distinct b q));
     without = λ k a b. either_block k m.territory.blocks pieces.second (Member k m.territory.blocks) a (λ q. q)
         (λ q. absurd (distinct_apart k pieces.first pieces.second both_distinct b q));
   }
     where
+      wide_in : (k : ℕ) → Member k (given ++ pieces.first) → Member k (given ++ t.blocks)
+      wide_in k n = either_block k given pieces.first (Member k (given ++ t.blocks)) n (λ q. in_first k given t.blocks q)
+          (λ q. in_second k given t.blocks (in_first_of k q))
+
       too_far : (k : ℕ) → k < taken_in world → taken_in world ≤ k → ⊥
       too_far k less le = omega (arith, less, le)
 
@@ -333,18 +360,23 @@ module _ {os : List Owner} {o : Owner} (i : Among os o) (world : World) (t : Ter
           grows = m.grows;
           alone = record {
             bases = λ b x h off far. m.alone.bases b x h (all_at (λ o. b ≡ o.at.base → ⊥) off i, all_without (λ o. b ≡ o.at.base → ⊥) i off)
-                (λ k e n. far k e (fronted.order.into k n));
+                (λ k e n. far k e (wide_in k n));
             parts = λ l v h other far. m.alone.parts l v h (all_at (λ o. OtherPart o.at l) other i, all_without (λ o. OtherPart o.at l) i other)
-                (λ k e n. far k e (fronted.order.into k n));
+                (λ k e n. far k e (wide_in k n));
             rows = λ l n h leave far. m.alone.rows l n h
                 (all_at (λ o. OtherPart o.at l ⊎ IsUnder o.at l) leave i, all_without (λ o. OtherPart o.at l ⊎ IsUnder o.at l) i leave)
-                (λ k e n. far k e (fronted.order.into k n));
+                (λ k e n. far k e (wide_in k n));
             stays = m.alone.stays;
           };
         };
         without = λ k a b. r.order.into k a;
+        into = λ k a. inl (r.order.into k a);
       }
     where
+      wide_in : (k : ℕ) → Member k (given ++ fronted.blocks) → Member k (given ++ t.blocks)
+      wide_in k n = either_block k given fronted.blocks (Member k (given ++ t.blocks)) n (λ q. in_first k given t.blocks q)
+          (λ q. in_second k given t.blocks (fronted.order.into k q))
+
       came : (k : ℕ) → Member k fronted.blocks ⊎ (Member k given ⊎ (taken_in world ≤ k)) → Member k t.blocks ⊎ (Member k given ⊎ (taken_in world ≤ k))
       came k (inl a) = inl (fronted.order.into k a)
       came k (inr a) = inr a

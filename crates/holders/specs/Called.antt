@@ -1,15 +1,17 @@
 -- What a call's own cells are at its end, and what its caller sees.
-use Rattle.std.specs.Prelude.{◌≡◌, true, ℕ, List, [], ◌∷◌, Some, None}
+use Rattle.std.specs.Prelude.{◌≡◌, ◌≤◌, ◌⊎◌, true, ℕ, List, [], ◌∷◌, Some, None}
 use Rattle.nim_types.specs.Forms.{Form, form_of}
 use Rattle.nim_program.specs.Program.{Declared, Param}
 use Rattle.nim_meaning.specs.Values.{Value, nothing, Standing, Location, at_base}
+use Rattle.nim_meaning.specs.Marks.{Member}
 use Rattle.nim_meaning.specs.State.{World}
 use Rattle.nim_meaning.specs.Acts.{Exit, Raised}
 use Rattle.nim_meaning.specs.Here.{Here}
 use Rattle.holders.specs.Owned.{IsName}
+use Rattle.holders.specs.Becoming.{taken_in}
 use Rattle.holders.specs.Territory.{Owner, Moves, Among}
 use Rattle.holders.specs.Working.{without}
-use Rattle.holders.specs.Handing.{HandsOut}
+use Rattle.holders.specs.Handing.{UnderWay, HandsOut}
 use Rattle.holders.specs.Running.{Region}
 
 abbrev pub param_cell : (here : Here) → Param → Owner
@@ -37,3 +39,9 @@ pub data CameBack (gs : List Owner) (f : Form) (old : List ℕ) (world : World) 
 abbrev pub NotRaised : Exit → Type 0
 NotRaised (Raised exception by) = ⊥
 NotRaised way = Unit {0}
+
+-- what a call that was given values with these blocks leaves, of all cells
+pub data CallGives (os : List Owner) (f : Form) (given blocks : List ℕ) (world : World) (v : Value) (after : World) : Type 0 where
+  gives_nothing : Moves os given blocks world after → v ≡ nothing → CallGives os f given blocks world v after
+  gives_value : (m : Moves os given blocks world after) (u : UnderWay f v os m.territory.blocks after) →
+      ((k : ℕ) → Member k u.given → Member k blocks ⊎ (Member k given ⊎ (taken_in world ≤ k))) → CallGives os f given blocks world v after

@@ -14,6 +14,9 @@ use Rattle.holders.specs.Sure.{Comes}
 use Rattle.holders.specs.Territory.{Owner}
 use Rattle.holders.specs.Asked.{Limits}
 use Rattle.holders.specs.Evaluating.{value_nodes, path_nodes, operand_nodes, waits_inside, waits_itself, Scene, Begins, Valued, Aiming, AllReady}
+use Rattle.nim_meaning.specs.Marks.{Member, Distinct}
+use Rattle.holders.specs.Running.{Region}
+use Rattle.holders.specs.Staging.{Stage}
 
 -- no part of an expression leaves its body
 abbrev pub NoExit : Exit → World → Type 0
@@ -57,3 +60,15 @@ module _ (here : Here) (scope : scopes.Here) (limits : Limits) (root : (global :
 -- no calls at all
 abbrev pub NoCalls : (proc : ℕ) → Args → Type 0
 NoCalls proc args = ⊥
+
+-- ---- in a body
+
+abbrev pub body_region : (level : ℕ) (own_places own_nodes : ℕ → Bool) → Region
+body_region level own_places own_nodes = record { level = level; places = own_places; nodes = own_nodes }
+
+-- what a body has behind a statement: its own cells, and no more that waits than before
+pub record InBody (r : Region) (ks gs : List Owner) (first places : ℕ) (nodes old : List ℕ) (start now : World) : Type 0 where
+  pub later : List ℕ
+  pub stage : Stage r ks gs first places later old start now
+  pub distinct : Distinct later
+  pub came : (n : ℕ) → Member n later → Member n nodes

@@ -1,5 +1,5 @@
 -- Where a part of an expression is carried out, and what comes of it.
-use Rattle.std.specs.Prelude.{◌≡◌, ℕ, ◌+◌, ◌⊎◌, Bool, ◌&&◌, true, false, suc, List, [], ◌∷◌, ◌++◌, length, Option, Some}
+use Rattle.std.specs.Prelude.{◌≡◌, ℕ, ◌+◌, ◌⊎◌, Bool, ◌&&◌, true, false, suc, List, [], ◌∷◌, ◌++◌, length, Option, Some, if◌then◌else◌}
 use Rattle.nim_types.specs.Types.{Ty, Facts}
 use Rattle.nim_types.specs.Forms.{Form, hooked, form_of}
 use Rattle.nim_program.specs.declared.program.Mode.{Mode}
@@ -11,7 +11,7 @@ use Rattle.nim_program.specs.Folds.{if_constant}
 use Rattle.nim_program.specs.Uses.{use_of}
 use Rattle.nim_program.specs.Fitting.{is_in}
 use Rattle.nim_program.specs.Scopes as scopes
-use Rattle.nim_program.specs.Scopes.{type_in}
+use Rattle.nim_program.specs.Scopes.{Placed, type_in}
 use Rattle.nim_meaning.specs.Values.{Value, Waiting, Location, at_base, Operand, Given, At}
 use Rattle.nim_meaning.specs.Marks.{Member, Distinct}
 use Rattle.nim_meaning.specs.State.{World}
@@ -79,6 +79,16 @@ pub record Scene (here : Here) (scope : scopes.Here) (limits : Limits) (root : (
   pub place : (global : Bool) (n : ℕ) (ty : Ty) → limits.seen global n ≡ true → type_in scope global n ≡ Some ty →
       PlaceOf os world (level_of global here) n (form_of here.facts ty) (may_write_at limits global n) (root global n)
 
+-- those of some places that are named
+abbrev pub seen_of : (seen : ℕ → Bool) → List Placed → List Placed
+seen_of seen [] = []
+seen_of seen (p ∷ ps) = if seen p.number then p ∷ seen_of seen ps else seen_of seen ps
+
+-- there are positions
+pub record HasScene (here : Here) (scope : scopes.Here) (limits : Limits) (os : List Owner) (world : World) : Type 0 where
+  pub root : (global : Bool) → ℕ → ℕ
+  pub scene : Scene here scope limits root os world
+
 -- the position of the place where a path begins, and the steps from there on
 abbrev pub root_at : (root : (global : Bool) → ℕ → ℕ) → Path → ℕ
 root_at root (Variable node ty place global) = root global place
@@ -93,6 +103,10 @@ path_steps (Fresh value) = []
 path_steps (Field node ty base field) = path_steps base ++ to_field field ∷ []
 path_steps (Element node ty base index constant) = path_steps base ++ to_element ∷ []
 path_steps (Deref ty base) = path_steps base
+
+-- a value that is bare for its use: one without hooks, a literal text that is lent, or a constant that is looked at
+abbrev pub IsBare : Facts → Use → Expr → Type 0
+IsBare facts how value = (hooked (form_for facts (type_of value)) ≡ false) ⊎ (((how ≡ Lent) × (is_text value ≡ true)) ⊎ (how ≡ Looked))
 
 -- ---- before a part, and behind it
 
@@ -178,7 +192,7 @@ module _ (here : Here) (scope : scopes.Here) (limits : Limits) (root : (global :
   pub data Readied : Hand → Args → (position : ℕ) → List Ready → Type 0 where
     none_ready : {i : ℕ} → Readied empty NoArg i []
     bare_ready : {h : Hand} {value : Expr} {rest : Args} {i : ℕ} {v : Value} {xs : List Ready} →
-        (hooked (of_value value) ≡ false) ⊎ ((uses i ≡ Lent) ⊎ (uses i ≡ Looked)) → Bare (of_value value) v →
+        IsBare here.facts (uses i) value → Bare (of_value value) v →
         Readied h rest (suc i) xs → Readied h (ByValue value rest) i (Evaluated (Given v) ∷ xs)
     held_ready : {h : Hand} {value : Expr} {rest : Args} {i : ℕ} {v : Value} {xs : List Ready} → uses i ≡ Held →
         gives_hooked here.facts (type_of value) ≡ true → Among ms (cell_of value) →
@@ -200,7 +214,7 @@ module _ (here : Here) (scope : scopes.Here) (limits : Limits) (root : (global :
   pub data Settled : Hand → Args → (position : ℕ) → List Operand → Type 0 where
     none_settled : {i : ℕ} → Settled empty NoArg i []
     bare : {h : Hand} {value : Expr} {rest : Args} {i : ℕ} {v : Value} {xs : List Operand} →
-        (hooked (of_value value) ≡ false) ⊎ ((uses i ≡ Lent) ⊎ (uses i ≡ Looked)) → Bare (of_value value) v →
+        IsBare here.facts (uses i) value → Bare (of_value value) v →
         Settled h rest (suc i) xs → Settled h (ByValue value rest) i (Given v ∷ xs)
     held : {h : Hand} {value : Expr} {rest : Args} {i : ℕ} {v : Value} {xs : List Operand} → uses i ≡ Held →
         gives_hooked here.facts (type_of value) ≡ true → Among ms (cell_of value) →

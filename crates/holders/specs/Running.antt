@@ -50,4 +50,4 @@ pub record Runs (r : Region) (ms gs : List Owner) (given old : List ℕ) (world 
   pub territory : Territory (ms ++ gs) after
   pub own : AreOwn r ms
   pub came : (k : ℕ) → Member k territory.blocks → Member k old ⊎ (Member k given ⊎ (taken_in world ≤ k))
-  pub passes : Passes r gs old world after
+  pub passes : Passes r gs (given ++ old) world after

@@ -77,12 +77,12 @@ pub record Alone (os : List Owner) (old : List ℕ) (world after : World) : Type
   pub rows : (l : Location) (n : ℕ) → RowAt world l n → LeaveRow l os → Apart l.base old → RowAt after l n
   pub stays : Stays world after
 
--- the cells may have other values then
+-- The cells may have other values then, some of them given. All else stays, but for what the cells and these had in blocks.
 pub record Moves (os : List Owner) (given old : List ℕ) (world after : World) : Type 0 where
   pub territory : Territory os after
   pub came : (k : ℕ) → Member k territory.blocks → Member k old ⊎ (Member k given ⊎ (taken_in world ≤ k))
   pub grows : taken_in world ≤ taken_in after
-  pub alone : Alone os old world after
+  pub alone : Alone os (given ++ old) world after
 
 -- one of the cells, and what becomes of it
 pub data Among : List Owner → Owner → Type 0 where

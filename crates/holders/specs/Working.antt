@@ -1,5 +1,5 @@
 -- Cells that are worked on in place of others: some of them alone, in another order, or by their parts.
-use Rattle.std.specs.Prelude.{ℕ, suc, List, ◌∷◌}
+use Rattle.std.specs.Prelude.{ℕ, suc, List, ◌∷◌, ◌⊎◌}
 use Rattle.nim_meaning.specs.Marks.{Member}
 use Rattle.nim_meaning.specs.State.{World}
 use Rattle.holders.specs.Becoming.{Strange}
@@ -10,10 +10,11 @@ abbrev pub number : {os : List Owner} {o : Owner} → Among os o → ℕ
 number first_owner = 0
 number (later_owner i) = suc (number i)
 
--- what becomes of these is what becomes of those: no block that they have no more is in those
+-- What becomes of these is what becomes of those: a block in those is in these, or was in those beside these; none that these have no more.
 pub record Back (os : List Owner) (given blocks mine new : List ℕ) (world after : World) : Type 0 where
   pub moves : Moves os given blocks world after
   pub without : (k : ℕ) → Member k moves.territory.blocks → Member k mine → Member k new
+  pub into : (k : ℕ) → Member k moves.territory.blocks → Member k new ⊎ (Member k blocks × (Member k mine → ⊥))
 
 pub record Works (os ms : List Owner) (blocks : List ℕ) (world : World) : Type 0 where
   pub territory : Territory ms world

@@ -7,5 +7,6 @@ mod territories;
 
 pub use laws::{deeds, parts, sequences, texts, walks};
 pub use territories::{
-    calls_as_a_whole, cells, entered, expressions, parts_of_bodies, paths, rows_on_cells,
+    brought_back, calls_as_a_whole, cells, entered, expressions, parts_of_bodies, paths,
+    rows_on_cells,
 };

@@ -1,22 +1,23 @@
 //! What operations and parts of bodies do with the cells that they may touch.
 
 ghost use Rattle.std.specs.Prelude.{◌≡◌, ◌≤◌, ◌<◌, ◌+◌, ℕ, ℤ, false, true, Bool, not};
-ghost use Rattle.std.specs.Prelude.{List, [], ◌∷◌, ◌++◌, length, Some};
+ghost use Rattle.std.specs.Prelude.{List, [], ◌∷◌, ◌++◌, ◌⊎◌, length, take, Some};
 ghost use Rattle.nim_types.specs.Types.{Ty, Facts};
 ghost use Rattle.nim_types.specs.Forms.{Form, plain, block, elements, hooked, Forms, form_of};
 ghost use Rattle.nim_types.specs.Forms.{HasForm};
 ghost use Rattle.nim_program.specs.Kinds.{kind_of, field_at, element_of, is_held};
 ghost use Rattle.nim_program.specs.Kinds.{is_declared_as};
-ghost use Rattle.nim_program.specs.Program.{Declared, Param, Body, Expr, Path, type_at, node_at};
+ghost use Rattle.nim_program.specs.Program.{Declared, Param, Body, Expr, Path, Do, type_at, node_at};
 ghost use Rattle.nim_program.specs.Typed.{is_typed, is_typed_path};
 ghost use Rattle.nim_program.specs.Folds.{lists, node_numbers, total};
 ghost use Rattle.nim_program.specs.Numbering.{rise_to};
 ghost use Rattle.nim_program.specs.declared.operation.Use.{Use};
+ghost use Rattle.nim_program.specs.declared.operation.Use.TheVariants.{Owned};
 ghost use Rattle.nim_program.specs.Scopes.{Placed, look, Here as Scope};
 ghost use Rattle.nim_meaning.specs.Values.{Value, Values, Base, Slot, Holds, count, length_of, Location};
 ghost use Rattle.nim_meaning.specs.Values.{Standing, Waiting, at_base, Given, At as Place};
 ghost use Rattle.nim_meaning.specs.Heap.{Elements};
-ghost use Rattle.nim_meaning.specs.Marks.{Distinct};
+ghost use Rattle.nim_meaning.specs.Marks.{Member, Distinct};
 ghost use Rattle.nim_meaning.specs.State.{World, State, load, with_frame};
 ghost use Rattle.nim_meaning.specs.ActTree.{Flow};
 ghost use Rattle.nim_meaning.specs.Acts.{Does};
@@ -29,7 +30,7 @@ ghost use Rattle.nim_meaning.specs.Table.{updated, swapped};
 ghost use Rattle.nim_meaning.specs.Lifted.{assigned, assigns, copied, fresh, fresh_text};
 ghost use Rattle.nim_meaning.specs.OwnedRows.{appended, added, shortened, sequence_to, line_into};
 ghost use Rattle.nim_meaning.specs.Steps.{all_end};
-ghost use Rattle.nim_meaning.specs.Meaning.{place_ends, scoped, fill, fill_from, result_gets, exec_all, frame_of, entered_body};
+ghost use Rattle.nim_meaning.specs.Meaning.{place_ends, scoped, fill, fill_from, result_gets, exec, exec_all, frame_of, entered_body};
 ghost use Rattle.holders.specs.Owned.{IsBase, Full, Constant, Has, HasEach, HasBlocksAlone};
 ghost use Rattle.holders.specs.Sure.{Sure, Answered, Comes};
 ghost use Rattle.holders.specs.Becoming.{Strange};
@@ -43,15 +44,15 @@ ghost use Rattle.holders.specs.Finding.{Found, PlaceOf, AimsAt, steps_of, Read};
 ghost use Rattle.holders.specs.Finding.{Fetched};
 ghost use Rattle.holders.specs.Scenes.{Named};
 ghost use Rattle.holders.specs.Handing.{UnderWay, HandsOut};
-ghost use Rattle.holders.specs.Running.{IsBelow, Region, AreOwn, Wider};
+ghost use Rattle.holders.specs.Running.{IsBelow, IsOutside, Region, AreOwn, Wider};
 ghost use Rattle.holders.specs.Staging.{Stage, Holding, Up};
 ghost use Rattle.holders.specs.Used.{Used, Made, read_by, used_as};
 ghost use Rattle.holders.specs.Groups.{without_node, without_waits, Ends, AllMine};
 ghost use Rattle.holders.specs.Entering.{Handed, own_cells, StandThere};
 ghost use Rattle.holders.specs.Asked.{Limits, FactsOfTheirSort, Asked, AskedAt};
-ghost use Rattle.holders.specs.Evaluating.{value_nodes, path_nodes};
-ghost use Rattle.holders.specs.Claimed.{ValueSo, AimSo, NoCalls, known_at};
-ghost use Rattle.holders.specs.Called.{ParamsEnd, Result, CameBack, NotRaised};
+ghost use Rattle.holders.specs.Evaluating.{value_nodes, path_nodes, at_nodes, seen_of, Scene, HasScene};
+ghost use Rattle.holders.specs.Claimed.{ValueSo, AimSo, NoCalls, known_at, InBody, body_region};
+ghost use Rattle.holders.specs.Called.{ParamsEnd, Result, CameBack, CallGives, NotRaised};
 
 /// A territory is worked on by some of its cells alone, in another order, or by the parts of one of
 /// them; by cells of their own where ways lead that part, as they do where some step is another
@@ -261,6 +262,8 @@ pub fn parts_of_bodies()
 
 /// An expression without calls is never at a fault: it comes to its value, of its type, and what it
 /// leaves waits for its group; likewise a path. Asked is that it is typed, and what `Asked` says.
+/// The places in scope have cells where their names have. As a statement of a body it may change
+/// what stands in the body's cells, and leaves nothing that waits.
 pub fn expressions()
     ensures value { (here : Here) (scope : Scope) (limits : Limits)
         (root : (global : Bool) → ℕ → ℕ) (first places : ℕ) (os : List Owner) →
@@ -274,6 +277,24 @@ pub fn expressions()
         is_typed_path (known_at here scope) path ≡ true → AskedAt here.facts limits NoCalls path →
         Distinct (path_nodes path) →
         AimSo here (known_at here scope) limits root first places os path }
+    ensures scene { (here : Here) (scope : Scope) (limits : Limits) (ls gs : List Owner)
+        (world : World) → Named here.facts limits.kept world here.level scope.places ls →
+        Named here.facts (λ n. false) world 0
+        (seen_of (limits.seen true) (take scope.filled scope.globals)) gs →
+        HasScene here scope limits (ls ++ gs) world }
+    ensures statement { (here : Here) (scope : Scope) (limits : Limits)
+        (root : (global : Bool) → ℕ → ℕ) (own_places own_nodes : ℕ → Bool) (first places : ℕ)
+        (ks gs : List Owner) (nodes old : List ℕ) (start : World) (value : Expr) →
+        ValueSo here scope limits root first places (ks ++ gs) value Owned →
+        Distinct (value_nodes value) →
+        ((n : ℕ) → Member n (value_nodes value) → own_nodes n ≡ true) →
+        ((n : ℕ) → Member n nodes → Member n (value_nodes value) → ⊥) →
+        AllOwners (λ o. IsOutside (at_nodes here.level (value_nodes value)) o.at.base) (ks ++ gs) →
+        AreOwn (body_region here.level own_places own_nodes) ks → (s : State) →
+        InBody (body_region here.level own_places own_nodes) ks gs first places nodes old start
+        s.world → Scene here scope limits root (ks ++ gs) s.world →
+        Comes (λ u after. InBody (body_region here.level own_places own_nodes) ks gs first places nodes old start after)
+        (λ way after. ⊥) (exec (Do value) here s) }
     ensures distinct { (h : Scope) (from to : ℕ) (e : Expr) → is_typed h e ≡ true →
         rise_to from to (total lists node_numbers e) ≡ true → Distinct (value_nodes e) }
 {}
@@ -302,4 +323,14 @@ pub fn calls_as_a_whole()
         (exec_all body.stmts here now)) →
         Comes (λ v after. CameBack gs f old s.world v after) (λ way after. ⊥)
         (entered_body globals params body slots here s) }
+{}
+
+/// What a call leaves of the cells that it worked on becomes of all its caller's, with the values
+/// that were handed over to it.
+pub fn brought_back()
+    ensures { (os ms : List Owner) (world : World) (t : Territory os world)
+        (w : Works os ms t.blocks world) (f : Form) (given old : List ℕ) (v : Value)
+        (after : World) → Strange given t.blocks → ClearOf given os →
+        ((k : ℕ) → Member k old → Member k given ⊎ Member k w.territory.blocks) →
+        CameBack ms f old world v after → CallGives os f given t.blocks world v after }
 {}

@@ -243,14 +243,15 @@ module _ (table : List TypeDef) (z : Surroundings table) (live : Lives) (procs :
             (knows_later table z h own d e temps v b.knows back.after (z.still_later d after.0 back.after after.1 back.ahead)) (put v ADDRESS back.word)
             (kept_between v v ADDRESS back.word (omega arith) (kept_none v))))
 
-    pub forget_line : (most : ℕ → ℕ) → (of count t : ℕ) → Holds e of true t → e.counts count ≡ true → S e most (does_it (O.Forget of count)) k
-    forget_line most of count t holds has =
+    pub forget_line : (most : ℕ → ℕ) → (of count t el : ℕ) → Holds e of true t → e.counts count ≡ true → slice_get table t ≡ Some (D.Seq el)
+        → S e most (does_it (O.Forget of count)) k
+    forget_line most of count t el holds has seq =
         subst (λ o. S e most (using o (λ u. using_number temps count (λ i. go u i))) k) (sym r.there)
         (subst (λ o. S e most (using o (λ u. go r.value (number_of u))) k) (sym q.value)
         (worked table z live procs fresh h own c began joined e k (St b k) most 1 (perform (deed >>= (λ u. give temps)) w)
         (subst (λ done. Out e k (λ n. most (1 + n)) done (St b k)) (sym (performs_then deed (λ u. give temps) w))
         (stays (perform deed w)
-        (routines.forgets low (own + LIST_BYTES) hand d w b.memory r.value t r.length r.place q.number b.here r.sure r.handle)))))
+        (routines.forgets low (own + LIST_BYTES) hand d w b.memory r.value t el r.length r.place q.number b.here seq r.sure r.handle)))))
       where
         r : HasPair table z h own d temps v of true t
         r = b.knows.has of (true, t) holds

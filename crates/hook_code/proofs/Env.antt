@@ -109,7 +109,8 @@ module _ (table : List TypeDef) (ty : ℕ) (joined : ℕ → Env) (IsDone : Hook
     a_copy : {e : Env} {to of : ℕ} → IsCount to → IsCount of → e.counts of ≡ true → Fits e (O.Copy to of) (counted e to)
     a_shorten : {e : Env} {at of count t el : ℕ} → Holds e of true t → e.at at ≡ Some (true, t) → IsCount count → e.counts count ≡ true
         → IsHandled (slice_get table t) → slice_get table t ≡ Some (D.Seq el) → Fits e (O.Shorten at of count) e
-    a_forget : {e : Env} {of count t : ℕ} → Holds e of true t → IsCount count → e.counts count ≡ true → Fits e (O.Forget of count) e
+    a_forget : {e : Env} {of count t el : ℕ} → Holds e of true t → IsCount count → e.counts count ≡ true → slice_get table t ≡ Some (D.Seq el)
+        → Fits e (O.Forget of count) e
 
   pub data AllFit : Env → List LiftedLine → Type 0 where
     none : {e : Env} → AllFit e []

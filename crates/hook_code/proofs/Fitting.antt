@@ -277,7 +277,7 @@ module _ (table : List TypeDef) (ty : ℕ) (joined : ℕ → Env) (P : Hook → 
         (turns_fit (cut_at ty) (cut_low ty) cut_count (ended_pair ty) is_first is_last Ends el true (O.Element 2 6 0 4) (O.Element 3 6 0 4)
         (O.Forget 6 8 ∷ last) (λ e. refl) can
         (an_element (inl refl) refl refl typed refl refl) (an_element (inr refl) refl refl typed refl refl)
-        (more (a_forget refl (inr (inr refl)) refl) (more (a_return refl refl) none)) cut_away)))))
+        (more (a_forget refl (inr (inr refl)) refl typed) (more (a_return refl refl) none)) cut_away)))))
 
 -- ---- labels stand once
 

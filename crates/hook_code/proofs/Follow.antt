@@ -177,9 +177,9 @@ module _ (table : List TypeDef) (z : Surroundings table) (live : Lives) (procs :
     a_line (a_shorten {at = j} {of = of} {count = count} {t = t} {el = el} holds there is has handles seq) b =
         shorten_line table z live procs fresh h own c began joined first ty level base_is own_small b k (priced pace (O.Shorten j of count)) (omega arith) j of
         count t el holds there has handles seq
-    a_line (a_forget {of = of} {count = count} {t = t} holds is has) b =
+    a_line (a_forget {of = of} {count = count} {t = t} {el = el} holds is has seq) b =
         forget_line table z live procs fresh h own c began joined first ty level base_is own_small room_is chain pace steep fits routines b k
-        (priced pace (O.Forget of count)) of count t holds has
+        (priced pace (O.Forget of count)) of count t el holds has seq
 
   -- ---- labels
 
@@ -230,7 +230,7 @@ module _ (table : List TypeDef) (z : Surroundings table) (live : Lives) (procs :
   no_label (an_exchange is there holds away handles) e name k = refl
   no_label (a_copy is of_is has) e name k = refl
   no_label (a_shorten holds there is has handles seq) e name k = refl
-  no_label (a_forget holds is has) e name k = refl
+  no_label (a_forget holds is has seq) e name k = refl
 
   abbrev covers_same : (e : Env) → Covers e e
   covers_same e = record { at = λ j t is. is; has = λ t y is. is; counts = λ t is. is; small = λ is. is; begun = refl }
@@ -270,7 +270,7 @@ module _ (table : List TypeDef) (z : Surroundings table) (live : Lives) (procs :
   label_fit other (an_exchange is there holds away handles) e = absurd (none_some e)
   label_fit other (a_copy is of_is has) e = absurd (none_some e)
   label_fit other (a_shorten holds there is has handles seq) e = absurd (none_some e)
-  label_fit other (a_forget holds is has) e = absurd (none_some e)
+  label_fit other (a_forget holds is has seq) e = absurd (none_some e)
 
   -- a label that isn't looked for, and one that is
   label_past : (other name : ℕ) (k : List WordInstr) → other ≢ name → from_label name (W.Label other ∷ k) ≡ from_label name k

@@ -77,7 +77,7 @@ module _ (rank : ℕ → ℕ) (most : ℕ) (copy : rank COPY ≤ most) (release 
     line_most k (an_exchange pair is has away handles) h = omega (arith, h)
     line_most k (a_copy is of counts) h = omega (arith, h)
     line_most k (a_shorten has is count counts handles seq) h = omega (arith, h)
-    line_most k (a_forget has count counts) h = h
+    line_most k (a_forget has count counts seq) h = h
 
     pub lines_most : {e : Env} (lines : List LiftedLine) → AllFit table ty joined Lower e lines → Most rank most (lines_code table first ty lines [])
     lines_most [] fit = omega arith

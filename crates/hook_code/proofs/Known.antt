@@ -123,7 +123,7 @@ module _ (table : List TypeDef) (z : Surroundings table) (h : Hand) (own : ℕ) 
 
   -- the value under way stands in the hook's own places
   pub record IsBegun (e : Env) (temps : Temps) (vars : Vars) : Type 0 where
-    pub place : temps.places 2 ≡ Some (Located (at_base (InHand (hand_length h))))
+    pub place : temps.places 2 ≡ Some (Located (at_base (InHand (z.before + hand_length h))))
     pub variable : vars 2 ≡ Some own
     pub none : e.at 2 ≡ None
 
@@ -457,7 +457,7 @@ module _ (table : List TypeDef) (z : Surroundings table) (h : Hand) (own : ℕ) 
 
     -- the value under way
     pub knows_begun : (ty : ℕ) → e.begun ≡ None → own < 2 ^ 32
-        → Knows d (under_way e ty) (with_place 2 temps (Located (at_base (InHand (hand_length h))))) (put old 2 own)
+        → Knows d (under_way e ty) (with_place 2 temps (Located (at_base (InHand (z.before + hand_length h))))) (put old 2 own)
     knows_begun ty none small = record {
       at = λ j t f. by_place j t f (cases_eq j 2);
       counts = λ t f. let x = k.counts t f in let few = (count_apart t x.is).low in record {
@@ -480,21 +480,21 @@ module _ (table : List TypeDef) (z : Surroundings table) (h : Hand) (own : ℕ) 
       };
       small = λ f. let x = k.small f in record { number = x.number; value = x.value; next = x.next };
       begun = λ t f. record {
-        place = got_here temps.places 2 (Located (at_base (InHand (hand_length h))));
+        place = got_here temps.places 2 (Located (at_base (InHand (z.before + hand_length h))));
         variable = put_word old 2 own small;
         none = set_here e.at 2 None;
       };
     }
       where
         by_place : (j : ℕ) (t : Bool × ℕ) → set e.at 2 None j ≡ Some t → (j ≡ 2) ⊎ (j ≢ 2)
-            → AtPlace d (with_place 2 temps (Located (at_base (InHand (hand_length h))))) (put old 2 own) j t
+            → AtPlace d (with_place 2 temps (Located (at_base (InHand (z.before + hand_length h))))) (put old 2 own) j t
         by_place j t f (inl same) = absurd (none_some (sym (set_here e.at 2 None) ∙ (ap (set e.at 2 None) (sym same) ∙ f)))
         by_place j t f (inr ne) =
             let x = k.at j t (sym (set_there e.at 2 None j ne) ∙ f) in record {
               few = x.few;
               location = x.location;
               address = x.address;
-              place = got_there temps.places 2 (Located (at_base (InHand (hand_length h)))) j ne ∙ x.place;
+              place = got_there temps.places 2 (Located (at_base (InHand (z.before + hand_length h)))) j ne ∙ x.place;
               variable = put_there old 2 own j ne ∙ x.variable;
               leads = x.leads;
             }

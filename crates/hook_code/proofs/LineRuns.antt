@@ -737,7 +737,7 @@ module _ (table : List TypeDef) (z : Surroundings table) (live : Lives) (procs :
     none_begun : e.begun ≡ None → z.Here own (own + LIST_BYTES) h d w b.memory
     none_begun none = subst (λ o. z.Here (low_of own o) (own + LIST_BYTES) (hand_of h own o) d w b.memory) none b.here
 
-    hand_is : e.begun ≡ None → in_hand w ≡ at_base (InHand (length h))
+    hand_is : e.begun ≡ None → in_hand w ≡ at_base (InHand (z.before + length h))
     hand_is none = ap (λ n. at_base (InHand n)) (z.hand_long own (own + LIST_BYTES) h d w b.memory (none_begun none))
 
     place_runs : (there : List WordInstr) → R 1 (at cw b.memory (W.Place 2 0 ∷ there) v b.given) (at cw b.memory there (put v 2 own) b.given)
@@ -747,7 +747,7 @@ module _ (table : List TypeDef) (z : Surroundings table) (live : Lives) (procs :
         (run_place live procs cw b.memory there v b.given 2 0)
 
     abbrev temps_begun : Temps
-    temps_begun = with_place 2 temps (Located (at_base (InHand (length h))))
+    temps_begun = with_place 2 temps (Located (at_base (InHand (z.before + length h))))
 
     pub begin_line : May 1 → (t : ℕ) → e.begun ≡ None → IsHandled (slice_get table t) → S (under_way e t) (does_it (O.Begin t 2)) (W.Place 2 0 ∷ k)
     begin_line may t none handles =
@@ -789,7 +789,7 @@ module _ (table : List TypeDef) (z : Surroundings table) (live : Lives) (procs :
         let p = led_by table z live procs fresh h own c began joined e temps w b 2 true t (inr (refl, begun, refl)) in
         let k1 = b.knows.begun t begun in
         let code = handle_got to 2 k in
-        let l = at_base (InHand (length h)) in
+        let l = at_base (InHand (z.before + length h)) in
         let here : z.Here (own + LIST_BYTES) (own + LIST_BYTES) (with_one h own t) d w b.memory
         = subst (λ o. z.Here (low_of own o) (own + LIST_BYTES) (hand_of h own o) d w b.memory) begun b.here in
         let r = z.reads true (own + LIST_BYTES) (own + LIST_BYTES) (with_one h own t) d w b.memory l own t here

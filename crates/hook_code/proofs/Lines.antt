@@ -222,12 +222,12 @@ module _ (table : List TypeDef) (z : Surroundings table) (live : Lives) (procs :
     led_by j o ty (inr is) =
         let x = b.knows.begun ty is.1 in record {
           few = let e = is.0 in omega (arith, e);
-          location = at_base (InHand (length h));
+          location = at_base (InHand (z.before + length h));
           address = own;
-          place = subst (λ i. temps.places i ≡ Some (Located (at_base (InHand (length h))))) (sym is.0) x.place;
+          place = subst (λ i. temps.places i ≡ Some (Located (at_base (InHand (z.before + length h))))) (sym is.0) x.place;
           variable = subst (λ i. b.vars i ≡ Some own) (sym is.0) x.variable;
-          leads = subst (λ q. z.Leads q (hand_of h own e.begun) b.blocks (at_base (InHand (length h))) own ty) (sym is.2)
-              (subst (λ o. z.Leads true (hand_of h own o) b.blocks (at_base (InHand (length h))) own ty) (sym is.1)
+          leads = subst (λ q. z.Leads q (hand_of h own e.begun) b.blocks (at_base (InHand (z.before + length h))) own ty) (sym is.2)
+              (subst (λ o. z.Leads true (hand_of h own o) b.blocks (at_base (InHand (z.before + length h))) own ty) (sym is.1)
               (z.hand_leads (low_of own (Some ty)) top own ty h b.blocks w b.memory
               (subst (λ o. z.Here (low_of own o) top (hand_of h own o) b.blocks w b.memory) is.1 b.here)));
         }

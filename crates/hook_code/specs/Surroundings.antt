@@ -78,6 +78,8 @@ module _ (table : List TypeDef) where
     pub Later : Blocks → Blocks → Type 0
     pub same : (d : Blocks) → Later d d
     pub still_later : (c d e : Blocks) → Later c d → Later d e → Later c e
+    -- so many values are under way before
+    pub before : ℕ
     -- the places of hooks end before this address
     pub limit : ℕ
     pub limit_small : limit < 2 ^ 32
@@ -120,9 +122,10 @@ module _ (table : List TypeDef) where
         → IsHandled (slice_get table ty) → is_there w l ≡ true → (e : Blocks) × Later d e × Here low top h e (store w l Vacant) m
     -- ---- values under way
 
-    pub hand_long : (low top : ℕ) (h : Hand) (d : Blocks) (w : World) (m : Memory) → Here low top h d w m → length w.hand ≡ length h
+    pub hand_long : (low top : ℕ) (h : Hand) (d : Blocks) (w : World) (m : Memory) → Here low top h d w m
+        → length w.hand ≡ before + length h
     pub hand_leads : (high top low ty : ℕ) (h : Hand) (d : Blocks) (w : World) (m : Memory) → Here high top (with_one h low ty) d w m
-        → Leads true (with_one h low ty) d (at_base (InHand (length h))) low ty
+        → Leads true (with_one h low ty) d (at_base (InHand (before + length h))) low ty
     pub begins : (low top : ℕ) (h : Hand) (d : Blocks) (w : World) (m : Memory) (ty : ℕ) → Here low top h d w m → IsHandled (slice_get table ty)
         → low + LIST_BYTES ≤ top → Here (low + LIST_BYTES) top (with_one h low ty) d (pushed w (vacant (form_in (known_in table) ty))) m
     pub pushes : (low top : ℕ) (h : Hand) (d : Blocks) (w : World) (m : Memory) (ty : ℕ) → Here low top h d w m → IsHandled (slice_get table ty)

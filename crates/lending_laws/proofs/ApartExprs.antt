@@ -22,8 +22,10 @@ use Rattle.expr_rules.specs.Sizes.{is_sized}
 use Rattle.expr_rules.specs.Typed.{accepted, accepted_by}
 use Rattle.expr_rules.specs.Laws.{CallsComputed}
 use Rattle.expr_rules.specs.Rules.{IsTyped, t_int, t_char, t_text, t_variable, t_constant, t_paren, t_named, t_tuple, t_array, t_sequence, t_construct}
-use Rattle.expr_rules.specs.Rules.{t_field, t_dot, t_index, t_call, t_quoted_call, t_method, t_new_sequence, t_unary, t_dollar, t_binary, t_if, t_case}
-use Rattle.expr_rules.specs.Meant.{IsCall}
+use Rattle.expr_rules.specs.Rules.{t_field, t_dot, t_index, t_call, t_quoted_call, t_method, t_new_sequence, t_conversion, t_unary, t_dollar, t_binary, t_if}
+use Rattle.expr_rules.specs.Rules.{t_case}
+use Rattle.expr_rules.specs.Meant.{IsConversion, empty_object, from_source, from_wrapper, IsCall}
+use Rattle.expr_rules.specs.Overloads.{IsSettled, by_type, by_place}
 use Rattle.expr_rules.specs.Rules.{t_case_else}
 use Rattle.expr_rules.specs.Rules.{IsValue, v_value, AreValues, v_none, v_more, IsOperand, o_value}
 use Rattle.expr_rules.specs.Rules.{o_shown, o_open, o_type, o_input, AreOperands, o_none, o_more, AreConditions, c_none, c_more, ArePicks, k_none, k_more}
@@ -123,6 +125,16 @@ module _ (kept : ℕ → Bool) where
       one_parts kept n (place_in w.expr) (codes "$") (own_dollars env w) _
       (fitting_parts kept (callable (known_as env (codes "$"))) (value w ∷ []) (h, tt)) s_err
 
+  settled_value : {ty : Ty} {o : Operand} {v : Valued} → OperandLends kept o → IsSettled ty o v → ExprLends kept v.expr
+  settled_value h (by_type e) = h.0
+  settled_value h by_place = ((tt, tt), tt)
+
+  converted_parts : {env : Env} {n : ℕ} {at : Place} {ty : Ty} {os : List Operand} {e : Expr} → AllLend kept os → IsConversion env n at ty os e
+      → Made kept e
+  converted_parts h (empty_object f) = (((tt, tt), tt), refl)
+  converted_parts h (from_source s k) = (((tt, tt), (settled_value h.0 k, tt)), refl)
+  converted_parts h (from_wrapper b s) = (((tt, tt), (h.0.0, tt)), refl)
+
   some_parts : (o : Operand) (a : Option Expr) (e : Expr) → FieldLends kept o a → a ≡ Some e → FieldLends kept o (Some e)
   some_parts o (Some x) e h f = subst (FieldLends kept o) f h
   some_parts o None e h f = cc
@@ -167,6 +179,7 @@ module _ (kept : ℕ → Bool) where
           by_itself y (by_call env n at (normal x) (o ∷ os) y ((operand_parts s g).0, operands_parts s h) r)
       typed_parts {env} {want} {n} s (t_new_sequence {at = at} {ty = ty} {os = os} {e = e} f g h r) =
           by_itself e (sure_ok (made_parts kept n at ty os (operands_parts s h)) r)
+      typed_parts s (t_conversion {e = e} f b g h i) = by_itself e (converted_parts (operands_parts s h) i)
       typed_parts {env} {want} {n} s (t_unary {at = at} {op = op} {v = v} {e = e} h d r) =
           by_itself e (sure_ok (unary_parts kept n at op v (value_parts s h).0.0) r)
       typed_parts {env} {want} {n} s (t_dollar {at = at} {v = v} {e = e} h d r) =

@@ -39,3 +39,6 @@ mod MildDeeds
 mod MildActs
 mod MildParts
 mod MildPrograms
+mod ActSites
+mod NoSites
+mod ProgramSites

@@ -35,3 +35,5 @@ pub mod LeftOutExamples
 pub mod ExitExamples
 pub mod ActExamples
 pub mod SiteExamples
+pub mod Sites
+pub mod TreeSites

@@ -1,6 +1,6 @@
 // The laws of what a program does to places, in order, and of the ways through it.
 ghost use Rattle.std.specs.Prelude.{◌≡◌, ◌↔◌, ℕ, Bool, List, Option, Some, None, [], false};
-ghost use Rattle.std.specs.Prelude.{slice_get};
+ghost use Rattle.std.specs.Prelude.{slice_get, Contains};
 ghost use Rattle.std.specs.Prelude.{suc, true, ◌++◌};
 ghost use Rattle.nim_types.specs.Types.{Ty, Facts};
 ghost use Rattle.nim_plan.specs.declared.plan.Plan.{Plan};
@@ -40,6 +40,8 @@ ghost use Rattle.nim_meaning.specs.ActExamples.{returning_early_acts, returning_
 ghost use Rattle.nim_meaning.specs.ActExamples.{turning_over, turning_over_acts};
 ghost use Rattle.nim_meaning.specs.ActExamples.{turning_over_ways, sinking, sinking_acts};
 ghost use Rattle.nim_meaning.specs.ActExamples.{sinking_ways, sunk_acts, sunk_ways};
+ghost use Rattle.nim_meaning.specs.Sites.{IsSite};
+ghost use Rattle.nim_meaning.specs.TreeSites.{all_sites};
 ghost use Rattle.nim_meaning.specs.SiteExamples.{lending, lending_acts, behind_lent, lent_region};
 ghost use Rattle.nim_meaning.specs.SiteExamples.{giving_acts, lending_kinds, owning, owning_kinds};
 ghost use Rattle.nim_meaning.specs.SiteExamples.{moved, given_to_t, given_to_t_acts};
@@ -228,6 +230,14 @@ pub fn sites()
         ≡ maybe_joined_acts }
     ensures covered { stmts_acts text_hooks (modes_in [] owning.procs) None covered
         ≡ covered_acts }
+{}
+
+/// The sites of a program's acts are those of its trees; without hooks it has none.
+pub fn program_sites()
+    ensures trees { (program : Program) (sinks : List ℕ) (site : ℕ) →
+        IsSite program sinks site ↔ Contains (all_sites program sinks) site }
+    ensures none { (program : Program) (sinks : List ℕ) (site : ℕ) → has_no_hooks program ≡ true →
+        IsSite program sinks site → ⊥ }
 {}
 
 /// What small blocks do at the points of ways that are written out.

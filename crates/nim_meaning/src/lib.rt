@@ -10,4 +10,4 @@ pub use examples::{
     place_examples, text_examples,
 };
 pub use laws::meanings;
-pub use laws_of_acts::{acts, exits, kinds, lent, points, runs, sites, ways};
+pub use laws_of_acts::{acts, exits, kinds, lent, points, program_sites, runs, sites, ways};

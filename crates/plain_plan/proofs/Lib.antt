@@ -1,9 +1,6 @@
-mod ActSites
 mod Adding
 mod Beyond
 mod Making
 mod Modes
-mod NoSites
 mod Programs
 mod Tree
-mod Whole

@@ -1,6 +1,6 @@
 -- A copy at each site is the plain plan, and it is what was found.
 use Rattle.std.proofs.Common.{◌≡◌, ◌⊎◌, inl, inr, ⊎_elim, append_assoc, ℕ, List, [], ◌∷◌, ◌++◌, Option, Some, refl, sym, ap, subst, ◌∙◌}
-use Rattle.std.specs.Prelude.{map}
+use Rattle.std.specs.Prelude.{◌↔◌, map}
 use Rattle.std.proofs.lemmas.Option.{same_Some}
 use Rattle.std.specs.List.{Contains, AllByRecursion}
 use Rattle.std.specs.List.Sorted.{IsStrictlySortedBy}
@@ -13,11 +13,10 @@ use Rattle.nim_plan.specs.declared.plan.SiteAct.{SiteAct}
 use Rattle.nim_plan.specs.Order.{HasOneMore, IsInOrder, skip_order, site_order, with_site}
 use Rattle.nim_program.specs.Program.{Program}
 use Rattle.plain_plan.specs.Adding.{with_all, Adds}
-use Rattle.plain_plan.specs.Plain.{plain_plan}
-use Rattle.plain_plan.specs.Sites.{copied, IsSite, IsPlainPlan}
-use Rattle.plain_plan.specs.TreeSites.{all_sites}
+use Rattle.plain_plan.specs.Plain.{plain_plan, copied, IsPlainPlan}
+use Rattle.nim_meaning.specs.Sites.{IsSite}
+use Rattle.nim_meaning.specs.TreeSites.{all_sites}
 use Rattle.plain_plan.proofs.Programs.{contains_first, contains_later, first_or_later, none_in_none, entry, plan_with}
-use Rattle.plain_plan.proofs.Whole.{from_site, into_site}
 
 -- ---- copies
 
@@ -53,7 +52,8 @@ copies_rise (x ∷ xs) h = (all_copies x xs h.0, copies_rise xs h.1)
 
 -- ---- what was added
 
-module _ (law : (sites : List ℕ) (site : ℕ) → IsStrictlySortedBy nat_cmp sites → HasOneMore nat_cmp sites (with_site sites site) site) where
+module _ (law : (sites : List ℕ) (site : ℕ) → IsStrictlySortedBy nat_cmp sites → HasOneMore nat_cmp sites (with_site sites site) site)
+    (trees : (program : Program) (sinks : List ℕ) (site : ℕ) → IsSite program sinks site ↔ Contains (all_sites program sinks) site) where
   all_rise : (xs sites : List ℕ) → IsStrictlySortedBy nat_cmp sites → IsStrictlySortedBy nat_cmp (with_all sites xs)
   all_rise [] sites h = h
   all_rise (x ∷ xs) sites h = all_rise xs (with_site sites x) (law sites x h).rise
@@ -92,10 +92,10 @@ module _ (law : (sites : List ℕ) (site : ℕ) → IsStrictlySortedBy nat_cmp s
   made program plan sites is e f g =
       let all = all_sites program [] in
       let rise = subst (IsStrictlySortedBy nat_cmp) (sym is) (all_rise all [] none_rise) in
-      let out = λ (n : ℕ) (has : Contains sites n). ⊎_elim (λ none. absurd (none_in_none n none)) (λ here. into_site program [] n here)
+      let out = λ (n : ℕ) (has : Contains sites n). ⊎_elim (λ none. absurd (none_in_none n none)) (λ here. (trees program [] n).1 here)
       (from_all all [] none_rise n (subst (λ ns. Contains ns n) is has)) in
       let back = λ (n : ℕ) (site : IsSite program [] n).
-      subst (λ ns. Contains ns n) (sym is) (into_all all [] none_rise n (inr (from_site program [] n site))) in
+      subst (λ ns. Contains ns n) (sym is) (into_all all [] none_rise n (inr ((trees program [] n).0 site))) in
       record {
         ordered = in_order plan sites rise e f g;
         acts = λ site act. (

@@ -1,5 +1,5 @@
--- The plain plan of a program: which one it is where there are no hooks, and that there is only one.
-use Rattle.std.proofs.Common.{◌≡◌, ◌⊎◌, inl, inr, ⊎_elim, ℕ, zero, suc, true, List, [], ◌∷◌, Option, Some, None, length, get_or, ◌<◌, refl, sym, ap, subst, ◌∙◌}
+-- The plain plan of a program: which one it is where there are no sites, and that there is only one.
+use Rattle.std.proofs.Common.{◌≡◌, ◌⊎◌, inl, inr, ⊎_elim, ℕ, zero, suc, List, [], ◌∷◌, length, get_or, ◌<◌, refl, sym, ap, subst, ◌∙◌}
 use Rattle.std.proofs.Common.{arith}
 use Rattle.std.specs.List.{Contains, AllByRecursion}
 use Rattle.std.specs.List.Sorted.{IsStrictlySortedBy}
@@ -9,21 +9,13 @@ use Rattle.std.specs.declared.cmp.Ordering.{Ordering}
 use Rattle.std.specs.declared.cmp.Ordering.TheVariants.{Less, Equal, Greater}
 use Rattle.std.proofs.lemmas.Cmp.{tied_itself, nat_cmp_total, on_total}
 use Rattle.std.proofs.lemmas.List.Elements.{All-from_recursion, All-contains}
-use Rattle.nim_types.specs.Types.{Facts}
 use Rattle.nim_plan.specs.declared.plan.Act.{Act}
 use Rattle.nim_plan.specs.declared.plan.Plan.{Plan}
 use Rattle.nim_plan.specs.declared.plan.SiteAct.{SiteAct}
 use Rattle.nim_plan.specs.Order.{IsInOrder, site_order, skip_order}
-use Rattle.nim_program.specs.declared.program.Mode.{Mode}
-use Rattle.nim_program.specs.Program.{Param, Body, Proc, Program}
-use Rattle.nim_meaning.specs.Here.{is_hooked}
-use Rattle.nim_meaning.specs.Shapes.{modes_in}
-use Rattle.nim_meaning.specs.Runs.{is_plain_body, are_plain_params, is_plain_if_body, are_plain_procs, has_no_hooks}
-use Rattle.nim_meaning.specs.ActsOf.{acts_at}
-use Rattle.plain_plan.specs.Sites.{sites_in, IsSite, IsPlainPlan}
-use Rattle.plain_plan.specs.TreeSites as tree
-use Rattle.plain_plan.proofs.ActSites.{body_sites, if_body_sites}
-use Rattle.plain_plan.proofs.NoSites.{one, other, body_none}
+use Rattle.nim_program.specs.Program.{Program}
+use Rattle.nim_meaning.specs.Sites.{IsSite}
+use Rattle.plain_plan.specs.Plain.{IsPlainPlan}
 
 -- ---- what a list has
 
@@ -43,34 +35,7 @@ first_or_later x y xs h = by h.0 h.1 h.2
 pub none_in_none : {X : Type 0} (x : X) → Contains [] x → ⊥
 none_in_none x h = omega (arith, h.1)
 
--- ---- without hooks
-
-module _ (facts : Facts) (modes in_body : (proc position : ℕ) → Mode) where
-  if_body_none : (params : List Param) (body : Option Body) → is_plain_if_body (is_hooked facts) params body ≡ true →
-      tree.sites_if_body facts modes body ≡ []
-  if_body_none params None e = refl
-  if_body_none params (Some body) e =
-      body_none facts modes body (other (are_plain_params (is_hooked facts) params) (is_plain_body (is_hooked facts) body) e)
-
-  procs_none : (procs : List Proc) (at proc : ℕ) → are_plain_procs (is_hooked facts) procs ≡ true →
-      sites_in (acts_at (is_hooked facts) modes in_body at procs proc) ≡ []
-  procs_none [] at proc e = refl
-  procs_none (p ∷ rest) at zero e =
-      if_body_sites facts modes in_body at p.params p.body
-      ∙ if_body_none p.params p.body (one (is_plain_if_body (is_hooked facts) p.params p.body) (are_plain_procs (is_hooked facts) rest) e)
-  procs_none (p ∷ rest) at (suc proc) e =
-      procs_none rest (suc at) proc (other (is_plain_if_body (is_hooked facts) p.params p.body) (are_plain_procs (is_hooked facts) rest) e)
-
-no_site : (program : Program) (sinks : List ℕ) (n : ℕ) → has_no_hooks program ≡ true → IsSite program sinks n → ⊥
-no_site program sinks n e =
-    let facts = program.facts in
-    let modes = modes_in sinks program.procs in
-    let procs = are_plain_procs (is_hooked facts) program.procs in
-    let start = is_plain_body (is_hooked facts) program.start in
-    ⊎_elim
-    (λ here. none_in_none n (subst (λ ns. Contains ns n)
-    (body_sites facts modes program.start ∙ body_none facts modes program.start (other procs start e)) here))
-    (λ there. none_in_none n (subst (λ ns. Contains ns n) (procs_none facts modes modes program.procs 0 there.0 (one procs start e)) there.1))
+-- ---- no plan
 
 abbrev pub entry : ℕ → Act → SiteAct
 entry site act = record { site = site; act = act }
@@ -83,12 +48,12 @@ in_order plan e f g = record {
   skips = subst (IsStrictlySortedBy skip_order) (sym g) tt;
 }
 
-pub plain_without_hooks : (program : Program) (plan : Plan) → has_no_hooks program ≡ true → plan.sites ≡ [] → plan.sinks ≡ [] → plan.skips ≡ [] →
-    IsPlainPlan program plan
-plain_without_hooks program plan h e f g = record {
+pub plain_without_sites : (program : Program) (plan : Plan) → ((site : ℕ) → IsSite program [] site → ⊥) → plan.sites ≡ [] → plan.sinks ≡ [] →
+    plan.skips ≡ [] → IsPlainPlan program plan
+plain_without_sites program plan none e f g = record {
   ordered = in_order plan e f g;
   acts = λ site act.
-      (λ has. absurd (none_in_none (entry site act) (subst (λ xs. Contains xs (entry site act)) e has)), λ is. absurd (no_site program [] site h is.0));
+      (λ has. absurd (none_in_none (entry site act) (subst (λ xs. Contains xs (entry site act)) e has)), λ is. absurd (none site is.0));
   sinks = f;
   skips = g;
 }

@@ -18,8 +18,8 @@ use Rattle.nim_program.specs.Program.{Label, Args, NoArg, Stmts, Empty}
 use Rattle.nim_program.specs.View.{expr_of, path_of, operand_before, choices_of, picks_of, pick_labels, stmts_of, stmt_before}
 use Rattle.nim_program.specs.View.{branch_conditions, branch_blocks, branch_labels, case_blocks, kind_of, operands_of, condition_blocks, branch_row, case_row}
 use Rattle.nim_program.specs.View.{case_labels, stmt_row}
-use Rattle.plain_plan.specs.TreeSites.{value_sites, path_sites, operand_sites, choice_sites, selected_sites, pick_sites, selector_sites}
-use Rattle.plain_plan.specs.TreeSites.{stmt_sites, loop_sites, block_sites, branch_sites, arm_sites}
+use Rattle.nim_meaning.specs.TreeSites.{value_sites, path_sites, operand_sites, choice_sites, selected_sites, pick_sites, selector_sites}
+use Rattle.nim_meaning.specs.TreeSites.{stmt_sites, loop_sites, block_sites, branch_sites, arm_sites}
 use Rattle.plain_plan.specs.Views.{is_defer}
 
 module _ (facts : Facts) (modes : (proc position : ℕ) → Mode) (ts : List Ty) where

@@ -1,5 +1,3 @@
-pub mod Sites
-pub mod TreeSites
 pub mod Adding
 pub mod Hooks
 pub mod Views

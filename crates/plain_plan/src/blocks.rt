@@ -5,8 +5,8 @@ ghost use Rattle.nim_program.specs.View.{declared_of, kind_of, operands_of, if_v
 ghost use Rattle.nim_program.specs.View.{stmts_of, branch_conditions, branch_blocks, branch_labels};
 ghost use Rattle.nim_program.specs.View.{case_blocks};
 ghost use Rattle.plain_plan.specs.Adding.{Adds};
-ghost use Rattle.plain_plan.specs.TreeSites.{declared_sites, condition_sites, element_sites};
-ghost use Rattle.plain_plan.specs.TreeSites.{loop_sites, block_sites, branch_sites, arm_sites};
+ghost use Rattle.nim_meaning.specs.TreeSites.{declared_sites, condition_sites, element_sites};
+ghost use Rattle.nim_meaning.specs.TreeSites.{loop_sites, block_sites, branch_sites, arm_sites};
 ghost use Rattle.plain_plan.specs.Views.{types_of, facts_of, modes_of, is_defer};
 
 use crate::around::{Around, Uses};

@@ -2,7 +2,7 @@
 ghost use Rattle.std.specs.Prelude.{◌≡◌, ◌∷◌, []};
 ghost use Rattle.nim_meaning.specs.SiteExamples.{lending_acts, giving_acts, given_to_t_acts};
 ghost use Rattle.nim_meaning.specs.SiteExamples.{covered_acts, maybe_joined_acts, literal_length_acts};
-ghost use Rattle.plain_plan.specs.Sites.{sites_in};
+ghost use Rattle.nim_meaning.specs.Sites.{sites_in};
 
 /// What is lent, given, declared, chosen, compared and joined, each at a site; and a literal, whose
 /// length is read in place.

@@ -1,8 +1,7 @@
 // Sites that were found.
 ghost use Rattle.std.specs.Prelude.{◌≡◌, ◌<◌, ◌^◌, ◌∷◌, [], ℕ, List, Option, Some, IfOk, map};
 ghost use Rattle.plain_plan.specs.Adding.{Adds};
-ghost use Rattle.plain_plan.specs.Plain.{AreWords};
-ghost use Rattle.plain_plan.specs.Sites.{copied};
+ghost use Rattle.plain_plan.specs.Plain.{AreWords, copied};
 
 use arc_base::{Items, Memory};
 use nim_plan::{Act, SiteAct};

@@ -8,7 +8,7 @@ ghost use Rattle.nim_meaning.specs.Here.{is_hooked, gives_hooked};
 ghost use Rattle.nim_meaning.specs.Shapes.{has_node};
 ghost use Rattle.nim_meaning.specs.ActsOf.{site_at};
 ghost use Rattle.nim_program.specs.Program.{node_at};
-ghost use Rattle.plain_plan.specs.TreeSites.{is_taken, site_if, if_site};
+ghost use Rattle.nim_meaning.specs.TreeSites.{is_taken, site_if, if_site};
 ghost use Rattle.plain_plan.specs.Views.{types_of, facts_of, modes_of, uses_of};
 
 use crate::around::{Around, Uses};

@@ -1,12 +1,11 @@
 // What plan is the plain one of a program.
-ghost use Rattle.std.specs.Prelude.{◌≡◌, ◌↔◌, [], ℕ, List, true, Contains};
+ghost use Rattle.std.specs.Prelude.{◌≡◌, [], true};
 ghost use Rattle.nim_plan.specs.declared.plan.Plan.{Plan};
 ghost use Rattle.nim_program.specs.Program.{Program};
 ghost use Rattle.nim_meaning.specs.Runs.{has_no_hooks};
-ghost use Rattle.plain_plan.specs.Plain.{plain_plan};
-ghost use Rattle.plain_plan.specs.Sites.{IsPlainPlan, IsSite};
-ghost use Rattle.plain_plan.specs.TreeSites.{all_sites};
+ghost use Rattle.plain_plan.specs.Plain.{plain_plan, IsPlainPlan};
 
+use nim_meaning::program_sites;
 use nim_plan::one_more;
 
 /// A program has one plain plan; without hooks it is the empty one.
@@ -16,9 +15,7 @@ pub fn plain_plans()
         p ≡ q }
     ensures without_hooks { (program : Program) (plan : Plan) → has_no_hooks program ≡ true →
         plan.sites ≡ [] → plan.sinks ≡ [] → plan.skips ≡ [] → IsPlainPlan program plan }
-    // The sites of its acts are those of its trees.
-    ensures trees { (program : Program) (sinks : List ℕ) (site : ℕ) →
-        IsSite program sinks site ↔ Contains (all_sites program sinks) site }
 {
     one_more();
+    program_sites();
 }

@@ -5,7 +5,7 @@ ghost use Rattle.nim_program.specs.Sizes.{HaveForms};
 ghost use Rattle.nim_program.specs.View.{proc_of, program_under};
 ghost use Rattle.plain_plan.specs.Adding.{Adds};
 ghost use Rattle.plain_plan.specs.Plain.{plain_plan, AreWords};
-ghost use Rattle.plain_plan.specs.TreeSites.{sites_if_body, proc_sites};
+ghost use Rattle.nim_meaning.specs.TreeSites.{sites_if_body, proc_sites};
 ghost use Rattle.plain_plan.specs.Views.{types_of, facts_of, modes_of};
 
 use crate::around::Around;

@@ -4,8 +4,8 @@ ghost use Rattle.nim_program.specs.Program.{Fresh, NoArg};
 ghost use Rattle.nim_program.specs.View.{expr_of, path_of, operand_before, operands_of};
 ghost use Rattle.nim_program.specs.View.{choices_of, picks_of, pick_labels, if_value};
 ghost use Rattle.plain_plan.specs.Adding.{Adds};
-ghost use Rattle.plain_plan.specs.TreeSites.{own_site, value_sites, path_sites, operand_sites};
-ghost use Rattle.plain_plan.specs.TreeSites.{choice_sites, pick_sites, selector_sites};
+ghost use Rattle.nim_meaning.specs.TreeSites.{own_site, value_sites, path_sites, operand_sites};
+ghost use Rattle.nim_meaning.specs.TreeSites.{choice_sites, pick_sites, selector_sites};
 ghost use Rattle.plain_plan.specs.Views.{types_of, facts_of, modes_of, uses_of};
 
 use crate::around::{Around, Uses};

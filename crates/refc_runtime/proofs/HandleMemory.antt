@@ -9,13 +9,12 @@ use Rattle.rv32_isa.specs.declared.machine.FaultKind.{FaultKind}
 use Rattle.rv32_isa.specs.declared.machine.FaultKind.TheVariants.{Misaligned, OutOfRange}
 use Rattle.rv32_isa.specs.Hooks.{code_at}
 use Rattle.rv32_isa.specs.Image.{heap_at}
-use Rattle.rv32_isa.specs.Regions.{KeepsSizes}
 use Rattle.rv32_isa.specs.Machine.{Lives}
 use Rattle.rv32_isa.specs.Steps.{number_of}
 use Rattle.word_code.specs.declared.word.WordInstr.{WordInstr}
 use Rattle.word_code.specs.declared.word.WordInstr.TheVariants.{Load, Sum, Store}
 use Rattle.word_code.specs.declared.word.WordProc.{WordProc}
-use Rattle.word_code.specs.Memory.{Memory, as_state, number_at, may_put, with_number, bytes_at, may_fill}
+use Rattle.word_code.specs.Memory.{KeepsShape, Memory, as_state, number_at, may_put, with_number, bytes_at, may_fill}
 use Rattle.word_code.specs.Words.{Vars, no_words, put}
 use Rattle.word_code.specs.RoutineTable.{Beside, IsRewritten}
 use Rattle.word_code.proofs.ForCallers.{MemoryLaw, Sized, sizes_same, sizes_more, store_rewritten, put_sized, put_here, Runs, then_runs, Within, at as state_at}
@@ -57,7 +56,7 @@ open_low m sized b may =
     omega (arith, e, h)
 
 -- one may still be put, whatever the heap has
-pub may_still : (law : MemoryLaw) (m other : Memory) (a : ℕ) → KeepsSizes (as_state m) (as_state other) → MayHave m a → MayHave other a
+pub may_still : (law : MemoryLaw) (m other : Memory) (a : ℕ) → KeepsShape (as_state m) (as_state other) → MayHave m a → MayHave other a
 may_still law m other a sizes may = (still a may.0, still (a + 4) may.1)
   where
     still : (b : ℕ) → may_put m b Word ≡ true → may_put other b Word ≡ true

@@ -205,7 +205,7 @@ module _ (law : MemoryLaw) (live : Lives) (procs : List WordProc) (n : ℕ) (num
     (ready : IsReady (own_data_at + n) (putting u).growth s.memory m0) (p : WordProc)
     (unused : (putting u).growth.stands (putting u).growth.identity ≡ None)
     (present : IsPresent (putting u).growth.stands (putting u).growth.kept (putting u).growth.present)
-    (has : MayHave s.memory (putting u).to) (small : (putting u).length < 2 ^ 32)
+    (has : may_grow (putting u).growth ≡ true → MayHave s.memory (putting u).to) (small : (putting u).length < 2 ^ 32)
     (r : Routine) (call : r.Use) (v g : Vars) (e0 : v 0 ≡ Some (putting u).to) (e2 : v 2 ≡ Some (putting u).length) (l most e : ℕ)
     (fills : Fills (own_data_at + n) (putting u) most m0 r call) (few : l + (most + (3 + e)) ≤ lines u)
   where
@@ -246,7 +246,7 @@ module _ (law : MemoryLaw) (live : Lives) (procs : List WordProc) (n : ℕ) (num
                 let room = f.room in
                 let low_word : x.word < 2 ^ 32 = omega (arith, low) in
                 let low_end : x.word + q.growth.wanted < 2 ^ 32 = omega (arith, low, room) in
-                let has1 : MayHave x.memory q.to = may_still law s.memory x.memory q.to rest_is.sizes has in
+                let has1 : MayHave x.memory q.to = may_still law s.memory x.memory q.to rest_is.sizes (has does) in
                 let done = handle_put law x.memory sized1 q.to q.length x.word has1 small low_word in
                 let few0 = fills.few in
                 let few1 = x.few in
@@ -314,7 +314,8 @@ source_small at g m sized may (Inside x count) is =
 module _ (law : MemoryLaw) (live : Lives) (procs : List WordProc) (n : ℕ) (append_kept : IsKeptThere live procs (appends (own_data_at + n))) (number : ℕ)
     (Use : Type 0) (takes : Use → List ℕ) (may_call : Use → Memory → Type 0) (putting : Use → Putting) (lines : Use → ℕ) (u : Use) (a : Appending)
     (same : putting u ≡ record { to = (putting u).to; length = a.growth.wanted; growth = a.growth; bytes = appended a }) (s : WordState) (to : ℕ)
-    (rest : List WordInstr) (next : s.frame.left ≡ Call to number ∷ rest) (p : WordProc) (no_room : p.room ≡ 0) (has : MayHave s.memory (putting u).to)
+    (rest : List WordInstr) (next : s.frame.left ≡ Call to number ∷ rest) (p : WordProc) (no_room : p.room ≡ 0)
+    (has : may_grow (putting u).growth ≡ true → MayHave s.memory (putting u).to)
     (m0 : Memory) (awaits0 : ℕ) (ready : IsReady (own_data_at + n) a.growth s.memory m0) (may : MayAppend (own_data_at + n) a m0)
   where
     abbrev behind_row : Routine
@@ -425,7 +426,7 @@ module _ (law : MemoryLaw) (live : Lives) (procs : List WordProc) (n : ℕ) (app
         let h = may.appending.growth.word in
         let most : more < 2 ^ 32 = omega (arith, w, h) in
         behind_comes law live procs n append_kept TEXT_APPEND AppendingText (λ y. y.to ∷ y.from ∷ []) (λ y m. (appends_text (own_data_at + n)).may y m)
-        appended_text (λ y. HANDLE_LINES + (appends (own_data_at + n)).lines y.appending) u u.appending refl s to rest calling.next p refl may.has s.memory 0
+        appended_text (λ y. HANDLE_LINES + (appends (own_data_at + n)).lines y.appending) u u.appending refl s to rest calling.next p refl (λ does. may.has) s.memory 0
         (at_once (own_data_at + n) u.appending.growth s.memory sized may.appending.growth.heap) may.appending 7 (omega arith) x2 calling.given.0 (got more most) (got from_at from_small) (got kept smalls.1) (got place smalls.0)
         (then_runs live procs (enters live procs s to rest n TEXT_APPEND 2 6 text_append_lines others stands) (then_runs live procs
         (run_handle live procs c s.memory sized (handle_lines 4 5 0 append_behind_lines) x0 no_words u.from more from_at may.from 2 3 1
@@ -526,7 +527,7 @@ module _ (law : MemoryLaw) (live : Lives) (procs : List WordProc) (n : ℕ) (res
     text_resize_comes =
         puts_comes law live procs n TEXT_RESIZE ResizingText (λ x. x.to ∷ x.growth.wanted ∷ []) (λ x m. (resizes_text (own_data_at + n)).may x m) resized_text
         (λ x place. place) (λ x. HANDLE_LINES + (resizes (own_data_at + n)).lines x.growth) u s to rest calling.next s.memory 0
-        (at_once (own_data_at + n) rg s.memory sized may.growth.heap) rp may.growth.unused may.growth.present may.has
+        (at_once (own_data_at + n) rg s.memory sized may.growth.heap) rp may.growth.unused may.growth.present (λ does. may.has)
         may.growth.word (resizes (own_data_at + n)) rg y2 g3 calling.given.0 (got rg.wanted may.growth.word) 8 ((resizes (own_data_at + n)).lines rg) 1
         (record { shown = refl; ended = refl; input = λ i. refl; left = λ other x. x; filled = λ other w y x. x; few = omega arith }) (omega arith)
         (Return 3 ∷ []) (λ m place low. gives_place live procs s to rest rp refl y2 (u.to + 4) rg.wanted m place low) to_resize

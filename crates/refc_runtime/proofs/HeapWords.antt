@@ -11,9 +11,8 @@ use Rattle.rv32_isa.specs.Image.{statics_at, heap_at}
 use Rattle.rv32_isa.specs.Words.{little, word_bytes}
 use Rattle.rv32_isa.specs.State.{State, lies_in, writable, put_bytes, filled}
 use Rattle.rv32_isa.specs.Steps.{number_of, low_bytes}
-use Rattle.rv32_isa.specs.Regions.{KeepsSizes}
 use Rattle.rv32_isa.proofs.ForCallers.{length-word_bytes}
-use Rattle.word_code.specs.Memory.{Memory, as_state, number_at, may_put, with_number, bytes_at}
+use Rattle.word_code.specs.Memory.{KeepsShape, Memory, as_state, number_at, may_put, with_number, bytes_at}
 use Rattle.word_code.specs.RoutineTable.{Cell, Beside, trap_line}
 use Rattle.word_code.proofs.ForCallers.{MemoryLaw, Sized, sizes_more, Changed, changed_word, put_here}
 use Rattle.nim_meaning.specs.Heap.{size_count}
@@ -133,7 +132,7 @@ stored_more at m middle other x y = record {
 }
 
 -- heap data where a range beside it, or one of its words, was changed
-still_data : (at : ℕ) (m other : Memory) → HasHeapData at m → KeepsSizes (as_state m) (as_state other)
+still_data : (at : ℕ) (m other : Memory) → HasHeapData at m → KeepsShape (as_state m) (as_state other)
     → bytes_at other (at + HEAP_WORD_BYTES) (length (trap_line OutOfMemory)) ≡ bytes_at m (at + HEAP_WORD_BYTES) (length (trap_line OutOfMemory))
     → HasHeapData at other
 still_data at m other x sizes line =

@@ -5,13 +5,13 @@ use Rattle.std.proofs.lemmas.Bool.{eq-eqb, cond-true}
 use Rattle.rv32_isa.specs.declared.micro_op.Size.TheVariants.{Byte}
 use Rattle.rv32_isa.specs.declared.machine.FaultKind.TheVariants.{Misaligned}
 use Rattle.rv32_isa.specs.Machine.{Lives}
-use Rattle.rv32_isa.specs.Regions.{HasRegions, KeepsSizes}
+use Rattle.rv32_isa.specs.Regions.{AreBytes, HasRegions}
 use Rattle.rv32_isa.specs.State.{State, readable, filled}
 use Rattle.rv32_isa.specs.Steps.{number_of}
 use Rattle.word_code.specs.declared.word.WordInstr.{WordInstr}
 use Rattle.word_code.specs.declared.word.WordInstr.TheVariants.{Read}
 use Rattle.word_code.specs.declared.word.WordProc.{WordProc}
-use Rattle.word_code.specs.Memory.{Memory, as_state, memory_of, number_at, bytes_at, may_fill, with_bytes}
+use Rattle.word_code.specs.Memory.{KeepsShape, Memory, as_state, memory_of, number_at, bytes_at, may_fill, with_bytes}
 use Rattle.word_code.specs.Words.{Vars, put, WordScene, Fails, using, reads, WordState, scene_of, settled, step}
 use Rattle.word_code.specs.RoutineTable.{IsRewritten}
 use Rattle.word_code.proofs.ForCallers.{MemoryLaw, Sized, one, Runs, Within, at as state_at}
@@ -25,16 +25,17 @@ unfolding state_with
 same_state t r p c =
     ap (λ x. state_with t x 0 []) (sym r) ∙ ap (λ x. state_with t t.regs x []) (sym p) ∙ ap (λ x. state_with t t.regs t.pc x) (sym c)
 
-module _ (law : MemoryLaw) (m : Memory) (sized : Sized m) (a : ℕ) (bytes : List ℕ) (may : may_fill m a (length bytes) ≡ true) where
-  kept : KeepsSizes (as_state m) (filled (as_state m) a bytes)
-  kept = law.sizes (as_state m) a bytes may
+module _ (law : MemoryLaw) (m : Memory) (sized : Sized m) (a : ℕ) (bytes : List ℕ) (may : may_fill m a (length bytes) ≡ true)
+    (are : AreBytes bytes) where
+  kept : KeepsShape (as_state m) (filled (as_state m) a bytes)
+  kept = law.sizes (as_state m) a bytes are may
 
   with_state : as_state (with_bytes m a bytes) ≡ filled (as_state m) a bytes
   with_state = same_state (filled (as_state m) a bytes) kept.regs kept.pc kept.code
 
   pub bytes_written : IsRewritten m (with_bytes m a bytes) a (length bytes)
   bytes_written = record {
-    sizes = subst (KeepsSizes (as_state m)) (sym with_state) kept;
+    sizes = subst (KeepsShape (as_state m)) (sym with_state) kept;
     beside = λ b n apart. ap (λ s. readable s b n) with_state ∙ law.elsewhere (as_state m) a bytes b n may apart;
   }
 

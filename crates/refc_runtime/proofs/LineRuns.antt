@@ -311,13 +311,14 @@ module _ (law : MemoryLaw) (live : Lives) (procs : List WordProc) (n : ℕ) (gro
         m2 = with_bytes m u.to (d ∷ [])
 
         regions2 : Sized m2
-        regions2 = bytes_sized law m x.regions u.to (d ∷ []) (chars.may_read_byte law live procs n grow_kept u s to rest sized input may m beside)
+        regions2 =
+            bytes_sized law m x.regions u.to (d ∷ []) (chars.may_read_byte law live procs n grow_kept u s to rest sized input may m beside) (d_small, tt)
 
         written2 : IsRewritten m m2 (u.to + 0) 1
         written2 =
             let e : u.to ≡ u.to + 0 = omega arith in
             subst (λ a. IsRewritten m m2 a 1) e (bytes_written law m x.regions u.to (d ∷ [])
-            (chars.may_read_byte law live procs n grow_kept u s to rest sized input may m beside))
+            (chars.may_read_byte law live procs n grow_kept u s to rest sized input may m beside) (d_small, tt))
 
         stage2 : StageAt w text m2 place
         stage2 = chars.stage_then law live procs n grow_kept u s to rest sized input may w text m m2 place 0 1 (omega arith) x beside regions2 written2
@@ -363,7 +364,7 @@ module _ (law : MemoryLaw) (live : Lives) (procs : List WordProc) (n : ℕ) (gro
             (then_runs live procs (run_past live procs (cl ds awaits) m2 q6 y1 no_words test.Equal 4 8 2 refl has.eight_is refl)
             (run_load live procs (cl ds awaits) m2 q7 y1 no_words 6 0 Byte has.zero_is
             (byte_read m2 u.to d (bytes_there law m x.regions u.to (d ∷ [])
-            (chars.may_read_byte law live procs n grow_kept u s to rest sized input may m beside))))))
+            (chars.may_read_byte law live procs n grow_kept u s to rest sized input may m beside) (d_small, tt))))))
 
         -- the character comes to the text, and the next one is looked at
         module _ (line left : List ℕ) (z : Vars) (has_z : Vs z place w.length) (five_z : z 5 ≡ Some ch) (four_z : z 4 ≡ Some 1) (six_z : z 6 ≡ Some d) (l : ℕ)

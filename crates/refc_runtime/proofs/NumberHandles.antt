@@ -126,7 +126,7 @@ module _ (law : MemoryLaw) (live : Lives) (procs : List WordProc) (n : ℕ) (joi
     text_join_comes =
         puts_comes law live procs n TEXT_JOIN JoiningTexts (λ x. x.to ∷ x.left ∷ x.right ∷ []) (λ x m. (joins_texts (own_data_at + n)).may x m) joined_text
         (λ x place. place) (λ x. HANDLE_LINES + (joins (own_data_at + n)).lines x.joining) u s to rest calling.next s.memory 0
-        (at_once (own_data_at + n) jg s.memory sized may.joining.growth.heap) jp may.joining.growth.unused may.joining.growth.present may.has
+        (at_once (own_data_at + n) jg s.memory sized may.joining.growth.heap) jp may.joining.growth.unused may.joining.growth.present (λ does. may.has)
         may.joining.growth.word (joins (own_data_at + n)) u.joining x3 g4 calling.given.0 wanted_is 12 ((joins (own_data_at + n)).lines u.joining) 1
         (record { shown = refl; ended = refl; input = λ i. refl; left = λ other x. x; filled = λ other w y x. x; few = omega arith }) (omega arith)
         (Return 3 ∷ []) (λ m place low. gives_place live procs s to rest jp refl x3 (u.to + 4) jg.wanted m place low) to_join
@@ -305,7 +305,7 @@ module _ (law : MemoryLaw) (live : Lives) (procs : List WordProc) (n : ℕ) (dig
       puts_it =
           let few = x.few in
           behind_comes law live procs n append_kept TEXT_OF_NUMBER NumberText (λ y. y.to ∷ y.word ∷ []) (λ y m. (puts_number own).may y m) number_text
-          (puts_number own).lines u appending refl s to rest calling.next np refl may.has x.memory 3 ready may_append (4 + (x.lines + 4))
+          (puts_number own).lines u appending refl s to rest calling.next np refl (λ does. may.has) x.memory 3 ready may_append (4 + (x.lines + 4))
           (omega (arith, few)) y6 calling.given.0 long_is (got place place_low) refl refl to_append
 
     pub text_of_number_comes : Comes live procs (puts_number own) u s to rest ((puts_number own).ends u)

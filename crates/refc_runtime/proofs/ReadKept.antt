@@ -8,6 +8,7 @@ use Rattle.arc_base.specs.Event.{writes}
 use Rattle.arc_base.specs.declared.outside.Stream.TheVariants.{Err}
 use Rattle.nim_program.specs.Traps.{OutOfMemory}
 use Rattle.nim_meaning.specs.OwnedRows.{up_to_feed, next_line}
+use Rattle.rv32_isa.specs.Regions.{AreBytes}
 use Rattle.rv32_isa.specs.declared.micro_op.Size.TheVariants.{Byte, Word as whole}
 use Rattle.rv32_isa.specs.declared.machine.FaultKind.TheVariants.{Misaligned}
 use Rattle.rv32_isa.specs.State.{writable}
@@ -110,6 +111,9 @@ module _ (law : MemoryLaw) (live : Lives) (procs : List WordProc) (n : ℕ) (gro
       abbrev beside0 : IsBesideText own u s.memory s.memory
       beside0 = record { sizes = sizes_same s.memory; beside = λ b k words heap cell. refl }
 
+      byte_small : AreBytes (ch ∷ [])
+      byte_small = (may.are.0, tt)
+
       byte_open : may_fill s.memory u.to 1 ≡ true
       byte_open = may_read_byte law live procs n grow_kept u s to rest sized (ch ∷ cs) may s.memory beside0
 
@@ -125,7 +129,7 @@ module _ (law : MemoryLaw) (live : Lives) (procs : List WordProc) (n : ℕ) (gro
       written1 : IsRewritten s.memory m1 (u.to + 0) 1
       written1 =
           let e : u.to ≡ u.to + 0 = omega arith in
-          subst (λ a. IsRewritten s.memory m1 a 1) e (bytes_written law s.memory sized u.to (ch ∷ []) byte_open)
+          subst (λ a. IsRewritten s.memory m1 a 1) e (bytes_written law s.memory sized u.to (ch ∷ []) byte_open byte_small)
 
       stage0 : StageAt law live procs n grow_kept u s to rest sized (ch ∷ cs) may w0 [] s.memory 0
       stage0 = record {
@@ -143,7 +147,7 @@ module _ (law : MemoryLaw) (live : Lives) (procs : List WordProc) (n : ℕ) (gro
       stage1 : StageAt law live procs n grow_kept u s to rest sized (ch ∷ cs) may w0 [] m1 0
       stage1 =
           stage_then law live procs n grow_kept u s to rest sized (ch ∷ cs) may w0 [] s.memory m1 0 0 1 (omega arith) stage0 beside0
-          (bytes_sized law s.memory sized u.to (ch ∷ []) byte_open) written1
+          (bytes_sized law s.memory sized u.to (ch ∷ []) byte_open byte_small) written1
 
       beside1 : BesideText law live procs n grow_kept u s to rest sized (ch ∷ cs) may m1
       beside1 = text_then law live procs n grow_kept u s to rest sized (ch ∷ cs) may s.memory m1 0 1 (omega arith) beside0 written1
@@ -164,7 +168,7 @@ module _ (law : MemoryLaw) (live : Lives) (procs : List WordProc) (n : ℕ) (gro
           (run_off live procs (c cs 0) m1 k7 (put v4 4 1) no_words test.Unequal 4 8 0 k8 refl refl refl refl) (then_runs live procs
           (run_label live procs (c cs 0) m1 k9 (put v4 4 1) no_words 0)
           (run_load live procs (c cs 0) m1 line_lines (put v4 4 1) no_words 5 0 Byte calling.given.0
-          (byte_read m1 u.to ch (bytes_there law s.memory sized u.to (ch ∷ []) byte_open))))))
+          (byte_read m1 u.to ch (bytes_there law s.memory sized u.to (ch ∷ []) byte_open byte_small))))))
 
       outcome : LineOutcome law live procs n grow_kept u s to rest sized (ch ∷ cs) may w0 [] ch cs from
       outcome =

@@ -19,7 +19,7 @@ use Rattle.word_code.proofs.ForCallers.{run_compute, run_store, run_argument, ru
 use Rattle.heap_memory.specs.declared.numbers.TheConstants.{GROW, RESIZE}
 use Rattle.heap_memory.specs.declared.numbers.TheConstants.{SEQ_ADD, SEQ_RESIZE, SEQ_NEW, SEQ_POP, HANDLE_LINES, SEQUENCE_LINES}
 use Rattle.heap_memory.specs.HeapRoutines.{IsBesideHeap, IsKeptThere, fits}
-use Rattle.heap_memory.specs.GrowRoutine.{Growing, taking, place_of, holds_it, IsPresent, MayGrow, GrowLeaves, grows}
+use Rattle.heap_memory.specs.GrowRoutine.{may_grow, Growing, taking, place_of, holds_it, IsPresent, MayGrow, GrowLeaves, grows}
 use Rattle.heap_memory.specs.AppendRoutine.{GrowthLeaves, resizes}
 use Rattle.heap_memory.specs.HandleRoutines.{MayHave, puts}
 use Rattle.heap_memory.specs.SequenceRoutines.{AddingElement, element_added, adds_element, ResizingSequence, most_payload, bytes_for, sequence_resized}
@@ -154,7 +154,7 @@ module _ (law : MemoryLaw) (live : Lives) (procs : List WordProc) (n : ℕ) (gro
     seq_add_comes =
         puts_comes law live procs n SEQ_ADD AddingElement (λ x. x.to ∷ x.size ∷ []) (λ x m. (adds_element (own_data_at + n)).may x m) element_added
         (λ x place. place + x.growth.kept) (λ x. HANDLE_LINES + (grows (own_data_at + n)).lines x.growth) u s to rest calling.next s.memory 0
-        (at_once (own_data_at + n) g s.memory sized may.growth.heap) ap_proc may.growth.unused may.growth.present may.has may.few (grows (own_data_at + n)) g v4 g3 calling.given.0 long_is 10
+        (at_once (own_data_at + n) g s.memory sized may.growth.heap) ap_proc may.growth.unused may.growth.present (λ does. may.has) may.few (grows (own_data_at + n)) g v4 g3 calling.given.0 long_is 10
         ((grows (own_data_at + n)).lines g) 2
         (record {
           shown = refl;
@@ -280,7 +280,8 @@ module _ (live : Lives) (procs : List WordProc) (c : Within) (m : Memory) (k : L
 
 module _ (law : MemoryLaw) (live : Lives) (procs : List WordProc) (n : ℕ) (resize_kept : IsKeptThere live procs (resizes (own_data_at + n))) (number : ℕ)
     (may_call : ResizingSequence → Memory → Type 0) (u : ResizingSequence) (s : WordState) (to : ℕ) (rest : List WordInstr)
-    (next : s.frame.left ≡ Call to number ∷ rest) (sized : Sized s.memory) (p : WordProc) (no_room : p.room ≡ 0) (has : MayHave s.memory u.to)
+    (next : s.frame.left ≡ Call to number ∷ rest) (sized : Sized s.memory) (p : WordProc) (no_room : p.room ≡ 0)
+    (has : may_grow u.growth ≡ true → MayHave s.memory u.to)
     (grow : MayGrow (own_data_at + n) u.growth s.memory) (some : 0 < u.size) (few : u.length < 2 ^ 32) (count : ℕ) (kept : u.growth.kept ≡ count * u.size)
     (wanted : u.growth.wanted ≡ bytes_for u.length u.size)
   where
@@ -387,7 +388,7 @@ module _ (law : MemoryLaw) (live : Lives) (procs : List WordProc) (n : ℕ) (res
         let less : u.count * 1 ≤ u.count * u.size = mul-le-mul_left u.count some in
         let count_small : u.count < 2 ^ 32 = omega (arith, kept, most, less) in
         sequence_comes law live procs n resize_kept SEQ_RESIZE (λ y m. (resizes_sequence (own_data_at + n)).may y m) u s to rest calling.next sized p refl
-        may.has may.growth may.some may.few u.count may.kept may.wanted 4 (omega arith) x1 calling.given.0 calling.given.1.0 calling.given.1.1.0
+        (λ does. may.has) may.growth may.some may.few u.count may.kept may.wanted 4 (omega arith) x1 calling.given.0 calling.given.1.0 calling.given.1.1.0
         (got u.count count_small) (got place smalls.0) refl
         (then_runs live procs (enters live procs s to rest n SEQ_RESIZE 3 7 seq_resize_lines others stands)
         (run_handle live procs c s.memory sized sequence_to_lines x0 no_words u.to u.count place may.to 3 4 0 calling.given.0 calling.given.0 refl))

@@ -2,8 +2,7 @@
 use Rattle.std.proofs.Common.{◌≡◌, ℕ, zero, suc, ◌+◌, ◌%◌, ◌≤◌, ◌⊎◌, inl, inr, Ok}
 use Rattle.std.proofs.Common.{refl, sym, ap, ◌∙◌, arith}
 use Rattle.rv32_isa.specs.declared.micro_op.Size.TheVariants.{Word}
-use Rattle.word_code.specs.Memory.{Memory, as_state, number_at, with_number, bytes_at}
-use Rattle.rv32_isa.specs.Regions.{KeepsSizes}
+use Rattle.word_code.specs.Memory.{KeepsShape, Memory, as_state, number_at, with_number, bytes_at}
 use Rattle.word_code.specs.RoutineTable.{Cell, Area, low, LowWords, Separate}
 use Rattle.word_code.proofs.ForCallers.{MemoryLaw, Sized, sizes_same, sizes_more, put_here, low_word, low_small, low_read, at_same, Apart, span, Changed}
 use Rattle.word_code.proofs.ForCallers.{changed_word}
@@ -20,7 +19,7 @@ with_traded (suc n) m left right = with_traded n (traded m left right) (left + 4
 
 -- what stands in memory behind it: the words of each range are where those of the other one were, and the rest is as before
 pub record Trade (m other : Memory) (left right bytes : ℕ) : Type 0 where
-  pub sizes : KeepsSizes (as_state m) (as_state other)
+  pub sizes : KeepsShape (as_state m) (as_state other)
   pub outside : (b : ℕ) → Apart b left bytes → Apart b right bytes → number_at other b Word ≡ number_at m b Word
   pub beside : (b n : ℕ) → (b + n ≤ left) ⊎ (left + bytes ≤ b) → (b + n ≤ right) ⊎ (right + bytes ≤ b)
       → bytes_at other b n ≡ bytes_at m b n

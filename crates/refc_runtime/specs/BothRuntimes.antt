@@ -1,5 +1,5 @@
 -- All routines that a program is joined with: those of the heap, and the others.
-use Rattle.std.specs.Prelude.{◌≤◌, ℕ, length}
+use Rattle.std.specs.Prelude.{◌≤◌, ℕ}
 use Rattle.word_code.specs.declared.word.WordCode.{WordCode}
 use Rattle.word_code.specs.Joined.{AreApart}
 use Rattle.word_code.specs.Runtime.{IsRuntime}
@@ -17,4 +17,3 @@ pub record AreRuntimes (heap others : WordCode) : Type 0 where
   pub heap_ranked : AreRanked rank heap.procs
   pub others_ranked : AreRanked rank others.procs
   pub chain : (number : ℕ) → rank number ≤ HEAP_CHAIN
-  pub many : HEAP_CHAIN ≤ length heap.procs

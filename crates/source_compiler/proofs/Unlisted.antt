@@ -12,8 +12,7 @@ use Rattle.nim_meaning.specs.State.{live}
 use Rattle.nim_meaning.specs.Acts.{costs, spending, elsewhere, at_exit}
 use Rattle.nim_meaning.specs.Here.{Calls}
 use Rattle.nim_meaning.specs.Meaning.{called, from_level, calls, exec_all, at_first, reported, meaning}
-use Rattle.plain_plan.specs.Plain.{plain_plan}
-use Rattle.plain_plan.specs.Sites.{IsPlainPlan}
+use Rattle.plain_plan.specs.Plain.{plain_plan, IsPlainPlan}
 use Rattle.rv32_isa.specs.Image.{Image}
 use Rattle.rv32_isa.specs.Machine.{machine}
 use Rattle.word_code.specs.Words.{word_meaning}

@@ -44,7 +44,7 @@ use Rattle.typing_laws.proofs.SoundKinds.{plain_as, selected, held}
 use Rattle.typing_laws.proofs.Right.{Right, RightValue, RightOperand, AllRight, ValuesRight, giving, as_value}
 use Rattle.typing_laws.proofs.Operators.{unary_right}
 use Rattle.typing_laws.proofs.Calls.{KnownFits, known_fits}
-use Rattle.typing_laws.proofs.Meanings.{call_right}
+use Rattle.typing_laws.proofs.Meanings.{call_right, conversion_right}
 use Rattle.typing_laws.proofs.Built.{small, tuple_rule_right, array_right, sequence_rule_right, construct_right, index_right, all_fielded}
 use Rattle.typing_laws.proofs.Covers.{enough}
 use Rattle.typing_laws.proofs.Chosen.{Decided, branch_is, decided_before, Before, none_before, one_before, if_right, Picks, no_picks, one_pick, case_right}
@@ -221,6 +221,8 @@ module _ (calls : CallsComputed) (preserved : Preserved) where
         )) k
     typed_right {env} {n = n} (R.t_new_sequence {at = at} {ty = ty} {os = os} b s h e) read here knows w =
         sure_ok (new_right here env knows.all calls n at ty os (spelled_sound s here knows) (operands_right h read.1 here knows)) e
+    typed_right {env} {n = n} (R.t_conversion {at = at} {ty = ty} f b s h i) read here knows w =
+        conversion_right here env knows.all n at ty (spelled_sound s here knows) (operands_right h read.1 here knows) i
     typed_right {n = n} (R.t_unary {at = at} {op = op} {v = v} h d e) read here knows w =
         sure_ok (unary_right here n at op v (value_right h read here knows tt)) e
     typed_right {env} {n = n} (R.t_dollar {at = at} h d c) read here knows w =

@@ -96,7 +96,7 @@ module _ (here : Here) where
           ap (λ o. is_base_of (declared_kind o) ty) f ∙ subst (λ u. same u ty ≡ true) (sym (some_one e)) (same_refl ty)
       by_fact s (Some (base t)) f e = never (sound.said s (base t) f)
 
-  conversion_right : (env : Env) → Knows here env → (n : ℕ) (at : Place) (ty : Ty) {os : List Operand} {e : Expr} → Sound here.facts ty
+  pub conversion_right : (env : Env) → Knows here env → (n : ℕ) (at : Place) (ty : Ty) {os : List Operand} {e : Expr} → Sound here.facts ty
       → AllRight here os → IsConversion env n at ty os e → Right here e
   conversion_right env knows n at ty s h (empty_object {all = all} {resource = resource} f) =
       record { typed = both (both (both (object ty (knows.said ty (fields all resource) f)) refl) refl) refl; sound = s }

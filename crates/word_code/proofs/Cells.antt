@@ -9,19 +9,47 @@ use Rattle.rv32_isa.specs.declared.machine.FaultKind.TheVariants.{Misaligned}
 use Rattle.rv32_isa.specs.Words.{little, word_bytes}
 use Rattle.rv32_isa.specs.State.{State, readable, writable, filled}
 use Rattle.rv32_isa.specs.Steps.{size_of, number_of, low_bytes}
-use Rattle.rv32_isa.specs.Regions.{HasRegions, KeepsSizes}
-use Rattle.word_code.specs.Memory.{Memory, as_state, memory_of, number_at, may_put, with_number, bytes_at}
+use Rattle.rv32_isa.specs.Regions.{AreBytes, HasRegions, KeepsSizes}
+use Rattle.word_code.specs.Memory.{KeepsShape, Memory, as_state, memory_of, number_at, may_put, with_number, bytes_at}
 use Rattle.word_code.specs.RoutineTable.{Beside, IsRewritten}
 
 -- what the law of the machine's memory says
 pub record MemoryLaw : Type 0 where
-  pub sizes : (s : State) (at : ℕ) (bytes : List ℕ) → writable s at (length bytes) ≡ true → KeepsSizes s (filled s at bytes)
-  pub regions : (s t : State) → HasRegions s → KeepsSizes s t → HasRegions t
-  pub stores : (s t : State) (at n : ℕ) → KeepsSizes s t → writable t at n ≡ writable s at n
+  pub sizes : (s : State) (at : ℕ) (bytes : List ℕ) → AreBytes bytes → writable s at (length bytes) ≡ true → KeepsShape s (filled s at bytes)
+  pub regions : (s t : State) → HasRegions s → KeepsShape s t → HasRegions t
+  pub stores : (s t : State) (at n : ℕ) → KeepsShape s t → writable t at n ≡ writable s at n
   pub here : (s : State) (at : ℕ) (bytes : List ℕ) → HasRegions s → writable s at (length bytes) ≡ true
       → readable (filled s at bytes) at (length bytes) ≡ Some bytes
   pub elsewhere : (s : State) (at : ℕ) (bytes : List ℕ) (other n : ℕ) → writable s at (length bytes) ≡ true
       → (other + n ≤ at) ⊎ (at + length bytes ≤ other) → readable (filled s at bytes) other n ≡ readable s other n
+
+-- by what the machine's law says of sizes
+pub law_by : ((s : State) (at : ℕ) (bytes : List ℕ) → writable s at (length bytes) ≡ true → KeepsSizes s (filled s at bytes))
+    → ((s : State) (at : ℕ) (bytes : List ℕ) → AreBytes bytes → AreBytes s.heap → AreBytes (filled s at bytes).heap)
+    → ((s t : State) → HasRegions s → KeepsSizes s t → HasRegions t) → ((s t : State) (at n : ℕ) → KeepsSizes s t → writable t at n ≡ writable s at n)
+    → ((s : State) (at : ℕ) (bytes : List ℕ) → HasRegions s → writable s at (length bytes) ≡ true
+    → readable (filled s at bytes) at (length bytes) ≡ Some bytes)
+    → ((s : State) (at : ℕ) (bytes : List ℕ) (other n : ℕ) → writable s at (length bytes) ≡ true
+    → (other + n ≤ at) ⊎ (at + length bytes ≤ other) → readable (filled s at bytes) other n ≡ readable s other n)
+    → MemoryLaw
+law_by sizes bytes regions stores here elsewhere = record {
+  sizes = λ s at put are may. let k = sizes s at put may in record {
+    regs = k.regs;
+    pc = k.pc;
+    code = k.code;
+    statics = k.statics;
+    heap = k.heap;
+    stack = k.stack;
+    bytes = bytes s at put are;
+  };
+  regions = λ s t h k. regions s t h (sizes_in s t k);
+  stores = λ s t at n k. stores s t at n (sizes_in s t k);
+  here = here;
+  elsewhere = elsewhere;
+}
+  where
+    sizes_in : (s t : State) → KeepsShape s t → KeepsSizes s t
+    sizes_in s t k = record { regs = k.regs; pc = k.pc; code = k.code; statics = k.statics; heap = k.heap; stack = k.stack }
 
 -- memory whose regions are as large as the machine's
 abbrev pub Sized : Memory → Type 0
@@ -46,13 +74,19 @@ little-low : (w : ℕ) → w < 2 ^ 32 → little (low_bytes Word w) ≡ w
 unfolding word_bytes
 little-low w h = omega arith
 
+low_are : (size : Size) (w : ℕ) → AreBytes (low_bytes size w)
+unfolding word_bytes
+low_are Byte w = (omega arith, tt)
+low_are Half w = (omega arith, (omega arith, tt))
+low_are Word w = (omega arith, (omega arith, (omega arith, (omega arith, tt))))
+
 -- ---- sizes that stay
 
-pub sizes_same : (m : Memory) → KeepsSizes (as_state m) (as_state m)
-sizes_same m = record { regs = refl; pc = refl; code = refl; statics = refl; heap = refl; stack = refl }
+pub sizes_same : (m : Memory) → KeepsShape (as_state m) (as_state m)
+sizes_same m = record { regs = refl; pc = refl; code = refl; statics = refl; heap = refl; stack = refl; bytes = λ old. old }
 
-pub sizes_more : (m middle other : Memory) → KeepsSizes (as_state m) (as_state middle) → KeepsSizes (as_state middle) (as_state other)
-    → KeepsSizes (as_state m) (as_state other)
+pub sizes_more : (m middle other : Memory) → KeepsShape (as_state m) (as_state middle) → KeepsShape (as_state middle) (as_state other)
+    → KeepsShape (as_state m) (as_state other)
 sizes_more m middle other x y = record {
   regs = refl;
   pc = refl;
@@ -60,6 +94,7 @@ sizes_more m middle other x y = record {
   statics = y.statics ∙ x.statics;
   heap = y.heap ∙ x.heap;
   stack = y.stack ∙ x.stack;
+  bytes = λ old. y.bytes (x.bytes old);
 }
 
 -- ---- a number is put
@@ -68,8 +103,8 @@ module _ (law : MemoryLaw) (m : Memory) (a : ℕ) (size : Size) (w : ℕ) (sized
   open_range : writable (as_state m) a (length (low_bytes size w)) ≡ true
   open_range = ap (λ n. writable (as_state m) a n) (length-low size w) ∙ (and_parts _ _ may).1
 
-  kept : KeepsSizes (as_state m) (filled (as_state m) a (low_bytes size w))
-  kept = law.sizes (as_state m) a (low_bytes size w) open_range
+  kept : KeepsShape (as_state m) (filled (as_state m) a (low_bytes size w))
+  kept = law.sizes (as_state m) a (low_bytes size w) (low_are size w) open_range
 
   -- the memory behind the store, as a state
   put_state : as_state (with_number m a size w) ≡ filled (as_state m) a (low_bytes size w)
@@ -81,7 +116,7 @@ module _ (law : MemoryLaw) (m : Memory) (a : ℕ) (size : Size) (w : ℕ) (sized
       ∙ law.elsewhere (as_state m) a (low_bytes size w) b n open_range (subst (λ k. Beside b n a k) (sym (length-low size w)) apart)
 
   pub store_rewritten : IsRewritten m (with_number m a size w) a (size_of size)
-  store_rewritten = record { sizes = subst (KeepsSizes (as_state m)) (sym put_state) kept; beside = put_reads }
+  store_rewritten = record { sizes = subst (KeepsShape (as_state m)) (sym put_state) kept; beside = put_reads }
 
   pub store_sized : Sized (with_number m a size w)
   store_sized = subst HasRegions (sym put_state) (law.regions _ _ sized kept)

@@ -2,8 +2,7 @@
 use Rattle.std.proofs.Common.{◌≡◌, ℕ, zero, suc, ◌+◌, ◌*◌, ◌%◌, ◌^◌, ◌<◌, ◌≤◌, ◌⊎◌, inl, inr, Ok, refl, sym, ap}
 use Rattle.std.proofs.Common.{◌∙◌, arith}
 use Rattle.rv32_isa.specs.declared.micro_op.Size.TheVariants.{Word}
-use Rattle.word_code.specs.Memory.{Memory, as_state, number_at, with_number, bytes_at}
-use Rattle.rv32_isa.specs.Regions.{KeepsSizes}
+use Rattle.word_code.specs.Memory.{KeepsShape, Memory, as_state, number_at, with_number, bytes_at}
 use Rattle.word_code.specs.RoutineTable.{Cell, Area, low, LowWords, Separate, IsRewritten}
 use Rattle.word_code.proofs.Cells.{MemoryLaw, Sized, sizes_same, sizes_more, put_sized, put_rewritten, put_here, put_elsewhere}
 use Rattle.word_code.proofs.Areas.{put_cell, put_area, low_word, low_small, got_low, with_copied}
@@ -32,7 +31,7 @@ SameOutside m other at n = (b : ℕ) → Apart b at n → number_at other b Word
 -- what stands in memory behind a change of a range: the rest as before, and the same words may be read and written
 pub record Changed (m other : Memory) (at bytes : ℕ) : Type 0 where
   pub sized : Sized other
-  pub sizes : KeepsSizes (as_state m) (as_state other)
+  pub sizes : KeepsShape (as_state m) (as_state other)
   pub cells : (b : ℕ) → Cell m b → Cell other b
   pub outside : SameOutside m other at bytes
   pub beside : (b n : ℕ) → (b + n ≤ at) ⊎ (at + bytes ≤ b) → bytes_at other b n ≡ bytes_at m b n

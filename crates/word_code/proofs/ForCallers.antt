@@ -8,7 +8,7 @@ pub use Rattle.word_code.proofs.WordRuns.{run_label, spends_if, run_unspent, run
 pub use Rattle.word_code.proofs.WordRuns.{run_sum, run_compute, run_load, run_store}
 pub use Rattle.word_code.proofs.WordRuns.{run_argument, run_past, run_off, run_jump, run_write}
 -- ---- numbers in memory
-pub use Rattle.word_code.proofs.Cells.{MemoryLaw, Sized, sizes_same, sizes_more, store_rewritten, store_sized, store_here, put_sized, put_here}
+pub use Rattle.word_code.proofs.Cells.{MemoryLaw, law_by, Sized, sizes_same, sizes_more, store_rewritten, store_sized, store_here, put_sized, put_here}
 pub use Rattle.word_code.proofs.Areas.{aligned, put_cell, put_area, low_word, low_small, got_low, with_copied}
 pub use Rattle.word_code.proofs.CopiedWords.{at_same, Apart, span, span_is, SameOutside, Changed, changed_none, changed_rewritten, changed_more}
 pub use Rattle.word_code.proofs.CopiedWords.{low_read, changed_word, CopiedTo, separate_on, copied_to}

@@ -1,8 +1,9 @@
 -- The memory of word code: data, heap and the places of calls. It is read and written as the machine's is.
-use Rattle.std.specs.Prelude.{ℕ, zero, suc, ◌+◌, ◌-◌, ◌%◌, List, [], ◌++◌, length, take, replicate, Bool, Option, Result, ◌==◌, ◌&&◌}
+use Rattle.std.specs.Prelude.{◌≡◌, ℕ, zero, suc, ◌+◌, ◌-◌, ◌%◌, List, [], ◌++◌, length, take, replicate, Bool, Option, Result, ◌==◌, ◌&&◌}
 use Rattle.rv32_isa.specs.declared.micro_op.Size.{Size}
 use Rattle.rv32_isa.specs.declared.machine.FaultKind.{FaultKind}
 use Rattle.rv32_isa.specs.Image.{statics_at}
+use Rattle.rv32_isa.specs.Regions.{AreBytes}
 use Rattle.rv32_isa.specs.Words.{word_bytes}
 use Rattle.rv32_isa.specs.State.{State, readable, writable, filled}
 use Rattle.rv32_isa.specs.Steps.{size_of, found, low_bytes}
@@ -16,6 +17,16 @@ pub record Memory : Type 0 where
 -- a machine without registers and code that has this memory
 abbrev pub as_state : Memory → State
 as_state m = record { regs = []; pc = 0; code = []; statics = m.statics; heap = m.heap; stack = m.places }
+
+-- Registers, program counter and code stay, and so do the sizes of the other regions; and a heap of bytes stays one.
+pub record KeepsShape (old new : State) : Type 0 where
+  pub regs : new.regs ≡ old.regs
+  pub pc : new.pc ≡ old.pc
+  pub code : new.code ≡ old.code
+  pub statics : length new.statics ≡ length old.statics
+  pub heap : length new.heap ≡ length old.heap
+  pub stack : length new.stack ≡ length old.stack
+  pub bytes : AreBytes old.heap → AreBytes new.heap
 
 abbrev pub memory_of : State → Memory
 memory_of s = record { statics = s.statics; heap = s.heap; places = s.stack }

@@ -6,13 +6,12 @@ use Rattle.arc_base.specs.declared.outside.Stream.TheVariants.{Out, Err}
 use Rattle.arc_base.specs.Event.{writes}
 use Rattle.rv32_isa.specs.declared.machine.FaultKind.{FaultKind}
 use Rattle.rv32_isa.specs.declared.micro_op.Size.TheVariants.{Word}
-use Rattle.rv32_isa.specs.Regions.{KeepsSizes}
 use Rattle.rv32_isa.specs.Values.{signed}
 use Rattle.nim_program.specs.Traps.{Trap, Overflow, DivisionByZero, IndexOutOfBounds, OutOfRange, NilDereference, LengthChanged, CallDepth}
 use Rattle.nim_program.specs.Traps.{OutOfMemory, trap_text}
 use Rattle.word_code.specs.declared.routine.TheConstants.{COPY, CLEAR, SWAP, NUMBER, TRAPS_FROM, SCRATCH_BYTES}
 use Rattle.word_code.specs.declared.routine.TheConstants.{MOVE_LINES, COPY_LINES, CLEAR_LINES, SWAP_LINES, NUMBER_LINES, DIGIT_LINES, TRAP_LINES}
-use Rattle.word_code.specs.Memory.{Memory, as_state, number_at, may_put, bytes_at}
+use Rattle.word_code.specs.Memory.{KeepsShape, Memory, as_state, number_at, may_put, bytes_at}
 use Rattle.word_code.specs.Routines.{Routine}
 
 -- ---- words in memory
@@ -55,7 +54,7 @@ Beside b n at bytes = (b + n ≤ at) ⊎ (at + bytes ≤ b)
 
 -- only a range is other than it was
 pub record IsRewritten (m other : Memory) (at bytes : ℕ) : Type 0 where
-  pub sizes : KeepsSizes (as_state m) (as_state other)
+  pub sizes : KeepsShape (as_state m) (as_state other)
   pub beside : (b n : ℕ) → Beside b n at bytes → bytes_at other b n ≡ bytes_at m b n
 
 -- ---- words are moved: the first one, and so many behind it
@@ -112,7 +111,7 @@ clears = record {
 }
 
 pub record AreSwapped (u : Moving) (m other : Memory) : Type 0 where
-  pub sizes : KeepsSizes (as_state m) (as_state other)
+  pub sizes : KeepsShape (as_state m) (as_state other)
   pub beside : (b n : ℕ) → Beside b n u.to (bytes_moved u) → Beside b n u.from (bytes_moved u) → bytes_at other b n ≡ bytes_at m b n
   pub there : LowWords m u.from other u.to (bytes_moved u)
   pub back : LowWords m u.to other u.from (bytes_moved u)

@@ -7,7 +7,7 @@ use Rattle.nim_meaning.specs.Values.{Standing}
 use Rattle.nim_meaning.specs.Places.{root_of, through_slot}
 use Rattle.nim_meaning.specs.State.{is_seen, load}
 use Rattle.flat_code.specs.declared.block.BlockLine.{BlockLine}
-use Rattle.flat_code.specs.Fits.{is_own, is_standing}
+use Rattle.flat_code.specs.Fits.{is_standing}
 use Rattle.flat_code.specs.Codes.{block_plain}
 use Rattle.flat_code.specs.Scene.{Where, Located, location_at}
 use Rattle.flat_code.specs.Shapes.{Shape, row, shape_of}
@@ -16,30 +16,33 @@ use Rattle.word_lowering.specs.declared.homes.Alias.TheVariants as alias
 use Rattle.word_lowering.specs.declared.homes.Home.{Home}
 use Rattle.word_lowering.specs.declared.homes.Home.TheVariants.{Variable, Placed, Static}
 use Rattle.word_lowering.specs.declared.homes.Housed.{Housed}
-use Rattle.word_lowering.specs.Layouts.{is_address}
+use Rattle.word_lowering.specs.Layouts.{holds_address, owns}
 use Rattle.word_lowering.specs.LineCode.{location, named, place, variable_in, variable_of, Around}
 use Rattle.word_code.proofs.ForCallers.{at}
 use Rattle.word_lowering.proofs.ControlLines.{plain}
 use Rattle.word_lowering.proofs.HandedPlaces.{handed_among, is_addressed}
 use Rattle.word_lowering.specs.Aliases.{handed_by, places_in, handed_in, is_among}
-use Rattle.word_lowering.proofs.Keeping.{declared_address, location_address, points_there}
+use Rattle.word_lowering.proofs.Keeping.{declared_address, location_address, points_there, spot_address, spot_memory, waiting_inside, node_look}
 use Rattle.word_lowering.proofs.Lines.{Basis, IsGood, all_sites, starts}
 use Rattle.word_lowering.proofs.Located.{RowRead, led_row}
 use Rattle.word_lowering.proofs.MovedLines.{own_plain}
 use Rattle.word_lowering.proofs.Moves.{IsHigh}
 use Rattle.word_lowering.proofs.ReadFacts.{global_root, own_root}
 use Rattle.word_lowering.proofs.Related.{Both, body_of, within}
-use Rattle.word_lowering.proofs.Scenes.{Leads, Filled, FromOwned, owned_leads, IsInValue, IsLedBy, IsNamed, IsRoot, IsThere, Name, Points, address_of, house, looked}
-use Rattle.word_lowering.proofs.Scenes.{of_location, of_place, of_value}
-use Rattle.word_lowering.proofs.ShapeFacts.{never, of_numbers}
-use Rattle.word_lowering.proofs.Sites.{Housing, InMemory, IsHoused, around, by_address, data_end, in_data, in_places, in_variable, is_one_word, room}
+use Rattle.word_lowering.proofs.Scenes.{Leads, Filled, IsInValue, IsLedBy, IsNamed, IsRoot, IsThere, Name, Points, address_of, house, LeadsHere}
+use Rattle.word_lowering.proofs.Scenes.{looked}
+use Rattle.word_lowering.proofs.Scenes.{of_location, of_place, of_value, of_waiting}
+use Rattle.word_lowering.proofs.ShapeFacts.{never}
+use Rattle.word_lowering.proofs.Sites.{Housing, InMemory, around, by_address, data_end, in_data, in_places, in_variable, is_one_word, room}
 use Rattle.word_lowering.proofs.Sites.{type_of, lines_of}
 use Rattle.word_lowering.proofs.SitesApart.{houses}
-use Rattle.word_lowering.proofs.ValueFacts.{has_type, location_of_numbers, look_of, place_there, value_plain, value_there}
+use Rattle.word_lowering.proofs.ValueFacts.{has_type, homed_plain, housed_inside, look_of, place_there, value_plain, IsHomed, IsPlain}
 use Rattle.word_lowering.specs.declared.homes.TheConstants.{OWN_FROM}
 use Rattle.word_lowering.specs.declared.texts.TheConstants.{FIXED_BYTES}
+use Rattle.word_lowering.specs.Spots.{spot_of}
+use Rattle.word_lowering.specs.declared.spots.Spot.TheVariants.{Lies}
 
-high_in_memory : (home : Home) → InMemory home → IsHigh home
+pub high_in_memory : (home : Home) → InMemory home → IsHigh home
 high_in_memory (Variable v) i = absurd i
 high_in_memory (Placed at) i = tt
 high_in_memory (Static at) i = tt
@@ -52,6 +55,7 @@ module _ (x : Basis) (g : Both) (line : BlockLine) (rest : List BlockLine) (y : 
   pub record AtAddress (h : Housed) (there : Where) (s : Shape) : Type 0 where
     pub home : Home
     pub home_is : h.home ≡ home
+    pub lies : spot_of h ≡ Lies home
     pub high_is : IsHigh home
     pub address : ℕ
     pub points : Points g.call.site.base g.call.vars home address
@@ -61,10 +65,11 @@ module _ (x : Basis) (g : Both) (line : BlockLine) (rest : List BlockLine) (y : 
   record AddressIn (f : Name) (a : ℕ) : Type 0 where
     variable_is : ℕ
     home : (house g.call.site f).home ≡ Variable variable_is
+    spot : spot_of (house g.call.site f) ≡ Lies (Variable variable_is)
     high_is : OWN_FROM ≤ variable_is
     points : g.call.vars variable_is ≡ Some a
 
-  address_in : (f : Name) (a : ℕ) → IsThere g.call.site f → is_address (house g.call.site f).kind ≡ true
+  address_in : (f : Name) (a : ℕ) → IsThere g.call.site f → holds_address (house g.call.site f) ≡ true
       → g.call.vars (variable_of (house g.call.site f)) ≡ Some a → AddressIn f a
   address_in f a there address is = by (houses x.table x.blocks g.call.site f y.linked.0 there).where_is
     where
@@ -73,6 +78,7 @@ module _ (x : Basis) (g : Both) (line : BlockLine) (rest : List BlockLine) (y : 
       by (by_address v e k least) = record {
         variable_is = v;
         home = e;
+        spot = spot_address (house g.call.site f) v address e;
         high_is = least;
         points = ap g.call.vars (sym (ap variable_in e)) ∙ is;
       }
@@ -80,30 +86,22 @@ module _ (x : Basis) (g : Both) (line : BlockLine) (rest : List BlockLine) (y : 
       by (in_data m e plain whole least within start) = never (sym plain ∙ address)
 
   -- what is no word is in memory
-  pub in_memory : (f : Name) → IsThere g.call.site f → is_address (house g.call.site f).kind ≡ false
+  pub in_memory : (f : Name) → IsThere g.call.site f → holds_address (house g.call.site f) ≡ false
       → is_one_word (looked x.table g.call.site f) ≡ false → InMemory (house g.call.site f).home
-  in_memory f there plain_is many = by h.where_is
-    where
-      h : IsHoused x.table x.blocks (body_of g) (house g.call.site f)
-      h = houses x.table x.blocks g.call.site f y.linked.0 there
-
-      by : Housing (room (body_of g)) FIXED_BYTES (data_end x.table x.blocks) (body_of g).start (house g.call.site f) → InMemory (house g.call.site f).home
-      by (in_variable v e p least w) = never (sym many ∙ (h.word ∙ w))
-      by (by_address v e k least) = never (sym plain_is ∙ k)
-      by (in_places m e p whole within) = subst InMemory (sym e) tt
-      by (in_data m e p whole least within start) = subst InMemory (sym e) tt
+  in_memory f there plain_is many =
+      housed_inside x (body_of g) (house g.call.site f) (houses x.table x.blocks g.call.site f y.linked.0 there) plain_is many
 
   -- where own places of the call and values that it may lead to are in memory
   record IsReached (t : ℕ) : Type 0 where
     place : (p : ℕ) → (house g.call.site (of_location t)).alias ≡ alias.Place p false → IsThere g.call.site (of_place p)
-        → is_own (house g.call.site (of_place p)).kind ≡ true → looked x.table g.call.site (of_place p) ≡ looked x.table g.call.site (of_location t)
+        → owns (house g.call.site (of_place p)) ≡ true → looked x.table g.call.site (of_place p) ≡ looked x.table g.call.site (of_location t)
         → InMemory (house g.call.site (of_place p)).home
     value : (u : ℕ) → (house g.call.site (of_location t)).alias ≡ alias.Value u → IsThere g.call.site (of_value u)
         → looked x.table g.call.site (of_value u) ≡ looked x.table g.call.site (of_location t) → InMemory (house g.call.site (of_value u)).home
 
-  at_reached : (t : ℕ) (there : Where) → IsNamed g.call.site (of_location t) → g.call.temps.places t ≡ Some there → IsReached t
+  at_reached : (t : ℕ) (there : Where) → IsNamed g.call.site (of_location t) → IsHomed x g.call.site t → g.call.temps.places t ≡ Some there → IsReached t
       → AtAddress (location here t) there (looked x.table g.call.site (of_location t))
-  at_reached t there n e reached = by (house g.call.site (of_location t)).alias refl (y.hold.0.led t there n e)
+  at_reached t there n homed e reached = by (house g.call.site (of_location t)).alias refl (y.hold.0.led t there n e)
     where
       s : Shape
       s = looked x.table g.call.site (of_location t)
@@ -132,6 +130,7 @@ module _ (x : Basis) (g : Both) (line : BlockLine) (rest : List BlockLine) (y : 
           (subst (λ h. AtAddress h there s) same (record {
             home = (house site0 (of_place p)).home;
             home_is = refl;
+            lies = spot_memory (house site0 (of_place p)) u.root.item.plain u.home;
             high_is = high_in_memory (house site0 (of_place p)).home u.home;
             address = address_of site0.base (house site0 (of_place p)).home;
             points = points;
@@ -158,12 +157,12 @@ module _ (x : Basis) (g : Both) (line : BlockLine) (rest : List BlockLine) (y : 
           = r.is ∙ ap (λ k. Located (root_of (Standing k p) g.world)) r.level in
           let look = look_of x g.call.site (of_place p) own_ty typed in
           as_location (alias.Place p false) is
-          (of_call p is there_is look filled at_l (cases_Bool (is_own (house g.call.site (of_place p)).kind)))
+          (of_call p is there_is look filled at_l (cases_Bool (owns (house g.call.site (of_place p)))))
         where
           of_call : (p : ℕ) → (house g.call.site (of_location t)).alias ≡ alias.Place p false → IsThere g.call.site (of_place p)
               → looked x.table g.call.site (of_place p) ≡ s → Filled g.world g.call.site.level p
               → there ≡ Located (root_of (Standing g.call.site.level p) g.world)
-              → (is_own (house g.call.site (of_place p)).kind ≡ true) ⊎ (is_own (house g.call.site (of_place p)).kind ≡ false)
+              → (owns (house g.call.site (of_place p)) ≡ true) ⊎ (owns (house g.call.site (of_place p)) ≡ false)
               → AtAddress (house g.call.site (of_place p)) there s
           of_call p is there_is look filled at_l (inl own) =
               let v = (y.hold.0.filled p there_is filled).own own in
@@ -171,6 +170,7 @@ module _ (x : Basis) (g : Both) (line : BlockLine) (rest : List BlockLine) (y : 
               record {
                 home = (house g.call.site (of_place p)).home;
                 home_is = refl;
+                lies = spot_memory (house g.call.site (of_place p)) (own_plain (house g.call.site (of_place p)) own) inside;
                 high_is = high_in_memory (house g.call.site (of_place p)).home inside;
                 address = address_of g.call.site.base (house g.call.site (of_place p)).home;
                 points = points_there g.call.site.base g.call.vars (house g.call.site (of_place p)).home inside;
@@ -191,29 +191,29 @@ module _ (x : Basis) (g : Both) (line : BlockLine) (rest : List BlockLine) (y : 
               }
           of_call p is there_is look filled at_l (inr no_own) =
               let v = (y.hold.0.filled p there_is filled).other no_own in
-              let q = address_in (of_place p) v.address there_is (declared_address (house g.call.site (of_place p)).kind there_is.kind no_own) v.holds in
+              let q = address_in (of_place p) v.address there_is (declared_address (house g.call.site (of_place p)) there_is.kind no_own) v.holds in
               let same : there ≡ Located v.location = at_l ∙ ap Located (ap (through_slot (Standing g.call.site.level p)) v.slot) in
               record {
                 home = Variable q.variable_is;
                 home_is = q.home;
+                lies = q.spot;
                 high_is = q.high_is;
                 address = v.address;
                 points = q.points;
                 leads_to = subst (λ w. Leads x.table x.blocks (all_sites x g line rest y) g.ground g.world g.call.site g.call.temps w v.address s) (sym same)
-                    (owned_leads x.table x.blocks
-                    (subst (λ k. FromOwned x.table (all_sites x g line rest y) g.ground g.world v.location v.address k) look v.leads));
+                    (subst (λ k. LeadsHere x.table x.blocks (all_sites x g line rest y) g.ground g.world v.location v.address k) look v.leads);
               }
 
       by_value : (u : ℕ) → (house g.call.site (of_location t)).alias ≡ alias.Value u → IsInValue x.table g.call u there → AtAddress (location here t) there s
       by_value u is r =
           let typed = has_type x g.call.site (of_value u) own_ty y.linked.0 (y.linked.0.valued t u n is).0 in
           let look = look_of x g.call.site (of_value u) own_ty typed in
-          let there_is = value_there x g.call.site u y.linked.0 typed.named
-          (ap of_numbers look ∙ location_of_numbers x g.call.site t y.linked.0 n) in
+          let there_is = homed u is in
           let inside = reached.value u is there_is look in
           as_location (alias.Value u) is (record {
             home = (house g.call.site (of_value u)).home;
             home_is = refl;
+            lies = spot_memory (house g.call.site (of_value u)) (value_plain (house g.call.site (of_value u)) there_is.kind) inside;
             high_is = high_in_memory (house g.call.site (of_value u)).home inside;
             address = address_of g.call.site.base (house g.call.site (of_value u)).home;
             points = points_there g.call.site.base g.call.vars (house g.call.site (of_value u)).home inside;
@@ -233,10 +233,11 @@ module _ (x : Basis) (g : Both) (line : BlockLine) (rest : List BlockLine) (y : 
           → AtAddress (location here t) there s
       by alias.Own is r =
           let there_is : IsThere g.call.site (of_location t) = record { among = n.among; number = n.number; kind = n.kind; own = is } in
-          let q = address_in (of_location t) r.address there_is (location_address (house g.call.site (of_location t)).kind n.kind) r.holds in
+          let q = address_in (of_location t) r.address there_is (location_address (house g.call.site (of_location t)) n.kind) r.holds in
           as_location alias.Own is (record {
             home = Variable q.variable_is;
             home_is = q.home;
+            lies = q.spot;
             high_is = q.high_is;
             address = r.address;
             points = q.points;
@@ -244,23 +245,50 @@ module _ (x : Basis) (g : Both) (line : BlockLine) (rest : List BlockLine) (y : 
           })
       by (alias.Place p global) is r = by_place p global is r
       by (alias.Value u) is r = by_value u is r
+      by (alias.Node m) is r =
+          let inside = waiting_inside g.call.site m r.is_there in
+          as_location (alias.Node m) is (record {
+            home = (house g.call.site (of_waiting m)).home;
+            home_is = refl;
+            lies = spot_memory (house g.call.site (of_waiting m)) (value_plain (house g.call.site (of_waiting m)) r.is_there.kind) inside;
+            high_is = high_in_memory (house g.call.site (of_waiting m)).home inside;
+            address = address_of g.call.site.base (house g.call.site (of_waiting m)).home;
+            points = points_there g.call.site.base g.call.vars (house g.call.site (of_waiting m)).home inside;
+            leads_to = subst (λ w. Leads x.table x.blocks (all_sites x g line rest y) g.ground g.world g.call.site g.call.temps w
+                (address_of g.call.site.base (house g.call.site (of_waiting m)).home) s) (sym r.is) (inr (inr (inr (record {
+                  site = g.call.site;
+                  among = inl refl;
+                  node = m;
+                  base = refl;
+                  there = r.is_there;
+                  offset = 0;
+                  path = (refl, node_look x.table g.call.site t m there r);
+                  address = omega arith;
+                }))));
+          })
       by (alias.Text m size) is r = absurd r
 
   -- what is no word
-  pub at_address : (t : ℕ) (there : Where) → IsNamed g.call.site (of_location t) → g.call.temps.places t ≡ Some there
+  pub at_homed : (t : ℕ) (there : Where) → IsNamed g.call.site (of_location t) → IsHomed x g.call.site t → g.call.temps.places t ≡ Some there
       → is_one_word (looked x.table g.call.site (of_location t)) ≡ false
       → AtAddress (location here t) there (looked x.table g.call.site (of_location t))
-  at_address t there n e many = at_reached t there n e (record {
-    place = λ p is there_is own look. in_memory (of_place p) there_is (own_plain (house g.call.site (of_place p)).kind own) (ap is_one_word look ∙ many);
-    value = λ u is there_is look. in_memory (of_value u) there_is (value_plain (house g.call.site (of_value u)).kind there_is.kind)
+  at_homed t there n homed e many = at_reached t there n homed e (record {
+    place = λ p is there_is own look. in_memory (of_place p) there_is (own_plain (house g.call.site (of_place p)) own) (ap is_one_word look ∙ many);
+    value = λ u is there_is look. in_memory (of_value u) there_is (value_plain (house g.call.site (of_value u)) there_is.kind)
         (ap is_one_word look ∙ many);
   })
 
+  pub at_address : (t : ℕ) (there : Where) → IsNamed g.call.site (of_location t) → IsPlain x g.call.site (of_location t)
+      → g.call.temps.places t ≡ Some there → is_one_word (looked x.table g.call.site (of_location t)) ≡ false
+      → AtAddress (location here t) there (looked x.table g.call.site (of_location t))
+  at_address t there n plain e many = at_homed t there n (homed_plain x g.call.site t y.linked.0 n plain) e many
+
   -- what may be written, where the line hands on its address
-  pub handed_at : (t : ℕ) (there : Where) → IsNamed g.call.site (of_location t) → g.call.temps.places t ≡ Some there
+  pub handed_at : (t : ℕ) (there : Where) → IsNamed g.call.site (of_location t) → IsPlain x g.call.site (of_location t)
+      → g.call.temps.places t ≡ Some there
       → is_standing (house g.call.site (of_location t)).kind ≡ true → is_among t (places_in (handed_by (block_plain line))) ≡ true
       → AtAddress (location here t) there (looked x.table g.call.site (of_location t))
-  handed_at t there n e standing handed = at_reached t there n e (record {
+  handed_at t there n plain e standing handed = at_reached t there n (homed_plain x g.call.site t y.linked.0 n plain) e (record {
     place = λ p is there_is own look. y.linked.0.addressed p (is_addressed x.table x.blocks (body_of g) y.linked.0 t p n is among)
         (record { among = there_is.among; number = there_is.number; kind = there_is.kind }) own;
     value = λ u is there_is look. never (sym (y.linked.0.valued t u n is).1 ∙ standing);
@@ -270,10 +298,11 @@ module _ (x : Basis) (g : Both) (line : BlockLine) (rest : List BlockLine) (y : 
       among = subst (λ l. is_among t (handed_in (map block_plain l)) ≡ true) (sym y.stands.whole) (handed_among t y.stands.before line rest handed)
 
   -- an array there
-  pub read_row : (t : ℕ) (there : Where) → IsNamed g.call.site (of_location t) → g.call.temps.places t ≡ Some there → (count : ℕ) (of : Shape)
+  pub read_row : (t : ℕ) (there : Where) → IsNamed g.call.site (of_location t) → IsHomed x g.call.site t
+      → g.call.temps.places t ≡ Some there → (count : ℕ) (of : Shape)
       → looked x.table g.call.site (of_location t) ≡ row count of → is_seen g.world (location_at g.call.temps there) ≡ true
       → RowRead (load g.world (location_at g.call.temps there)) count
-  read_row t there n e count of look seen =
-      let a = at_address t there n e (ap is_one_word look) in
+  read_row t there n homed e count of look seen =
+      let a = at_homed t there n homed e (ap is_one_word look) in
       led_row x (starts g line rest) y g.call (inl refl) there a.address count of seen
       (subst (λ s. Leads x.table x.blocks (all_sites x g line rest y) g.ground g.world g.call.site g.call.temps there a.address s) look a.leads_to)

@@ -30,6 +30,18 @@ no_place p global e = absurd cc
 value_no_place : {A : Type 0} (t p : ℕ) (global : Bool) → alias.Value t ≡ alias.Place p global → A
 value_no_place t p global e = absurd cc
 
+node_no_place : {A : Type 0} (n p : ℕ) (global : Bool) → alias.Node n ≡ alias.Place p global → A
+node_no_place n p global e = absurd (no n p global e)
+  where
+    no : (n p : ℕ) (global : Bool) → alias.Node n ≡ alias.Place p global → ⊥
+    no n p global e = cc
+
+node_no_value : {A : Type 0} (n t : ℕ) → alias.Node n ≡ alias.Value t → A
+node_no_value n t e = absurd (no n t e)
+  where
+    no : (n t : ℕ) → alias.Node n ≡ alias.Value t → ⊥
+    no n t e = cc
+
 no_value : {A : Type 0} (t : ℕ) → alias.Own ≡ alias.Value t → A
 no_value t e = absurd cc
 
@@ -113,7 +125,8 @@ module _ (known : Known) (procs : List Signature) (globals places : List FlatPla
   rooted_by : (t p : ℕ) (global : Bool) (line : Line) (behind : ℕ) → location_to line ≡ Some t → alias_by line behind ≡ alias.Place p global
       → fits_here line ≡ true → Rooted t p global
   rooted_by t p global (L.Root to q other) behind g e h = rooted_as t to p q global other (some_same to t g) (same_place q p other global e) h
-  rooted_by t p global (L.Fresh to from waits) behind g e h = value_no_place from p global e
+  rooted_by t p global (L.Fresh to from None) behind g e h = value_no_place from p global e
+  rooted_by t p global (L.Fresh to from (Some node)) behind g e h = node_no_place node p global e
   rooted_by t p global (L.Constant to how ty pieces) behind g e h = none_given t g
   rooted_by t p global line behind g e h = no_place p global e
 
@@ -139,7 +152,8 @@ module _ (known : Known) (procs : List Signature) (globals places : List FlatPla
   entered_by : (t u : ℕ) (line : Line) (behind : ℕ) → location_to line ≡ Some t → alias_by line behind ≡ alias.Value u → fits_here line ≡ true
       → Entered t u
   entered_by t u (L.Root to q other) behind g e h = place_no_value q other u e
-  entered_by t u (L.Fresh to from waits) behind g e h = entered_as t to u from waits (some_same to t g) (same_value from u e) h
+  entered_by t u (L.Fresh to from None) behind g e h = entered_as t to u from None (some_same to t g) (same_value from u e) h
+  entered_by t u (L.Fresh to from (Some node)) behind g e h = node_no_value node u e
   entered_by t u (L.Constant to how ty pieces) behind g e h = none_given t g
   entered_by t u line behind g e h = no_value u e
 
@@ -149,7 +163,8 @@ module _ (known : Known) (procs : List Signature) (globals places : List FlatPla
   -- no location is another name for a text
   location_text : (t behind bytes : ℕ) (line : Line) (n : ℕ) → location_to line ≡ Some t → alias_by line n ≡ alias.Text behind bytes → ⊥
   location_text t behind bytes (L.Root to q other) n g e = cc
-  location_text t behind bytes (L.Fresh to from waits) n g e = cc
+  location_text t behind bytes (L.Fresh to from None) n g e = cc
+  location_text t behind bytes (L.Fresh to from (Some node)) n g e = cc
   location_text t behind bytes (L.Constant to how ty pieces) n g e = none_given t g
   location_text t behind bytes line n g e = cc
 

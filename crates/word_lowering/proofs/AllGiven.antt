@@ -18,7 +18,7 @@ use Rattle.word_code.specs.Words.{Vars}
 use Rattle.word_code.proofs.ForCallers.{Runs, at, then_runs, none as no_run}
 use Rattle.word_lowering.specs.declared.homes.Housed.{Housed}
 use Rattle.word_lowering.specs.Aliases.{handed_by, places_in, is_among}
-use Rattle.word_lowering.specs.Layouts.{params_in, is_address}
+use Rattle.word_lowering.specs.Layouts.{params_in, holds_address}
 use Rattle.word_lowering.specs.LineCode.{Around, arguments_code, operands, operand}
 use Rattle.word_lowering.proofs.Arguments.{AllOwn, Stays, beyond_all, slot_stays}
 use Rattle.word_lowering.proofs.Callees.{Callee}
@@ -36,7 +36,8 @@ use Rattle.word_lowering.proofs.OrdinalRuns.{AllSame}
 use Rattle.word_lowering.proofs.Related.{Both, body_of, within}
 use Rattle.word_lowering.proofs.ShapeFacts.{never}
 use Rattle.word_lowering.proofs.Sites.{around, type_of, Among, Site, sigs, globals_of, word_of}
-use Rattle.word_lowering.proofs.ValueFacts.{type_in}
+use Rattle.word_lowering.proofs.ValueFacts.{type_in, plain_name}
+use Rattle.word_lowering.proofs.Scenes.{of_location}
 
 -- ---- what an operand was
 
@@ -89,8 +90,8 @@ module _ (x : Basis) (g : Both) (line : BlockLine) (rest : List BlockLine) (y : 
     pub words_then : Vars
     pub same : AllSame vars vars_then
     pub good : IsGood x (starts (between x g line rest y vars_then memory_then words_then) line rest)
-    pub stays : Stays x.table sites g.ground g.world base m memory_then words words_then params
-    pub gave : Gave x.table memory_then sites g.ground g.world words_then base slots params
+    pub stays : Stays x.table sites g.ground g.world base x.blocks m memory_then words words_then params
+    pub gave : Gave x.table x.blocks memory_then sites g.ground g.world words_then base slots params
     pub steps : ℕ
     pub few : steps ≤ most
     pub runs : Runs x.live (all_procs x) steps (at (within x.table x.blocks g) m lines vars words)
@@ -110,7 +111,7 @@ module _ (x : Basis) (g : Both) (line : BlockLine) (rest : List BlockLine) (y : 
     same = same_more vars one.vars all.vars_then one.same all.same;
     good = all.good;
     stays = λ s d beyond given. all.stays s d beyond.1
-        (slot_stays x.table sites g.ground g.world base m one.memory words one.words h d one.gives beyond.0 s given);
+        (slot_stays x.table sites g.ground g.world base x.blocks m one.memory words one.words h d one.gives beyond.0 s given);
     gave = (all.stays slot h (beyond_all h params own.0 own.1 apart.0) one.gave, all.gave);
     steps = one.steps + all.steps;
     few = (let a = one.few in let b = all.few in omega (arith, a, b));
@@ -162,10 +163,12 @@ module _ (x : Basis) (g : Both) (line : BlockLine) (rest : List BlockLine) (y : 
         let w = was_value (g.call.temps.values t) z fetched.0 in
         let same : p.of ≡ ty.ty = some_same p.of ty.ty ty.is_other in
         let typed : type_in x is_value (body_of g) t ≡ Some (type_of x.table h) = ty.is ∙ ap Some (sym same ∙ are.0.2) in
-        let plain : is_address h.kind ≡ false = sym are.0.0 ∙ not_true p.by_location a.0 in
+        let plain : holds_address h ≡ false = sym are.0.0 ∙ not_true p.by_location a.0 in
         let one = value_argument x (between x g line rest y vars m words) line rest good c h (among h (inl refl))
         (label + 2 * suc (length (operands here from)))
-        (Lines params from) t w.value w.has plain typed (finds (length (operands here from)) (omega arith)) in
+        (Lines params from) t w.value
+        (λ hooks. never (sym (c.is.plain h (c.among h (among h (inl refl))) (c.homes h (among h (inl refl)))) ∙ hooks)) w.has plain typed
+        (finds (length (operands here from)) (omega arith)) in
         let all = all_given params takes from xs are.1 b.1 apart.1 own.1 (λ d i. among d (inr i)) handed
         (finds_next here (word_of x.table x.blocks (body_of g)).lines label h params (operand here (F.Value t)) (operands here from) k finds) fetched.1
         one.vars one.memory one.words one.good in
@@ -182,10 +185,11 @@ module _ (x : Basis) (g : Both) (line : BlockLine) (rest : List BlockLine) (y : 
         let w = was_place (λ place. At (location_at g.call.temps place)) (g.call.temps.places t) z fetched.0 in
         let same : p.of ≡ ty.ty = some_same p.of ty.ty ty.is_other in
         let typed : type_in x is_location (body_of g) t ≡ Some (type_of x.table h) = ty.is ∙ ap Some (sym same ∙ are.0.2) in
-        let address : is_address h.kind ≡ true = sym are.0.0 ∙ d.0 in
+        let address : holds_address h ≡ true = sym are.0.0 ∙ d.0 in
         let written : may ≡ true = subst (λ b. (not b || may) ≡ true) (are.0.1 ∙ address) d.1 in
         let one = location_argument x (between x g line rest y vars m words) line rest good c h (among h (inl refl))
-        (label + 2 * suc (length (operands here from))) (Lines params from) t w.place w.has address typed written (handed t (here_among t (places_in from))) in
+        (label + 2 * suc (length (operands here from))) (Lines params from) t w.place
+        (plain_name x g.call.site (of_location t) y.linked.0) w.has address typed written (handed t (here_among t (places_in from))) in
         let all = all_given params takes from xs are.1 b.1 apart.1 own.1 (λ d i. among d (inr i)) (λ n i. handed n (behind_among n t (places_in from) i))
         (finds_next here (word_of x.table x.blocks (body_of g)).lines label h params (operand here (F.Place t)) (operands here from) k finds) fetched.1
         one.vars one.memory one.words one.good in

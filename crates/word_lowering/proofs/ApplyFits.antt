@@ -30,10 +30,11 @@ use Rattle.word_lowering.proofs.ControlLines.{plain, value_type}
 use Rattle.word_lowering.proofs.LineFits.{same_type}
 use Rattle.word_lowering.proofs.Lines.{Basis, IsGood, Settles, bound_for, fits_here, known, starts}
 use Rattle.word_lowering.proofs.Related.{Both, body_of, high}
-use Rattle.word_lowering.proofs.Scenes.{of_location}
+use Rattle.word_lowering.proofs.Scenes.{of_location, of_value}
 use Rattle.word_lowering.proofs.ShapeFacts.{never}
 use Rattle.word_lowering.proofs.Sites.{globals_of, sigs}
-use Rattle.word_lowering.proofs.ValueFacts.{has_type, type_in}
+use Rattle.word_lowering.proofs.ValueFacts.{has_type, type_in, IsPlain, PlainNames}
+use Rattle.word_lowering.proofs.NamesIn.{names_from}
 
 -- so many of the first operands are locations, and all others values
 abbrev pub are_placed : ℕ → List From → Bool
@@ -44,30 +45,30 @@ are_placed n from = false
 
 module _ (x : Basis) (g : Both) (line : BlockLine) (rest : List BlockLine) (y : IsGood x (starts g line rest)) where
   -- where a location leads nothing is to be done, so none stands for a value
-  none_stands : (how : Use) (t : ℕ) (ty : Option Ty) → same_value (type_in x is_location (body_of g) t) ty ≡ true
+  none_stands : (how : Use) (t : ℕ) (ty : Option Ty) → IsPlain x g.call.site (of_location t) → same_value (type_in x is_location (body_of g) t) ty ≡ true
       → may_stand (facts_in x.table) how ty ≡ false
-  none_stands how t None typed = refl
-  none_stands how t (Some ty) typed =
+  none_stands how t None plain typed = refl
+  none_stands how t (Some ty) plain typed =
       let n = has_type x g.call.site (of_location t) ty y.linked.0 (same_type (type_in x is_location (body_of g) t) (Some ty) typed) in
       ap (λ b. b && (is_lent how || is_given how))
-      (ap (λ u. hooked (form_of (facts_in x.table) u)) (sym n.typed) ∙ y.linked.0.plain_locations t n.named)
+      (ap (λ u. hooked (form_of (facts_in x.table) u)) (sym n.typed) ∙ y.linked.0.plain_locations t n.named (plain n.named))
 
   abbrev Typed : List (Option Ty) → List From → Type 0
   Typed of from = fit.are_of (known x) (sigs x.table x.blocks) (globals_of x.table x.blocks) (body_of g).proc.places of from ≡ true
 
-  all_placed : (how : Use) (n : ℕ) (of : List (Option Ty)) (from : List From) → Typed of from
+  all_placed : (how : Use) (n : ℕ) (of : List (Option Ty)) (from : List From) → PlainNames x g.call.site (names_from from) → Typed of from
       → fit.are_placed (facts_in x.table) how n of from ≡ true → are_placed n from ≡ true
-  all_placed how zero [] [] typed placed = refl
-  all_placed how (suc n) [] [] typed placed = absurd (let e = eqb-true (suc n) 0 placed in omega (arith, e))
-  all_placed how n [] (f ∷ from) typed placed = never typed
-  all_placed how n (ty ∷ of) [] typed placed = never typed
-  all_placed how zero (ty ∷ of) (F.Value t ∷ from) typed placed = all_placed how zero of from (and_parts _ _ typed).1 placed
-  all_placed how zero (ty ∷ of) (F.Place t ∷ from) typed placed =
-      let p = and_parts (may_stand (facts_in x.table) how ty) _ placed in
+  all_placed how zero [] [] p typed placed = refl
+  all_placed how (suc n) [] [] p typed placed = absurd (let e = eqb-true (suc n) 0 placed in omega (arith, e))
+  all_placed how n [] (f ∷ from) p typed placed = never typed
+  all_placed how n (ty ∷ of) [] p typed placed = never typed
+  all_placed how zero (ty ∷ of) (F.Value t ∷ from) p typed placed = all_placed how zero of from p.1 (and_parts _ _ typed).1 placed
+  all_placed how zero (ty ∷ of) (F.Place t ∷ from) p typed placed =
+      let m = and_parts (may_stand (facts_in x.table) how ty) _ placed in
       let q = and_parts (same_value (type_in x is_location (body_of g) t) ty) _ typed in
-      never (sym (none_stands how t ty q.0) ∙ p.0)
-  all_placed how (suc n) (ty ∷ of) (F.Value t ∷ from) typed placed = never placed
-  all_placed how (suc n) (ty ∷ of) (F.Place t ∷ from) typed placed = all_placed how n of from (and_parts _ _ typed).1 placed
+      never (sym (none_stands how t ty p.0 q.0) ∙ m.0)
+  all_placed how (suc n) (ty ∷ of) (F.Value t ∷ from) p typed placed = never placed
+  all_placed how (suc n) (ty ∷ of) (F.Place t ∷ from) p typed placed = all_placed how n of from p.1 (and_parts _ _ typed).1 placed
 
 module _ (x : Basis) (g : Both) (rest : List BlockLine) (to : ℕ) (operation : Operation) (how : UseAt) (ty : Option ℕ) (of : List (Option ℕ))
     (from : List From) where
@@ -84,7 +85,8 @@ module _ (x : Basis) (g : Both) (rest : List BlockLine) (to : ℕ) (operation : 
   are_typed = fit.are_of (known x) (sigs x.table x.blocks) (globals_of x.table x.blocks) (body_of g).proc.places of_types from
 
   abbrev are_written : Bool
-  are_written = not (writes operation) || fit.may_write_first (known x) (sigs x.table x.blocks) (globals_of x.table x.blocks) (body_of g).proc.places (places_in operation) from
+  are_written = not (writes operation) || fit.may_write_first (known x) (sigs x.table x.blocks) (globals_of x.table x.blocks) (body_of g).proc.places
+      (places_in operation) from
 
   -- what the line does where no type of it has hooks
   abbrev pub row_does : Did
@@ -92,7 +94,8 @@ module _ (x : Basis) (g : Both) (rest : List BlockLine) (to : ℕ) (operation : 
       (costs 1 (does operation (facts_in x.table) gets_type of_types xs) >>= made_by (gives_hooked (facts_in x.table) gets_type) (bound_for g how)))
 
   abbrev pub RowHere : Type 0
-  RowHere = (y : IsGood x (starts g apply_line rest)) → Settles x (starts g apply_line rest) rest row_does
+  RowHere = PlainNames x g.call.site (of_value to ∷ names_from from) → (y : IsGood x (starts g apply_line rest)) →
+      Settles x (starts g apply_line rest) rest row_does
 
   pub record Applies (y : IsGood x (starts g apply_line rest)) : Type 0 where
     pub row : operation_fits (facts_in x.table) operation gets_type of_types ≡ true
@@ -101,8 +104,8 @@ module _ (x : Basis) (g : Both) (rest : List BlockLine) (to : ℕ) (operation : 
     pub written : are_written ≡ true
     pub given : same_value (value_type x g apply_line rest y to) gets_type ≡ true
 
-  pub applies : (y : IsGood x (starts g apply_line rest)) → Applies y
-  applies y =
+  pub applies : PlainNames x g.call.site (of_value to ∷ names_from from) → (y : IsGood x (starts g apply_line rest)) → Applies y
+  applies names y =
       let row : Bool = operation_fits (facts_in x.table) operation gets_type of_types in
       let placed : Bool = fit.are_placed (facts_in x.table) (use_by operation) (places_in operation) of_types from in
       let p = and_parts (row && (are_typed && (placed && are_written))) (same_value (value_type x g apply_line rest y to) gets_type)
@@ -113,7 +116,7 @@ module _ (x : Basis) (g : Both) (rest : List BlockLine) (to : ℕ) (operation : 
       record {
         row = q.0;
         typed = r.0;
-        placed = all_placed x g apply_line rest y (use_by operation) (places_in operation) of_types from r.0 s.0;
+        placed = all_placed x g apply_line rest y (use_by operation) (places_in operation) of_types from names.1 r.0 s.0;
         written = s.1;
         given = p.1;
       }

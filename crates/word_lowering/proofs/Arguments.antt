@@ -1,9 +1,11 @@
 -- What a call got for its parameters stays, where another parameter gets something: each has a place of its own.
 use Rattle.std.proofs.Common.{◌≡◌, ◌≢◌, inl, inr, ℕ, ◌+◌, List, [], ◌∷◌, Some, Bool, true, false, refl, sym, ap, subst, ◌∙◌, arith}
+use Rattle.flat_code.specs.declared.code.Code.{Code}
+use Rattle.flat_code.specs.declared.block.BlockLine.{BlockLine}
 use Rattle.std.specs.Prelude.{if◌then◌else◌}
 use Rattle.nim_types.specs.declared.types.TypeDef.{TypeDef}
 use Rattle.nim_meaning.specs.State.{World}
-use Rattle.nim_meaning.specs.Values.{Value, bytes, Slot, Holds, Stands, Lends}
+use Rattle.nim_meaning.specs.Values.{Value, Slot, Holds, Stands, Lends}
 use Rattle.word_code.specs.Memory.{Memory}
 use Rattle.word_code.specs.Words.{Vars, put}
 use Rattle.word_code.proofs.ForCallers.{Changed}
@@ -14,11 +16,14 @@ use Rattle.word_lowering.specs.declared.homes.Housed.{Housed}
 use Rattle.word_lowering.specs.Layouts.{params_in, is_param}
 use Rattle.word_lowering.proofs.FirstPlaces.{GivenAt, GaveSlot}
 use Rattle.word_lowering.proofs.HomesApart.{Apart, Each, Parted, AllApart}
-use Rattle.word_lowering.proofs.InMemory.{IsAt}
-use Rattle.word_lowering.proofs.Keeping.{at_beside}
 use Rattle.word_lowering.proofs.OrdinalRuns.{put_other}
-use Rattle.word_lowering.proofs.Scenes.{Ground}
-use Rattle.word_lowering.proofs.Sites.{Among, Site}
+use Rattle.word_lowering.proofs.Scenes.{Ground, is_fixed}
+use Rattle.word_lowering.proofs.Sites.{Among, Site, looks}
+use Rattle.flat_code.specs.Shapes.{Shape}
+use Rattle.word_lowering.proofs.Blocks.{Stored}
+use Rattle.word_lowering.proofs.BlocksBorn.{later_same}
+use Rattle.word_lowering.proofs.ShapeFacts.{shape_bytes}
+use Rattle.word_lowering.proofs.StoredLater.{stored_small}
 
 -- ---- parameters don't overlap
 
@@ -61,27 +66,29 @@ module _ (table : List TypeDef) (sites : List Site) (ground : Ground) (w : World
     to_variable : (v n : ℕ) → h.home ≡ Variable v → m ≡ m' → words' ≡ put words v n → Gives m m' words words' h
     to_place : (at n : ℕ) → h.home ≡ Placed at → n ≡ h.bytes → Changed m m' (base + at) n → words ≡ words' → Gives m m' words words' h
 
-  module _ (m m' : Memory) (words words' : Vars) where
-    abbrev Was : Home → Value → Type 0
-    Was = GivenAt table m sites ground w words base
+  module _ (blocks : Code BlockLine) (m m' : Memory) (words words' : Vars) where
+    abbrev Was : Shape → Home → Value → Type 0
+    Was = GivenAt table blocks m sites ground w words base
 
-    abbrev Is : Home → Value → Type 0
-    Is = GivenAt table m' sites ground w words' base
+    abbrev Is : Shape → Home → Value → Type 0
+    Is = GivenAt table blocks m' sites ground w words' base
 
     -- what was given to another one stays
-    given_stays : (h d : Housed) → Gives m m' words words' h → Apart d.home d.bytes h.home h.bytes → (x : Value) → bytes x ≡ d.bytes → Was d.home x
-        → Is d.home x
-    given_stays h d (to_variable v n home same is) apart x size given = by d.home (subst (λ k. Apart d.home d.bytes k h.bytes) home apart) given
+    given_stays : (h d : Housed) → Gives m m' words words' h → Apart d.home d.bytes h.home h.bytes → (s : Shape) (x : Value) → shape_bytes s ≡ d.bytes
+        → Was s d.home x → Is s d.home x
+    given_stays h d (to_variable v n home same is) apart s x size given = by d.home (subst (λ k. Apart d.home d.bytes k h.bytes) home apart) given
       where
-        by : (k : Home) → Apart k d.bytes (Variable v) h.bytes → Was k x → Is k x
+        by : (k : Home) → Apart k d.bytes (Variable v) h.bytes → Was s k x → Is s k x
         by (Variable u) ne e = ap (λ f. f u) is ∙ put_other words v n u ne ∙ e
-        by (Placed at) tt' e = subst (λ z. IsAt z (base + at) x) same e
+        by (Placed at) tt' e = subst (λ z. Stored (is_fixed ground) ground.blocks z (base + at) s x) same e
         by (Static at) tt' e = e
-    given_stays h d (to_place at n home long ch same) apart x size given = by d.home (subst (λ k. Apart d.home d.bytes k h.bytes) home apart) given
+    given_stays h d (to_place at n home long ch same) apart s x size given = by d.home (subst (λ k. Apart d.home d.bytes k h.bytes) home apart) given
       where
-        by : (k : Home) → Apart k d.bytes (Placed at) h.bytes → Was k x → Is k x
+        by : (k : Home) → Apart k d.bytes (Placed at) h.bytes → Was s k x → Is s k x
         by (Variable u) tt' e = ap (λ f. f u) (sym same) ∙ e
-        by (Placed b) le e = at_beside m m' (base + at) n (base + b) x ch.outside (inl (omega (arith, le, size))) e
+        by (Placed b) le e =
+            stored_small (is_fixed ground) ground.blocks ground.blocks (later_same ground.blocks) m m' (base + b) (base + b) s x
+            (λ o v inner is small read. ch.outside (base + b + o) (inl (omega (arith, le, size, inner))) ∙ read) e
         by (Static b) tt' e = e
 
     address_stays : (h d : Housed) → Gives m m' words words' h → Apart d.home d.bytes h.home h.bytes → (v a : ℕ) → d.home ≡ Variable v → words v ≡ Some a
@@ -92,12 +99,12 @@ module _ (table : List TypeDef) (sites : List Site) (ground : Ground) (w : World
     address_stays h d (to_place at n home long ch same) apart v a e given = ap (λ f. f v) (sym same) ∙ given
 
     pub slot_stays : (h d : Housed) → Gives m m' words words' h → Apart d.home d.bytes h.home h.bytes → (slot : Slot)
-        → GaveSlot table m sites ground w words base slot d → GaveSlot table m' sites ground w words' base slot d
+        → GaveSlot table blocks m sites ground w words base slot d → GaveSlot table blocks m' sites ground w words' base slot d
     slot_stays h d g apart (Holds x) s = record {
       plain = s.plain;
       shaped = s.shaped;
       size = s.size;
-      given = given_stays h d g apart x s.size s.given;
+      given = given_stays h d g apart (looks table d) x s.size s.given;
     }
     slot_stays h d g apart (Stands location) s = record {
       by_address = s.by_address;
@@ -105,10 +112,12 @@ module _ (table : List TypeDef) (sites : List Site) (ground : Ground) (w : World
       home = s.home;
       address = s.address;
       given = address_stays h d g apart s.variable s.address s.home s.given;
+      owned = s.owned;
       leads = s.leads;
     }
     slot_stays h d g apart (Lends x from seen) s = absurd s
 
     -- what was given to others than these stays
     abbrev pub Stays : List Housed → Type 0
-    Stays hs = (slot : Slot) (d : Housed) → Beyond d hs → GaveSlot table m sites ground w words base slot d → GaveSlot table m' sites ground w words' base slot d
+    Stays hs = (slot : Slot) (d : Housed) → Beyond d hs → GaveSlot table blocks m sites ground w words base slot d →
+        GaveSlot table blocks m' sites ground w words' base slot d

@@ -38,9 +38,10 @@ use Rattle.flat_code.specs.Sizes.{code_texts}
 use Rattle.nim_types.specs.Types.{same_text}
 use Rattle.std.specs.Set.{is_member}
 use Rattle.std.proofs.lemmas.Bool.{true≢false}
-use Rattle.word_lowering.proofs.FirstMemory.{first_memory, routines_given, letter_first}
-use Rattle.word_lowering.proofs.TypeDefaults.{type_default}
-use Rattle.word_lowering.proofs.TypeRules.{type_compared, type_plain, type_unhooked, type_resource, type_fields, type_object, type_converted, type_limit}
+use Rattle.word_lowering.proofs.FirstMemory.{first_memory, routines_given, letter_first, handles_first}
+use Rattle.word_lowering.proofs.TypeDefaults.{type_default, type_blank}
+use Rattle.word_lowering.proofs.TypeRules.{type_compared, type_plain, type_unhooked, type_resource, type_built, type_built_object, type_fields}
+use Rattle.word_lowering.proofs.TypeRules.{type_object, type_converted, type_limit}
 use Rattle.word_lowering.proofs.TypeShapes.{type_part}
 use Rattle.word_code.specs.Words.{Fresh}
 
@@ -95,13 +96,16 @@ module _ (table : List TypeDef) (blocks : Code BlockLine) (may : may_lower table
     small = data_small table blocks may;
     within = sites_within table blocks;
     defaults = type_default table is_table (enums_may table blocks may) have;
+    blanks = type_blank table is_table (enums_may table blocks may) have;
     compared = type_compared table is_table have;
     plains = type_plain table is_table have;
     unhooked = type_unhooked table is_table have;
     resources = type_resource table is_table have;
     fields = type_fields table is_table have;
+    built_fields = type_built table is_table have;
     objects = type_object table is_table have;
-    parts_at = λ ty plain all field s look nth. type_part table is_table have ty all field look;
+    built_objects = type_built_object table is_table have;
+    parts_at = λ ty all field s look nth. type_part table is_table have ty all field look;
     conversions = type_converted table is_table have;
     limits = type_limit table is_table have;
     none = none;
@@ -115,4 +119,5 @@ module _ (table : List TypeDef) (blocks : Code BlockLine) (may : may_lower table
     given_closed = closed;
     constants = λ pieces small among. constants_first heap stack pieces small among;
     letter = letter_first table blocks runtime heap stack;
+    handles = λ least places i size within whole. handles_first table blocks runtime heap stack least places i size within whole;
   }

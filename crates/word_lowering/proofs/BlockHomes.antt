@@ -55,7 +55,7 @@ pub record IsChangedInside (m other : Memory) : Type 0 where
 pub outside_then : (m other : Memory) (a n : ℕ) → length other.heap ≡ length m.heap → IsOutside m a n → IsOutside other a n
 outside_then m other a n long o = record { heap = subst (λ k. Beside heap_at k a n) (sym long) o.heap; own = o.own; room = o.room }
 
-inside_carried : (m other : Memory) (a n : ℕ) → IsChangedInside m other → IsOutside m a n → Carries m other a a n
+pub inside_carried : (m other : Memory) (a n : ℕ) → IsChangedInside m other → IsOutside m a n → Carries m other a a n
 inside_carried m other a n inside o at w within whole reads =
     same_word m other (a + at) (inside.beside (a + at) 4 (part own_data_at HEAP_DATA o.own) (part heap_at (length m.heap) o.heap)) ∙ reads
   where

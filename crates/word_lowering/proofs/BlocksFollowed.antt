@@ -29,7 +29,7 @@ use Rattle.word_lowering.specs.MayLower.{may_lower}
 use Rattle.word_lowering.specs.Lowers.{HasNoObjects, IsFitting, AreSilent, IsLowered, Lowers, LowersWithRuntime}
 use Rattle.word_lowering.specs.Runtimes.{Runtimes, with_runtimes}
 use Rattle.word_lowering.proofs.NamedProcs.{all_apart, is_formed}
-use Rattle.word_lowering.proofs.SmallProcs.{are_small, no_circle, chain_short, unhooked, own_room}
+use Rattle.word_lowering.proofs.SmallProcs.{are_small, are_ranked, unhooked, own_room}
 use Rattle.word_lowering.proofs.CodeWeights.{weight_is}
 use Rattle.word_lowering.proofs.DataSizes.{data_whole, data_sized, data_within}
 use Rattle.word_lowering.proofs.RoomBounds.{enums_may, start_most}
@@ -236,8 +236,9 @@ module _ (table : List TypeDef) (blocks : Code BlockLine) (is_table : IsTable ta
     bounded = λ live fresh heap stack input none most fits silent ok units.
         bounded_counted live none table blocks is_table have may runtime law fresh heap stack input most fits silent units ok;
     formed = is_formed table blocks may runtime;
-    no_circle = no_circle table blocks runtime;
-    chain = chain_short table blocks runtime;
+    rank = runtime.rank;
+    ranked = are_ranked table blocks runtime;
+    chain = runtime.chain;
     small = are_small table blocks may runtime;
     whole = let l = whole_length table blocks runtime 0 0 in let own = data_whole table blocks in let w = runtime.is_others.whole in omega (arith, l, own, w);
     data_most =

@@ -1,5 +1,5 @@
 -- The procedures of block code are as the relation wants them: from tests that are true of it.
-use Rattle.std.proofs.Common.{◌≡◌, ◌⊎◌, inl, inr, ℕ, ◌+◌, ◌≤◌, ◌<◌, List, ◌++◌, map}
+use Rattle.std.proofs.Common.{◌≡◌, ◌⊎◌, inl, inr, ℕ, ◌+◌, ◌≤◌, ◌<◌, List, ◌++◌, map, [], not, ◌&&◌}
 use Rattle.std.proofs.Common.{Some, None, Bool, true, false}
 use Rattle.std.proofs.Common.{refl, sym, ap, subst, ◌∙◌, arith}
 use Rattle.nim_types.specs.declared.types.TypeDef.{TypeDef}
@@ -27,8 +27,8 @@ use Rattle.word_lowering.specs.declared.texts.TheConstants.{FIXED_BYTES}
 use Rattle.word_lowering.specs.declared.may_lower.TheConstants.{MOST_ROOM}
 use Rattle.nim_types.specs.Forms.{hooked, form_of}
 use Rattle.word_lowering.specs.Stored.{HaveForms}
-use Rattle.word_lowering.specs.Aliases.{value_to, location_to, alias_in, alias_for, addressed, is_among}
-use Rattle.word_lowering.specs.Layouts.{free_at, layout_of, housed, all_housed, behind_all, found, result_in}
+use Rattle.word_lowering.specs.Aliases.{value_to, location_to, alias_in, alias_for, addressed, is_among, standing}
+use Rattle.word_lowering.specs.Layouts.{free_at, layout_of, housed, all_housed, behind_all, found, result_in, owns, address_by}
 use Rattle.word_lowering.specs.Lowered.{start_layout}
 use Rattle.word_lowering.specs.MayLower.{is_plain, is_text, all_plain, lines_may, labels_once, result_end, placed_end}
 use Rattle.word_lowering.proofs.AliasFits.{GivenBy, given_by, Rooted, rooted, entered, no_text_location, Written, value_name}
@@ -36,15 +36,17 @@ use Rattle.word_lowering.proofs.HomesApart.{all_apart, all_between}
 use Rattle.word_lowering.proofs.LabelsFirst.{first_one}
 use Rattle.word_lowering.proofs.LayoutBounds.{room_whole}
 use Rattle.word_lowering.proofs.Options.{none_some, some_same}
-use Rattle.word_lowering.proofs.PlaceFacts.{own_declared, global_is, declared_own, each_among, plain_among, all_aligned, comes, IsFound}
+use Rattle.word_lowering.proofs.PlaceFacts.{own_declared, global_is, declared_own, each_among, plain_among, all_aligned, comes, IsFound, place_unlent}
 use Rattle.word_lowering.proofs.PlaceFacts.{IsMissing, find, found_there, numbers_within, one_found, ResultAt, result_cases, housing, kept_in_variable}
-use Rattle.word_lowering.proofs.PlaceFacts.{addressed_in_memory, global_home, place_numbers, place_unhooked, place_shape_bytes, place_is_word}
+use Rattle.word_lowering.proofs.PlaceFacts.{addressed_in_memory, global_home, place_numbers, place_unhooked, place_bare, place_shape_bytes, place_is_word}
 use Rattle.word_lowering.proofs.PlaceFacts.{place_rows, place_parts}
 use Rattle.word_lowering.proofs.ShapeFacts.{never, of_numbers}
-use Rattle.word_lowering.proofs.Sites.{Body, room, type_of, looks, Among, There, InMemory, data_end, sigs, globals_of, HasTexts, IsHoused, IsGlobal}
+use Rattle.word_lowering.proofs.Sites.{Body, room, type_of, looks, Among, There, InMemory, data_end, sigs, globals_of, HasTexts, IsHoused, IsGlobal, has_hooks}
 use Rattle.word_lowering.proofs.Sites.{ResultIs, place_among, IsTextual, IsBody}
 use Rattle.word_code.specs.declared.word.TheConstants.{SPARE_ROOM}
 use Rattle.word_lowering.proofs.WaiterHomes.{nothing_waits, room_whole_behind, waiters_datum, waiters_grow}
+use Rattle.word_lowering.specs.WaitingCode.{waiter_at}
+use Rattle.word_lowering.specs.declared.homes.Waiter.{Waiter}
 
 module _ (table : List TypeDef) (blocks : Code BlockLine) where
   -- what is tested of a procedure
@@ -115,8 +117,9 @@ module _ (table : List TypeDef) (blocks : Code BlockLine) where
               (each_among _ all h (all_between table start lines least proc.places) a own)
               (each_among _ all h (all_aligned table start lines least proc.places (record { byte = refl; datum = refl })) a own);
           kept = kept_in_variable table start lines f p own;
-          numbers = numbers;
-          unhooked = place_unhooked table is_table have p.kind p.ty alias.Own refl plain;
+          numbers = λ h. numbers;
+          unhooked = λ h. place_unhooked table is_table have p.kind p.ty alias.Own refl plain;
+          unlent = λ h. place_unlent table p.kind p.ty (is_among p.number (standing lines)) h;
           rows = place_rows table is_table have p.kind p.ty;
           fields = place_parts table is_table have p.kind p.ty;
         }
@@ -246,6 +249,7 @@ module _ (table : List TypeDef) (blocks : Code BlockLine) where
         by alias.Own e g = ap is_text e
         by (alias.Place p global) e g = ap is_text e
         by (alias.Value u) e g = ap is_text e
+        by (alias.Node n) e g = ap is_text e
         by (alias.Text behind bytes) e (inl own) = ap is_text own
         by (alias.Text behind bytes) e (inr g) =
             absurd (no_text_location (known_in table) (sigs table blocks) (globals_of table blocks) proc.places t behind bytes
@@ -259,6 +263,11 @@ module _ (table : List TypeDef) (blocks : Code BlockLine) where
     locations_plain : (t : ℕ) → There all is_location t → hooked (form_of (facts_in table) (type_of table (found is_location t all))) ≡ false
     locations_plain t there =
         place_unhooked table is_table have (found is_location t all).kind (found is_location t all).ty (found is_location t all).alias
+        (no_text_at t there) (plain_here (found is_location t all) there.among)
+
+    locations_bare : (t : ℕ) → There all is_location t → has_hooks table (found is_location t all) ≡ false
+    locations_bare t there =
+        place_bare table is_table have (found is_location t all).kind (found is_location t all).ty (found is_location t all).alias
         (no_text_at t there) (plain_here (found is_location t all) there.among)
 
     aliased_is : (t p : ℕ) (global : Bool) → There all is_location t → (found is_location t all).alias ≡ alias.Place p global
@@ -314,13 +323,13 @@ module _ (table : List TypeDef) (blocks : Code BlockLine) where
         subst (λ z. (proc.first ≤ z) × (z < proc.first + proc.span)) t.number
         (numbers_within table start lines proc.first (proc.first + proc.span) least proc.places (found is_declared n all) is.order t.among t.kind)
 
-    addressed_is : (n : ℕ) → is_among n (addressed lines) ≡ true → There all is_declared n → is_own (found is_declared n all).kind ≡ true
+    addressed_is : (n : ℕ) → is_among n (addressed lines) ≡ true → There all is_declared n → owns (found is_declared n all) ≡ true
         → InMemory (found is_declared n all).home
     addressed_is n r t o =
         let c = comes table start lines least proc.places (found is_declared n all) t.among in
         let e : c.1.number ≡ n = ap (λ (z : Housed). z.number) c.3 ∙ t.number in
         subst (λ (z : Housed). InMemory z.home) c.3
-        (addressed_in_memory table start lines c.0 c.1 (ap (λ z. is_among z (addressed lines)) e ∙ r) (ap (λ (z : Housed). is_own z.kind) c.3 ∙ o))
+        (addressed_in_memory table start lines c.0 c.1 (ap (λ z. is_among z (addressed lines)) e ∙ r) (ap owns c.3 ∙ o))
 
     global_at : start ≡ true → (n : ℕ) (ty : Ty) → if_type_of (known_in table) (place_named is_global (globals_of table blocks) n) ≡ Some ty
         → IsGlobal table blocks b n ty
@@ -340,7 +349,7 @@ module _ (table : List TypeDef) (blocks : Code BlockLine) where
           typed = ap (type_of table) d ∙ r.1;
           datum = c.0.datum;
           home = ap (λ (z : Housed). z.home) (d ∙ sym c.3) ∙ global_home table start lines c.0 c.1 st (ap (λ (z : Housed). is_global z.kind) c.3 ∙ r.0.kind);
-          own = ap (λ (z : Housed). is_own z.kind) d ∙ ap is_own (global_is h.kind r.0.kind);
+          own = ap owns d ∙ ap (λ k. is_own k && not (address_by h.lent k)) (global_is h.kind r.0.kind);
         }
 
     result_by : ((result_at (known_in table) proc.places ≡ None) × (result_in all ≡ None)) ⊎ ResultAt table start lines least proc.places
@@ -355,13 +364,19 @@ module _ (table : List TypeDef) (blocks : Code BlockLine) where
           kind = ap (λ (z : Housed). is_own z.kind) o ∙ ap is_own r.kind;
         } in
         subst (λ z. ResultIs table blocks all z (result_in all)) (sym r.number)
-        (r.is ∙ ap Some (sym d), there, ap (λ (z : Housed). is_own z.kind) d ∙ ap is_own r.kind)
+        (r.is ∙ ap Some (sym d), there, ap owns d ∙ ap (λ k. is_own k && not (address_by r.place.lent k)) r.kind)
 
     once_is : (name : ℕ) (before after there : List BlockLine) → proc.lines ≡ before ++ after → from_label block_label name after ≡ Some there
         → from_label block_label name proc.lines ≡ Some there
     once_is name before after there whole e =
         ap (from_label block_label name) whole
         ∙ first_one before after name there (subst (λ ls. labels_once (map block_plain ls) ≡ true) whole is.once) e
+
+    nothing : (body_at start proc literals number).own.waiters ≡ []
+    nothing = nothing_waits table start lines least most proc.places is.plain
+
+    none_there : (node : ℕ) (w : Waiter) → waiter_at node (body_at start proc literals number).own.waiters ≡ Some w → ⊥
+    none_there node w e = none_some w (sym (ap (waiter_at node) nothing) ∙ e)
 
     pub is_body : IsBody table blocks (body_at start proc literals number)
     is_body = record {
@@ -371,8 +386,11 @@ module _ (table : List TypeDef) (blocks : Code BlockLine) where
       named_so = named_so;
       values = values_are;
       places = places_are;
-      locations = locations_are;
-      plain_locations = locations_plain;
+      locations = λ t there h. locations_are t there;
+      plain_locations = λ t there h. locations_plain t there;
+      plain = λ h i own. place_bare table is_table have h.kind h.ty h.alias (ap is_text own) (plain_here h i);
+      plain_led = locations_bare;
+      built = λ h i own hooks. never (sym (place_bare table is_table have h.kind h.ty h.alias (ap is_text own) (plain_here h i)) ∙ hooks);
       aliased = aliased_is;
       valued = valued_is;
       standing = λ n h. sym (standing_same n) ∙ h;
@@ -386,7 +404,13 @@ module _ (table : List TypeDef) (blocks : Code BlockLine) where
       may = is.may;
       once = once_is;
       result = result_by (result_cases table start lines least proc.places);
-      waiters = nothing_waits table start lines least most proc.places is.plain;
+      waiters = nothing;
+      waiting = record {
+        housed = λ node w e. absurd (none_there node w e);
+        variable = λ node w e. absurd (none_there node w e);
+        behind = λ node w e h i own. absurd (none_there node w e);
+        apart = λ n m w u ne e f. absurd (none_there n w e);
+      };
       room_whole = room_whole_behind table start lines least most proc.places (room_whole table start lines least proc.places refl);
       room_most = is.room;
       handed = λ h at e home.

@@ -56,7 +56,7 @@ use Rattle.word_lowering.proofs.Settling.{LabelsLead, TrapsStop, code_next, stop
 use Rattle.word_lowering.proofs.ShapeFacts.{never}
 use Rattle.word_lowering.proofs.Sites.{Body, Site, around, globals_of, sigs, word_of}
 use Rattle.word_lowering.proofs.StoreLines.{none_temps}
-use Rattle.word_lowering.proofs.Targets.{no_target, target}
+use Rattle.word_lowering.proofs.Targets.{given, no_target}
 use Rattle.word_lowering.proofs.ValueFacts.{type_in}
 
 -- what fits of a call
@@ -138,7 +138,7 @@ module _ (x : Basis) (labels : LabelsLead x) (traps : TrapsStop x) (own : Argume
     pub words : Vars
     pub good : IsGood x (starts (between x g line rest y vars memory words) line rest)
     pub steps : ℕ
-    pub few : steps ≤ 16 * handed_bytes xs
+    pub few : steps ≤ 256 * handed_bytes xs
     pub runs : Runs x.live (all_procs x) steps (at (within x.table x.blocks g) g.memory code g.call.vars g.words)
         (at (within x.table x.blocks g) memory (checked_code start after) vars words)
 
@@ -185,7 +185,7 @@ module _ (x : Basis) (labels : LabelsLead x) (traps : TrapsStop x) (own : Argume
     words = a.words_then;
     good = a.good;
     steps = a.steps;
-    few = a.few;
+    few = (let f = a.few in omega (arith, f));
     runs = subst (λ l. Runs x.live (all_procs x) a.steps (at (within x.table x.blocks g) g.memory l g.call.vars g.words)
         (at (within x.table x.blocks g) a.memory_then code_checked a.vars_then a.words_then)) (sym (code_running runs)) a.runs;
   }
@@ -215,7 +215,7 @@ module _ (x : Basis) (labels : LabelsLead x) (traps : TrapsStop x) (own : Argume
       let long = line_long in
       let text = writes Err (line_of (trap_text CallDepth)) in
       stops_more (lower x) calling (1 + (q.steps + l.steps) + 7)
-      (16 * (suc (handed_bytes xs) + length (line_of (trap_text CallDepth)))) 1 text (live g.world) (omega (arith, few, few_more, long))
+      (256 * (suc (handed_bytes xs) + length (line_of (trap_text CallDepth)))) 1 text (live g.world) (omega (arith, few, few_more, long))
       (stops_after (lower x) calling (at (within x.table x.blocks g) q.memory t.there l.leads.vars q.words)
       (1 + (q.steps + l.steps)) (1 + (q.steps + l.steps)) 7 1 text (live g.world) (then_runs x.live (all_procs x) spends runs)
       (t.stops l.leads.vars q.words)) x.fresh
@@ -277,7 +277,7 @@ module _ (x : Basis) (labels : LabelsLead x) (traps : TrapsStop x) (own : Argume
           let gives : fit.signature.gives ≡ Some t = value_type fit.signature.gives t
           (subst (λ o. same_value fit.signature.gives o ≡ true) s fit.gives) in
           let r = callee.orderly.gives t gives in
-          let p = target x g line rest y to t refl refl e in
+          let p = given x g line rest y to t refl refl e in
           record {
             there = p.there;
             result = r.result;
@@ -332,7 +332,7 @@ module _ (x : Basis) (labels : LabelsLead x) (traps : TrapsStop x) (own : Argume
 
 pub call_line : (x : Basis) (labels : LabelsLead x) (traps : TrapsStop x) (own : ArgumentLabels x) (g : Both) (rest : List BlockLine) (to : ℕ) (how : UseAt)
     (ty : Option ℕ) (proc : ℕ) (from : List From) → FollowedHere x labels g rest (L.Call to how ty proc from)
-call_line x labels traps own g rest to how ty proc from y =
+call_line x labels traps own g rest to how ty proc from names y =
     let line = plain (L.Call to how ty proc from) in
     let start = low x.table x.blocks (starts g line rest) in
     using_all_settles x (starts g line rest) rest g.call.temps from (λ xs. Calls to proc (slots_for xs) (suc (handed_bytes xs)))

@@ -2,7 +2,7 @@
 use Rattle.std.proofs.Common.{◌≡◌, inl, inr, ℕ, zero, suc, ◌+◌, ◌-◌, ◌%◌, ◌≤◌, List, ◌++◌, length, take, drop, replicate, Some, None, Ok, Err, Bool}
 use Rattle.std.proofs.Common.{true}
 use Rattle.std.proofs.Common.{false, []}
-use Rattle.std.proofs.Common.{refl, sym, ap, ap₂, ◌∙◌, arith, length-append, length-drop, length-take-le, le-leb}
+use Rattle.std.proofs.Common.{refl, sym, ap, ap₂, ◌∙◌, arith, length-append, length-drop, length-take-le, le-leb, subst}
 use Rattle.std.specs.Prelude.{◌==◌, ◌||◌, ◌&&◌, nat_le, if◌then◌else◌}
 use Rattle.std.proofs.lemmas.Bool.{and_parts, and_from, leb-true, eq-eqb, cond-true, cond-false, false_from_ne_true}
 use Rattle.std.proofs.lemmas.List.{length-replicate, drop-append-le, take-append-le, take-append-drop}
@@ -13,6 +13,7 @@ use Rattle.rv32_isa.specs.Image.{statics_at, heap_at, stack_at}
 use Rattle.rv32_isa.specs.Words.{little}
 use Rattle.rv32_isa.specs.State.{lies_in, part_of, or_else, writable}
 use Rattle.rv32_isa.specs.Steps.{number_of}
+use Rattle.rv32_isa.specs.Regions.{AreBytes}
 use Rattle.word_code.specs.Memory.{Memory, as_state, number_at, may_put, bytes_at, with_places, without_places}
 use Rattle.word_code.specs.RoutineTable.{Cell}
 use Rattle.word_code.specs.declared.word.TheConstants.{SPARE_ROOM}
@@ -72,6 +73,7 @@ place_cell m sized a whole low high =
 pub record Grown (m more : Memory) (room : ℕ) : Type 0 where
   pub statics : length more.statics ≡ length m.statics
   pub heap : length more.heap ≡ length m.heap
+  pub same_heap : more.heap ≡ m.heap
   pub places : length more.places ≡ length m.places + room
   pub bytes : (at n : ℕ) → at + n ≤ stack_at + length m.places → bytes_at more at n ≡ bytes_at m at n
   pub may : (a : ℕ) → a + 4 ≤ stack_at + length m.places → may_put more a Word ≡ may_put m a Word
@@ -117,6 +119,7 @@ pub places_come : (m : Memory) (room : ℕ) (bytes : List ℕ) → Grown m (with
 places_come m zero bytes = record {
   statics = refl;
   heap = refl;
+  same_heap = refl;
   places = omega arith;
   bytes = λ at n within. refl;
   may = λ a within. refl;
@@ -129,6 +132,7 @@ places_come m (suc n) bytes =
     record {
       statics = refl;
       heap = refl;
+      same_heap = refl;
       places = omega (arith, l, long);
       bytes = λ at n within. bytes_same m m.places new at n within;
       may = λ a within. may_same m m.places new a within;
@@ -139,6 +143,7 @@ pub places_go : (m : Memory) (room : ℕ) → room ≤ length m.places → Grown
 places_go m zero le = record {
   statics = refl;
   heap = refl;
+  same_heap = refl;
   places = omega arith;
   bytes = λ at n within. refl;
   may = λ a within. refl;
@@ -152,6 +157,7 @@ places_go m (suc n) le =
     record {
       statics = refl;
       heap = refl;
+      same_heap = refl;
       places = omega (arith, long, le);
       bytes = λ at n within. ap (λ ps. bytes_at (record m { places = ps }) at n) (sym both) ∙ bytes_same m front behind at n within;
       may = λ a within. ap (λ ps. may_put (record m { places = ps }) a Word) (sym both) ∙ may_same m front behind a within;
@@ -190,6 +196,7 @@ module _ (m more : Memory) (room : ℕ) (g : Grown m more room) where
       sized = sized;
       statics = g.statics ∙ good.statics;
       heap = g.heap ∙ good.heap;
+      bytes = subst AreBytes (sym g.same_heap) good.bytes;
       places = long;
       cells = cells;
       texts = λ at n is. g.bytes at n (let t = text_within at n is.0 in omega (arith, t)) ∙ good.texts at n is;
@@ -224,6 +231,7 @@ module _ (m more : Memory) (room : ℕ) (g : Grown m more room) where
       sized = sized;
       statics = sym g.statics ∙ good.statics;
       heap = sym g.heap ∙ good.heap;
+      bytes = subst AreBytes g.same_heap good.bytes;
       places = long;
       cells = cells;
       texts = λ at n is. sym (g.bytes at n (let t = text_within at n is.0 in omega (arith, t))) ∙ good.texts at n is;

@@ -14,7 +14,7 @@ use Rattle.word_lowering.specs.declared.homes.Home.TheVariants.{Variable}
 use Rattle.word_lowering.specs.declared.homes.TheConstants.{FIRST, LEFT, OWN_FROM}
 use Rattle.word_lowering.specs.Spots.{spot_of}
 use Rattle.word_lowering.proofs.HeapKept.{SameHeap}
-use Rattle.word_lowering.proofs.Keeping.{call, Edit, own_text, value_no_location, value_no_place, spot_held, beyond}
+use Rattle.word_lowering.proofs.Keeping.{call, Edit, own_text, value_no_location, value_no_place, spot_held, beyond, value_no_waiting}
 use Rattle.word_lowering.proofs.Lines.{Basis, all_procs, starts, IsGood, Settles}
 use Rattle.word_lowering.proofs.Moves.{single_word, same_first}
 use Rattle.word_lowering.proofs.Options.{some_same}
@@ -22,11 +22,12 @@ use Rattle.word_lowering.proofs.OrdinalRuns.{put_other, put_here as put_same}
 use Rattle.word_lowering.proofs.Related.{Both, Waits, low, MemoryGood, store_with}
 use Rattle.word_lowering.proofs.Returned.{called, back, good_back, sites_left, linked_left, waits_lower, memory_left, good_left, heap_left, left_read}
 use Rattle.word_lowering.proofs.ReturnLines.{place_high}
-use Rattle.word_lowering.proofs.Scenes.{At, Name, of_value, house, IsNamed, IsThere, looked, IsItem}
+use Rattle.word_lowering.proofs.Scenes.{At, Name, of_value, house, IsNamed, IsThere, looked, IsItem, HasVariable}
 use Rattle.word_lowering.proofs.Sites.{Site}
 use Rattle.word_lowering.proofs.SitesApart.{variables_apart}
-use Rattle.word_lowering.proofs.ValueFacts.{value_plain, numbers_there}
+use Rattle.word_lowering.proofs.ValueFacts.{value_plain}
 use Rattle.word_lowering.proofs.Items.{item_of}
+use Rattle.word_lowering.proofs.ShapeFacts.{of_numbers}
 
 -- ---- temporaries of which one gets a value
 
@@ -57,7 +58,7 @@ module _ (x : Basis) (h : Both) (w : Waits) (ws : List Waits) (line : BlockLine)
 
   -- the caller comes there
   pub settles_back : (work : ℕ) (vars : Vars) (m : Memory) (words : Vars) (awaits : ℕ) → IsGood x (go vars m words awaits) → (n : ℕ) → 0 < n
-      → n ≤ 16 * work → Runs x.live (all_procs x) n (low x.table x.blocks (starts g line rest)) (low x.table x.blocks (go vars m words awaits))
+      → n ≤ 256 * work → Runs x.live (all_procs x) n (low x.table x.blocks (starts g line rest)) (low x.table x.blocks (go vars m words awaits))
       → Settles x (starts g line rest) rest (BlockReturns v work)
   settles_back work vars m words awaits good n some few runs = λ before.
       let r = runs.by x.fresh before in (
@@ -101,46 +102,60 @@ module _ (x : Basis) (h : Both) (w : Waits) (ws : List Waits) (line : BlockLine)
 
   -- ---- it gets the value
 
-  module _ (there : IsThere w.call.site (of_value w.to)) (shaped : has_shape v (looked x.table w.call.site (of_value w.to)) ≡ true) where
+  -- whatever that has
+  pub good_gets_item : IsThere w.call.site (of_value w.to) → (vars : Vars) (m : Memory) (words : Vars) (awaits : ℕ)
+      → MemoryGood x.table x.blocks (sites_left x h w ws line rest y) x.first m → SameHeap h.memory m
+      → Edit x.table x.blocks x.small (sites_left x h w ws line rest y) (linked_left x h w ws line rest y) w.call.site (of_value w.to) h.memory m
+      → ((f : Name) (u : ℕ) → IsThere w.call.site f → f ≢ of_value w.to → HasVariable w.call.site f u → vars u ≡ w.call.vars u)
+      → vars LEFT ≡ w.call.vars LEFT
+      → IsItem x.table (store_with h m) (call w.call.site temps_then vars) (of_value w.to) v
+      → IsGood x (go vars m words awaits)
+  good_gets_item there vars m words awaits memory still edit variables left item_then =
+      good_back x h w ws line rest y w.call.site (of_value w.to) temps_then vars m words awaits memory still edit
+      (record {
+        values = λ u is away. with_away w.call.temps w.to v u (other u away);
+        places = λ u away. refl;
+        texts = λ u n k named e away. with_away w.call.temps w.to v u (other u away);
+        still = λ u a e. with_still w.call.temps w.to v u a e;
+        variables = λ f u is away home. variables f u is (other_name f away) home;
+        left = left;
+      })
+      (λ e. record {
+        item = λ u is k. subst (λ z. IsItem x.table (store_with h m) (call w.call.site temps_then vars) (of_value w.to) z)
+            (with_here w.call.temps w.to v u k) item_then;
+        text = λ u n k z f a b. own_text w.call.site (of_value u) n k (subst (IsThere w.call.site) (sym f) there) a;
+        led = λ u where_it f named k. absurd (value_no_location w.to u (sym f));
+        filled = λ n f k. absurd (value_no_place w.to n (sym f));
+        waits = λ n f. absurd (value_no_waiting w.to n (sym f));
+      })
+      (λ c i e. let b = waits_lower x h w ws line rest y c i in omega (arith, b, e))
+    where
+      other : (u : ℕ) → (w.call.site.level ≢ w.call.site.level) ⊎ (of_value u ≢ of_value w.to) → u ≢ w.to
+      other u (inl ne) e = ne refl
+      other u (inr ne) e = ne (ap of_value e)
+
+      other_name : (f : Name) → (w.call.site.level ≢ w.call.site.level) ⊎ (f ≢ of_value w.to) → f ≢ of_value w.to
+      other_name f (inl ne) e = ne refl
+      other_name f (inr ne) e = ne e
+
+  module _ (there : IsThere w.call.site (of_value w.to)) (numbers : of_numbers (looked x.table w.call.site (of_value w.to)) ≡ true)
+      (shaped : has_shape v (looked x.table w.call.site (of_value w.to)) ≡ true) where
     pub good_gets : (vars : Vars) (m : Memory) (words : Vars) (awaits : ℕ) → MemoryGood x.table x.blocks (sites_left x h w ws line rest y) x.first m
         → SameHeap h.memory m
         → Edit x.table x.blocks x.small (sites_left x h w ws line rest y) (linked_left x h w ws line rest y) w.call.site (of_value w.to) h.memory m
-        → ((f : Name) (u : ℕ) → IsThere w.call.site f → f ≢ of_value w.to → (house w.call.site f).home ≡ Variable u → vars u ≡ w.call.vars u)
+        → ((f : Name) (u : ℕ) → IsThere w.call.site f → f ≢ of_value w.to → HasVariable w.call.site f u → vars u ≡ w.call.vars u)
         → vars LEFT ≡ w.call.vars LEFT
         → At m w.call.site.base vars (spot_of (house w.call.site (of_value w.to))) v
         → IsGood x (go vars m words awaits)
     good_gets vars m words awaits memory still edit variables left at_place =
-        good_back x h w ws line rest y w.call.site (of_value w.to) temps_then vars m words awaits memory still edit
-        (record {
-          values = λ u is away. with_away w.call.temps w.to v u (other u away);
-          places = λ u away. refl;
-          texts = λ u n k named e away. with_away w.call.temps w.to v u (other u away);
-          still = λ u a e. with_still w.call.temps w.to v u a e;
-          variables = λ f u is away home. variables f u is (other_name f away) home;
-          left = left;
-        })
-        (λ e. record {
-          item = λ u is k. subst (λ z. IsItem x.table (store_with h m) (call w.call.site temps_then vars) (of_value w.to) z)
-              (with_here w.call.temps w.to v u k) (item_of x.table (store_with h m) (call w.call.site temps_then vars) (of_value w.to) v
-              (numbers_there x w.call.site (of_value w.to) y.linked.5.0 there) (record {
-                there = there;
-                plain = value_plain (house w.call.site (of_value w.to)).kind there.kind;
-                shaped = shaped;
-                at = at_place;
-              }));
-          text = λ u n k z f a b. own_text w.call.site (of_value u) n k (subst (IsThere w.call.site) (sym f) there) a;
-          led = λ u where_it f named k. absurd (value_no_location w.to u (sym f));
-          filled = λ n f k. absurd (value_no_place w.to n (sym f));
-        })
-        (λ c i e. let b = waits_lower x h w ws line rest y c i in omega (arith, b, e))
-      where
-        other : (u : ℕ) → (w.call.site.level ≢ w.call.site.level) ⊎ (of_value u ≢ of_value w.to) → u ≢ w.to
-        other u (inl ne) e = ne refl
-        other u (inr ne) e = ne (ap of_value e)
-
-        other_name : (f : Name) → (w.call.site.level ≢ w.call.site.level) ⊎ (f ≢ of_value w.to) → f ≢ of_value w.to
-        other_name f (inl ne) e = ne refl
-        other_name f (inr ne) e = ne e
+        good_gets_item there vars m words awaits memory still edit variables left
+        (item_of x.table (store_with h m) (call w.call.site temps_then vars) (of_value w.to) v (record {
+          there = there;
+          numbers = numbers;
+          plain = value_plain (house w.call.site (of_value w.to)) there.kind;
+          shaped = shaped;
+          at = at_place;
+        }))
 
     -- in a variable
     pub good_word_back : (u : ℕ) → (house w.call.site (of_value w.to)).home ≡ Variable u → single_word v < 2 ^ 32 → (awaits : ℕ)
@@ -153,5 +168,5 @@ module _ (x : Basis) (h : Both) (w : Waits) (ws : List Waits) (line : BlockLine)
         (variables_apart x.table x.blocks w.call.site (of_value w.to) f u n y.linked.5.0 there is (λ e. ne (sym e)) home k))
         (put_other w.call.vars u (single_word v) LEFT (λ e. absurd (omega (arith, high_u, e))))
         (subst (λ p. At memory_back w.call.site.base (put w.call.vars u (single_word v)) p v)
-        (sym (spot_held (house w.call.site (of_value w.to)) u (value_plain (house w.call.site (of_value w.to)).kind there.kind) home))
+        (sym (spot_held (house w.call.site (of_value w.to)) u (value_plain (house w.call.site (of_value w.to)) there.kind) home))
         (put_same w.call.vars u (single_word v) small))

@@ -1,10 +1,10 @@
 -- What is true of the calls that wait, where another one begins: the frames below it stay.
-use Rattle.std.proofs.Common.{◌≡◌, ◌≢◌, inl, inr, ℕ, zero, suc, ◌-◌, ◌<◌, ◌≤◌, List, [], ◌∷◌, ◌++◌, length}
+use Rattle.std.proofs.Common.{◌≡◌, ◌≢◌, inl, inr, ℕ, zero, suc, ◌-◌, ◌<◌, ◌≤◌, List, [], ◌∷◌, ◌++◌, length, subst, sym}
 use Rattle.std.proofs.Common.{map, Option, Some, None, replicate, refl, ap, ◌∙◌, arith, length-append}
 use Rattle.std.specs.Prelude.{slice_get, slice_set}
 use Rattle.std.proofs.lemmas.List.{length-replicate}
 use Rattle.nim_meaning.specs.Values.{Slot, Standing}
-use Rattle.nim_meaning.specs.State.{World, Frame, with_frame, with_slot, with_slot_of, slot_at, slot_of, frame_in, frame_at, joined}
+use Rattle.nim_meaning.specs.State.{World, Frame, with_frame, with_slot, with_slot_of, slot_at, slot_of, frame_in, frame_at, joined, temporary_in}
 use Rattle.nim_meaning.specs.Places.{through_slot}
 use Rattle.nim_meaning.specs.Meaning.{filled}
 use Rattle.word_lowering.proofs.Keeping.{AmongCalls, Worlds, all_kept, Edit}
@@ -14,6 +14,7 @@ use Rattle.word_lowering.proofs.Related.{AllFrames}
 use Rattle.word_lowering.proofs.Scenes.{Call, of_value, site_of, AllHold, Store, IsLater}
 use Rattle.word_lowering.proofs.Sites.{Site, AmongSites, Linked}
 use Rattle.word_lowering.proofs.SitesApart.{site_at}
+use Rattle.word_lowering.proofs.Temporaries.{AreOnce}
 
 -- ---- lists that become longer by one
 
@@ -100,6 +101,9 @@ module _ (x : Basis) (calls : List Call) (linked : Linked x.table x.blocks (map 
   below : (s : Site) → AmongSites s sites → s.level < length sites
   below s i = (site_at x.table x.blocks sites s linked i).level
 
+  frame_then : (s : Site) → AmongSites s sites → slice_get world_then.frames s.level ≡ slice_get w.frames s.level
+  frame_then s i = get_append w.frames (frame ∷ []) s.level (let b = below s i in omega (arith, b, levels))
+
   pub slot_then : (s : Site) (n : ℕ) → AmongSites s sites → slot_at world_then s.level n ≡ slot_at w s.level n
   slot_then s n i = ap (λ f. slot_of (frame_in f) n) (get_append w.frames (frame ∷ []) s.level (let b = below s i in omega (arith, b, levels)))
 
@@ -123,6 +127,8 @@ module _ (x : Basis) (calls : List Call) (linked : Linked x.table x.blocks (map 
       slots = λ s n i there away. slot_then s n i;
       more = λ s n i there h. (h.0, slot_then s n i ∙ h.1);
       roots = λ s n i there h. ap (through_slot (Standing s.level n)) (slot_then s n i);
+      waits = λ s node i away. ap (λ f. temporary_in (frame_in f).temporaries node) (frame_then s i);
+      once = λ s i h. subst (λ f. AreOnce (frame_in f).temporaries) (sym (frame_then s i)) h;
     }
 
     pub callers_hold : (k k' : Store) → Edit x.table x.blocks x.small sites linked lo (of_value 0) k.memory k'.memory → IsLater k.ground k'.ground

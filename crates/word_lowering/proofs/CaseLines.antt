@@ -223,7 +223,8 @@ module _ (x : Basis) (labels : LabelsLead x) (g : Both) (rest : List BlockLine) 
       goal false true e f =
           let same : low ≡ high = (Decides-int_eq low high).0 f in
           let is : (word (number_of v) == word low) ≡ (branch (int_le low (number_of v)) (int_le (number_of v) high) false)
-          = equal_is (number_of v) low o.fits low_fits ∙ one_is low (number_of v) ∙ ap (λ h. branch (int_le low (number_of v)) (int_le (number_of v) h) false) same in
+          = equal_is (number_of v) low o.fits low_fits ∙ one_is low (number_of v)
+          ∙ ap (λ h. branch (int_le low (number_of v)) (int_le (number_of v) h) false) same in
           where_settles x g line rest y labels (branch (int_le low (number_of v)) (int_le (number_of v) high) false) name
           (λ h there stands. subst (λ l. Here l there) (sym (is_chosen false true e f)) (one_leads (is ∙ h) there stands))
           (λ h. passes_settles x g line rest y g.call.temps (same_temps x g line rest y) 1 (omega arith)
@@ -236,7 +237,8 @@ module _ (x : Basis) (labels : LabelsLead x) (g : Both) (rest : List BlockLine) 
           (subst (λ l. Here l k) (sym (is_chosen false false e f)) (range_passes e (is ∙ h))))
 
   pub fits_line : FollowedHere x labels g rest (L.Fits from (C.Ordinals low high) name)
-  fits_line y =
+  fits_line names y =
       using_settles x (starts g line rest) rest (g.call.temps.values from)
-      (λ v. leaps_where (scene_of (high_state x.table x.blocks (starts g line rest))) 1 (branch (int_le low (number_of v)) (int_le (number_of v) high) false) name)
+      (λ v. leaps_where (scene_of (high_state x.table x.blocks (starts g line rest))) 1
+      (branch (int_le low (number_of v)) (int_le (number_of v) high) false) name)
       (λ v e. goal y v (ordinal_read x g line rest y from v (kinds y).0 e) (int_lt high low) (int_eq low high) refl refl)

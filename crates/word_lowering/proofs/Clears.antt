@@ -10,11 +10,11 @@ use Rattle.word_code.specs.declared.word.WordInstr.{WordInstr}
 use Rattle.word_code.specs.Words.{put}
 use Rattle.flat_code.specs.Shapes.{has_shape, shape_of}
 use Rattle.flat_code.specs.Fits.{is_own}
-use Rattle.word_lowering.proofs.ShapeFacts.{never, values_of_numbers}
+use Rattle.word_lowering.proofs.ShapeFacts.{never, values_of_numbers, of_numbers}
 use Rattle.word_code.proofs.ForCallers.{run_constant}
 use Rattle.word_lowering.specs.declared.spots.Spot.TheVariants.{Lies}
 use Rattle.word_lowering.specs.declared.texts.TheConstants.{FIXED_BYTES}
-use Rattle.word_lowering.specs.Layouts.{is_address}
+use Rattle.word_lowering.specs.Layouts.{holds_address}
 use Rattle.word_lowering.specs.Spots.{spot_of, cleared, clears, starts as started}
 use Rattle.word_lowering.specs.Operations.{word}
 use Rattle.word_lowering.proofs.Options.{some_same}
@@ -27,8 +27,8 @@ use Rattle.word_lowering.proofs.SitesApart.{houses}
 use Rattle.word_lowering.proofs.Keeping.{spot_memory, spot_held, points_there}
 use Rattle.word_lowering.proofs.Related.{Both, body_of, within, routines, high}
 use Rattle.word_lowering.proofs.Lines.{Basis, all_procs, reaches, data_there, fits_here, starts, IsGood, known, all_sites, Settles, bound_for}
-use Rattle.word_lowering.proofs.ValueFacts.{value_plain, type_in}
-use Rattle.word_lowering.proofs.ControlLines.{FollowedHere, plain, value_type}
+use Rattle.word_lowering.proofs.ValueFacts.{value_plain, type_in, IsPlain}
+use Rattle.word_lowering.proofs.ControlLines.{plain, value_type}
 use Rattle.word_lowering.proofs.Sources.{lying_all, lying_area, lying_near, size_is, word_is, more_steps}
 use Rattle.word_lowering.proofs.Gets.{Gets, gets_word, gets_bytes, value_settles, nothing_temps}
 use Rattle.flat_code.specs.Lines.{gives}
@@ -45,6 +45,7 @@ use Rattle.word_lowering.proofs.OperandLines.{value_type_by}
 use Rattle.word_lowering.proofs.Settling.{LabelsLead, code_next, code_here, silent_settles}
 use Rattle.word_lowering.proofs.Targets.{target, no_target, unnamed_value}
 use Rattle.flat_code.specs.Scene.{with_value}
+use Rattle.flat_code.specs.Codes.{block_does}
 
 module _ (x : Basis) (g : Both) (line : BlockLine) (rest : List BlockLine) (y : IsGood x (starts g line rest)) where
   -- zeros in memory
@@ -94,19 +95,20 @@ module _ (x : Basis) (g : Both) (line : BlockLine) (rest : List BlockLine) (y : 
   zero_word (Gone value final) zero_value h = absurd zero_value
   zero_word Vacant zero_value h = absurd zero_value
 
-  pub gets_cleared : (f : Name) → IsThere g.call.site f → is_address (house g.call.site f).kind ≡ false → (v : Value)
-      → has_shape v (looked x.table g.call.site f) ≡ true → AllZero v → (k : List WordInstr) → Gets x g line rest y
+  pub gets_cleared : (f : Name) → IsThere g.call.site f → holds_address (house g.call.site f) ≡ false → (v : Value)
+      → of_numbers (looked x.table g.call.site f) ≡ true → has_shape v (looked x.table g.call.site f) ≡ true → AllZero v → (k : List WordInstr) →
+      Gets x g line rest y
       (clears (house g.call.site f) k) k f v (9 + bytes v)
-  gets_cleared f there plain v shaped zero_value k = by (houses x.table x.blocks g.call.site f y.linked.0 there).where_is
+  gets_cleared f there plain v numbers shaped zero_value k = by (houses x.table x.blocks g.call.site f y.linked.0 there).where_is
     where
       size : (house g.call.site f).bytes ≡ bytes v
-      size = size_is x (all_sites x g line rest y) y.linked g.call (inl refl) f there plain v shaped
+      size = size_is x (all_sites x g line rest y) y.linked g.call (inl refl) f there plain v numbers shaped
 
       single : (house g.call.site f).is_word ≡ is_single v
-      single = word_is x (all_sites x g line rest y) y.linked g.call (inl refl) f there plain v shaped
+      single = word_is x (all_sites x g line rest y) y.linked g.call (inl refl) f there plain v numbers shaped
 
       bytes_in : InMemory (house g.call.site f).home → Gets x g line rest y (clears (house g.call.site f) k) k f v (9 + bytes v)
-      bytes_in inside = gets_bytes x g line rest y f there plain v shaped (clears (house g.call.site f) k) k (9 + bytes v) inside
+      bytes_in inside = gets_bytes x g line rest y f there plain v numbers shaped (clears (house g.call.site f) k) k (9 + bytes v) inside
           (subst (λ l. ToMemory x.law x.live (all_procs x) (within x.table x.blocks g) refl g.words g.memory l g.call.vars
           (address_of g.call.site.base (house g.call.site f).home) v (9 + bytes v) k)
           (sym (ap₂ (λ a b. cleared a b (spot_of (house g.call.site f)) k) single size ∙ ap (λ p. cleared (is_single v) (bytes v) p k)
@@ -133,7 +135,7 @@ module _ (x : Basis) (g : Both) (line : BlockLine) (rest : List BlockLine) (y : 
 
       by : Housing (room (body_of g)) FIXED_BYTES (data_end x.table x.blocks) (body_of g).start (house g.call.site f) → Gets x g line rest y
           (clears (house g.call.site f) k) k f v (9 + bytes v)
-      by (in_variable t e p low is_word) = more (gets_word x g line rest y f there plain v shaped (clears (house g.call.site f) k) k t e
+      by (in_variable t e p low is_word) = more (gets_word x g line rest y f there plain v numbers shaped (clears (house g.call.site f) k) k t e
           (subst (λ l. ToVariable x.law x.live (all_procs x) (within x.table x.blocks g) refl g.words g.memory l g.call.vars t v k)
           (sym (ap (λ q. cleared (house g.call.site f).is_word (house g.call.site f).bytes q k) (spot_held (house g.call.site f) t p e))) (record {
             vars = put g.call.vars t 0;
@@ -154,45 +156,48 @@ module _ (x : Basis) (labels : LabelsLead x) (g : Both) (rest : List BlockLine) 
   abbrev start_of : ℕ → Ty
   start_of ty = type_at (known x).types ty
 
-  pub blank_line : (n ty : ℕ) → FollowedHere x labels g rest (L.Blank n ty)
-  blank_line n ty y =
+  -- of a type without hooks
+  pub blank_numbers : (n ty : ℕ) → IsPlain x g.call.site (of_place n) → (y : IsGood x (starts g (plain (L.Blank n ty)) rest))
+      → Settles x (starts g (plain (L.Blank n ty)) rest) rest
+      (block_does (known x) (scene_of (high x.table x.blocks (starts g (plain (L.Blank n ty)) rest))) (plain (L.Blank n ty)))
+  blank_numbers n ty plain_place y =
       let line = plain (L.Blank n ty) in
       let v : Value = default_of (facts_in x.table) (start_of ty) in
       let f = are_of (type_in x is_own (body_of g) n) (Some (start_of ty)) (fits_here x.table x.blocks (body_of g) line rest y.stands) in
       let same : start_of ty ≡ f.ty = some_same (start_of ty) f.ty f.is_other in
-      let o = own_place x g line rest y n (start_of ty) (f.is ∙ ap Some (sym same)) in
+      let o = own_place x g line rest y n (start_of ty) (f.is ∙ ap Some (sym same)) plain_place in
       let look : has_shape v (looked x.table g.call.site (of_place n)) ≡ true = subst (λ s. has_shape v s ≡ true) (sym o.look) (x.defaults ty) in
       let next = code_next x g line rest y in
-      let r = gets_cleared x g line rest y (of_place n) o.there (own_plain (house g.call.site (of_place n)).kind o.own) v look
+      let r = gets_cleared x g line rest y (of_place n) o.there (own_plain (house g.call.site (of_place n)) o.own) v o.here look
       (blank_zero (form_of (facts_in x.table) (start_of ty)) o.unhooked) next in
       place_settles x g line rest y n (start_of ty) v (9 + bytes v) (1 + (bytes v + 0)) o (x.defaults ty)
       (subst (λ h. Gets x g line rest y (clears h next) next (of_place n) v (9 + bytes v)) (sym o.same) r) (omega arith)
 
   -- an operation that gives the default of its type
   pub default_line : (to : ℕ) (how : UseAt) (ty : Option ℕ) (from : List From) → RowHere x g rest to O.Default how ty [] from
-  default_line to how (Some ty) [] y =
+  default_line to how (Some ty) [] names y =
       let line = plain (L.Apply to O.Default how (Some ty) [] []) in
-      let fit = applies x g rest to O.Default how (Some ty) [] [] y in
+      let fit = applies x g rest to O.Default how (Some ty) [] [] names y in
       let v : Value = default_of (facts_in x.table) (start_of ty) in
       let typed = value_type_by (value_type x g line rest y to) (Some (start_of ty)) (start_of ty) fit.given refl in
-      let t = target x g line rest y to (start_of ty) refl refl typed in
+      let t = target x g line rest y to (start_of ty) refl refl typed names.0 in
       let look : has_shape v (looked x.table g.call.site (of_value to)) ≡ true = subst (λ s. has_shape v s ≡ true) (sym t.look) (x.defaults ty) in
       let some = bytes_some v (values_of_numbers v (shape_of (facts_in x.table) (start_of ty)) t.numbers (x.defaults ty)) in
       let size = size_is x (all_sites x g line rest y) y.linked g.call (inl refl) (of_value to) t.there
-      (value_plain (house g.call.site (of_value to)).kind t.there.kind) v look in
+      (value_plain (house g.call.site (of_value to)) t.there.kind) v t.here look in
       let code : code_here x g line rest y ≡ clears (house g.call.site (of_value to)) (code_next x g line rest y)
       = starts_there (house g.call.site (of_value to)).bytes (house g.call.site (of_value to)) (code_next x g line rest y) (omega (arith, some, size)) in
       subst (λ b. Settles x (starts g line rest) rest (gives (scene_of (high x.table x.blocks (starts g line rest))) to
       (costs 1 (costs (bytes v) (give v)) >>= made_by b (bound_for g how)))) (sym t.unhooked)
-      (value_settles x g line rest y to v (9 + bytes v) (1 + (bytes v + 0)) t.there look
+      (value_settles x g line rest y to v (9 + bytes v) (1 + (bytes v + 0)) t.there t.here look
       (subst (λ l. Gets x g line rest y l (code_next x g line rest y) (of_value to) v (9 + bytes v)) (sym code)
-      (gets_cleared x g line rest y (of_value to) t.there (value_plain (house g.call.site (of_value to)).kind t.there.kind) v look
+      (gets_cleared x g line rest y (of_value to) t.there (value_plain (house g.call.site (of_value to)) t.there.kind) v t.here look
       (blank_zero (form_of (facts_in x.table) (start_of ty)) t.unhooked) (code_next x g line rest y))) (omega arith))
-  default_line to how None [] y =
+  default_line to how None [] names y =
       let line = plain (L.Apply to O.Default how None [] []) in
-      let fit = applies x g rest to O.Default how None [] [] y in
+      let fit = applies x g rest to O.Default how None [] [] names y in
       let none = no_type (value_type x g line rest y to) fit.given in
       silent_settles x g line rest y (with_value to g.call.temps nothing)
       (nothing_temps x g line rest y to nothing (no_target x g line rest y to none)) (1 + (bytes nothing + 0))
       (ap (λ h. started h.bytes h (code_next x g line rest y)) (unnamed_value x g line rest y to none))
-  default_line to how ty (from ∷ others) y = never (applies x g rest to O.Default how ty [] (from ∷ others) y).typed
+  default_line to how ty (from ∷ others) names y = never (applies x g rest to O.Default how ty [] (from ∷ others) names y).typed

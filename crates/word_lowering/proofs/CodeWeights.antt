@@ -6,6 +6,8 @@ use Rattle.std.proofs.Common.{refl, ap, subst, arith}
 use Rattle.std.proofs.lemmas.Bool.{and_parts}
 use Rattle.nim_types.specs.declared.types.TypeDef.{TypeDef}
 use Rattle.nim_types.specs.declared.types.TypeDef.TheVariants as D
+use Rattle.nim_program.specs.declared.operation.Measure.{Measure}
+use Rattle.nim_program.specs.declared.operation.Measure.TheVariants.{Len}
 use Rattle.nim_program.specs.declared.operation.Operation.{Operation}
 use Rattle.nim_program.specs.declared.operation.Operation.TheVariants as O
 use Rattle.nim_program.specs.Traps.{Trap, Overflow, DivisionByZero, IndexOutOfBounds, OutOfRange, LengthChanged, CallDepth}
@@ -19,7 +21,8 @@ use Rattle.flat_code.specs.Codes.{block_plain}
 use Rattle.flat_code.specs.Running.{last_of}
 use Rattle.flat_code.specs.Sizes.{weight_of, weight, summed, proc_weight, code_weight}
 use Rattle.word_code.specs.declared.word.WordInstr.{WordInstr}
-use Rattle.word_code.specs.declared.word.WordInstr.TheVariants.{Argument}
+use Rattle.word_code.specs.declared.word.Test.TheVariants as test
+use Rattle.word_code.specs.declared.word.WordInstr.TheVariants.{Argument, Branch}
 use Rattle.word_code.specs.declared.word.WordProc.{WordProc}
 use Rattle.word_code.specs.RoutineTable.{trap_number}
 use Rattle.word_code.specs.Sizes.{word_weight}
@@ -37,6 +40,8 @@ use Rattle.word_lowering.specs.Aliases.{text_in}
 use Rattle.word_lowering.specs.Layouts.{is_empty, layouts, layout_of, params_in, result_in}
 use Rattle.word_lowering.specs.LineCode.{Around, no_layout, proc_number}
 use Rattle.word_lowering.specs.LineCode as lines
+use Rattle.word_lowering.specs.OwnedCode as owned
+use Rattle.word_lowering.specs.RoutineCode.{join_code}
 use Rattle.word_lowering.specs.Lowered as code
 use Rattle.word_lowering.specs.MayLower.{proc_may, procs_may, may_lower}
 use Rattle.word_lowering.specs.Operations.{word, trap_label}
@@ -46,9 +51,12 @@ use Rattle.word_lowering.specs.Texts.{texts_in}
 use Rattle.word_lowering.specs.WaitingCode.{none_code}
 use Rattle.word_lowering.proofs.PieceWeights.{moved_weighs, cleared_weighs, handed_weighs, binary_weighs, unary_weighs, compare_weighs, fits_weighs}
 use Rattle.word_lowering.proofs.PieceWeights.{turn_weighs, beyond_weighs, constant_weighs, part_weighs, element_weighs, word_argument_weighs}
-use Rattle.word_lowering.proofs.PieceWeights.{literal_weighs, back_weighs, parts_weigh, moves_weigh, clears_weigh, passes_weigh, starts_weigh}
+use Rattle.word_lowering.proofs.PieceWeights.{told_by_weighs, back_weighs, parts_weigh, moves_weigh, clears_weigh, passes_weigh, starts_weigh}
 use Rattle.word_lowering.proofs.PieceWeights.{converted_weighs, update_weighs, quit_weighs, swap_weighs}
 use Rattle.word_lowering.proofs.KeptCode.{kept_quiet, owning_quiet}
+use Rattle.word_lowering.proofs.OwnedWeights.{add_weighs, append_weighs, compare_text_weighs, element_read_weighs, enough_weighs, join_weighs, measure_weighs}
+use Rattle.word_lowering.proofs.OwnedWeights.{new_weighs, owned_element_weighs, owned_item_weighs, pop_weighs, read_weighs, sequence_weighs, shown_weighs}
+use Rattle.word_lowering.proofs.OwnedWeights.{sized_weighs}
 use Rattle.word_lowering.proofs.WaiterHomes.{none_waits}
 
 module _ (x : Around) where
@@ -58,7 +66,7 @@ module _ (x : Around) where
   written_weighs (Some D.Bool) ty from k = omega arith
   written_weighs (Some D.Char) ty from k = omega arith
   written_weighs (Some (D.Enum name at members)) ty from k = omega arith
-  written_weighs (Some D.Text) ty from k = literal_weighs (lines.literal_at x) from.alias k
+  written_weighs (Some D.Text) ty from k = told_by_weighs (lines.literal_at x) from.alias from.home k
   written_weighs (Some (D.Seq i)) ty from k = omega arith
   written_weighs (Some (D.Param n)) ty from k = omega arith
   written_weighs (Some (D.Array n i)) ty from k = omega arith
@@ -80,31 +88,82 @@ module _ (x : Around) where
       let j = texts_weigh tys hs k in
       omega (arith, i, j)
 
+  measured_weighs : (handle : Bool) (measure : Measure) (to : ℕ) (from : Housed) (k : List WordInstr)
+      → length (lines.measure_code x handle measure to from k) ≤ 3 + length k
+  measured_weighs true measure to from k = measure_weighs x measure to from.home k
+  measured_weighs false measure to from k = omega arith
+
+  -- a length alone takes one line less
+  length_weighs : (handle : Bool) (to : ℕ) (from : Housed) (k : List WordInstr) → length (lines.measure_code x handle Len to from k) ≤ 2 + length k
+  length_weighs true to from k = omega arith
+  length_weighs false to from k = omega arith
+
+  item_at_weighs : (handle : Bool) (to from index : ℕ) (k : List WordInstr) → length (lines.item_at x handle to from index k) ≤ 8 + length k
+  item_at_weighs true to from index k =
+      owned_item_weighs (lines.led x to) (lines.location x from).home (lines.held x index) (owned.each_bytes x.table (lines.entry_from x from)) k
+  item_at_weighs false to from index k =
+      let h = element_weighs (lines.led x to) (lines.location x from).home (lines.held x index) (lines.bytes_each x from) k in omega (arith, h)
+
+  element_at_weighs : (handle : Bool) (from index : ℕ) (to : Housed) (k : List WordInstr)
+      → length (lines.element_at x handle from index to k) ≤ 13 + length k
+  element_at_weighs true from index to k =
+      let read : List WordInstr = owned.element_read (owned.is_text (lines.entry_from x from)) to k in
+      let h = owned_element_weighs FIFTH (lines.location x from).home (lines.held x index) (owned.each_bytes x.table (lines.entry_from x from)) read in
+      let i = element_read_weighs (owned.is_text (lines.entry_from x from)) to k in
+      omega (arith, h, i)
+  element_at_weighs false from index to k =
+      let read : List WordInstr = moved to.is_word to.bytes (spot_of to) (Lies (Variable FIFTH)) k in
+      let h = moved_weighs to.is_word to.bytes (spot_of to) (Lies (Variable FIFTH)) k in
+      let i = element_weighs FIFTH (lines.location x from).home (lines.held x index) (lines.bytes_each x from) read in
+      omega (arith, h, i)
+
   row_weighs : (operation : Operation) (label : ℕ) (ty : Option ℕ) (of : List (Option ℕ)) (to : Housed) (hs : List Housed) (k : List WordInstr)
       → length (lines.row_code x operation label ty of to hs k) ≤ weight_of operation (length hs) + length k
   row_weighs O.Default label ty of to hs k = starts_weigh to.bytes to k
   row_weighs (O.Unary operator) label ty of to hs k = unary_weighs operator _ _ k
   row_weighs (O.Binary operator) label ty of to hs k = binary_weighs label operator _ _ _ k
-  row_weighs (O.Compare c) label ty of to hs k = compare_weighs c _ _ _ k
+  row_weighs (O.Compare c) label ty of to hs k =
+      enough_weighs 2 hs (lines.compared_code x text c (lines.variable_of to) of hs k) k 10 3 (by text)
+    where
+      text : Bool
+      text = owned.is_text (owned.entry_of x.table (owned.type_of of 0))
+
+      by : (b : Bool) → length (lines.compared_code x b c (lines.variable_of to) of hs k) ≤ 23 + length k
+      by true = compare_text_weighs x c (lines.variable_of to) of hs (owned.left_of x of hs) (owned.right_of x of hs) k
+      by false =
+          let h = compare_weighs c (lines.variable_of to) (lines.variable_of (lines.operand_at hs 0)) (lines.variable_of (lines.operand_at hs 1)) k in
+          omega (arith, h)
   row_weighs O.Convert label ty of to hs k = converted_weighs (limit_at x.table ty) to (lines.operand_at hs 0) k
-  row_weighs O.Join label ty of to hs k = omega arith
-  row_weighs O.Show label ty of to hs k = omega arith
+  row_weighs O.Join label ty of to hs k =
+      enough_weighs 2 hs (owned.two_made x of hs (join_code to.home (owned.left_of x of hs) (owned.right_of x of hs) k)) k 10 1
+      (join_weighs x to.home of hs (owned.left_of x of hs) (owned.right_of x of hs) k)
+  row_weighs O.Show label ty of to hs k =
+      enough_weighs 1 hs (owned.shown_code x (owned.entry_of x.table (owned.type_of of 0)) to.home (owned.type_of of 0) (lines.operand_at hs 0) k) k 12 7
+      (shown_weighs x (owned.entry_of x.table (owned.type_of of 0)) to.home (owned.type_of of 0) (lines.operand_at hs 0) k)
   row_weighs O.Make label ty of to hs k = let h = parts_weigh to.home hs k in omega (arith, h)
-  row_weighs O.Sequence label ty of to hs k = omega arith
-  row_weighs O.NewSequence label ty of to hs k = omega arith
-  row_weighs (O.Measure measure) label ty of to hs k = omega arith
+  row_weighs O.Sequence label ty of to hs k = sequence_weighs x to.home (owned.size_in x to) hs k
+  row_weighs O.NewSequence label ty of to hs k = new_weighs x to.home (lines.variable_of (lines.operand_at hs 0)) (owned.size_in x to) k
+  row_weighs (O.Measure measure) label ty of to hs k =
+      measured_weighs (owned.has_handle (entry_at x.table (lines.operand_at hs 0).ty)) measure (lines.variable_of to) (lines.operand_at hs 0) k
   row_weighs O.IsNil label ty of to hs k = omega arith
   row_weighs O.Echo label ty of to hs k =
       let h = texts_weigh of hs (lines.text_code LINE_END_AT 1 k) in omega (arith, h)
   row_weighs O.Quit label ty of to hs k = quit_weighs hs k
   row_weighs O.ReadLine label ty of to hs k = omega arith
-  row_weighs O.ReadLineInto label ty of to hs k = omega arith
+  row_weighs O.ReadLineInto label ty of to hs k = read_weighs x (lines.variable_of to) (lines.operand_at hs 0).home k
   row_weighs O.Assign label ty of to hs k = moves_weigh (lines.operand_at hs 0) (lines.operand_at hs 1) k
   row_weighs (O.Update operator) label ty of to hs k = update_weighs label operator hs k
-  row_weighs O.Add label ty of to hs k = omega arith
-  row_weighs O.Append label ty of to hs k = omega arith
-  row_weighs O.SetLength label ty of to hs k = omega arith
-  row_weighs O.Pop label ty of to hs k = omega arith
+  row_weighs O.Add label ty of to hs k = add_weighs x (lines.operand_at hs 0).home (owned.size_in x (lines.operand_at hs 0)) (lines.operand_at hs 1) k
+  row_weighs O.Append label ty of to hs k =
+      append_weighs x (owned.type_of of 1) (lines.operand_at hs 1) (lines.operand_at hs 0).home (owned.right_of x of hs) k
+  row_weighs O.SetLength label ty of to hs k =
+      let there : Housed = lines.operand_at hs 0 in
+      let n : ℕ = lines.variable_of (lines.operand_at hs 1) in
+      enough_weighs 2 hs (owned.counted_code n (owned.sized_code x (owned.is_text (entry_at x.table there.ty)) label there.ty there.home n k)) k 8 2
+      (sized_weighs x (owned.is_text (entry_at x.table there.ty)) label there.ty there.home n k)
+  row_weighs O.Pop label ty of to hs k =
+      enough_weighs 1 hs (owned.popped_code to (lines.operand_at hs 0).home (owned.size_in x (lines.operand_at hs 0)) k) k 12 4
+      (pop_weighs x to (lines.operand_at hs 0).home (owned.size_in x (lines.operand_at hs 0)) k)
   row_weighs O.Move label ty of to hs k =
       let there : Housed = lines.operand_at hs 0 in
       let h = moves_weigh to there (cleared there.is_word there.bytes (spot_of there) k) in
@@ -205,8 +264,7 @@ module _ (x : Around) where
   line_weighs quiet (L.Fresh to from waits) label k = omega arith
   line_weighs quiet (L.Standing to ty pieces) label k = omega arith
   line_weighs quiet (L.Part to from field) label k = part_weighs (lines.led x to) (lines.location x from).home _ k
-  line_weighs quiet (L.Item to from index) label k =
-      let h = element_weighs (lines.led x to) (lines.location x from).home (lines.held x index) (lines.bytes_each x from) k in omega (arith, h)
+  line_weighs quiet (L.Item to from index) label k = item_at_weighs (owned.has_handle (lines.entry_from x from)) to from index k
   line_weighs quiet (L.Object to from) label k = omega arith
   line_weighs quiet (L.Pass to from how ty) label k = passes_weigh (lines.value x from).bytes (lines.value x to) (lines.value x from) k
   line_weighs quiet (L.Truth to holds) label k = omega arith
@@ -214,14 +272,12 @@ module _ (x : Around) where
   line_weighs quiet (L.Blank p ty) label k = clears_weigh (lines.own_place x p) k
   line_weighs quiet (L.Give p from) label k = moves_weigh (lines.own_place x p) (lines.value x from) k
   line_weighs quiet (L.Zero to) label k = omega arith
-  line_weighs quiet (L.Length to from) label k = omega arith
-  line_weighs quiet (L.Still from len) label k = omega arith
-  line_weighs quiet (L.Element to from index) label k =
-      let v : Housed = lines.value x to in
-      let h = moved_weighs v.is_word v.bytes (spot_of v) (Lies (Variable FIFTH)) k in
-      let i = element_weighs FIFTH (lines.location x from).home (lines.held x index) (lines.bytes_each x from)
-      (moved v.is_word v.bytes (spot_of v) (Lies (Variable FIFTH)) k) in
-      omega (arith, h, i)
+  line_weighs quiet (L.Length to from) label k = length_weighs (owned.has_handle (lines.entry_from x from)) (lines.held x to) (lines.location x from) k
+  line_weighs quiet (L.Still from len) label k =
+      let checked : List WordInstr = Branch test.Unequal (lines.held x len) FIRST (trap_label LengthChanged) ∷ k in
+      let h = length_weighs (owned.has_handle (lines.entry_from x from)) FIRST (lines.location x from) checked in
+      omega (arith, h)
+  line_weighs quiet (L.Element to from index) label k = element_at_weighs (owned.has_handle (lines.entry_from x from)) from index (lines.value x to) k
   line_weighs quiet (L.Beyond counter last inclusive to) label k =
       let h = beyond_weighs inclusive (lines.held x counter) (lines.held x last) (lines.own_label to) k in omega (arith, h)
   line_weighs quiet (L.Next counter last) label k = omega arith

@@ -31,7 +31,8 @@ use Rattle.word_lowering.proofs.Lines.{Basis, Settles, all_procs, known, mapped_
 use Rattle.word_lowering.proofs.NumberLines.{getting, high_target, variable}
 use Rattle.word_lowering.proofs.OperandLines.{truth_shaped, value_type_by, value_type_in, getting_any}
 use Rattle.word_lowering.proofs.OrdinalChecks.{compare_given, narrow_checks}
-use Rattle.word_lowering.proofs.Related.{Both, high, within}
+use Rattle.word_lowering.proofs.Related.{Both, body_of, high, within}
+use Rattle.word_lowering.proofs.Sites.{around}
 use Rattle.word_lowering.proofs.Settling.{LabelsLead, code_next, gives_settles, TrapsStop, code_here, code_of_line, trap_settles}
 use Rattle.word_lowering.proofs.ShapeFacts.{never}
 use Rattle.word_lowering.proofs.Targets.{plain_operands, target, Target}
@@ -43,12 +44,12 @@ use Rattle.nim_program.specs.Traps.{OutOfRange, trap_text}
 use Rattle.word_code.proofs.ForCallers.{none}
 use Rattle.word_code.specs.declared.word.WordInstr.{WordInstr}
 use Rattle.word_lowering.proofs.MovedLines.{moved_value, value_read}
-use Rattle.word_lowering.proofs.OperationRuns.{Checks}
+use Rattle.word_lowering.proofs.OperationRuns.{Checks, Given as IsGiven}
 use Rattle.word_lowering.proofs.Scenes.{house, of_value}
-use Rattle.word_lowering.proofs.ValueFacts.{Operand}
-use Rattle.word_lowering.specs.LineCode.{converted_code}
+use Rattle.word_lowering.proofs.ValueFacts.{Operand, PlainNames}
+use Rattle.word_lowering.specs.LineCode.{compared_code, converted_code, operands}
 use Rattle.word_lowering.specs.Lowered.{any_branches}
-use Rattle.word_lowering.specs.Operations.{trap_label}
+use Rattle.word_lowering.specs.Operations.{trap_label, word}
 
 -- ---- operands without hooks
 
@@ -62,9 +63,9 @@ module _ (x : Basis) (labels : LabelsLead x) (g : Both) (rest : List BlockLine) 
     comparing = plain (L.Apply to (O.Compare comparison) how ty (Some a ∷ b ∷ []) (F.Value left ∷ F.Value right ∷ []))
 
     pub compare_values : RowHere x g rest to (O.Compare comparison) how ty (Some a ∷ b ∷ []) (F.Value left ∷ F.Value right ∷ [])
-    compare_values y =
+    compare_values names y =
         let u : Ty = type_at (known x).types a in
-        let f = applies x g rest to (O.Compare comparison) how ty (Some a ∷ b ∷ []) (F.Value left ∷ F.Value right ∷ []) y in
+        let f = applies x g rest to (O.Compare comparison) how ty (Some a ∷ b ∷ []) (F.Value left ∷ F.Value right ∷ []) names y in
         let r = and_parts (is_bool (kind_if (facts_in x.table) (if_type (known x).types ty)))
         (is_of (Some u) (if_type (known x).types b) && is_compared comparison (plain_kind (facts_in x.table) u)) f.row in
         let q = and_parts (is_of (Some u) (if_type (known x).types b)) (is_compared comparison (plain_kind (facts_in x.table) u)) r.1 in
@@ -79,7 +80,7 @@ module _ (x : Basis) (labels : LabelsLead x) (g : Both) (rest : List BlockLine) 
         let shape = x.compared a comparison q.1 hooks in
         let k = some_kind (facts_in x.table) (if_type (known x).types ty) is_bool refl r.0 in
         let typed = value_type_by (value_type x g comparing rest y to) (if_type (known x).types ty) k.0 f.given k.1 in
-        let t = target x g comparing rest y to k.0 refl refl typed in
+        let t = target x g comparing rest y to k.0 refl refl typed names.0 in
         let bool = bool_shape (facts_in x.table) k.0 k.2 in
         let gives_it : Value → Value → Did = λ v w. gives (scene_of (high x.table x.blocks (starts g comparing rest))) to
         (costs 1 (costs (bytes v) (give (Number (truth (compared comparison (number_of v) (number_of w))))))
@@ -95,32 +96,37 @@ module _ (x : Basis) (labels : LabelsLead x) (g : Both) (rest : List BlockLine) 
         subst (λ c. Settles x (starts g comparing rest) rest (gives (scene_of (high x.table x.blocks (starts g comparing rest))) to
         (costs 1 (costs (bytes v) (give (Number answer))) >>= made_by c (bound_for g how)))) (sym (ap (gives_hooked (facts_in x.table)) k.1 ∙ t.unhooked))
         (gives_settles x g comparing rest y to answer (1 + (bytes v + 0)) (omega arith) got_it
+        (subst (λ c. IsGiven x.live (all_procs x) (within x.table x.blocks g) g.memory g.words
+        (compared_code (around x.table x.blocks (body_of g)) c comparison (variable x g comparing rest y to) (Some a ∷ b ∷ [])
+        (operands (around x.table x.blocks (body_of g)) (F.Value left ∷ F.Value right ∷ [])) (code_next x g comparing rest y))
+        g.call.vars (variable x g comparing rest y to) (word answer) (code_next x g comparing rest y))
+        (sym shape.2)
         (compare_given x.live (all_procs x) (within x.table x.blocks g) g.memory g.words g.call.vars (variable x g comparing rest y to)
         (variable x g comparing rest y left) (high_target x g comparing rest y to answer got_it) o.high (number_of v) o.fits o.word_is
-        (code_next x g comparing rest y) (variable x g comparing rest y right) i.high (number_of w) i.fits i.word_is comparison))))
+        (code_next x g comparing rest y) (variable x g comparing rest y right) i.high (number_of w) i.fits i.word_is comparison)))))
 
   pub compare_line : (comparison : Comparison) (of : List (Option ℕ)) (from : List From)
       → RowHere x g rest to (O.Compare comparison) how ty of from
-  compare_line c (Some a ∷ b ∷ []) (F.Value left ∷ F.Value right ∷ []) y = compare_values c a b left right y
-  compare_line c [] from y = never (applies x g rest to (O.Compare c) how ty [] from y).row
-  compare_line c (a ∷ []) from y = never (applies x g rest to (O.Compare c) how ty (a ∷ []) from y).row
-  compare_line c (a ∷ b ∷ d ∷ of) from y = never (applies x g rest to (O.Compare c) how ty (a ∷ b ∷ d ∷ of) from y).row
-  compare_line c (None ∷ b ∷ []) from y =
+  compare_line c (Some a ∷ b ∷ []) (F.Value left ∷ F.Value right ∷ []) names y = compare_values c a b left right names y
+  compare_line c [] from names y = never (applies x g rest to (O.Compare c) how ty [] from names y).row
+  compare_line c (a ∷ []) from names y = never (applies x g rest to (O.Compare c) how ty (a ∷ []) from names y).row
+  compare_line c (a ∷ b ∷ d ∷ of) from names y = never (applies x g rest to (O.Compare c) how ty (a ∷ b ∷ d ∷ of) from names y).row
+  compare_line c (None ∷ b ∷ []) from names y =
       never (and_parts (is_bool (kind_if (facts_in x.table) (if_type (known x).types ty))) false
-      (applies x g rest to (O.Compare c) how ty (None ∷ b ∷ []) from y).row).1
-  compare_line c (Some a ∷ b ∷ []) [] y = never (applies x g rest to (O.Compare c) how ty (Some a ∷ b ∷ []) [] y).typed
-  compare_line c (Some a ∷ b ∷ []) (F.Place t ∷ others) y =
-      never (applies x g rest to (O.Compare c) how ty (Some a ∷ b ∷ []) (F.Place t ∷ others) y).placed
-  compare_line c (Some a ∷ b ∷ []) (F.Value left ∷ []) y =
+      (applies x g rest to (O.Compare c) how ty (None ∷ b ∷ []) from names y).row).1
+  compare_line c (Some a ∷ b ∷ []) [] names y = never (applies x g rest to (O.Compare c) how ty (Some a ∷ b ∷ []) [] names y).typed
+  compare_line c (Some a ∷ b ∷ []) (F.Place t ∷ others) names y =
+      never (applies x g rest to (O.Compare c) how ty (Some a ∷ b ∷ []) (F.Place t ∷ others) names y).placed
+  compare_line c (Some a ∷ b ∷ []) (F.Value left ∷ []) names y =
       never (and_parts (same_value (value_type_in x g left) (Some (type_at (known x).types a))) false
-      (applies x g rest to (O.Compare c) how ty (Some a ∷ b ∷ []) (F.Value left ∷ []) y).typed).1
-  compare_line c (Some a ∷ b ∷ []) (F.Value left ∷ F.Place t ∷ others) y =
-      never (applies x g rest to (O.Compare c) how ty (Some a ∷ b ∷ []) (F.Value left ∷ F.Place t ∷ others) y).placed
-  compare_line c (Some a ∷ b ∷ []) (F.Value left ∷ F.Value right ∷ other ∷ others) y =
+      (applies x g rest to (O.Compare c) how ty (Some a ∷ b ∷ []) (F.Value left ∷ []) names y).typed).1
+  compare_line c (Some a ∷ b ∷ []) (F.Value left ∷ F.Place t ∷ others) names y =
+      never (applies x g rest to (O.Compare c) how ty (Some a ∷ b ∷ []) (F.Value left ∷ F.Place t ∷ others) names y).placed
+  compare_line c (Some a ∷ b ∷ []) (F.Value left ∷ F.Value right ∷ other ∷ others) names y =
       never (and_parts (same_value (value_type_in x g right) (if_type (known x).types b)) false
       (and_parts (same_value (value_type_in x g left) (Some (type_at (known x).types a)))
       (same_value (value_type_in x g right) (if_type (known x).types b) && false)
-      (applies x g rest to (O.Compare c) how ty (Some a ∷ b ∷ []) (F.Value left ∷ F.Value right ∷ other ∷ others) y).typed).1).1
+      (applies x g rest to (O.Compare c) how ty (Some a ∷ b ∷ []) (F.Value left ∷ F.Value right ∷ other ∷ others) names y).typed).1).1
 
 -- ---- conversions
 
@@ -135,14 +141,15 @@ module _ (x : Basis) (traps : TrapsStop x) (labels : LabelsLead x) (g : Both) (r
     abbrev from_type : Ty
     from_type = type_at (known x).types a
 
-    module _ (y : IsGood x (starts g converting rest)) (typed : value_type x g converting rest y to ≡ Some to_type)
+    module _ (names : PlainNames x g.call.site (of_value to ∷ of_value from ∷ [])) (y : IsGood x (starts g converting rest))
+        (typed : value_type x g converting rest y to ≡ Some to_type)
         (from_typed : value_type x g converting rest y from ≡ Some from_type) (v : Value) (e : g.call.temps.values from ≡ Some v) where
       abbrev Converts : Option ℕ → Type 0
       Converts o = Settles x (starts g converting rest) rest (gives (scene_of (high x.table x.blocks (starts g converting rest))) to
           (costs 1 (converted o v >>= moved) >>= made_by (gives_hooked (facts_in x.table) (Some to_type)) (bound_for g how)))
 
       t : Target x g converting rest y to to_type
-      t = target x g converting rest y to to_type refl refl typed
+      t = target x g converting rest y to to_type refl refl typed names.0
 
       code_is : (o : Option ℕ) → limit_of (facts_in x.table) to_type ≡ o
           → code_here x g converting rest y
@@ -212,8 +219,8 @@ module _ (x : Basis) (traps : TrapsStop x) (labels : LabelsLead x) (g : Both) (r
             (costs 1 (outcome result >>= moved) >>= made_by b (bound_for g how)))) (sym t.unhooked) (narrowed (inside (number_of v) values) refl checks)
 
     pub convert_value : RowHere x g rest to O.Convert how (Some ty) (Some a ∷ []) (F.Value from ∷ [])
-    convert_value y =
-        let f = applies x g rest to O.Convert how (Some ty) (Some a ∷ []) (F.Value from ∷ []) y in
+    convert_value names y =
+        let f = applies x g rest to O.Convert how (Some ty) (Some a ∷ []) (F.Value from ∷ []) names y in
         let from_typed : value_type x g converting rest y from ≡ Some from_type = same_type (value_type x g converting rest y from) (Some from_type)
         (and_parts (same_value (value_type x g converting rest y from) (Some from_type)) true f.typed).0 in
         let typed = value_type_by (value_type x g converting rest y to) (Some to_type) to_type f.given refl in
@@ -221,29 +228,30 @@ module _ (x : Basis) (traps : TrapsStop x) (labels : LabelsLead x) (g : Both) (r
         (λ z. gives (scene_of (high x.table x.blocks (starts g converting rest))) to
         (costs 1 (converted (limit_of (facts_in x.table) to_type) (value_of z) >>= moved) >>= made_by (gives_hooked (facts_in x.table) (Some to_type))
         (bound_for g how)))
-        (λ z e. by y typed from_typed z e (x.conversions ty a f.row))
+        (λ z e. by names y typed from_typed z e (x.conversions ty a f.row))
       where
-        by : (y : IsGood x (starts g converting rest)) (typed : value_type x g converting rest y to ≡ Some to_type)
+        by : (names : PlainNames x g.call.site (of_value to ∷ of_value from ∷ [])) (y : IsGood x (starts g converting rest))
+            (typed : value_type x g converting rest y to ≡ Some to_type)
             (from_typed : value_type x g converting rest y from ≡ Some from_type) (v : Value) (e : g.call.temps.values from ≡ Some v)
             → ((limit_of (facts_in x.table) to_type ≡ None)
             × ((u : Value) → has_shape u (shape_of (facts_in x.table) from_type) ≡ true → has_shape u (shape_of (facts_in x.table) to_type) ≡ true))
             ⊎ ((values : ℕ) × (other : Option ℕ) × (limit_of (facts_in x.table) to_type ≡ Some values)
             × (shape_of (facts_in x.table) to_type ≡ number (Some values)) × (shape_of (facts_in x.table) from_type ≡ number other))
-            → Converts y typed from_typed v e (limit_of (facts_in x.table) to_type)
-        by y typed from_typed v e (inl h) =
-            subst (λ l. Converts y typed from_typed v e l) (sym h.0) (same_shape y typed from_typed v e h.0 h.1)
-        by y typed from_typed v e (inr h) =
-            subst (λ l. Converts y typed from_typed v e l) (sym h.2) (one_of y typed from_typed v e h.0 h.1 h.2 h.3 h.4)
+            → Converts names y typed from_typed v e (limit_of (facts_in x.table) to_type)
+        by names y typed from_typed v e (inl h) =
+            subst (λ l. Converts names y typed from_typed v e l) (sym h.0) (same_shape names y typed from_typed v e h.0 h.1)
+        by names y typed from_typed v e (inr h) =
+            subst (λ l. Converts names y typed from_typed v e l) (sym h.2) (one_of names y typed from_typed v e h.0 h.1 h.2 h.3 h.4)
 
   pub convert_line : (ty : Option ℕ) (of : List (Option ℕ)) (from : List From) → RowHere x g rest to O.Convert how ty of from
-  convert_line (Some ty) (Some a ∷ []) (F.Value from ∷ []) y = convert_value ty a from y
-  convert_line ty [] from y = never (applies x g rest to O.Convert how ty [] from y).row
-  convert_line ty (a ∷ b ∷ of) from y = never (applies x g rest to O.Convert how ty (a ∷ b ∷ of) from y).row
-  convert_line None (a ∷ []) from y = never (applies x g rest to O.Convert how None (a ∷ []) from y).row
-  convert_line (Some ty) (None ∷ []) from y = never (applies x g rest to O.Convert how (Some ty) (None ∷ []) from y).row
-  convert_line (Some ty) (Some a ∷ []) [] y = never (applies x g rest to O.Convert how (Some ty) (Some a ∷ []) [] y).typed
-  convert_line (Some ty) (Some a ∷ []) (F.Place t ∷ others) y =
-      never (applies x g rest to O.Convert how (Some ty) (Some a ∷ []) (F.Place t ∷ others) y).placed
-  convert_line (Some ty) (Some a ∷ []) (F.Value from ∷ other ∷ others) y =
+  convert_line (Some ty) (Some a ∷ []) (F.Value from ∷ []) names y = convert_value ty a from names y
+  convert_line ty [] from names y = never (applies x g rest to O.Convert how ty [] from names y).row
+  convert_line ty (a ∷ b ∷ of) from names y = never (applies x g rest to O.Convert how ty (a ∷ b ∷ of) from names y).row
+  convert_line None (a ∷ []) from names y = never (applies x g rest to O.Convert how None (a ∷ []) from names y).row
+  convert_line (Some ty) (None ∷ []) from names y = never (applies x g rest to O.Convert how (Some ty) (None ∷ []) from names y).row
+  convert_line (Some ty) (Some a ∷ []) [] names y = never (applies x g rest to O.Convert how (Some ty) (Some a ∷ []) [] names y).typed
+  convert_line (Some ty) (Some a ∷ []) (F.Place t ∷ others) names y =
+      never (applies x g rest to O.Convert how (Some ty) (Some a ∷ []) (F.Place t ∷ others) names y).placed
+  convert_line (Some ty) (Some a ∷ []) (F.Value from ∷ other ∷ others) names y =
       never (and_parts (same_value (value_type_in x g from) (Some (type_at (known x).types a))) false
-      (applies x g rest to O.Convert how (Some ty) (Some a ∷ []) (F.Value from ∷ other ∷ others) y).typed).1
+      (applies x g rest to O.Convert how (Some ty) (Some a ∷ []) (F.Value from ∷ other ∷ others) names y).typed).1

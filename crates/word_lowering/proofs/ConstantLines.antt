@@ -26,14 +26,14 @@ use Rattle.word_code.specs.Memory.{Memory, number_at, with_number}
 use Rattle.word_code.specs.Words.{Vars, put}
 use Rattle.flat_code.specs.Pieces.{value_of, are_one, pieces_bytes, piece_words}
 use Rattle.flat_code.specs.Shapes.{has_shape, shape_of}
-use Rattle.word_lowering.proofs.ShapeFacts.{of_numbers, values_of_numbers}
+use Rattle.word_lowering.proofs.ShapeFacts.{of_numbers, values_of_numbers, number_numbers}
 use Rattle.word_code.proofs.ForCallers.{put_here, Changed, changed_word, Runs, then_runs, at as run_at, run_constant, run_store, got}
 use Rattle.word_lowering.specs.declared.homes.TheConstants.{FIRST, SECOND}
 use Rattle.word_lowering.specs.declared.homes.Home.{Home}
 use Rattle.word_lowering.specs.declared.homes.Housed.{Housed}
 use Rattle.word_lowering.specs.declared.spots.Spot.TheVariants.{Lies}
 use Rattle.word_lowering.specs.Aliases.{text_in, text_alias}
-use Rattle.word_lowering.specs.Layouts.{is_address}
+use Rattle.word_lowering.specs.Layouts.{holds_address}
 use Rattle.word_lowering.specs.Spots.{spot_of, shifted, cleared}
 use Rattle.word_lowering.specs.Operations.{word}
 use Rattle.word_lowering.specs.LineCode.{unless_zero, pieces_code, first_word, constant_at, constant_by}
@@ -216,10 +216,11 @@ module _ (x : Basis) (g : Both) (line : BlockLine) (rest : List BlockLine) (y : 
 
   -- zeros, and then the words
   gets_constant : (pieces : List Piece) (v : Value) → piece_words pieces ≡ words_in v → AllSmall (words_in v) → OfNumbers v
-      → has_shape v (looked x.table g.call.site (of_value to)) ≡ true → is_single v ≡ false → (k : List WordInstr)
+      → of_numbers (looked x.table g.call.site (of_value to)) ≡ true → has_shape v (looked x.table g.call.site (of_value to)) ≡ true → is_single v ≡ false →
+      (k : List WordInstr)
       → Gets x g line rest y (constant_at place (spot_of place) pieces k) k (of_value to) v (9 + 2 * bytes v)
-  gets_constant pieces v are are_small numbers shaped parted k =
-      let plain_is : is_address place.kind ≡ false = value_plain place.kind there.kind in
+  gets_constant pieces v are are_small numbers look shaped parted k =
+      let plain_is : holds_address place ≡ false = value_plain place there.kind in
       let ws : List ℕ = piece_words pieces in
       let small : AllSmall ws = subst AllSmall (sym are) are_small in
       let zeros : Value = Parts (zeros_of ws) in
@@ -227,10 +228,10 @@ module _ (x : Basis) (g : Both) (line : BlockLine) (rest : List BlockLine) (y : 
       let least : 4 ≤ bytes v = bytes_some v numbers in
       let zeros_bytes : bytes zeros ≡ bytes v
       = ap or_word (zeros_room ws) ∙ or_word_is (room_of ws) (omega (arith, full, least)) ∙ full in
-      let size : place.bytes ≡ bytes v = size_is x (all_sites x g line rest y) y.linked g.call (inl refl) (of_value to) there plain_is v shaped in
+      let size : place.bytes ≡ bytes v = size_is x (all_sites x g line rest y) y.linked g.call (inl refl) (of_value to) there plain_is v look shaped in
       let long : place.bytes ≡ bytes zeros = size ∙ sym zeros_bytes in
       let single : place.is_word ≡ false
-      = word_is x (all_sites x g line rest y) y.linked g.call (inl refl) (of_value to) there plain_is v shaped ∙ parted in
+      = word_is x (all_sites x g line rest y) y.linked g.call (inl refl) (of_value to) there plain_is v look shaped ∙ parted in
       let lying = lying_all x (all_sites x g line rest y) y.linked g.call.site (of_value to) (bytes zeros) (inl refl) there inside long in
       let k1 : List WordInstr = pieces_code place.home pieces k in
       let lines : List WordInstr = constant_at place (spot_of place) pieces k in
@@ -252,7 +253,7 @@ module _ (x : Basis) (g : Both) (line : BlockLine) (rest : List BlockLine) (y : 
       } in
       let d = words_written pieces small place.home inside start refl (omega arith) (omega (arith, full, size))
       (address_whole x (all_sites x g line rest y) y.linked g.call.site (of_value to) (inl refl) there inside) lines k (9 + bytes v) s0 r.there in
-      gets_bytes x g line rest y (of_value to) there plain_is v shaped lines k (9 + 2 * bytes v) inside (record {
+      gets_bytes x g line rest y (of_value to) there plain_is v look shaped lines k (9 + 2 * bytes v) inside (record {
         memory = d.sofar.memory;
         vars = d.sofar.vars;
         words = d.sofar.words;
@@ -279,7 +280,9 @@ module _ (x : Basis) (g : Both) (line : BlockLine) (rest : List BlockLine) (y : 
       let n : ℕ = first_word (piece_words pieces) in
       let is : n ≡ word z = ap first_word are in
       let small : word z < 2 ^ 32 = word_small z (number_fits (Number z) (looked x.table g.call.site (of_value to)) shaped) in
-      gets_word x g line rest y (of_value to) there (value_plain h.kind there.kind) (Number z) shaped (constant_at h (spot_of h) pieces k) k t w.home
+      gets_word x g line rest y (of_value to) there (value_plain h there.kind) (Number z)
+      (number_numbers z (looked x.table g.call.site (of_value to)) shaped) shaped
+      (constant_at h (spot_of h) pieces k) k t w.home
       (subst (λ l. ToVariable x.law x.live (all_procs x) (within x.table x.blocks g) refl g.words g.memory l g.call.vars t (Number z) k)
       (sym (ap (λ q. constant_at h q pieces k) w.spot)) (record {
         vars = put g.call.vars t n;
@@ -299,19 +302,19 @@ module _ (x : Basis) (g : Both) (line : BlockLine) (rest : List BlockLine) (y : 
       ≡ constant_at (house g.call.site (of_value to)) (spot_of (house g.call.site (of_value to))) pieces (code_next x g line rest y)
       → Settles x (starts g line rest) rest (Passes (Answers [] (1 + (bytes v + 0)) (with_value to g.call.temps v) g.world))
   built_settles pieces (Number z) are o numbers shaped code =
-      value_settles x g line rest y to (Number z) 2 (1 + (4 + 0)) there shaped
+      value_settles x g line rest y to (Number z) 2 (1 + (4 + 0)) there numbers shaped
       (subst (λ l. Gets x g line rest y l (code_next x g line rest y) (of_value to) (Number z) 2) (sym code)
       (gets_number pieces z are shaped
       (in_word x g.call.site to y.linked.0 there (sym (single_is (Number z) (looked x.table g.call.site (of_value to)) numbers shaped)))
       (code_next x g line rest y))) (omega arith)
   built_settles pieces (Parts vs) are o numbers shaped code =
-      let plain_is = value_plain (house g.call.site (of_value to)).kind there.kind in
+      let plain_is = value_plain (house g.call.site (of_value to)) there.kind in
       let inside = in_memory x g line rest y (of_value to) there plain_is
       (sym (single_is (Parts vs) (looked x.table g.call.site (of_value to)) numbers shaped)) in
-      value_settles x g line rest y to (Parts vs) (9 + 2 * bytes (Parts vs)) (1 + (bytes (Parts vs) + 0)) there shaped
+      value_settles x g line rest y to (Parts vs) (9 + 2 * bytes (Parts vs)) (1 + (bytes (Parts vs) + 0)) there numbers shaped
       (subst (λ l. Gets x g line rest y l (code_next x g line rest y) (of_value to) (Parts vs) (9 + 2 * bytes (Parts vs))) (sym code)
       (gets_constant x g line rest y to there inside pieces (Parts vs) are
-      (small_words (Parts vs) (looked x.table g.call.site (of_value to)) numbers shaped) o shaped refl (code_next x g line rest y))) (omega arith)
+      (small_words (Parts vs) (looked x.table g.call.site (of_value to)) numbers shaped) o numbers shaped refl (code_next x g line rest y))) (omega arith)
   built_settles pieces (Handle n k) are o numbers shaped code = absurd o
   built_settles pieces (Fixed text) are o numbers shaped code = absurd o
   built_settles pieces (Ref object) are o numbers shaped code = absurd o
@@ -324,7 +327,7 @@ module _ (x : Basis) (g : Both) (line : BlockLine) (rest : List BlockLine) (y : 
 module _ (x : Basis) (labels : LabelsLead x) (g : Both) (rest : List BlockLine) (to : ℕ) (how : UseAt) (ty : ℕ) where
   built_constant : (pieces : List Piece) → text_in pieces ≡ None → pieces_bytes pieces ≡ bytes (value_of pieces)
       → FollowedHere x labels g rest (L.Constant to how ty pieces)
-  built_constant pieces no_text long y =
+  built_constant pieces no_text long names y =
       let line = plain (L.Constant to how ty pieces) in
       let to_type : Ty = type_at (known x).types ty in
       let v : Value = value_of pieces in
@@ -333,7 +336,7 @@ module _ (x : Basis) (labels : LabelsLead x) (g : Both) (rest : List BlockLine) 
       (fits_here x.table x.blocks (body_of g) line rest y.stands) in
       let p = and_parts (are_one pieces 0) one_shaped f.0 in
       let u = are_of (value_type x g line rest y to) (Some to_type) f.1 in
-      let t = target x g line rest y to to_type refl (ap (text_alias (texts_behind x g line rest y)) no_text) (u.is ∙ sym u.is_other) in
+      let t = target x g line rest y to to_type refl (ap (text_alias (texts_behind x g line rest y)) no_text) (u.is ∙ sym u.is_other) names.0 in
       subst (λ b. Settles x (starts g line rest) rest (gives (scene_of (high x.table x.blocks (starts g line rest))) to
       (costs 1 (constant_for b (form_of (facts_in x.table) to_type) (pieces_bytes pieces) v) >>= made_by b (bound_for g how)))) (sym t.unhooked)
       (subst (λ n. Settles x (starts g line rest) rest (Passes (Answers [] (1 + (n + 0)) (with_value to g.call.temps v) g.world))) (sym long)

@@ -19,7 +19,7 @@ use Rattle.word_lowering.specs.declared.homes.Alias.{Alias}
 use Rattle.word_lowering.specs.declared.homes.Alias.TheVariants as alias
 use Rattle.word_lowering.specs.Aliases.{texts_of, text_of}
 use Rattle.word_lowering.proofs.HeapKept.{heap_same}
-use Rattle.word_lowering.proofs.Keeping.{nowhere, own_text, Kept, New, call, value_no_location, value_no_place, worlds_same}
+use Rattle.word_lowering.proofs.Keeping.{nowhere, own_text, Kept, New, call, value_no_location, value_no_place, worlds_same, value_no_waiting}
 use Rattle.word_lowering.specs.MayLower.{same_alias}
 use Rattle.word_lowering.specs.Operations.{word}
 use Rattle.word_lowering.specs.LineCode.{constant_at}
@@ -86,6 +86,7 @@ text_size other = 0
 text_alias_is : (a : Alias) (n size : ℕ) → same_alias a (alias.Text n size) ≡ true → a ≡ alias.Text n size
 text_alias_is alias.Own n size h = never h
 text_alias_is (alias.Value t) n size h = never h
+text_alias_is (alias.Node m) n size h = never h
 text_alias_is (alias.Place p true) n size h = never h
 text_alias_is (alias.Place p false) n size h = never h
 text_alias_is (alias.Text m other) n size h =
@@ -108,12 +109,12 @@ module _ (x : Basis) (labels : LabelsLead x) (g : Both) (rest : List BlockLine) 
   -- ---- a number
 
   pub number_constant : (z : ℤ) → FollowedHere x labels g rest (L.Constant to how ty (P.Ordinal z ∷ []))
-  number_constant z y =
+  number_constant z names y =
       let line = plain (L.Constant to how ty (P.Ordinal z ∷ [])) in
       let f = and_parts (has_shape (Number z) (shape_of (facts_in x.table) to_type)) (is_of (value_type x g line rest y to) (Some to_type))
       (fits_here x.table x.blocks (body_of g) line rest y.stands) in
       let v = are_of (value_type x g line rest y to) (Some to_type) f.1 in
-      let t = target x g line rest y to to_type refl refl (v.is ∙ sym v.is_other) in
+      let t = target x g line rest y to to_type refl refl (v.is ∙ sym v.is_other) names.0 in
       let s = number_of_shape z (shape_of (facts_in x.table) to_type) f.0 in
       let n = getting x g line rest y to to_type s.0 z t s.1 (subst (λ k. has_shape (Number z) k ≡ true) s.1 f.0) in
       let w = in_word x g.call.site to y.linked.0 n.there n.one in
@@ -180,6 +181,7 @@ module _ (x : Basis) (labels : LabelsLead x) (g : Both) (rest : List BlockLine) 
         text = λ u n k w e a h. as_literal u n k w (ap number_in e) a h;
         led = λ u other e n h. absurd (value_no_location to u (sym e));
         filled = λ n e h. absurd (value_no_place to n (sym e));
+        waits = λ n e. absurd (value_no_waiting to n (sym e));
       }
         where
           as_literal : (u n k : ℕ) (w : Value) → u ≡ to → (house g.call.site (of_value u)).alias ≡ alias.Text n k → text_temps.values u ≡ Some w
@@ -201,7 +203,7 @@ module _ (x : Basis) (labels : LabelsLead x) (g : Both) (rest : List BlockLine) 
           (stands_next x.table x.blocks (body_of g) naming rest y.stands)
 
     pub text_constant : FollowedHere x labels g rest (L.Constant to how ty (P.Text text ∷ []))
-    text_constant y =
+    text_constant names y =
         subst (λ d. Settles x (starts g naming rest) rest d)
         (made_text (gives_hooked (facts_in x.table) (Some to_type)) how.how (plain_operands x g naming rest y))
         (stays_on x (starts g naming rest) (changed g rest text_temps g.call.vars g.memory g.words g.awaits g.world) rest (good_text y)

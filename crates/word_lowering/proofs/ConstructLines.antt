@@ -31,7 +31,7 @@ use Rattle.word_code.specs.Memory.{Memory}
 use Rattle.word_code.proofs.ForCallers.{Apart, Changed, Runs, at as run_at}
 use Rattle.word_lowering.specs.declared.homes.Housed.{Housed}
 use Rattle.word_lowering.specs.declared.spots.Spot.TheVariants.{Lies}
-use Rattle.word_lowering.specs.Layouts.{is_address}
+use Rattle.word_lowering.specs.Layouts.{holds_address}
 use Rattle.word_lowering.specs.Spots.{spot_of, shifted, cleared, clears}
 use Rattle.word_lowering.specs.Stored.{part_at}
 use Rattle.word_lowering.specs.LineCode.{fields_code, operands}
@@ -67,7 +67,7 @@ if_named : Bool → ℕ → ℕ
 if_named named n = if named then n else 0
 
 -- the bytes of those parts that are named, where the first one has a number
-named_bytes : Shapes → List ℕ → (first : ℕ) → ℕ
+pub named_bytes : Shapes → List ℕ → (first : ℕ) → ℕ
 named_bytes no_shapes names k = 0
 named_bytes (shapes s ss) names k = if_named (is_in k names) (shape_bytes s) + named_bytes ss names (suc k)
 
@@ -82,7 +82,7 @@ more_named true true n = omega arith
 more_named true false n = omega arith
 more_named false c n = omega arith
 
-named_at_most : (ss : Shapes) (names : List ℕ) (k : ℕ) → named_bytes ss names k ≤ shapes_bytes ss
+pub named_at_most : (ss : Shapes) (names : List ℕ) (k : ℕ) → named_bytes ss names k ≤ shapes_bytes ss
 unfolding named_bytes
 named_at_most no_shapes names k = omega arith
 named_at_most (shapes s ss) names k =
@@ -100,7 +100,7 @@ first_named true false n e f = omega arith
 first_named true true n e f = never (sym f)
 first_named false c n e f = never e
 
-named_first : (ss : Shapes) (field : ℕ) (names : List ℕ) (k i : ℕ) (t : Shape) → nth_shape ss i ≡ Some t → field ≡ k + i
+pub named_first : (ss : Shapes) (field : ℕ) (names : List ℕ) (k i : ℕ) (t : Shape) → nth_shape ss i ≡ Some t → field ≡ k + i
     → is_in field names ≡ false → shape_bytes t + named_bytes ss names k ≤ named_bytes ss (field ∷ names) k
 unfolding named_bytes
 named_first no_shapes field names k i t e is other = absurd (none_some t e)
@@ -115,13 +115,13 @@ named_first (shapes s ss) field names k (suc i) t e is other =
     let b = named_first ss field names (suc k) i t e (omega (arith, is)) other in
     omega (arith, a, b)
 
-not_true : (b : Bool) → not b ≡ true → b ≡ false
+pub not_true : (b : Bool) → not b ≡ true → b ≡ false
 not_true true h = never h
 not_true false h = refl
 
 -- ---- what is constructed is an object, unless it is a ref
 
-declared_built : (facts : Facts) (o : Option Fact) → built facts (declared_kind o) ≡ declared_kind o
+pub declared_built : (facts : Facts) (o : Option Fact) → built facts (declared_kind o) ≡ declared_kind o
 declared_built facts None = refl
 declared_built facts (Some (members names)) = refl
 declared_built facts (Some (fields all own)) = refl
@@ -294,13 +294,13 @@ module _ (x : Basis) (g : Both) (line : BlockLine) (rest : List BlockLine) (y : 
         let next : List WordInstr = code_next x g line rest y in
         let here : List WordInstr = code_here x g line rest y in
         let k : List WordInstr = code_of names from next in
-        let plain_is : is_address place.kind ≡ false = value_plain place.kind there.kind in
+        let plain_is : holds_address place ≡ false = value_plain place there.kind in
         let n : ℕ = bytes zero_value in
         let all : bytes zero_value ≡ shape_bytes (parts ss) = bytes_is zero_value (parts ss) numbers shaped in
         let long : place.bytes ≡ bytes zero_value = size ∙ sym all in
         let single : place.is_word ≡ is_single zero_value
         = word_is x (all_sites x g line rest y) y.linked g.call (inl refl) (of_value to) there plain_is zero_value
-        (subst (λ s. has_shape zero_value s ≡ true) (sym look) shaped) in
+        (ap of_numbers look ∙ numbers) (subst (λ s. has_shape zero_value s ≡ true) (sym look) shaped) in
         let lying = lying_all x (all_sites x g line rest y) y.linked g.call.site (of_value to) (bytes zero_value) (inl refl) there inside long in
         let r = zeros_by x g line rest y (of_value to) there inside zero_value zeros long k in
         let same_code : clears place k ≡ cleared (is_single zero_value) (bytes zero_value) (Lies place.home) k
@@ -326,8 +326,8 @@ module _ (x : Basis) (g : Both) (line : BlockLine) (rest : List BlockLine) (y : 
         (sym look) d.shaped in
         let cost : spent vs ≤ shapes_bytes ss = (let a = spent_named names from vs come once in let b = named_at_most ss names 0 in omega (arith, a, b)) in
         let least : shapes_bytes ss ≤ shape_bytes (parts ss) = or_word_least (shapes_bytes ss) in
-        value_settles x g line rest y to made (9 + n + 5 * spent vs) (1 + (n + 0)) there look_made
-        (gets_bytes x g line rest y (of_value to) there plain_is made look_made here next (9 + n + 5 * spent vs) inside (record {
+        value_settles x g line rest y to made (9 + n + 5 * spent vs) (1 + (n + 0)) there (ap of_numbers look ∙ numbers) look_made
+        (gets_bytes x g line rest y (of_value to) there plain_is made (ap of_numbers look ∙ numbers) look_made here next (9 + n + 5 * spent vs) inside (record {
           memory = d.sofar.memory;
           vars = d.sofar.vars;
           words = d.sofar.words;
@@ -360,7 +360,7 @@ module _ (x : Basis) (labels : LabelsLead x) (g : Both) (rest : List BlockLine) 
   all_taken = map (fit.taken (known x) (sigs x.table x.blocks) (globals_of x.table x.blocks) (body_of g).proc.places) from
 
   pub construct_line : FollowedHere x labels g rest (L.Construct to how ty names from)
-  construct_line y =
+  construct_line plain_names y =
       let whole_kind : TypeKind = built (facts_in x.table) to_kind in
       let named : Bool = are_distinct names && are_fields whole_kind names all_taken in
       let f = and_parts ((is_built whole_kind && named) && are_values from) (is_of (value_type x g building rest y to) (Some to_type))
@@ -369,24 +369,24 @@ module _ (x : Basis) (labels : LabelsLead x) (g : Both) (rest : List BlockLine) 
       let q = and_parts (is_built whole_kind) named p.0 in
       let r = and_parts (are_distinct names) (are_fields whole_kind names all_taken) q.1 in
       let v = are_of (value_type x g building rest y to) (Some to_type) f.1 in
-      let t = target x g building rest y to to_type refl refl (v.is ∙ sym v.is_other) in
+      let t = target x g building rest y to to_type refl refl (v.is ∙ sym v.is_other) plain_names.0 in
       let same = built_is (facts_in x.table) to_type t.numbers in
       let o = x.objects ty (subst (λ k. is_built k ≡ true) same q.0) t.numbers in
       let look : looked x.table g.call.site (of_value to) ≡ parts o.0 = t.look ∙ o.1 in
       let numbers : of_numbers (parts o.0) ≡ true = subst (λ s. of_numbers s ≡ true) o.1 t.numbers in
-      let plain_is = value_plain (house g.call.site (of_value to)).kind t.there.kind in
+      let plain_is = value_plain (house g.call.site (of_value to)) t.there.kind in
       let inside = in_memory x g building rest y (of_value to) t.there plain_is (ap is_one_word look) in
       let shaped : has_shape start_value (parts o.0) ≡ true = subst (λ s. has_shape start_value s ≡ true) o.1 (x.defaults ty) in
       let size : (house g.call.site (of_value to)).bytes ≡ shape_bytes (parts o.0)
       = size_is x (all_sites x g building rest y) y.linked g.call (inl refl) (of_value to) t.there plain_is start_value
-      (subst (λ s. has_shape start_value s ≡ true) (sym look) shaped) ∙ bytes_is start_value (parts o.0) numbers shaped in
+      t.here (subst (λ s. has_shape start_value s ≡ true) (sym look) shaped) ∙ bytes_is start_value (parts o.0) numbers shaped in
       using_all_settles x (starts g building rest) rest g.call.temps from
       (λ xs. gives (scene_of (high x.table x.blocks (starts g building rest))) to
       (costs 1 (costs (bytes start_value) (give (with_fields start_value names (values_in xs))))
       >>= made_by (gives_hooked (facts_in x.table) (Some to_type)) (bound_for g how)))
       (λ xs has. subst (λ b. Settles x (starts g building rest) rest (gives (scene_of (high x.table x.blocks (starts g building rest))) to
       (costs 1 (costs (bytes start_value) (give (with_fields start_value names (values_in xs)))) >>= made_by b (bound_for g how)))) (sym t.unhooked)
-      (constructed x g building rest y to o.0 look ty t.there inside numbers size (λ i s e. x.parts_at ty t.unhooked o.0 i s o.1 e) names from
+      (constructed x g building rest y to o.0 look ty t.there inside numbers size (λ i s e. x.parts_at ty o.0 i s o.1 e) names from
       (values_in xs)
       (fields_come x g building rest y to o.0 look to_kind o.2 numbers names from xs (subst (λ k. are_fields k names all_taken ≡ true) same r.1) p.1 has)
       r.0 start_value (blank_zero (form_of (facts_in x.table) to_type) t.unhooked) shaped refl))

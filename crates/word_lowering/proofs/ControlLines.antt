@@ -34,14 +34,16 @@ use Rattle.word_lowering.proofs.Arithmetic.{equal_is}
 use Rattle.word_lowering.proofs.Sites.{word_of}
 use Rattle.word_lowering.proofs.Scenes.{of_value, house}
 use Rattle.word_lowering.proofs.Related.{Both, body_of, with_units, within, high, low, code_behind, store_of}
-use Rattle.word_lowering.proofs.Lines.{Basis, all_procs, all_sites, changed, fits_here, goes_from, good_same, good_units, starts, stands_next, IsGood, known, lower}
+use Rattle.word_lowering.proofs.Lines.{Basis, all_procs, all_sites, changed, fits_here, goes_from, good_same, good_units, starts, stands_next, IsGood, known}
+use Rattle.word_lowering.proofs.Lines.{lower}
 use Rattle.word_lowering.proofs.Lines.{Settles, spends_settles, using_settles}
 use Rattle.word_lowering.proofs.LineFits.{some_kind, int_shape, bool_shape, ordinal_shape}
 use Rattle.word_lowering.proofs.Gets.{same_temps}
 use Rattle.word_lowering.proofs.Moves.{all_same}
 use Rattle.word_lowering.proofs.Settling.{LabelsLead, leaps_settles, passes_settles, turns_settles, Comes}
-use Rattle.word_lowering.proofs.ValueFacts.{operand, has_type, look_of, type_in, Operand}
+use Rattle.word_lowering.proofs.ValueFacts.{operand, has_type, look_of, type_in, Operand, PlainNames}
 use Rattle.nim_meaning.specs.Values.{Value, number_of}
+use Rattle.word_lowering.proofs.NamesIn.{names_in}
 
 -- a line of block code that is one of flat code
 abbrev pub plain : Line → BlockLine
@@ -96,27 +98,32 @@ module _ (x : Basis) (g : Both) (line : BlockLine) (rest : List BlockLine) (y : 
   turn_settles false name h k = k refl
 
 module _ (x : Basis) (labels : LabelsLead x) (g : Both) (rest : List BlockLine) where
-  abbrev pub FollowedHere : Line → Type 0
-  FollowedHere line = (y : IsGood x (starts g (plain line) rest)) → Settles x (starts g (plain line) rest) rest
+  abbrev pub SettlesHere : Line → Type 0
+  SettlesHere line = (y : IsGood x (starts g (plain line) rest)) → Settles x (starts g (plain line) rest) rest
       (block_does (known x) (scene_of (high x.table x.blocks (starts g (plain line) rest))) (plain line))
+
+  -- a line that names nothing for which something would be to do
+  abbrev pub FollowedHere : Line → Type 0
+  FollowedHere line = PlainNames x g.call.site (names_in line) → SettlesHere line
 
   abbrev k : List WordInstr
   k = code_behind x.table x.blocks (body_of g) rest
 
   pub label_line : (name : ℕ) → FollowedHere (L.Label name)
-  label_line name y = passes_settles x g (plain (L.Label name)) rest y g.call.temps (same_temps x g (plain (L.Label name)) rest y) 1 (omega arith) (record {
-    steps = 1;
-    some = omega arith;
-    few = omega arith;
-    leads = record {
-      vars = g.call.vars;
-      same = all_same g.call.vars;
-      runs = run_label x.live (all_procs x) (within x.table x.blocks g) g.memory k g.call.vars g.words (own_label name);
-    };
-  })
+  label_line name names y = passes_settles x g (plain (L.Label name)) rest y g.call.temps (same_temps x g (plain (L.Label name)) rest y) 1 (omega arith)
+      (record {
+        steps = 1;
+        some = omega arith;
+        few = omega arith;
+        leads = record {
+          vars = g.call.vars;
+          same = all_same g.call.vars;
+          runs = run_label x.live (all_procs x) (within x.table x.blocks g) g.memory k g.call.vars g.words (own_label name);
+        };
+      })
 
   pub enter_line : FollowedHere L.Enter
-  enter_line y =
+  enter_line names y =
       let line = plain L.Enter in
       spends_settles x (starts g line rest) rest Enters refl Spend k g.call.vars g.words refl 0 (omega arith)
       (none (lower x) (low x.table x.blocks (starts g line rest)))
@@ -141,7 +148,7 @@ module _ (x : Basis) (labels : LabelsLead x) (g : Both) (rest : List BlockLine) 
   }
 
   pub jump_line : (name : ℕ) → FollowedHere (L.Jump name)
-  jump_line name y = leaps_settles x g (plain (L.Jump name)) rest y labels name (λ there stands. jump_led there name stands)
+  jump_line name names y = leaps_settles x g (plain (L.Jump name)) rest y labels name (λ there stands. jump_led there name stands)
 
   -- the jump behind a unit that was spent
   jumps : (k : List WordInstr) (vars : Vars) (units : Option ℕ) (there : List WordInstr) (name : ℕ)
@@ -154,7 +161,7 @@ module _ (x : Basis) (labels : LabelsLead x) (g : Both) (rest : List BlockLine) 
   }
 
   pub turn_line : (name : ℕ) → FollowedHere (L.Turn name)
-  turn_line name y =
+  turn_line name names y =
       let line = plain (L.Turn name) in
       turns_settles x g line rest y labels name Spend (Jump (own_label name) ∷ k) g.call.vars refl 0 (omega arith) (all_same g.call.vars)
       (none (lower x) (low x.table x.blocks (starts g line rest))) (λ units there stands. jumps k g.call.vars units there name stands)
@@ -210,7 +217,7 @@ module _ (x : Basis) (labels : LabelsLead x) (g : Both) (rest : List BlockLine) 
     }
 
   pub unless_line : (from name : ℕ) → FollowedHere (L.Unless from name)
-  unless_line from name y =
+  unless_line from name names y =
       let line = plain (L.Unless from name) in
       let same = same_temps x g line rest y in
       using_settles x (starts g line rest) rest (g.call.temps.values from)
@@ -271,7 +278,7 @@ module _ (x : Basis) (labels : LabelsLead x) (g : Both) (rest : List BlockLine) 
       }
 
     pub turn_if_line : FollowedHere (L.TurnIf from name)
-    turn_if_line y =
+    turn_if_line names y =
         using_settles x (starts g turn_if rest) rest (g.call.temps.values from)
         (λ v. turns_where (scene_of (high x.table x.blocks (starts g turn_if rest))) (is_true (number_of v)) g.call.temps name)
         (λ v e.

@@ -20,7 +20,7 @@ use Rattle.word_lowering.specs.declared.homes.Layout.{Layout}
 use Rattle.word_lowering.specs.declared.texts.TheConstants.{FIXED_BYTES}
 use Rattle.word_lowering.specs.Layouts.{is_static, free_at, free_behind, free_by, place_alias, place_bytes, place_kept, behind, behind_all}
 use Rattle.word_lowering.specs.declared.homes.Alias.{Alias}
-use Rattle.word_lowering.specs.declared.homes.Alias.TheVariants.{Own, Place, Value, Text}
+use Rattle.word_lowering.specs.declared.homes.Alias.TheVariants.{Own, Place, Value, Node, Text}
 use Rattle.word_lowering.specs.declared.homes.Housed.{Housed}
 use Rattle.word_lowering.specs.declared.may_lower.TheConstants.{MOST_ROOM}
 use Rattle.word_lowering.specs.Layouts.{layout_of, layouts, home_by, home_at, all_housed, is_param, is_result, params_in, result_in}
@@ -71,6 +71,7 @@ home_begins Own false true bytes free n le = tt
 home_begins Own false false bytes free n le = omega (arith, le)
 home_begins (Place p global) static kept bytes free n le = tt
 home_begins (Value t) static kept bytes free n le = tt
+home_begins (Node m) static kept bytes free n le = tt
 home_begins (Text behind more) static kept bytes free n le = tt
 
 places_begin : (table : List TypeDef) (start : Bool) (lines : List Line) (free : Free) (ps : List FlatPlace) (n : ℕ)

@@ -20,11 +20,12 @@ use Rattle.flat_code.specs.Running.{last_of}
 use Rattle.flat_code.specs.Scene.{known_in}
 use Rattle.flat_code.specs.Sizes.{distinct_texts, global_bytes, globals_bytes, members_bytes, names_bytes, data_bytes}
 use Rattle.word_lowering.specs.declared.homes.Alias.{Alias}
-use Rattle.word_lowering.specs.declared.homes.Alias.TheVariants.{Own, Place, Value, Text}
+use Rattle.word_lowering.specs.declared.homes.Alias.TheVariants.{Own, Place, Value, Node, Text}
 use Rattle.word_lowering.specs.declared.homes.Free.{Free}
 use Rattle.word_lowering.specs.declared.homes.Layout.{Layout}
 use Rattle.word_lowering.specs.declared.lowering.TheConstants.{MORE_DATA}
 use Rattle.word_lowering.specs.declared.may_lower.TheConstants.{MOST_DATA}
+use Rattle.word_lowering.specs.declared.handed.TheConstants.{LEFT_HANDLE_AT}
 use Rattle.word_lowering.specs.declared.texts.TheConstants.{FIXED_BYTES}
 use Rattle.word_lowering.specs.Aliases.{alias_for}
 use Rattle.word_lowering.specs.Stored.{bytes_at}
@@ -98,6 +99,7 @@ free_datum : (alias : Alias) (low high : Free) → high.datum ≡ low.datum → 
 free_datum Own low high e = e ∙ sym (add-zero low.datum)
 free_datum (Place p global) low high e = sym (add-zero low.datum)
 free_datum (Value t) low high e = sym (add-zero low.datum)
+free_datum (Node n) low high e = sym (add-zero low.datum)
 free_datum (Text behind bytes) low high e = sym (add-zero low.datum)
 
 kept_datum : (kept : Bool) (n : ℕ) (free : Free) → (free_behind false kept n free).datum ≡ free.datum
@@ -154,12 +156,12 @@ fixed_length : length fixed_texts ≡ 16
 fixed_length = refl
 
 data_length : (table : List TypeDef) (globals_end : ℕ) (procs : List (CodeProc BlockLine))
-    → length (data_in table globals_end procs) ≤ 27 + (globals_end - FIXED_BYTES) + (names_bytes table + all_bytes (distinct_texts block_plain procs))
+    → length (data_in table globals_end procs) ≤ 27 + (globals_end - LEFT_HANDLE_AT) + (names_bytes table + all_bytes (distinct_texts block_plain procs))
 data_length table globals_end procs =
     let names : List (List ℕ) = all_names table in
-    let e = six_parts (replicate 4 0) fixed_texts (replicate (globals_end - FIXED_BYTES) 0) (ends_from 0 names) (padded (joined_all names))
+    let e = six_parts (replicate 4 0) fixed_texts (replicate (globals_end - LEFT_HANDLE_AT) 0) (ends_from 0 names) (padded (joined_all names))
     (laid_texts procs) in
-    let f = zeros_length (globals_end - FIXED_BYTES) in
+    let f = zeros_length (globals_end - LEFT_HANDLE_AT) in
     let g = ends_length 0 names in
     let h = all_names_most table in
     let i = laid_most (distinct_texts block_plain procs) in

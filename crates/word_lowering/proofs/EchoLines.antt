@@ -98,10 +98,10 @@ module _ (x : Basis) (said : Writing x) (line : BlockLine) (rest : List BlockLin
 
 module _ (x : Basis) (labels : LabelsLead x) (said : Writing x) (g : Both) (rest : List BlockLine) (to : ℕ) (how : UseAt) where
   pub echo_line : (ty : Option ℕ) (of : List (Option ℕ)) (from : List From) → RowHere x g rest to O.Echo how ty of from
-  echo_line (Some ty) of from y = never (applies x g rest to O.Echo how (Some ty) of from y).row
-  echo_line None of from y =
+  echo_line (Some ty) of from names y = never (applies x g rest to O.Echo how (Some ty) of from names y).row
+  echo_line None of from names y =
       let line = plain (L.Apply to O.Echo how None of from) in
-      let f = applies x g rest to O.Echo how None of from y in
+      let f = applies x g rest to O.Echo how None of from names y in
       let temps : Temps = with_value to g.call.temps nothing in
       let same_at = none_temps x g line rest y to (no_type (value_type x g line rest y to) f.given) in
       let texts : List Operand → List ℕ = λ xs. line_of (texts_of (facts_in x.table) g.world (map (if_type (known x).types) of) xs) in

@@ -31,18 +31,19 @@ use Rattle.word_lowering.specs.declared.homes.TheConstants.{FIFTH, FIRST, OWN_FR
 use Rattle.word_lowering.specs.declared.homes.Home.{Home}
 use Rattle.word_lowering.specs.declared.homes.Home.TheVariants.{Placed, Static, Variable}
 use Rattle.word_lowering.specs.declared.homes.Housed.{Housed}
-use Rattle.word_lowering.specs.Layouts.{is_address}
+use Rattle.word_lowering.specs.Layouts.{holds_address}
 use Rattle.word_lowering.specs.declared.spots.Spot.{Spot}
 use Rattle.word_lowering.specs.declared.spots.Spot.TheVariants.{Held, Lies}
-use Rattle.word_lowering.specs.LineCode.{behind_code, element_code, location}
+use Rattle.word_lowering.specs.LineCode.{behind_code, element_at as at_element, element_code, location}
+use Rattle.word_lowering.specs.OwnedCode.{has_handle}
 use Rattle.word_lowering.specs.Operations.{word}
 use Rattle.word_lowering.specs.Spots.{address, moved, spot_of}
-use Rattle.word_lowering.specs.Stored.{element_bytes, entry_at}
+use Rattle.word_lowering.specs.Stored.{count_in, element_bytes, entry_at}
 use Rattle.word_lowering.proofs.AddressFacts.{AtAddress, at_address, in_memory, read_row}
 use Rattle.word_lowering.proofs.Arithmetic.{fits_signed, word_small}
 use Rattle.word_lowering.proofs.ControlLines.{FollowedHere, int_read, kind_at, plain, value_type}
 use Rattle.word_lowering.proofs.Gets.{Gets, gets_bytes, gets_word, good_value}
-use Rattle.word_lowering.proofs.LineFits.{are_of, elements_shape, number_fits, single_is, some_kind, has_words}
+use Rattle.word_lowering.proofs.LineFits.{are_of, elements_shape, numbers_no_handle, number_fits, single_is, some_kind, has_words}
 use Rattle.word_lowering.proofs.Lines.{Basis, IsGood, Settles, all_procs, all_sites, branch_settles}
 use Rattle.word_lowering.proofs.Lines.{changed, data_there, fits_here, good_between, goes_on, reaches}
 use Rattle.word_lowering.proofs.Lines.{stands_next, starts, using_settles, where_there, with_vars}
@@ -63,7 +64,7 @@ use Rattle.word_lowering.proofs.Sites.{Site, around, is_one_word}
 use Rattle.word_lowering.proofs.Sources.{lying_all, lying_area, lying_near, size_is, word_is}
 use Rattle.word_lowering.proofs.Keeping.{points_there, spot_memory}
 use Rattle.word_lowering.proofs.Targets.{Target, pointed, target}
-use Rattle.word_lowering.proofs.ValueFacts.{Operand, in_word, location_of_numbers, type_in, value_plain}
+use Rattle.word_lowering.proofs.ValueFacts.{homed_plain, Operand, in_word, location_of_numbers, type_in, value_plain, IsPlain}
 
 module _ (x : Basis) (labels : LabelsLead x) (g : Both) (rest : List BlockLine) (to from index : ℕ) where
   abbrev element_here : BlockLine
@@ -166,8 +167,8 @@ module _ (x : Basis) (labels : LabelsLead x) (g : Both) (rest : List BlockLine) 
     abbrev moving : List WordInstr
     moving = moved into.is_word into.bytes (spot_of into) (Lies (Variable FIFTH)) k
 
-    plain_is : is_address into.kind ≡ false
-    plain_is = value_plain into.kind place.there.kind
+    plain_is : holds_address into ≡ false
+    plain_is = value_plain into place.there.kind
 
     module _ (a : ℕ) (f : InFifth (code_here x g element_here rest y) moving a) where
       -- with the address there
@@ -185,10 +186,10 @@ module _ (x : Basis) (labels : LabelsLead x) (g : Both) (rest : List BlockLine) 
 
       module _ (v : Value) (there : IsReadAt x sites good_there.linked g.memory v a (looked x.table g.call.site (of_value to))) where
         single : into.is_word ≡ is_single v
-        single = word_is x sites good_there.linked led.call (inl refl) (of_value to) place.there plain_is v there.shaped
+        single = word_is x sites good_there.linked led.call (inl refl) (of_value to) place.there plain_is v there.numbers there.shaped
 
         size : into.bytes ≡ bytes v
-        size = size_is x sites good_there.linked led.call (inl refl) (of_value to) place.there plain_is v there.shaped
+        size = size_is x sites good_there.linked led.call (inl refl) (of_value to) place.there plain_is v there.numbers there.shaped
 
         code_as : (q : Spot) → spot_of into ≡ q → moved (is_single v) (bytes v) q (Lies (Variable FIFTH)) k ≡ moving
         code_as q is = sym (ap₂ (λ b n. moved b n (spot_of into) (Lies (Variable FIFTH)) k) single size
@@ -209,7 +210,8 @@ module _ (x : Basis) (labels : LabelsLead x) (g : Both) (rest : List BlockLine) 
           let w = in_word x g.call.site to y.linked.0 place.there
           (sym (single_is (Number z) (looked x.table g.call.site (of_value to)) there.numbers there.shaped)) in
           let small : word z < 2 ^ 32 = word_small z (number_fits (Number z) (looked x.table g.call.site (of_value to)) there.shaped) in
-          let r = gets_word x led element_here rest good_there (of_value to) place.there plain_is (Number z) there.shaped moving k w.variable w.home
+          let r = gets_word x led element_here rest good_there (of_value to) place.there plain_is (Number z) there.numbers there.shaped moving k
+          w.variable w.home
           (subst (λ l. ToVariable x.law x.live (all_procs x) (within x.table x.blocks g) refl g.words g.memory l f.vars w.variable (Number z) k)
           (code_as (Number z) there (Held w.variable) w.spot)
           (number_to_variable x.law x.live (all_procs x) (within x.table x.blocks g) refl g.words g.memory k f.vars w.variable w.high z small true 4
@@ -238,7 +240,7 @@ module _ (x : Basis) (labels : LabelsLead x) (g : Both) (rest : List BlockLine) 
           (sym (single_is v (looked x.table g.call.site (of_value to)) there.numbers there.shaped)) in
           let start : ℕ = address_of g.call.site.base into.home in
           let lying = lying_all x sites good_there.linked g.call.site (of_value to) (bytes v) (inl refl) place.there inside (size v there) in
-          gets_bytes x led element_here rest good_there (of_value to) place.there plain_is v there.shaped moving k (10 + 2 * bytes v) inside
+          gets_bytes x led element_here rest good_there (of_value to) place.there plain_is v there.numbers there.shaped moving k (10 + 2 * bytes v) inside
           (subst (λ l. ToMemory x.law x.live (all_procs x) (within x.table x.blocks g) refl g.words g.memory l f.vars start v (10 + 2 * bytes v) k)
           (code_as v there (Lies into.home) (spot_memory into plain_is inside))
           (parts_to_memory x.law x.live (all_procs x) (within x.table x.blocks g) refl g.words g.memory good_there.memory.sized k f.vars into.home start
@@ -271,13 +273,14 @@ module _ (x : Basis) (labels : LabelsLead x) (g : Both) (rest : List BlockLine) 
           goes_on x (starts g element_here rest)
           (changed led rest (with_value to g.call.temps v) get.vars get.memory get.words get.awaits g.world) rest
           (good_value x led element_here rest good_there rest (stands_next x.table x.blocks (body_of g) element_here rest y.stands) moving k to v
-          (10 + 2 * bytes v) place.there there.shaped get)
+          (10 + 2 * bytes v) place.there there.numbers there.shaped get)
           (f.steps + get.steps) (1 + (bytes v + 0)) (with_value to g.call.temps v) g.world (then_runs x.live (all_procs x) f.runs get.runs)
           (let h = get.some in omega (arith, h)) (let h = f.few in let i = get.few in omega (arith, h, i)) refl
 
     -- ---- which element it is
 
-    module _ (there : Where) (e : g.call.temps.places from ≡ Some there) (named_from : IsNamed g.call.site (of_location from)) (count : ℕ)
+    module _ (there : Where) (e : g.call.temps.places from ≡ Some there) (named_from : IsNamed g.call.site (of_location from))
+        (plain_from : IsPlain x g.call.site (of_location from)) (count : ℕ)
         (look : looked x.table g.call.site (of_location from) ≡ row count (looked x.table g.call.site (of_value to)))
         (w : Value) (o : Operand x g.call index w) where
       abbrev each : ℕ
@@ -287,16 +290,17 @@ module _ (x : Basis) (labels : LabelsLead x) (g : Both) (rest : List BlockLine) 
       index_variable = variable x g element_here rest y index
 
       at_is : AtAddress x g element_here rest y source there (looked x.table g.call.site (of_location from))
-      at_is = at_address x g element_here rest y from there named_from e (ap is_one_word look)
+      at_is = at_address x g element_here rest y from there named_from plain_from e (ap is_one_word look)
 
       near_all : at_is.address + shape_bytes (row count (looked x.table g.call.site (of_value to))) < 2 ^ 32
       near_all = subst (λ s. at_is.address + shape_bytes s < 2 ^ 32) look
           (leads_near x g element_here rest y there at_is.address (looked x.table g.call.site (of_location from)) at_is.leads_to)
 
       -- what the table says of it
-      each_is : 0 < count → element_bytes x.table (entry_at x.table source.ty) ≡ each
-      each_is some = let h = location_house x g element_here rest y from there named_from e in
-          (h.housed.rows count (looked x.table g.call.site (of_value to)) (ap (shape_of (facts_in x.table)) h.typed ∙ look)).1 some
+      rows : (count_in (entry_at x.table source.ty) ≡ count) × (0 < count → element_bytes x.table (entry_at x.table source.ty) ≡ each)
+          × (has_handle (entry_at x.table source.ty) ≡ false)
+      rows = let h = location_house x g element_here rest y from there named_from plain_from e in
+          h.housed.rows count (looked x.table g.call.site (of_value to)) (ap (shape_of (facts_in x.table)) h.typed ∙ look)
 
       found_at : (z : ℤ) → number_of w ≡ z → inside z count ≡ true
           → Settles x (starts g element_here rest) rest
@@ -317,8 +321,9 @@ module _ (x : Basis) (labels : LabelsLead x) (g : Both) (rest : List BlockLine) 
           let f = element_found moving at_is.home at_is.address i each index_variable o.high (o.word_is ∙ ap Some (ap word is ∙ wi)) at_is.high_is
           at_is.points small each_small in
           let code : element_code FIFTH at_is.home index_variable each moving ≡ code_here x g element_here rest y
-          = sym (ap (λ u. element_code FIFTH u index_variable (element_bytes x.table (entry_at x.table source.ty)) moving) at_is.home_is
-          ∙ ap (λ n. element_code FIFTH at_is.home index_variable n moving) (each_is (omega (arith, less)))) in
+          = sym (ap (λ b. at_element (around x.table x.blocks (body_of g)) b from index (house g.call.site (of_value to)) k) rows.2
+          ∙ ap (λ u. element_code FIFTH u index_variable (element_bytes x.table (entry_at x.table source.ty)) moving) at_is.home_is
+          ∙ ap (λ n. element_code FIFTH at_is.home index_variable n moving) (rows.1 (omega (arith, less)))) in
           subst (λ l. Settles x (starts g element_here rest) rest
           (gives (scene_of (high x.table x.blocks (starts g element_here rest))) to (costs 1 (fetched l)))) (deeper_is there i)
           (let found : Value = load g.world (location_at g.call.temps (deeper_in g.call.temps there i)) in
@@ -335,7 +340,7 @@ module _ (x : Basis) (labels : LabelsLead x) (g : Both) (rest : List BlockLine) 
           deeper_is (Within u path) i = refl
 
   pub element_line : FollowedHere x labels g rest (L.Element to from index)
-  element_line y =
+  element_line names y =
       let from_kind : TypeKind = kind_if (facts_in x.table) (type_in x is_location (body_of g) from) in
       let f = and_parts (is_of (value_type x g element_here rest y to) (element_of from_kind)) (is_int (kind_at x g element_here rest y index))
       (fits_here x.table x.blocks (body_of g) element_here rest y.stands) in
@@ -343,8 +348,9 @@ module _ (x : Basis) (labels : LabelsLead x) (g : Both) (rest : List BlockLine) 
       let s = some_kind (facts_in x.table) (type_in x is_location (body_of g) from) (λ k. is_of (Some v.ty) (element_of k)) refl
       (subst (λ o. is_of o (element_of from_kind) ≡ true) v.is f.0) in
       let p = pointed x g element_here rest y from s.0 s.1 in
-      let q = target x g element_here rest y to v.ty refl refl v.is in
-      let shape = elements_shape (facts_in x.table) s.0 v.ty s.2 (sym (ap of_numbers p.look) ∙ location_of_numbers x g.call.site from y.linked.0 p.named) in
+      let q = target x g element_here rest y to v.ty refl refl v.is names.0 in
+      let shape = elements_shape (facts_in x.table) s.0 v.ty s.2 (numbers_no_handle (shape_of (facts_in x.table) s.0)
+      (sym (ap of_numbers p.look) ∙ location_of_numbers x g.call.site from y.linked.0 p.named names.1.0)) in
       let look : looked x.table g.call.site (of_location from) ≡ row shape.0 (looked x.table g.call.site (of_value to))
       = p.look ∙ (shape.1 ∙ ap (row shape.0) (sym q.look)) in
       using_settles x (starts g element_here rest) rest (g.call.temps.places from)
@@ -355,22 +361,24 @@ module _ (x : Basis) (labels : LabelsLead x) (g : Both) (rest : List BlockLine) 
       (gives (scene_of (high x.table x.blocks (starts g element_here rest))) to (costs 1 (element_at (location_at g.call.temps there) (number_of w)))) Fails)
       (λ w h. branch_settles x (starts g element_here rest) rest (inside (number_of w) (length_of (load g.world (location_at g.call.temps there))))
       (gives (scene_of (high x.table x.blocks (starts g element_here rest))) to (costs 1 (element_at (location_at g.call.temps there) (number_of w)))) Fails
-      (λ i. found y v.ty q there e p.named shape.0 look w (int_read x g element_here rest y index w f.1 h) i) (λ i before. tt)))
+      (λ i. found y v.ty q there e p.named names.1.0 shape.0 look w (int_read x g element_here rest y index w f.1 h) i) (λ i before. tt)))
     where
       found : (y : IsGood x (starts g element_here rest)) (t : Ty) (place : Target x g element_here rest y to t) (there : Where)
-          (e : g.call.temps.places from ≡ Some there) (named_from : IsNamed g.call.site (of_location from)) (count : ℕ)
+          (e : g.call.temps.places from ≡ Some there) (named_from : IsNamed g.call.site (of_location from))
+          (plain_from : IsPlain x g.call.site (of_location from)) (count : ℕ)
           (look : looked x.table g.call.site (of_location from) ≡ row count (looked x.table g.call.site (of_value to)))
           (w : Value) (o : Operand x g.call index w) → inside (number_of w) (length_of (load g.world (location_at g.call.temps there))) ≡ true
           → Settles x (starts g element_here rest) rest (gives (scene_of (high x.table x.blocks (starts g element_here rest))) to
           (costs 1 (element_at (location_at g.call.temps there) (number_of w))))
-      found y t place there e named_from count look w o h =
+      found y t place there e named_from plain_from count look w o h =
           let v : Value = load g.world (location_at g.call.temps there) in
           where_there x (starts g element_here rest) rest (is_seen g.world (location_at g.call.temps there))
           (λ b. gives (scene_of (high x.table x.blocks (starts g element_here rest))) to
           (costs 1 (unless_gone b (fetched (item_of v (location_at g.call.temps there) (unsigned_abs (number_of w))))))) (λ before. tt)
-          (λ seen. let r = read_row x g element_here rest y from there named_from e count (looked x.table g.call.site (of_value to)) look seen in
+          (λ seen. let r = read_row x g element_here rest y from there named_from
+          (homed_plain x g.call.site from y.linked.0 named_from plain_from) e count (looked x.table g.call.site (of_value to)) look seen in
           subst (λ l. Settles x (starts g element_here rest) rest
           (gives (scene_of (high x.table x.blocks (starts g element_here rest))) to (costs 1 (fetched l))))
           (sym (ap (λ u. item_of u (location_at g.call.temps there) (unsigned_abs (number_of w))) r.is))
-          (found_at y t place there e named_from count look w o (number_of w) refl
+          (found_at y t place there e named_from plain_from count look w o (number_of w) refl
           (subst (λ n. inside (number_of w) n ≡ true) (ap length_of r.is ∙ r.long) h)))

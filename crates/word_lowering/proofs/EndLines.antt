@@ -57,15 +57,15 @@ module _ (x : Basis) (g : Both) where
 
 module _ (x : Basis) (labels : LabelsLead x) (g : Both) (rest : List BlockLine) (to : ℕ) (how : UseAt) where
   quit_zero : RowHere x g rest to O.Quit how None [] []
-  quit_zero y =
+  quit_zero names y =
       let line = plain (L.Apply to O.Quit how None [] []) in
-      stops_more (lower x) (low x.table x.blocks (starts g line rest)) 2 16 0 [] no_objects (omega arith)
+      stops_more (lower x) (low x.table x.blocks (starts g line rest)) 2 256 0 [] no_objects (omega arith)
       (zero_exits x g (code_next x g line rest y)) x.fresh
 
   quit_status : (a : Option ℕ) (status : ℕ) → RowHere x g rest to O.Quit how None (a ∷ []) (F.Value status ∷ [])
-  quit_status a status y =
+  quit_status a status names y =
       let line = plain (L.Apply to O.Quit how None (a ∷ []) (F.Value status ∷ [])) in
-      let f = applies x g rest to O.Quit how None (a ∷ []) (F.Value status ∷ []) y in
+      let f = applies x g rest to O.Quit how None (a ∷ []) (F.Value status ∷ []) names y in
       let v = same_type (value_type x g line rest y status) (if_type (known x).types a)
       (and_parts (same_value (value_type x g line rest y status) (if_type (known x).types a)) true f.typed).0 in
       let k : is_int (kind_at x g line rest y status) ≡ true
@@ -75,17 +75,17 @@ module _ (x : Basis) (labels : LabelsLead x) (g : Both) (rest : List BlockLine) 
       (costs 1 (end (low_byte (number_of (value_of z)))) >>= made_by false (bound_for g how)))
       (λ v e. let o = int_read x g line rest y status v k e in
       let s = exits x g (code_next x g line rest y) g.call.vars (variable x g line rest y status) (word (number_of v)) o.word_is in
-      subst (λ n. AlwaysStops (lower x) (low x.table x.blocks (starts g line rest)) [] 16 n no_objects) (exit_status (number_of v) o.fits)
-      (stops_more (lower x) (low x.table x.blocks (starts g line rest)) 1 16 (word (number_of v) % 256) [] no_objects (omega arith) s) x.fresh)
+      subst (λ n. AlwaysStops (lower x) (low x.table x.blocks (starts g line rest)) [] 256 n no_objects) (exit_status (number_of v) o.fits)
+      (stops_more (lower x) (low x.table x.blocks (starts g line rest)) 1 256 (word (number_of v) % 256) [] no_objects (omega arith) s) x.fresh)
 
   pub quit_line : (ty : Option ℕ) (of : List (Option ℕ)) (from : List From) → RowHere x g rest to O.Quit how ty of from
-  quit_line None [] [] y = quit_zero y
-  quit_line None (a ∷ []) (F.Value status ∷ []) y = quit_status a status y
-  quit_line (Some ty) of from y = never (applies x g rest to O.Quit how (Some ty) of from y).row
-  quit_line None [] (other ∷ from) y = never (applies x g rest to O.Quit how None [] (other ∷ from) y).typed
-  quit_line None (a ∷ b ∷ of) from y = never (applies x g rest to O.Quit how None (a ∷ b ∷ of) from y).row
-  quit_line None (a ∷ []) [] y = never (applies x g rest to O.Quit how None (a ∷ []) [] y).typed
-  quit_line None (a ∷ []) (F.Place t ∷ others) y = never (applies x g rest to O.Quit how None (a ∷ []) (F.Place t ∷ others) y).placed
-  quit_line None (a ∷ []) (F.Value status ∷ other ∷ others) y =
+  quit_line None [] [] names y = quit_zero names y
+  quit_line None (a ∷ []) (F.Value status ∷ []) names y = quit_status a status names y
+  quit_line (Some ty) of from names y = never (applies x g rest to O.Quit how (Some ty) of from names y).row
+  quit_line None [] (other ∷ from) names y = never (applies x g rest to O.Quit how None [] (other ∷ from) names y).typed
+  quit_line None (a ∷ b ∷ of) from names y = never (applies x g rest to O.Quit how None (a ∷ b ∷ of) from names y).row
+  quit_line None (a ∷ []) [] names y = never (applies x g rest to O.Quit how None (a ∷ []) [] names y).typed
+  quit_line None (a ∷ []) (F.Place t ∷ others) names y = never (applies x g rest to O.Quit how None (a ∷ []) (F.Place t ∷ others) names y).placed
+  quit_line None (a ∷ []) (F.Value status ∷ other ∷ others) names y =
       never (and_parts (same_value (type_in x is_value (body_of g) status) (if_type (known x).types a)) false
-      (applies x g rest to O.Quit how None (a ∷ []) (F.Value status ∷ other ∷ others) y).typed).1
+      (applies x g rest to O.Quit how None (a ∷ []) (F.Value status ∷ other ∷ others) names y).typed).1

@@ -43,7 +43,7 @@ no_more (Some hook) = refl
 
 module _ (x : Basis) (g : Both) (line : BlockLine) (rest : List BlockLine) (y : IsGood x (starts g line rest)) {proc : ℕ} {s : Signature}
     (c : Callee x.table x.blocks proc s) (slots : List Slot)
-    (gave : Gave x.table g.memory (sites_of g) g.ground g.world g.words (g.call.site.base + room (body_of g)) slots (params_in c.body.own.all))
+    (gave : Gave x.table x.blocks g.memory (sites_of g) g.ground g.world g.words (g.call.site.base + room (body_of g)) slots (params_in c.body.own.all))
     (left : ℕ) (e : g.call.site.left ≡ suc left) (to : ℕ)
     (answers : Answers x.table x.blocks c.body (record { call = g.call; rest = rest; to = to; proc = proc })) where
   abbrev limit : ℕ
@@ -83,8 +83,8 @@ module _ (x : Basis) (g : Both) (line : BlockLine) (rest : List BlockLine) (y : 
     comes : Grown g.memory memory (room c.body)
     comes = places_come g.memory (room c.body) bytes
 
-    gave_then : Gave x.table memory (sites_of g) g.ground g.world g.words (g.call.site.base + room (body_of g)) slots (params_in c.body.own.all)
-    gave_then = gave_still x.table g.memory memory (sites_of g) g.ground g.world g.words (g.call.site.base + room (body_of g))
+    gave_then : Gave x.table x.blocks memory (sites_of g) g.ground g.world g.words (g.call.site.base + room (body_of g)) slots (params_in c.body.own.all)
+    gave_then = gave_still x.table x.blocks g.memory memory (sites_of g) g.ground g.world g.words (g.call.site.base + room (body_of g))
         (λ a w h r. still_read g.memory memory (room c.body) comes a w (let p = y.memory.places in omega (arith, h, p)) r)
         slots (params_in c.body.own.all) c.spare gave
 
@@ -101,7 +101,7 @@ module _ (x : Basis) (g : Both) (line : BlockLine) (rest : List BlockLine) (y : 
 
   -- from wherever some lines come to what is behind the check
   pub entered_line : g.call.vars FIRST ≡ Some left → (l : BlockLine) (ls : List BlockLine) → c.body.proc.lines ≡ l ∷ ls
-      → (t : WordState) (before work : ℕ) → before + 10 ≤ 16 * work
+      → (t : WordState) (before work : ℕ) → before + 10 ≤ 256 * work
       → Runs x.live (all_procs x) before t (at (within x.table x.blocks g) g.memory (code_called x g line rest y c to) g.call.vars g.words)
       → FollowsFrom x t (starts g line rest)
       (entered (high x.table x.blocks (starts g line rest)) rest to slots work left (proc_of (known x) c.body.proc) (l ∷ ls))
@@ -134,7 +134,7 @@ module _ (x : Basis) (g : Both) (line : BlockLine) (rest : List BlockLine) (y : 
       r.vars_then r.memory r.words r.awaits in (
         last,
         before + (2 + r.steps),
-        subst (λ es. Steps (machine x) (before + (2 + r.steps)) (done, t) es (16 * (work + begin_work (proc_of (known x) c.body.proc))) last)
+        subst (λ es. Steps (machine x) (before + (2 + r.steps)) (done, t) es (256 * (work + begin_work (proc_of (known x) c.body.proc))) last)
             (no_more c.body.proc.hook)
             (record { work = r2.work; within = (let w = r2.within in omega (arith, w, less, few_before)); by = r2.by }),
         (inl (then, r.good, r3.0), refl, refl),

@@ -14,13 +14,17 @@ use Rattle.rv32_isa.proofs.ForCallers.{length-word_bytes}
 use Rattle.nim_types.specs.declared.types.TypeDef.{TypeDef}
 use Rattle.flat_code.specs.declared.block.BlockLine.{BlockLine}
 use Rattle.flat_code.specs.declared.code.Code.{Code}
+use Rattle.rv32_isa.specs.Regions.{AreBytes}
 use Rattle.word_code.specs.declared.word.WordCode.{WordCode}
 use Rattle.word_code.specs.Memory.{Memory, as_state, may_put, bytes_at, may_fill, own_data_at, data_of as whole_data}
 use Rattle.word_code.specs.declared.routine.TheConstants.{RUNTIME_DATA, SCRATCH_BYTES}
 use Rattle.word_code.specs.Routines.{HasData}
-use Rattle.rv32_isa.specs.declared.micro_op.Size.TheVariants.{Byte, Word}
+use Rattle.rv32_isa.specs.declared.micro_op.Size.{Size}
+use Rattle.rv32_isa.specs.declared.micro_op.Size.TheVariants.{Byte, Half, Word}
+use Rattle.rv32_isa.specs.Steps.{size_of}
 use Rattle.word_code.specs.RoutineTable.{Cell}
 use Rattle.word_code.proofs.ForCallers.{Sized}
+use Rattle.word_lowering.specs.declared.handed.TheConstants.{LEFT_HANDLE_AT}
 use Rattle.word_lowering.specs.declared.texts.TheConstants.{FIXED_BYTES}
 use Rattle.word_lowering.specs.declared.may_lower.TheConstants.{MOST_DATA, MOST_ROOM}
 use Rattle.word_lowering.specs.Texts.{missing, fixed_texts, all_names, ends_from, joined_all, laid_texts, data_in, padded}
@@ -40,6 +44,10 @@ pub drop_past : (xs ys : List ℕ) (j : ℕ) → drop (length xs + j) (xs ++ ys)
 drop_past [] ys j = let e : 0 + j ≡ j = omega arith in ap (λ k. drop k ys) e
 drop_past (x ∷ xs) ys j =
     let e : suc (length xs) + j ≡ suc (length xs + j) = omega arith in ap (λ k. drop k (x ∷ (xs ++ ys))) e ∙ drop_past xs ys j
+
+zeros_bytes : (n : ℕ) → AreBytes (replicate n 0)
+zeros_bytes zero = tt
+zeros_bytes (suc n) = (omega arith, zeros_bytes n)
 
 zeros_in : (k j n : ℕ) (rest : List ℕ) → j + n ≤ k → take n (drop j (replicate k 0 ++ rest)) ≡ replicate n 0
 zeros_in k j zero rest h = refl
@@ -146,18 +154,18 @@ module _ (table : List TypeDef) (blocks : Code BlockLine) where
   abbrev pub pad : List ℕ
   pad = replicate (missing (length (data_in table globals blocks.procs))) 0
 
-  pub own_is : own ≡ fixed ++ (replicate (globals - FIXED_BYTES) 0 ++ (behind ++ pad))
+  pub own_is : own ≡ fixed ++ (replicate (globals - LEFT_HANDLE_AT) 0 ++ (behind ++ pad))
   own_is =
-      append_assoc (replicate 4 0) (fixed_texts ++ (replicate (globals - FIXED_BYTES) 0 ++ behind)) pad
-      ∙ ap (λ l. replicate 4 0 ++ l) (append_assoc fixed_texts (replicate (globals - FIXED_BYTES) 0 ++ behind) pad
-      ∙ ap (λ l. fixed_texts ++ l) (append_assoc (replicate (globals - FIXED_BYTES) 0) behind pad))
-      ∙ sym (append_assoc (replicate 4 0) fixed_texts (replicate (globals - FIXED_BYTES) 0 ++ (behind ++ pad)))
+      append_assoc (replicate 4 0) (fixed_texts ++ (replicate (globals - LEFT_HANDLE_AT) 0 ++ behind)) pad
+      ∙ ap (λ l. replicate 4 0 ++ l) (append_assoc fixed_texts (replicate (globals - LEFT_HANDLE_AT) 0 ++ behind) pad
+      ∙ ap (λ l. fixed_texts ++ l) (append_assoc (replicate (globals - LEFT_HANDLE_AT) 0) behind pad))
+      ∙ sym (append_assoc (replicate 4 0) fixed_texts (replicate (globals - LEFT_HANDLE_AT) 0 ++ (behind ++ pad)))
 
   pub own_length : length own ≡ 20 + ((globals - 20) + length (behind ++ pad))
   own_length =
-      let a = length-append fixed (replicate (globals - FIXED_BYTES) 0 ++ (behind ++ pad)) in
-      let b = length-append (replicate (globals - FIXED_BYTES) 0) (behind ++ pad) in
-      let z : length {A = ℕ} (replicate (globals - FIXED_BYTES) 0) ≡ globals - 20 = zeros_length (globals - FIXED_BYTES) in
+      let a = length-append fixed (replicate (globals - LEFT_HANDLE_AT) 0 ++ (behind ++ pad)) in
+      let b = length-append (replicate (globals - LEFT_HANDLE_AT) 0) (behind ++ pad) in
+      let z : length {A = ℕ} (replicate (globals - LEFT_HANDLE_AT) 0) ≡ globals - 20 = zeros_length (globals - LEFT_HANDLE_AT) in
       let f : length fixed ≡ 20 = refl in
       let o = ap length own_is in
       omega (arith, a, b, z, f, o)
@@ -168,8 +176,8 @@ module _ (table : List TypeDef) (blocks : Code BlockLine) where
       let j : ℕ = i - 20 in
       let f : length fixed ≡ 20 = refl in
       let e : i ≡ length fixed + j = omega (arith, f, low) in
-      ap₂ (λ l k. take 4 (drop k l)) own_is e ∙ ap (take 4) (drop_past fixed (replicate (globals - FIXED_BYTES) 0 ++ (behind ++ pad)) j)
-      ∙ zeros_in (globals - FIXED_BYTES) j 4 (behind ++ pad) (omega (arith, low, high))
+      ap₂ (λ l k. take 4 (drop k l)) own_is e ∙ ap (take 4) (drop_past fixed (replicate (globals - LEFT_HANDLE_AT) 0 ++ (behind ++ pad)) j)
+      ∙ zeros_in (globals - LEFT_HANDLE_AT) j 4 (behind ++ pad) (omega (arith, low, high))
 
   module _ (runtime : Runtimes) (heap stack : ℕ) where
     abbrev code : WordCode
@@ -253,11 +261,37 @@ module _ (table : List TypeDef) (blocks : Code BlockLine) where
         ap (λ b. b || (lies_in heap_at start.heap data_at 1 || lies_in stack_at places data_at 1))
         (lies_here statics_at start.statics (8 + HEAP_DATA) 1 (omega (arith, long, w, l)))
 
+    -- and handles for operands, in front of the globals
+    pub handles_first : FIXED_BYTES ≤ globals → (places : List ℕ) (i : ℕ) (size : Size) → i + size_of size ≤ FIXED_BYTES
+        → ((data_at + i) % size_of size == 0) ≡ true → may_put (record start { places = places }) (data_at + i) size ≡ true
+    handles_first least places i size within whole = by size within whole
+      where
+        lies : (n : ℕ) → i + n ≤ FIXED_BYTES → lies_in statics_at start.statics (data_at + i) n ≡ true
+        lies n few =
+            let l = own_length in
+            let w = whole_length in
+            let long = data_length heap stack code.statics in
+            let place : data_at + i ≡ statics_at + (8 + HEAP_DATA + i) = omega arith in
+            ap (λ a. lies_in statics_at start.statics a n) place
+            ∙ lies_here statics_at start.statics (8 + HEAP_DATA + i) n (omega (arith, long, w, l, least, few))
+
+        may : (n : ℕ) → i + n ≤ FIXED_BYTES
+            → lies_in statics_at start.statics (data_at + i) n || (lies_in heap_at start.heap (data_at + i) n || lies_in stack_at places (data_at + i) n)
+            ≡ true
+        may n few = ap (λ b. b || (lies_in heap_at start.heap (data_at + i) n || lies_in stack_at places (data_at + i) n)) (lies n few)
+
+        by : (size : Size) → i + size_of size ≤ FIXED_BYTES → ((data_at + i) % size_of size == 0) ≡ true
+            → may_put (record start { places = places }) (data_at + i) size ≡ true
+        by Byte few aligned = and_from ((data_at + i) % 1 == 0) _ aligned (may 1 few)
+        by Half few aligned = and_from ((data_at + i) % 2 == 0) _ aligned (may 2 few)
+        by Word few aligned = and_from ((data_at + i) % 4 == 0) _ aligned (may 4 few)
+
     pub good_first : Sized start → (sites : List Site) → next_base sites ≡ stack_at + start_room code → MemoryGood table blocks sites start start
     good_first sized sites next = record {
       sized = sized;
       statics = refl;
       heap = refl;
+      bytes = zeros_bytes heap;
       places = long;
       cells = cells;
       texts = λ b n h. refl;

@@ -13,6 +13,7 @@ use Rattle.nim_types.specs.declared.types.TypeDef.{TypeDef}
 use Rattle.flat_code.specs.declared.block.BlockLine.{BlockLine}
 use Rattle.flat_code.specs.declared.code.Code.{Code}
 use Rattle.word_code.specs.Memory.{Memory, number_at}
+use Rattle.word_lowering.specs.declared.handed.TheConstants.{LEFT_HANDLE_AT}
 use Rattle.word_lowering.specs.declared.texts.TheConstants.{FIXED_BYTES}
 use Rattle.word_lowering.specs.declared.may_lower.TheConstants.{MOST_DATA}
 use Rattle.word_lowering.specs.Texts.{missing, padded, members_of, all_names, names_before, joined_all, starts_from, ends_from, laid_texts}
@@ -163,9 +164,9 @@ module _ (table : List TypeDef) (blocks : Code BlockLine) (runtime : Runtimes) (
 
   pub past_globals : (o : ℕ) → drop (globals table blocks + o) (own table blocks) ≡ drop o (behind table blocks ++ pad table blocks)
   past_globals o =
-      let zeros : List ℕ = replicate (globals table blocks - FIXED_BYTES) 0 in
-      let z : length zeros ≡ globals table blocks - FIXED_BYTES = zeros_length (globals table blocks - FIXED_BYTES) in
-      let f : length (fixed table blocks) ≡ FIXED_BYTES = refl in
+      let zeros : List ℕ = replicate (globals table blocks - LEFT_HANDLE_AT) 0 in
+      let z : length zeros ≡ globals table blocks - LEFT_HANDLE_AT = zeros_length (globals table blocks - LEFT_HANDLE_AT) in
+      let f : length (fixed table blocks) ≡ LEFT_HANDLE_AT = refl in
       let a = length-append (fixed table blocks) zeros in
       let e : globals table blocks + o ≡ length (fixed table blocks ++ zeros) + o = omega (arith, a, z, f, least) in
       ap₂ drop e (own_is table blocks ∙ sym (append_assoc (fixed table blocks) zeros (behind table blocks ++ pad table blocks)))

@@ -1,15 +1,17 @@
 -- The first places of a procedure that may be called, its parameters and then its result, and what a call gives of them.
 use Rattle.std.proofs.Common.{◌≡◌, ℕ, zero, suc, ◌+◌, ◌<◌, ◌≤◌, List, [], ◌∷◌, length, Option, Some, None, true, false, inl, inr, Ok, arith}
+use Rattle.flat_code.specs.declared.code.Code.{Code}
+use Rattle.flat_code.specs.declared.block.BlockLine.{BlockLine}
 use Rattle.std.proofs.Common.{refl, sym, ap, subst}
 use Rattle.std.specs.Prelude.{slice_get}
 use Rattle.nim_types.specs.declared.types.TypeDef.{TypeDef}
 use Rattle.nim_types.specs.Types.{Ty}
 use Rattle.nim_types.specs.Table.{type_at, types_in, facts_in}
-use Rattle.nim_meaning.specs.Values.{Value, number_of, bytes, Location, Slot, Holds, Stands, Lends, default_of}
+use Rattle.nim_meaning.specs.Values.{Value, number_of, Location, Slot, Holds, Stands, Lends, default_of}
 use Rattle.nim_meaning.specs.State.{World}
 use Rattle.flat_code.specs.Scene.{known_in}
-use Rattle.flat_code.specs.Shapes.{has_shape, shape_of}
-use Rattle.flat_code.specs.Fits.{Taken, Signature, is_declared, is_own}
+use Rattle.flat_code.specs.Shapes.{Shape, has_shape, shape_of}
+use Rattle.flat_code.specs.Fits.{Taken, Signature, is_declared}
 use Rattle.flat_code.specs.Codes.{proc_of}
 use Rattle.word_code.specs.Memory.{Memory, number_at}
 use Rattle.word_code.specs.Words.{Vars}
@@ -17,18 +19,21 @@ use Rattle.word_lowering.specs.declared.homes.TheConstants.{OWN_FROM}
 use Rattle.word_lowering.specs.declared.homes.Home.{Home}
 use Rattle.word_lowering.specs.declared.homes.Home.TheVariants.{Variable, Placed, Static}
 use Rattle.word_lowering.specs.declared.homes.Housed.{Housed}
-use Rattle.word_lowering.specs.Layouts.{found, params_in, result_in, is_address, kept_in}
+use Rattle.word_lowering.specs.Layouts.{found, params_in, result_in, holds_address, kept_in, owns}
 use Rattle.word_lowering.specs.Operations.{word}
-use Rattle.word_lowering.proofs.InMemory.{IsAt, carries}
 use Rattle.word_lowering.proofs.Sites.{Body, type_of, looks, There, Site, Among}
-use Rattle.word_lowering.proofs.Scenes.{FromOwned, Ground}
+use Rattle.word_lowering.proofs.Scenes.{LeadsHere, IsOwned, Ground, is_fixed}
 use Rattle.word_code.specs.declared.word.TheConstants.{SPARE_ROOM}
 use Rattle.rv32_isa.specs.declared.micro_op.Size.TheVariants.{Word}
+use Rattle.word_lowering.proofs.ShapeFacts.{shape_bytes}
+use Rattle.word_lowering.proofs.Blocks.{Stored}
+use Rattle.word_lowering.proofs.BlocksBorn.{later_same}
+use Rattle.word_lowering.proofs.StoredLater.{stored_small}
 
 module _ (table : List TypeDef) where
   -- parameters as a signature has them
   abbrev pub IsParam : Housed → Taken → Type 0
-  IsParam h p = (p.by_location ≡ is_address h.kind) × (p.written ≡ is_address h.kind) × (p.of ≡ type_of table h)
+  IsParam h p = (p.by_location ≡ holds_address h) × (p.written ≡ holds_address h) × (p.of ≡ type_of table h)
 
   abbrev pub ParamsAre : List Housed → List Taken → Type 0
   ParamsAre [] [] = Unit {0}
@@ -51,7 +56,7 @@ module _ (table : List TypeDef) where
   pub record FirstResult (all : List Housed) (n : ℕ) (r : Housed) (result : List Slot) : Type 0 where
     pub same : found is_declared n all ≡ r
     pub there : There all is_declared n
-    pub own : is_own r.kind ≡ true
+    pub own : owns r ≡ true
     pub look : looks table r ≡ shape_of (facts_in table) (type_at (types_in table) r.ty)
     pub slots : result ≡ Holds (default_of (facts_in table) (type_at (types_in table) r.ty)) ∷ []
 
@@ -76,25 +81,26 @@ module _ (table : List TypeDef) where
 
   -- ---- arguments that were given for a call whose places begin at an address
 
-  module _ (m : Memory) (sites : List Site) (ground : Ground) (w : World) (words : Vars) (base : ℕ) where
-    abbrev pub GivenAt : Home → Value → Type 0
-    GivenAt (Variable v) x = words v ≡ Some (word (number_of x))
-    GivenAt (Placed at) x = IsAt m (base + at) x
-    GivenAt (Static at) x = ⊥
+  module _ (blocks : Code BlockLine) (m : Memory) (sites : List Site) (ground : Ground) (w : World) (words : Vars) (base : ℕ) where
+    abbrev pub GivenAt : Shape → Home → Value → Type 0
+    GivenAt s (Variable v) x = words v ≡ Some (word (number_of x))
+    GivenAt s (Placed at) x = Stored (is_fixed ground) ground.blocks m (base + at) s x
+    GivenAt s (Static at) x = ⊥
 
     pub record GaveValue (h : Housed) (x : Value) : Type 0 where
-      pub plain : is_address h.kind ≡ false
+      pub plain : holds_address h ≡ false
       pub shaped : has_shape x (looks table h) ≡ true
-      pub size : bytes x ≡ h.bytes
-      pub given : GivenAt h.home x
+      pub size : shape_bytes (looks table h) ≡ h.bytes
+      pub given : GivenAt (looks table h) h.home x
 
     pub record GaveLocation (h : Housed) (location : Location) : Type 0 where
-      pub by_address : is_address h.kind ≡ true
+      pub by_address : holds_address h ≡ true
       pub variable : ℕ
       pub home : h.home ≡ Variable variable
       pub address : ℕ
       pub given : words variable ≡ Some address
-      pub leads : FromOwned table sites ground w location address (looks table h)
+      pub owned : h.lent ≡ false → IsOwned location.base
+      pub leads : LeadsHere table blocks sites ground w location address (looks table h)
 
     abbrev pub GaveSlot : Slot → Housed → Type 0
     GaveSlot (Holds x) h = GaveValue h x
@@ -140,23 +146,24 @@ module _ (table : List TypeDef) where
 
   -- ---- the same in memory in which words up to those for arguments are as they were
 
-  module _ (m m' : Memory) (sites : List Site) (ground : Ground) (w : World) (words : Vars) (base : ℕ)
+  module _ (blocks : Code BlockLine) (m m' : Memory) (sites : List Site) (ground : Ground) (w : World) (words : Vars) (base : ℕ)
       (still : (a n : ℕ) → a + 4 ≤ base + SPARE_ROOM → number_at m a Word ≡ Ok n → number_at m' a Word ≡ Ok n) where
-    given_still : (home : Home) (x : Value) → ((at : ℕ) → home ≡ Placed at → at + bytes x ≤ SPARE_ROOM) → GivenAt m sites ground w words base home x
-        → GivenAt m' sites ground w words base home x
-    given_still (Variable v) x within given = given
-    given_still (Placed at) x within given =
+    given_still : (s : Shape) (home : Home) (x : Value) → ((at : ℕ) → home ≡ Placed at → at + shape_bytes s ≤ SPARE_ROOM)
+        → GivenAt blocks m sites ground w words base s home x → GivenAt blocks m' sites ground w words base s home x
+    given_still s (Variable v) x within given = given
+    given_still s (Placed at) x within given =
         let l = within at refl in
-        carries m m' (base + at) (base + at) x (λ o n inner is read. still (base + at + o) n (omega (arith, l, inner)) read) given
-    given_still (Static at) x within given = absurd given
+        stored_small (is_fixed ground) ground.blocks ground.blocks (later_same ground.blocks) m m' (base + at) (base + at) s x
+        (λ o n inner is small read. still (base + at + o) n (omega (arith, l, inner)) read) given
+    given_still s (Static at) x within given = absurd given
 
-    slot_still : (slot : Slot) (h : Housed) → ((at : ℕ) → h.home ≡ Placed at → at + h.bytes ≤ SPARE_ROOM) → GaveSlot m sites ground w words base slot h
-        → GaveSlot m' sites ground w words base slot h
+    slot_still : (slot : Slot) (h : Housed) → ((at : ℕ) → h.home ≡ Placed at → at + h.bytes ≤ SPARE_ROOM) → GaveSlot blocks m sites ground w words base slot h
+        → GaveSlot blocks m' sites ground w words base slot h
     slot_still (Holds x) h within g = record {
       plain = g.plain;
       shaped = g.shaped;
       size = g.size;
-      given = given_still h.home x (λ at e. let l = within at e in let s = g.size in omega (arith, l, s)) g.given;
+      given = given_still (looks table h) h.home x (λ at e. let l = within at e in let s = g.size in omega (arith, l, s)) g.given;
     }
     slot_still (Stands location) h within g = record {
       by_address = g.by_address;
@@ -164,12 +171,13 @@ module _ (table : List TypeDef) where
       home = g.home;
       address = g.address;
       given = g.given;
+      owned = g.owned;
       leads = g.leads;
     }
     slot_still (Lends x from seen) h within g = absurd g
 
     pub gave_still : (slots : List Slot) (hs : List Housed) → ((h : Housed) (at : ℕ) → Among h hs → h.home ≡ Placed at → at + h.bytes ≤ SPARE_ROOM)
-        → Gave m sites ground w words base slots hs → Gave m' sites ground w words base slots hs
+        → Gave blocks m sites ground w words base slots hs → Gave blocks m' sites ground w words base slots hs
     gave_still [] [] within g = tt
     gave_still [] (h ∷ hs) within g = absurd g
     gave_still (slot ∷ slots) [] within g = absurd g

@@ -77,7 +77,7 @@ module _ (own many : ℕ) where
     fine = subst (λ n. IsFine own many n (AllFine own many (f []))) (sym e) y.fine;
   }
 
-  front_if : (b : Bool) (f g : Coding) → IsFront own many f → IsFront own many g → IsFront own many (λ k. if b then f k else g k)
+  pub front_if : (b : Bool) (f g : Coding) → IsFront own many f → IsFront own many g → IsFront own many (λ k. if b then f k else g k)
   front_if true f g x y = record { is = x.is; fine = x.fine }
   front_if false f g x y = record { is = y.is; fine = y.fine }
 

@@ -1,5 +1,6 @@
 -- A place of the running call gets a value: what is true then.
 use Rattle.std.proofs.Common.{◌≡◌, ◌≢◌, ◌⊎◌, inl, inr, ℕ, suc, ◌+◌, ◌*◌, ◌<◌, ◌≤◌, List, [], ◌∷◌, map, Bool, true, false, refl, sym, ap, subst, ◌∙◌}
+use Rattle.word_lowering.specs.Layouts.{owns}
 use Rattle.std.proofs.Common.{arith}
 use Rattle.std.proofs.Common.{Option, Some}
 use Rattle.nim_meaning.specs.Values.{Value, bytes, Slot, Holds, Standing}
@@ -10,37 +11,37 @@ use Rattle.word_code.specs.Memory.{Memory}
 use Rattle.word_code.specs.Words.{Vars}
 use Rattle.flat_code.specs.Scene.{with_value, Passes, Temps}
 use Rattle.flat_code.specs.Shapes.{has_shape}
-use Rattle.flat_code.specs.Fits.{is_own}
 use Rattle.word_lowering.proofs.HeapKept.{SameHeap, heap_same, heap_beside}
-use Rattle.word_lowering.proofs.ShapeFacts.{never}
+use Rattle.word_lowering.proofs.ShapeFacts.{never, of_numbers}
 use Rattle.word_code.proofs.ForCallers.{Changed, Runs, at}
 use Rattle.word_lowering.specs.declared.homes.TheConstants.{OWN_FROM, LEFT}
 use Rattle.word_lowering.specs.declared.homes.Home.TheVariants.{Variable}
 use Rattle.word_lowering.specs.declared.homes.Housed.{Housed}
 use Rattle.word_lowering.specs.declared.texts.TheConstants.{FIXED_BYTES}
 use Rattle.word_lowering.specs.Spots.{spot_of, moves}
-use Rattle.word_lowering.specs.LineCode.{variable_in}
 use Rattle.word_lowering.proofs.RoutineCalls.{awaiting}
 use Rattle.word_lowering.proofs.Moves.{is_single, ToVariable, ToMemory}
 use Rattle.word_lowering.proofs.Frames.{IsFrame, frame_kept, slot_here, slot_elsewhere, length_set}
 use Rattle.word_lowering.proofs.Sites.{room, Housing, in_variable, by_address, in_places, in_data, InMemory, Site, AmongSites, data_end, Linked, next_base}
 use Rattle.word_lowering.proofs.Scenes.{address_of, Name, of_value, of_place, At, house, IsThere, looked, IsItem, IsFilled, Filled, IsNamed, Call, site_of}
-use Rattle.word_lowering.proofs.SitesApart.{IsPlace, houses, site_at, one_level, variables_apart}
+use Rattle.word_lowering.proofs.SitesApart.{IsPlace, houses, site_at, one_level, variables_apart, variable_high, home_variable}
 use Rattle.word_lowering.proofs.Keeping.{number_cases, spot_held, spot_memory, points_there, to_memory, value_no_location, value_no_place, outside_still}
 use Rattle.word_lowering.proofs.Keeping.{location_no_place, call, Edit, nowhere, somewhere, Worlds, worlds_same, Kept, New, same_numbers, away_cases}
-use Rattle.word_lowering.proofs.Keeping.{own_text, AmongCalls}
+use Rattle.word_lowering.proofs.Keeping.{own_text, AmongCalls, value_no_waiting, place_no_waiting}
 use Rattle.word_lowering.proofs.Related.{Both, body_of, within, low, code_behind, code_past, StandAt, MemoryGood, AllFrames, called_by, store_with}
 use Rattle.word_lowering.proofs.Lines.{Basis, all_procs, changed, starts, IsGood, Settles, goes_on, all_sites, good_changed, waits_below, stands_next}
-use Rattle.word_lowering.proofs.ValueFacts.{different, value_plain, put_here, put_away, put_still, numbers_there}
+use Rattle.word_lowering.proofs.ValueFacts.{different, value_plain, put_here, put_away, put_still}
 use Rattle.word_lowering.proofs.Items.{item_of}
 use Rattle.word_lowering.proofs.Sources.{Lying, text_beside, lying_away, lying_all, size_is, word_is, Source, number_of_single, to_word_by, to_bytes_by}
 use Rattle.nim_meaning.specs.Deeds.{Answers}
 use Rattle.nim_meaning.specs.Places.{root_of, through_slot}
-use Rattle.word_lowering.specs.Lookups.{is_address}
+use Rattle.word_lowering.specs.Lookups.{holds_address}
 use Rattle.word_lowering.specs.Stored.{is_word}
 use Rattle.word_lowering.proofs.OrdinalRuns.{AllSame}
 use Rattle.rv32_isa.specs.Image.{stack_at}
 use Rattle.word_lowering.proofs.InMemory.{HasWords}
+use Rattle.word_lowering.proofs.Temporaries.{waits_alike, once_alike, slot_alike}
+use Rattle.word_lowering.proofs.Scenes.{HasVariable}
 
 module _ (x : Basis) (sites : List Site) (linked : Linked x.table x.blocks sites) where
   pub memory_kept : (m m' : Memory) (a n : ℕ) → MemoryGood x.table x.blocks sites x.first m → Changed m m' a n → Lying x sites linked a n
@@ -49,6 +50,7 @@ module _ (x : Basis) (sites : List Site) (linked : Linked x.table x.blocks sites
     sized = ch.sized;
     statics = ch.sizes.statics ∙ good.statics;
     heap = ch.sizes.heap ∙ good.heap;
+    bytes = ch.sizes.bytes good.bytes;
     places = ap (λ n. stack_at + n) ch.sizes.stack ∙ good.places;
     cells = λ b whole open_word. ch.cells b (good.cells b whole open_word);
     texts = λ b k text. ch.beside b k (text_beside x sites linked a n b k l text) ∙ good.texts b k text;
@@ -92,7 +94,7 @@ module _ (x : Basis) (g : Both) (line : BlockLine) (rest : List BlockLine) (y : 
     pub good : MemoryGood x.table x.blocks sites x.first memory
     pub heap : SameHeap g.memory memory
     pub edit : Edit x.table x.blocks x.small sites y.linked site f g.memory memory
-    pub variables : (h : Name) (u : ℕ) → IsThere site h → h ≢ f → (house site h).home ≡ Variable u → vars u ≡ g.call.vars u
+    pub variables : (h : Name) (u : ℕ) → IsThere site h → h ≢ f → HasVariable site h u → vars u ≡ g.call.vars u
     pub left : vars LEFT ≡ g.call.vars LEFT
     pub at_place : At memory site.base vars (spot_of (house site f)) v
     pub steps : ℕ
@@ -110,7 +112,7 @@ module _ (x : Basis) (g : Both) (line : BlockLine) (rest : List BlockLine) (y : 
     pub good : MemoryGood x.table x.blocks sites x.first memory
     pub heap : SameHeap g.memory memory
     pub edit : Edit x.table x.blocks x.small sites y.linked site f g.memory memory
-    pub variables : (h : Name) (u : ℕ) → IsThere site h → h ≢ f → (house site h).home ≡ Variable u → vars u ≡ g.call.vars u
+    pub variables : (h : Name) (u : ℕ) → IsThere site h → h ≢ f → HasVariable site h u → vars u ≡ g.call.vars u
     pub left : vars LEFT ≡ g.call.vars LEFT
     pub steps : ℕ
     pub some : 0 < steps
@@ -135,17 +137,11 @@ module _ (x : Basis) (g : Both) (line : BlockLine) (rest : List BlockLine) (y : 
     runs = r.runs;
   }
 
-  pub high_variable : (h : Name) (u : ℕ) → IsThere site h → (house site h).home ≡ Variable u → OWN_FROM ≤ u
-  high_variable h u there home = by (houses x.table x.blocks site h y.linked.0 there).where_is
-    where
-      by : Housing (room (body_of g)) FIXED_BYTES (data_end x.table x.blocks) (body_of g).start (house g.call.site h) → OWN_FROM ≤ u
-      by (in_variable w e plain low is_word) = subst (λ n. OWN_FROM ≤ n) (ap variable_in (sym e ∙ home)) low
-      by (by_address w e address low) = subst (λ n. OWN_FROM ≤ n) (ap variable_in (sym e ∙ home)) low
-      by (in_places at e plain whole within) = absurd (subst InMemory (sym e ∙ home) tt)
-      by (in_data at e plain whole low within start) = absurd (subst InMemory (sym e ∙ home) tt)
+  pub high_variable : (h : Name) (u : ℕ) → IsThere site h → HasVariable site h u → OWN_FROM ≤ u
+  high_variable h u there own = variable_high x.table x.blocks site h u y.linked.0 there own
 
-  module _ (f : Name) (there : IsThere site f) (plain : is_address (house site f).kind ≡ false) (v : Value)
-      (shaped : has_shape v (looked x.table site f) ≡ true) (lines k : List WordInstr) where
+  module _ (f : Name) (there : IsThere site f) (plain : holds_address (house site f) ≡ false) (v : Value)
+      (numbers : of_numbers (looked x.table site f) ≡ true) (shaped : has_shape v (looked x.table site f) ≡ true) (lines k : List WordInstr) where
     -- where it is in a variable
     pub gets_word : (t : ℕ) → (house site f).home ≡ Variable t
         → ToVariable x.law x.live (all_procs x) (within x.table x.blocks g) refl g.words g.memory lines g.call.vars t v k → Gets lines k f v 2
@@ -158,7 +154,7 @@ module _ (x : Basis) (g : Both) (line : BlockLine) (rest : List BlockLine) (y : 
       heap = heap_same g.memory;
       edit = nowhere refl;
       variables = λ h u other ne is. w.but.others u (high_variable h u other is)
-          (variables_apart x.table x.blocks site f h t u y.linked.0 there other (λ e. ne (sym e)) home is);
+          (variables_apart x.table x.blocks site f h t u y.linked.0 there other (λ e. ne (sym e)) (home_variable x.table x.blocks site f t there home) is);
       left = w.but.left;
       at_place = subst (λ p. At g.memory site.base w.vars p v) (sym (spot_held (house site f) t plain home)) w.given;
       steps = w.steps;
@@ -173,7 +169,7 @@ module _ (x : Basis) (g : Both) (line : BlockLine) (rest : List BlockLine) (y : 
         (address_of site.base (house site f).home) v most k
         → Gets lines k f v most
     gets_bytes most inside r =
-        let size : (house site f).bytes ≡ bytes v = size_is x sites y.linked g.call (inl refl) f there plain v shaped in
+        let size : (house site f).bytes ≡ bytes v = size_is x sites y.linked g.call (inl refl) f there plain v numbers shaped in
         record {
           vars = r.vars;
           memory = r.memory;
@@ -198,20 +194,20 @@ module _ (x : Basis) (g : Both) (line : BlockLine) (rest : List BlockLine) (y : 
         }
 
   -- a value that is somewhere is moved to a place
-  pub gets_moved : (f : Name) → IsThere site f → is_address (house site f).kind ≡ false → (v : Value) → has_shape v
-      (looked x.table site f) ≡ true
+  pub gets_moved : (f : Name) → IsThere site f → holds_address (house site f) ≡ false → (v : Value)
+      → of_numbers (looked x.table site f) ≡ true → has_shape v (looked x.table site f) ≡ true
       → (k : List WordInstr) (from : Housed) → from.is_word ≡ is_single v → from.bytes ≡ bytes v → HasWords v → (all : Bool)
       → Source x sites y.linked g.memory site.base g.call.vars all from v → Gets (moves (house site f) from k) k f v (10 + 2 * bytes v)
-  gets_moved f there plain v shaped k from word_from size_from small all source = by (houses x.table x.blocks site f y.linked.0 there).where_is
+  gets_moved f there plain v numbers shaped k from word_from size_from small all source = by (houses x.table x.blocks site f y.linked.0 there).where_is
     where
       size : (house g.call.site f).bytes ≡ bytes v
-      size = size_is x (all_sites x g line rest y) y.linked g.call (inl refl) f there plain v shaped
+      size = size_is x (all_sites x g line rest y) y.linked g.call (inl refl) f there plain v numbers shaped
 
       single : (house g.call.site f).is_word ≡ is_single v
-      single = word_is x (all_sites x g line rest y) y.linked g.call (inl refl) f there plain v shaped
+      single = word_is x (all_sites x g line rest y) y.linked g.call (inl refl) f there plain v numbers shaped
 
       bytes_in : InMemory (house g.call.site f).home → Gets (moves (house g.call.site f) from k) k f v (10 + 2 * bytes v)
-      bytes_in inside = gets_bytes f there plain v shaped (moves (house g.call.site f) from k) k (10 + 2 * bytes v) inside
+      bytes_in inside = gets_bytes f there plain v numbers shaped (moves (house g.call.site f) from k) k (10 + 2 * bytes v) inside
           (to_bytes_by x (all_sites x g line rest y) y.linked (within x.table x.blocks g) refl g.words g.memory y.memory k g.call.vars
           (house g.call.site f) from v word_from size_from small
           (house g.call.site f).home (spot_memory (house g.call.site f) plain inside) (address_of g.call.site.base (house g.call.site f).home)
@@ -242,7 +238,7 @@ module _ (x : Basis) (g : Both) (line : BlockLine) (rest : List BlockLine) (y : 
           let n = number_of_single x (all_sites x g line rest y) y.linked (within x.table x.blocks g) refl g.words g.memory y.memory k g.call.vars
           (house g.call.site f) from v word_from size_from small
           v (sym single ∙ is_word) in
-          more (gets_word f there plain v shaped (moves (house g.call.site f) from k) k t e
+          more (gets_word f there plain v numbers shaped (moves (house g.call.site f) from k) k t e
           (to_word_by x (all_sites x g line rest y) y.linked (within x.table x.blocks g) refl g.words g.memory y.memory k g.call.vars
           (house g.call.site f) from v word_from size_from small
           t (spot_held (house g.call.site f) t p e) low n.0 n.1 all source))
@@ -253,7 +249,7 @@ module _ (x : Basis) (g : Both) (line : BlockLine) (rest : List BlockLine) (y : 
   -- ---- a temporary has the value
 
   pub kept_value : (t : ℕ) (v : Value) (vars : Vars)
-      → ((h : Name) (u : ℕ) → IsThere site h → h ≢ of_value t → (house site h).home ≡ Variable u → vars u ≡ g.call.vars u)
+      → ((h : Name) (u : ℕ) → IsThere site h → h ≢ of_value t → HasVariable site h u → vars u ≡ g.call.vars u)
       → vars LEFT ≡ g.call.vars LEFT
       → Kept x.table x.blocks x.small sites y.linked site (of_value t) site g.call.temps (with_value t g.call.temps v) g.call.vars vars
   kept_value t v vars others left = record {
@@ -289,36 +285,38 @@ module _ (x : Basis) (g : Both) (line : BlockLine) (rest : List BlockLine) (y : 
         text = λ u n j w e a h. own_text g.call.site (of_value u) n j (subst (IsThere g.call.site) (sym e) there) a;
         led = λ u other e n h. absurd (value_no_location t u (sym e));
         filled = λ n e h. absurd (value_no_place t n (sym e));
+        waits = λ n e. absurd (value_no_waiting t n (sym e));
       }
 
   pub good_value : (after : List BlockLine) (stand : StandAt x.table x.blocks (body_of g) after) (lines k : List WordInstr) (t : ℕ) (v : Value) (most : ℕ)
-      → IsThere site (of_value t)
+      → IsThere site (of_value t) → of_numbers (looked x.table site (of_value t)) ≡ true
       → has_shape v (looked x.table site (of_value t)) ≡ true → (r : Gets lines k (of_value t) v most)
       → IsGood x (changed g after (with_value t g.call.temps v) r.vars r.memory r.words r.awaits g.world)
-  good_value after stand lines k t v most there shaped r =
+  good_value after stand lines k t v most there numbers shaped r =
       good_item after stand lines k t v most there (changes_of r)
-      (item_of x.table (store_with g r.memory) (call g.call.site (with_value t g.call.temps v) r.vars) (of_value t) v
-      (numbers_there x g.call.site (of_value t) y.linked.0 there) (record {
+      (item_of x.table (store_with g r.memory) (call g.call.site (with_value t g.call.temps v) r.vars) (of_value t) v (record {
         there = there;
-        plain = value_plain (house g.call.site (of_value t)).kind there.kind;
+        numbers = numbers;
+        plain = value_plain (house g.call.site (of_value t)) there.kind;
         shaped = shaped;
         at = r.at_place;
       }))
 
   pub item_settles : (t : ℕ) (v : Value) (most work : ℕ) → IsThere site (of_value t) → (r : Changes code_here code_next (of_value t) most)
-      → IsItem x.table (store_with g r.memory) (call site (with_value t g.call.temps v) r.vars) (of_value t) v → most ≤ 16 * work
+      → IsItem x.table (store_with g r.memory) (call site (with_value t g.call.temps v) r.vars) (of_value t) v → most ≤ 256 * work
       → Settles x (starts g line rest) rest (Passes (Answers [] work (with_value t g.call.temps v) g.world))
   item_settles t v most work there r item le =
       goes_on x (starts g line rest) (changed g rest (with_value t g.call.temps v) r.vars r.memory r.words r.awaits g.world) rest
       (good_item rest (stands_next x.table x.blocks (body_of g) line rest y.stands) code_here code_next t v most there r item) r.steps work
       (with_value t g.call.temps v) g.world r.runs r.some (let h = r.few in omega (arith, h, le)) refl
 
-  pub value_settles : (t : ℕ) (v : Value) (most work : ℕ) → IsThere site (of_value t) → has_shape v (looked x.table site (of_value t)) ≡ true
-      → Gets code_here code_next (of_value t) v most → most ≤ 16 * work
+  pub value_settles : (t : ℕ) (v : Value) (most work : ℕ) → IsThere site (of_value t) → of_numbers (looked x.table site (of_value t)) ≡ true
+      → has_shape v (looked x.table site (of_value t)) ≡ true
+      → Gets code_here code_next (of_value t) v most → most ≤ 256 * work
       → Settles x (starts g line rest) rest (Passes (Answers [] work (with_value t g.call.temps v) g.world))
-  value_settles t v most work there shaped r le =
+  value_settles t v most work there numbers shaped r le =
       goes_on x (starts g line rest) (changed g rest (with_value t g.call.temps v) r.vars r.memory r.words r.awaits g.world) rest
-      (good_value rest (stands_next x.table x.blocks (body_of g) line rest y.stands) code_here code_next t v most there shaped r) r.steps work
+      (good_value rest (stands_next x.table x.blocks (body_of g) line rest y.stands) code_here code_next t v most there numbers shaped r) r.steps work
       (with_value t g.call.temps v) g.world r.runs r.some (let h = r.few in omega (arith, h, le)) refl
 
   -- ---- temporaries that have places are as they were
@@ -340,7 +338,7 @@ module _ (x : Basis) (g : Both) (line : BlockLine) (rest : List BlockLine) (y : 
   }
 
   pub kept_temps : (lo : Site) (e : Name) (temps : Temps) (vars : Vars) → SameTemps temps
-      → ((h : Name) (u : ℕ) → IsThere site h → ((site.level ≢ lo.level) ⊎ (h ≢ e)) → (house site h).home ≡ Variable u → vars u ≡ g.call.vars u)
+      → ((h : Name) (u : ℕ) → IsThere site h → ((site.level ≢ lo.level) ⊎ (h ≢ e)) → HasVariable site h u → vars u ≡ g.call.vars u)
       → vars LEFT ≡ g.call.vars LEFT
       → Kept x.table x.blocks x.small sites y.linked lo e site g.call.temps temps g.call.vars vars
   kept_temps lo e temps vars same others left = record {
@@ -378,7 +376,7 @@ module _ (x : Basis) (g : Both) (line : BlockLine) (rest : List BlockLine) (y : 
 
   -- ---- a place of the call has the value
 
-  module _ (n : ℕ) (there : IsThere site (of_place n)) (own : is_own (house site (of_place n)).kind ≡ true) (v : Value) where
+  module _ (n : ℕ) (there : IsThere site (of_place n)) (own : owns (house site (of_place n)) ≡ true) (v : Value) where
     place_frame : IsFrame g.world site.level site.body.proc.first site.body.proc.span
     place_frame = frame_of_site x sites y.linked g.world sites site y.frames (inl refl)
 
@@ -406,13 +404,15 @@ module _ (x : Basis) (g : Both) (line : BlockLine) (rest : List BlockLine) (y : 
             let o : IsThere g.call.site (of_place m) = subst (λ z. IsThere z (of_place m)) same other in
             inr ((y.linked.0.inside m (record { among = o.among; number = o.number; kind = o.kind })).0, λ f. ne (ap of_place f))
 
-    place_worlds : Worlds x.table x.blocks x.small sites y.linked site (of_place n) g.world filled_world
+    pub place_worlds : Worlds x.table x.blocks x.small sites y.linked site (of_place n) g.world filled_world
     place_worlds = record {
       slots = elsewhere_is;
       more = λ s m i other h. more s m i other h (away_cases x.table x.blocks x.small (all_sites x g line rest y) y.linked g.call.site (of_place n) s
           (of_place m));
       roots = λ s m i other h. roots s m i other h
           (away_cases x.table x.blocks x.small (all_sites x g line rest y) y.linked g.call.site (of_place n) s (of_place m));
+      waits = λ s node i a. waits_alike g.world filled_world (slot_alike g.world g.call.site.level n (Some (Holds v))) s.level node;
+      once = λ s i h. once_alike g.world filled_world (slot_alike g.world g.call.site.level n (Some (Holds v))) s.level h;
     }
       where
         more : (s : Site) (m : ℕ) → AmongSites s (all_sites x g line rest y) → IsThere s (of_place m) → Filled g.world s.level m
@@ -450,11 +450,12 @@ module _ (x : Basis) (g : Both) (line : BlockLine) (rest : List BlockLine) (y : 
           item = λ u i h. subst (λ w. IsItem x.table (store_with g r.memory) (call site temps r.vars) (of_place n) w) (held_is u h) item_then;
           text = λ u a b w e f h. absurd (value_no_place u n e);
           led = λ u other e i k. absurd (location_no_place u n e);
-          filled = λ m e k. subst (λ j. IsFilled x.table sites g.ground filled_world (call site temps r.vars) j)
+          filled = λ m e k. subst (λ j. IsFilled x.table x.blocks sites g.ground filled_world (call site temps r.vars) j)
               (sym (same_numbers (of_place m) (of_place n) e)) (record {
                 own = λ o. (v, slot_is);
                 other = λ o. never (sym o ∙ own);
               });
+          waits = λ m e. absurd (place_no_waiting n m (sym e));
         })
         (λ c from i e. absurd (waits_below x g line rest y c i e))
         (frames_kept x sites y.linked g.world sites site.level n (Some (Holds v)) y.frames)
@@ -470,13 +471,14 @@ module _ (x : Basis) (g : Both) (line : BlockLine) (rest : List BlockLine) (y : 
 
     pub good_place : (after : List BlockLine) (stand : StandAt x.table x.blocks (body_of g) after) (temps : Temps) (same : SameTemps temps)
         (lines k : List WordInstr) (most : ℕ)
-        → has_shape v (looked x.table site (of_place n)) ≡ true → is_address (house site (of_place n)).kind ≡ false
-        → (r : Gets lines k (of_place n) v most)
+        → of_numbers (looked x.table site (of_place n)) ≡ true → has_shape v (looked x.table site (of_place n)) ≡ true
+        → holds_address (house site (of_place n)) ≡ false → (r : Gets lines k (of_place n) v most)
         → IsGood x (changed g after temps r.vars r.memory r.words r.awaits filled_world)
-    good_place after stand temps same lines k most shaped plain r =
+    good_place after stand temps same lines k most numbers shaped plain r =
         good_item_place after stand temps same lines k most (changes_of r)
-        (item_of x.table (store_with g r.memory) (call site temps r.vars) (of_place n) v (numbers_there x site (of_place n) y.linked.0 there) (record {
+        (item_of x.table (store_with g r.memory) (call site temps r.vars) (of_place n) v (record {
           there = there;
+          numbers = numbers;
           plain = plain;
           shaped = shaped;
           at = r.at_place;

@@ -1,15 +1,16 @@
 -- An argument of a call is given to its parameter: what is true then.
 use Rattle.std.proofs.Common.{◌≡◌, inl, inr, ℕ, suc, ◌+◌, ◌*◌, ◌%◌, ◌^◌, ◌<◌, ◌≤◌, List, [], ◌∷◌, map, Some, true, false}
-use Rattle.std.proofs.Common.{refl, sym, ap, subst, ◌∙◌, arith}
+use Rattle.std.proofs.lemmas.Bool.{cases_Bool, true≢false}
+use Rattle.std.proofs.Common.{refl, sym, ap, ap₂, subst, ◌∙◌, arith, ◌⊎◌}
 use Rattle.nim_meaning.specs.Values.{Value, bytes, Location, Slot, Holds, Stands}
 use Rattle.flat_code.specs.declared.block.BlockLine.{BlockLine}
 use Rattle.flat_code.specs.Codes.{block_plain}
 use Rattle.flat_code.specs.Fits.{Signature, is_value, is_location, is_standing, if_kind, place_named}
-use Rattle.flat_code.specs.Scene.{Where, location_at}
-use Rattle.flat_code.specs.Shapes.{has_shape}
+use Rattle.flat_code.specs.Scene.{Where, location_at, Located}
+use Rattle.flat_code.specs.Shapes.{Shape, has_shape, shape_of}
 use Rattle.word_code.specs.declared.word.TheConstants.{SPARE_ROOM}
 use Rattle.word_code.specs.declared.word.WordInstr.{WordInstr}
-use Rattle.word_code.specs.declared.word.WordInstr.TheVariants.{Argument}
+use Rattle.word_code.specs.declared.word.WordInstr.TheVariants.{Argument, Place}
 use Rattle.word_code.specs.Memory.{Memory}
 use Rattle.word_code.specs.Words.{Vars, put, from_label}
 use Rattle.word_code.proofs.ForCallers.{Changed, Runs, at, got, run_argument, then_runs}
@@ -19,32 +20,42 @@ use Rattle.word_lowering.specs.declared.homes.Home.TheVariants.{Variable, Placed
 use Rattle.word_lowering.specs.declared.homes.Housed.{Housed}
 use Rattle.word_lowering.specs.declared.texts.TheConstants.{FIXED_BYTES}
 use Rattle.word_lowering.specs.Aliases.{handed_by, places_in, is_among}
-use Rattle.word_lowering.specs.Layouts.{params_in, is_address}
+use Rattle.word_lowering.specs.Layouts.{params_in, holds_address}
 use Rattle.word_lowering.specs.LineCode.{Around, argument_code, word_argument, location}
 use Rattle.word_lowering.proofs.HeapKept.{SameHeap, heap_same}
-use Rattle.word_lowering.proofs.AddressFacts.{AtAddress, handed_at}
+use Rattle.word_lowering.proofs.AddressFacts.{AtAddress, handed_at, at_homed, high_in_memory, in_memory}
 use Rattle.word_lowering.proofs.Arguments.{Gives, to_variable, to_place}
 use Rattle.word_lowering.proofs.Callees.{Callee}
 use Rattle.word_lowering.proofs.FirstPlaces.{GivenAt, GaveSlot}
 use Rattle.word_lowering.proofs.Gets.{high_variable}
-use Rattle.word_lowering.proofs.HandedLines.{next_at, spare_beyond, memory_beyond, heap_beyond, hands_value}
+use Rattle.word_lowering.proofs.HandedLines.{next_at, spare_beyond, memory_beyond, heap_beyond, hand_label, hands_bits, hands_value}
 use Rattle.word_lowering.proofs.InMemory.{IsAt, bytes_some}
-use Rattle.word_lowering.proofs.Keeping.{AmongCalls, Edit, nowhere, Kept, worlds_same, beyond}
+use Rattle.word_lowering.proofs.Keeping.{AmongCalls, Edit, nowhere, Kept, worlds_same, beyond, from_home, points_there, spot_memory}
 use Rattle.word_lowering.proofs.LineFits.{single_is}
 use Rattle.word_lowering.proofs.Lines.{Basis, IsGood, all_procs, all_sites, changed, good_changed, starts}
 use Rattle.word_lowering.proofs.MovedLines.{value_read}
 use Rattle.word_lowering.proofs.Moves.{is_single, single_word, all_same, same_first, address_runs, single_small}
 use Rattle.word_lowering.proofs.OrdinalRuns.{put_here as put_same, AllSame}
-use Rattle.word_lowering.proofs.OutPlaces.{WrittenAt, written_at, written_stands}
-use Rattle.word_lowering.proofs.ReadFacts.{ValueRead, owned_near, item_read}
-use Rattle.word_lowering.proofs.Related.{Both, body_of, called_by, within, MemoryGood}
-use Rattle.word_lowering.proofs.Scenes.{At, Call, site_of, of_value, of_location, house, looked, FromOwned, Leads, Points, of_owned}
-use Rattle.word_lowering.proofs.ShapeFacts.{never, bytes_is, values_of_numbers}
-use Rattle.word_lowering.proofs.Sites.{room, looks, type_of, Among, AmongSites, Housing, in_variable, by_address, in_places, in_data, Site, IsHoused}
+use Rattle.word_lowering.proofs.OutPlaces.{unlent_plain, written_at, written_stands}
+use Rattle.word_lowering.proofs.ReadFacts.{ValueRead, item_read, here_near}
+use Rattle.word_lowering.proofs.Related.{Both, body_of, called_by, within, MemoryGood, store_of, store_with}
+use Rattle.word_lowering.proofs.Scenes.{At, Call, site_of, of_value, of_location, house, looked, Leads, Points, LeadsHere, IsOwned}
+use Rattle.word_lowering.proofs.ShapeFacts.{never, bytes_is, values_of_numbers, of_numbers, shape_bytes}
+use Rattle.word_lowering.proofs.Scenes.{IsThere, StoredIn, address_of, is_fixed}
+use Rattle.word_lowering.proofs.Sites.{room, looks, type_of, Among, AmongSites, Housing, in_variable, by_address, in_places, in_data, Site, IsHoused, has_hooks}
+use Rattle.word_lowering.proofs.Sites.{is_one_word}
 use Rattle.word_lowering.proofs.Sites.{around, data_end, is_one_word, word_of}
-use Rattle.word_lowering.proofs.SitesApart.{site_at}
+use Rattle.word_lowering.proofs.SitesApart.{houses, site_at}
 use Rattle.word_lowering.proofs.Targets.{Pointed, pointed}
-use Rattle.word_lowering.proofs.ValueFacts.{InWord, in_word, numbers_there, type_in}
+use Rattle.word_lowering.proofs.ValueFacts.{InWord, has_type, in_word, type_in, value_plain, IsPlain, IsHomed}
+use Rattle.word_lowering.specs.Spots.{copied_here, handed}
+use Rattle.word_lowering.proofs.BitMoves.{low_carried}
+use Rattle.word_lowering.proofs.BlocksBorn.{later_same}
+use Rattle.word_lowering.proofs.HookedReads.{LiesAs, bytes_of, value_lies}
+use Rattle.word_lowering.proofs.NumbersStored.{at_numbers}
+use Rattle.word_lowering.proofs.Sources.{lying_all}
+use Rattle.word_lowering.proofs.StoredLater.{shape_some, shape_whole, stored_small}
+use Rattle.nim_types.specs.Table.{facts_in}
 
 module _ (x : Basis) (g : Both) (line : BlockLine) (rest : List BlockLine) (y : IsGood x (starts g line rest)) where
   abbrev sites : List Site
@@ -101,7 +112,7 @@ module _ (x : Basis) (g : Both) (line : BlockLine) (rest : List BlockLine) (y : 
     pub same : AllSame g.call.vars vars
     pub good : IsGood x (starts (between vars memory words) line rest)
     pub gives : Gives x.table sites g.ground g.world (next_at x g line rest y) g.memory memory g.words words h
-    pub gave : GaveSlot x.table memory sites g.ground g.world words (next_at x g line rest y) slot h
+    pub gave : GaveSlot x.table x.blocks memory sites g.ground g.world words (next_at x g line rest y) slot h
     pub steps : ℕ
     pub few : steps ≤ most
     pub runs : Runs x.live (all_procs x) steps (at (within x.table x.blocks g) g.memory lines g.call.vars g.words)
@@ -114,7 +125,8 @@ module _ (x : Basis) (g : Both) (line : BlockLine) (rest : List BlockLine) (y : 
 
     -- ---- a value
 
-    module _ (t : ℕ) (v : Value) (e : g.call.temps.values t ≡ Some v) (plain : is_address h.kind ≡ false)
+    module _ (t : ℕ) (v : Value) (plain_param : has_hooks x.table h ≡ false) (e : g.call.temps.values t ≡ Some v)
+        (plain : holds_address h ≡ false)
         (typed : type_in x is_value (body_of g) t ≡ Some (type_of x.table h)) where
       abbrev value_house : Housed
       value_house = house g.call.site (of_value t)
@@ -122,24 +134,27 @@ module _ (x : Basis) (g : Both) (line : BlockLine) (rest : List BlockLine) (y : 
       abbrev ArguedValue : Type 0
       ArguedValue = Argued (argument_code here label h.home value_house k) k (Holds v) h (16 * bytes v)
 
+      numbers : of_numbers (looks x.table h) ≡ true
+      numbers = housed.numbers plain_param
+
       read : ValueRead x g line rest y t v × (has_shape v (looks x.table h) ≡ true)
-      read = value_read x g line rest y t v (type_of x.table h) typed housed.numbers e
+      read = value_read x g line rest y t v (type_of x.table h) typed numbers e
 
       size : bytes v ≡ h.bytes
-      size = bytes_is v (looks x.table h) housed.numbers read.1 ∙ housed.bytes
+      size = bytes_is v (looks x.table h) numbers read.1 ∙ housed.bytes
 
       some : 4 ≤ bytes v
-      some = bytes_some v (values_of_numbers v (looks x.table h) housed.numbers read.1)
+      some = bytes_some v (values_of_numbers v (looks x.table h) numbers read.1)
 
       value_to_variable : (u : ℕ) → h.home ≡ Variable u → h.is_word ≡ true → ArguedValue
       value_to_variable u home is_word =
           let r = read in
-          let single : is_single v ≡ true = single_is v (looks x.table h) housed.numbers r.1 ∙ housed.word ∙ is_word in
+          let single : is_single v ≡ true = single_is v (looks x.table h) numbers r.1 ∙ housed.word ∙ is_word in
           let one : is_one_word (looked x.table g.call.site (of_value t)) ≡ true
-          = sym (single_is v (looked x.table g.call.site (of_value t)) (numbers_there x g.call.site (of_value t) y.linked.0 r.0.there) r.0.shaped)
+          = sym (single_is v (looked x.table g.call.site (of_value t)) r.0.here r.0.shaped)
           ∙ single in
           let z : InWord value_house = in_word x g.call.site t y.linked.0 r.0.there one in
-          let item = item_read x g line rest y (of_value t) v r.0.there e in
+          let item = item_read x g line rest y (of_value t) v r.0.there r.0.here e in
           let has : g.call.vars z.variable ≡ Some (single_word v) = subst (λ p. At g.memory g.call.site.base g.call.vars p v) z.spot item.at in
           let words : Vars = put g.words u (single_word v) in
           let code : argument_code here label h.home value_house k ≡ Argument u z.variable ∷ k
@@ -156,8 +171,9 @@ module _ (x : Basis) (g : Both) (line : BlockLine) (rest : List BlockLine) (y : 
             gave = record {
               plain = plain;
               shaped = r.1;
-              size = size;
-              given = subst (λ p. GivenAt x.table g.memory sites g.ground g.world words (next_at x g line rest y) p v) (sym home) given;
+              size = housed.bytes;
+              given = subst (λ p. GivenAt x.table x.blocks g.memory sites g.ground g.world words (next_at x g line rest y) (looks x.table h) p v) (sym home)
+                  given;
             };
             steps = 1;
             few = omega (arith, b);
@@ -192,9 +208,10 @@ module _ (x : Basis) (g : Both) (line : BlockLine) (rest : List BlockLine) (y : 
             gave = record {
               plain = plain;
               shaped = r.1;
-              size = size;
-              given = subst (λ p. GivenAt x.table q.memory sites g.ground g.world g.words (next_at x g line rest y) p v) (sym home)
-                  (subst (λ a. IsAt q.memory a v) there q.there);
+              size = housed.bytes;
+              given = subst (λ p. GivenAt x.table x.blocks q.memory sites g.ground g.world g.words (next_at x g line rest y) (looks x.table h) p v) (sym home)
+                  (at_numbers (is_fixed g.ground) g.ground.blocks q.memory (next_at x g line rest y + n) (looks x.table h) v numbers r.1
+                  (subst (λ a. IsAt q.memory a v) there q.there));
             };
             steps = q.steps;
             few = (let f = q.few in omega (arith, f, b));
@@ -202,9 +219,9 @@ module _ (x : Basis) (g : Both) (line : BlockLine) (rest : List BlockLine) (y : 
                 (at (within x.table x.blocks g) q.memory k q.vars g.words)) (sym code) q.runs;
           }
 
-      pub value_argument : from_label label (word_of x.table x.blocks (body_of g)).lines ≡ from_label label (argument_code here label h.home value_house k)
+      numbers_argument : from_label label (word_of x.table x.blocks (body_of g)).lines ≡ from_label label (argument_code here label h.home value_house k)
           → ArguedValue
-      value_argument found = by housed.where_is
+      numbers_argument found = by housed.where_is
         where
           by : Housing (room c.body) FIXED_BYTES (data_end x.table x.blocks) c.body.start h
               → Argued (argument_code (around x.table x.blocks (body_of g)) label h.home (house g.call.site (of_value t)) k) k (Holds v) h (16 * bytes v)
@@ -212,6 +229,107 @@ module _ (x : Basis) (g : Both) (line : BlockLine) (rest : List BlockLine) (y : 
           by (by_address u home address low) = never (sym plain ∙ address)
           by (in_places n home p whole within) = value_to_place n home whole found
           by (in_data n home p whole low within start) = never (sym c.start ∙ start)
+
+    -- ---- a value by its bits, whatever it has
+
+    module _ (t : ℕ) (v : Value) (hooks : has_hooks x.table h ≡ true) (there_is : IsThere g.call.site (of_value t)) (e : g.call.temps.values t ≡ Some v)
+        (plain : holds_address h ≡ false) (typed : type_in x is_value (body_of g) t ≡ Some (type_of x.table h)) where
+      abbrev given_house : Housed
+      given_house = house g.call.site (of_value t)
+
+      abbrev ArguedBits : Type 0
+      ArguedBits = Argued (argument_code here label h.home given_house k) k (Holds v) h (16 * bytes v)
+
+      param_many : is_one_word (looks x.table h) ≡ false
+      param_many = (c.is.built h (c.among h among) (c.homes h among) hooks).1
+
+      param_look : looked x.table g.call.site (of_value t) ≡ looks x.table h
+      param_look = ap (shape_of (facts_in x.table)) (has_type x g.call.site (of_value t) (type_of x.table h) y.linked.0 typed).typed
+
+      lies : LiesAs x g line rest y given_house (looks x.table h) v
+      lies = subst (λ s. LiesAs x g line rest y given_house s v) param_look (value_lies x g line rest y t v there_is (ap is_one_word param_look ∙ param_many) e)
+
+      bits_to_parameter : (n : ℕ) → h.home ≡ Placed n → n % 4 ≡ 0
+          → from_label label (word_of x.table x.blocks (body_of g)).lines ≡ from_label label (argument_code here label h.home given_house k) → ArguedBits
+      bits_to_parameter n home whole found =
+          let r = lies in
+          let s : Shape = looks x.table h in
+          let size : shape_bytes s ≡ h.bytes = housed.bytes in
+          let spare = c.spare h n among home in
+          let long : bytes v ≡ shape_bytes s = bytes_of x g line rest y r in
+          let some : 4 ≤ shape_bytes s = shape_some s in
+          let there = houses x.table x.blocks g.call.site (of_value t) y.linked.0 there_is in
+          let own_size : given_house.bytes ≡ shape_bytes s = r.size in
+          let plain_from = value_plain given_house there_is.kind in
+          let inside = in_memory x g line rest y (of_value t) there_is plain_from (ap is_one_word param_look ∙ param_many) in
+          let b : ℕ = address_of g.call.site.base given_house.home in
+          let code : argument_code here label h.home given_house k
+          ≡ Place FIRST (room (body_of g) + n) ∷ copied_here label (shape_bytes s) given_house.home k
+          = ap (λ p. argument_code here label p given_house k) home
+          ∙ ap₂ (λ i p. Place FIRST (room (body_of g) + n) ∷ handed label i p k) own_size (spot_memory given_house plain_from inside) in
+          let fits_in : n + shape_bytes s ≤ SPARE_ROOM = omega (arith, spare, size) in
+          let lying = lying_all x sites y.linked g.call.site (of_value t) (shape_bytes s) (inl refl) there_is inside own_size in
+          let q = hands_bits x g line rest y label n whole k given_house.home (high_in_memory given_house.home inside) b
+          (points_there g.call.site.base g.call.vars given_house.home inside) (shape_bytes s) (shape_whole s) some lying fits_in
+          (found ∙ ap (from_label label) code ∙ hand_label label (shape_bytes s) given_house.home (room (body_of g) + n) k) in
+          let far = spare_beyond x g line rest y n (shape_bytes s) whole fits_in in
+          let to_is : g.call.site.base + (room (body_of g) + n) ≡ next_at x g line rest y + n = omega arith in
+          let ch : Changed g.memory q.memory (next_at x g line rest y + n) (shape_bytes s)
+          = subst (λ a. Changed g.memory q.memory a (shape_bytes s)) to_is q.changed in
+          let stored_was : StoredIn (store_of g) b s v
+          = subst (λ z. StoredIn (store_of g) b z v) param_look
+          (let item = y.hold.0.items (of_value t) v there_is e in
+          from_home (store_of g) g.call.site.base g.call.vars (looked x.table g.call.site (of_value t)) given_house v item.plain inside item.at) in
+          let stored_then : StoredIn (store_with g q.memory) (next_at x g line rest y + n) s v
+          = subst (λ a. StoredIn (store_with g q.memory) a s v) to_is
+          (stored_small (is_fixed g.ground) g.ground.blocks g.ground.blocks (later_same g.ground.blocks) g.memory q.memory b
+          (g.call.site.base + (room (body_of g) + n)) s v
+          (low_carried g.memory q.memory b (g.call.site.base + (room (body_of g) + n)) (shape_bytes s) q.low_words) stored_was) in
+          record {
+            vars = q.vars;
+            memory = q.memory;
+            words = g.words;
+            same = q.same;
+            good = good_between q.vars q.memory g.words
+                (memory_beyond x g line rest y q.memory (next_at x g line rest y + n) (shape_bytes s) ch far)
+                (heap_beyond x g line rest y q.memory (next_at x g line rest y + n) (shape_bytes s) ch far)
+                (beyond (λ b w before read. ch.outside b (inl (omega (arith, before, far))) ∙ read)) q.same;
+            gives = to_place n (shape_bytes s) home size ch refl;
+            gave = record {
+              plain = plain;
+              shaped = r.shaped;
+              size = size;
+              given = subst (λ p. GivenAt x.table x.blocks q.memory sites g.ground g.world g.words (next_at x g line rest y) (looks x.table h) p v) (sym home)
+                  stored_then;
+            };
+            steps = q.steps;
+            few = (let f = q.few in omega (arith, f, some, long));
+            runs = subst (λ l. Runs x.live (all_procs x) q.steps (at (within x.table x.blocks g) g.memory l g.call.vars g.words)
+                (at (within x.table x.blocks g) q.memory k q.vars g.words)) (sym code) q.runs;
+          }
+
+      bits_argument : from_label label (word_of x.table x.blocks (body_of g)).lines ≡ from_label label (argument_code here label h.home given_house k)
+          → ArguedBits
+      bits_argument found = by housed.where_is
+        where
+          by : Housing (room c.body) FIXED_BYTES (data_end x.table x.blocks) c.body.start h
+              → Argued (argument_code (around x.table x.blocks (body_of g)) label h.home (house g.call.site (of_value t)) k) k (Holds v) h (16 * bytes v)
+          by (in_variable u home p low w) = never (sym param_many ∙ (housed.word ∙ w))
+          by (by_address u home address low) = never (sym plain ∙ address)
+          by (in_places n home p whole within) = bits_to_parameter n home whole found
+          by (in_data n home p whole low within start) = never (sym c.start ∙ start)
+
+    -- of either sort; one that has hooks is of a temporary with a home
+    pub value_argument : (t : ℕ) (v : Value) → (has_hooks x.table h ≡ true → IsThere g.call.site (of_value t)) → g.call.temps.values t ≡ Some v
+        → holds_address h ≡ false → type_in x is_value (body_of g) t ≡ Some (type_of x.table h)
+        → from_label label (word_of x.table x.blocks (body_of g)).lines ≡ from_label label (argument_code here label h.home (house g.call.site (of_value t)) k)
+        → Argued (argument_code here label h.home (house g.call.site (of_value t)) k) k (Holds v) h (16 * bytes v)
+    value_argument t v homed e plain typed found = by (cases_Bool (has_hooks x.table h))
+      where
+        by : (has_hooks x.table h ≡ true) ⊎ (has_hooks x.table h ≡ false)
+            → Argued (argument_code (around x.table x.blocks (body_of g)) label h.home (house g.call.site (of_value t)) k) k (Holds v) h (16 * bytes v)
+        by (inl hooks) = bits_argument t v hooks (homed hooks) e plain typed found
+        by (inr unhooked) = numbers_argument t v unhooked e plain typed found
 
     -- ---- a location
 
@@ -250,33 +368,25 @@ module _ (x : Basis) (g : Both) (line : BlockLine) (rest : List BlockLine) (y : 
     told u a (Static n) small points = told_behind u a (Static n) small _
         (address_runs x.law x.live (all_procs x) (within x.table x.blocks g) refl g.words g.memory (Argument u FIRST ∷ k) g.call.vars FIRST (Static n) a points)
 
-    module _ (t : ℕ) (there : Where) (e : g.call.temps.places t ≡ Some there) (address : is_address h.kind ≡ true)
-        (typed : type_in x is_location (body_of g) t ≡ Some (type_of x.table h))
-        (may : if_kind is_standing (place_named is_location (body_of g).proc.places t) ≡ true)
-        (handed : is_among t (places_in (handed_by (block_plain line))) ≡ true) where
+    -- to a parameter that stands for a location: it is of something that is owned, where the parameter isn't lent
+    module _ (t : ℕ) (there : Where) (address : holds_address h ≡ true) (typed : type_in x is_location (body_of g) t ≡ Some (type_of x.table h))
+        (l : Location) (l_is : there ≡ Located l) (owned : h.lent ≡ false → IsOwned l.base)
+        (reached : AtAddress x g line rest y (location here t) there (looked x.table g.call.site (of_location t))) where
       abbrev ArguedLocation : Location → Type 0
       ArguedLocation l = Argued (argument_code here label h.home (location here t) k) k (Stands l) h 64
 
       names : Pointed x g line rest y t (type_of x.table h)
       names = pointed x g line rest y t (type_of x.table h) typed
 
-      stands_at : WrittenAt x g line rest y t there
-      stands_at = written_at x g line rest y t there names.named (y.linked.0.standing t may) e
-
-      addressed : AtAddress x g line rest y (location here t) there (looked x.table g.call.site (of_location t))
-      addressed = handed_at x g line rest y t there names.named e (y.linked.0.standing t may) handed
-
-      location_to_variable : (u : ℕ) → h.home ≡ Variable u → ArguedLocation stands_at.location_is
+      location_to_variable : (u : ℕ) → h.home ≡ Variable u → ArguedLocation l
       location_to_variable u home =
           let p = names in
-          let w = stands_at in
-          let q = addressed in
-          let leads : FromOwned x.table sites g.ground g.world w.location_is q.address (looks x.table h)
-          = subst (FromOwned x.table sites g.ground g.world w.location_is q.address) p.look
-          (of_owned x.table x.blocks (written_stands x g line rest y w.written)
-          (subst (λ z. Leads x.table x.blocks sites g.ground g.world g.call.site g.call.temps z q.address (looked x.table g.call.site (of_location t))) w.is
-          q.leads_to)) in
-          let near = owned_near x sites y.linked g.ground g.world w.location_is q.address (looks x.table h) leads in
+          let q = reached in
+          let leads : LeadsHere x.table x.blocks sites g.ground g.world l q.address (looks x.table h)
+          = subst (LeadsHere x.table x.blocks sites g.ground g.world l q.address) p.look
+          (subst (λ z. Leads x.table x.blocks sites g.ground g.world g.call.site g.call.temps z q.address (looked x.table g.call.site (of_location t))) l_is
+          q.leads_to) in
+          let near = here_near x sites y.linked g.ground g.world l q.address (looks x.table h) leads in
           let small : q.address < 2 ^ 32 = omega (arith, near) in
           let words : Vars = put g.words u q.address in
           let r = told u q.address q.home small q.points in
@@ -295,6 +405,7 @@ module _ (x : Basis) (g : Both) (line : BlockLine) (rest : List BlockLine) (y : 
               home = home;
               address = q.address;
               given = put_same g.words u q.address small;
+              owned = owned;
               leads = leads;
             };
             steps = r.steps;
@@ -303,14 +414,37 @@ module _ (x : Basis) (g : Both) (line : BlockLine) (rest : List BlockLine) (y : 
                 (at (within x.table x.blocks g) g.memory k r.vars words)) (sym code) r.runs;
           }
 
-      pub location_argument : ArguedLocation (location_at g.call.temps there)
-      location_argument = subst (λ l. Argued (argument_code here label h.home (location here t) k) k (Stands l) h 64)
-          (sym (ap (location_at g.call.temps) stands_at.is)) (by housed.where_is)
+      pub located_argument : ArguedLocation (location_at g.call.temps there)
+      located_argument = subst (λ l. Argued (argument_code here label h.home (location here t) k) k (Stands l) h 64)
+          (sym (ap (location_at g.call.temps) l_is)) (by housed.where_is)
         where
           by : Housing (room c.body) FIXED_BYTES (data_end x.table x.blocks) c.body.start h
               → Argued (argument_code (around x.table x.blocks (body_of g)) label h.home (location (around x.table x.blocks (body_of g)) t) k) k
-              (Stands stands_at.location_is) h 64
+              (Stands l) h 64
           by (in_variable u home plain low w) = never (sym plain ∙ address)
           by (by_address u home p low) = location_to_variable u home
           by (in_places n home plain whole within) = never (sym plain ∙ address)
           by (in_data n home plain whole low within start) = never (sym plain ∙ address)
+
+    -- what may be written
+    module _ (t : ℕ) (there : Where) (plain_name : IsPlain x g.call.site (of_location t)) (e : g.call.temps.places t ≡ Some there)
+        (address : holds_address h ≡ true) (typed : type_in x is_location (body_of g) t ≡ Some (type_of x.table h))
+        (may : if_kind is_standing (place_named is_location (body_of g).proc.places t) ≡ true)
+        (handed : is_among t (places_in (handed_by (block_plain line))) ≡ true) where
+      pub location_argument : Argued (argument_code here label h.home (location here t) k) k (Stands (location_at g.call.temps there)) h 64
+      location_argument =
+          let named = (pointed x g line rest y t (type_of x.table h) typed).named in
+          let standing = y.linked.0.standing t may in
+          let w = written_at x g line rest y t there named (unlent_plain x g line rest y t named plain_name) standing e in
+          located_argument t there address typed w.location_is w.is (λ own. written_stands x g line rest y w.written)
+          (handed_at x g line rest y t there named plain_name e standing handed)
+
+    -- what is lent and no word
+    module _ (t : ℕ) (there : Where) (homed : IsHomed x g.call.site t) (e : g.call.temps.places t ≡ Some there) (lent : h.lent ≡ true)
+        (address : holds_address h ≡ true) (typed : type_in x is_location (body_of g) t ≡ Some (type_of x.table h))
+        (many : is_one_word (looks x.table h) ≡ false) (l : Location) (l_is : there ≡ Located l) where
+      pub lent_argument : Argued (argument_code here label h.home (location here t) k) k (Stands (location_at g.call.temps there)) h 64
+      lent_argument =
+          let p = pointed x g line rest y t (type_of x.table h) typed in
+          located_argument t there address typed l l_is (λ own. absurd (true≢false (sym lent ∙ own)))
+          (at_homed x g line rest y t there p.named homed e (ap is_one_word p.look ∙ many))

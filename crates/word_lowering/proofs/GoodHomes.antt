@@ -1,8 +1,8 @@
 -- The homes of both states that belong together: places with a value of their own, and values of temporaries, that are in memory.
 use Rattle.std.proofs.Common.{◌≡◌, ◌≢◌, ◌⊎◌, inl, inr, ℕ, List, [], ◌∷◌, map}
 use Rattle.std.proofs.Common.{refl, sym, ap, subst, ◌∙◌, arith}
-use Rattle.nim_meaning.specs.Values.{Value, Standing, Made}
-use Rattle.nim_meaning.specs.State.{World, held}
+use Rattle.nim_meaning.specs.Values.{Value, Standing, Waiting, Made}
+use Rattle.nim_meaning.specs.State.{World, held, awaited}
 use Rattle.word_code.specs.RoutineTable.{Beside}
 use Rattle.word_lowering.proofs.BaseValues.{InFrame, Differ}
 use Rattle.word_lowering.proofs.BlockHomes.{Home, home_bytes, SameOrApart, IsOutside, IsAtHome, HomesHold}
@@ -11,7 +11,8 @@ use Rattle.word_lowering.proofs.Keeping.{AmongCalls, number_cases, name_cases, f
 use Rattle.word_lowering.proofs.Lines.{Basis, IsGood}
 use Rattle.word_lowering.proofs.Options.{some_same}
 use Rattle.word_lowering.proofs.Related.{Both, calls_of, sites_of, store_of}
-use Rattle.word_lowering.proofs.Scenes.{is_fixed, address_of, Name, of_value, of_location, of_place, Call, site_of, house, HasValue, IsThere, looked, Store}
+use Rattle.word_lowering.proofs.Scenes.{is_fixed, address_of, Name, of_value, of_location, of_place, of_waiting, Call, site_of, house, HasValue, IsThere}
+use Rattle.word_lowering.proofs.Scenes.{looked, Store}
 use Rattle.word_lowering.proofs.Scenes.{Holding, AllHold}
 use Rattle.word_lowering.proofs.Sites.{Site, AmongSites, InMemory, Linked}
 use Rattle.word_lowering.proofs.SitesApart.{Beside as BesideOf, InRange, SiteAt, in_range, houses, site_at, ranges_apart}
@@ -47,6 +48,7 @@ module _ (x : Basis) where
   one_value w c (of_value t) v u h k = some_same v u (sym h ∙ k)
   one_value w c (of_location t) v u h k = absurd h
   one_value w c (of_place n) v u h k = ap held (sym h ∙ k)
+  one_value w c (of_waiting n) v u h k = ap awaited (sym h ∙ k)
 
   module _ (g : Both) where
     -- the home of a name, with a base of the meaning
@@ -61,6 +63,11 @@ module _ (x : Basis) where
       base = Standing c.site.level n;
       at = address_of c.site.base (house c.site (of_place n)).home;
       shape = looked x.table c.site (of_place n);
+    }
+    home_at c (of_waiting n) v = record {
+      base = Waiting c.site.level n;
+      at = address_of c.site.base (house c.site (of_waiting n)).home;
+      shape = looked x.table c.site (of_waiting n);
     }
 
     -- a name of one of these calls that has a value, in memory
@@ -108,28 +115,38 @@ module _ (x : Basis) where
         made (of_value u) = tt
         made (of_location u) = tt
         made (of_place n) = tt
+        made (of_waiting n) = tt
     bases_differ c d (of_location t) f v w i j away = made f
       where
         made : (f : Name) → Differ (Made v) (home_at g d f w).base
         made (of_value u) = tt
         made (of_location u) = tt
         made (of_place n) = tt
+        made (of_waiting n) = tt
     bases_differ c d (of_place n) (of_value u) v w i j away = tt
     bases_differ c d (of_place n) (of_location u) v w i j away = tt
     bases_differ c d (of_place n) (of_place k) v w i j (inl ne) = inl ne
     bases_differ c d (of_place n) (of_place k) v w i j (inr ne) = inr (λ e. ne (ap of_place e))
+    bases_differ c d (of_place n) (of_waiting k) v w i j away = tt
+    bases_differ c d (of_waiting n) (of_value u) v w i j away = tt
+    bases_differ c d (of_waiting n) (of_location u) v w i j away = tt
+    bases_differ c d (of_waiting n) (of_place k) v w i j away = tt
+    bases_differ c d (of_waiting n) (of_waiting k) v w i j (inl ne) = inl ne
+    bases_differ c d (of_waiting n) (of_waiting k) v w i j (inr ne) = inr (λ e. ne (ap of_waiting e))
 
     turned : (c d : Call) (e f : Name) → (c.site.level ≢ d.site.level) ⊎ (e ≢ f) → (d.site.level ≢ c.site.level) ⊎ (f ≢ e)
     turned c d e f (inl ne) = inl (λ is. ne (sym is))
     turned c d e f (inr ne) = inr (λ is. ne (sym is))
 
-    home_is : (c : Call) (e : Name) (v : Value) → AmongCalls c (calls_of g) → IsThere c.site e → HasValue g.world c e v
+    pub home_is : (c : Call) (e : Name) (v : Value) → AmongCalls c (calls_of g) → IsThere c.site e → HasValue g.world c e v
         → ((home_at g c e v).at ≡ address_of c.site.base (house c.site e).home) × (home_bytes (home_at g c e v) ≡ (house c.site e).bytes)
     home_is c (of_value t) v i there has =
         (refl, (houses x.table x.blocks c.site (of_value t) (site_at x.table x.blocks sites c.site y.linked (among_sites (calls_of g) c i)).body there).bytes)
     home_is c (of_location t) v i there has = absurd has
     home_is c (of_place n) v i there has =
         (refl, (houses x.table x.blocks c.site (of_place n) (site_at x.table x.blocks sites c.site y.linked (among_sites (calls_of g) c i)).body there).bytes)
+    home_is c (of_waiting n) v i there has =
+        (refl, (houses x.table x.blocks c.site (of_waiting n) (site_at x.table x.blocks sites c.site y.linked (among_sites (calls_of g) c i)).body there).bytes)
 
     pub homes_apart : (a b : Home) → HomeOf g a → HomeOf g b → SameOrApart a b
     homes_apart a b p q = by (same_or_other a b p q)
@@ -162,7 +179,7 @@ module _ (x : Basis) where
 
     -- ---- what stands there
 
-    in_frame_of : (c : Call) (n : ℕ) → AmongCalls c (calls_of g) → IsThere c.site (of_place n) → InFrame g.world c.site.level n
+    pub in_frame_of : (c : Call) (n : ℕ) → AmongCalls c (calls_of g) → IsThere c.site (of_place n) → InFrame g.world c.site.level n
     in_frame_of c n i there =
         let s = among_sites (calls_of g) c i in
         let bounds = (site_at x.table x.blocks sites c.site y.linked s).body.inside n
@@ -175,7 +192,7 @@ module _ (x : Basis) where
           high = bounds.1;
         }
 
-    outside : (c : Call) (e : Name) → AmongCalls c (calls_of g) → IsThere c.site e → InMemory (house c.site e).home → (a n : ℕ)
+    pub outside : (c : Call) (e : Name) → AmongCalls c (calls_of g) → IsThere c.site e → InMemory (house c.site e).home → (a n : ℕ)
         → a ≡ address_of c.site.base (house c.site e).home → n ≡ (house c.site e).bytes → IsOutside g.memory a n
     outside c e i there inside a n is long =
         by (in_range x.table x.blocks c.site (house c.site e) (houses x.table x.blocks c.site e s.body there) inside)
@@ -215,6 +232,16 @@ module _ (x : Basis) where
           holds = (in_frame_of c n i there, has);
           stored = from_home (store_of g) c.site.base c.vars (looked x.table c.site (of_place n)) (house c.site (of_place n)) v item.plain inside item.at;
           elsewhere = outside c (of_place n) i there inside _ _ m.0 m.1;
+        }
+    stands_at c (of_waiting n) v i there inside has =
+        let item = (held_of (store_of g) g.world (calls_of g) c y.hold i).1.items (of_waiting n) v there has in
+        let m = home_is c (of_waiting n) v i there has in
+        let f = frame_of_site x sites y.linked g.world sites c.site y.frames (among_sites (calls_of g) c i) in
+        record {
+          value = v;
+          holds = ((f.frame, f.there), has);
+          stored = from_home (store_of g) c.site.base c.vars (looked x.table c.site (of_waiting n)) (house c.site (of_waiting n)) v item.plain inside item.at;
+          elsewhere = outside c (of_waiting n) i there inside _ _ m.0 m.1;
         }
 
     -- all homes hold

@@ -1,45 +1,45 @@
 -- What a location leads to, in homes: a place that has a value of its own, or the value of a temporary; or in a block.
-use Rattle.std.proofs.Common.{◌≡◌, ◌⊎◌, inl, inr, ℕ, List, [], ◌∷◌, map, Some, None, true, false, refl, sym, subst, ◌∙◌}
+use Rattle.std.proofs.Common.{◌≡◌, ◌⊎◌, inl, inr, ℕ, List, [], ◌∷◌, map, Some, None, true, false, refl, sym, subst, ◌∙◌, Option, ◌+◌, ap}
+use Rattle.word_lowering.proofs.ShapePaths.{PathTo}
 use Rattle.std.proofs.lemmas.Bool.{cases_Bool}
-use Rattle.nim_meaning.specs.Values.{Value, Standing, Made, Location, Holds}
-use Rattle.nim_meaning.specs.State.{slot_at}
-use Rattle.flat_code.specs.Fits.{is_own}
+use Rattle.nim_meaning.specs.Values.{Value, Standing, Made, Location, Holds, Vacant, part, Waiting, Stands, Lends, Slot}
+use Rattle.nim_meaning.specs.State.{slot_at, temporary_at, awaited, whole_at, is_whole, load}
 use Rattle.flat_code.specs.Scene.{Temps}
 use Rattle.flat_code.specs.Shapes.{Shape}
 use Rattle.word_code.specs.Words.{Vars}
 use Rattle.word_lowering.specs.declared.texts.TheConstants.{FIXED_BYTES}
-use Rattle.word_lowering.specs.Layouts.{is_address}
+use Rattle.word_lowering.specs.Layouts.{holds_address, owns}
 use Rattle.word_lowering.proofs.BlockHomes.{Home, FromHome, LeadsTo}
 use Rattle.word_lowering.proofs.GoodHomes.{among_sites, held_of, home_at, HomeOf, homes_apart}
-use Rattle.word_lowering.proofs.Keeping.{AmongCalls, declared_address}
+use Rattle.word_lowering.proofs.Keeping.{AmongCalls, declared_address, waiting_inside}
 use Rattle.word_lowering.proofs.Lines.{Basis, IsGood}
 use Rattle.word_lowering.proofs.Related.{Both, calls_of, sites_of, store_of}
 use Rattle.word_lowering.proofs.Scenes.{is_fixed, address_of, of_value, of_place, Call, site_of, house, Filled, IsThere, looked, IsItem, FromOwned, FromPlace}
-use Rattle.word_lowering.proofs.Scenes.{FromValue}
+use Rattle.word_lowering.proofs.Scenes.{FromValue, of_waiting, SaysAt, Says, FromWaiting}
 use Rattle.word_lowering.proofs.ShapeFacts.{never}
 use Rattle.word_lowering.proofs.Sites.{room, Housing, in_variable, by_address, in_places, in_data, InMemory, Site, AmongSites, data_end, Linked}
 use Rattle.word_lowering.proofs.SitesApart.{houses, site_at}
 
 -- a place in memory has a value of its own
 pub own_place : (x : Basis) (sites : List Site) (linked : Linked x.table x.blocks sites) (s : Site) (n : ℕ) → AmongSites s sites → IsThere s (of_place n)
-    → InMemory (house s (of_place n)).home → is_own (house s (of_place n)).kind ≡ true
-own_place x sites linked s n i there inside = by (cases_Bool (is_own (house s (of_place n)).kind))
+    → InMemory (house s (of_place n)).home → owns (house s (of_place n)) ≡ true
+own_place x sites linked s n i there inside = by (cases_Bool (owns (house s (of_place n))))
   where
-    other : is_address (house s (of_place n)).kind ≡ true → is_own (house s (of_place n)).kind ≡ true
+    other : holds_address (house s (of_place n)) ≡ true → owns (house s (of_place n)) ≡ true
     other address = go (houses x.table x.blocks s (of_place n) (site_at x.table x.blocks sites s linked i).body there).where_is
       where
-        go : Housing (room s.body) FIXED_BYTES (data_end x.table x.blocks) s.body.start (house s (of_place n)) → is_own (house s (of_place n)).kind ≡ true
+        go : Housing (room s.body) FIXED_BYTES (data_end x.table x.blocks) s.body.start (house s (of_place n)) → owns (house s (of_place n)) ≡ true
         go (in_variable v e plain low is_word) = absurd (subst InMemory e inside)
         go (by_address v e k low) = absurd (subst InMemory e inside)
         go (in_places a e plain whole within) = never (sym plain ∙ address)
         go (in_data a e plain whole low within start) = never (sym plain ∙ address)
 
-    by : (is_own (house s (of_place n)).kind ≡ true) ⊎ (is_own (house s (of_place n)).kind ≡ false) → is_own (house s (of_place n)).kind ≡ true
+    by : (owns (house s (of_place n)) ≡ true) ⊎ (owns (house s (of_place n)) ≡ false) → owns (house s (of_place n)) ≡ true
     by (inl h) = h
-    by (inr h) = other (declared_address (house s (of_place n)).kind there.kind h)
+    by (inr h) = other (declared_address (house s (of_place n)) there.kind h)
 
 -- a call at a site
-call_of : (cs : List Call) (s : Site) → AmongSites s (map site_of cs) → (c : Call) × AmongCalls c cs × (c.site ≡ s)
+pub call_of : (cs : List Call) (s : Site) → AmongSites s (map site_of cs) → (c : Call) × AmongCalls c cs × (c.site ≡ s)
 call_of [] s i = absurd i
 call_of (c ∷ cs) s (inl e) = (c, inl refl, e)
 call_of (c ∷ cs) s (inr i) = let r = call_of cs s i in (r.0, inr r.1, r.2)
@@ -71,7 +71,7 @@ module _ (x : Basis) (g : Both) (y : IsGood x g) where
           let here : IsThere c.site (of_place n) = subst (λ (z : Site). IsThere z (of_place n)) (sym e) there in
           let home : InMemory (house c.site (of_place n)).home = subst (λ (z : Site). InMemory (house z (of_place n)).home) (sym e) inside in
           let was : Filled g.world c.site.level n = subst (λ (z : Site). Filled g.world z.level n) (sym e) filled in
-          let own : is_own (house c.site (of_place n)).kind ≡ true
+          let own : owns (house c.site (of_place n)) ≡ true
           = own_place x (sites_of g) y.linked c.site n (among_sites (calls_of g) c k) here home in
           let held = (held_of x (store_of g) g.world (calls_of g) c y.hold k).1 in
           let v = (held.filled n here was).own own in
@@ -99,6 +99,56 @@ module _ (x : Basis) (g : Both) (y : IsGood x g) where
     way = f.path;
     address = f.address;
   }
+
+  -- ---- what waits
+
+  vacant_part : (path : List ℕ) → part Vacant path ≡ Vacant
+  vacant_part [] = refl
+  vacant_part (i ∷ path) = vacant_part path
+
+  -- something waits where it is seen
+  pub waiting_value : (c : Call) → AmongCalls c (calls_of g) → (node : ℕ) → IsThere c.site (of_waiting node) → (path : List ℕ)
+      → is_whole g.world (part (awaited (temporary_at g.world c.site.level node)) path) ≡ true
+      → (v : Value) × (temporary_at g.world c.site.level node ≡ Some (Holds v))
+  waiting_value c k node there path whole = at (temporary_at g.world c.site.level node) says whole
+    where
+      says : Says (temporary_at g.world c.site.level node) (c.vars there.among.0.variable) (c.site.base + there.among.0.at)
+      says = subst (λ o. SaysAt o (temporary_at g.world c.site.level node) c.site.base c.vars) there.among.1
+          ((held_of x (store_of g) g.world (calls_of g) c y.hold k).1.waits node)
+
+      at : (o : Option Slot) → Says o (c.vars there.among.0.variable) (c.site.base + there.among.0.at)
+          → is_whole g.world (part (awaited o) path) ≡ true → (v : Value) × (o ≡ Some (Holds v))
+      at None s h = never (sym (ap (is_whole g.world) (vacant_part path)) ∙ h)
+      at (Some (Holds v)) s h = (v, refl)
+      at (Some (Stands other)) s h = absurd s
+      at (Some (Lends v from seen)) s h = absurd s
+
+  pub waiting_home : (l : Location) (a : ℕ) (t : Shape) → FromWaiting x.table (sites_of g) l a t → is_whole g.world (load g.world l) ≡ true → IsInHome l a t
+  waiting_home l a t f whole = let c = call_of (calls_of g) f.site f.among in by c.0 c.1 c.2
+    where
+      by : (c : Call) → AmongCalls c (calls_of g) → c.site ≡ f.site → IsInHome l a t
+      by c k e =
+          let here : IsThere c.site (of_waiting f.node) = subst (λ (z : Site). IsThere z (of_waiting f.node)) (sym e) f.there in
+          let based : l.base ≡ Waiting c.site.level f.node = f.base ∙ ap (λ (z : Site). Waiting z.level f.node) (sym e) in
+          let v = waiting_value c k f.node here l.path
+          (subst (λ b. is_whole g.world (part (whole_at g.world b) l.path) ≡ true) based whole) in
+          record {
+            home = home_at x g c (of_waiting f.node) v.0;
+            among = record {
+              call = c;
+              among = k;
+              name = of_waiting f.node;
+              there = here;
+              inside = waiting_inside c.site f.node here;
+              value = v.0;
+              has = v.1;
+              is = refl;
+            };
+            base = based;
+            offset = f.offset;
+            way = subst (λ (z : Site). PathTo (looked x.table z (of_waiting f.node)) l.path f.offset t) (sym e) f.path;
+            address = f.address ∙ ap (λ (z : Site). address_of z.base (house z (of_waiting f.node)).home + f.offset) (sym e);
+          }
 
   pub value_home : (c : Call) → AmongCalls c (calls_of g) → (temp : ℕ) (path : List ℕ) (a : ℕ) (t : Shape)
       → (f : FromValue x.table c.site c.temps temp path a t) → IsInHome (record { base = Made f.value; path = path; through = None }) a t

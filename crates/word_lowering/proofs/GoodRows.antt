@@ -4,23 +4,22 @@ use Rattle.std.proofs.Common.{refl, sym, ap, subst, ◌∙◌, arith}
 use Rattle.std.specs.Prelude.{slice_get, ◌==◌, ◌&&◌}
 use Rattle.rv32_isa.specs.declared.micro_op.Size.TheVariants.{Word}
 use Rattle.rv32_isa.specs.Image.{heap_at, stack_at}
-use Rattle.rv32_isa.specs.Regions.{KeepsSizes}
 use Rattle.nim_meaning.specs.Values.{Value, Standing, Holds}
 use Rattle.nim_meaning.specs.Places.{through_slot}
 use Rattle.nim_meaning.specs.State.{World, slot_of, frame_in, slot_at, held}
 use Rattle.flat_code.specs.declared.block.BlockLine.{BlockLine}
 use Rattle.flat_code.specs.Scene.{with_value, Temps}
 use Rattle.flat_code.specs.Shapes.{has_shape}
-use Rattle.word_code.specs.Memory.{Memory, as_state, bytes_at, number_at, own_data_at}
+use Rattle.word_code.specs.Memory.{KeepsShape, Memory, as_state, bytes_at, number_at, own_data_at}
 use Rattle.word_code.specs.RoutineTable.{Beside}
 use Rattle.word_code.specs.Words.{Vars}
 use Rattle.word_code.proofs.ForCallers.{Sized, Apart}
 use Rattle.heap_memory.specs.declared.numbers.TheConstants.{HEAP_DATA}
-use Rattle.word_lowering.specs.Layouts.{is_address}
+use Rattle.word_lowering.specs.Layouts.{holds_address}
 use Rattle.word_lowering.proofs.Blocks.{Blocks, AreLater, Stored, HasHeap}
 use Rattle.word_lowering.proofs.Gets.{SameTemps, high_variable, kept_value, kept_temps}
 use Rattle.word_lowering.proofs.Keeping.{AmongCalls, call, Edit, somewhere, aside, Worlds, worlds_same, New, to_home, own_text, value_no_location}
-use Rattle.word_lowering.proofs.Keeping.{value_no_place, location_no_place, same_numbers}
+use Rattle.word_lowering.proofs.Keeping.{value_no_place, location_no_place, same_numbers, value_no_waiting, place_no_waiting}
 use Rattle.word_lowering.proofs.Lines.{Basis, IsGood, starts, all_sites, changed_later, good_later, stands_next, waits_below}
 use Rattle.word_lowering.proofs.GoodHomes.{among_sites}
 use Rattle.word_lowering.proofs.GoodLeads.{own_place}
@@ -35,6 +34,7 @@ use Rattle.word_lowering.proofs.Sites.{Site, AmongSites, InMemory}
 use Rattle.word_lowering.proofs.SitesApart.{IsPlace, site_at, one_level}
 use Rattle.word_lowering.proofs.Sources.{Lying, text_beside}
 use Rattle.word_lowering.proofs.ValueFacts.{put_here, value_plain}
+use Rattle.word_lowering.proofs.Temporaries.{WaitAlike, waits_alike, once_alike}
 
 module _ (x : Basis) (g : Both) (line : BlockLine) (rest : List BlockLine) (y : IsGood x (starts g line rest)) where
   abbrev sites : List Site
@@ -44,7 +44,7 @@ module _ (x : Basis) (g : Both) (line : BlockLine) (rest : List BlockLine) (y : 
 
   pub record IsLeftBeside (other : Memory) (to n : ℕ) : Type 0 where
     pub sized : Sized other
-    pub sizes : KeepsSizes (as_state g.memory) (as_state other)
+    pub sizes : KeepsShape (as_state g.memory) (as_state other)
     pub beside : (b k : ℕ) → Beside b k own_data_at HEAP_DATA → Beside b k heap_at (length g.memory.heap) → Beside b k to n
         → bytes_at other b k ≡ bytes_at g.memory b k
 
@@ -66,6 +66,7 @@ module _ (x : Basis) (g : Both) (line : BlockLine) (rest : List BlockLine) (y : 
       sized = l.sized;
       statics = l.sizes.statics ∙ y.memory.statics;
       heap = l.sizes.heap ∙ y.memory.heap;
+      bytes = l.sizes.bytes y.memory.bytes;
       places = ap (λ k. stack_at + k) l.sizes.stack ∙ y.memory.places;
       cells = λ a whole is_open. cell_by other l.sized a
           (ap (λ b. (a % 4 == 0) && b) (x.law.stores (as_state g.memory) (as_state other) a 4 l.sizes) ∙ (y.memory.cells a whole is_open).may);
@@ -98,12 +99,17 @@ module _ (x : Basis) (g : Both) (line : BlockLine) (rest : List BlockLine) (y : 
     slots_same : (level place : ℕ) → slot_at w level place ≡ slot_at before level place
     slots_same level place = ap (λ frames. slot_of (frame_in (slice_get frames level)) place) same
 
+    waits_same : WaitAlike before w
+    waits_same level = ap (λ frames. (frame_in (slice_get frames level)).temporaries) same
+
     pub worlds_on : (lo : Site) (e : Name) → Worlds x.table x.blocks x.small sites y.linked lo e g.world before
         → Worlds x.table x.blocks x.small sites y.linked lo e g.world w
     worlds_on lo e worlds = record {
       slots = λ s n i there away. slots_same s.level n ∙ worlds.slots s n i there away;
       more = λ s n i there h. let k = worlds.more s n i there h in (k.0, slots_same s.level n ∙ k.1);
       roots = λ s n i there h. ap (through_slot (Standing s.level n)) (slots_same s.level n) ∙ worlds.roots s n i there h;
+      waits = λ s node i away. waits_alike before w waits_same s.level node ∙ worlds.waits s node i away;
+      once = λ s i h. once_alike before w waits_same s.level (worlds.once s i h);
     }
 
     frames_then : (some : List Site) → AllFrames x.table x.blocks before some → AllFrames x.table x.blocks w some
@@ -124,7 +130,7 @@ module _ (x : Basis) (g : Both) (line : BlockLine) (rest : List BlockLine) (y : 
   later_ground_of later = record { blocks = later; fixed = g.ground.fixed }
 
   module _ (t : ℕ) (v : Value) (there : IsThere g.call.site (of_value t)) (inside : InMemory (house g.call.site (of_value t)).home)
-      (hooked : of_numbers (looked x.table g.call.site (of_value t)) ≡ false) (later : Blocks) (ahead : AreLater g.ground.blocks later)
+      (shaped : has_shape v (looked x.table g.call.site (of_value t)) ≡ true) (later : Blocks) (ahead : AreLater g.ground.blocks later)
       (other : Memory) (n : ℕ) (l : IsLeftBeside other (address_of g.call.site.base (house g.call.site (of_value t)).home) n)
       (lying : Lying x sites y.linked (address_of g.call.site.base (house g.call.site (of_value t)).home) n)
       (is_site : lying.site ≡ g.call.site) (is_name : lying.name ≡ of_value t)
@@ -142,11 +148,11 @@ module _ (x : Basis) (g : Both) (line : BlockLine) (rest : List BlockLine) (y : 
     item_then : (vars : Vars) → IsItem x.table (record { memory = other; ground = later_ground_of later })
         (call g.call.site (with_value t g.call.temps v) vars) (of_value t) v
     item_then vars =
-        let plain = value_plain (house g.call.site (of_value t)).kind there.kind in
+        let plain = value_plain (house g.call.site (of_value t)) there.kind in
         record {
           there = there;
           plain = plain;
-          shaped = λ numbers. never (sym hooked ∙ numbers);
+          shaped = λ asked. shaped;
           at = to_home (record { memory = other; ground = later_ground_of later }) g.call.site.base vars (looked x.table g.call.site (of_value t))
               (house g.call.site (of_value t)) v plain inside stored;
         }
@@ -159,6 +165,7 @@ module _ (x : Basis) (g : Both) (line : BlockLine) (rest : List BlockLine) (y : 
       text = λ u k j z e a h. own_text g.call.site (of_value u) k j (subst (IsThere g.call.site) (sym e) there) a;
       led = λ u where_it e k h. absurd (value_no_location t u (sym e));
       filled = λ k e h. absurd (value_no_place t k (sym e));
+      waits = λ k e. absurd (value_no_waiting t k (sym e));
     }
 
     pub good_row_value : (vars words : Vars) (awaits : ℕ) → AllSame g.call.vars vars
@@ -204,7 +211,7 @@ module _ (x : Basis) (g : Both) (line : BlockLine) (rest : List BlockLine) (y : 
   -- ---- a place gets another value
 
   module _ (lo : Site) (among : AmongSites lo sites) (number : ℕ) (there : IsThere lo (of_place number)) (old : Value)
-      (slot : slot_at g.world lo.level number ≡ Some (Holds old)) (new : Value) (plain : is_address (house lo (of_place number)).kind ≡ false)
+      (slot : slot_at g.world lo.level number ≡ Some (Holds old)) (new : Value) (plain : holds_address (house lo (of_place number)) ≡ false)
       (inside : InMemory (house lo (of_place number)).home)
       (shaped : of_numbers (looked x.table lo (of_place number)) ≡ true → has_shape new (looked x.table lo (of_place number)) ≡ true)
       (later : Blocks) (ahead : AreLater g.ground.blocks later) (other : Memory) (to n : ℕ) (l : IsLeftBeside other to n)
@@ -244,11 +251,12 @@ module _ (x : Basis) (g : Both) (line : BlockLine) (rest : List BlockLine) (y : 
               (place_then c.temps c.vars);
           text = λ u k j z e a h. absurd (value_no_place u number e);
           led = λ u where_it k i h. absurd (location_no_place u number k);
-          filled = λ m k h. subst (λ j. IsFilled x.table from (later_ground_of later) w (call lo c.temps c.vars) j)
+          filled = λ m k h. subst (λ j. IsFilled x.table x.blocks from (later_ground_of later) w (call lo c.temps c.vars) j)
               (sym (same_numbers (of_place m) (of_place number) k)) (record {
                 own = λ o. (new, slot_then);
                 other = λ o. never (sym o ∙ own_place x sites y.linked lo number among there inside);
               });
+          waits = λ m e. absurd (place_no_waiting number m (sym e));
         })
 
     pub good_place_put : (after : List BlockLine) → StandAt x.table x.blocks (body_of g) after → (temps : Temps) → SameTemps x g line rest y temps

@@ -11,7 +11,7 @@ use Rattle.word_code.specs.declared.word.WordInstr.{WordInstr}
 use Rattle.word_code.specs.declared.word.WordInstr.TheVariants.{Place, Store}
 use Rattle.word_code.specs.Memory.{Memory, with_number}
 use Rattle.word_code.specs.Words.{Vars, put, from_label}
-use Rattle.word_code.specs.RoutineTable.{Cell}
+use Rattle.word_code.specs.RoutineTable.{Cell, LowWords}
 use Rattle.word_code.proofs.ForCallers.{with_copied, put_here, Changed, span, span_is, copied_to, changed_word, Runs, at, run_place, run_store, then_runs}
 use Rattle.word_code.proofs.ForCallers.{got}
 use Rattle.word_lowering.specs.declared.homes.Home.{Home}
@@ -70,6 +70,7 @@ module _ (x : Basis) (g : Both) (line : BlockLine) (rest : List BlockLine) (y : 
     sized = ch.sized;
     statics = ch.sizes.statics ∙ y.memory.statics;
     heap = ch.sizes.heap ∙ y.memory.heap;
+    bytes = ch.sizes.bytes y.memory.bytes;
     places = ap (λ n. stack_at + n) ch.sizes.stack ∙ y.memory.places;
     cells = λ b is open_word. ch.cells b (y.memory.cells b is open_word);
     texts = λ b k text. ch.beside b k (inl (below b k text.0)) ∙ y.memory.texts b k text;
@@ -148,28 +149,36 @@ module _ (x : Basis) (g : Both) (line : BlockLine) (rest : List BlockLine) (y : 
           runs = then_runs x.live (all_procs x) (to_place (Store FIRST u whole ∷ k)) r1;
         }
 
-    -- word by word
-    hands_words : (v : Value) → HasWords v → (home : Home) → IsHigh home → (from : ℕ) → Points g.call.site.base g.call.vars home from → IsAt g.memory from v
-        → Lying x sites y.linked from (bytes v) → at_next + bytes v ≤ SPARE_ROOM
-        → from_label label (word_of x.table x.blocks (body_of g)).lines ≡ Some (hand_loop label k)
-        → Hands (Place FIRST (room (body_of g) + at_next) ∷ copied_here label (bytes v) home k) k v a
-    hands_words v small_words home high from points is_at lying le stands =
-        by (bytes v) refl (words_of (bytes v) (bytes_whole v) (bytes_some v (of_numbers g.memory from v is_at)))
-      where
-        near : next_at + at_next + bytes v < 2 ^ 32
-        near = spare_near at_next (bytes v) whole_at le
+    -- word by word, whatever these are
+    pub record HandsBits (lines : List WordInstr) (b n : ℕ) : Type 0 where
+      pub vars : Vars
+      pub memory : Memory
+      pub same : AllSame g.call.vars vars
+      pub changed : Changed g.memory memory a n
+      pub low_words : LowWords g.memory b memory a n
+      pub steps : ℕ
+      pub some : 0 < steps
+      pub few : steps ≤ 8 + 2 * n
+      pub runs : Runs x.live (all_procs x) steps (at (within x.table x.blocks g) g.memory lines g.call.vars g.words)
+          (at (within x.table x.blocks g) memory k vars g.words)
 
-        by : (n : ℕ) → bytes v ≡ n → (j : ℕ) × (n ≡ 4 * suc j)
-            → Hands (Place FIRST (room (body_of g) + at_next) ∷ copied_here label (bytes v) home k) k v
-            (g.call.site.base + (room (body_of g) + at_next))
-        by n size (j, four) =
-            let long : bytes v ≡ 4 * suc j = size ∙ four in
+    pub hands_bits : (home : Home) → IsHigh home → (from : ℕ) → Points g.call.site.base g.call.vars home from → (n : ℕ) → n % 4 ≡ 0 → 4 ≤ n
+        → Lying x sites y.linked from n → at_next + n ≤ SPARE_ROOM
+        → from_label label (word_of x.table x.blocks (body_of g)).lines ≡ Some (hand_loop label k)
+        → HandsBits (Place FIRST (room (body_of g) + at_next) ∷ copied_here label n home k) from n
+    hands_bits home high from points n whole_n some_n lying le stands = by (words_of n whole_n some_n)
+      where
+        near : next_at + at_next + n < 2 ^ 32
+        near = spare_near at_next n whole_at le
+
+        by : (j : ℕ) × (n ≡ 4 * suc j) → HandsBits (Place FIRST (room (body_of g) + at_next) ∷ copied_here label n home k) from n
+        by (j, long) =
             let to : ℕ = g.call.site.base + (room (body_of g) + at_next) in
             let v1 : Vars = put g.call.vars FIRST to in
             let same : AllSame g.call.vars v1 = same_first g.call.vars to in
-            let small : from + bytes v < 2 ^ 32 = lying_near x (all_sites x g line rest y) y.linked from (bytes v) lying in
-            let there = subst (λ b. IsArea g.memory b (bytes v)) (omega arith) (spare_area at_next (bytes v) whole_at le) (suc j) (omega (arith, long)) in
-            let here = lying_area x (all_sites x g line rest y) y.linked g.memory from (bytes v) y.memory lying (suc j) (omega (arith, long)) in
+            let small : from + n < 2 ^ 32 = lying_near x (all_sites x g line rest y) y.linked from n lying in
+            let there = subst (λ b. IsArea g.memory b n) (omega arith) (spare_area at_next n whole_at le) (suc j) (omega (arith, long)) in
+            let here = lying_area x (all_sites x g line rest y) y.linked g.memory from n y.memory lying (suc j) (omega (arith, long)) in
             let h = handed_here x.law x.live (all_procs x) (within x.table x.blocks g) g.words
             label k stands refl j g.memory to from home v1
             (got to (omega (arith, near)))
@@ -182,12 +191,11 @@ module _ (x : Basis) (g : Both) (line : BlockLine) (rest : List BlockLine) (y : 
               memory = with_copied (suc j) g.memory to from;
               same = same_more g.call.vars v1 h.vars same h.same;
               changed = subst (Changed g.memory (with_copied (suc j) g.memory to from) to) (span_size ∙ sym long) c.changed;
-              there = copied_there g.memory (with_copied (suc j) g.memory to from) from to v small_words
-                  (λ o within is. c.same o (omega (arith, within, long, span_size)) is) is_at;
+              low_words = λ o inner is. c.same o (omega (arith, inner, long, span_size)) is;
               steps = 1 + (4 + 6 * suc j);
               some = omega arith;
               few = omega (arith, long);
-              runs = then_runs x.live (all_procs x) (to_place (copied_here label (bytes v) home k))
+              runs = then_runs x.live (all_procs x) (to_place (copied_here label n home k))
                   (subst (λ b. Runs x.live (all_procs x) (4 + 6 * suc j)
                   (at (within x.table x.blocks g) g.memory (copied_here label b home k) v1 g.words)
                   (at (within x.table x.blocks g) (with_copied (suc j) g.memory to from) k h.vars g.words)) (sym long) h.runs);
@@ -195,7 +203,7 @@ module _ (x : Basis) (g : Both) (line : BlockLine) (rest : List BlockLine) (y : 
           where
             -- all places are before it
             apart : (to : ℕ) → to ≡ g.call.site.base + (room (body_of g) + at_next) → from + span (suc j) ≤ to
-            apart to e = below (lying_range x (all_sites x g line rest y) y.linked from (bytes v) lying)
+            apart to e = below (lying_range x (all_sites x g line rest y) y.linked from n lying)
               where
                 s : SiteAt x.table x.blocks (all_sites x g line rest y) lying.site
                 s = site_at x.table x.blocks (all_sites x g line rest y) lying.site y.linked lying.among
@@ -203,9 +211,28 @@ module _ (x : Basis) (g : Both) (line : BlockLine) (rest : List BlockLine) (y : 
                 here : SiteAt x.table x.blocks (all_sites x g line rest y) g.call.site
                 here = site_at x.table x.blocks (all_sites x g line rest y) g.call.site y.linked (inl refl)
 
-                below : InRange x.table x.blocks lying.site from (bytes v) → from + span (suc j) ≤ to
-                below (inl r) = let most = x.small in omega (arith, r.2, here.least, most, size, four, span_is (suc j), e)
-                below (inr r) = omega (arith, r.1, s.most, size, four, span_is (suc j), e)
+                below : InRange x.table x.blocks lying.site from n → from + span (suc j) ≤ to
+                below (inl r) = let most = x.small in omega (arith, r.2, here.least, most, long, span_is (suc j), e)
+                below (inr r) = omega (arith, r.1, s.most, long, span_is (suc j), e)
+
+    -- those of a value
+    hands_words : (v : Value) → HasWords v → (home : Home) → IsHigh home → (from : ℕ) → Points g.call.site.base g.call.vars home from → IsAt g.memory from v
+        → Lying x sites y.linked from (bytes v) → at_next + bytes v ≤ SPARE_ROOM
+        → from_label label (word_of x.table x.blocks (body_of g)).lines ≡ Some (hand_loop label k)
+        → Hands (Place FIRST (room (body_of g) + at_next) ∷ copied_here label (bytes v) home k) k v a
+    hands_words v small_words home high from points is_at lying le stands =
+        let r = hands_bits home high from points (bytes v) (bytes_whole v) (bytes_some v (of_numbers g.memory from v is_at)) lying le stands in
+        record {
+          vars = r.vars;
+          memory = r.memory;
+          same = r.same;
+          changed = r.changed;
+          there = copied_there g.memory r.memory from a v small_words r.low_words is_at;
+          steps = r.steps;
+          some = r.some;
+          few = r.few;
+          runs = r.runs;
+        }
 
     -- a value that is somewhere
     pub hands_value : (from : Housed) (v : Value) → Read x g line rest y true from v → at_next + bytes v ≤ SPARE_ROOM

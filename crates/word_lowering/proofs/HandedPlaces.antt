@@ -64,10 +64,14 @@ root_here handed (L.Root to place false) behind t p rest it e h =
     let same : to ≡ t = eqb-true to t it in
     let there : is_among to handed ≡ true = subst (λ n. is_among n handed ≡ true) (sym same) h in
     ap (λ o. is_among p (and_some o rest)) (cond-true (is_among to handed) (Some place) None there) ∙ first_here p place rest (ap number_of e)
-root_here handed (L.Fresh to from waits) behind t p rest it e h = absurd (no_value from p e)
+root_here handed (L.Fresh to from None) behind t p rest it e h = absurd (no_value from p e)
   where
     no_value : (from p : ℕ) → alias.Value from ≡ alias.Place p false → ⊥
     no_value from p e = cc
+root_here handed (L.Fresh to from (Some node)) behind t p rest it e h = absurd (no_node node p e)
+  where
+    no_node : (node p : ℕ) → alias.Node node ≡ alias.Place p false → ⊥
+    no_node node p e = cc
 root_here handed (L.Standing to ty pieces) behind t p rest it e h = absurd (no_own p e)
   where
     no_own : (p : ℕ) → alias.Own ≡ alias.Place p false → ⊥

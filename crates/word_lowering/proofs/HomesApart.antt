@@ -4,7 +4,7 @@ use Rattle.nim_types.specs.declared.types.TypeDef.{TypeDef}
 use Rattle.flat_code.specs.declared.line.Line.{Line}
 use Rattle.flat_code.specs.declared.place.FlatPlace.{FlatPlace}
 use Rattle.word_lowering.specs.declared.homes.Alias.{Alias}
-use Rattle.word_lowering.specs.declared.homes.Alias.TheVariants.{Own, Place, Value, Text}
+use Rattle.word_lowering.specs.declared.homes.Alias.TheVariants.{Own, Place, Value, Node, Text}
 use Rattle.word_lowering.specs.declared.homes.Home.{Home}
 use Rattle.word_lowering.specs.declared.homes.Home.TheVariants.{Variable, Placed, Static}
 use Rattle.word_lowering.specs.declared.homes.Housed.{Housed}
@@ -91,6 +91,7 @@ grows_by : (alias : Alias) (low high : Free) → Grows low high → Grows low (f
 grows_by Own low high g = g
 grows_by (Place p global) low high g = record { variable = omega arith; byte = omega arith; datum = omega arith }
 grows_by (Value t) low high g = record { variable = omega arith; byte = omega arith; datum = omega arith }
+grows_by (Node n) low high g = record { variable = omega arith; byte = omega arith; datum = omega arith }
 grows_by (Text behind bytes) low high g = record { variable = omega arith; byte = omega arith; datum = omega arith }
 
 module _ (table : List TypeDef) (start : Bool) (lines : List Line) where

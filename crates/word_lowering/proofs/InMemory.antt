@@ -54,7 +54,7 @@ or_word_whole : (n : ℕ) → n % 4 ≡ 0 → or_word n % 4 ≡ 0
 or_word_whole zero e = refl
 or_word_whole (suc n) e = e
 
-or_word_some : (n : ℕ) → n % 4 ≡ 0 → 4 ≤ or_word n
+pub or_word_some : (n : ℕ) → n % 4 ≡ 0 → 4 ≤ or_word n
 or_word_some zero e = omega arith
 or_word_some (suc n) e = omega arith
 

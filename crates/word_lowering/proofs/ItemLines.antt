@@ -22,7 +22,9 @@ use Rattle.word_lowering.specs.declared.homes.Home.TheVariants.{Variable, Placed
 use Rattle.word_lowering.specs.declared.homes.Alias.TheVariants as alias
 use Rattle.word_lowering.specs.Operations.{least, trap_label, word}
 use Rattle.word_lowering.specs.Spots.{address}
-use Rattle.word_lowering.specs.LineCode.{behind_code, item_code, location, variable_of}
+use Rattle.word_lowering.specs.LineCode.{behind_code, item_at, item_code, location, variable_of}
+use Rattle.word_lowering.specs.Lowered.{any_branches}
+use Rattle.word_lowering.specs.OwnedCode.{has_handle}
 use Rattle.nim_types.specs.Forms.{or_word}
 use Rattle.word_lowering.proofs.ControlLines.{plain, FollowedHere, int_read, kind_at}
 use Rattle.word_lowering.proofs.Lines.{Basis, IsGood, all_procs, starts, Settles, all_sites, fits_here, using_settles, where_there}
@@ -32,7 +34,7 @@ use Rattle.word_lowering.proofs.OrdinalRuns.{AllSame, Gives, put_low}
 use Rattle.word_lowering.proofs.Related.{Both, within, body_of, high}
 use Rattle.word_lowering.proofs.Scenes.{Points, IsNamed, IsThere, house, looked, of_location}
 use Rattle.word_lowering.proofs.Settling.{LabelsLead, TrapsStop, code_next, Comes, code_here, trap_settles}
-use Rattle.word_lowering.proofs.ShapeFacts.{never, shape_bytes, of_numbers}
+use Rattle.word_lowering.proofs.ShapeFacts.{never, shape_bytes}
 use Rattle.word_lowering.proofs.ShapePaths.{shape_some, Step, step_within}
 use Rattle.arc_base.specs.Event.{writes}
 use Rattle.arc_base.specs.declared.outside.Stream.TheVariants.{Err}
@@ -51,10 +53,10 @@ use Rattle.rv32_isa.specs.Values.{low_product}
 use Rattle.std.proofs.lemmas.Bool.{and_parts}
 use Rattle.std.specs.Prelude.{int_le, int_lt, nat_lt, not, ◌&&◌}
 use Rattle.word_code.proofs.ForCallers.{got, then_runs}
-use Rattle.word_lowering.proofs.AddressFacts.{AtAddress, at_address, read_row}
+use Rattle.word_lowering.proofs.AddressFacts.{AtAddress, at_homed, read_row}
 use Rattle.word_lowering.proofs.Arithmetic.{fits_signed}
-use Rattle.word_lowering.proofs.LineFits.{are_of, elements_shape, some_kind}
-use Rattle.word_lowering.proofs.LocationHouses.{location_house}
+use Rattle.word_lowering.proofs.LineFits.{are_of, elements_shape, no_handle, numbers_no_handle, some_kind}
+use Rattle.word_lowering.proofs.LocationHouses.{homed_house}
 use Rattle.word_lowering.proofs.NumberLines.{variable}
 use Rattle.word_lowering.proofs.OperationRuns.{Given, Led}
 use Rattle.word_lowering.proofs.OrdinalChecks.{inside_is}
@@ -62,8 +64,10 @@ use Rattle.word_lowering.proofs.PartLines.{deeper_in, leads_near, leads_on, lead
 use Rattle.word_lowering.proofs.PartLines.{same_bool_true}
 use Rattle.word_lowering.proofs.Sites.{around, is_one_word, word_of}
 use Rattle.word_lowering.proofs.Targets.{location_alias, own_alias, pointed}
-use Rattle.word_lowering.proofs.ValueFacts.{Operand, location_of_numbers, type_in, with_home}
+use Rattle.word_lowering.proofs.ValueFacts.{Operand, homed_plain, location_of_numbers, type_in, with_home, IsHomed}
 use Rattle.word_lowering.specs.Stored.{count_in, element_bytes, entry_at}
+use Rattle.word_lowering.proofs.HookedMoves.{BitsHere}
+use Rattle.word_lowering.proofs.OutPlaces.{IsUnlent, unlent_plain}
 
 -- a value of an array leads on as any whole does
 pub item_deeper : (v : Value) (n : ℕ) (s : Shape) (l : Location) (i : ℕ) → has_shape v (row n s) ≡ true → item_of v l i ≡ deeper l i
@@ -132,6 +136,7 @@ module _ (x : Basis) (traps : TrapsStop x) (labels : LabelsLead x) (g : Both) (r
     behind_given d (Static n) a o v same first least up points near = pointed_given d (Static n) a o v first least points near
 
     module _ (there : Where) (e : g.call.temps.places from ≡ Some there) (named_from : IsNamed g.call.site (of_location from))
+        (homed_from : IsHomed x g.call.site from) (unlent_from : IsUnlent g.call.site from)
         (there_to : IsThere g.call.site (of_location to)) (count : ℕ)
         (look : looked x.table g.call.site (of_location from) ≡ row count (looked x.table g.call.site (of_location to)))
         (as_base : is_standing (house g.call.site (of_location to)).kind ≡ true → is_standing (house g.call.site (of_location from)).kind ≡ true)
@@ -143,7 +148,7 @@ module _ (x : Basis) (traps : TrapsStop x) (labels : LabelsLead x) (g : Both) (r
       index_variable = variable x g item_here rest y index
 
       at_is : AtAddress x g item_here rest y (location (around x.table x.blocks (body_of g)) from) there (looked x.table g.call.site (of_location from))
-      at_is = at_address x g item_here rest y from there named_from e (ap is_one_word look)
+      at_is = at_homed x g item_here rest y from there named_from homed_from e (ap is_one_word look)
 
       near : at_is.address + shape_bytes (row count (looked x.table g.call.site (of_location to))) < 2 ^ 32
       near = subst (λ s. at_is.address + shape_bytes s < 2 ^ 32) look
@@ -155,7 +160,8 @@ module _ (x : Basis) (traps : TrapsStop x) (labels : LabelsLead x) (g : Both) (r
       -- what the table says of it
       rows : (count_in (entry_at x.table (location (around x.table x.blocks (body_of g)) from).ty) ≡ count)
           × (0 < count → element_bytes x.table (entry_at x.table (location (around x.table x.blocks (body_of g)) from).ty) ≡ each)
-      rows = let h = location_house x g item_here rest y from there named_from e in
+          × (has_handle (entry_at x.table (location (around x.table x.blocks (body_of g)) from).ty) ≡ false)
+      rows = let h = homed_house x g item_here rest y from there named_from homed_from e in
           h.housed.rows count (looked x.table g.call.site (of_location to)) (ap (shape_of (facts_in x.table)) h.typed ∙ look)
 
       abbrev to_variable : ℕ
@@ -166,7 +172,8 @@ module _ (x : Basis) (traps : TrapsStop x) (labels : LabelsLead x) (g : Both) (r
 
       code_is : code_here x g item_here rest y ≡ item_code to_variable at_is.home index_variable count bytes_in_code k
       code_is =
-          ap (λ u. item_code (variable_of u) (location (around x.table x.blocks (body_of g)) from).home index_variable
+          ap (λ b. item_at (around x.table x.blocks (body_of g)) b to from index k) rows.2
+          ∙ ap (λ u. item_code (variable_of u) (location (around x.table x.blocks (body_of g)) from).home index_variable
           (count_in (entry_at x.table (location (around x.table x.blocks (body_of g)) from).ty)) bytes_in_code k)
           (own_location x g item_here rest y to there_to)
           ∙ (ap (λ u. item_code to_variable u index_variable (count_in (entry_at x.table (location (around x.table x.blocks (body_of g)) from).ty))
@@ -259,7 +266,7 @@ module _ (x : Basis) (traps : TrapsStop x) (labels : LabelsLead x) (g : Both) (r
           let some = shape_some (looked x.table g.call.site (of_location to)) in
           let small : at_is.address + i * each < 2 ^ 32 = (let n = near in omega (arith, n, inner, some)) in
           leads_settles x g item_here rest y to (deeper_in g.call.temps there i) (at_is.address + i * each) 1 (omega arith) there_to
-          (part_standing x g item_here rest y to from i there named_from e as_base)
+          (part_standing x g item_here rest y to from i there named_from unlent_from e as_base)
           (leads_on x (all_sites x g item_here rest y) g.call.site g.ground g.world g.call.temps (with_place to g.call.temps (deeper_in g.call.temps there i))
           (λ t v h. h) there at_is.address (i * each)
           (looked x.table g.call.site (of_location from)) (looked x.table g.call.site (of_location to)) i step at_is.leads_to)
@@ -271,10 +278,15 @@ module _ (x : Basis) (traps : TrapsStop x) (labels : LabelsLead x) (g : Both) (r
           subst (λ d. Settles x (starts g item_here rest) rest d)
           (ap (λ es. Passes (Finishes es (1 + length (line_of (trap_text IndexOutOfBounds))) 1 g.world))
           (sym (append-nil (writes Err (line_of (trap_text IndexOutOfBounds))))))
-          (trap_settles x g item_here rest y traps IndexOutOfBounds 1 (omega arith) (λ l. refl) (lost h))
+          (trap_settles x g item_here rest y traps IndexOutOfBounds 1 (omega arith)
+          (λ l. subst (λ b. any_branches (trap_label IndexOutOfBounds) (item_at (around x.table x.blocks (body_of g)) b to from index l) ≡ true)
+          (sym rows.2) refl) (lost h))
 
-  pub item_line : FollowedHere x labels g rest (L.Item to from index)
-  item_line y =
+  -- of an array, whatever it has
+  item_with : (IsNamed g.call.site (of_location from) → IsHomed x g.call.site from)
+      → ((y : IsGood x (starts g item_here rest)) → IsNamed g.call.site (of_location from) → IsUnlent g.call.site from)
+      → (IsNamed g.call.site (of_location from) → no_handle (looked x.table g.call.site (of_location from)) ≡ true) → BitsHere x g rest item_here
+  item_with homed unlent row_like y =
       let from_kind : TypeKind = kind_if (facts_in x.table) (type_in x is_location (body_of g) from) in
       let to_may : Bool = if_kind is_standing (place_named is_location (body_of g).proc.places to) in
       let from_may : Bool = if_kind is_standing (place_named is_location (body_of g).proc.places from) in
@@ -287,9 +299,9 @@ module _ (x : Basis) (traps : TrapsStop x) (labels : LabelsLead x) (g : Both) (r
       (subst (λ o. is_of o (element_of from_kind) ≡ true) v.is f.0) in
       let p = pointed x g item_here rest y from s.0 s.1 in
       let q = pointed x g item_here rest y to v.ty v.is in
-      let shape = elements_shape (facts_in x.table) s.0 v.ty s.2 (sym (ap of_numbers p.look) ∙ location_of_numbers x g.call.site from y.linked.0 p.named) in
+      let shape = elements_shape (facts_in x.table) s.0 v.ty s.2 (sym (ap no_handle p.look) ∙ row_like p.named) in
       let there_to : IsThere g.call.site (of_location to) = with_home x q.named
-      (own_alias (house g.call.site (of_location to)).alias (location_alias x g item_here rest y to alias.Own refl refl)) in
+      (own_alias (house g.call.site (of_location to)).alias (location_alias x g item_here rest y to alias.Own refl refl)) tt in
       let look : looked x.table g.call.site (of_location from) ≡ row shape.0 (looked x.table g.call.site (of_location to))
       = p.look ∙ (shape.1 ∙ ap (row shape.0) (sym q.look)) in
       using_settles x (starts g item_here rest) rest (g.call.temps.places from)
@@ -297,24 +309,25 @@ module _ (x : Basis) (traps : TrapsStop x) (labels : LabelsLead x) (g : Both) (r
       (to_item (location_at g.call.temps there) z)))
       (λ there e. using_settles x (starts g item_here rest) rest (g.call.temps.values index)
       (λ w. leads (scene_of (high x.table x.blocks (starts g item_here rest))) to there (to_item (location_at g.call.temps there) (number_of w)))
-      (λ w h. by y there e p.named there_to shape.0 look
+      (λ w h. by y there e p.named (homed p.named) (unlent y p.named) there_to shape.0 look
       (λ st. y.linked.0.standing from (same_bool_true to_may from_may r.1 (y.linked.0.may_be_standing to st))) w
       (int_read x g item_here rest y index w r.0 h)))
     where
       by : (y : IsGood x (starts g item_here rest)) (there : Where) (e : g.call.temps.places from ≡ Some there)
-          (named_from : IsNamed g.call.site (of_location from)) (there_to : IsThere g.call.site (of_location to)) (count : ℕ)
+          (named_from : IsNamed g.call.site (of_location from)) (homed_from : IsHomed x g.call.site from)
+          (unlent_from : IsUnlent g.call.site from) (there_to : IsThere g.call.site (of_location to)) (count : ℕ)
           (look : looked x.table g.call.site (of_location from) ≡ row count (looked x.table g.call.site (of_location to)))
           (as_base : is_standing (house g.call.site (of_location to)).kind ≡ true → is_standing (house g.call.site (of_location from)).kind ≡ true)
           (w : Value) (o : Operand x g.call index w)
           → Settles x (starts g item_here rest) rest
           (leads (scene_of (high x.table x.blocks (starts g item_here rest))) to there (to_item (location_at g.call.temps there) (number_of w)))
-      by y there e named_from there_to count look as_base w o =
+      by y there e named_from homed_from unlent_from there_to count look as_base w o =
           let v : Value = load g.world (location_at g.call.temps there) in
           where_there x (starts g item_here rest) rest (is_seen g.world (location_at g.call.temps there))
           (λ b. leads (scene_of (high x.table x.blocks (starts g item_here rest))) to there
           (costs 1 (unless_gone b (deeds.branch (inside (number_of w) (length_of v))
           (give (item_of v (location_at g.call.temps there) (unsigned_abs (number_of w)))) (stop IndexOutOfBounds))))) (λ before. tt)
-          (λ seen. let r = read_row x g item_here rest y from there named_from e count (looked x.table g.call.site (of_location to)) look seen in
+          (λ seen. let r = read_row x g item_here rest y from there named_from homed_from e count (looked x.table g.call.site (of_location to)) look seen in
           let long : length_of v ≡ count = ap length_of r.is ∙ r.long in
           let deep : item_of v (location_at g.call.temps there) (unsigned_abs (number_of w)) ≡ deeper (location_at g.call.temps there)
           (unsigned_abs (number_of w)) = ap (λ u. item_of u (location_at g.call.temps there) (unsigned_abs (number_of w))) r.is in
@@ -323,4 +336,13 @@ module _ (x : Basis) (traps : TrapsStop x) (labels : LabelsLead x) (g : Both) (r
           (give (item_of v (location_at g.call.temps there) (unsigned_abs (number_of w)))) (stop IndexOutOfBounds))))) (sym long)
           (subst (λ l. Settles x (starts g item_here rest) rest (leads (scene_of (high x.table x.blocks (starts g item_here rest))) to there
           (costs 1 (deeds.branch (inside (number_of w) count) (give l) (stop IndexOutOfBounds))))) (sym deep)
-          (item_by y there e named_from there_to count look as_base w o (inside (number_of w) count) refl)))
+          (item_by y there e named_from homed_from unlent_from there_to count look as_base w o (inside (number_of w) count) refl)))
+
+  pub item_line : FollowedHere x labels g rest (L.Item to from index)
+  item_line names y =
+      item_with (λ n. homed_plain x g.call.site from y.linked.0 n names.1.0) (λ y n. unlent_plain x g item_here rest y from n names.1.0)
+      (λ n. numbers_no_handle (looked x.table g.call.site (of_location from)) (location_of_numbers x g.call.site from y.linked.0 n names.1.0)) y
+
+  pub item_bits : IsHomed x g.call.site from → IsUnlent g.call.site from → no_handle (looked x.table g.call.site (of_location from)) ≡ true →
+      BitsHere x g rest item_here
+  item_bits homed unlent row_like y = item_with (λ n. homed) (λ y n. unlent) (λ n. row_like) y

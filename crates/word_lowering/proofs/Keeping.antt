@@ -1,15 +1,15 @@
 -- Where one place of a call changes, all others are as before.
-use Rattle.std.proofs.Common.{◌≡◌, ◌≢◌, ◌⊎◌, inl, inr, ℕ, ◌+◌, ◌<◌, ◌≤◌, List, [], ◌∷◌, map, Some, true, false, refl, Ok}
+use Rattle.std.proofs.Common.{◌≡◌, ◌≢◌, ◌⊎◌, inl, inr, ℕ, ◌+◌, ◌<◌, ◌≤◌, List, [], ◌∷◌, map, Option, Some, None, true, false, refl, Ok, not, ◌&&◌, Bool}
 use Rattle.std.proofs.Common.{sym, ap, ap₂, subst, ◌∙◌, arith}
 use Rattle.std.proofs.lemmas.Bool.{cases_order}
 use Rattle.nim_types.specs.declared.types.TypeDef.{TypeDef}
-use Rattle.nim_meaning.specs.Values.{Value, bytes, Location, Standing}
+use Rattle.nim_meaning.specs.Values.{Value, bytes, Location, Standing, Slot}
 use Rattle.nim_meaning.specs.Places.{root_of}
-use Rattle.nim_meaning.specs.State.{World, slot_at}
+use Rattle.nim_meaning.specs.State.{World, slot_at, frame_at, temporary_at}
 use Rattle.flat_code.specs.declared.place.PlaceKind.{PlaceKind}
 use Rattle.flat_code.specs.declared.place.PlaceKind.TheVariants as K
-use Rattle.nim_program.specs.declared.program.Mode.TheVariants.{Var}
-use Rattle.flat_code.specs.Fits.{is_location, is_declared, is_own}
+use Rattle.nim_program.specs.declared.program.Mode.TheVariants.{Var, Plain}
+use Rattle.flat_code.specs.Fits.{is_value, is_location, is_declared, is_own}
 use Rattle.flat_code.specs.declared.block.BlockLine.{BlockLine}
 use Rattle.flat_code.specs.declared.code.Code.{Code}
 use Rattle.rv32_isa.specs.declared.micro_op.Size.TheVariants.{Word}
@@ -17,7 +17,7 @@ use Rattle.word_code.specs.Memory.{Memory, number_at}
 use Rattle.word_code.proofs.ForCallers.{Apart, SameOutside}
 use Rattle.word_code.specs.Words.{Vars}
 use Rattle.flat_code.specs.Scene.{Where, Located, Within, Temps}
-use Rattle.flat_code.specs.Shapes.{Shape}
+use Rattle.flat_code.specs.Shapes.{Shape, shape_of}
 use Rattle.word_lowering.proofs.BlockPaths.{leads_later}
 use Rattle.word_lowering.proofs.ShapeFacts.{never}
 use Rattle.word_lowering.specs.declared.homes.TheConstants.{LEFT}
@@ -26,26 +26,32 @@ use Rattle.word_lowering.specs.declared.homes.Alias.TheVariants as alias
 use Rattle.word_lowering.specs.declared.homes.Home.{Home}
 use Rattle.word_lowering.specs.declared.homes.Home.TheVariants.{Variable, Placed, Static}
 use Rattle.word_lowering.specs.declared.homes.Housed.{Housed}
+use Rattle.word_lowering.specs.declared.homes.Waiter.{Waiter}
 use Rattle.word_lowering.specs.declared.spots.Spot.TheVariants.{Held, Lies}
 use Rattle.word_lowering.specs.declared.texts.TheConstants.{FIXED_BYTES}
 use Rattle.word_lowering.specs.declared.may_lower.TheConstants.{MOST_DATA}
-use Rattle.word_lowering.specs.Layouts.{is_address}
+use Rattle.word_lowering.specs.Layouts.{holds_address, address_by, owns}
 use Rattle.word_lowering.specs.Spots.{spot_by, spot_of}
 use Rattle.word_lowering.specs.LineCode.{variable_in, variable_of}
+use Rattle.word_lowering.specs.WaitingCode.{waiter_at, waiter_house}
 use Rattle.word_lowering.proofs.InMemory.{IsAt, Carries, carried}
 use Rattle.word_lowering.proofs.Blocks.{Stored}
 use Rattle.word_lowering.proofs.BlocksBorn.{later_same}
 use Rattle.word_lowering.proofs.StoredLater.{stored_kept}
 use Rattle.word_lowering.proofs.Sites.{room, Housing, in_variable, by_address, in_places, in_data, InMemory, Site, next_base, AmongSites, data_end, Linked}
-use Rattle.word_lowering.proofs.Scenes.{address_of, Points, At, Name, of_value, of_location, of_place, number_in, Call, house, Filled, HasValue}
-use Rattle.word_lowering.proofs.Scenes.{IsThere, IsNamed, IsLiteral, looked, IsItem, FromBlock, FromOwned, FromPlace, Leads, IsLedBy, IsLed}
+use Rattle.word_lowering.proofs.Scenes.{address_of, Points, At, Name, of_value, of_location, of_place, of_waiting, number_in, Call, house, Filled, HasValue}
+use Rattle.word_lowering.proofs.Scenes.{variable_at, HasVariable, Says, SaysAt, IsAtNode}
+use Rattle.word_lowering.proofs.Scenes.{IsThere, IsNamed, IsLiteral, looked, IsItem, FromBlock, FromPlace, Leads, IsLedBy, IsLed}
 use Rattle.word_lowering.proofs.Scenes.{IsFilled, Holding}
 use Rattle.word_lowering.proofs.Scenes.{site_of, AllHold, Ground, Store, is_fixed, StoredIn, IsLater, AtHome}
-use Rattle.word_lowering.proofs.SitesApart.{Beside, InRange, in_range, houses, ranges_apart, SiteAt, site_at, IsPlace}
+use Rattle.word_lowering.proofs.SitesApart.{Beside, InRange, in_range, houses, home_variable, ranges_apart, SiteAt, site_at, IsPlace}
+use Rattle.word_lowering.proofs.Temporaries.{AreOnce}
+use Rattle.word_lowering.proofs.Waiters.{node_is}
+use Rattle.nim_types.specs.Table.{facts_in}
 
 -- ---- spots of places
 
-pub spot_memory : (h : Housed) → is_address h.kind ≡ false → InMemory h.home → spot_of h ≡ Lies h.home
+pub spot_memory : (h : Housed) → holds_address h ≡ false → InMemory h.home → spot_of h ≡ Lies h.home
 spot_memory h plain inside = ap (λ b. spot_by b h.home) plain ∙ by h.home inside
   where
     by : (home : Home) → InMemory home → spot_by false home ≡ Lies home
@@ -53,10 +59,10 @@ spot_memory h plain inside = ap (λ b. spot_by b h.home) plain ∙ by h.home ins
     by (Placed at) i = refl
     by (Static at) i = refl
 
-pub spot_held : (h : Housed) (v : ℕ) → is_address h.kind ≡ false → h.home ≡ Variable v → spot_of h ≡ Held v
+pub spot_held : (h : Housed) (v : ℕ) → holds_address h ≡ false → h.home ≡ Variable v → spot_of h ≡ Held v
 spot_held h v plain is = ap₂ spot_by plain is
 
-pub spot_address : (h : Housed) (v : ℕ) → is_address h.kind ≡ true → h.home ≡ Variable v → spot_of h ≡ Lies (Variable v)
+pub spot_address : (h : Housed) (v : ℕ) → holds_address h ≡ true → h.home ≡ Variable v → spot_of h ≡ Lies (Variable v)
 spot_address h v address is = ap₂ spot_by address is
 
 pub points_is : (base : ℕ) (vars : Vars) (home : Home) (a : ℕ) → InMemory home → Points base vars home a → a ≡ address_of base home
@@ -70,25 +76,25 @@ points_there base vars (Placed at) i = refl
 points_there base vars (Static at) i = refl
 
 -- a value in memory
-pub from_memory : (m : Memory) (base : ℕ) (vars : Vars) (h : Housed) (x : Value) → is_address h.kind ≡ false → InMemory h.home
+pub from_memory : (m : Memory) (base : ℕ) (vars : Vars) (h : Housed) (x : Value) → holds_address h ≡ false → InMemory h.home
     → At m base vars (spot_of h) x → IsAt m (address_of base h.home) x
 from_memory m base vars h x plain inside at =
     let lies : At m base vars (Lies h.home) x = subst (λ p. At m base vars p x) (spot_memory h plain inside) at in
     subst (λ a. IsAt m a x) (points_is base vars h.home lies.0 inside lies.1) lies.2
 
-pub to_memory : (m : Memory) (base : ℕ) (vars : Vars) (h : Housed) (x : Value) → is_address h.kind ≡ false → InMemory h.home
+pub to_memory : (m : Memory) (base : ℕ) (vars : Vars) (h : Housed) (x : Value) → holds_address h ≡ false → InMemory h.home
     → IsAt m (address_of base h.home) x → At m base vars (spot_of h) x
 to_memory m base vars h x plain inside at =
     subst (λ p. At m base vars p x) (sym (spot_memory h plain inside)) (address_of base h.home, points_there base vars h.home inside, at)
 
 -- one that may have blocks
-pub from_home : (k : Store) (base : ℕ) (vars : Vars) (s : Shape) (h : Housed) (x : Value) → is_address h.kind ≡ false → InMemory h.home
+pub from_home : (k : Store) (base : ℕ) (vars : Vars) (s : Shape) (h : Housed) (x : Value) → holds_address h ≡ false → InMemory h.home
     → AtHome k base vars s (spot_of h) x → StoredIn k (address_of base h.home) s x
 from_home k base vars s h x plain inside at =
     let lies : AtHome k base vars s (Lies h.home) x = subst (λ p. AtHome k base vars s p x) (spot_memory h plain inside) at in
     subst (λ a. StoredIn k a s x) (points_is base vars h.home lies.0 inside lies.1) lies.2
 
-pub to_home : (k : Store) (base : ℕ) (vars : Vars) (s : Shape) (h : Housed) (x : Value) → is_address h.kind ≡ false → InMemory h.home
+pub to_home : (k : Store) (base : ℕ) (vars : Vars) (s : Shape) (h : Housed) (x : Value) → holds_address h ≡ false → InMemory h.home
     → StoredIn k (address_of base h.home) s x → AtHome k base vars s (spot_of h) x
 to_home k base vars s h x plain inside at =
     subst (λ p. AtHome k base vars s p x) (sym (spot_memory h plain inside)) (address_of base h.home, points_there base vars h.home inside, at)
@@ -120,6 +126,7 @@ sort_in : Name → ℕ
 sort_in (of_value t) = 0
 sort_in (of_location t) = 1
 sort_in (of_place n) = 2
+sort_in (of_waiting node) = 3
 
 pub value_no_location : (t u : ℕ) → of_value t ≢ of_location u
 unfolding sort_in
@@ -132,6 +139,18 @@ value_no_place t u is = let e : 0 ≡ 2 = ap sort_in is in absurd (omega (arith,
 pub location_no_place : (t u : ℕ) → of_location t ≢ of_place u
 unfolding sort_in
 location_no_place t u is = let e : 1 ≡ 2 = ap sort_in is in absurd (omega (arith, e))
+
+pub value_no_waiting : (t u : ℕ) → of_value t ≢ of_waiting u
+unfolding sort_in
+value_no_waiting t u is = let e : 0 ≡ 3 = ap sort_in is in absurd (omega (arith, e))
+
+pub location_no_waiting : (t u : ℕ) → of_location t ≢ of_waiting u
+unfolding sort_in
+location_no_waiting t u is = let e : 1 ≡ 3 = ap sort_in is in absurd (omega (arith, e))
+
+pub place_no_waiting : (t u : ℕ) → of_place t ≢ of_waiting u
+unfolding sort_in
+place_no_waiting t u is = let e : 2 ≡ 3 = ap sort_in is in absurd (omega (arith, e))
 
 pub same_numbers : (f e : Name) → f ≡ e → number_in f ≡ number_in e
 same_numbers f e is = ap number_in is
@@ -160,6 +179,17 @@ name_cases (of_place t) (of_place u) = by (number_cases t u)
     by : (t ≡ u) ⊎ (t ≢ u) → (of_place t ≡ of_place u) ⊎ (of_place t ≢ of_place u)
     by (inl e) = inl (ap of_place e)
     by (inr ne) = inr (λ e. ne (ap number_in e))
+name_cases (of_waiting t) (of_waiting u) = by (number_cases t u)
+  where
+    by : (t ≡ u) ⊎ (t ≢ u) → (of_waiting t ≡ of_waiting u) ⊎ (of_waiting t ≢ of_waiting u)
+    by (inl e) = inl (ap of_waiting e)
+    by (inr ne) = inr (λ e. ne (ap number_in e))
+name_cases (of_value t) (of_waiting u) = inr (value_no_waiting t u)
+name_cases (of_location t) (of_waiting u) = inr (location_no_waiting t u)
+name_cases (of_place t) (of_waiting u) = inr (place_no_waiting t u)
+name_cases (of_waiting t) (of_value u) = inr (λ e. value_no_waiting u t (sym e))
+name_cases (of_waiting t) (of_location u) = inr (λ e. location_no_waiting u t (sym e))
+name_cases (of_waiting t) (of_place u) = inr (λ e. place_no_waiting u t (sym e))
 name_cases (of_value t) (of_location u) = inr (value_no_location t u)
 name_cases (of_value t) (of_place u) = inr (value_no_place t u)
 name_cases (of_location t) (of_value u) = inr (λ e. value_no_location u t (sym e))
@@ -176,19 +206,29 @@ AmongCalls c (d ∷ cs) = (d ≡ c) ⊎ AmongCalls c cs
 pub false_true : {A : Type 0} → false ≡ true → A
 false_true h = never h
 
-pub location_address : (k : PlaceKind) → is_location k ≡ true → is_address k ≡ true
-location_address K.Location h = refl
-location_address K.Within h = refl
-location_address k h = never h
+location_by : (lent : Bool) (k : PlaceKind) → is_location k ≡ true → address_by lent k ≡ true
+location_by lent K.Location h = refl
+location_by lent K.Within h = refl
+location_by lent k h = never h
+
+pub location_address : (place : Housed) → is_location place.kind ≡ true → holds_address place ≡ true
+location_address place h = location_by place.lent place.kind h
 
 -- a place without a value of its own is one that stands for a location
-pub declared_address : (k : PlaceKind) → is_declared k ≡ true → is_own k ≡ false → is_address k ≡ true
-declared_address (K.Param Var) h g = refl
-declared_address K.Temp h g = never h
-declared_address K.Counter h g = never h
-declared_address K.Location h g = never h
-declared_address K.Within h g = never h
-declared_address k h g = never (sym g)
+declared_by : (lent : Bool) (k : PlaceKind) → is_declared k ≡ true → (is_own k && not (address_by lent k)) ≡ false → address_by lent k ≡ true
+declared_by lent (K.Param Var) h g = refl
+declared_by true (K.Param Plain) h g = refl
+declared_by false (K.Param Plain) h g = never (sym g)
+declared_by true K.ForVar h g = refl
+declared_by false K.ForVar h g = never (sym g)
+declared_by lent K.Temp h g = never h
+declared_by lent K.Counter h g = never h
+declared_by lent K.Location h g = never h
+declared_by lent K.Within h g = never h
+declared_by lent k h g = never (sym g)
+
+pub declared_address : (place : Housed) → is_declared place.kind ≡ true → owns place ≡ false → holds_address place ≡ true
+declared_address place h g = declared_by place.lent place.kind h g
 
 -- what has a home is no other name for a text
 pub own_text : {A : Type 0} (s : Site) (name : Name) (behind size : ℕ) → IsThere s name → (house s name).alias ≡ alias.Text behind size → A
@@ -196,6 +236,24 @@ own_text s name behind size there text = absurd (no_text behind size (sym there.
   where
     no_text : (behind size : ℕ) → alias.Own ≡ alias.Text behind size → ⊥
     no_text behind size e = cc
+
+-- what may wait is there
+pub waiting_there : (s : Site) (node : ℕ) (w : Waiter) → waiter_at node s.body.own.waiters ≡ Some w → IsThere s (of_waiting node)
+waiting_there s node w is = record {
+  among = (w, is);
+  number = ap (λ o. (waiter_house o).number) is ∙ node_is s.body.own.waiters node w is;
+  kind = ap (λ o. is_value (waiter_house o).kind) is;
+  own = ap (λ o. (waiter_house o).alias) is;
+}
+
+-- in memory
+pub waiting_inside : (s : Site) (node : ℕ) → IsThere s (of_waiting node) → InMemory (house s (of_waiting node)).home
+waiting_inside s node there = subst (λ o. InMemory (waiter_house o).home) (sym there.among.1) tt
+
+-- another name for it looks so
+pub node_look : (table : List TypeDef) (s : Site) (t node : ℕ) (there : Where) → IsAtNode table s t node there
+    → looked table s (of_waiting node) ≡ looked table s (of_location t)
+node_look table s t node there r = ap (shape_of (facts_in table)) r.typed
 
 -- a call with these temporaries and variables
 abbrev pub call : Site → Temps → Vars → Call
@@ -231,9 +289,17 @@ module _ (table : List TypeDef) (blocks : Code BlockLine) (small : data_end tabl
     -- where a path begins that goes from a place
     pub roots : (s : Site) (n : ℕ) → AmongSites s sites → IsThere s (of_place n) → Filled w s.level n
         → root_of (Standing s.level n) w' ≡ root_of (Standing s.level n) w
+    pub waits : (s : Site) (node : ℕ) → AmongSites s sites → Away s (of_waiting node) → temporary_at w' s.level node ≡ temporary_at w s.level node
+    pub once : (s : Site) → AmongSites s sites → AreOnce (frame_at w s.level).temporaries → AreOnce (frame_at w' s.level).temporaries
 
   pub worlds_same : (w : World) → Worlds w w
-  worlds_same w = record { slots = λ s n i x a. refl; more = λ s n i x h. h; roots = λ s n i x h. refl }
+  worlds_same w = record {
+    slots = λ s n i x a. refl;
+    more = λ s n i x h. h;
+    roots = λ s n i x h. refl;
+    waits = λ s node i a. refl;
+    once = λ s i h. h;
+  }
 
   -- temporaries and variables of a call, of which at most that place's differs
   pub record Kept (s : Site) (temps temps' : Temps) (vars vars' : Vars) : Type 0 where
@@ -242,7 +308,7 @@ module _ (table : List TypeDef) (blocks : Code BlockLine) (small : data_end tabl
     pub texts : (t behind bytes : ℕ) → IsNamed s (of_value t) → (house s (of_value t)).alias ≡ alias.Text behind bytes → Away s (of_value t)
         → temps'.values t ≡ temps.values t
     pub still : (t : ℕ) (x : Value) → temps.values t ≡ Some x → (y : Value) × (temps'.values t ≡ Some y)
-    pub variables : (f : Name) (u : ℕ) → IsThere s f → Away s f → (house s f).home ≡ Variable u → vars' u ≡ vars u
+    pub variables : (f : Name) (u : ℕ) → IsThere s f → Away s f → HasVariable s f u → vars' u ≡ vars u
     pub left : vars' LEFT ≡ vars LEFT
 
   pub kept_same : (s : Site) (temps : Temps) (vars : Vars) → Kept s temps temps vars vars
@@ -262,7 +328,9 @@ module _ (table : List TypeDef) (blocks : Code BlockLine) (small : data_end tabl
         → c.temps.values t ≡ Some x → IsLiteral c.site.body behind bytes x
     pub led : (t : ℕ) (there : Where) → of_location t ≡ e → IsNamed c.site (of_location t) → c.temps.places t ≡ Some there →
         IsLed table blocks from k.ground w c t there
-    pub filled : (n : ℕ) → of_place n ≡ e → Filled w c.site.level n → IsFilled table from k.ground w c n
+    pub filled : (n : ℕ) → of_place n ≡ e → Filled w c.site.level n → IsFilled table blocks from k.ground w c n
+    pub waits : (node : ℕ) → of_waiting node ≡ e
+        → SaysAt (waiter_at node c.site.body.own.waiters) (temporary_at w c.site.level node) c.site.base c.vars
 
   module _ (k k' : Store) (edit : Edit k.memory k'.memory) (later : IsLater k.ground k'.ground) (w w' : World) (worlds : Worlds w w') where
     -- words of a place
@@ -329,7 +397,8 @@ module _ (table : List TypeDef) (blocks : Code BlockLine) (small : data_end tabl
         by (in_variable v is plain low is_word) =
             let spot : spot_of (house s f) ≡ Held v = spot_held (house s f) v plain is in
             subst (λ p. AtHome k' s.base vars' (looked table s f) p x) (sym spot)
-            (kept.variables f v item.there away is ∙ subst (λ p. AtHome k s.base vars (looked table s f) p x) spot item.at)
+            (kept.variables f v item.there away (home_variable table blocks s f v item.there is)
+            ∙ subst (λ p. AtHome k s.base vars (looked table s f) p x) spot item.at)
         by (by_address v is address low) = absurd (false_true (sym item.plain ∙ address))
         by (in_places at is plain whole within) = stays (subst InMemory (sym is) tt)
         by (in_data at is plain whole low within start) = stays (subst InMemory (sym is) tt)
@@ -357,18 +426,14 @@ module _ (table : List TypeDef) (blocks : Code BlockLine) (small : data_end tabl
       near = x.near;
     }
 
-    owned_kept : (from : List Site) → ((r : Site) → AmongSites r from → AmongSites r sites) → (location : Location) (a : ℕ) (t : Shape)
-        → FromOwned table from k.ground w location a t → FromOwned table from k'.ground w' location a t
-    owned_kept from up location a t (inl x) = inl (from_kept from up location a t x)
-    owned_kept from up location a t (inr x) = inr (block_kept location a t x)
-
     leads_kept : (from : List Site) → ((r : Site) → AmongSites r from → AmongSites r sites) → (s : Site) (temps temps' : Temps) (vars vars' : Vars)
         → Kept s temps temps' vars vars'
         → (there : Where) (a : ℕ) (t : Shape) → Leads table blocks from k.ground w s temps there a t
         → Leads table blocks from k'.ground w' s temps' there a t
     leads_kept from up s temps temps' vars vars' kept (Located location) a t (inl x) = inl (from_kept from up location a t x)
     leads_kept from up s temps temps' vars vars' kept (Located location) a t (inr (inl x)) = inr (inl x)
-    leads_kept from up s temps temps' vars vars' kept (Located location) a t (inr (inr x)) = inr (inr (block_kept location a t x))
+    leads_kept from up s temps temps' vars vars' kept (Located location) a t (inr (inr (inl x))) = inr (inr (inl (block_kept location a t x)))
+    leads_kept from up s temps temps' vars vars' kept (Located location) a t (inr (inr (inr x))) = inr (inr (inr x))
     leads_kept from up s temps temps' vars vars' kept (Within temp path) a t x =
         let y = kept.still temp x.value x.has in
         record {
@@ -383,7 +448,7 @@ module _ (table : List TypeDef) (blocks : Code BlockLine) (small : data_end tabl
 
     -- the variable of a place that has an address
     variable_kept : (s : Site) (temps temps' : Temps) (vars vars' : Vars) (f : Name) (a : ℕ) → AmongSites s sites → Kept s temps temps' vars vars'
-        → Away s f → IsThere s f → is_address (house s f).kind ≡ true → vars (variable_of (house s f)) ≡ Some a
+        → Away s f → IsThere s f → holds_address (house s f) ≡ true → vars (variable_of (house s f)) ≡ Some a
         → vars' (variable_of (house s f)) ≡ Some a
     variable_kept s temps temps' vars vars' f a i k away there address h =
         by (houses table blocks s f (site_at table blocks sites s linked i).body there).where_is
@@ -391,7 +456,7 @@ module _ (table : List TypeDef) (blocks : Code BlockLine) (small : data_end tabl
         by : Housing (room s.body) FIXED_BYTES (data_end table blocks) s.body.start (house s f) → vars' (variable_of (house s f)) ≡ Some a
         by (in_variable v is plain low is_word) = absurd (false_true (sym plain ∙ address))
         by (by_address v is y low) =
-            ap vars' (ap variable_in is) ∙ k.variables f v there away is ∙ ap vars (sym (ap variable_in is)) ∙ h
+            ap vars' (ap variable_in is) ∙ k.variables f v there away (home_variable table blocks s f v there is) ∙ ap vars (sym (ap variable_in is)) ∙ h
         by (in_places at is plain whole within) = absurd (false_true (sym plain ∙ address))
         by (in_data at is plain whole low within start) = absurd (false_true (sym plain ∙ address))
 
@@ -408,7 +473,7 @@ module _ (table : List TypeDef) (blocks : Code BlockLine) (small : data_end tabl
           address = x.address;
           holds = variable_kept s temps temps' vars vars' (of_location t) x.address i kept away
               (record { among = named.among; number = named.number; kind = named.kind; own = own })
-              (location_address (house s (of_location t)).kind named.kind) x.holds;
+              (location_address (house s (of_location t)) named.kind) x.holds;
           leads = leads_kept from up s temps temps' vars vars' kept there x.address (looked table s (of_location t)) x.leads;
         }
         by (alias.Place p global) e x = record {
@@ -420,6 +485,7 @@ module _ (table : List TypeDef) (blocks : Code BlockLine) (small : data_end tabl
           is = x.is ∙ ap Located (sym (worlds.roots x.site p (up x.site x.among) x.is_there x.filled));
         }
         by (alias.Value u) e x = let y = kept.still u x.value x.has in record { is = x.is; value = y.0; has = y.1 }
+        by (alias.Node n) e x = x
         by (alias.Text behind size) e x = absurd x
 
     pub holding_kept : (from : List Site) (s : Site) (temps temps' : Temps) (vars vars' : Vars) → AmongSites s sites
@@ -432,12 +498,15 @@ module _ (table : List TypeDef) (blocks : Code BlockLine) (small : data_end tabl
       led = led;
       filled = filled;
       left = λ h. kept.left ∙ old.left h;
+      waits = waits;
+      once = worlds.once s i old.once;
     }
       where
         back : (f : Name) (x : Value) → IsThere s f → Away s f → HasValue w' (call s temps' vars') f x → HasValue w (call s temps vars) f x
         back (of_value t) x there away h = sym (kept.values t there away) ∙ h
         back (of_location t) x there away h = absurd h
         back (of_place n) x there away h = sym (worlds.slots s n i there away) ∙ h
+        back (of_waiting node) x there away h = sym (worlds.waits s node i away) ∙ h
 
         items : (f : Name) (x : Value) → IsThere s f → HasValue w' (call s temps' vars') f x → IsItem table k' (call s temps' vars') f x
         items f x there h = by (away_cases s f)
@@ -446,6 +515,23 @@ module _ (table : List TypeDef) (blocks : Code BlockLine) (small : data_end tabl
             by (inl y) = subst (λ g. IsItem table k' (call s temps' vars') g x) (sym y.1)
                 ((new y.0).item x (subst (λ g. IsThere s g) y.1 there) (subst (λ g. HasValue w' (call s temps' vars') g x) y.1 h))
             by (inr away) = item_kept s temps temps' vars vars' f x i kept away (old.items f x there (back f x there away h))
+
+        says : (node : ℕ) (o : Option Waiter) → waiter_at node s.body.own.waiters ≡ o → (slot : Option Slot)
+            → Away s (of_waiting node) → SaysAt o slot s.base vars → SaysAt o slot s.base vars'
+        says node None is slot away h = h
+        says node (Some w) is slot away h =
+            subst (λ word. Says slot word (s.base + w.at))
+            (sym (kept.variables (of_waiting node) w.variable (waiting_there s node w is) away (ap variable_at is))) h
+
+        waits : (node : ℕ) → SaysAt (waiter_at node s.body.own.waiters) (temporary_at w' s.level node) s.base vars'
+        waits node = by (away_cases s (of_waiting node))
+          where
+            by : ((s.level ≡ lo.level) × (of_waiting node ≡ e)) ⊎ Away s (of_waiting node)
+                → SaysAt (waiter_at node s.body.own.waiters) (temporary_at w' s.level node) s.base vars'
+            by (inl y) = (new y.0).waits node y.1
+            by (inr away) =
+                subst (λ o. SaysAt (waiter_at node s.body.own.waiters) o s.base vars') (sym (worlds.waits s node i away))
+                (says node (waiter_at node s.body.own.waiters) refl (temporary_at w s.level node) away (old.waits node))
 
         texts : (t behind bytes : ℕ) (x : Value) → IsNamed s (of_value t) → (house s (of_value t)).alias ≡ alias.Text behind bytes
             → temps'.values t ≡ Some x → IsLiteral s.body behind bytes x
@@ -463,10 +549,10 @@ module _ (table : List TypeDef) (blocks : Code BlockLine) (small : data_end tabl
             by (inl y) = (new y.0).led t there y.1 named h
             by (inr away) = led_kept from up s temps temps' vars vars' i kept t there named away (old.led t there named (sym (kept.places t away) ∙ h))
 
-        filled : (n : ℕ) → IsThere s (of_place n) → Filled w' s.level n → IsFilled table from k'.ground w' (call s temps' vars') n
+        filled : (n : ℕ) → IsThere s (of_place n) → Filled w' s.level n → IsFilled table blocks from k'.ground w' (call s temps' vars') n
         filled n there h = by (away_cases s (of_place n))
           where
-            by : ((s.level ≡ lo.level) × (of_place n ≡ e)) ⊎ Away s (of_place n) → IsFilled table from k'.ground w' (call s temps' vars') n
+            by : ((s.level ≡ lo.level) × (of_place n ≡ e)) ⊎ Away s (of_place n) → IsFilled table blocks from k'.ground w' (call s temps' vars') n
             by (inl y) = (new y.0).filled n y.1 h
             by (inr away) =
                 let slots = worlds.slots s n i there away in
@@ -478,8 +564,9 @@ module _ (table : List TypeDef) (blocks : Code BlockLine) (small : data_end tabl
                     slot = slots ∙ y.slot;
                     address = y.address;
                     holds = variable_kept s temps temps' vars vars' (of_place n) y.address i kept away there
-                        (declared_address (house s (of_place n)).kind there.kind other) y.holds;
-                    leads = owned_kept from up y.location y.address (looked table s (of_place n)) y.leads;
+                        (declared_address (house s (of_place n)) there.kind other) y.holds;
+                    owned = y.owned;
+                    leads = leads_kept from up s temps temps' vars vars' kept (Located y.location) y.address (looked table s (of_place n)) y.leads;
                   };
                 }
 

@@ -7,6 +7,7 @@ use Rattle.flat_code.specs.declared.block.BlockLine.{BlockLine}
 use Rattle.flat_code.specs.declared.code.Code.{Code}
 use Rattle.flat_code.specs.Codes.{block_plain}
 use Rattle.flat_code.specs.Sizes.{code_texts, distinct_texts}
+use Rattle.word_lowering.specs.declared.handed.TheConstants.{LEFT_HANDLE_AT}
 use Rattle.word_lowering.specs.declared.texts.TheConstants.{FIXED_BYTES}
 use Rattle.word_lowering.specs.declared.may_lower.TheConstants.{MOST_DATA}
 use Rattle.word_lowering.specs.Texts.{padded, all_names, joined_all, ends_from, texts_at, laid_texts, place_among, or_zero}
@@ -38,7 +39,7 @@ module _ (table : List TypeDef) (blocks : Code BlockLine) where
     pub laid_there : (text : List ℕ) → is_member same_text (code_texts block_plain blocks.procs) text ≡ true → LaidAt text
     laid_there text among =
         let there = is_laid distinct text (unique_has (code_texts block_plain blocks.procs) text ∙ among) in
-        let zeros : List ℕ = replicate (globals table blocks - FIXED_BYTES) 0 in
+        let zeros : List ℕ = replicate (globals table blocks - LEFT_HANDLE_AT) 0 in
         let front : List ℕ = fixed table blocks ++ zeros in
         let joined : List ℕ = joined_all (all_names table) in
         let names : List ℕ = padded joined in
@@ -62,7 +63,7 @@ module _ (table : List TypeDef) (blocks : Code BlockLine) where
         let b = length-append (fixed table blocks) zeros in
         let c = length-append ends (names ++ there.before) in
         let d = length-append names there.before in
-        let z = zeros_length (globals table blocks - FIXED_BYTES) in
+        let z = zeros_length (globals table blocks - LEFT_HANDLE_AT) in
         record {
           before = front ++ middle;
           after = there.after ++ tail;

@@ -14,7 +14,7 @@ use Rattle.flat_code.specs.declared.place.FlatPlace.{FlatPlace}
 use Rattle.flat_code.specs.Fits.{is_global}
 use Rattle.word_lowering.specs.declared.homes.TheConstants.{FIRST}
 use Rattle.word_lowering.specs.declared.homes.Alias.{Alias}
-use Rattle.word_lowering.specs.declared.homes.Alias.TheVariants.{Own, Place, Value, Text}
+use Rattle.word_lowering.specs.declared.homes.Alias.TheVariants.{Own, Place, Value, Node, Text}
 use Rattle.word_lowering.specs.declared.homes.Home.{Home}
 use Rattle.word_lowering.specs.declared.homes.Home.TheVariants.{Variable, Placed, Static}
 use Rattle.word_lowering.specs.declared.homes.Housed.{Housed}
@@ -97,6 +97,7 @@ whole_by : (alias : Alias) (low high : Free) → low.byte % 4 ≡ 0 → high.byt
 whole_by Own low high e f = f
 whole_by (Place p global) low high e f = e
 whole_by (Value t) low high e f = e
+whole_by (Node n) low high e f = e
 whole_by (Text behind bytes) low high e f = e
 
 home_below : (alias : Alias) (static kept : Bool) (bytes : ℕ) (free : Free) (n : ℕ) → FIRST < n
@@ -106,6 +107,7 @@ home_below Own false true bytes free n some le = omega (arith, le)
 home_below Own false false bytes free n some le = tt
 home_below (Place p global) static kept bytes free n some le = some
 home_below (Value t) static kept bytes free n some le = some
+home_below (Node m) static kept bytes free n some le = some
 home_below (Text behind more) static kept bytes free n some le = some
 
 -- a parameter has a home

@@ -2,39 +2,38 @@
 use Rattle.std.proofs.Common.{◌≡◌, ◌≢◌, ◌⊎◌, inl, inr, ℕ, List, [], map, Option, Some, None, Bool, true, false, refl, sym, ap, subst, ◌∙◌, arith}
 use Rattle.std.specs.Prelude.{nat_eq}
 use Rattle.std.proofs.lemmas.Bool.{eqb-true, and_parts, cond-true, cond-false, eq-eqb, ne_eqb}
-use Rattle.nim_meaning.specs.Values.{Standing, Slot}
+use Rattle.nim_meaning.specs.Values.{Standing, Slot, at_base, Waiting}
 use Rattle.nim_meaning.specs.State.{slot_at}
 use Rattle.nim_meaning.specs.Places.{place_at, root_of, rooted, made}
 use Rattle.flat_code.specs.declared.block.BlockLine.{BlockLine}
 use Rattle.flat_code.specs.declared.line.Line.TheVariants as L
 use Rattle.flat_code.specs.Fits as fit
-use Rattle.flat_code.specs.Fits.{is_location, place_type}
+use Rattle.flat_code.specs.Fits.{is_location, place_type, is_standing}
 use Rattle.flat_code.specs.Scene.{Where, Located, Within, with_place, Fails, Passes, Temps}
 use Rattle.flat_code.specs.Lines.{leads, level_at, is_there}
 use Rattle.word_code.specs.Words.{Vars}
 use Rattle.word_lowering.specs.declared.homes.Alias.{Alias}
 use Rattle.word_lowering.specs.declared.homes.Alias.TheVariants as alias
-use Rattle.word_lowering.specs.declared.homes.Home.TheVariants.{Variable}
 use Rattle.word_lowering.specs.declared.homes.TheConstants.{LEFT}
 use Rattle.word_lowering.specs.MayLower.{same_alias}
 use Rattle.flat_code.specs.Running.{scene_of}
-use Rattle.nim_meaning.specs.Deeds.{Answers}
+use Rattle.nim_meaning.specs.Deeds.{Answers, give}
 use Rattle.nim_program.specs.Kinds.{is_of}
 use Rattle.nim_types.specs.Types.{Ty}
 use Rattle.word_code.proofs.ForCallers.{at, none}
 use Rattle.word_lowering.proofs.HeapKept.{heap_same}
-use Rattle.word_lowering.proofs.ControlLines.{FollowedHere, plain}
-use Rattle.word_lowering.proofs.Keeping.{nowhere, Kept, New, call, location_no_place, value_no_location, worlds_same}
+use Rattle.word_lowering.proofs.ControlLines.{FollowedHere, SettlesHere, plain}
+use Rattle.word_lowering.proofs.Keeping.{nowhere, Kept, New, call, location_no_place, value_no_location, worlds_same, location_no_waiting}
 use Rattle.word_lowering.proofs.LineFits.{are_of}
 use Rattle.word_lowering.proofs.Lines.{Basis, IsGood, Settles, all_sites, branch_settles, changed, fits_here, good_changed, known, stands_next, starts}
 use Rattle.word_lowering.proofs.Lines.{stays_on, using_settles, waits_below}
 use Rattle.word_lowering.proofs.Options.{some_same}
 use Rattle.word_lowering.proofs.ReadFacts.{start_site}
 use Rattle.word_lowering.proofs.Related.{Both, StandAt, body_of, called_by, high, within, store_of}
-use Rattle.word_lowering.proofs.Scenes.{Filled, IsLed, IsLedBy, IsThere, Name, house, number_in, of_location, of_place, site_of}
+use Rattle.word_lowering.proofs.Scenes.{Filled, IsLed, IsLedBy, IsThere, Name, house, number_in, of_location, of_place, site_of, HasVariable, of_waiting}
 use Rattle.word_lowering.proofs.Settling.{LabelsLead, code_here, code_next}
 use Rattle.word_lowering.proofs.ShapeFacts.{never}
-use Rattle.word_lowering.proofs.Sites.{AmongSites, Site, globals_of, sigs}
+use Rattle.word_lowering.proofs.Sites.{AmongSites, Site, globals_of, sigs, type_of}
 use Rattle.word_lowering.proofs.Targets.{location_alias}
 use Rattle.word_lowering.proofs.ValueFacts.{has_type, place_there, type_in}
 
@@ -43,6 +42,7 @@ use Rattle.word_lowering.proofs.ValueFacts.{has_type, place_there, type_in}
 place_alias : (a : Alias) (p : ℕ) (global : Bool) → same_alias a (alias.Place p global) ≡ true → a ≡ alias.Place p global
 place_alias alias.Own p global h = never h
 place_alias (alias.Value t) p global h = never h
+place_alias (alias.Node n) p global h = never h
 place_alias (alias.Text n size) p global h = never h
 place_alias (alias.Place q true) p true h = ap (λ n. alias.Place n true) (eqb-true q p (and_parts (nat_eq q p) true h).0)
 place_alias (alias.Place q false) p false h = ap (λ n. alias.Place n false) (eqb-true q p (and_parts (nat_eq q p) true h).0)
@@ -52,8 +52,16 @@ place_alias (alias.Place q false) p true h = never (and_parts (nat_eq q p) false
 value_alias_is : (a : Alias) (t : ℕ) → same_alias a (alias.Value t) ≡ true → a ≡ alias.Value t
 value_alias_is alias.Own t h = never h
 value_alias_is (alias.Value u) t h = ap alias.Value (eqb-true u t h)
+value_alias_is (alias.Node n) t h = never h
 value_alias_is (alias.Text n size) t h = never h
 value_alias_is (alias.Place q other) t h = never h
+
+node_alias_is : (a : Alias) (n : ℕ) → same_alias a (alias.Node n) ≡ true → a ≡ alias.Node n
+node_alias_is alias.Own n h = never h
+node_alias_is (alias.Node m) n h = ap alias.Node (eqb-true m n h)
+node_alias_is (alias.Value t) n h = never h
+node_alias_is (alias.Text m size) n h = never h
+node_alias_is (alias.Place q other) n h = never h
 
 module _ (x : Basis) (g : Both) (line : BlockLine) (rest : List BlockLine) (y : IsGood x (starts g line rest)) where
   abbrev site : Site
@@ -61,7 +69,7 @@ module _ (x : Basis) (g : Both) (line : BlockLine) (rest : List BlockLine) (y : 
 
   -- a temporary leads elsewhere
   module _ (to : ℕ) (there : Where) (vars : Vars)
-      (others : (f : Name) (u : ℕ) → IsThere g.call.site f → f ≢ of_location to → (house g.call.site f).home ≡ Variable u → vars u ≡ g.call.vars u)
+      (others : (f : Name) (u : ℕ) → IsThere g.call.site f → f ≢ of_location to → HasVariable g.call.site f u → vars u ≡ g.call.vars u)
       (left : vars LEFT ≡ g.call.vars LEFT)
       (leads_to : IsLed x.table x.blocks (all_sites x g line rest y) g.ground g.world (call g.call.site (with_place to g.call.temps there) vars) to there) where
     abbrev led_temps : Temps
@@ -95,6 +103,7 @@ module _ (x : Basis) (g : Both) (line : BlockLine) (rest : List BlockLine) (y : 
           (subst (IsLed x.table x.blocks (all_sites x g line rest y) g.ground g.world (call g.call.site led_temps vars) to) (same u other (ap number_in e) h)
           leads_to);
       filled = λ n e h. absurd (location_no_place to n (sym e));
+      waits = λ n e. absurd (location_no_waiting to n (sym e));
     }
       where
         same : (u : ℕ) (other : Where) → u ≡ to → led_temps.places u ≡ Some other → there ≡ other
@@ -151,7 +160,7 @@ module _ (x : Basis) (labels : LabelsLead x) (g : Both) (rest : List BlockLine) 
       record { site = g.call.site; among = inl refl; level = refl; there = place_there x g.call.site p y.linked.0 typed.named }
 
   pub root_line : (p : ℕ) (global : Bool) → FollowedHere x labels g rest (L.Root to p global)
-  root_line p global y =
+  root_line p global names y =
       let line = root_here p global in
       let place_type : Option Ty = fit.any_place (known x) (sigs x.table x.blocks) (globals_of x.table x.blocks) (body_of g).proc.places p global in
       let f = and_parts (is_of (type_in x is_location (body_of g) to) place_type) _ (fits_here x.table x.blocks (body_of g) line rest y.stands) in
@@ -172,9 +181,21 @@ module _ (x : Basis) (labels : LabelsLead x) (g : Both) (rest : List BlockLine) 
       (λ h before. tt)
 
   pub fresh_line : (from : ℕ) → FollowedHere x labels g rest (L.Fresh to from None)
-  fresh_line from y =
+  fresh_line from names y =
       let line = plain (L.Fresh to from None) in
       let a = value_alias_is (house g.call.site (of_location to)).alias from (location_alias x g line rest y to (alias.Value from) refl refl) in
       using_settles x (starts g line rest) rest (g.call.temps.values from)
       (λ v. leads (scene_of (high x.table x.blocks (starts g line rest))) to (Within from []) (made v))
       (λ v e. named_settles x g line rest y to (Within from []) (alias.Value from) 0 a (record { is = refl; value = v; has = e }) refl)
+
+  -- to where the value waits, if it may: the temporary is of its type, and only read
+  pub fresh_at_node : (from node : ℕ) → IsThere g.call.site (of_waiting node)
+      → type_of x.table (house g.call.site (of_waiting node)) ≡ type_of x.table (house g.call.site (of_location to))
+      → is_standing (house g.call.site (of_location to)).kind ≡ false → SettlesHere x labels g rest (L.Fresh to from (Some node))
+  fresh_at_node from node there_is typed read_only y =
+      let line = plain (L.Fresh to from (Some node)) in
+      let a = node_alias_is (house g.call.site (of_location to)).alias node (location_alias x g line rest y to (alias.Node node) refl refl) in
+      using_settles x (starts g line rest) rest (g.call.temps.values from)
+      (λ v. leads (scene_of (high x.table x.blocks (starts g line rest))) to (Within from []) (give (at_base (Waiting g.call.site.level node))))
+      (λ v e. named_settles x g line rest y to (Located (at_base (Waiting g.call.site.level node))) (alias.Node node) 0 a
+      (record { is = refl; is_there = there_is; typed = typed; read_only = read_only }) refl)

@@ -8,6 +8,9 @@ mod Arithmetic
 mod BasisOf
 mod BaseValues
 mod BitFacts
+mod BitClears
+mod BitMoves
+mod BlankShapes
 mod BlockPaths
 mod BlockRanges
 mod BlockHomes
@@ -64,6 +67,8 @@ mod Fronts
 mod FullValues
 mod Gets
 mod GivenLines
+mod HookedMoves
+mod HookedReads
 mod HandRuns
 mod HandedLines
 mod HandedPlaces
@@ -71,6 +76,8 @@ mod HeapChanged
 mod HeapKept
 mod GoodHomes
 mod OpenCells
+mod OwnedFronts
+mod OwnedNames
 mod PlaceWorlds
 mod GoodRows
 mod GoodLeads
@@ -102,6 +109,7 @@ mod NamedCode
 mod NamedLines
 mod JoinedRoutines
 mod NamedProcs
+mod NamesIn
 mod NamesRoom
 mod NewCalls
 mod NewStates
@@ -163,6 +171,7 @@ mod StoredParts
 mod Stores
 mod SwapLines
 mod SwapRuns
+mod OwnedWeights
 mod Targets
 mod TextLines
 mod TextRoom
@@ -181,3 +190,6 @@ mod WholeCode
 mod WriteLines
 mod WrittenLines
 mod WaiterHomes
+mod Waiters
+mod Waiting
+mod Temporaries

@@ -257,7 +257,22 @@ pub record RowOf (s : Shape) : Type 0 where
   pub is : s ≡ row count of
   pub fits : is_int_number (pos count) ≡ true
 
-pub array_shape : (facts : Facts) (ty : Ty) → has_length (kind_of facts ty) ≡ true → of_numbers (shape_of facts ty) ≡ true → RowOf (shape_of facts ty)
+-- neither a text nor a sequence
+abbrev pub no_handle : Shape → Bool
+no_handle block = false
+no_handle (elements s) = false
+no_handle s = true
+
+pub numbers_no_handle : (s : Shape) → of_numbers s ≡ true → no_handle s ≡ true
+numbers_no_handle (number values) o = refl
+numbers_no_handle reference o = refl
+numbers_no_handle block o = o
+numbers_no_handle (elements s) o = o
+numbers_no_handle (row n s) o = refl
+numbers_no_handle (parts ss) o = refl
+numbers_no_handle (resource ss) o = refl
+
+pub array_shape : (facts : Facts) (ty : Ty) → has_length (kind_of facts ty) ≡ true → no_handle (shape_of facts ty) ≡ true → RowOf (shape_of facts ty)
 array_shape facts type.int h o = never h
 array_shape facts type.bool h o = never h
 array_shape facts type.char h o = never h
@@ -293,7 +308,7 @@ declared_no_element facts ty of h =
     never (sym (declared_other (λ k. is_of (Some of) (element_of k)) (λ n. refl) (λ own ts. refl) (λ t. refl) refl refl (fact_of facts ty)) ∙ h)
 
 -- what has elements and is made of numbers is an array
-pub elements_shape : (facts : Facts) (ty of : Ty) → is_of (Some of) (element_of (kind_of facts ty)) ≡ true → of_numbers (shape_of facts ty) ≡ true
+pub elements_shape : (facts : Facts) (ty of : Ty) → is_of (Some of) (element_of (kind_of facts ty)) ≡ true → no_handle (shape_of facts ty) ≡ true
     → (n : ℕ) × (shape_of facts ty ≡ row n (shape_of facts of))
 elements_shape facts type.int of h o = never h
 elements_shape facts type.bool of h o = never h

@@ -5,9 +5,12 @@ use Rattle.std.proofs.Common.{Option, Some, None, refl, arith}
 use Rattle.std.proofs.lemmas.List.{length-map}
 use Rattle.nim_types.specs.declared.types.TypeDef.{TypeDef}
 use Rattle.nim_types.specs.declared.types.TypeDef.TheVariants as D
+use Rattle.nim_program.specs.declared.operation.Measure.{Measure}
+use Rattle.nim_program.specs.declared.operation.Measure.TheVariants.{Len}
 use Rattle.nim_program.specs.declared.operation.Operation.{Operation}
 use Rattle.nim_program.specs.declared.operation.Operation.TheVariants as O
 use Rattle.nim_program.specs.declared.operation.Operator.{Operator}
+use Rattle.nim_program.specs.Traps.{LengthChanged}
 use Rattle.flat_code.specs.declared.line.From.{From}
 use Rattle.flat_code.specs.declared.line.Line.{Line}
 use Rattle.flat_code.specs.declared.line.Line.TheVariants as L
@@ -15,7 +18,8 @@ use Rattle.flat_code.specs.declared.line.Piece.{Piece}
 use Rattle.flat_code.specs.declared.line.Piece.TheVariants as P
 use Rattle.flat_code.specs.Whole.{label_in}
 use Rattle.word_code.specs.declared.word.WordInstr.{WordInstr}
-use Rattle.word_code.specs.declared.word.WordInstr.TheVariants.{Spend, Constant, Argument, Call, Return, Place, Load, Store}
+use Rattle.word_code.specs.declared.word.Test.TheVariants as test
+use Rattle.word_code.specs.declared.word.WordInstr.TheVariants.{Spend, Constant, Argument, Branch, Call, Return, Place, Load, Store}
 use Rattle.rv32_isa.specs.declared.micro_op.Size.TheVariants.{Word as whole}
 use Rattle.word_code.specs.declared.routine.TheConstants.{SWAP}
 use Rattle.word_lowering.specs.declared.homes.TheConstants.{LEFT, FIRST, SECOND, THIRD, FOURTH, FIFTH}
@@ -29,15 +33,20 @@ use Rattle.word_lowering.specs.declared.spots.Spot.TheVariants.{Held, Lies}
 use Rattle.word_lowering.specs.declared.texts.TheConstants.{LINE_END_AT}
 use Rattle.word_lowering.specs.Aliases.{text_in}
 use Rattle.word_lowering.specs.Layouts.{params_in, result_in}
-use Rattle.word_lowering.specs.Operations.{word, binary_code}
+use Rattle.word_lowering.specs.Operations.{word, binary_code, trap_label}
 use Rattle.word_lowering.specs.Spots.{spot_of, shifted, address, moved, moves, passes, cleared, clears, starts, handed}
 use Rattle.word_lowering.specs.Stored.{part_at, entry_at, base_at, limit_at}
 use Rattle.word_lowering.specs.LineCode as code
+use Rattle.word_lowering.specs.OwnedCode as owned
+use Rattle.word_lowering.specs.RoutineCode.{join_code}
 use Rattle.word_lowering.specs.LineCode.{Around, arguments_of}
 use Rattle.word_lowering.proofs.Fronts.{Coding, IsFront, front_on, front_none, front_more, front_address, moved_front, cleared_front, handed_front}
 use Rattle.word_lowering.proofs.Fronts.{binary_front, turn_front, turn_if_front, unary_front, compare_front, narrow_front, unless_front, beyond_front}
 use Rattle.word_lowering.proofs.Fronts.{fits_front}
 use Rattle.word_lowering.proofs.KeptCode.{behind_front, owning_front}
+use Rattle.word_lowering.proofs.OwnedFronts.{added_front, appended_front, compared_front, element_read_front, enough_front, joined_front, measured_front}
+use Rattle.word_lowering.proofs.OwnedFronts.{new_front, owned_element_front, owned_item_front, popped_front, read_front, sequence_front, shown_front}
+use Rattle.word_lowering.proofs.OwnedFronts.{sized_front, told_front, word_argument_front}
 
 module _ (own many : ℕ) where
   moves_front : (to from : Housed) → IsFront own many (moves to from)
@@ -99,15 +108,10 @@ module _ (own many : ℕ) where
   item_front to (Placed at) index count bytes = record { is = λ k. refl; fine = (inl (omega arith), tt) }
   item_front to (Static at) index count bytes = record { is = λ k. refl; fine = (inl (omega arith), tt) }
 
-  word_argument_front : (index : ℕ) (home : Home) → IsFront own many (code.word_argument index home)
-  word_argument_front index (Variable v) = record { is = λ k. refl; fine = tt }
-  word_argument_front index (Placed at) = record { is = λ k. refl; fine = tt }
-  word_argument_front index (Static at) = record { is = λ k. refl; fine = tt }
-
   swap_front : (left right : Home) (bytes : ℕ) → IsFront own many (code.swap_code left right bytes)
   swap_front left right bytes =
-      front_on own many (code.word_argument 0 left) (λ k. code.word_argument 1 right (called k)) (word_argument_front 0 left)
-      (front_on own many (code.word_argument 1 right) called (word_argument_front 1 right) (record { is = λ k. refl; fine = tt }))
+      front_on own many (code.word_argument 0 left) (λ k. code.word_argument 1 right (called k)) (word_argument_front own many 0 left)
+      (front_on own many (code.word_argument 1 right) called (word_argument_front own many 1 right) (record { is = λ k. refl; fine = tt }))
     where
       called : Coding
       called k = Constant THIRD bytes ∷ Argument 2 THIRD ∷ Call FIRST SWAP ∷ k
@@ -124,11 +128,12 @@ module _ (own many : ℕ) where
   text_front at zero = front_none own many
   text_front at (suc n) = record { is = λ k. refl; fine = tt }
 
-  literal_front : (place : (behind bytes : ℕ) → ℕ) (other : Alias) → IsFront own many (code.literal_code place other)
-  literal_front place alias.Own = front_none own many
-  literal_front place (alias.Place p global) = front_none own many
-  literal_front place (alias.Value t) = front_none own many
-  literal_front place (alias.Text behind bytes) = text_front (place behind bytes) bytes
+  told_by_front : (place : (behind bytes : ℕ) → ℕ) (other : Alias) (home : Home) → IsFront own many (code.told_code place other home)
+  told_by_front place alias.Own home = told_front own many home
+  told_by_front place (alias.Place p global) home = told_front own many home
+  told_by_front place (alias.Value t) home = told_front own many home
+  told_by_front place (alias.Node n) home = told_front own many home
+  told_by_front place (alias.Text behind bytes) home = text_front (place behind bytes) bytes
 
   number_front : (from : ℕ) → IsFront own many (code.number_code from)
   number_front from = record { is = λ k. refl; fine = tt }
@@ -187,7 +192,7 @@ module _ (own many : ℕ) where
     -- ---- calls
 
     argument_front : 7 < own → (i : ℕ) (param : Home) (from : Housed) → i ≤ many → IsFront own many (code.argument_code x (own + 2 * i) param from)
-    argument_front high i (Variable v) from few = word_argument_front v from.home
+    argument_front high i (Variable v) from few = word_argument_front own many v from.home
     argument_front high i (Placed at) from few =
         front_more own many (Place FIRST (x.own.free.byte + at)) (handed (own + 2 * i) from.bytes (spot_of from)) refl
         (handed_front own many high i from.bytes (spot_of from) few)
@@ -237,7 +242,7 @@ module _ (own many : ℕ) where
     written_front (Some D.Int) enum from = number_front (code.variable_of from)
     written_front (Some D.Bool) enum from = record { is = λ k. refl; fine = tt }
     written_front (Some D.Char) enum from = record { is = λ k. refl; fine = tt }
-    written_front (Some D.Text) enum from = literal_front (code.literal_at x) from.alias
+    written_front (Some D.Text) enum from = told_by_front (code.literal_at x) from.alias from.home
     written_front (Some (D.Enum name at members)) enum from =
         record { is = λ k. refl; fine = tt }
     written_front (Some (D.Seq i)) enum from = front_none own many
@@ -261,6 +266,33 @@ module _ (own many : ℕ) where
 
     -- ---- operations
 
+    measure_front : (handle : Bool) (measure : Measure) (to : ℕ) (from : Housed) → IsFront own many (code.measure_code x handle measure to from)
+    measure_front true measure to from = measured_front own many measure to from.home
+    measure_front false measure to from = record { is = λ k. refl; fine = tt }
+
+    -- ---- elements
+
+    item_at_front : (handle : Bool) (to from index : ℕ) → IsFront own many (code.item_at x handle to from index)
+    item_at_front true to from index =
+        owned_item_front own many (code.led x to) (code.location x from).home (code.held x index) (owned.each_bytes x.table (code.entry_from x from))
+    item_at_front false to from index =
+        item_front (code.led x to) (code.location x from).home (code.held x index) (code.count_at x from) (code.bytes_each x from)
+
+    element_at_front : (handle : Bool) (from index : ℕ) (to : Housed) → IsFront own many (code.element_at x handle from index to)
+    element_at_front true from index to =
+        let size : ℕ = owned.each_bytes x.table (code.entry_from x from) in
+        front_on own many (owned.owned_element_code FIFTH (code.location x from).home (code.held x index) size)
+        (owned.element_read (owned.is_text (code.entry_from x from)) to)
+        (owned_element_front own many FIFTH (code.location x from).home (code.held x index) size)
+        (element_read_front own many (owned.is_text (code.entry_from x from)) to)
+    element_at_front false from index to =
+        front_on own many (code.element_code FIFTH (code.location x from).home (code.held x index) (code.bytes_each x from))
+        (moved to.is_word to.bytes (spot_of to) (Lies (Variable FIFTH)))
+        (element_front FIFTH (code.location x from).home (code.held x index) (code.bytes_each x from))
+        (moved_front own many to.is_word to.bytes (spot_of to) (Lies (Variable FIFTH)))
+
+    -- ---- rows
+
     row_front : 7 < own → (operation : Operation) (ty : Option ℕ) (of : List (Option ℕ)) (to : Housed) (hs : List Housed)
         → IsFront own many (code.row_code x operation own ty of to hs)
     row_front high O.Default ty of to hs = starts_front to.bytes to
@@ -268,26 +300,47 @@ module _ (own many : ℕ) where
     row_front high (O.Binary operator) ty of to hs =
         binary_front own many high operator (code.variable_of to) (code.variable_of (code.operand_at hs 0)) (code.variable_of (code.operand_at hs 1))
     row_front high (O.Compare c) ty of to hs =
-        compare_front own many c (code.variable_of to) (code.variable_of (code.operand_at hs 0)) (code.variable_of (code.operand_at hs 1))
+        enough_front own many 2 hs (code.compared_code x text c (code.variable_of to) of hs) (by text)
+      where
+        text : Bool
+        text = owned.is_text (owned.entry_of x.table (owned.type_of of 0))
+
+        by : (b : Bool) → IsFront own many (code.compared_code x b c (code.variable_of to) of hs)
+        by true = compared_front own many x c (code.variable_of to) of hs (owned.left_of x of hs) (owned.right_of x of hs)
+        by false = compare_front own many c (code.variable_of to) (code.variable_of (code.operand_at hs 0)) (code.variable_of (code.operand_at hs 1))
     row_front high O.Convert ty of to hs = converted_front (limit_at x.table ty) to (code.operand_at hs 0)
-    row_front high O.Join ty of to hs = front_none own many
-    row_front high O.Show ty of to hs = front_none own many
+    row_front high O.Join ty of to hs =
+        enough_front own many 2 hs (λ k. owned.two_made x of hs (join_code to.home (owned.left_of x of hs) (owned.right_of x of hs) k))
+        (joined_front own many x to.home of hs (owned.left_of x of hs) (owned.right_of x of hs))
+    row_front high O.Show ty of to hs =
+        enough_front own many 1 hs
+        (owned.shown_code x (owned.entry_of x.table (owned.type_of of 0)) to.home (owned.type_of of 0) (code.operand_at hs 0))
+        (shown_front own many x (owned.entry_of x.table (owned.type_of of 0)) to.home (owned.type_of of 0) (code.operand_at hs 0))
     row_front high O.Make ty of to hs = parts_front to.home hs
-    row_front high O.Sequence ty of to hs = front_none own many
-    row_front high O.NewSequence ty of to hs = front_none own many
-    row_front high (O.Measure measure) ty of to hs = record { is = λ k. refl; fine = tt }
+    row_front high O.Sequence ty of to hs = sequence_front own many to.home (owned.size_in x to) hs
+    row_front high O.NewSequence ty of to hs = new_front own many to.home (code.variable_of (code.operand_at hs 0)) (owned.size_in x to)
+    row_front high (O.Measure measure) ty of to hs =
+        measure_front (owned.has_handle (entry_at x.table (code.operand_at hs 0).ty)) measure (code.variable_of to) (code.operand_at hs 0)
     row_front high O.IsNil ty of to hs = front_none own many
     row_front high O.Echo ty of to hs =
         front_on own many (code.texts_code x of hs) (code.text_code LINE_END_AT 1) (texts_front of hs) (text_front LINE_END_AT 1)
     row_front high O.Quit ty of to hs = quit_front hs
     row_front high O.ReadLine ty of to hs = front_none own many
-    row_front high O.ReadLineInto ty of to hs = front_none own many
+    row_front high O.ReadLineInto ty of to hs = read_front own many (code.variable_of to) (code.operand_at hs 0).home
     row_front high O.Assign ty of to hs = moves_front (code.operand_at hs 0) (code.operand_at hs 1)
     row_front high (O.Update operator) ty of to hs = update_front high operator hs
-    row_front high O.Add ty of to hs = front_none own many
-    row_front high O.Append ty of to hs = front_none own many
-    row_front high O.SetLength ty of to hs = front_none own many
-    row_front high O.Pop ty of to hs = front_none own many
+    row_front high O.Add ty of to hs = added_front own many (code.operand_at hs 0).home (owned.size_in x (code.operand_at hs 0)) (code.operand_at hs 1)
+    row_front high O.Append ty of to hs =
+        appended_front own many x (owned.type_of of 1) (code.operand_at hs 1) (code.operand_at hs 0).home (owned.right_of x of hs)
+    row_front high O.SetLength ty of to hs =
+        let there : Housed = code.operand_at hs 0 in
+        let n : ℕ = code.variable_of (code.operand_at hs 1) in
+        enough_front own many 2 hs
+        (λ k. owned.counted_code n (owned.sized_code x (owned.is_text (entry_at x.table there.ty)) own there.ty there.home n k))
+        (sized_front own many x high (owned.is_text (entry_at x.table there.ty)) there.ty there.home n)
+    row_front high O.Pop ty of to hs =
+        enough_front own many 1 hs (owned.popped_code to (code.operand_at hs 0).home (owned.size_in x (code.operand_at hs 0)))
+        (popped_front own many to (code.operand_at hs 0).home (owned.size_in x (code.operand_at hs 0)))
     row_front high O.Move ty of to hs =
         front_on own many (moves to (code.operand_at hs 0)) (clears (code.operand_at hs 0)) (moves_front to (code.operand_at hs 0))
         (clears_front (code.operand_at hs 0))
@@ -327,8 +380,7 @@ line_front x (L.Fresh to from waits) own high plain = front_none own 0
 line_front x (L.Standing to ty pieces) own high plain = record { is = λ k. refl; fine = tt }
 line_front x (L.Part to from field) own high plain =
     part_front own 0 (code.led x to) (code.location x from).home (part_at x.table (code.location x from).ty field)
-line_front x (L.Item to from index) own high plain =
-    item_front own 0 (code.led x to) (code.location x from).home (code.held x index) (code.count_at x from) (code.bytes_each x from)
+line_front x (L.Item to from index) own high plain = item_at_front own 0 x (owned.has_handle (code.entry_from x from)) to from index
 line_front x (L.Object to from) own high plain = front_none own 0
 line_front x (L.Pass to from how ty) own high plain = passes_front own 0 (code.value x from).bytes (code.value x to) (code.value x from)
 line_front x (L.Truth to holds) own high plain = record { is = λ k. refl; fine = tt }
@@ -336,14 +388,15 @@ line_front x (L.Fill p from) own high plain = moves_front own 0 (code.own_place 
 line_front x (L.Blank p ty) own high plain = clears_front own 0 (code.own_place x p)
 line_front x (L.Give p from) own high plain = moves_front own 0 (code.own_place x p) (code.value x from)
 line_front x (L.Zero to) own high plain = record { is = λ k. refl; fine = tt }
-line_front x (L.Length to from) own high plain = record { is = λ k. refl; fine = tt }
-line_front x (L.Still from len) own high plain = record { is = λ k. refl; fine = (inl (omega arith), tt) }
+line_front x (L.Length to from) own high plain =
+    measure_front own 0 x (owned.has_handle (code.entry_from x from)) Len (code.held x to) (code.location x from)
+line_front x (L.Still from len) own high plain =
+    front_on own 0 (code.measure_code x (owned.has_handle (code.entry_from x from)) Len FIRST (code.location x from))
+    (λ k. Branch test.Unequal (code.held x len) FIRST (trap_label LengthChanged) ∷ k)
+    (measure_front own 0 x (owned.has_handle (code.entry_from x from)) Len FIRST (code.location x from))
+    (record { is = λ k. refl; fine = (inl (omega arith), tt) })
 line_front x (L.Element to from index) own high plain =
-    let v : Housed = code.value x to in
-    front_on own 0 (code.element_code FIFTH (code.location x from).home (code.held x index) (code.bytes_each x from))
-    (moved v.is_word v.bytes (spot_of v) (Lies (Variable FIFTH)))
-    (element_front own 0 FIFTH (code.location x from).home (code.held x index) (code.bytes_each x from))
-    (moved_front own 0 v.is_word v.bytes (spot_of v) (Lies (Variable FIFTH)))
+    element_at_front own 0 x (owned.has_handle (code.entry_from x from)) from index (code.value x to)
 line_front x (L.Beyond counter last inclusive to) own high plain =
     beyond_front own 0 inclusive (code.held x counter) (code.held x last) (code.own_label to) (far to)
 line_front x (L.Next counter last) own high plain = record { is = λ k. refl; fine = tt }

@@ -1,5 +1,6 @@
 -- How lines of block code are followed, and what is true behind one that changes one place.
 use Rattle.std.proofs.Common.{◌≡◌, ◌≢◌, ◌⊎◌, inl, inr, ℕ, zero, suc, ◌+◌, ◌*◌, ◌<◌, ◌≤◌, List, [], ◌∷◌, ◌++◌, length, drop}
+use Rattle.word_lowering.specs.declared.texts.TheConstants.{FIXED_BYTES}
 use Rattle.std.proofs.Common.{map, Option, Some, None, Bool, true, false}
 use Rattle.std.proofs.Common.{refl, sym, ap, subst, ◌∙◌, arith, append_assoc}
 use Rattle.std.specs.Prelude.{option_map, slice_get, ◌%◌, ◌==◌, ◌&&◌}
@@ -29,18 +30,21 @@ use Rattle.nim_types.specs.Types.{Ty}
 use Rattle.flat_code.specs.Fits.{operation_fits}
 use Rattle.word_lowering.proofs.ShapeFacts.{of_numbers, nth_shape}
 use Rattle.flat_code.specs.Shapes.{Shape, number, parts, Shapes}
-use Rattle.word_lowering.specs.Stored.{limit_at, part_at}
+use Rattle.word_lowering.specs.OwnedCode.{is_text}
+use Rattle.word_lowering.specs.Stored.{entry_at, limit_at, part_at}
 use Rattle.flat_code.specs.declared.line.From.{From}
 use Rattle.flat_code.specs.Lines.{using_all, fetch}
 use Rattle.flat_code.specs.declared.block.BlockLine.{BlockLine}
 use Rattle.flat_code.specs.declared.code.Code.{Code}
 use Rattle.word_code.specs.declared.word.TheConstants.{SPARE_ROOM}
 use Rattle.word_code.specs.declared.word.WordProc.{WordProc}
+use Rattle.rv32_isa.specs.declared.micro_op.Size.{Size}
 use Rattle.rv32_isa.specs.declared.micro_op.Size.TheVariants.{Byte}
+use Rattle.rv32_isa.specs.Steps.{size_of}
 use Rattle.word_code.specs.declared.routine.TheConstants.{SCRATCH_BYTES}
 use Rattle.word_code.specs.Routines.{HasData, IsKept}
 use Rattle.word_code.specs.RoutineTable.{RoutineName, Copies, Clears, Swaps, routine}
-use Rattle.word_code.specs.Memory.{Memory, as_state, may_put}
+use Rattle.word_code.specs.Memory.{KeepsShape, Memory, as_state, may_put}
 use Rattle.word_code.specs.Words.{Vars, WordState, step, Fresh, step_of}
 use Rattle.word_code.specs.Words.{spent, scene_of, onward as word_onward, does as word_does, settled as word_settled, Spends as WordSpends}
 use Rattle.word_code.proofs.ForCallers.{MemoryLaw, Runs, at, one, then_runs}
@@ -52,28 +56,25 @@ use Rattle.flat_code.specs.Fits.{Signature, fits}
 use Rattle.flat_code.specs.Running.{Machine, Counting, Going, Standing, onward, settled, spends}
 use Rattle.flat_code.specs.Running.{within as within_units}
 use Rattle.flat_code.specs.Codes.{block_label, block_does, procs_of, block_plain}
-use Rattle.word_lowering.specs.declared.homes.TheConstants.{OWN_FROM}
-use Rattle.word_lowering.specs.declared.homes.Home.TheVariants.{Variable}
-use Rattle.word_lowering.specs.declared.texts.TheConstants.{FIXED_BYTES}
 use Rattle.word_lowering.specs.declared.may_lower.TheConstants.{MOST_DATA}
-use Rattle.word_lowering.specs.LineCode.{variable_in, value}
+use Rattle.word_lowering.specs.LineCode.{value}
 use Rattle.word_lowering.specs.Lowered.{data_at, lowered}
 use Rattle.word_lowering.specs.Runtimes.{Runtimes, with_runtimes}
 use Rattle.word_lowering.proofs.RoutineCalls.{Reaches}
-use Rattle.word_lowering.proofs.Sites.{Body, room, Housing, in_variable, by_address, in_places, in_data, InMemory, Site, AmongSites, next_base, data_end}
-use Rattle.word_lowering.proofs.Sites.{Linked, around, sigs, globals_of}
+use Rattle.word_lowering.proofs.Sites.{Body, Site, AmongSites, next_base, data_end}
+use Rattle.word_lowering.proofs.Sites.{Linked, around, sigs, globals_of, is_one_word}
 use Rattle.word_lowering.proofs.Blocks.{HasHeap}
 use Rattle.word_lowering.proofs.HeapKept.{SameHeap, heap_then}
-use Rattle.word_lowering.proofs.Scenes.{Ground, is_fixed, IsLater, Name, of_value, Call, site_of, house, IsThere, Holding}
-use Rattle.word_lowering.proofs.SitesApart.{houses, site_at}
+use Rattle.word_lowering.proofs.Scenes.{Ground, is_fixed, IsLater, Name, of_value, Call, site_of, Holding}
+use Rattle.word_lowering.proofs.SitesApart.{site_at, variable_high}
 use Rattle.word_lowering.proofs.Keeping.{AmongCalls, call, Edit, nowhere, Worlds, worlds_same, Kept, New, holding_kept, all_kept, later_ground}
 use Rattle.word_lowering.proofs.OrdinalRuns.{AllSame}
 use Rattle.word_lowering.proofs.Callees.{Callee}
 use Rattle.word_lowering.proofs.KeptCode.{kept_quiet}
-use Rattle.word_lowering.proofs.Related.{Both, body_of, called_by, sites_of, with_rest, with_units, procs, low, high, within as call_within, code_behind, code_past, IsClosed, routines}
+use Rattle.word_lowering.proofs.Related.{Both, body_of, called_by, sites_of, with_rest, with_units, procs, low, high, within as call_within, code_behind}
+use Rattle.word_lowering.proofs.Related.{code_past, IsClosed, routines}
 use Rattle.word_lowering.proofs.Related.{MemoryGood}
 use Rattle.word_lowering.proofs.Related.{StandAt, AllFrames, Good, StandsThere, store_of, store_with}
-use Rattle.rv32_isa.specs.Regions.{KeepsSizes}
 use Rattle.arc_base.proofs.ForCallers.{steps_none, steps_one, steps_on}
 use Rattle.word_code.specs.declared.word.WordInstr.{WordInstr}
 use Rattle.flat_code.specs.declared.line.Piece.{Piece}
@@ -82,6 +83,7 @@ use Rattle.flat_code.specs.Pieces.{piece_words, standing_bytes}
 use Rattle.std.specs.Set.{is_member}
 use Rattle.nim_types.specs.Types.{same_text}
 use Rattle.flat_code.specs.Sizes.{code_texts}
+use Rattle.word_lowering.proofs.BlankShapes.{blank_in, of_handles}
 
 -- what stays the same in all runs of a code
 pub record Basis : Type 0 where
@@ -98,9 +100,11 @@ pub record Basis : Type 0 where
   -- what a type starts at has its shape
   pub defaults : (ty : ℕ) → has_shape (default_of (facts_in table) (type_at (types_in table) ty)) (shape_of (facts_in table) (type_at (types_in table) ty))
       ≡ true
+  pub blanks : (ty : ℕ) → default_of (facts_in table) (type_at (types_in table) ty) ≡ blank_in (shape_of (facts_in table) (type_at (types_in table) ty))
   -- what is compared is a number, unless it comes with the heap
   pub compared : (ty : ℕ) (comparison : Comparison) → is_compared comparison (plain_kind (facts_in table) (type_at (types_in table) ty)) ≡ true
-      → is_hooked table ty ≡ false → (values : Option ℕ) × (shape_of (facts_in table) (type_at (types_in table) ty) ≡ number values)
+      → is_hooked table ty ≡ false
+      → (values : Option ℕ) × (shape_of (facts_in table) (type_at (types_in table) ty) ≡ number values) × (is_text (entry_at table ty) ≡ false)
   -- what comes without the heap is made of numbers
   pub plains : (ty : ℕ) → is_hooked table ty ≡ false → of_numbers (shape_of (facts_in table) (type_at (types_in table) ty)) ≡ true
   pub unhooked : (ty : ℕ) → is_hooked table ty ≡ false → hooked (form_of (facts_in table) (type_at (types_in table) ty)) ≡ false
@@ -111,14 +115,23 @@ pub record Basis : Type 0 where
   pub fields : (ty field : ℕ) (of : Ty) → field_at (kind_of (facts_in table) (type_at (types_in table) ty)) field ≡ Some of
       → of_numbers (shape_of (facts_in table) (type_at (types_in table) ty)) ≡ true → of_numbers (shape_of (facts_in table) of) ≡ true
       → (all : Shapes) × (shape_of (facts_in table) (type_at (types_in table) ty) ≡ parts all) × (nth_shape all field ≡ Some (shape_of (facts_in table) of))
+  pub built_fields : (ty field : ℕ) (of : Ty) → field_at (kind_of (facts_in table) (type_at (types_in table) ty)) field ≡ Some of
+      → of_handles (shape_of (facts_in table) (type_at (types_in table) ty)) ≡ true
+      → is_one_word (shape_of (facts_in table) (type_at (types_in table) ty)) ≡ false
+      → (all : Shapes) × (shape_of (facts_in table) (type_at (types_in table) ty) ≡ parts all) × (nth_shape all field ≡ Some (shape_of (facts_in table) of))
   -- an object in which there is a value has parts, each of the shape of its field
   pub objects : (ty : ℕ) → is_built (kind_of (facts_in table) (type_at (types_in table) ty)) ≡ true
       → of_numbers (shape_of (facts_in table) (type_at (types_in table) ty)) ≡ true
       → (all : Shapes) × (shape_of (facts_in table) (type_at (types_in table) ty) ≡ parts all)
       × ((field : ℕ) (of : Ty) → field_at (kind_of (facts_in table) (type_at (types_in table) ty)) field ≡ Some of
       → nth_shape all field ≡ Some (shape_of (facts_in table) of))
+  pub built_objects : (ty : ℕ) → is_built (kind_of (facts_in table) (type_at (types_in table) ty)) ≡ true
+      → of_handles (shape_of (facts_in table) (type_at (types_in table) ty)) ≡ true
+      → (all : Shapes) × (shape_of (facts_in table) (type_at (types_in table) ty) ≡ parts all)
+      × ((field : ℕ) (of : Ty) → field_at (kind_of (facts_in table) (type_at (types_in table) ty)) field ≡ Some of
+      → nth_shape all field ≡ Some (shape_of (facts_in table) of))
   -- where they stand, by the table
-  pub parts_at : (ty : ℕ) → hooked (form_of (facts_in table) (type_at (types_in table) ty)) ≡ false → (all : Shapes) (field : ℕ) (s : Shape)
+  pub parts_at : (ty : ℕ) (all : Shapes) (field : ℕ) (s : Shape)
       → shape_of (facts_in table) (type_at (types_in table) ty) ≡ parts all → nth_shape all field ≡ Some s
       → part_at table ty field ≡ shapes_before all field
   -- conversions: of a value that has the other type's shape too, or of a number that is checked
@@ -147,6 +160,9 @@ pub record Basis : Type 0 where
       → is_member same_text (code_texts block_plain blocks.procs) (standing_bytes pieces) ≡ true → StandsThere table blocks first pieces
   -- a character may be put at the front of the data
   pub letter : (places : List ℕ) → may_put (record first { places = places }) data_at Byte ≡ true
+  -- and handles for operands, in front of the globals
+  pub handles : FIXED_BYTES ≤ data_end table blocks → (places : List ℕ) (i : ℕ) (size : Size) → i + size_of size ≤ FIXED_BYTES
+      → ((data_at + i) % size_of size == 0) ≡ true → may_put (record first { places = places }) (data_at + i) size ≡ true
 
 -- a program's procedures and those of routines
 abbrev pub all_procs : Basis → List WordProc
@@ -161,8 +177,8 @@ module _ (x : Basis) (sites : List Site) (m : Memory) (good : MemoryGood x.table
   abbrev pub with_these : Memory
   with_these = record x.first { places = m.places }
 
-  pub same_sizes : KeepsSizes (as_state with_these) (as_state m)
-  same_sizes = record { regs = refl; pc = refl; code = refl; statics = good.statics; heap = good.heap; stack = refl }
+  pub same_sizes : KeepsShape (as_state with_these) (as_state m)
+  same_sizes = record { regs = refl; pc = refl; code = refl; statics = good.statics; heap = good.heap; stack = refl; bytes = λ first. good.bytes }
 
   pub data_there : HasData (routines x.table x.blocks) x.runtimes.others.statics m
   data_there =
@@ -175,6 +191,12 @@ module _ (x : Basis) (sites : List Site) (m : Memory) (good : MemoryGood x.table
   pub letter_there : may_put m data_at Byte ≡ true
   letter_there =
       ap (λ b. (data_at % 1 == 0) && b) (x.law.stores (as_state with_these) (as_state m) data_at 1 same_sizes) ∙ x.letter m.places
+
+  pub handle_there : FIXED_BYTES ≤ data_end x.table x.blocks → (i : ℕ) (size : Size) → i + size_of size ≤ FIXED_BYTES
+      → ((data_at + i) % size_of size == 0) ≡ true → may_put m (data_at + i) size ≡ true
+  handle_there least i size within whole =
+      ap (λ b. ((data_at + i) % size_of size == 0) && b) (x.law.stores (as_state with_these) (as_state m) (data_at + i) (size_of size) same_sizes)
+      ∙ x.handles least m.places i size within whole
 
 -- ---- where lines stand
 
@@ -263,7 +285,7 @@ module _ (x : Basis) where
 
   -- from a state of word code on
   abbrev pub FollowsFrom : WordState → Both → Next Event (Machine BlockLine) → Type 0
-  FollowsFrom t g n = (before : ℕ) → Does machine (AreOf pairs) lines_left 16 (before, t) (going g) (next_map (Going g.units) n)
+  FollowsFrom t g n = (before : ℕ) → Does machine (AreOf pairs) lines_left 256 (before, t) (going g) (next_map (Going g.units) n)
 
   abbrev pub Follows : Both → Next Event (Machine BlockLine) → Type 0
   Follows g n = FollowsFrom (low x.table x.blocks g) g n
@@ -277,7 +299,7 @@ module _ (x : Basis) where
 
   abbrev pub Settles : Both → List BlockLine → Did → Type 0
   Settles g rest d = (before : ℕ) →
-      Does machine (AreOf pairs) lines_left 16 (before, low x.table x.blocks g) (going g) (within_units (is_spent d) g.units (settles g rest d))
+      Does machine (AreOf pairs) lines_left 256 (before, low x.table x.blocks g) (going g) (within_units (is_spent d) g.units (settles g rest d))
 
   -- ---- what comes of a line
 
@@ -320,16 +342,17 @@ module _ (x : Basis) where
   past_is [] g good = refl
   past_is (line ∷ rest) g good =
       ap (λ k. at (call_within x.table x.blocks g) g.memory k g.call.vars g.words)
-      (kept_quiet x.table (body_of g).own.waiters (value (around x.table x.blocks (body_of g))) (block_plain line) (code_behind x.table x.blocks (body_of g) g.rest)
+      (kept_quiet x.table (body_of g).own.waiters (value (around x.table x.blocks (body_of g))) (block_plain line)
+      (code_behind x.table x.blocks (body_of g) g.rest)
       good.linked.0.waiters)
 
-  -- so many silent lines
-  pub goes_from : (t : WordState) (g g' : Both) (rest : List BlockLine) (good : IsGood g') (n w : ℕ) (temps : Temps) (world : World)
-      → Runs x.live (all_procs x) n t (low_past g.rest g') → 0 < n → n ≤ 16 * w
+  -- so many silent lines, with what a line's value waits in
+  pub arrives_from : (t : WordState) (g g' : Both) (rest : List BlockLine) (good : IsGood g') (n w : ℕ) (temps : Temps) (world : World)
+      → Runs x.live (all_procs x) n t (low x.table x.blocks g') → 0 < n → n ≤ 256 * w
       → going g' ≡ Going g.units (onward (high x.table x.blocks g) rest temps world)
       → FollowsFrom t g (settles g rest (Passes (Answers [] w temps world)))
-  goes_from t g g' rest good n w temps world runs some few e = λ before.
-      let r = (subst (Runs x.live (all_procs x) n t) (past_is g.rest g' good) runs).by x.fresh before in (
+  arrives_from t g g' rest good n w temps world runs some few e = λ before.
+      let r = runs.by x.fresh before in (
         (r.0, low x.table x.blocks g'),
         n,
         record { work = r.1.work; within = omega (arith, r.1.within, few); by = r.1.by },
@@ -337,8 +360,16 @@ module _ (x : Basis) where
         inl some,
       )
 
+  -- where nothing waits
+  pub goes_from : (t : WordState) (g g' : Both) (rest : List BlockLine) (good : IsGood g') (n w : ℕ) (temps : Temps) (world : World)
+      → Runs x.live (all_procs x) n t (low_past g.rest g') → 0 < n → n ≤ 256 * w
+      → going g' ≡ Going g.units (onward (high x.table x.blocks g) rest temps world)
+      → FollowsFrom t g (settles g rest (Passes (Answers [] w temps world)))
+  goes_from t g g' rest good n w temps world runs some few e =
+      arrives_from t g g' rest good n w temps world (subst (Runs x.live (all_procs x) n t) (past_is g.rest g' good) runs) some few e
+
   pub goes_on : (g g' : Both) (rest : List BlockLine) (good : IsGood g') (n w : ℕ) (temps : Temps) (world : World)
-      → Runs x.live (all_procs x) n (low x.table x.blocks g) (low_past g.rest g') → 0 < n → n ≤ 16 * w
+      → Runs x.live (all_procs x) n (low x.table x.blocks g) (low_past g.rest g') → 0 < n → n ≤ 256 * w
       → going g' ≡ Going g.units (onward (high x.table x.blocks g) rest temps world) → Settles g rest (Passes (Answers [] w temps world))
   goes_on g g' rest good n w temps world runs some few e = goes_from (low x.table x.blocks g) g g' rest good n w temps world runs some few e
 
@@ -349,7 +380,7 @@ module _ (x : Basis) where
   stays_on g g' rest good w temps world same e less = λ before. (
     (before, low x.table x.blocks g),
     0,
-    steps_none machine (before, low x.table x.blocks g) (16 * w),
+    steps_none machine (before, low x.table x.blocks g) (256 * w),
     (inl (g', good, before), ap (λ s. (before, s)) (sym (past_is g.rest g' good) ∙ same), e),
     inr less,
   )
@@ -400,17 +431,17 @@ module _ (x : Basis) where
 
   abbrev Spends : Both → List BlockLine → Did → Option ℕ → Type 0
   Spends g rest d units = (before : ℕ) →
-      Does machine (AreOf pairs) lines_left 16 (before, low x.table x.blocks g) (going g) (within_units true units (settles g rest d))
+      Does machine (AreOf pairs) lines_left 256 (before, low x.table x.blocks g) (going g) (within_units true units (settles g rest d))
 
   -- Behind some lines word code spends a unit, where block code does, and goes on with what is left; or it stands still.
   pub spends_settles : (g : Both) (rest : List BlockLine) (d : Did) → is_spent d ≡ true → (l : WordInstr) (k : List WordInstr) (vars words : Vars)
-      → IsSpending g l k vars words → (n : ℕ) → n ≤ 15 → Runs x.live (all_procs x) n (low x.table x.blocks g) (at_spend g l k vars words)
+      → IsSpending g l k vars words → (n : ℕ) → n ≤ 255 → Runs x.live (all_procs x) n (low x.table x.blocks g) (at_spend g l k vars words)
       → ((units : Option ℕ) → Runs x.live (all_procs x) (n + 1) (low x.table x.blocks g)
       (at (call_within x.table x.blocks (with_units g units)) g.memory k vars words) →
       FollowsFrom (low x.table x.blocks g) (with_units g units) (settles g rest d))
       → Settles g rest d
   spends_settles g rest d is l k vars words spending n few runs then =
-      subst (λ b. (before : ℕ) → Does machine (AreOf pairs) lines_left 16 (before, low x.table x.blocks g) (going g)
+      subst (λ b. (before : ℕ) → Does machine (AreOf pairs) lines_left 256 (before, low x.table x.blocks g) (going g)
       (within_units b g.units (settles g rest d))) (sym is) (by g.units refl)
     where
       by : (units : Option ℕ) → g.units ≡ units → Spends g rest d units
@@ -509,22 +540,13 @@ module _ (x : Basis) where
         above : Site
         above = record g.call.site { level = suc g.call.site.level }
 
-        high_home : (f : Name) (u : ℕ) → IsThere g.call.site f → (house g.call.site f).home ≡ Variable u → OWN_FROM ≤ u
-        high_home f u there home = by (houses x.table x.blocks g.call.site f y.linked.0 there).where_is
-          where
-            by : Housing (room (body_of g)) FIXED_BYTES (data_end x.table x.blocks) (body_of g).start (house g.call.site f) → OWN_FROM ≤ u
-            by (in_variable w e plain low is_word) = subst (λ n. OWN_FROM ≤ n) (ap variable_in (sym e ∙ home)) low
-            by (by_address w e address low) = subst (λ n. OWN_FROM ≤ n) (ap variable_in (sym e ∙ home)) low
-            by (in_places at e plain whole within) = absurd (subst InMemory (sym e ∙ home) tt)
-            by (in_data at e plain whole low within start) = absurd (subst InMemory (sym e ∙ home) tt)
-
         kept : Kept x.table x.blocks x.small all_sites y.linked above (of_value 0) g.call.site g.call.temps g.call.temps g.call.vars vars
         kept = record {
           values = λ t i a. refl;
           places = λ t a. refl;
           texts = λ t n k i e a. refl;
           still = λ t v h. (v, h);
-          variables = λ f u there a home. same.others u (high_home f u there home);
+          variables = λ f u there a own. same.others u (variable_high x.table x.blocks g.call.site f u y.linked.0 there own);
           left = same.left;
         }
 

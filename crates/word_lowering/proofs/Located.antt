@@ -17,18 +17,18 @@ use Rattle.word_lowering.proofs.BlockRanges.{block_range, block_whole}
 use Rattle.word_lowering.proofs.Blocks.{Blocks, Stored}
 use Rattle.word_lowering.proofs.FullValues.{full_shape}
 use Rattle.word_lowering.proofs.GoodHomes.{HomeOf, homes_apart, good_homes}
-use Rattle.word_lowering.proofs.GoodLeads.{owned_to, value_home}
+use Rattle.word_lowering.proofs.GoodLeads.{owned_to, value_home, waiting_home}
 use Rattle.word_lowering.proofs.InMemory.{IsAt}
-use Rattle.word_lowering.proofs.Keeping.{AmongCalls}
+use Rattle.word_lowering.proofs.Keeping.{AmongCalls, waiting_inside}
 use Rattle.word_lowering.proofs.LineFits.{row_length}
 use Rattle.word_lowering.proofs.Lines.{Basis, IsGood}
-use Rattle.word_lowering.proofs.NumbersStored.{numbers_at}
+use Rattle.word_lowering.proofs.NumbersStored.{at_numbers, numbers_at}
 use Rattle.word_lowering.proofs.OpenCells.{cell_by}
 use Rattle.word_lowering.proofs.PartsInMemory.{offset, part_within, offset_whole, part_at}
 use Rattle.word_lowering.proofs.PieceWords.{WordsAt, room_of, words_room, words_are, by_words}
 use Rattle.word_lowering.proofs.Related.{Both, calls_of, sites_of, text_part}
 use Rattle.word_lowering.proofs.Scenes.{is_fixed, address_of, Name, of_value, of_place, Call, house, IsThere, looked, FromBlock, FromOwned, FromPlace}
-use Rattle.word_lowering.proofs.Scenes.{FromValue}
+use Rattle.word_lowering.proofs.Scenes.{FromValue, of_waiting, FromWaiting}
 use Rattle.word_lowering.proofs.Scenes.{FromConstant, standing_from, Leads}
 use Rattle.word_lowering.proofs.ShapeFacts.{never, of_numbers, bytes_is, shape_bytes, values_of_numbers}
 use Rattle.word_lowering.proofs.ShapePaths.{PathTo, path_in, path_numbers, path_within}
@@ -117,6 +117,10 @@ module _ (x : Basis) (g : Both) (y : IsGood x g) where
       → Lies_at a (shape_bytes t)
   value_lying c i temp path a t f = part_lying c.site (of_value temp) path f.offset a t i f.there f.home f.leads f.address
 
+  pub waiting_lying : (l : Location) (a : ℕ) (t : Shape) → FromWaiting x.table sites l a t → Lies_at a (shape_bytes t)
+  waiting_lying l a t f =
+      part_lying f.site (of_waiting f.node) l.path f.offset a t f.among f.there (waiting_inside f.site f.node f.there) f.path f.address
+
   -- in the heap
   pub block_readable : (l : Location) (a : ℕ) (t : Shape) → FromBlock g.ground l a t → is_there g.world l ≡ true
       → Readable x sites y.linked g.memory a (shape_bytes t)
@@ -164,24 +168,40 @@ module _ (x : Basis) (g : Both) (y : IsGood x g) where
       let q = and_parts (is_there g.world l) (is_whole g.world (load g.world l)) p.0 in
       (q.0, q.1, p.1)
 
-  read_numbers : (l : Location) (a : ℕ) (t : Shape) → Leading l a t → of_numbers t ≡ true → is_full_at g.world l ≡ true
-      → Readable x sites y.linked g.memory a (shape_bytes t) → ReadHere (load g.world l) a t
-  read_numbers l a t f numbers full readable =
+  -- a value that is stored where it may be read
+  pub record IsStoredAt (v : Value) (a : ℕ) (t : Shape) : Type 0 where
+    pub stored : Stored (is_fixed g.ground) g.ground.blocks g.memory a t v
+    pub shaped : has_shape v t ≡ true
+    pub readable : Readable x sites y.linked g.memory a (shape_bytes t)
+
+  -- one of numbers
+  read_numbers : (v : Value) (a : ℕ) (t : Shape) → of_numbers t ≡ true → IsStoredAt v a t → ReadHere v a t
+  read_numbers v a t numbers r = record {
+    is_at = numbers_at (is_fixed g.ground) g.ground.blocks g.memory a t v numbers r.shaped r.stored;
+    shaped = r.shaped;
+    numbers = numbers;
+    readable = subst (λ n. Readable x sites y.linked g.memory a n) (sym (bytes_is v t numbers r.shaped)) r.readable;
+  }
+
+  leading_stored : (l : Location) (a : ℕ) (t : Shape) → Leading l a t → is_full_at g.world l ≡ true
+      → Readable x sites y.linked g.memory a (shape_bytes t) → IsStoredAt (load g.world l) a t
+  leading_stored l a t f full readable =
       let h = full_there l full in
       let stored = read_at (is_fixed g.ground) (HomeOf x g) (homes_apart x g y) g.ground.blocks g.world g.memory (good_homes x g y) l a t f h.0 in
-      let shaped = full_shape (is_fixed g.ground) g.ground.blocks g.memory a t (load g.world l) stored h.2 in
       record {
-        is_at = numbers_at (is_fixed g.ground) g.ground.blocks g.memory a t (load g.world l) numbers shaped stored;
-        shaped = shaped;
-        numbers = numbers;
-        readable = subst (λ n. Readable x sites y.linked g.memory a n) (sym (bytes_is (load g.world l) t numbers shaped)) readable;
+        stored = stored;
+        shaped = full_shape (is_fixed g.ground) g.ground.blocks g.memory a t (load g.world l) stored h.2;
+        readable = readable;
       }
 
   -- at a location that something owned is at
+  owned_stored : (l : Location) (a : ℕ) (t : Shape) → FromOwned x.table sites g.ground g.world l a t → is_full_at g.world l ≡ true
+      → IsStoredAt (load g.world l) a t
+  owned_stored l a t f full = leading_stored l a t (owned_to x g y l a t f) full (owned_readable l a t f (full_there l full).0)
+
   pub owned_located : (l : Location) (a : ℕ) (t : Shape) → FromOwned x.table sites g.ground g.world l a t → of_numbers t ≡ true
       → is_full_at g.world l ≡ true → ReadHere (load g.world l) a t
-  owned_located l a t f numbers full =
-      read_numbers l a t (owned_to x g y l a t f) numbers full (owned_readable l a t f (full_there l full).0)
+  owned_located l a t f numbers full = read_numbers (load g.world l) a t numbers (owned_stored l a t f full)
 
   -- a part of a constant
   constant_located : (location : Location) (a : ℕ) (t : Shape) → FromConstant x.table x.blocks location a t → ReadHere (load g.world location) a t
@@ -215,19 +235,37 @@ module _ (x : Basis) (g : Both) (y : IsGood x g) where
           → standing_from x.table x.blocks f.pieces + (b - standing_from x.table x.blocks f.pieces) ≡ b
       from_base b low = omega (arith, low)
 
+  constant_stored : (l : Location) (a : ℕ) (t : Shape) → FromConstant x.table x.blocks l a t → IsStoredAt (load g.world l) a t
+  constant_stored l a t f =
+      let r = constant_located l a t f in
+      record {
+        stored = at_numbers (is_fixed g.ground) g.ground.blocks g.memory a t (load g.world l) r.numbers r.shaped r.is_at;
+        shaped = r.shaped;
+        readable = subst (λ n. Readable x sites y.linked g.memory a n) (bytes_is (load g.world l) t r.numbers r.shaped) r.readable;
+      }
+
   -- what a line reads at a location, where all of it is there
+  pub led_stored : (c : Call) → AmongCalls c (calls_of g) → AmongSites c.site (sites_of g) → (there : Where) (a : ℕ) (t : Shape)
+      → is_full_at g.world (location_at c.temps there) ≡ true → Leads x.table x.blocks (sites_of g) g.ground g.world c.site c.temps there a t
+      → IsStoredAt (load g.world (location_at c.temps there)) a t
+  led_stored c i s (Located location) a t full (inl l) = owned_stored location a t (inl l) full
+  led_stored c i s (Located location) a t full (inr (inl l)) = constant_stored location a t l
+  led_stored c i s (Located location) a t full (inr (inr (inl l))) = owned_stored location a t (inr l) full
+  led_stored c i s (Located location) a t full (inr (inr (inr l))) =
+      leading_stored location a t (inl (waiting_home x g y location a t l (full_there location full).1)) full
+      (lying_readable x (sites_of g) y.linked g.memory a (shape_bytes t) y.memory (waiting_lying location a t l))
+  led_stored c i s (Within temp path) a t full l =
+      let at : Location = record { base = Made l.value; path = path; through = None } in
+      subst (λ o. IsStoredAt (part (if_value o) path) a t) (sym l.has)
+      (leading_stored at a t (inl (value_home x g y c i temp path a t l))
+      (subst (λ o. is_full_at g.world (record { base = Made (if_value o); path = path; through = None }) ≡ true) l.has full)
+      (lying_readable x (sites_of g) y.linked g.memory a (shape_bytes t) y.memory (value_lying c s temp path a t l)))
+
+  -- one of numbers
   pub led_located : (c : Call) → AmongCalls c (calls_of g) → AmongSites c.site (sites_of g) → (there : Where) (a : ℕ) (t : Shape) → of_numbers t ≡ true
       → is_full_at g.world (location_at c.temps there) ≡ true → Leads x.table x.blocks (sites_of g) g.ground g.world c.site c.temps there a t
       → ReadHere (load g.world (location_at c.temps there)) a t
-  led_located c i s (Located location) a t numbers full (inl l) = owned_located location a t (inl l) numbers full
-  led_located c i s (Located location) a t numbers full (inr (inl l)) = constant_located location a t l
-  led_located c i s (Located location) a t numbers full (inr (inr l)) = owned_located location a t (inr l) numbers full
-  led_located c i s (Within temp path) a t numbers full l =
-      let at : Location = record { base = Made l.value; path = path; through = None } in
-      subst (λ o. IsReadAt x (sites_of g) y.linked g.memory (part (if_value o) path) a t) (sym l.has)
-      (read_numbers at a t (inl (value_home x g y c i temp path a t l)) numbers
-      (subst (λ o. is_full_at g.world (record { base = Made (if_value o); path = path; through = None }) ≡ true) l.has full)
-      (lying_readable x (sites_of g) y.linked g.memory a (shape_bytes t) y.memory (value_lying c s temp path a t l)))
+  led_located c i s there a t numbers full l = read_numbers (load g.world (location_at c.temps there)) a t numbers (led_stored c i s there a t full l)
 
   -- an array there
   leading_row : (l : Location) (a n : ℕ) (s : Shape) → Leading l a (row n s) → is_seen g.world l ≡ true → RowRead (load g.world l) n
@@ -240,7 +278,10 @@ module _ (x : Basis) (g : Both) (y : IsGood x g) where
       → Leads x.table x.blocks (sites_of g) g.ground g.world c.site c.temps there a (row n s) → RowRead (load g.world (location_at c.temps there)) n
   led_row c i (Located location) a n s seen (inl l) = leading_row location a n s (owned_to x g y location a (row n s) (inl l)) seen
   led_row c i (Located location) a n s seen (inr (inl l)) = row_parts (load g.world location) n s (constant_located location a (row n s) l).shaped
-  led_row c i (Located location) a n s seen (inr (inr l)) = leading_row location a n s (owned_to x g y location a (row n s) (inr l)) seen
+  led_row c i (Located location) a n s seen (inr (inr (inl l))) = leading_row location a n s (owned_to x g y location a (row n s) (inr l)) seen
+  led_row c i (Located location) a n s seen (inr (inr (inr l))) =
+      let p = and_parts (is_there g.world location) (is_whole g.world (load g.world location)) seen in
+      leading_row location a n s (inl (waiting_home x g y location a (row n s) l p.1)) seen
   led_row c i (Within temp path) a n s seen l =
       let at : Location = record { base = Made l.value; path = path; through = None } in
       subst (λ o. RowRead (part (if_value o) path) n) (sym l.has)

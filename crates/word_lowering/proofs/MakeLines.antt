@@ -31,7 +31,7 @@ use Rattle.word_code.specs.declared.word.WordInstr.{WordInstr}
 use Rattle.word_code.specs.declared.word.WordInstr.TheVariants.{Label}
 use Rattle.word_code.proofs.ForCallers.{Changed, at, none as no_run, run_label}
 use Rattle.word_lowering.specs.declared.homes.Housed.{Housed}
-use Rattle.word_lowering.specs.Layouts.{is_address}
+use Rattle.word_lowering.specs.Layouts.{holds_address}
 use Rattle.word_lowering.specs.LineCode.{operands, parts_code}
 use Rattle.word_lowering.proofs.HeapKept.{heap_same}
 use Rattle.word_lowering.proofs.AddressFacts.{in_memory}
@@ -188,9 +188,10 @@ module _ (x : Basis) (labels : LabelsLead x) (g : Both) (rest : List BlockLine) 
   Made y vs = Settles x (starts g making rest) rest
       (Passes (Answers [] (1 + (bytes (Parts vs) + 0)) (with_value to g.call.temps (Parts vs)) g.world))
 
-  module _ (y : IsGood x (starts g making rest)) (there : IsThere g.call.site (of_value to)) (inside : InMemory into.home) where
-    plain_is : is_address into.kind ≡ false
-    plain_is = value_plain into.kind there.kind
+  module _ (y : IsGood x (starts g making rest)) (there : IsThere g.call.site (of_value to)) (inside : InMemory into.home)
+      (numbers : of_numbers (looked x.table g.call.site (of_value to)) ≡ true) where
+    plain_is : holds_address into ≡ false
+    plain_is = value_plain into there.kind
 
     abbrev next : List WordInstr
     next = code_next x g making rest y
@@ -216,18 +217,18 @@ module _ (x : Basis) (labels : LabelsLead x) (g : Both) (rest : List BlockLine) 
         } in
         stays_on x (starts g making rest) (changed g rest (with_value to g.call.temps (Parts Nil)) g.call.vars g.memory g.words g.awaits g.world)
         rest (good_value x g making rest y rest (stands_next x.table x.blocks (body_of g) making rest y.stands) (Label 0 ∷ next) next to (Parts Nil) 1
-        there shaped gets)
+        there numbers shaped gets)
         (1 + (bytes (Parts Nil) + 0)) (with_value to g.call.temps (Parts Nil)) g.world
         (ap (λ k. at (within x.table x.blocks g) g.memory k g.call.vars g.words) (sym none)) refl (omega arith)
 
     some_parts : (v : Value) (vs : Values) → has_shape (Parts (More v vs)) (looked x.table g.call.site (of_value to)) ≡ true
-        → of_numbers (looked x.table g.call.site (of_value to)) ≡ true → Come x g making rest y to from (More v vs) → Made y (More v vs)
-    some_parts v vs shaped numbers come =
+        → Come x g making rest y to from (More v vs) → Made y (More v vs)
+    some_parts v vs shaped come =
         let here : List WordInstr = code_here x g making rest y in
         let all : ℕ = bytes_all (More v vs) in
         let start : ℕ = address_of g.call.site.base into.home in
         let size : into.bytes ≡ bytes (Parts (More v vs))
-        = size_is x (all_sites x g making rest y) y.linked g.call (inl refl) (of_value to) there plain_is (Parts (More v vs)) shaped in
+        = size_is x (all_sites x g making rest y) y.linked g.call (inl refl) (of_value to) there plain_is (Parts (More v vs)) numbers shaped in
         let are = values_of_numbers (Parts (More v vs)) (looked x.table g.call.site (of_value to)) numbers shaped in
         let is_all : bytes (Parts (More v vs)) ≡ all = parts_bytes v vs are.0 in
         let least : 4 ≤ bytes v = bytes_some v are.0 in
@@ -246,8 +247,8 @@ module _ (x : Basis) (labels : LabelsLead x) (g : Both) (rest : List BlockLine) 
         let done = parts_moved x g making rest y to there inside from (More v vs) come into.home inside start refl (omega arith)
         (omega (arith, size, is_all))
         (address_whole x (all_sites x g making rest y) y.linked g.call.site (of_value to) (inl refl) there inside) here next 0 s0 in
-        value_settles x g making rest y to (Parts (More v vs)) (5 * all) (1 + (bytes (Parts (More v vs)) + 0)) there shaped
-        (gets_bytes x g making rest y (of_value to) there plain_is (Parts (More v vs)) shaped here next (5 * all) inside (record {
+        value_settles x g making rest y to (Parts (More v vs)) (5 * all) (1 + (bytes (Parts (More v vs)) + 0)) there numbers shaped
+        (gets_bytes x g making rest y (of_value to) there plain_is (Parts (More v vs)) numbers shaped here next (5 * all) inside (record {
           memory = done.sofar.memory;
           vars = done.sofar.vars;
           words = done.sofar.words;
@@ -261,9 +262,8 @@ module _ (x : Basis) (labels : LabelsLead x) (g : Both) (rest : List BlockLine) 
           runs = done.sofar.runs;
         })) (omega (arith, is_all))
 
-    made : (vs : Values) → has_shape (Parts vs) (looked x.table g.call.site (of_value to)) ≡ true
-        → of_numbers (looked x.table g.call.site (of_value to)) ≡ true → Come x g making rest y to from vs → Made y vs
-    made Nil shaped numbers come = no_parts (no_code from come) shaped
+    made : (vs : Values) → has_shape (Parts vs) (looked x.table g.call.site (of_value to)) ≡ true → Come x g making rest y to from vs → Made y vs
+    made Nil shaped come = no_parts (no_code from come) shaped
       where
         no_code : (from : List From) → Come x g making rest y to from Nil
             → parts_code (house g.call.site (of_value to)).home (operands (around x.table x.blocks (body_of g)) from) (code_next x g making rest y)
@@ -271,17 +271,17 @@ module _ (x : Basis) (labels : LabelsLead x) (g : Both) (rest : List BlockLine) 
         no_code [] come = refl
         no_code (F.Value t ∷ from) come = absurd come
         no_code (F.Place t ∷ from) come = absurd come
-    made (More v vs) shaped numbers come = some_parts v vs shaped numbers come
+    made (More v vs) shaped come = some_parts v vs shaped come
 
   pub make_line : RowHere x g rest to O.Make how ty of from
-  make_line y =
-      let f = applies x g rest to O.Make how ty of from y in
+  make_line names y =
+      let f = applies x g rest to O.Make how ty of from names y in
       let wants : List (Option Ty) = map (if_type (known x).types) of in
       let k : TypeKind = kind_if (facts_in x.table) (if_type (known x).types ty) in
       let p = and_parts (is_made k) (has_parts k (length wants) && are_parts k 0 wants) f.row in
       let s = some_kind (facts_in x.table) (if_type (known x).types ty) is_made refl p.0 in
       let typed = value_type_by (value_type x g making rest y to) (if_type (known x).types ty) s.0 f.given s.1 in
-      let t = target x g making rest y to s.0 refl refl typed in
+      let t = target x g making rest y to s.0 refl refl typed names.0 in
       let q = and_parts (has_parts (kind_of (facts_in x.table) s.0) (length wants)) (are_parts (kind_of (facts_in x.table) s.0) 0 wants)
       (subst (λ o. (has_parts (kind_if (facts_in x.table) o) (length wants) && are_parts (kind_if (facts_in x.table) o) 0 wants) ≡ true) s.1 p.1) in
       using_all_settles x (starts g making rest) rest g.call.temps from
@@ -289,9 +289,8 @@ module _ (x : Basis) (labels : LabelsLead x) (g : Both) (rest : List BlockLine) 
       (costs 1 (costs (bytes (Parts (values_in xs))) (give (Parts (values_in xs))))
       >>= made_by (gives_hooked (facts_in x.table) (if_type (known x).types ty)) (bound_for g how)))
       (λ xs has. let c = all_come x g making rest y to s.0 wants from xs s.2 q.0 q.1 f.typed f.placed has t.numbers t.look in
-      let inside = in_memory x g making rest y (of_value to) t.there (value_plain into.kind t.there.kind) (ap is_one_word t.look ∙ c.2) in
+      let inside = in_memory x g making rest y (of_value to) t.there (value_plain into t.there.kind) (ap is_one_word t.look ∙ c.2) in
       subst (λ b. Settles x (starts g making rest) rest (gives (scene_of (high x.table x.blocks (starts g making rest))) to
       (costs 1 (costs (bytes (Parts (values_in xs))) (give (Parts (values_in xs)))) >>= made_by b (bound_for g how))))
       (sym (ap (gives_hooked (facts_in x.table)) s.1 ∙ t.unhooked))
-      (made y t.there inside (values_in xs) (subst (λ u. has_shape (Parts (values_in xs)) u ≡ true) (sym t.look) c.1)
-      (ap of_numbers t.look ∙ t.numbers) c.0))
+      (made y t.there inside t.here (values_in xs) (subst (λ u. has_shape (Parts (values_in xs)) u ≡ true) (sym t.look) c.1) c.0))

@@ -28,7 +28,7 @@ use Rattle.word_lowering.specs.declared.homes.Home.TheVariants.{Variable, Placed
 use Rattle.word_lowering.specs.declared.homes.Housed.{Housed}
 use Rattle.word_lowering.specs.declared.spots.Spot.{Spot}
 use Rattle.word_lowering.specs.declared.spots.Spot.TheVariants.{Held, Lies}
-use Rattle.word_lowering.specs.Layouts.{is_address}
+use Rattle.word_lowering.specs.Layouts.{holds_address}
 use Rattle.word_lowering.specs.Spots as code
 use Rattle.word_lowering.specs.Operations as operations
 use Rattle.word_lowering.proofs.LayoutBounds.{IsBelow}
@@ -55,7 +55,7 @@ spot_by_below n true (Placed at) h = tt
 spot_by_below n true (Static at) h = tt
 
 pub spot_below : (n : ℕ) (h : Housed) → IsBelow n h.home → IsSpotBelow n (code.spot_of h)
-spot_below n h i = spot_by_below n (is_address h.kind) h.home i
+spot_below n h i = spot_by_below n (holds_address h) h.home i
 
 pub shifted_below : (n bytes : ℕ) (home : Home) → IsBelow n home → IsBelow n (code.shifted bytes home)
 shifted_below n bytes (Variable v) h = h

@@ -5,6 +5,8 @@ use Rattle.std.proofs.Common.{None, arith}
 use Rattle.nim_types.specs.declared.types.TypeDef.{TypeDef}
 use Rattle.nim_types.specs.declared.types.TypeDef.TheVariants as D
 use Rattle.word_code.specs.declared.word.TheConstants.{MOST_ARGUMENTS}
+use Rattle.nim_program.specs.declared.operation.Measure.{Measure}
+use Rattle.nim_program.specs.declared.operation.Measure.TheVariants.{Len}
 use Rattle.nim_program.specs.declared.operation.Operation.{Operation}
 use Rattle.nim_program.specs.declared.operation.Operation.TheVariants as O
 use Rattle.nim_program.specs.declared.operation.Operator.{Operator}
@@ -22,6 +24,7 @@ use Rattle.word_lowering.specs.declared.homes.Alias.TheVariants as alias
 use Rattle.word_lowering.specs.declared.homes.Home.{Home}
 use Rattle.word_lowering.specs.declared.homes.Home.TheVariants.{Variable, Placed, Static}
 use Rattle.word_lowering.specs.declared.homes.Housed.{Housed}
+use Rattle.word_lowering.specs.declared.homes.Waiter.{Waiter}
 use Rattle.word_lowering.specs.declared.spots.Spot.{Spot}
 use Rattle.word_lowering.specs.declared.spots.Spot.TheVariants.{Held, Lies}
 use Rattle.word_lowering.specs.Layouts.{found, params_in, result_in}
@@ -31,7 +34,9 @@ use Rattle.word_lowering.specs.declared.texts.TheConstants.{LINE_END_AT}
 use Rattle.word_lowering.specs.Aliases.{text_in}
 use Rattle.word_lowering.specs.Operations.{word}
 use Rattle.word_lowering.specs.LineCode.{Around}
+use Rattle.word_lowering.specs.WaitingCode.{waiter_at, waiter_house}
 use Rattle.word_lowering.specs.LineCode as lines
+use Rattle.word_lowering.specs.OwnedCode as owned
 use Rattle.word_lowering.proofs.HomesApart.{Each}
 use Rattle.word_lowering.proofs.KeptCode.{past_named, owning_named}
 use Rattle.word_lowering.proofs.LayoutBounds.{IsBelow, IsParamBelow, IsGlobalBelow, found_below, global_below, params_each}
@@ -39,12 +44,14 @@ use Rattle.word_lowering.proofs.NamedCode.{AllNamed, IsSpotBelow, spot_below, sh
 use Rattle.word_lowering.proofs.NamedCode.{binary_named, unary_named, compare_named, narrow_named, unless_named, turn_if_named}
 use Rattle.word_lowering.proofs.NamedCode.{fits_named, beyond_named, turn_named}
 use Rattle.word_lowering.proofs.NamedCode as named
+use Rattle.word_lowering.proofs.OwnedNames.{AllBelow, added_named, appended_named, at_below, compared_named, element_read_named, enough_named, joined_named}
+use Rattle.word_lowering.proofs.OwnedNames.{measured_named, new_named, owned_element_named, owned_item_named, popped_named, read_named, sequence_named}
+use Rattle.word_lowering.proofs.OwnedNames.{shown_named, sized_named, told_named, variable_is, word_argument_named}
 use Rattle.word_lowering.proofs.WaiterHomes.{AreBelow}
 
-variable_below : (n : ℕ) (home : Home) → FIRST < n → IsBelow n home → lines.variable_in home < n
-variable_below n (Variable v) some h = h
-variable_below n (Placed at) some h = some
-variable_below n (Static at) some h = some
+waiter_named : (vars : ℕ) (many : OWN_FROM ≤ vars) (there : Option Waiter) → IsBelow vars (waiter_house there).home
+waiter_named vars many None = first_is vars many
+waiter_named vars many (Some w) = tt
 
 -- what is around lines has variables below a bound, and parameters below that of arguments
 pub record IsAroundBelow (vars : ℕ) (x : Around) : Type 0 where
@@ -104,14 +111,6 @@ module _ (vars : ℕ) (many : OWN_FROM ≤ vars) where
       let a : FIRST < vars = first_is vars many in
       named.constant vars many a (named.compute vars many a i a (behind_named to home t h rest))
 
-  word_argument_named : (index : ℕ) (home : Home) {k : List WordInstr} → index < MOST_ARGUMENTS → IsBelow vars home → AllNamed vars k
-      → AllNamed vars (lines.word_argument index home k)
-  word_argument_named index (Variable v) i h rest = named.argument vars many i h rest
-  word_argument_named index (Placed at) i h rest =
-      named.place vars many (first_is vars many) (named.argument vars many i (first_is vars many) rest)
-  word_argument_named index (Static at) i h rest =
-      named.datum vars many (first_is vars many) (named.argument vars many i (first_is vars many) rest)
-
   -- ---- returns, and what is written
   back_named : (is_word : Bool) (spot : Spot) {k : List WordInstr} → IsSpotBelow vars spot → AllNamed vars k
       → AllNamed vars (lines.back_code is_word spot k)
@@ -134,11 +133,13 @@ module _ (vars : ℕ) (many : OWN_FROM ≤ vars) where
   text_named at zero rest = rest
   text_named at (suc n) rest = named.datum vars many (first_is vars many) (named.constant vars many (second_is vars many) (write_named rest))
 
-  literal_named : (place : (behind bytes : ℕ) → ℕ) (other : Alias) {k : List WordInstr} → AllNamed vars k → AllNamed vars (lines.literal_code place other k)
-  literal_named place alias.Own rest = rest
-  literal_named place (alias.Place p global) rest = rest
-  literal_named place (alias.Value t) rest = rest
-  literal_named place (alias.Text behind bytes) rest = text_named (place behind bytes) bytes rest
+  told_by_named : (place : (behind bytes : ℕ) → ℕ) (other : Alias) (home : Home) {k : List WordInstr} → IsBelow vars home → AllNamed vars k
+      → AllNamed vars (lines.told_code place other home k)
+  told_by_named place alias.Own home h rest = told_named vars many home h rest
+  told_by_named place (alias.Place p global) home h rest = told_named vars many home h rest
+  told_by_named place (alias.Value t) home h rest = told_named vars many home h rest
+  told_by_named place (alias.Node n) home h rest = told_named vars many home h rest
+  told_by_named place (alias.Text behind bytes) home h rest = text_named (place behind bytes) bytes rest
 
   bool_named : (from : ℕ) {k : List WordInstr} → from < vars → AllNamed vars k → AllNamed vars (lines.bool_code from k)
   bool_named from f rest =
@@ -176,6 +177,7 @@ module _ (vars : ℕ) (many : OWN_FROM ≤ vars) where
     named_below alias.Own own h = h
     named_below (alias.Place p global) own h = place_below p global
     named_below (alias.Value t) own h = value_below t
+    named_below (alias.Node node) own h = waiter_named vars many (waiter_at node x.own.waiters)
     named_below (alias.Text behind bytes) own h = h
 
     location_below : (t : ℕ) → IsBelow vars (lines.location x t).home
@@ -187,26 +189,15 @@ module _ (vars : ℕ) (many : OWN_FROM ≤ vars) where
     operand_below (F.Value t) = value_below t
     operand_below (F.Place t) = location_below t
 
-    abbrev AllBelow : List Housed → Type 0
-    AllBelow hs = Each (λ h. IsBelow vars h.home) hs
-
-    operands_below : (from : List From) → AllBelow (lines.operands x from)
+    operands_below : (from : List From) → AllBelow vars many (lines.operands x from)
     operands_below [] = tt
     operands_below (f ∷ from) = (operand_below f, operands_below from)
 
-    at_below : (hs : List Housed) (i : ℕ) → AllBelow hs → IsBelow vars (lines.operand_at hs i).home
-    at_below [] i e = first_is vars many
-    at_below (h ∷ hs) zero e = e.0
-    at_below (h ∷ hs) (suc i) e = at_below hs i e.1
-
-    variable_is : (h : Housed) → IsBelow vars h.home → lines.variable_of h < vars
-    variable_is h e = variable_below vars h.home (first_is vars many) e
-
     held_below : (t : ℕ) → lines.held x t < vars
-    held_below t = variable_is (lines.value x t) (value_below t)
+    held_below t = variable_is vars many (lines.value x t) (value_below t)
 
     led_below : (t : ℕ) → lines.led x t < vars
-    led_below t = variable_is (lines.location x t) (location_below t)
+    led_below t = variable_is vars many (lines.location x t) (location_below t)
 
     moves_named : (to from : Housed) {k : List WordInstr} → IsBelow vars to.home → IsBelow vars from.home → AllNamed vars k
         → AllNamed vars (moves to from k)
@@ -225,14 +216,14 @@ module _ (vars : ℕ) (many : OWN_FROM ≤ vars) where
     starts_named zero to t rest = rest
     starts_named (suc n) to t rest = clears_named to t rest
 
-    parts_named : (to : Home) (hs : List Housed) {k : List WordInstr} → IsBelow vars to → AllBelow hs → AllNamed vars k
+    parts_named : (to : Home) (hs : List Housed) {k : List WordInstr} → IsBelow vars to → AllBelow vars many hs → AllNamed vars k
         → AllNamed vars (lines.parts_code to hs k)
     parts_named to [] h e rest = rest
     parts_named to (v ∷ hs) h e rest =
         named.moved vars many v.is_word v.bytes (Lies to) (spot_of v) h (spot_below vars v e.0)
         (parts_named (shifted v.bytes to) hs (shifted_below vars v.bytes to h) e.1 rest)
 
-    fields_named : (to : Home) (ty : ℕ) (fields : List ℕ) (hs : List Housed) {k : List WordInstr} → IsBelow vars to → AllBelow hs → AllNamed vars k
+    fields_named : (to : Home) (ty : ℕ) (fields : List ℕ) (hs : List Housed) {k : List WordInstr} → IsBelow vars to → AllBelow vars many hs → AllNamed vars k
         → AllNamed vars (lines.fields_code x to ty fields hs k)
     fields_named to ty [] hs h e rest = rest
     fields_named to ty (field ∷ fields) [] h e rest = rest
@@ -244,12 +235,12 @@ module _ (vars : ℕ) (many : OWN_FROM ≤ vars) where
     -- ---- calls
     argument_named : (label : ℕ) (param : Home) (from : Housed) {k : List WordInstr} → IsBelow MOST_ARGUMENTS param → IsBelow vars from.home
         → AllNamed vars k → AllNamed vars (lines.argument_code x label param from k)
-    argument_named label (Variable v) from p f rest = word_argument_named v from.home p f rest
+    argument_named label (Variable v) from p f rest = word_argument_named vars many v from.home p f rest
     argument_named label (Placed at) from p f rest =
         named.place vars many (first_is vars many) (named.handed vars many label from.bytes (spot_of from) (spot_below vars from f) rest)
     argument_named label (Static at) from p f rest = rest
 
-    arguments_named : (label : ℕ) (params hs : List Housed) {k : List WordInstr} → Each (λ h. IsBelow MOST_ARGUMENTS h.home) params → AllBelow hs
+    arguments_named : (label : ℕ) (params hs : List Housed) {k : List WordInstr} → Each (λ h. IsBelow MOST_ARGUMENTS h.home) params → AllBelow vars many hs
         → AllNamed vars k → AllNamed vars (lines.arguments_code x label params hs k)
     arguments_named label [] hs p e rest = rest
     arguments_named label (q ∷ ps) [] p e rest = rest
@@ -287,7 +278,7 @@ module _ (vars : ℕ) (many : OWN_FROM ≤ vars) where
         named.copy vars many (second_is vars many) (left_is vars many)
         (named.sum vars many (first_is vars many) (second_is vars many) (named.branch vars many (second_is vars many) (first_is vars many) rest))
 
-    called_named : (runs : Bool) (label proc : ℕ) (ty : Option ℕ) (to : ℕ) (hs : List Housed) {k : List WordInstr} → AllBelow hs → AllNamed vars k
+    called_named : (runs : Bool) (label proc : ℕ) (ty : Option ℕ) (to : ℕ) (hs : List Housed) {k : List WordInstr} → AllBelow vars many hs → AllNamed vars k
         → AllNamed vars (lines.called_code x runs label proc ty to hs k)
     called_named true label proc ty to hs e rest =
         arguments_named label (params_in (lines.layout_at x proc).all) hs (params_each MOST_ARGUMENTS (lines.layout_at x proc).all (below.params proc)) e
@@ -303,12 +294,12 @@ module _ (vars : ℕ) (many : OWN_FROM ≤ vars) where
     -- ---- what is written
     written_named : (def : Option TypeDef) (ty : ℕ) (from : Housed) {k : List WordInstr} → IsBelow vars from.home → AllNamed vars k
         → AllNamed vars (lines.written_code x def ty from k)
-    written_named None ty from f rest = number_named _ (variable_is from f) rest
-    written_named (Some D.Int) ty from f rest = number_named _ (variable_is from f) rest
-    written_named (Some D.Bool) ty from f rest = bool_named _ (variable_is from f) rest
-    written_named (Some D.Char) ty from f rest = char_named _ (variable_is from f) rest
-    written_named (Some D.Text) ty from f rest = literal_named (lines.literal_at x) from.alias rest
-    written_named (Some (D.Enum name at members)) ty from f rest = name_named _ x.setting.names _ (variable_is from f) rest
+    written_named None ty from f rest = number_named _ (variable_is vars many from f) rest
+    written_named (Some D.Int) ty from f rest = number_named _ (variable_is vars many from f) rest
+    written_named (Some D.Bool) ty from f rest = bool_named _ (variable_is vars many from f) rest
+    written_named (Some D.Char) ty from f rest = char_named _ (variable_is vars many from f) rest
+    written_named (Some D.Text) ty from f rest = told_by_named (lines.literal_at x) from.alias from.home f rest
+    written_named (Some (D.Enum name at members)) ty from f rest = name_named _ x.setting.names _ (variable_is vars many from f) rest
     written_named (Some (D.Seq i)) ty from f rest = rest
     written_named (Some (D.Param n)) ty from f rest = rest
     written_named (Some (D.Array n i)) ty from f rest = rest
@@ -323,7 +314,7 @@ module _ (vars : ℕ) (many : OWN_FROM ≤ vars) where
     typed_named None from f rest = rest
     typed_named (Some ty) from f rest = written_named (entry_at x.table ty) (base_at x.table ty) from f rest
 
-    texts_named : (of : List (Option ℕ)) (hs : List Housed) {k : List WordInstr} → AllBelow hs → AllNamed vars k
+    texts_named : (of : List (Option ℕ)) (hs : List Housed) {k : List WordInstr} → AllBelow vars many hs → AllNamed vars k
         → AllNamed vars (lines.texts_code x of hs k)
     texts_named [] hs e rest = rest
     texts_named (ty ∷ tys) [] e rest = rest
@@ -333,7 +324,7 @@ module _ (vars : ℕ) (many : OWN_FROM ≤ vars) where
     converted_named : (limit : Option ℕ) (to from : Housed) {k : List WordInstr} → IsBelow vars to.home → IsBelow vars from.home → AllNamed vars k
         → AllNamed vars (lines.converted_code limit to from k)
     converted_named None to from t f rest = moves_named to from t f rest
-    converted_named (Some values) to from t f rest = narrow_named vars many _ _ values (variable_is to t) (variable_is from f) rest
+    converted_named (Some values) to from t f rest = narrow_named vars many _ _ values (variable_is vars many to t) (variable_is vars many from f) rest
 
     updated_named : (label : ℕ) (operator : Operator) (spot : Spot) (by : ℕ) {k : List WordInstr} → IsSpotBelow vars spot → by < vars
         → AllNamed vars k → AllNamed vars (lines.updated_code label operator spot by k)
@@ -345,70 +336,110 @@ module _ (vars : ℕ) (many : OWN_FROM ≤ vars) where
         (binary_named vars many label operator _ _ by fourth fourth b
         (named.address vars many FIRST home (first_is vars many) s (named.store vars many (first_is vars many) fourth rest))))
 
-    update_named : (label : ℕ) (operator : Operator) (hs : List Housed) {k : List WordInstr} → AllBelow hs → AllNamed vars k
+    update_named : (label : ℕ) (operator : Operator) (hs : List Housed) {k : List WordInstr} → AllBelow vars many hs → AllNamed vars k
         → AllNamed vars (lines.update_code label operator hs k)
     update_named label operator [] e rest = rest
     update_named label operator (to ∷ []) e rest =
         named.constant vars many (fifth_is vars many)
         (updated_named label operator (spot_of to) FIFTH (spot_below vars to e.0) (fifth_is vars many) rest)
     update_named label operator (to ∷ by ∷ hs) e rest =
-        updated_named label operator (spot_of to) (lines.variable_of by) (spot_below vars to e.0) (variable_is by e.1.0) rest
+        updated_named label operator (spot_of to) (lines.variable_of by) (spot_below vars to e.0) (variable_is vars many by e.1.0) rest
 
-    quit_named : (hs : List Housed) {k : List WordInstr} → AllBelow hs → AllNamed vars k → AllNamed vars (lines.quit_code hs k)
+    quit_named : (hs : List Housed) {k : List WordInstr} → AllBelow vars many hs → AllNamed vars k → AllNamed vars (lines.quit_code hs k)
     quit_named [] e rest = exit_named rest
-    quit_named (status ∷ hs) e rest = named.exit vars many (variable_is status e.0) rest
+    quit_named (status ∷ hs) e rest = named.exit vars many (variable_is vars many status e.0) rest
 
     swap_named : (left right : Home) (bytes : ℕ) {k : List WordInstr} → IsBelow vars left → IsBelow vars right → AllNamed vars k
         → AllNamed vars (lines.swap_code left right bytes k)
     swap_named left right bytes l r rest =
-        word_argument_named 0 left (omega arith) l (word_argument_named 1 right (omega arith) r
+        word_argument_named vars many 0 left (omega arith) l (word_argument_named vars many 1 right (omega arith) r
         (named.constant vars many (third_is vars many) (named.argument vars many (omega arith) (third_is vars many)
         (named.call vars many (first_is vars many) rest))))
 
+    -- what has a handle, or an array
+    measure_named : (handle : Bool) (measure : Measure) (to : ℕ) (from : Housed) {k : List WordInstr} → to < vars → IsBelow vars from.home
+        → AllNamed vars k → AllNamed vars (lines.measure_code x handle measure to from k)
+    measure_named true measure to from t f rest = measured_named vars many measure to from.home t f rest
+    measure_named false measure to from t f rest = named.constant vars many t rest
+
+    item_at_named : (handle : Bool) (to from index : ℕ) {k : List WordInstr} → AllNamed vars k → AllNamed vars (lines.item_at x handle to from index k)
+    item_at_named true to from index rest =
+        owned_item_named vars many (lines.led x to) (lines.location x from).home (lines.held x index) (owned.each_bytes x.table (lines.entry_from x from))
+        (led_below to) (location_below from) (held_below index) rest
+    item_at_named false to from index rest =
+        named.constant vars many (first_is vars many) (named.branch vars many (held_below index) (first_is vars many)
+        (element_named (lines.led x to) (lines.location x from).home (lines.held x index) (lines.bytes_each x from) (led_below to) (location_below from)
+        (held_below index) rest))
+
+    element_at_named : (handle : Bool) (from index : ℕ) (to : Housed) {k : List WordInstr} → IsBelow vars to.home → AllNamed vars k
+        → AllNamed vars (lines.element_at x handle from index to k)
+    element_at_named true from index to t rest =
+        owned_element_named vars many FIFTH (lines.location x from).home (lines.held x index) (owned.each_bytes x.table (lines.entry_from x from))
+        (fifth_is vars many) (location_below from) (held_below index)
+        (element_read_named vars many (owned.is_text (lines.entry_from x from)) to t rest)
+    element_at_named false from index to t rest =
+        element_named FIFTH (lines.location x from).home (lines.held x index) (lines.bytes_each x from) (fifth_is vars many) (location_below from)
+        (held_below index)
+        (named.moved vars many to.is_word to.bytes (spot_of to) (Lies (Variable FIFTH)) (spot_below vars to t) (fifth_is vars many) rest)
+
     row_named : (operation : Operation) (label : ℕ) (ty : Option ℕ) (of : List (Option ℕ)) (to : Housed) (hs : List Housed) {k : List WordInstr}
-        → IsBelow vars to.home → AllBelow hs → AllNamed vars k → AllNamed vars (lines.row_code x operation label ty of to hs k)
+        → IsBelow vars to.home → AllBelow vars many hs → AllNamed vars k → AllNamed vars (lines.row_code x operation label ty of to hs k)
     row_named operation label ty of to hs {k} t e rest = by operation
       where
         a : IsBelow vars (lines.operand_at hs 0).home
-        a = at_below hs 0 e
+        a = at_below vars many hs 0 e
 
         b : IsBelow vars (lines.operand_at hs 1).home
-        b = at_below hs 1 e
+        b = at_below vars many hs 1 e
 
         is_to : lines.variable_of to < vars
-        is_to = variable_is to t
+        is_to = variable_is vars many to t
 
         is_left : lines.variable_of (lines.operand_at hs 0) < vars
-        is_left = variable_is (lines.operand_at hs 0) a
+        is_left = variable_is vars many (lines.operand_at hs 0) a
 
         is_right : lines.variable_of (lines.operand_at hs 1) < vars
-        is_right = variable_is (lines.operand_at hs 1) b
+        is_right = variable_is vars many (lines.operand_at hs 1) b
 
         by : (o : Operation) → AllNamed vars (lines.row_code x o label ty of to hs k)
         by O.Default = starts_named to.bytes to t rest
         by (O.Unary operator) = unary_named vars many operator (lines.variable_of to) (lines.variable_of (lines.operand_at hs 0)) is_to is_left rest
         by (O.Binary operator) = binary_named vars many label operator (lines.variable_of to) (lines.variable_of (lines.operand_at hs 0))
             (lines.variable_of (lines.operand_at hs 1)) is_to is_left is_right rest
-        by (O.Compare c) = compare_named vars many c (lines.variable_of to) (lines.variable_of (lines.operand_at hs 0))
-            (lines.variable_of (lines.operand_at hs 1)) is_to is_left is_right rest
+        by (O.Compare c) =
+            enough_named vars many 2 hs (lines.compared_code x text c (lines.variable_of to) of hs k) (compares text) rest
+          where
+            text : Bool
+            text = owned.is_text (owned.entry_of x.table (owned.type_of of 0))
+
+            compares : (b : Bool) → AllNamed vars (lines.compared_code x b c (lines.variable_of to) of hs k)
+            compares true = compared_named vars many x c (lines.variable_of to) of hs is_to e rest
+            compares false = compare_named vars many c (lines.variable_of to) (lines.variable_of (lines.operand_at hs 0))
+                (lines.variable_of (lines.operand_at hs 1)) is_to is_left is_right rest
         by O.Convert = converted_named (limit_at x.table ty) to (lines.operand_at hs 0) t a rest
-        by O.Join = rest
-        by O.Show = rest
+        by O.Join = enough_named vars many 2 hs _ (joined_named vars many x to.home of hs t e rest) rest
+        by O.Show =
+            enough_named vars many 1 hs _ (shown_named vars many x (owned.entry_of x.table (owned.type_of of 0)) to.home (owned.type_of of 0)
+            (lines.operand_at hs 0) t a rest) rest
         by O.Make = parts_named to.home hs t e rest
-        by O.Sequence = rest
-        by O.NewSequence = rest
-        by (O.Measure measure) = named.constant vars many (variable_is to t) rest
+        by O.Sequence = sequence_named vars many to.home (owned.size_in x to) hs t e rest
+        by O.NewSequence = new_named vars many to.home (lines.variable_of (lines.operand_at hs 0)) (owned.size_in x to) t is_left rest
+        by (O.Measure measure) =
+            measure_named (owned.has_handle (entry_at x.table (lines.operand_at hs 0).ty)) measure (lines.variable_of to) (lines.operand_at hs 0) is_to a rest
         by O.IsNil = rest
         by O.Echo = texts_named of hs e (text_named LINE_END_AT 1 rest)
         by O.Quit = quit_named hs e rest
         by O.ReadLine = rest
-        by O.ReadLineInto = rest
+        by O.ReadLineInto = read_named vars many (lines.variable_of to) (lines.operand_at hs 0).home is_to a rest
         by O.Assign = moves_named (lines.operand_at hs 0) (lines.operand_at hs 1) a b rest
         by (O.Update operator) = update_named label operator hs e rest
-        by O.Add = rest
-        by O.Append = rest
-        by O.SetLength = rest
-        by O.Pop = rest
+        by O.Add = added_named vars many (lines.operand_at hs 0).home (owned.size_in x (lines.operand_at hs 0)) (lines.operand_at hs 1) a b rest
+        by O.Append = appended_named vars many x of hs e rest
+        by O.SetLength =
+            enough_named vars many 2 hs _ (sized_named vars many x (owned.is_text (entry_at x.table (lines.operand_at hs 0).ty)) label
+            (lines.operand_at hs 0).ty (lines.operand_at hs 0).home (lines.variable_of (lines.operand_at hs 1)) a is_right rest) rest
+        by O.Pop = enough_named vars many 1 hs _
+            (popped_named vars many to (lines.operand_at hs 0).home (owned.size_in x (lines.operand_at hs 0)) t a rest) rest
         by O.Move = moves_named to (lines.operand_at hs 0) t a (clears_named (lines.operand_at hs 0) a rest)
         by O.Swap = swap_named (lines.operand_at hs 0).home (lines.operand_at hs 1).home (lines.operand_at hs 0).bytes a b rest
         by O.Discard = rest
@@ -431,9 +462,7 @@ module _ (vars : ℕ) (many : OWN_FROM ≤ vars) where
     line_named (L.Fresh to from waits) label k = k
     line_named (L.Standing to ty pieces) label k = named.datum vars many (led_below to) k
     line_named (L.Part to from field) label k = part_named _ _ _ (led_below to) (location_below from) k
-    line_named (L.Item to from index) label k =
-        named.constant vars many (first_is vars many) (named.branch vars many (held_below index) (first_is vars many)
-        (element_named _ _ _ _ (led_below to) (location_below from) (held_below index) k))
+    line_named (L.Item to from index) label k = item_at_named (owned.has_handle (lines.entry_from x from)) to from index k
     line_named (L.Object to from) label k = k
     line_named (L.Pass to from how ty) label k = passes_named _ (lines.value x to) (lines.value x from) (value_below to) (value_below from) k
     line_named (L.Truth to holds) label k = named.constant vars many (held_below to) k
@@ -441,13 +470,13 @@ module _ (vars : ℕ) (many : OWN_FROM ≤ vars) where
     line_named (L.Blank p ty) label k = clears_named (lines.own_place x p) (own_below p) k
     line_named (L.Give p from) label k = moves_named (lines.own_place x p) (lines.value x from) (own_below p) (value_below from) k
     line_named (L.Zero to) label k = named.constant vars many (held_below to) k
-    line_named (L.Length to from) label k = named.constant vars many (held_below to) k
+    line_named (L.Length to from) label k =
+        measure_named (owned.has_handle (lines.entry_from x from)) Len (lines.held x to) (lines.location x from) (held_below to) (location_below from) k
     line_named (L.Still from len) label k =
-        named.constant vars many (first_is vars many) (named.branch vars many (held_below len) (first_is vars many) k)
+        measure_named (owned.has_handle (lines.entry_from x from)) Len FIRST (lines.location x from) (first_is vars many) (location_below from)
+        (named.branch vars many (held_below len) (first_is vars many) k)
     line_named (L.Element to from index) label k =
-        let v : Housed = lines.value x to in
-        element_named FIFTH _ _ _ (fifth_is vars many) (location_below from) (held_below index)
-        (named.moved vars many v.is_word v.bytes (spot_of v) (Lies (Variable FIFTH)) (spot_below vars v (value_below to)) (fifth_is vars many) k)
+        element_at_named (owned.has_handle (lines.entry_from x from)) from index (lines.value x to) (value_below to) k
     line_named (L.Beyond counter last inclusive to) label k = beyond_named vars many inclusive _ _ _ (held_below counter) (held_below last) k
     line_named (L.Next counter last) label k = named.sum vars many (held_below counter) (held_below counter) k
     line_named (L.Label name) label k = named.label vars many k

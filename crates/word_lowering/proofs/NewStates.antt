@@ -1,6 +1,8 @@
 -- A call that begins: its result is at its default then, and both states belong together.
-use Rattle.std.proofs.Common.{◌≡◌, ℕ, suc, ◌+◌, ◌-◌, ◌*◌, ◌<◌, ◌≤◌, List, [], ◌∷◌, length, Option, Some, None, true, false, Ok}
+use Rattle.std.proofs.Common.{◌≡◌, ℕ, suc, ◌+◌, ◌-◌, ◌*◌, ◌<◌, ◌≤◌, List, [], ◌∷◌, length, Option, Some, None, true, false, Ok, not, ◌⊎◌, inl, inr}
+use Rattle.std.proofs.lemmas.Bool.{and_parts}
 use Rattle.std.proofs.Common.{refl, sym, ap, subst, ◌∙◌, arith, append-nil}
+use Rattle.std.proofs.lemmas.Bool.{cases_Bool}
 use Rattle.std.specs.Prelude.{slice_set}
 use Rattle.nim_types.specs.Forms.{form_of, hooked}
 use Rattle.nim_types.specs.Table.{type_at, types_in, facts_in}
@@ -15,13 +17,13 @@ use Rattle.flat_code.specs.Codes.{proc_of}
 use Rattle.flat_code.specs.Fits.{Signature, is_own, type_by_kind}
 use Rattle.flat_code.specs.Running.{frame_of, slot_bytes}
 use Rattle.flat_code.specs.Scene.{no_temps}
-use Rattle.flat_code.specs.Shapes.{has_shape, shape_of}
+use Rattle.flat_code.specs.Shapes.{Shape, has_shape, shape_of}
 use Rattle.word_code.specs.declared.word.WordInstr.{WordInstr}
 use Rattle.word_code.specs.Memory.{Memory, number_at}
 use Rattle.word_code.specs.Words.{Vars, no_words}
 use Rattle.word_code.proofs.ForCallers.{Runs, at, none as no_run}
 use Rattle.word_lowering.specs.declared.homes.Housed.{Housed}
-use Rattle.word_lowering.specs.Layouts.{params_in, result_in, is_address}
+use Rattle.word_lowering.specs.Layouts.{params_in, result_in, holds_address, owns}
 use Rattle.word_lowering.specs.Lowered.{result_cleared}
 use Rattle.word_lowering.specs.Spots.{clears}
 use Rattle.word_lowering.proofs.HeapKept.{SameHeap, heap_then}
@@ -29,9 +31,9 @@ use Rattle.word_lowering.proofs.Callees.{Callee}
 use Rattle.word_lowering.proofs.CallersHold.{callers_hold, filled_more, with_slot_last}
 use Rattle.word_lowering.proofs.Clears.{gets_cleared}
 use Rattle.word_lowering.proofs.FirstPlaces.{FirstResult, Gave, ResultFirst, slots_of}
-use Rattle.word_lowering.proofs.Gets.{Gets, good_place, same_temps}
+use Rattle.word_lowering.proofs.Gets.{Changes, changes_of, good_item_place, same_temps}
 use Rattle.word_lowering.proofs.InMemory.{AllZero, blank_zero, bytes_some}
-use Rattle.word_lowering.proofs.Keeping.{call, beyond, later_ground}
+use Rattle.word_lowering.proofs.Keeping.{call, beyond, later_ground, from_home}
 use Rattle.word_lowering.proofs.Lines.{Basis, IsGood, all_procs, changed, known, lower, stands_next, starts}
 use Rattle.word_lowering.proofs.MovedLines.{own_plain}
 use Rattle.word_lowering.proofs.NewCalls.{VarsThen, all_frames_then, frame_with, holding_then, level_is, level_last, levels_then, linked_then, params_long}
@@ -39,12 +41,17 @@ use Rattle.word_lowering.proofs.NewCalls.{sites_then}
 use Rattle.word_lowering.proofs.NewCalls.{site_then, slots_few, world_first}
 use Rattle.word_lowering.proofs.Related.{Answers, Both, StandAt, Waits, body_of, calls_of, sites_of, within, MemoryGood, store_of, store_with}
 use Rattle.word_lowering.proofs.RoutineCalls.{awaiting}
-use Rattle.word_lowering.proofs.Scenes.{is_fixed, AllHold, IsThere, house, looked, of_place}
-use Rattle.word_lowering.proofs.ShapeFacts.{never, values_of_numbers}
-use Rattle.word_lowering.proofs.Sites.{Site, looks, room, type_of, next_base}
+use Rattle.word_lowering.proofs.Scenes.{is_fixed, AllHold, IsThere, house, looked, of_place, IsItem, address_of}
+use Rattle.word_lowering.proofs.ShapeFacts.{never, values_of_numbers, shape_bytes}
+use Rattle.word_lowering.proofs.Sites.{Site, looks, room, type_of, next_base, has_hooks, is_one_word}
 use Rattle.word_lowering.proofs.SitesApart.{houses}
-use Rattle.word_lowering.proofs.ValueFacts.{place_there}
+use Rattle.word_lowering.proofs.ValueFacts.{place_there, housed_inside}
 use Rattle.rv32_isa.specs.declared.micro_op.Size.TheVariants.{Word}
+use Rattle.word_lowering.proofs.BlankShapes.{of_handles}
+use Rattle.word_lowering.proofs.FullValues.{stored_bytes}
+use Rattle.word_lowering.proofs.HookedMoves.{blank_arrived}
+use Rattle.word_lowering.proofs.Items.{item_of}
+use Rattle.word_lowering.proofs.StoredLater.{shape_some}
 
 -- a place with a value of its own has the type that stands there
 own_type : (k : PlaceKind) (ty : Ty) → is_own k ≡ true → type_by_kind k ty ≡ ty
@@ -53,7 +60,7 @@ own_type k ty h = refl
 
 module _ (x : Basis) (g : Both) (line : BlockLine) (rest : List BlockLine) (y : IsGood x (starts g line rest)) {proc : ℕ} {s : Signature}
     (c : Callee x.table x.blocks proc s) (m : Memory) (slots : List Slot)
-    (gave : Gave x.table m (sites_of g) g.ground g.world g.words (g.call.site.base + room (body_of g)) slots (params_in c.body.own.all))
+    (gave : Gave x.table x.blocks m (sites_of g) g.ground g.world g.words (g.call.site.base + room (body_of g)) slots (params_in c.body.own.all))
     (left : ℕ) (e : g.call.site.left ≡ suc left) (to : ℕ)
     (answers : Answers x.table x.blocks c.body (record { call = g.call; rest = rest; to = to; proc = proc }))
     (good_m : MemoryGood x.table x.blocks (sites_then x g line rest y c m slots gave left e) x.first m)
@@ -180,11 +187,11 @@ module _ (x : Basis) (g : Both) (line : BlockLine) (rest : List BlockLine) (y : 
       there : IsThere here (of_place number)
       there = place_there x here number c.is f.there
 
-      own_result : is_own place.kind ≡ true
-      own_result = subst (λ h. is_own h.kind ≡ true) (sym f.same) f.own
+      own_result : owns place ≡ true
+      own_result = subst (λ h. owns h ≡ true) (sym f.same) f.own
 
-      plain_result : is_address place.kind ≡ false
-      plain_result = own_plain place.kind own_result
+      plain_result : holds_address place ≡ false
+      plain_result = own_plain place own_result
 
       look_result : looked x.table here (of_place number) ≡ shape_of (facts_in x.table) start_type
       look_result = ap (looks x.table) f.same ∙ f.look
@@ -192,28 +199,69 @@ module _ (x : Basis) (g : Both) (line : BlockLine) (rest : List BlockLine) (y : 
       shaped_result : has_shape start_value (looked x.table here (of_place number)) ≡ true
       shaped_result = subst (λ z. has_shape start_value z ≡ true) (sym look_result) (x.defaults r.ty)
 
-      zero_result : AllZero start_value
-      zero_result = blank_zero (form_of (facts_in x.table) start_type)
-          (subst (λ t. hooked (form_of (facts_in x.table) t) ≡ false)
-          (ap (type_of x.table) f.same ∙ own_type r.kind start_type f.own)
-          (houses x.table x.blocks here (of_place number) c.is there).unhooked)
-
-      some_bytes : 4 ≤ bytes start_value
-      some_bytes = bytes_some start_value (values_of_numbers start_value (looked x.table here (of_place number))
-          (houses x.table x.blocks here (of_place number) c.is there).numbers shaped_result)
-
       abbrev y_begun : IsGood x (starts (begun vars []) l ls)
       y_begun = good_begun (l ∷ ls) same
 
-      -- zeros of the result, where it is
-      cleared : Gets x (begun vars []) l ls y_begun (clears place k) k (of_place number) start_value (9 + bytes start_value)
-      cleared = gets_cleared x (begun vars []) l ls y_begun (of_place number) there plain_result start_value shaped_result zero_result k
+      -- the result is what its type starts at, where it is
+      record Cleared : Type 0 where
+        changes : Changes x (begun vars []) l ls y_begun (clears place k) k (of_place number) (9 + bytes start_value)
+        item : IsItem x.table (store_with (begun vars []) changes.memory) (call here no_temps changes.vars) (of_place number) start_value
+        some : 4 ≤ bytes start_value
+
+      cleared_numbers : has_hooks x.table place ≡ false → Cleared
+      cleared_numbers unhooked =
+          let h = houses x.table x.blocks here (of_place number) c.is there in
+          let numbers = h.numbers unhooked in
+          let zero_result : AllZero start_value = blank_zero (form_of (facts_in x.table) start_type)
+          (subst (λ t. hooked (form_of (facts_in x.table) t) ≡ false) (ap (type_of x.table) f.same
+          ∙ own_type r.kind start_type (and_parts (is_own r.kind) (not (holds_address r)) f.own).0)
+          (h.unhooked unhooked)) in
+          let q = gets_cleared x (begun vars []) l ls y_begun (of_place number) there plain_result start_value numbers shaped_result zero_result k in
+          record {
+            changes = changes_of x (begun vars []) l ls y_begun q;
+            item = item_of x.table (store_with (begun vars []) q.memory) (call here no_temps q.vars) (of_place number) start_value (record {
+              there = there;
+              numbers = numbers;
+              plain = plain_result;
+              shaped = shaped_result;
+              at = q.at_place;
+            });
+            some = bytes_some start_value (values_of_numbers start_value (looked x.table here (of_place number)) numbers shaped_result);
+          }
+
+      -- whatever it has
+      cleared_bits : has_hooks x.table place ≡ true → Cleared
+      cleared_bits hooks =
+          let s : Shape = shape_of (facts_in x.table) start_type in
+          let built = c.is.built place there.among there.own hooks in
+          let handles : of_handles s ≡ true = sym (ap of_handles look_result) ∙ built.0 in
+          let many : is_one_word s ≡ false = sym (ap is_one_word look_result) ∙ built.1 in
+          let inside = housed_inside x c.body place (houses x.table x.blocks here (of_place number) c.is there) plain_result built.1 in
+          let q = blank_arrived x (begun vars []) l ls y_begun (of_place number) r.ty
+          (record { there = there; plain_is = plain_result; inside = inside; look = look_result }) handles many k in
+          let some_bytes = shape_some s in
+          let item = q.item no_temps in
+          let stored = from_home (store_with (begun vars []) q.changes.memory) here.base q.changes.vars (looked x.table here (of_place number)) place
+          start_value plain_result inside item.at in
+          let size : bytes start_value ≡ shape_bytes s
+          = stored_bytes (is_fixed g.ground) g.ground.blocks q.changes.memory (address_of here.base place.home) (looked x.table here (of_place number))
+          start_value stored shaped_result ∙ ap shape_bytes look_result in
+          record { changes = q.changes; item = item; some = omega (arith, some_bytes, size) }
+
+      cleared : Cleared
+      cleared = by (cases_Bool (has_hooks x.table place))
+        where
+          by : (has_hooks x.table (house (site_then x g line rest y c m slots gave left e) (of_place number)) ≡ true)
+              ⊎ (has_hooks x.table (house (site_then x g line rest y c m slots gave left e) (of_place number)) ≡ false) → Cleared
+          by (inl hooks) = cleared_bits hooks
+          by (inr unhooked) = cleared_numbers unhooked
 
       with_result : Ready k
       with_result =
-          let q = cleared in
-          let good = good_place x (begun vars []) l ls y_begun number there own_result start_value c.body.proc.lines (stand_then c.body.proc.lines refl)
-          no_temps (same_temps x (begun vars []) l ls y_begun) (clears place k) k (9 + bytes start_value) shaped_result plain_result q in
+          let z = cleared in
+          let q = z.changes in
+          let good = good_item_place x (begun vars []) l ls y_begun number there own_result start_value c.body.proc.lines
+          (stand_then c.body.proc.lines refl) no_temps (same_temps x (begun vars []) l ls y_begun) (clears place k) k (9 + bytes start_value) q z.item in
           record {
             vars_then = q.vars;
             memory = q.memory;
@@ -221,7 +269,7 @@ module _ (x : Basis) (g : Both) (line : BlockLine) (rest : List BlockLine) (y : 
             awaits = q.awaits;
             good = subst (λ w. IsGood x (ended w q.vars q.memory q.words q.awaits)) (world_more start_value f.slots) good;
             steps = q.steps;
-            few = (let h = q.few in let z = ap slot_bytes f.slots in let b = some_bytes in omega (arith, h, z, b));
+            few = (let h = q.few in let z = ap slot_bytes f.slots in let b = cleared.some in omega (arith, h, z, b));
             runs = subst (λ o. Runs x.live (all_procs x) q.steps
                 (at (within x.table x.blocks (begun vars [])) m (result_cleared o k) vars no_words)
                 (at (awaiting (within x.table x.blocks (begun vars [])) q.awaits) q.memory k q.vars q.words)) (sym is_result)

@@ -25,7 +25,7 @@ use Rattle.word_lowering.specs.declared.homes.Alias.TheVariants as alias
 use Rattle.word_lowering.specs.Operations.{word, turn_code}
 use Rattle.word_lowering.specs.LineCode.{variable_of, own_label, label_before}
 use Rattle.word_lowering.specs.Aliases.{value_to, alias_by}
-use Rattle.word_lowering.proofs.ValueFacts.{Operand, in_word, good_word}
+use Rattle.word_lowering.proofs.ValueFacts.{Operand, in_word, good_word, IsPlain}
 use Rattle.word_lowering.proofs.Targets.{Target, target, texts_behind}
 use Rattle.word_lowering.proofs.OperationRuns.{Given}
 use Rattle.word_lowering.proofs.OpRuns.{gives_constant, same_but}
@@ -43,6 +43,7 @@ use Rattle.word_lowering.proofs.Related.{high, Both, body_of, code_behind, low, 
 use Rattle.word_lowering.proofs.Scenes.{house, looked, of_value}
 use Rattle.word_lowering.proofs.Settling.{Comes, Getting, LabelsLead, OwnLabels, code_next, leaps_settles, passes_settles, gives_settles}
 use Rattle.word_lowering.proofs.Sites.{is_one_word, word_of}
+use Rattle.word_lowering.proofs.ShapeFacts.{number_numbers}
 
 module _ (x : Basis) (g : Both) (line : BlockLine) (rest : List BlockLine) (y : IsGood x (starts g line rest)) where
   abbrev pub variable : ℕ → ℕ
@@ -73,16 +74,16 @@ module _ (x : Basis) (g : Both) (line : BlockLine) (rest : List BlockLine) (y : 
 
   -- of an int or a bool, by its kind
   pub int_target : (to : ℕ) → value_to (block_plain line) ≡ Some to → alias_by (block_plain line) (texts_behind x g line rest y) ≡ alias.Own
-      → is_int (kind_at x g line rest y to) ≡ true → (z : ℤ) → is_int_number z ≡ true → Getting x g line rest y to z
-  int_target to is own k z f =
+      → IsPlain x g.call.site (of_value to) → is_int (kind_at x g line rest y to) ≡ true → (z : ℤ) → is_int_number z ≡ true → Getting x g line rest y to z
+  int_target to is own plain k z f =
       let s = some_kind (facts_in x.table) (value_type x g line rest y to) is_int refl k in
-      getting to s.0 None z (target x g line rest y to s.0 is own s.1) (int_shape (facts_in x.table) s.0 s.2) f
+      getting to s.0 None z (target x g line rest y to s.0 is own s.1 plain) (int_shape (facts_in x.table) s.0 s.2) f
 
   pub bool_target : (to : ℕ) → value_to (block_plain line) ≡ Some to → alias_by (block_plain line) (texts_behind x g line rest y) ≡ alias.Own
-      → is_bool (kind_at x g line rest y to) ≡ true → (b : Bool) → Getting x g line rest y to (truth b)
-  bool_target to is own k b =
+      → IsPlain x g.call.site (of_value to) → is_bool (kind_at x g line rest y to) ≡ true → (b : Bool) → Getting x g line rest y to (truth b)
+  bool_target to is own plain k b =
       let s = some_kind (facts_in x.table) (value_type x g line rest y to) is_bool refl k in
-      getting to s.0 (Some 2) (truth b) (target x g line rest y to s.0 is own s.1) (bool_shape (facts_in x.table) s.0 s.2) (a_truth b)
+      getting to s.0 (Some 2) (truth b) (target x g line rest y to s.0 is own s.1 plain) (bool_shape (facts_in x.table) s.0 s.2) (a_truth b)
     where
       a_truth : (b : Bool) → has_shape (Number (truth b)) (number (Some 2)) ≡ true
       a_truth true = refl
@@ -90,19 +91,19 @@ module _ (x : Basis) (g : Both) (line : BlockLine) (rest : List BlockLine) (y : 
 
 module _ (x : Basis) (labels : LabelsLead x) (g : Both) (rest : List BlockLine) where
   pub zero_line : (to : ℕ) → FollowedHere x labels g rest (L.Zero to)
-  zero_line to y =
+  zero_line to names y =
       let line = plain (L.Zero to) in
-      let n = int_target x g line rest y to refl refl (fits_here x.table x.blocks (body_of g) line rest y.stands) (pos 0) refl in
+      let n = int_target x g line rest y to refl refl names.0 (fits_here x.table x.blocks (body_of g) line rest y.stands) (pos 0) refl in
       gives_settles x g line rest y to (pos 0) 1 (omega arith) n (constant_given x g line rest y to (pos 0) n)
 
   pub truth_line : (to : ℕ) (holds : Bool) → FollowedHere x labels g rest (L.Truth to holds)
-  truth_line to true y =
+  truth_line to true names y =
       let line = plain (L.Truth to true) in
-      let n = bool_target x g line rest y to refl refl (fits_here x.table x.blocks (body_of g) line rest y.stands) true in
+      let n = bool_target x g line rest y to refl refl names.0 (fits_here x.table x.blocks (body_of g) line rest y.stands) true in
       gives_settles x g line rest y to (truth true) 1 (omega arith) n (constant_given x g line rest y to (truth true) n)
-  truth_line to false y =
+  truth_line to false names y =
       let line = plain (L.Truth to false) in
-      let n = bool_target x g line rest y to refl refl (fits_here x.table x.blocks (body_of g) line rest y.stands) false in
+      let n = bool_target x g line rest y to refl refl names.0 (fits_here x.table x.blocks (body_of g) line rest y.stands) false in
       gives_settles x g line rest y to (truth false) 1 (omega arith) n (constant_given x g line rest y to (truth false) n)
 
 -- ---- the numbers of loops
@@ -122,15 +123,16 @@ module _ (x : Basis) (labels : LabelsLead x) (g : Both) (rest : List BlockLine) 
     abbrev next : BlockLine
     next = plain (L.Next counter last)
 
-    next_goes : (y : IsGood x (starts g next rest)) (v w : Value) → int_lt (number_of v) (number_of w) ≡ true → Operand x g.call counter v
+    next_goes : IsPlain x g.call.site (of_value counter) → (y : IsGood x (starts g next rest)) (v w : Value)
+        → int_lt (number_of v) (number_of w) ≡ true → Operand x g.call counter v
         → Operand x g.call last w
         → Settles x (starts g next rest) rest (Passes (Answers [] 1 (with_value counter g.call.temps (Number (number_of v +ℤ pos 1))) g.world))
-    next_goes y v w h o p =
+    next_goes plain_counter y v w h o p =
         let kinds = and_parts (is_int (kind_at x g next rest y counter)) (is_int (kind_at x g next rest y last))
         (fits_here x.table x.blocks (body_of g) next rest y.stands) in
         let f = below_fits (number_of v) (number_of w) o.fits p.fits h in
         gives_settles x g next rest y counter (number_of v +ℤ pos 1) 1 (omega arith)
-        (int_target x g next rest y counter refl refl kinds.0 (number_of v +ℤ pos 1) f)
+        (int_target x g next rest y counter refl refl plain_counter kinds.0 (number_of v +ℤ pos 1) f)
         (record {
           steps = 1;
           some = omega arith;
@@ -140,7 +142,7 @@ module _ (x : Basis) (labels : LabelsLead x) (g : Both) (rest : List BlockLine) 
         })
 
     pub next_line : FollowedHere x labels g rest (L.Next counter last)
-    next_line y =
+    next_line names y =
         let kinds = and_parts (is_int (kind_at x g next rest y counter)) (is_int (kind_at x g next rest y last))
         (fits_here x.table x.blocks (body_of g) next rest y.stands) in
         let scene = scene_of (high x.table x.blocks (starts g next rest)) in
@@ -150,23 +152,24 @@ module _ (x : Basis) (labels : LabelsLead x) (g : Both) (rest : List BlockLine) 
         (λ v e. using_settles x (starts g next rest) rest (g.call.temps.values last)
         (λ w. branch (int_lt (number_of v) (number_of w)) (goes (number_of v)) Fails)
         (λ w f. branch_settles x (starts g next rest) rest (int_lt (number_of v) (number_of w)) (goes (number_of v)) Fails
-        (λ h. next_goes y v w h (int_read x g next rest y counter v kinds.0 e) (int_read x g next rest y last w kinds.1 f)) (λ h before. tt)))
+        (λ h. next_goes names.0 y v w h (int_read x g next rest y counter v kinds.0 e) (int_read x g next rest y last w kinds.1 f)) (λ h before. tt)))
 
   module _ (inclusive : Bool) (to : ℕ) where
     -- none of the loop
     abbrev beyond : BlockLine
     beyond = plain (L.Beyond counter last inclusive to)
 
-    beyond_goes : (y : IsGood x (starts g beyond rest)) (v w : Value) → Operand x g.call counter v → Operand x g.call last w
+    beyond_goes : IsPlain x g.call.site (of_value counter) → (y : IsGood x (starts g beyond rest)) (v w : Value)
+        → Operand x g.call counter v → Operand x g.call last w
         → Settles x (starts g beyond rest) rest (branch (int_lt (number_of v) (limit inclusive (number_of w)))
         (Passes (Answers [] 1 (with_value counter g.call.temps (Number (number_of v))) g.world)) (Leaps to 1))
-    beyond_goes y v w o p =
+    beyond_goes plain_counter y v w o p =
         let kinds = and_parts (is_int (kind_at x g beyond rest y counter)) (is_int (kind_at x g beyond rest y last))
         (fits_here x.table x.blocks (body_of g) beyond rest y.stands) in
         branch_settles x (starts g beyond rest) rest (int_lt (number_of v) (limit inclusive (number_of w)))
         (Passes (Answers [] 1 (with_value counter g.call.temps (Number (number_of v))) g.world)) (Leaps to 1)
         (λ h. gives_settles x g beyond rest y counter (number_of v) 1 (omega arith)
-        (int_target x g beyond rest y counter refl refl kinds.0 (number_of v) o.fits)
+        (int_target x g beyond rest y counter refl refl plain_counter kinds.0 (number_of v) o.fits)
         (record {
           steps = 1;
           some = omega arith;
@@ -184,7 +187,7 @@ module _ (x : Basis) (labels : LabelsLead x) (g : Both) (rest : List BlockLine) 
         (number_of v) (number_of w) o.fits p.fits o.word_is p.word_is k inclusive (own_label to) there h stands))
 
     pub beyond_line : FollowedHere x labels g rest (L.Beyond counter last inclusive to)
-    beyond_line y =
+    beyond_line names y =
         let kinds = and_parts (is_int (kind_at x g beyond rest y counter)) (is_int (kind_at x g beyond rest y last))
         (fits_here x.table x.blocks (body_of g) beyond rest y.stands) in
         let scene = scene_of (high x.table x.blocks (starts g beyond rest)) in
@@ -193,7 +196,7 @@ module _ (x : Basis) (labels : LabelsLead x) (g : Both) (rest : List BlockLine) 
         (λ v. using_number g.call.temps last (goes (number_of v)))
         (λ v e. using_settles x (starts g beyond rest) rest (g.call.temps.values last)
         (λ w. goes (number_of v) (number_of w))
-        (λ w f. beyond_goes y v w (int_read x g beyond rest y counter v kinds.0 e) (int_read x g beyond rest y last w kinds.1 f)))
+        (λ w f. beyond_goes names.0 y v w (int_read x g beyond rest y counter v kinds.0 e) (int_read x g beyond rest y last w kinds.1 f)))
 
     -- a further turn, or none
     abbrev count : BlockLine
@@ -205,7 +208,8 @@ module _ (x : Basis) (labels : LabelsLead x) (g : Both) (rest : List BlockLine) 
     abbrev turned : List WordInstr
     turned = Spend ∷ Sum counter_variable counter_variable 1 ∷ Jump (own_label to) ∷ Label own ∷ k
 
-    module _ (owns : OwnLabels x) (y : IsGood x (starts g count rest)) (v w : Value) (o : Operand x g.call counter v) (p : Operand x g.call last w) where
+    module _ (owns : OwnLabels x) (plain_counter : IsPlain x g.call.site (of_value counter)) (y : IsGood x (starts g count rest)) (v w : Value)
+        (o : Operand x g.call counter v) (p : Operand x g.call last w) where
       abbrev z : ℤ
       z = number_of v +ℤ pos 1
 
@@ -237,8 +241,9 @@ module _ (x : Basis) (labels : LabelsLead x) (g : Both) (rest : List BlockLine) 
           let s = next_given x.live (all_procs x) (within x.table x.blocks here) g.memory g.words g.call.vars counter_variable last_variable o.high p.high
           (number_of v) (number_of w) o.fits p.fits o.word_is p.word_is (Jump (own_label to) ∷ Label own ∷ k) f vars same in
           let j = run_jump x.live (all_procs x) (within x.table x.blocks here) g.memory (Label own ∷ k) s.vars g.words (own_label to) there l.0 in
-          let n1 = int_target x g count rest y counter refl refl kinds.0 z f in
-          let good = good_word x here count rest (good_units x (starts g count rest) units y) after counter (Number z) s.vars n1.there n1.shaped n1.one
+          let n1 = int_target x g count rest y counter refl refl plain_counter kinds.0 z f in
+          let good = good_word x here count rest (good_units x (starts g count rest) units y) after counter (Number z) s.vars n1.there
+          (number_numbers z (looked x.table g.call.site (of_value counter)) n1.shaped) n1.shaped n1.one
           (same_but g.call.vars vars s.vars counter_variable same s.but) s.given l.1 g.awaits in
           let all = then_runs x.live (all_procs x) (then_runs x.live (all_procs x) runs s.runs) j in
           λ before. let steps = all.by x.fresh before in (
@@ -256,7 +261,8 @@ module _ (x : Basis) (labels : LabelsLead x) (g : Both) (rest : List BlockLine) 
           let few = t.few in
           spends_settles x (starts g count rest) rest (Turns temps to) refl Spend
           (Sum counter_variable counter_variable 1 ∷ Jump (own_label to) ∷ Label own ∷ k) t.vars g.words refl t.steps (omega (arith, few)) t.runs
-          (λ units runs. turned_on units t.vars (t.steps + 1) (omega (arith, few)) t.same runs h (line_from block_label to (body_of g).proc.lines) (λ after f. f))
+          (λ units runs. turned_on units t.vars (t.steps + 1) (omega (arith, few)) t.same runs h (line_from block_label to (body_of g).proc.lines)
+          (λ after f. f))
 
       count_none : more_turns inclusive (number_of v) (number_of w) ≡ false → Comes x g count rest y k
       count_none h =
@@ -283,7 +289,7 @@ module _ (x : Basis) (labels : LabelsLead x) (g : Both) (rest : List BlockLine) 
           by false e = passes_settles x g count rest y g.call.temps (same_temps x g count rest y) 1 (omega arith) (count_none e)
 
     pub count_line : OwnLabels x → FollowedHere x labels g rest (L.CountTurn counter last inclusive to)
-    count_line owns y =
+    count_line owns names y =
         let kinds = and_parts (is_int (kind_at x g count rest y counter)) (is_int (kind_at x g count rest y last))
         (fits_here x.table x.blocks (body_of g) count rest y.stands) in
         let scene = scene_of (high x.table x.blocks (starts g count rest)) in
@@ -292,4 +298,4 @@ module _ (x : Basis) (labels : LabelsLead x) (g : Both) (rest : List BlockLine) 
         (λ v. using_number g.call.temps last (goes (number_of v)))
         (λ v e. using_settles x (starts g count rest) rest (g.call.temps.values last)
         (λ w. goes (number_of v) (number_of w))
-        (λ w f. count_goes owns y v w (int_read x g count rest y counter v kinds.0 e) (int_read x g count rest y last w kinds.1 f)))
+        (λ w f. count_goes owns names.0 y v w (int_read x g count rest y counter v kinds.0 e) (int_read x g count rest y last w kinds.1 f)))

@@ -48,13 +48,14 @@ use Rattle.word_lowering.proofs.OrdinalChecks.{unary_checks, binary_checks}
 use Rattle.word_lowering.proofs.Scenes.{of_value}
 use Rattle.word_lowering.proofs.Sites.{is_one_word}
 use Rattle.word_lowering.proofs.Targets.{Target, target}
-use Rattle.word_lowering.proofs.ValueFacts.{Operand, has_type, in_word, look_of, type_in}
+use Rattle.word_lowering.proofs.ValueFacts.{Operand, has_type, in_word, look_of, type_in, PlainNames}
 use Rattle.word_lowering.specs.declared.homes.TheConstants.{OWN_FROM}
 use Rattle.flat_code.specs.Lines.{gives, using}
 use Rattle.word_lowering.proofs.NumberLines.{getting, variable}
 use Rattle.std.specs.Ordering.{int_eq}
 use Rattle.word_lowering.proofs.ApplyFits.{applies, row_does}
 use Rattle.word_lowering.specs.LineCode.{label_before}
+use Rattle.word_lowering.proofs.NamesIn.{names_from}
 
 -- ---- results of a shape
 
@@ -222,12 +223,13 @@ module _ (x : Basis) (traps : TrapsStop x) (own : OwnLabels x) (g : Both) (rest 
     abbrev one : BlockLine
     one = plain (L.Apply to (O.Unary operator) how ty (a ∷ []) (F.Value from ∷ []))
 
-    one_followed : (y : IsGood x (starts g one rest)) (values : Option ℕ) (t : Ty) → if_type (known x).types ty ≡ Some t
+    one_followed : PlainNames x g.call.site (of_value to ∷ of_value from ∷ []) → (y : IsGood x (starts g one rest)) (values : Option ℕ) (t : Ty) →
+        if_type (known x).types ty ≡ Some t
         → value_type x g one rest y to ≡ Some t → value_type x g one rest y from ≡ Some t → shape_of (facts_in x.table) t ≡ number values
         → ((v : Value) → has_shape v (number values) ≡ true → MayBe None (applied_to operator (number_of v)) → MayBe values (applied_to operator (number_of v)))
         → Settles x (starts g one rest) rest (row_does x g rest to (O.Unary operator) how ty (a ∷ []) (F.Value from ∷ []))
-    one_followed y values t types typed from_typed shape may =
-        let got = target x g one rest y to t refl refl typed in
+    one_followed names y values t types typed from_typed shape may =
+        let got = target x g one rest y to t refl refl typed names.0 in
         mapped_settles x (starts g one rest) rest (g.call.temps.values from) Given
         (λ u. gives (scene_of (high x.table x.blocks (starts g one rest))) to
         (costs 1 (outcome (applied_to operator (number_of (value_of u)))) >>= made_by (gives_hooked (facts_in x.table) (if_type (known x).types ty))
@@ -253,9 +255,10 @@ module _ (x : Basis) (traps : TrapsStop x) (own : OwnLabels x) (g : Both) (rest 
       typed : value_type x g one rest y to ≡ Some ty_is
       from_typed : value_type x g one rest y from ≡ Some ty_is
 
-    one_typed : (y : IsGood x (starts g one rest)) → is_of (if_type (known x).types a) (if_type (known x).types ty) ≡ true → OneTyped y
-    one_typed y same =
-        let p = applies x g rest to (O.Unary operator) how ty (a ∷ []) (F.Value from ∷ []) y in
+    one_typed : PlainNames x g.call.site (of_value to ∷ of_value from ∷ []) → (y : IsGood x (starts g one rest)) →
+        is_of (if_type (known x).types a) (if_type (known x).types ty) ≡ true → OneTyped y
+    one_typed names y same =
+        let p = applies x g rest to (O.Unary operator) how ty (a ∷ []) (F.Value from ∷ []) names y in
         let s = and_parts (same_value (value_type x g one rest y from) (if_type (known x).types a)) true p.typed in
         let v = same_type (value_type x g one rest y from) (if_type (known x).types a) s.0 in
         let w = are_of (if_type (known x).types a) (if_type (known x).types ty) same in
@@ -266,50 +269,52 @@ module _ (x : Basis) (traps : TrapsStop x) (own : OwnLabels x) (g : Both) (rest 
           from_typed = v ∙ w.is;
         }
 
-    one_int : (y : IsGood x (starts g one rest)) → is_int (kind_if (facts_in x.table) (if_type (known x).types ty)) ≡ true
+    one_int : PlainNames x g.call.site (of_value to ∷ of_value from ∷ []) → (y : IsGood x (starts g one rest)) →
+        is_int (kind_if (facts_in x.table) (if_type (known x).types ty)) ≡ true
         → is_of (if_type (known x).types a) (if_type (known x).types ty) ≡ true
         → Settles x (starts g one rest) rest (row_does x g rest to (O.Unary operator) how ty (a ∷ []) (F.Value from ∷ []))
-    one_int y k same =
-        let t = one_typed y same in
-        one_followed y None t.ty_is t.types t.typed t.from_typed
+    one_int names y k same =
+        let t = one_typed names y same in
+        one_followed names y None t.ty_is t.types t.typed t.from_typed
         (int_shape (facts_in x.table) t.ty_is (sym (ap (λ o. is_int (kind_if (facts_in x.table) o)) t.types) ∙ k)) (λ v s h. h)
 
   abbrev OneDoes : UnaryOperator → List (Option ℕ) → List From → Type 0
-  OneDoes operator of from = (y : IsGood x (starts g (plain (L.Apply to (O.Unary operator) how ty of from)) rest))
+  OneDoes operator of from = PlainNames x g.call.site (of_value to ∷ names_from from) →
+      (y : IsGood x (starts g (plain (L.Apply to (O.Unary operator) how ty of from)) rest))
       → Settles x (starts g (plain (L.Apply to (O.Unary operator) how ty of from)) rest) rest
       (row_does x g rest to (O.Unary operator) how ty of from)
 
   one_line : (operator : UnaryOperator) (a : Option ℕ) (from : ℕ) → OneDoes operator (a ∷ []) (F.Value from ∷ [])
-  one_line unary.Plus a from y =
+  one_line unary.Plus a from names y =
       let f = and_parts (is_int (kind_if (facts_in x.table) (if_type (known x).types ty))) (is_of (if_type (known x).types a) (if_type (known x).types ty))
-      (applies x g rest to (O.Unary unary.Plus) how ty (a ∷ []) (F.Value from ∷ []) y).row in
-      one_int unary.Plus a from y f.0 f.1
-  one_line unary.Negate a from y =
+      (applies x g rest to (O.Unary unary.Plus) how ty (a ∷ []) (F.Value from ∷ []) names y).row in
+      one_int unary.Plus a from names y f.0 f.1
+  one_line unary.Negate a from names y =
       let f = and_parts (is_int (kind_if (facts_in x.table) (if_type (known x).types ty))) (is_of (if_type (known x).types a) (if_type (known x).types ty))
-      (applies x g rest to (O.Unary unary.Negate) how ty (a ∷ []) (F.Value from ∷ []) y).row in
-      one_int unary.Negate a from y f.0 f.1
-  one_line unary.Complement a from y =
+      (applies x g rest to (O.Unary unary.Negate) how ty (a ∷ []) (F.Value from ∷ []) names y).row in
+      one_int unary.Negate a from names y f.0 f.1
+  one_line unary.Complement a from names y =
       let f = and_parts (is_int (kind_if (facts_in x.table) (if_type (known x).types ty))) (is_of (if_type (known x).types a) (if_type (known x).types ty))
-      (applies x g rest to (O.Unary unary.Complement) how ty (a ∷ []) (F.Value from ∷ []) y).row in
-      one_int unary.Complement a from y f.0 f.1
-  one_line unary.Not a from y =
+      (applies x g rest to (O.Unary unary.Complement) how ty (a ∷ []) (F.Value from ∷ []) names y).row in
+      one_int unary.Complement a from names y f.0 f.1
+  one_line unary.Not a from names y =
       let f = and_parts (is_bool (kind_if (facts_in x.table) (if_type (known x).types ty))) (is_of (if_type (known x).types a) (if_type (known x).types ty))
-      (applies x g rest to (O.Unary unary.Not) how ty (a ∷ []) (F.Value from ∷ []) y).row in
-      let t = one_typed unary.Not a from y f.1 in
-      one_followed unary.Not a from y (Some 2) t.ty_is t.types t.typed t.from_typed
+      (applies x g rest to (O.Unary unary.Not) how ty (a ∷ []) (F.Value from ∷ []) names y).row in
+      let t = one_typed unary.Not a from names y f.1 in
+      one_followed unary.Not a from names y (Some 2) t.ty_is t.types t.typed t.from_typed
       (bool_shape (facts_in x.table) t.ty_is (sym (ap (λ o. is_bool (kind_if (facts_in x.table) o)) t.types) ∙ f.0))
       (λ v s h. truth_shaped (int_eq (number_of v) (pos 0)))
 
   pub unary_line : (operator : UnaryOperator) (of : List (Option ℕ)) (from : List From) → OneDoes operator of from
-  unary_line operator (a ∷ []) (F.Value from ∷ []) y = one_line operator a from y
-  unary_line operator [] from y = never (applies x g rest to (O.Unary operator) how ty [] from y).row
-  unary_line operator (a ∷ b ∷ of) from y = never (applies x g rest to (O.Unary operator) how ty (a ∷ b ∷ of) from y).row
-  unary_line operator (a ∷ []) [] y = never (applies x g rest to (O.Unary operator) how ty (a ∷ []) [] y).typed
-  unary_line operator (a ∷ []) (F.Value from ∷ other ∷ others) y =
+  unary_line operator (a ∷ []) (F.Value from ∷ []) names y = one_line operator a from names y
+  unary_line operator [] from names y = never (applies x g rest to (O.Unary operator) how ty [] from names y).row
+  unary_line operator (a ∷ b ∷ of) from names y = never (applies x g rest to (O.Unary operator) how ty (a ∷ b ∷ of) from names y).row
+  unary_line operator (a ∷ []) [] names y = never (applies x g rest to (O.Unary operator) how ty (a ∷ []) [] names y).typed
+  unary_line operator (a ∷ []) (F.Value from ∷ other ∷ others) names y =
       never (and_parts (same_value (value_type_in x g from) (if_type (known x).types a)) false
-      (applies x g rest to (O.Unary operator) how ty (a ∷ []) (F.Value from ∷ other ∷ others) y).typed).1
-  unary_line operator (a ∷ []) (F.Place from ∷ others) y =
-      never (applies x g rest to (O.Unary operator) how ty (a ∷ []) (F.Place from ∷ others) y).placed
+      (applies x g rest to (O.Unary operator) how ty (a ∷ []) (F.Value from ∷ other ∷ others) names y).typed).1
+  unary_line operator (a ∷ []) (F.Place from ∷ others) names y =
+      never (applies x g rest to (O.Unary operator) how ty (a ∷ []) (F.Place from ∷ others) names y).placed
 
 -- ---- two operands
 
@@ -318,14 +323,15 @@ module _ (x : Basis) (traps : TrapsStop x) (own : OwnLabels x) (g : Both) (rest 
     abbrev two : BlockLine
     two = plain (L.Apply to (O.Binary operator) how ty (a ∷ b ∷ []) (F.Value left ∷ F.Value right ∷ []))
 
-    two_followed : (y : IsGood x (starts g two rest)) (values : Option ℕ) (t : Ty) → if_type (known x).types ty ≡ Some t
+    two_followed : PlainNames x g.call.site (of_value to ∷ of_value left ∷ of_value right ∷ []) →
+        (y : IsGood x (starts g two rest)) (values : Option ℕ) (t : Ty) → if_type (known x).types ty ≡ Some t
         → value_type x g two rest y to ≡ Some t → value_type x g two rest y left ≡ Some t → value_type x g two rest y right ≡ Some t
         → shape_of (facts_in x.table) t ≡ number values
         → ((v w : Value) → has_shape v (number values) ≡ true → has_shape w (number values) ≡ true
         → MayBe None (applied operator (number_of v) (number_of w)) → MayBe values (applied operator (number_of v) (number_of w)))
         → Settles x (starts g two rest) rest (row_does x g rest to (O.Binary operator) how ty (a ∷ b ∷ []) (F.Value left ∷ F.Value right ∷ []))
-    two_followed y values t types typed left_typed right_typed shape may =
-        let got = target x g two rest y to t refl refl typed in
+    two_followed names y values t types typed left_typed right_typed shape may =
+        let got = target x g two rest y to t refl refl typed names.0 in
         let gives_it : Value → Value → Did = λ v w. gives (scene_of (high x.table x.blocks (starts g two rest))) to
         (costs 1 (outcome (applied operator (number_of v) (number_of w))) >>= made_by (gives_hooked (facts_in x.table) (if_type (known x).types ty))
         (bound_for g how)) in
@@ -358,11 +364,11 @@ module _ (x : Basis) (traps : TrapsStop x) (own : OwnLabels x) (g : Both) (rest 
       left_typed : value_type x g two rest y left ≡ Some ty_is
       right_typed : value_type x g two rest y right ≡ Some ty_is
 
-    two_typed : (y : IsGood x (starts g two rest))
+    two_typed : PlainNames x g.call.site (of_value to ∷ of_value left ∷ of_value right ∷ []) → (y : IsGood x (starts g two rest))
         → (is_of (if_type (known x).types a) (if_type (known x).types ty) && is_of (if_type (known x).types b) (if_type (known x).types ty)) ≡ true
         → TwoTyped y
-    two_typed y same =
-        let p = applies x g rest to (O.Binary operator) how ty (a ∷ b ∷ []) (F.Value left ∷ F.Value right ∷ []) y in
+    two_typed names y same =
+        let p = applies x g rest to (O.Binary operator) how ty (a ∷ b ∷ []) (F.Value left ∷ F.Value right ∷ []) names y in
         let h = and_parts (is_of (if_type (known x).types a) (if_type (known x).types ty)) (is_of (if_type (known x).types b) (if_type (known x).types ty)) same
         in
         let s = and_parts (same_value (value_type x g two rest y left) (if_type (known x).types a))
@@ -387,45 +393,48 @@ module _ (x : Basis) (traps : TrapsStop x) (own : OwnLabels x) (g : Both) (rest 
     TwoKinds is = (is (kind_if (facts_in x.table) (if_type (known x).types ty))
         && (is_of (if_type (known x).types a) (if_type (known x).types ty) && is_of (if_type (known x).types b) (if_type (known x).types ty))) ≡ true
 
-    two_int : (y : IsGood x (starts g two rest)) → TwoKinds is_int → TwoFollowed y
-    two_int y h =
+    two_int : PlainNames x g.call.site (of_value to ∷ of_value left ∷ of_value right ∷ []) → (y : IsGood x (starts g two rest)) → TwoKinds is_int →
+        TwoFollowed y
+    two_int names y h =
         let k = and_parts (is_int (kind_if (facts_in x.table) (if_type (known x).types ty))) _ h in
-        let t = two_typed y k.1 in
-        two_followed y None t.ty_is t.types t.typed t.left_typed t.right_typed
+        let t = two_typed names y k.1 in
+        two_followed names y None t.ty_is t.types t.typed t.left_typed t.right_typed
         (int_shape (facts_in x.table) t.ty_is (sym (ap (λ o. is_int (kind_if (facts_in x.table) o)) t.types) ∙ k.0)) (λ v w s r h. h)
 
     -- bit by bit, of ints or of bools
-    two_bits : (f : ℕ → ℕ → ℕ) (y : IsGood x (starts g two rest))
+    two_bits : (f : ℕ → ℕ → ℕ) → PlainNames x g.call.site (of_value to ∷ of_value left ∷ of_value right ∷ []) → (y : IsGood x (starts g two rest))
         → ((m n : ℤ) → applied operator m n ≡ Fine (int_of (f (bits_of m) (bits_of n))))
         → ((m n : ℤ) → IsBit m → IsBit n → BitResult f m n)
         → TwoKinds (λ k. is_int k || is_bool k) → TwoFollowed y
-    two_bits f y fine each h = by (is_int (kind_if (facts_in x.table) (if_type (known x).types ty))) refl
+    two_bits f names y fine each h = by (is_int (kind_if (facts_in x.table) (if_type (known x).types ty))) refl
       where
         by : (b : Bool) → is_int (kind_if (facts_in x.table) (if_type (known x).types ty)) ≡ b → TwoFollowed y
         by true e =
             let k = and_parts (is_int (kind_if (facts_in x.table) (if_type (known x).types ty)) || is_bool
             (kind_if (facts_in x.table) (if_type (known x).types ty))) _ h in
-            two_int y (and_from _ _ e k.1)
+            two_int names y (and_from _ _ e k.1)
         by false e =
             let k = and_parts (is_int (kind_if (facts_in x.table) (if_type (known x).types ty)) || is_bool
             (kind_if (facts_in x.table) (if_type (known x).types ty))) _ h in
-            let t = two_typed y k.1 in
+            let t = two_typed names y k.1 in
             let k_bool : is_bool (kind_if (facts_in x.table) (if_type (known x).types ty)) ≡ true
             = subst (λ c. (c || is_bool (kind_if (facts_in x.table) (if_type (known x).types ty))) ≡ true) e k.0 in
-            two_followed y (Some 2) t.ty_is t.types t.typed t.left_typed t.right_typed
+            two_followed names y (Some 2) t.ty_is t.types t.typed t.left_typed t.right_typed
             (bool_shape (facts_in x.table) t.ty_is (sym (ap (λ o. is_bool (kind_if (facts_in x.table) o)) t.types) ∙ k_bool))
             (λ v w s r q. subst (λ c. MayBe (Some 2) c) (sym (fine (number_of v) (number_of w)))
             (each (number_of v) (number_of w) (truth_bit v s) (truth_bit w r)))
 
   abbrev TwoDoes : Operator → List (Option ℕ) → List From → Type 0
-  TwoDoes operator of from = (y : IsGood x (starts g (plain (L.Apply to (O.Binary operator) how ty of from)) rest))
+  TwoDoes operator of from = PlainNames x g.call.site (of_value to ∷ names_from from) →
+      (y : IsGood x (starts g (plain (L.Apply to (O.Binary operator) how ty of from)) rest))
       → Settles x (starts g (plain (L.Apply to (O.Binary operator) how ty of from)) rest) rest
       (row_does x g rest to (O.Binary operator) how ty of from)
 
   module _ (a b : Option ℕ) (left right : ℕ) where
-    row_of : (operator : Operator) (y : IsGood x (starts g (two operator a b left right) rest))
+    row_of : (operator : Operator) → PlainNames x g.call.site (of_value to ∷ of_value left ∷ of_value right ∷ []) →
+        (y : IsGood x (starts g (two operator a b left right) rest))
         → operation_fits (facts_in x.table) (O.Binary operator) (if_type (known x).types ty) (if_type (known x).types a ∷ if_type (known x).types b ∷ []) ≡ true
-    row_of operator y = (applies x g rest to (O.Binary operator) how ty (a ∷ b ∷ []) (F.Value left ∷ F.Value right ∷ []) y).row
+    row_of operator names y = (applies x g rest to (O.Binary operator) how ty (a ∷ b ∷ []) (F.Value left ∷ F.Value right ∷ []) names y).row
 
     -- ints alone
     int_alone : (operator : Operator) → TwoKinds operator a b left right (λ k. is_int k || false) → TwoKinds operator a b left right is_int
@@ -438,31 +447,31 @@ module _ (x : Basis) (traps : TrapsStop x) (own : OwnLabels x) (g : Both) (rest 
         no_or false = refl
 
     two_line : (operator : Operator) → TwoDoes operator (a ∷ b ∷ []) (F.Value left ∷ F.Value right ∷ [])
-    two_line binary.Add y = two_int binary.Add a b left right y (int_alone binary.Add (row_of binary.Add y))
-    two_line binary.Subtract y = two_int binary.Subtract a b left right y (int_alone binary.Subtract (row_of binary.Subtract y))
-    two_line binary.Multiply y = two_int binary.Multiply a b left right y (int_alone binary.Multiply (row_of binary.Multiply y))
-    two_line binary.Divide y = two_int binary.Divide a b left right y (int_alone binary.Divide (row_of binary.Divide y))
-    two_line binary.Modulo y = two_int binary.Modulo a b left right y (int_alone binary.Modulo (row_of binary.Modulo y))
-    two_line binary.ShiftLeft y = two_int binary.ShiftLeft a b left right y (int_alone binary.ShiftLeft (row_of binary.ShiftLeft y))
-    two_line binary.ShiftRight y = two_int binary.ShiftRight a b left right y (int_alone binary.ShiftRight (row_of binary.ShiftRight y))
-    two_line binary.BitAnd y = two_bits binary.BitAnd a b left right bit_and y (λ m n. refl) and_bits (row_of binary.BitAnd y)
-    two_line binary.BitOr y = two_bits binary.BitOr a b left right bit_or y (λ m n. refl) or_bits (row_of binary.BitOr y)
-    two_line binary.BitXor y = two_bits binary.BitXor a b left right bit_xor y (λ m n. refl) xor_bits (row_of binary.BitXor y)
+    two_line binary.Add names y = two_int binary.Add a b left right names y (int_alone binary.Add (row_of binary.Add names y))
+    two_line binary.Subtract names y = two_int binary.Subtract a b left right names y (int_alone binary.Subtract (row_of binary.Subtract names y))
+    two_line binary.Multiply names y = two_int binary.Multiply a b left right names y (int_alone binary.Multiply (row_of binary.Multiply names y))
+    two_line binary.Divide names y = two_int binary.Divide a b left right names y (int_alone binary.Divide (row_of binary.Divide names y))
+    two_line binary.Modulo names y = two_int binary.Modulo a b left right names y (int_alone binary.Modulo (row_of binary.Modulo names y))
+    two_line binary.ShiftLeft names y = two_int binary.ShiftLeft a b left right names y (int_alone binary.ShiftLeft (row_of binary.ShiftLeft names y))
+    two_line binary.ShiftRight names y = two_int binary.ShiftRight a b left right names y (int_alone binary.ShiftRight (row_of binary.ShiftRight names y))
+    two_line binary.BitAnd names y = two_bits binary.BitAnd a b left right bit_and names y (λ m n. refl) and_bits (row_of binary.BitAnd names y)
+    two_line binary.BitOr names y = two_bits binary.BitOr a b left right bit_or names y (λ m n. refl) or_bits (row_of binary.BitOr names y)
+    two_line binary.BitXor names y = two_bits binary.BitXor a b left right bit_xor names y (λ m n. refl) xor_bits (row_of binary.BitXor names y)
 
   pub binary_line : (operator : Operator) (of : List (Option ℕ)) (from : List From) → TwoDoes operator of from
-  binary_line operator (a ∷ b ∷ []) (F.Value left ∷ F.Value right ∷ []) y = two_line a b left right operator y
-  binary_line operator [] from y = never (applies x g rest to (O.Binary operator) how ty [] from y).row
-  binary_line operator (a ∷ []) from y = never (applies x g rest to (O.Binary operator) how ty (a ∷ []) from y).row
-  binary_line operator (a ∷ b ∷ c ∷ of) from y = never (applies x g rest to (O.Binary operator) how ty (a ∷ b ∷ c ∷ of) from y).row
-  binary_line operator (a ∷ b ∷ []) [] y = never (applies x g rest to (O.Binary operator) how ty (a ∷ b ∷ []) [] y).typed
-  binary_line operator (a ∷ b ∷ []) (F.Value left ∷ []) y =
+  binary_line operator (a ∷ b ∷ []) (F.Value left ∷ F.Value right ∷ []) names y = two_line a b left right operator names y
+  binary_line operator [] from names y = never (applies x g rest to (O.Binary operator) how ty [] from names y).row
+  binary_line operator (a ∷ []) from names y = never (applies x g rest to (O.Binary operator) how ty (a ∷ []) from names y).row
+  binary_line operator (a ∷ b ∷ c ∷ of) from names y = never (applies x g rest to (O.Binary operator) how ty (a ∷ b ∷ c ∷ of) from names y).row
+  binary_line operator (a ∷ b ∷ []) [] names y = never (applies x g rest to (O.Binary operator) how ty (a ∷ b ∷ []) [] names y).typed
+  binary_line operator (a ∷ b ∷ []) (F.Value left ∷ []) names y =
       never (and_parts (same_value (value_type_in x g left) (if_type (known x).types a)) false
-      (applies x g rest to (O.Binary operator) how ty (a ∷ b ∷ []) (F.Value left ∷ []) y).typed).1
-  binary_line operator (a ∷ b ∷ []) (F.Value left ∷ F.Value right ∷ other ∷ others) y =
+      (applies x g rest to (O.Binary operator) how ty (a ∷ b ∷ []) (F.Value left ∷ []) names y).typed).1
+  binary_line operator (a ∷ b ∷ []) (F.Value left ∷ F.Value right ∷ other ∷ others) names y =
       never (and_parts (same_value (value_type_in x g right) (if_type (known x).types b)) false
       (and_parts (same_value (value_type_in x g left) (if_type (known x).types a)) (same_value (value_type_in x g right) (if_type (known x).types b) && false)
-      (applies x g rest to (O.Binary operator) how ty (a ∷ b ∷ []) (F.Value left ∷ F.Value right ∷ other ∷ others) y).typed).1).1
-  binary_line operator (a ∷ b ∷ []) (F.Value left ∷ F.Place right ∷ others) y =
-      never (applies x g rest to (O.Binary operator) how ty (a ∷ b ∷ []) (F.Value left ∷ F.Place right ∷ others) y).placed
-  binary_line operator (a ∷ b ∷ []) (F.Place from ∷ others) y =
-      never (applies x g rest to (O.Binary operator) how ty (a ∷ b ∷ []) (F.Place from ∷ others) y).placed
+      (applies x g rest to (O.Binary operator) how ty (a ∷ b ∷ []) (F.Value left ∷ F.Value right ∷ other ∷ others) names y).typed).1).1
+  binary_line operator (a ∷ b ∷ []) (F.Value left ∷ F.Place right ∷ others) names y =
+      never (applies x g rest to (O.Binary operator) how ty (a ∷ b ∷ []) (F.Value left ∷ F.Place right ∷ others) names y).placed
+  binary_line operator (a ∷ b ∷ []) (F.Place from ∷ others) names y =
+      never (applies x g rest to (O.Binary operator) how ty (a ∷ b ∷ []) (F.Place from ∷ others) names y).placed

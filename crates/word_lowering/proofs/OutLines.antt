@@ -28,7 +28,7 @@ use Rattle.word_lowering.proofs.Lines.{mapped_settles, where_there}
 use Rattle.word_lowering.proofs.Located.{full_there, owned_readable}
 use Rattle.word_lowering.proofs.MovedLines.{own_plain}
 use Rattle.word_lowering.proofs.Moves.{ToMemory, is_single, zero_to_memory, zeros_to_memory}
-use Rattle.word_lowering.proofs.OutPlaces.{Written, far_written, own_written, written_at}
+use Rattle.word_lowering.proofs.OutPlaces.{Written, far_written, own_written, unlent_plain, written_at}
 use Rattle.word_lowering.proofs.ReadFacts.{read_location}
 use Rattle.word_lowering.proofs.Related.{routines, Both, body_of, within, high}
 use Rattle.word_lowering.proofs.Scenes.{Ground, Points, house, looked, of_place, of_location, of_value}
@@ -56,7 +56,7 @@ use Rattle.word_lowering.proofs.OperandLines.{value_type_by}
 use Rattle.word_lowering.proofs.Settling.{LabelsLead, code_next}
 use Rattle.word_lowering.proofs.Sites.{around}
 use Rattle.word_lowering.proofs.Targets.{pointed, target}
-use Rattle.word_lowering.proofs.ValueFacts.{type_in, value_plain}
+use Rattle.word_lowering.proofs.ValueFacts.{type_in, value_plain, PlainNames}
 
 module _ (x : Basis) (g : Both) (line : BlockLine) (rest : List BlockLine) (y : IsGood x (starts g line rest)) where
   -- what is true behind the code that clears a location
@@ -109,9 +109,9 @@ module _ (x : Basis) (g : Both) (line : BlockLine) (rest : List BlockLine) (y : 
     pub cleared_there : Written x g line rest y h l s → Cleared h l d temps k
     cleared_there (own_written n there own is look old slot l_is) =
         let shape : has_shape d (looked x.table g.call.site (of_place n)) ≡ true = subst (λ k. has_shape d k ≡ true) (sym look) shaped in
-        let plain_is = own_plain (house g.call.site (of_place n)).kind own in
+        let plain_is = own_plain (house g.call.site (of_place n)) own in
         let get = subst (λ u. Gets x g line rest y (clears u k) k (of_place n) d (9 + bytes d)) (sym is)
-        (gets_cleared x g line rest y (of_place n) there plain_is d shape zero_value k) in
+        (gets_cleared x g line rest y (of_place n) there plain_is d (ap of_numbers look ∙ numbers) shape zero_value k) in
         subst (λ u. Cleared h u d temps k) (sym l_is) (record {
           vars = get.vars;
           memory = get.memory;
@@ -123,7 +123,7 @@ module _ (x : Basis) (g : Both) (line : BlockLine) (rest : List BlockLine) (y : 
           runs = get.runs;
           ground = g.ground;
           good = good_place x g line rest y n there own d rest (stands_next x.table x.blocks (body_of g) line rest y.stands) temps same
-              (clears h k) k (9 + bytes d) shape plain_is get;
+              (clears h k) k (9 + bytes d) (ap of_numbers look ∙ numbers) shape plain_is get;
         })
     cleared_there (far_written home spot up a points f) =
         let sites = all_sites x g line rest y in
@@ -164,27 +164,29 @@ module _ (x : Basis) (labels : LabelsLead x) (g : Both) (rest : List BlockLine) 
     abbrev start_value : Value
     start_value = default_of (facts_in x.table) to_type
 
-    moved_out : (y : IsGood x (starts g moving rest)) (there : Where) → g.call.temps.places from ≡ Some there
+    moved_out : PlainNames x g.call.site (of_value to ∷ of_location from ∷ []) → (y : IsGood x (starts g moving rest)) (there : Where) →
+        g.call.temps.places from ≡ Some there
         → value_type x g moving rest y to ≡ Some to_type → type_in x is_location (body_of g) from ≡ Some to_type
         → if_kind is_standing (place_named is_location (body_of g).proc.places from) ≡ true
         → is_full_at g.world (location_at g.call.temps there) ≡ true
         → Settles x (starts g moving rest) rest (Passes (Answers [] (1 + (bytes start_value + 0))
         (with_value to g.call.temps (load g.world (location_at g.call.temps there))) (store g.world (location_at g.call.temps there) start_value)))
-    moved_out y there e typed from_typed may full =
-        let t = target x g moving rest y to to_type refl refl typed in
+    moved_out names y there e typed from_typed may full =
+        let t = target x g moving rest y to to_type refl refl typed names.0 in
         let p = pointed x g moving rest y from to_type from_typed in
-        let r = read_location x g moving rest y from there p.named e full in
+        let r = read_location x g moving rest y from there p.named names.1.0 e full in
         let v : Value = load g.world (location_at g.call.temps there) in
         let from_house : Housed = location (around x.table x.blocks (body_of g)) from in
         let next : List WordInstr = code_next x g moving rest y in
         let v_shaped : has_shape v (shape_of (facts_in x.table) to_type) ≡ true = subst (λ s. has_shape v s ≡ true) p.look r.shaped in
         let look : has_shape v (looked x.table g.call.site (of_value to)) ≡ true = subst (λ s. has_shape v s ≡ true) (sym t.look) v_shaped in
-        let get = gets_moved x g moving rest y (of_value to) t.there (value_plain (house g.call.site (of_value to)).kind t.there.kind) v look
+        let get = gets_moved x g moving rest y (of_value to) t.there (value_plain (house g.call.site (of_value to)) t.there.kind) v t.here look
         (clears from_house next) from_house r.read.word r.read.size r.read.small r.all r.read.source in
         let g1 : Both = changed g rest (with_value to g.call.temps v) get.vars get.memory get.words get.awaits g.world in
         let y1 : IsGood x (starts g1 moving rest) = good_value x g moving rest y (moving ∷ rest) y.stands
-        (moves (house g.call.site (of_value to)) from_house (clears from_house next)) (clears from_house next) to v (10 + 2 * bytes v) t.there look get in
-        let w = written_at x g1 moving rest y1 from there p.named (y.linked.0.standing from may) e in
+        (moves (house g.call.site (of_value to)) from_house (clears from_house next)) (clears from_house next) to v (10 + 2 * bytes v) t.there t.here
+        look get in
+        let w = written_at x g1 moving rest y1 from there p.named (unlent_plain x g1 moving rest y1 from p.named names.1.0) (y.linked.0.standing from may) e in
         let live : is_there g.world w.location_is ≡ true
         = subst (λ l. is_there g.world l ≡ true) (ap (location_at g.call.temps) w.is)
         (full_there x (starts g moving rest) y (location_at g.call.temps there) full).0 in
@@ -208,15 +210,15 @@ module _ (x : Basis) (labels : LabelsLead x) (g : Both) (rest : List BlockLine) 
         (let h = get.few in let i = c.few in omega (arith, h, i, size, some)) refl)
 
     pub move_value : RowHere x g rest to O.Move how (Some ty) (a ∷ []) (F.Place from ∷ [])
-    move_value y =
-        let f = applies x g rest to O.Move how (Some ty) (a ∷ []) (F.Place from ∷ []) y in
+    move_value names y =
+        let f = applies x g rest to O.Move how (Some ty) (a ∷ []) (F.Place from ∷ []) names y in
         let typed = value_type_by (value_type x g moving rest y to) (Some to_type) to_type f.given refl in
         let v = same_type (type_in x is_location (body_of g) from) (if_type (known x).types a)
         (and_parts (same_value (type_in x is_location (body_of g) from) (if_type (known x).types a)) true f.typed).0 in
         let w = are_of (if_type (known x).types a) (Some to_type) f.row in
         let from_typed : type_in x is_location (body_of g) from ≡ Some to_type = v ∙ (w.is ∙ sym w.is_other) in
         let may = and_parts (if_kind is_standing (place_named is_location (body_of g).proc.places from)) true f.written in
-        let t = target x g moving rest y to to_type refl refl typed in
+        let t = target x g moving rest y to to_type refl refl typed names.0 in
         mapped_settles x (starts g moving rest) rest (g.call.temps.places from) (λ place. At (location_at g.call.temps place))
         (λ l. gives (scene_of (high x.table x.blocks (starts g moving rest))) to
         (costs 1 (exchanged (location_of l) start_value) >>= made_by (gives_hooked (facts_in x.table) (Some to_type)) (bound_for g how)))
@@ -230,15 +232,15 @@ module _ (x : Basis) (labels : LabelsLead x) (g : Both) (rest : List BlockLine) 
         (λ b. gives (scene_of (high x.table x.blocks (starts g moving rest))) to (costs 1 (costs (bytes start_value)
         (unless_gone b (does (Stores (location_at g.call.temps there) start_value)) >> give (load g.world (location_at g.call.temps there))))
         >>= made_by false (bound_for g how))) (λ before. tt)
-        (λ h. moved_out y there e typed from_typed may.0 seen))))
+        (λ h. moved_out names y there e typed from_typed may.0 seen))))
 
   pub move_line : (ty : Option ℕ) (of : List (Option ℕ)) (from : List From) → RowHere x g rest to O.Move how ty of from
-  move_line (Some ty) (a ∷ []) (F.Place from ∷ []) y = move_value ty a from y
-  move_line ty [] from y = never (applies x g rest to O.Move how ty [] from y).row
-  move_line ty (a ∷ b ∷ of) from y = never (applies x g rest to O.Move how ty (a ∷ b ∷ of) from y).row
-  move_line None (a ∷ []) from y = never (no_is_of (if_type (known x).types a) (applies x g rest to O.Move how None (a ∷ []) from y).row)
-  move_line (Some ty) (a ∷ []) [] y = never (applies x g rest to O.Move how (Some ty) (a ∷ []) [] y).typed
-  move_line (Some ty) (a ∷ []) (F.Value t ∷ others) y = never (applies x g rest to O.Move how (Some ty) (a ∷ []) (F.Value t ∷ others) y).placed
-  move_line (Some ty) (a ∷ []) (F.Place from ∷ other ∷ others) y =
+  move_line (Some ty) (a ∷ []) (F.Place from ∷ []) names y = move_value ty a from names y
+  move_line ty [] from names y = never (applies x g rest to O.Move how ty [] from names y).row
+  move_line ty (a ∷ b ∷ of) from names y = never (applies x g rest to O.Move how ty (a ∷ b ∷ of) from names y).row
+  move_line None (a ∷ []) from names y = never (no_is_of (if_type (known x).types a) (applies x g rest to O.Move how None (a ∷ []) from names y).row)
+  move_line (Some ty) (a ∷ []) [] names y = never (applies x g rest to O.Move how (Some ty) (a ∷ []) [] names y).typed
+  move_line (Some ty) (a ∷ []) (F.Value t ∷ others) names y = never (applies x g rest to O.Move how (Some ty) (a ∷ []) (F.Value t ∷ others) names y).placed
+  move_line (Some ty) (a ∷ []) (F.Place from ∷ other ∷ others) names y =
       never (and_parts (same_value (type_in x is_location (body_of g) from) (if_type (known x).types a)) false
-      (applies x g rest to O.Move how (Some ty) (a ∷ []) (F.Place from ∷ other ∷ others) y).typed).1
+      (applies x g rest to O.Move how (Some ty) (a ∷ []) (F.Place from ∷ other ∷ others) names y).typed).1

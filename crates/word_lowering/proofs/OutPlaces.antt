@@ -1,5 +1,6 @@
 -- Where what a line writes at a location stands, and that it is written.
 use Rattle.std.proofs.Common.{◌≡◌, inl, inr, ℕ, ◌+◌, ◌*◌, ◌≤◌, List, [], Some, Bool, true, false, refl, sym, ap, subst, ◌∙◌, arith, ◌⊎◌}
+use Rattle.nim_types.specs.Forms.{hooked, form_of}
 use Rattle.std.proofs.lemmas.Bool.{cases_Bool}
 use Rattle.word_code.proofs.ForCallers.{at, Runs}
 use Rattle.word_lowering.proofs.RoutineCalls.{awaiting}
@@ -8,7 +9,7 @@ use Rattle.nim_meaning.specs.State.{is_there, slot_at, store, with_slot}
 use Rattle.nim_meaning.specs.Places.{place_at, root_of, through_slot}
 use Rattle.word_lowering.specs.LineCode.{location, named, place, Around, variable_in, variable_of}
 use Rattle.flat_code.specs.declared.block.BlockLine.{BlockLine}
-use Rattle.flat_code.specs.Fits.{is_own, is_standing}
+use Rattle.flat_code.specs.Fits.{is_standing}
 use Rattle.flat_code.specs.Scene.{Where, Located, Temps, Passes, Within}
 use Rattle.flat_code.specs.Shapes.{Shape, has_shape, shape_of}
 use Rattle.word_lowering.specs.declared.homes.Alias.{Alias}
@@ -17,7 +18,7 @@ use Rattle.word_lowering.specs.declared.homes.Home.{Home}
 use Rattle.word_lowering.specs.declared.homes.Home.TheVariants.{Variable, Static, Placed}
 use Rattle.word_lowering.specs.declared.homes.Housed.{Housed}
 use Rattle.word_lowering.specs.declared.spots.Spot.TheVariants.{Lies}
-use Rattle.word_lowering.specs.Layouts.{is_address}
+use Rattle.word_lowering.specs.Layouts.{holds_address, owns}
 use Rattle.nim_meaning.specs.Deeds.{Answers}
 use Rattle.nim_types.specs.Table.{facts_in}
 use Rattle.word_lowering.proofs.ControlLines.{plain}
@@ -34,11 +35,11 @@ use Rattle.word_lowering.proofs.Scenes.{Name, Points, address_of}
 use Rattle.word_lowering.proofs.Scenes.{house, looked, of_location, of_place}
 use Rattle.word_lowering.proofs.Settling.{code_here, code_next}
 use Rattle.word_lowering.proofs.ShapeFacts.{bytes_is, never, of_numbers}
-use Rattle.word_lowering.proofs.Sites.{Housing, InMemory, around, by_address, data_end, in_data, in_places, in_variable, room, type_of}
+use Rattle.word_lowering.proofs.Sites.{Housing, InMemory, around, by_address, data_end, in_data, in_places, in_variable, room, type_of, Site}
 use Rattle.word_lowering.proofs.SitesApart.{houses}
 use Rattle.word_lowering.proofs.Sources.{Readable, separate_turned, to_range_by}
 use Rattle.word_lowering.proofs.Stores.{good_written, ground_then}
-use Rattle.word_lowering.proofs.ValueFacts.{has_type, look_of, place_there}
+use Rattle.word_lowering.proofs.ValueFacts.{has_type, look_of, place_there, IsPlain}
 use Rattle.word_lowering.specs.Spots.{moves, spot_of}
 use Rattle.word_lowering.specs.declared.homes.TheConstants.{OWN_FROM}
 use Rattle.word_lowering.specs.declared.texts.TheConstants.{FIXED_BYTES}
@@ -48,13 +49,17 @@ high_in_memory (Variable v) i = absurd i
 high_in_memory (Placed at) i = tt
 high_in_memory (Static at) i = tt
 
+-- no place that stands by address is another name of it
+abbrev pub IsUnlent : (s : Site) → ℕ → Type 0
+IsUnlent s t = (p : ℕ) → (house s (of_location t)).alias ≡ alias.Place p false → (house s (of_place p)).lent ≡ false
+
 module _ (x : Basis) (g : Both) (line : BlockLine) (rest : List BlockLine) (y : IsGood x (starts g line rest)) where
   abbrev here : Around
   here = around x.table x.blocks (body_of g)
 
   -- all of a place of the call, or a part of some place or of an element in a block
   pub data Written (h : Housed) (l : Location) (s : Shape) : Type 0 where
-    own_written : (n : ℕ) → IsThere g.call.site (of_place n) → is_own (house g.call.site (of_place n)).kind ≡ true
+    own_written : (n : ℕ) → IsThere g.call.site (of_place n) → owns (house g.call.site (of_place n)) ≡ true
         → h ≡ house g.call.site (of_place n) → looked x.table g.call.site (of_place n) ≡ s
         → (old : Value) → slot_at g.world g.call.site.level n ≡ Some (Holds old) → l ≡ place_at g.call.site.level n → Written h l s
     far_written : (home : Home) → spot_of h ≡ Lies home → IsHigh home → (a : ℕ) → Points g.call.site.base g.call.vars home a
@@ -72,7 +77,7 @@ module _ (x : Basis) (g : Both) (line : BlockLine) (rest : List BlockLine) (y : 
     high_is : OWN_FROM ≤ variable_is
     points : g.call.vars variable_is ≡ Some a
 
-  address_in : (f : Name) (a : ℕ) → IsThere g.call.site f → is_address (house g.call.site f).kind ≡ true
+  address_in : (f : Name) (a : ℕ) → IsThere g.call.site f → holds_address (house g.call.site f) ≡ true
       → g.call.vars (variable_of (house g.call.site f)) ≡ Some a → AddressIn f a
   address_in f a there address is = by (houses x.table x.blocks g.call.site f y.linked.0 there).where_is
     where
@@ -92,9 +97,16 @@ module _ (x : Basis) (g : Both) (line : BlockLine) (rest : List BlockLine) (y : 
     pub is : there ≡ Located location_is
     pub written : Written (location here t) location_is (looked x.table g.call.site (of_location t))
 
-  pub written_at : (t : ℕ) (there : Where) → IsNamed g.call.site (of_location t)
+  -- so it is where nothing is to be done for what it leads to
+  pub unlent_plain : (t : ℕ) → IsNamed g.call.site (of_location t) → IsPlain x g.call.site (of_location t) → IsUnlent g.call.site t
+  unlent_plain t n plain p is =
+      let typed = has_type x g.call.site (of_place p) (type_of x.table (house g.call.site (of_location t))) y.linked.0 (y.linked.0.aliased t p false n is) in
+      (houses x.table x.blocks g.call.site (of_place p) y.linked.0 (place_there x g.call.site p y.linked.0 typed.named)).unlent
+      (subst (λ u. hooked (form_of (facts_in x.table) u) ≡ false) (sym typed.typed) (y.linked.0.plain_locations t n (plain n)))
+
+  pub written_at : (t : ℕ) (there : Where) → IsNamed g.call.site (of_location t) → IsUnlent g.call.site t
       → is_standing (house g.call.site (of_location t)).kind ≡ true → g.call.temps.places t ≡ Some there → WrittenAt t there
-  written_at t there n standing e = by (house g.call.site (of_location t)).alias refl (y.hold.0.led t there n e)
+  written_at t there n unlent standing e = by (house g.call.site (of_location t)).alias refl (y.hold.0.led t there n e)
     where
       s : Shape
       s = looked x.table g.call.site (of_location t)
@@ -108,7 +120,7 @@ module _ (x : Basis) (g : Both) (line : BlockLine) (rest : List BlockLine) (y : 
       far_own is (Within temp path) at_l of r = absurd of
       far_own is (Located l) at_l of r =
           let there_is : IsThere g.call.site (of_location t) = record { among = n.among; number = n.number; kind = n.kind; own = is } in
-          let p = address_in (of_location t) r.address there_is (location_address (house g.call.site (of_location t)).kind n.kind) r.holds in
+          let p = address_in (of_location t) r.address there_is (location_address (house g.call.site (of_location t)) n.kind) r.holds in
           record {
             location_is = l;
             is = at_l;
@@ -163,29 +175,32 @@ module _ (x : Basis) (g : Both) (line : BlockLine) (rest : List BlockLine) (y : 
             location_is = l;
             is = at_l;
             written = as_location (alias.Place p false) l is
-                (of_call p l there_is look f refl (cases_Bool (is_own (house g.call.site (of_place p)).kind)));
+                (of_call p l there_is (unlent p is) look f refl (cases_Bool (owns (house g.call.site (of_place p)))));
           }
         where
-          of_call : (p : ℕ) (l : Location) → IsThere g.call.site (of_place p) → looked x.table g.call.site (of_place p) ≡ s
-              → IsFilled x.table (all_sites x g line rest y) g.ground g.world g.call p → l ≡ root_of (Standing g.call.site.level p) g.world
-              → (is_own (house g.call.site (of_place p)).kind ≡ true) ⊎ (is_own (house g.call.site (of_place p)).kind ≡ false)
+          of_call : (p : ℕ) (l : Location) → IsThere g.call.site (of_place p) → (house g.call.site (of_place p)).lent ≡ false →
+              looked x.table g.call.site (of_place p) ≡ s
+              → IsFilled x.table x.blocks (all_sites x g line rest y) g.ground g.world g.call p → l ≡ root_of (Standing g.call.site.level p) g.world
+              → (owns (house g.call.site (of_place p)) ≡ true) ⊎ (owns (house g.call.site (of_place p)) ≡ false)
               → Written (house g.call.site (of_place p)) l s
-          of_call p l there_is look f root (inl own) =
+          of_call p l there_is unlent look f root (inl own) =
               let v = f.own own in
               own_written p there_is own refl look v.0 v.1 (root ∙ own_root x g line rest y g.call.site.level p v.0 v.1)
-          of_call p l there_is look f root (inr no_own) =
+          of_call p l there_is unlent look f root (inr no_own) =
               let v = f.other no_own in
-              let q = address_in (of_place p) v.address there_is (declared_address (house g.call.site (of_place p)).kind there_is.kind no_own) v.holds in
+              let q = address_in (of_place p) v.address there_is (declared_address (house g.call.site (of_place p)) there_is.kind no_own) v.holds in
               let same : v.location ≡ l = sym (ap (through_slot (Standing g.call.site.level p)) v.slot) ∙ sym root in
               far_written (Variable q.variable_is) q.spot q.high_is v.address q.points
               (subst (λ k. FromOwned x.table (all_sites x g line rest y) g.ground g.world l v.address k) look
-              (subst (λ k. FromOwned x.table (all_sites x g line rest y) g.ground g.world k v.address (looked x.table g.call.site (of_place p))) same v.leads))
+              (subst (λ k. FromOwned x.table (all_sites x g line rest y) g.ground g.world k v.address (looked x.table g.call.site (of_place p))) same
+              (of_owned x.table x.blocks (v.owned unlent) v.leads)))
 
       by : (a : Alias) → (house g.call.site (of_location t)).alias ≡ a → IsLedBy x.table x.blocks a (all_sites x g line rest y) g.ground g.world g.call t there
           → WrittenAt t there
       by alias.Own is r = far_own is there refl (r.standing standing) r
       by (alias.Place p global) is r = by_place p global is r
       by (alias.Value u) is r = never (sym (y.linked.0.valued t u n is).1 ∙ standing)
+      by (alias.Node m) is r = never (sym r.read_only ∙ standing)
       by (alias.Text m size) is r = absurd r
 
   -- ---- a value is written
@@ -193,22 +208,22 @@ module _ (x : Basis) (g : Both) (line : BlockLine) (rest : List BlockLine) (y : 
   module _ (h : Housed) (l : Location) (s : Shape) (numbers : of_numbers s ≡ true) (live : is_there g.world l ≡ true) (v : Value)
       (shaped : has_shape v s ≡ true) (from : Housed) (r : Read x g line rest y true from v)
       (code : code_here x g line rest y ≡ moves h from (code_next x g line rest y)) (temps : Temps) (same : SameTemps x g line rest y temps) (work : ℕ)
-      (le : 10 + 2 * bytes v ≤ 16 * work) where
+      (le : 10 + 2 * bytes v ≤ 256 * work) where
     abbrev Stored : Type 0
     Stored = Settles x (starts g line rest) rest (Passes (Answers [] work temps (store g.world l v)))
 
     pub stored_settles : Written h l s → Stored
     stored_settles (own_written n there own is look old slot l_is) =
         let shape : has_shape v (looked x.table g.call.site (of_place n)) ≡ true = subst (λ k. has_shape v k ≡ true) (sym look) shaped in
-        let plain_is = own_plain (house g.call.site (of_place n)).kind own in
+        let plain_is = own_plain (house g.call.site (of_place n)) own in
         let next = code_next x g line rest y in
         let get = subst (λ k. Gets x g line rest y k next (of_place n) v (10 + 2 * bytes v)) (sym (code ∙ ap (λ k. moves k from next) is))
-        (gets_moved x g line rest y (of_place n) there plain_is v shape next from r.word r.size r.small true r.source) in
+        (gets_moved x g line rest y (of_place n) there plain_is v (ap of_numbers look ∙ numbers) shape next from r.word r.size r.small true r.source) in
         subst (λ k. Settles x (starts g line rest) rest (Passes (Answers [] work temps (store g.world k v)))) (sym l_is)
         (goes_on x (starts g line rest)
         (changed g rest temps get.vars get.memory get.words get.awaits (with_slot g.world g.call.site.level n (Some (Holds v)))) rest
         (good_place x g line rest y n there own v rest (stands_next x.table x.blocks (body_of g) line rest y.stands) temps same
-        (code_here x g line rest y) next (10 + 2 * bytes v) shape plain_is get)
+        (code_here x g line rest y) next (10 + 2 * bytes v) (ap of_numbers look ∙ numbers) shape plain_is get)
         get.steps work temps (with_slot g.world g.call.site.level n (Some (Holds v))) get.runs get.some (let f = get.few in omega (arith, f, le)) refl)
     stored_settles (far_written home spot high a points f) =
         let sites = all_sites x g line rest y in

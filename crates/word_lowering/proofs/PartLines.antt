@@ -1,6 +1,6 @@
 -- Lines that lead to a part of what stands at a location are followed.
 use Rattle.std.proofs.Common.{inr, ◌≡◌, ℕ, ◌+◌, ◌^◌, ◌<◌, ◌≤◌, List, [], ◌∷◌, ◌++◌, Some, true, refl, sym, ap, subst, ◌∙◌, arith, inl, Bool, false}
-use Rattle.nim_meaning.specs.Values.{Value, deeper, Location}
+use Rattle.nim_meaning.specs.Values.{Value, deeper}
 use Rattle.flat_code.specs.declared.block.BlockLine.{BlockLine}
 use Rattle.flat_code.specs.declared.line.Line.TheVariants as L
 use Rattle.flat_code.specs.declared.place.PlaceKind.TheVariants as K
@@ -15,7 +15,7 @@ use Rattle.word_lowering.specs.declared.homes.Home.{Home}
 use Rattle.word_lowering.specs.declared.homes.Home.TheVariants.{Variable, Placed, Static}
 use Rattle.word_lowering.specs.declared.homes.Alias.TheVariants as alias
 use Rattle.word_lowering.specs.LineCode.{named, location, part_code, variable_in, variable_of}
-use Rattle.word_lowering.specs.Layouts.{is_address}
+use Rattle.word_lowering.specs.Layouts.{holds_address}
 use Rattle.word_code.proofs.ForCallers.{at, Runs, run_place, run_datum}
 use Rattle.nim_meaning.specs.Deeds.{Answers}
 use Rattle.nim_meaning.specs.State.{World}
@@ -30,10 +30,10 @@ use Rattle.word_lowering.proofs.Moves.{all_same}
 use Rattle.word_lowering.proofs.OpRuns.{gives_sum}
 use Rattle.word_lowering.proofs.OperationRuns.{Given}
 use Rattle.word_lowering.proofs.OrdinalRuns.{but_one, put_here}
-use Rattle.word_lowering.proofs.OutPlaces.{written_at, written_stands}
-use Rattle.word_lowering.proofs.ReadFacts.{constant_near, owned_near, value_near}
+use Rattle.word_lowering.proofs.OutPlaces.{IsUnlent, unlent_plain, written_at, written_stands}
+use Rattle.word_lowering.proofs.ReadFacts.{constant_near, owned_near, value_near, waiting_near}
 use Rattle.word_lowering.proofs.Related.{Both, body_of, within, high}
-use Rattle.word_lowering.proofs.Scenes.{Ground, Leads, Owned, IsLedBy, IsNamed, IsThere, Points, house, looked, of_location, of_place, of_value}
+use Rattle.word_lowering.proofs.Scenes.{Ground, Leads, Owned, IsLedBy, IsNamed, IsThere, Points, house, looked, of_location, of_place, of_value, of_waiting}
 use Rattle.word_lowering.proofs.Settling.{code_here, code_next, LabelsLead}
 use Rattle.word_lowering.proofs.ShapeFacts.{never, shape_bytes, nth_shape, of_numbers}
 use Rattle.word_lowering.proofs.ShapePaths.{Step, path_on, shape_some, shapes_before, step_within}
@@ -46,14 +46,16 @@ use Rattle.nim_types.specs.Table.{facts_in, type_at, types_in}
 use Rattle.std.proofs.lemmas.Bool.{and_parts}
 use Rattle.word_lowering.proofs.LineFits.{are_of, some_kind}
 use Rattle.word_lowering.proofs.Targets.{location_alias, own_alias, pointed}
-use Rattle.word_lowering.proofs.ValueFacts.{type_in, with_home, has_type, location_of_numbers}
+use Rattle.word_lowering.proofs.ValueFacts.{type_in, with_home, has_type, homed_plain, location_of_numbers, IsHomed}
 use Rattle.flat_code.specs.Running.{scene_of}
 use Rattle.flat_code.specs.declared.place.PlaceKind.{PlaceKind}
 use Rattle.nim_meaning.specs.Places.{to_part}
 use Rattle.nim_types.specs.Types.{Ty}
-use Rattle.word_lowering.proofs.AddressFacts.{at_address}
-use Rattle.word_lowering.proofs.LocationHouses.{location_house}
+use Rattle.word_lowering.proofs.AddressFacts.{at_homed}
+use Rattle.word_lowering.proofs.LocationHouses.{homed_house}
 use Rattle.word_lowering.specs.Stored.{part_at}
+use Rattle.word_lowering.proofs.HookedMoves.{BitsHere}
+use Rattle.word_lowering.proofs.BlankShapes.{of_handles}
 
 -- ---- a step further from a location
 
@@ -92,12 +94,22 @@ module _ (x : Basis) (sites : List Site) (s : Site) (ground : Ground) (world : W
     path = path_on (looked x.table f.site (of_place f.number)) l.path f.offset t i o u f.path step;
     address = (let e = f.address in omega (arith, e));
   })
-  leads_on (Located l) a o t u i step (inr (inr f)) = inr (inr (record {
+  leads_on (Located l) a o t u i step (inr (inr (inl f))) = inr (inr (inl (record {
     block = f.block;
     base = f.base;
     leads = block_on ground.blocks f.block l.path a o t u i step f.leads;
     near = (let n = f.near in let w = step_within t i o u step in omega (arith, n, w));
-  }))
+  })))
+  leads_on (Located l) a o t u i step (inr (inr (inr f))) = inr (inr (inr (record {
+    site = f.site;
+    among = f.among;
+    node = f.node;
+    base = f.base;
+    there = f.there;
+    offset = f.offset + o;
+    path = path_on (looked x.table f.site (of_waiting f.node)) l.path f.offset t i o u f.path step;
+    address = (let e = f.address in omega (arith, e));
+  })))
   leads_on (Located l) a o t u i step (inr (inl f)) = inr (inl (record {
     pieces = f.pieces;
     one = f.one;
@@ -126,7 +138,8 @@ module _ (x : Basis) (g : Both) (line : BlockLine) (rest : List BlockLine) (y : 
 
   pub leads_near : (there : Where) (a : ℕ) (t : Shape)
       → Leads x.table x.blocks (all_sites x g line rest y) g.ground g.world g.call.site g.call.temps there a t → a + shape_bytes t < 2 ^ 32
-  leads_near (Located l) a t (inr (inr f)) = f.near
+  leads_near (Located l) a t (inr (inr (inl f))) = f.near
+  leads_near (Located l) a t (inr (inr (inr f))) = waiting_near x (all_sites x g line rest y) y.linked l a t f
   leads_near (Located l) a t (inr (inl f)) = constant_near x l a t f
   leads_near (Located l) a t (inl f) = owned_near x (all_sites x g line rest y) y.linked g.ground g.world l a t (inl f)
   leads_near (Within from path) a t f = value_near x (all_sites x g line rest y) y.linked g.call.site g.call.temps from path a t (inl refl) f
@@ -143,8 +156,8 @@ module _ (x : Basis) (g : Both) (line : BlockLine) (rest : List BlockLine) (y : 
   pub led_home : (t : ℕ) → IsThere g.call.site (of_location t) → LedHome t
   led_home t there = by (houses x.table x.blocks g.call.site (of_location t) y.linked.0 there).where_is
     where
-      is : is_address (house g.call.site (of_location t)).kind ≡ true
-      is = location_address (house g.call.site (of_location t)).kind there.kind
+      is : holds_address (house g.call.site (of_location t)) ≡ true
+      is = location_address (house g.call.site (of_location t)) there.kind
 
       by : Housing (room (body_of g)) FIXED_BYTES (data_end x.table x.blocks) (body_of g).start (house g.call.site (of_location t)) → LedHome t
       by (in_variable v e plain least w) = never (sym plain ∙ is)
@@ -213,12 +226,13 @@ module _ (x : Basis) (g : Both) (line : BlockLine) (rest : List BlockLine) (y : 
   }
 
   -- where a part of what may be written stands, that may be written too
-  pub part_standing : (to from i : ℕ) (there : Where) → IsNamed g.call.site (of_location from) → g.call.temps.places from ≡ Some there
+  pub part_standing : (to from i : ℕ) (there : Where) → IsNamed g.call.site (of_location from) → IsUnlent g.call.site from →
+      g.call.temps.places from ≡ Some there
       → (is_standing (house g.call.site (of_location to)).kind ≡ true → is_standing (house g.call.site (of_location from)).kind ≡ true)
       → is_standing (house g.call.site (of_location to)).kind ≡ true
       → Owned (deeper_in g.call.temps there i)
-  part_standing to from i there n e as_base standing =
-      let w = written_at x g line rest y from there n (as_base standing) e in
+  part_standing to from i there n unlent e as_base standing =
+      let w = written_at x g line rest y from there n unlent (as_base standing) e in
       subst (λ t. Owned (deeper_in g.call.temps t i)) (sym w.is) (written_stands x g line rest y w.written)
 
 -- ---- a field
@@ -244,8 +258,19 @@ module _ (x : Basis) (labels : LabelsLead x) (g : Both) (rest : List BlockLine) 
   abbrev part_here : BlockLine
   part_here = plain (L.Part to from field)
 
-  pub part_line : FollowedHere x labels g rest (L.Part to from field)
-  part_line y =
+  -- what has fields has parts of their shapes
+  abbrev HasFields : Type 0
+  HasFields = (n : ℕ) (of : Ty) → field_at (kind_of (facts_in x.table) (type_at (types_in x.table) n)) field ≡ Some of
+      → IsNamed g.call.site (of_location from) → IsNamed g.call.site (of_location to)
+      → looked x.table g.call.site (of_location from) ≡ shape_of (facts_in x.table) (type_at (types_in x.table) n)
+      → looked x.table g.call.site (of_location to) ≡ shape_of (facts_in x.table) of
+      → (all : Shapes) × (shape_of (facts_in x.table) (type_at (types_in x.table) n) ≡ parts all)
+      × (nth_shape all field ≡ Some (shape_of (facts_in x.table) of))
+
+  part_with : (IsNamed g.call.site (of_location from) → IsHomed x g.call.site from)
+      → ((y : IsGood x (starts g part_here rest)) → IsNamed g.call.site (of_location from) → IsUnlent g.call.site from) → HasFields →
+      BitsHere x g rest part_here
+  part_with homed unlent has_fields y =
       let from_kind : TypeKind = kind_if (facts_in x.table) (type_in x is_location (body_of g) from) in
       let to_may : Bool = if_kind is_standing (place_named is_location (body_of g).proc.places to) in
       let from_may : Bool = if_kind is_standing (place_named is_location (body_of g).proc.places from) in
@@ -265,24 +290,24 @@ module _ (x : Basis) (labels : LabelsLead x) (g : Both) (rest : List BlockLine) 
       = ap (λ u. field_at (kind_of (facts_in x.table) u) field) (sym of_table) ∙ (z.is_other ∙ sym z.is) in
       let look_is : looked x.table g.call.site (of_location from) ≡ shape_of (facts_in x.table) (type_at (types_in x.table) n)
       = p.look ∙ ap (shape_of (facts_in x.table)) of_table in
-      let whole = x.fields n field v.ty field_is (sym (ap of_numbers look_is) ∙ location_of_numbers x g.call.site from y.linked.0 p.named)
-      (sym (ap of_numbers q.look) ∙ location_of_numbers x g.call.site to y.linked.0 q.named) in
+      let whole = has_fields n v.ty field_is p.named q.named look_is q.look in
       let there_to : IsThere g.call.site (of_location to) = with_home x q.named
-      (own_alias (house g.call.site (of_location to)).alias (location_alias x g part_here rest y to alias.Own refl refl)) in
+      (own_alias (house g.call.site (of_location to)).alias (location_alias x g part_here rest y to alias.Own refl refl)) tt in
       using_settles x (starts g part_here rest) rest (g.call.temps.places from)
       (λ there. leads (scene_of (high x.table x.blocks (starts g part_here rest))) to there (to_part (location_at g.call.temps there) field))
-      (λ there e. part_of y there e p.named there_to whole.0 (look_is ∙ whole.1) (whole.2 ∙ ap Some (sym q.look))
+      (λ there e. part_of y there e p.named (homed p.named) (unlent y p.named) there_to whole.0 (look_is ∙ whole.1) (whole.2 ∙ ap Some (sym q.look))
       (λ st. y.linked.0.standing from (same_bool_true to_may from_may f.1 (y.linked.0.may_be_standing to st))))
     where
       part_of : (y : IsGood x (starts g part_here rest)) (there : Where) → g.call.temps.places from ≡ Some there → IsNamed g.call.site (of_location from)
-          → IsThere g.call.site (of_location to) → (all : Shapes) → looked x.table g.call.site (of_location from) ≡ parts all
+          → IsHomed x g.call.site from → IsUnlent g.call.site from → IsThere g.call.site (of_location to) → (all : Shapes) →
+          looked x.table g.call.site (of_location from) ≡ parts all
           → nth_shape all field ≡ Some (looked x.table g.call.site (of_location to))
           → (is_standing (house g.call.site (of_location to)).kind ≡ true → is_standing (house g.call.site (of_location from)).kind ≡ true)
           → Settles x (starts g part_here rest) rest
           (leads (scene_of (high x.table x.blocks (starts g part_here rest))) to there (to_part (location_at g.call.temps there) field))
-      part_of y there e named_from there_to all look nth as_base =
-          let a = at_address x g part_here rest y from there named_from e (ap is_one_word look) in
-          let h = location_house x g part_here rest y from there named_from e in
+      part_of y there e named_from homed_from unlent_from there_to all look nth as_base =
+          let a = at_homed x g part_here rest y from there named_from homed_from e (ap is_one_word look) in
+          let h = homed_house x g part_here rest y from there named_from homed_from e in
           let o : ℕ = shapes_before all field in
           let at_is : part_at x.table (location (around x.table x.blocks (body_of g)) from).ty field ≡ o
           = h.housed.fields all field (looked x.table g.call.site (of_location to)) (ap (shape_of (facts_in x.table)) h.typed ∙ look) nth in
@@ -293,7 +318,7 @@ module _ (x : Basis) (labels : LabelsLead x) (g : Both) (rest : List BlockLine) 
           let some = shape_some (looked x.table g.call.site (of_location to)) in
           let b = led_home x g part_here rest y to there_to in
           leads_settles x g part_here rest y to (deeper_in g.call.temps there field) (a.address + o) 1 (omega arith) there_to
-          (part_standing x g part_here rest y to from field there named_from e as_base)
+          (part_standing x g part_here rest y to from field there named_from unlent_from e as_base)
           (leads_on x (all_sites x g part_here rest y) g.call.site g.ground g.world g.call.temps
           (with_place to g.call.temps (deeper_in g.call.temps there field))
           (λ t v h. h) there a.address o
@@ -308,3 +333,17 @@ module _ (x : Basis) (labels : LabelsLead x) (g : Both) (rest : List BlockLine) 
           y)) at_is)))
           (part_given x g part_here rest y (led_variable x g part_here rest y to) o a.address a.home b.high_is a.points
           (omega (arith, near, inner, some)) (code_next x g part_here rest y)))
+
+  pub part_line : FollowedHere x labels g rest (L.Part to from field)
+  part_line names y =
+      part_with (λ n. homed_plain x g.call.site from y.linked.0 n names.1.0)
+      (λ y n. unlent_plain x g part_here rest y from n names.1.0)
+      (λ n of is named_from named_to look look_to. x.fields n field of is
+      (sym (ap of_numbers look) ∙ location_of_numbers x g.call.site from y.linked.0 named_from names.1.0)
+      (sym (ap of_numbers look_to) ∙ location_of_numbers x g.call.site to y.linked.0 named_to names.0)) y
+
+  pub part_bits : IsHomed x g.call.site from → IsUnlent g.call.site from → of_handles (looked x.table g.call.site (of_location from)) ≡ true
+      → is_one_word (looked x.table g.call.site (of_location from)) ≡ false → BitsHere x g rest part_here
+  part_bits homed unlent handles many y =
+      part_with (λ n. homed) (λ y n. unlent) (λ n of is named_from named_to look look_to. x.built_fields n field of is (sym (ap of_handles look) ∙ handles)
+      (sym (ap is_one_word look) ∙ many)) y

@@ -24,12 +24,12 @@ use Rattle.word_lowering.proofs.OrdinalRuns.{AllSame}
 use Rattle.word_lowering.proofs.Moves.{same_more}
 use Rattle.word_lowering.proofs.ShapeFacts.{of_numbers, values_of_numbers}
 use Rattle.word_lowering.proofs.Sites.{InMemory, around, next_base}
-use Rattle.word_lowering.proofs.Scenes.{address_of, Points, of_value, house, IsThere, IsNumbers}
+use Rattle.word_lowering.proofs.Scenes.{IsItem, address_of, Points, of_value, house, IsThere, IsNumbers, looked}
 use Rattle.word_lowering.proofs.Keeping.{call, somewhere, worlds_same, Kept, item_kept, at_beside, same_numbers, spot_memory, points_there, outside_still}
 use Rattle.word_lowering.proofs.Keeping.{later_ground}
 use Rattle.word_lowering.proofs.Related.{Both, body_of, within, MemoryGood, sites_of, store_of, store_with}
 use Rattle.word_lowering.proofs.Lines.{Basis, all_procs, starts, IsGood, all_sites}
-use Rattle.word_lowering.proofs.ValueFacts.{value_plain, numbers_there}
+use Rattle.word_lowering.proofs.ValueFacts.{value_plain}
 use Rattle.word_lowering.proofs.Sources.{Lying, item_source, size_is, word_is, small_word, to_bytes_by}
 use Rattle.word_lowering.proofs.Gets.{memory_kept, high_variable}
 use Rattle.word_lowering.proofs.ReadFacts.{item_read}
@@ -76,6 +76,7 @@ module _ (x : Basis) (g : Both) (line : BlockLine) (rest : List BlockLine) (y : 
   pub record PartOf (t : ℕ) (v : Value) (s : Shape) : Type 0 where
     pub has : g.call.temps.values t ≡ Some v
     pub there : IsThere g.call.site (of_value t)
+    pub here : of_numbers (looked x.table g.call.site (of_value t)) ≡ true
     pub shaped : has_shape v s ≡ true
     pub numbers : of_numbers s ≡ true
     pub other : t ≢ to
@@ -123,17 +124,17 @@ module _ (x : Basis) (g : Both) (line : BlockLine) (rest : List BlockLine) (y : 
   }
 
   -- other temporaries have their values
-  item_stays : (m : Memory) (vars : Vars) → Changed g.memory m start target.bytes → AllSame g.call.vars vars → (t : ℕ) (v : Value)
-      → g.call.temps.values t ≡ Some v → IsThere g.call.site (of_value t) → t ≢ to → IsNumbers x.table m (call g.call.site g.call.temps vars) (of_value t) v
-  item_stays m vars ch same t v e is_there ne =
-      numbers_of x.table (store_with g m) (call g.call.site g.call.temps vars) (of_value t) v (numbers_there x g.call.site (of_value t) y.linked.0 is_there)
-      (item_kept x.table x.blocks x.small (all_sites x g line rest y) y.linked g.call.site (of_value to) (store_of g) (store_with g m)
+  pub item_there : (m : Memory) (vars : Vars) → Changed g.memory m start target.bytes → AllSame g.call.vars vars → (t : ℕ) (v : Value)
+      → g.call.temps.values t ≡ Some v → IsThere g.call.site (of_value t) → t ≢ to
+      → IsItem x.table (store_with g m) (call g.call.site g.call.temps vars) (of_value t) v
+  item_there m vars ch same t v e is_there ne =
+      item_kept x.table x.blocks x.small (all_sites x g line rest y) y.linked g.call.site (of_value to) (store_of g) (store_with g m)
       (somewhere start target.bytes (outside_still (IsPlace x.table x.blocks) (next_base (sites_of g)) g.memory m start target.bytes ch.outside) (inl refl)
       there inside (omega arith)
       (omega arith)) (later_ground g.ground) g.world g.world
       (worlds_same x.table x.blocks x.small (all_sites x g line rest y) y.linked g.call.site (of_value to) g.world)
       g.call.site g.call.temps g.call.temps g.call.vars vars (of_value t) v (inl refl) kept
-      (inr (λ is. ne (same_numbers (of_value t) (of_value to) is))) (y.hold.0.items (of_value t) v is_there e))
+      (inr (λ is. ne (same_numbers (of_value t) (of_value to) is))) (y.hold.0.items (of_value t) v is_there e)
     where
       kept : Kept x.table x.blocks x.small (all_sites x g line rest y) y.linked g.call.site (of_value to) g.call.site g.call.temps g.call.temps
           g.call.vars vars
@@ -145,6 +146,12 @@ module _ (x : Basis) (g : Both) (line : BlockLine) (rest : List BlockLine) (y : 
         variables = λ h u other away home. same.others u (high_variable x g line rest y h u other home);
         left = same.left;
       }
+
+  item_stays : (m : Memory) (vars : Vars) → Changed g.memory m start target.bytes → AllSame g.call.vars vars → (t : ℕ) (v : Value)
+      → g.call.temps.values t ≡ Some v → IsThere g.call.site (of_value t) → of_numbers (looked x.table g.call.site (of_value t)) ≡ true → t ≢ to
+      → IsNumbers x.table m (call g.call.site g.call.temps vars) (of_value t) v
+  item_stays m vars ch same t v e is_there numbers ne =
+      numbers_of x.table (store_with g m) (call g.call.site g.call.temps vars) (of_value t) v numbers (item_there m vars ch same t v e is_there ne)
 
   -- ---- one part
 
@@ -162,9 +169,9 @@ module _ (x : Basis) (g : Both) (line : BlockLine) (rest : List BlockLine) (y : 
       → After s.memory s.steps lines k a v (most + (10 + 2 * bytes v))
   part_moved t v p part home in_memory a is low high whole lines k most s =
       let from : Housed = house g.call.site (of_value t) in
-      let item = item_stays s.memory s.vars s.changed s.same t v part.has part.there part.other in
+      let item = item_stays s.memory s.vars s.changed s.same t v part.has part.there part.here part.other in
       let into : Housed = record target { home = home } in
-      let spot : spot_of into ≡ Lies home = spot_memory into (value_plain target.kind there.kind) in_memory in
+      let spot : spot_of into ≡ Lies home = spot_memory into (value_plain target there.kind) in_memory in
       let lying : Lying x (all_sites x g line rest y) y.linked a (bytes v) = record {
         site = g.call.site;
         name = of_value to;
@@ -179,9 +186,9 @@ module _ (x : Basis) (g : Both) (line : BlockLine) (rest : List BlockLine) (y : 
       (points_there g.call.site.base s.vars home in_memory) in
       let r = to_bytes_by x (all_sites x g line rest y) y.linked (awaiting
       (within x.table x.blocks g) s.awaits) refl s.words s.memory s.good k s.vars into from v
-      (word_is x (all_sites x g line rest y) y.linked g.call (inl refl) (of_value t) item.there item.plain v item.shaped)
-      (size_is x (all_sites x g line rest y) y.linked g.call (inl refl) (of_value t) item.there item.plain v item.shaped)
-      (small_word x (all_sites x g line rest y) y.linked g.call (inl refl) (of_value t) item.there item.plain v item.shaped)
+      (word_is x (all_sites x g line rest y) y.linked g.call (inl refl) (of_value t) item.there item.plain v item.numbers item.shaped)
+      (size_is x (all_sites x g line rest y) y.linked g.call (inl refl) (of_value t) item.there item.plain v item.numbers item.shaped)
+      (small_word x (all_sites x g line rest y) y.linked g.call (inl refl) (of_value t) item.there item.plain v item.numbers item.shaped)
       home spot a points lying true
       (item_source x (all_sites x g line rest y) y.linked s.memory s.good (call g.call.site g.call.temps s.vars) (of_value t) v (inl refl) item) (inr refl) in
       record {
@@ -235,9 +242,9 @@ module _ (x : Basis) (g : Both) (line : BlockLine) (rest : List BlockLine) (y : 
   parts_moved (F.Value t ∷ from) (More v vs) come home in_memory a is low high whole lines k most s =
       let h : Housed = house g.call.site (of_value t) in
       let part = come.0.1 in
-      let item = item_read x g line rest y (of_value t) v part.there part.has in
+      let item = item_read x g line rest y (of_value t) v part.there part.here part.has in
       let size : h.bytes ≡ bytes v
-      = size_is x (all_sites x g line rest y) y.linked g.call (inl refl) (of_value t) item.there item.plain v item.shaped in
+      = size_is x (all_sites x g line rest y) y.linked g.call (inl refl) (of_value t) item.there item.plain v item.numbers item.shaped in
       let n : ℕ = bytes v in
       let w : n % 4 ≡ 0 = bytes_whole v in
       let some : 4 ≤ n = bytes_some v (values_of_numbers v come.0.0 part.numbers part.shaped) in

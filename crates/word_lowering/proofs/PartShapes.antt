@@ -30,6 +30,7 @@ module _ (x : Basis) (g : Both) (line : BlockLine) (rest : List BlockLine) (y : 
       record {
         has = has;
         there = r.0.there;
+        here = ap of_numbers look ∙ numbers;
         shaped = r.1;
         numbers = numbers;
         other = λ same. let d : depth (shape_of (facts_in x.table) u) ≡ depth (looked x.table g.call.site (of_value to))

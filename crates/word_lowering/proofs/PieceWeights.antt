@@ -27,9 +27,11 @@ use Rattle.word_lowering.specs.declared.homes.Home.TheVariants.{Variable, Placed
 use Rattle.word_lowering.specs.declared.homes.Housed.{Housed}
 use Rattle.word_lowering.specs.declared.spots.Spot.{Spot}
 use Rattle.word_lowering.specs.declared.spots.Spot.TheVariants.{Held, Lies}
+use Rattle.heap_memory.specs.declared.numbers.TheConstants.{TEXT_WRITE}
 use Rattle.word_lowering.specs.LineCode as lines
 use Rattle.word_lowering.specs.Operations as operations
 use Rattle.word_lowering.specs.Operations.{word}
+use Rattle.word_lowering.specs.RoutineCode.{echo_code}
 use Rattle.word_lowering.specs.Spots.{spot_of, shifted, address, moved, passes, cleared, starts, handed}
 
 -- ---- moves and operations
@@ -161,11 +163,16 @@ text_weighs : (at bytes : ℕ) (k : List WordInstr) → length (lines.text_code 
 text_weighs at zero k = omega arith
 text_weighs at (suc n) k = omega arith
 
-pub literal_weighs : (place : (behind bytes : ℕ) → ℕ) (other : Alias) (k : List WordInstr) → length (lines.literal_code place other k) ≤ 12 + length k
-literal_weighs place alias.Own k = omega arith
-literal_weighs place (alias.Place p global) k = omega arith
-literal_weighs place (alias.Value t) k = omega arith
-literal_weighs place (alias.Text behind bytes) k = let h = text_weighs (place behind bytes) bytes k in omega (arith, h)
+told_weighs : (home : Home) (k : List WordInstr) → length (echo_code home k) ≤ 3 + length k
+told_weighs home k = let h = word_argument_weighs 0 home (Call FIRST TEXT_WRITE ∷ k) in omega (arith, h)
+
+pub told_by_weighs : (place : (behind bytes : ℕ) → ℕ) (other : Alias) (home : Home) (k : List WordInstr)
+    → length (lines.told_code place other home k) ≤ 12 + length k
+told_by_weighs place alias.Own home k = let h = told_weighs home k in omega (arith, h)
+told_by_weighs place (alias.Place p global) home k = let h = told_weighs home k in omega (arith, h)
+told_by_weighs place (alias.Value t) home k = let h = told_weighs home k in omega (arith, h)
+told_by_weighs place (alias.Node n) home k = let h = told_weighs home k in omega (arith, h)
+told_by_weighs place (alias.Text behind bytes) home k = let h = text_weighs (place behind bytes) bytes k in omega (arith, h)
 
 pub back_weighs : (word : Bool) (spot : Spot) (k : List WordInstr) → length (lines.back_code word spot k) ≤ 3 + length k
 back_weighs word (Held v) k = omega arith

@@ -9,7 +9,7 @@ use Rattle.nim_types.specs.declared.types.TypeDef.{TypeDef}
 use Rattle.nim_types.specs.Types.{Ty}
 use Rattle.nim_types.specs.Table.{type_at, types_in, facts_in, IsTable}
 use Rattle.nim_types.specs.Forms.{hooked, form_of}
-use Rattle.nim_program.specs.declared.program.Mode.TheVariants.{Var}
+use Rattle.nim_program.specs.declared.program.Mode.TheVariants.{Var, Plain}
 use Rattle.flat_code.specs.declared.line.Line.{Line}
 use Rattle.flat_code.specs.declared.place.PlaceKind.{PlaceKind}
 use Rattle.flat_code.specs.declared.place.PlaceKind.TheVariants as K
@@ -24,10 +24,12 @@ use Rattle.word_lowering.specs.declared.homes.Home.{Home}
 use Rattle.word_lowering.specs.declared.homes.Home.TheVariants.{Variable, Placed, Static}
 use Rattle.word_lowering.specs.declared.homes.Housed.{Housed}
 use Rattle.word_lowering.specs.declared.homes.Free.{Free}
+use Rattle.word_lowering.specs.OwnedCode.{has_handle}
 use Rattle.word_lowering.specs.Stored.{bytes_at, entry_at, is_word, count_in, element_bytes, part_at, HaveForms}
 use Rattle.word_lowering.specs.Aliases.{alias_for, addressed, is_among}
 use Rattle.word_lowering.specs.Layouts.{is_kept, is_static, home_at, home_by, free_behind, free_by, word_by, bytes_by, place_word, place_bytes, place_kept}
-use Rattle.word_lowering.specs.Layouts.{place_alias, housed, behind, all_housed, found, nowhere, is_result, result_in, is_address}
+use Rattle.word_lowering.specs.Layouts.{address_by, holds_address, owns, place_lent, lent_by}
+use Rattle.word_lowering.specs.Layouts.{place_alias, housed, behind, all_housed, found, nowhere, is_result, result_in}
 use Rattle.word_lowering.specs.MayLower.{is_hooked, is_text, is_plain, all_plain}
 use Rattle.word_lowering.proofs.ShapeFacts.{never, nth_shape, shape_bytes, of_numbers}
 use Rattle.word_lowering.proofs.ShapePaths.{shapes_before}
@@ -35,7 +37,7 @@ use Rattle.word_lowering.proofs.HomesApart.{Each, IsBetween}
 use Rattle.word_lowering.proofs.LayoutBounds.{place_whole}
 use Rattle.word_lowering.proofs.TypeRules.{type_plain}
 use Rattle.word_lowering.proofs.TypeShapes.{type_bytes, type_is_word, type_row, type_part}
-use Rattle.word_lowering.proofs.Sites.{is_one_word, Among, There, Housing, in_variable, by_address, in_places, in_data, InVariable, InMemory}
+use Rattle.word_lowering.proofs.Sites.{is_one_word, Among, There, Housing, in_variable, by_address, in_places, in_data, InVariable, InMemory, has_hooks_by}
 
 -- ---- kinds
 
@@ -56,42 +58,55 @@ static_is start K.Global h = (refl, h)
 static_is start kind h = never h
 
 -- what is in a variable is an address or a word
-kept_is : (taken w : Bool) (kind : PlaceKind) → is_kept taken (word_by kind w) kind ≡ true
-    → (is_address kind ≡ true) ⊎ ((is_address kind ≡ false) × (word_by kind w ≡ true))
-kept_is taken w (K.Param Var) h = inl refl
-kept_is taken w K.Location h = inl refl
-kept_is taken w K.Within h = inl refl
-kept_is taken w K.Temp h = inr (refl, h)
-kept_is taken w K.Counter h = inr (refl, refl)
-kept_is taken w kind h = inr (refl, (and_parts w (not taken) h).0)
+kept_is : (lent taken w : Bool) (kind : PlaceKind) → is_kept lent taken (word_by kind w) kind ≡ true
+    → (address_by lent kind ≡ true) ⊎ ((address_by lent kind ≡ false) × (word_by kind w ≡ true))
+kept_is lent taken w (K.Param Var) h = inl refl
+kept_is true taken w (K.Param Plain) h = inl refl
+kept_is false taken w (K.Param Plain) h = inr (refl, (and_parts w (not taken) h).0)
+kept_is true taken w K.ForVar h = inl refl
+kept_is false taken w K.ForVar h = inr (refl, (and_parts w (not taken) h).0)
+kept_is lent taken w K.Location h = inl refl
+kept_is lent taken w K.Within h = inl refl
+kept_is lent taken w K.Temp h = inr (refl, h)
+kept_is lent taken w K.Counter h = inr (refl, refl)
+kept_is lent taken w kind h = inr (refl, (and_parts w (not taken) h).0)
 
-unkept_is : (taken w : Bool) (kind : PlaceKind) → is_kept taken w kind ≡ false → is_address kind ≡ false
-unkept_is taken w (K.Param Var) h = absurd (true≢false h)
-unkept_is taken w K.Location h = absurd (true≢false h)
-unkept_is taken w K.Within h = absurd (true≢false h)
-unkept_is taken w kind h = refl
+unkept_is : (lent taken w : Bool) (kind : PlaceKind) → is_kept lent taken w kind ≡ false → address_by lent kind ≡ false
+unkept_is lent taken w (K.Param Var) h = absurd (true≢false h)
+unkept_is true taken w (K.Param Plain) h = absurd (true≢false h)
+unkept_is false taken w (K.Param Plain) h = refl
+unkept_is true taken w K.ForVar h = absurd (true≢false h)
+unkept_is false taken w K.ForVar h = refl
+unkept_is lent taken w K.Location h = absurd (true≢false h)
+unkept_is lent taken w K.Within h = absurd (true≢false h)
+unkept_is lent taken w kind h = refl
 
 -- a word that is a value is in a variable
-value_kept : (start taken w : Bool) (kind : PlaceKind) (f : Free) → is_value kind ≡ true → w ≡ true
-    → InVariable (home_at (is_static start kind) (is_kept taken w kind) f)
-value_kept start taken w K.Temp f h e = subst (λ b. InVariable (home_at false b f)) (sym e) tt
-value_kept start taken w K.Counter f h e = tt
-value_kept start taken w kind f h e = never h
+value_kept : (start lent taken w : Bool) (kind : PlaceKind) (f : Free) → is_value kind ≡ true → w ≡ true
+    → InVariable (home_at (is_static start kind) (is_kept lent taken w kind) f)
+value_kept start lent taken w K.Temp f h e = subst (λ b. InVariable (home_at false b f)) (sym e) tt
+value_kept start lent taken w K.Counter f h e = tt
+value_kept start lent taken w kind f h e = never h
 
 placed_home : (w : Bool) (f : Free) → InMemory (home_at false (w && not true) f)
 placed_home true f = tt
 placed_home false f = tt
 
 -- a place of its own whose address is taken is in memory
-taken_home : (start w : Bool) (kind : PlaceKind) (f : Free) → is_own kind ≡ true → InMemory (home_at (is_static start kind) (is_kept true w kind) f)
-taken_home start w (K.Param Var) f h = never h
-taken_home start w K.Temp f h = never h
-taken_home start w K.Location f h = never h
-taken_home start w K.Within f h = never h
-taken_home start w K.Counter f h = never h
-taken_home true w K.Global f h = tt
-taken_home false w K.Global f h = placed_home w f
-taken_home start w kind f h = placed_home w f
+taken_home : (start lent w : Bool) (kind : PlaceKind) (f : Free) → (is_own kind && not (address_by lent kind)) ≡ true
+    → InMemory (home_at (is_static start kind) (is_kept lent true w kind) f)
+taken_home start lent w (K.Param Var) f h = never h
+taken_home start true w (K.Param Plain) f h = never h
+taken_home start false w (K.Param Plain) f h = placed_home w f
+taken_home start true w K.ForVar f h = never h
+taken_home start false w K.ForVar f h = placed_home w f
+taken_home start lent w K.Temp f h = never h
+taken_home start lent w K.Location f h = never h
+taken_home start lent w K.Within f h = never h
+taken_home start lent w K.Counter f h = never h
+taken_home true lent w K.Global f h = tt
+taken_home false lent w K.Global f h = placed_home w f
+taken_home start lent w kind f h = placed_home w f
 
 pub declared_own : (kind : PlaceKind) (n : ℕ) (lines : List Line) → is_declared kind ≡ true → alias_for kind n lines ≡ alias.Own
 declared_own K.Temp n lines h = never h
@@ -141,6 +156,7 @@ aligned_by : (name : Alias) (low high : Free) → Aligned low → Aligned high �
 aligned_by alias.Own low high l h = h
 aligned_by (alias.Place p global) low high l h = l
 aligned_by (alias.Value t) low high l h = l
+aligned_by (alias.Node n) low high l h = l
 aligned_by (alias.Text behind bytes) low high l h = l
 
 -- in what is found
@@ -368,14 +384,14 @@ module _ (table : List TypeDef) (start : Bool) (lines : List Line) where
           let g = static_is start p.kind s in
           let home : home_at (is_static start p.kind) (kept_in p) f ≡ Static f.datum = ap (λ z. home_at z (kept_in p) f) s in
           let c = subst (IsBetween least most (one f p).bytes) home b in
-          in_data f.datum (here ∙ home) (ap is_address g.0) (subst IsAligned home a) (omega (arith, from, c.0))
+          in_data f.datum (here ∙ home) (ap (address_by (place_lent table start lines p)) g.0) (subst IsAligned home a) (omega (arith, from, c.0))
           (let h = ends g.1 in omega (arith, c.1, h)) g.1
-      by false true s e b a = in_var (kept_is (is_among p.number (addressed lines)) (is_word (entry_at table p.ty)) p.kind e)
+      by false true s e b a = in_var (kept_is (place_lent table start lines p) (is_among p.number (addressed lines)) (is_word (entry_at table p.ty)) p.kind e)
         where
           home : home_at (is_static start p.kind) (kept_in p) f ≡ Variable f.variable
           home = ap (λ z. home_at z (kept_in p) f) s ∙ ap (λ z. home_at false z f) e
 
-          in_var : (is_address p.kind ≡ true) ⊎ ((is_address p.kind ≡ false) × (word_by p.kind (is_word (entry_at table p.ty)) ≡ true))
+          in_var : (holds_address (one f p) ≡ true) ⊎ ((holds_address (one f p) ≡ false) × (word_by p.kind (is_word (entry_at table p.ty)) ≡ true))
               → Housing room low high start (one f p)
           in_var (inl x) =
               let c = subst (IsBetween least most (one f p).bytes) home b in
@@ -387,25 +403,41 @@ module _ (table : List TypeDef) (start : Bool) (lines : List Line) where
           let home : home_at (is_static start p.kind) (kept_in p) f ≡ Placed f.byte =
           ap (λ z. home_at z (kept_in p) f) s ∙ ap (λ z. home_at false z f) e in
           let c = subst (IsBetween least most (one f p).bytes) home b in
-          in_places f.byte (here ∙ home) (unkept_is (is_among p.number (addressed lines)) (place_word table start lines p) p.kind e)
+          in_places f.byte (here ∙ home) (unkept_is (place_lent table start lines p) (is_among p.number (addressed lines)) (place_word table start lines p)
+          p.kind e)
           (subst IsAligned home a) (omega (arith, within, c.1))
 
   pub kept_in_variable : (f : Free) (p : FlatPlace) → name_of p ≡ alias.Own → is_value p.kind ≡ true → (one f p).is_word ≡ true
       → InVariable (one f p).home
   kept_in_variable f p own v w =
       subst InVariable (sym (own_home f p own))
-      (value_kept start (is_among p.number (addressed lines)) (place_word table start lines p) p.kind f v w)
+      (value_kept start (place_lent table start lines p) (is_among p.number (addressed lines)) (place_word table start lines p) p.kind f v w)
 
-  pub addressed_in_memory : (f : Free) (p : FlatPlace) → is_among p.number (addressed lines) ≡ true → is_own p.kind ≡ true → InMemory (one f p).home
+  pub addressed_in_memory : (f : Free) (p : FlatPlace) → is_among p.number (addressed lines) ≡ true → owns (one f p) ≡ true → InMemory (one f p).home
   addressed_in_memory f p r o =
-      subst InMemory (sym (own_home f p (declared_own p.kind p.number lines (own_declared p.kind o))))
-      (subst (λ b. InMemory (home_at (is_static start p.kind) (is_kept b (place_word table start lines p) p.kind) f)) (sym r)
-      (taken_home start (place_word table start lines p) p.kind f o))
+      subst InMemory (sym (own_home f p (declared_own p.kind p.number lines
+      (own_declared p.kind (and_parts (is_own p.kind) (not (holds_address (one f p))) o).0))))
+      (subst (λ b. InMemory (home_at (is_static start p.kind) (is_kept (place_lent table start lines p) b (place_word table start lines p) p.kind) f)) (sym r)
+      (taken_home start (place_lent table start lines p) (place_word table start lines p) p.kind f o))
 
   pub global_home : (f : Free) (p : FlatPlace) → start ≡ true → is_global p.kind ≡ true → (one f p).home ≡ Static f.datum
   global_home f p s g =
       own_home f p (declared_own p.kind p.number lines (ap is_declared (global_is p.kind g)))
       ∙ ap (λ z. home_at (is_static start z) (kept_in p) f) (global_is p.kind g) ∙ ap (λ z. home_at z (kept_in p) f) s
+
+-- what has no hooks stands for nothing else
+and_none : (b : Bool) → (b && false) ≡ false
+and_none true = refl
+and_none false = refl
+
+no_hooks : (table : List TypeDef) (ty : ℕ) → hooked (form_of (facts_in table) (type_at (types_in table) ty)) ≡ false → is_hooked table ty ≡ false
+no_hooks table ty h = ap (λ b. nat_lt ty (length table) && b) h ∙ and_none (nat_lt ty (length table))
+
+pub place_unlent : (table : List TypeDef) (kind : PlaceKind) (ty : ℕ) (stands : Bool)
+    → hooked (form_of (facts_in table) (type_by_kind kind (type_at (types_in table) ty))) ≡ false → lent_by kind (is_hooked table ty) stands ≡ false
+place_unlent table (K.Param Plain) ty stands h = no_hooks table ty h
+place_unlent table K.ForVar ty stands h = ap (λ b. b && stands) (no_hooks table ty h)
+place_unlent table kind ty stands h = refl
 
 -- ---- what a place looks like
 
@@ -437,6 +469,11 @@ module _ (table : List TypeDef) (is_table : IsTable table) (have : HaveForms tab
       let q = plain_type ty name other h in
       sym (ap (λ b. b && hooked (form_of (facts_in table) (type_at (types_in table) ty))) (lt-ltb ty (length table) q.0)) ∙ q.1
 
+  pub place_bare : (kind : PlaceKind) (ty : ℕ) (name : Alias) → is_text name ≡ false → is_plain table ty name kind ≡ true
+      → has_hooks_by table kind ty ≡ false
+  place_bare K.Counter ty name other h = refl
+  place_bare kind ty name other h = (plain_type ty name other h).1
+
   pub place_shape_bytes : (kind : PlaceKind) (ty : ℕ) → shape_bytes (shape_here kind ty) ≡ bytes_by kind (bytes_at table ty)
   place_shape_bytes K.Counter ty = refl
   place_shape_bytes kind ty = sym (type_bytes table is_table have ty)
@@ -453,7 +490,7 @@ module _ (table : List TypeDef) (is_table : IsTable table) (have : HaveForms tab
   no_parts ss e = cc
 
   pub place_rows : (kind : PlaceKind) (ty n : ℕ) (s : Shape) → shape_here kind ty ≡ row n s
-      → (count_in (entry_at table ty) ≡ n) × (0 < n → element_bytes table (entry_at table ty) ≡ shape_bytes s)
+      → (count_in (entry_at table ty) ≡ n) × (0 < n → element_bytes table (entry_at table ty) ≡ shape_bytes s) × (has_handle (entry_at table ty) ≡ false)
   place_rows K.Counter ty n s e = absurd (no_row n s e)
   place_rows kind ty n s e = type_row table is_table have ty n s e
 

@@ -12,6 +12,7 @@ use Rattle.word_lowering.proofs.Related.{Both, AllFrames}
 use Rattle.word_lowering.proofs.Scenes.{of_place, Filled, IsThere}
 use Rattle.word_lowering.proofs.Sites.{Site, AmongSites}
 use Rattle.word_lowering.proofs.SitesApart.{site_at, one_level}
+use Rattle.word_lowering.proofs.Temporaries.{waits_alike, once_alike, slot_alike}
 
 module _ (x : Basis) (g : Both) (line : BlockLine) (rest : List BlockLine) (y : IsGood x (starts g line rest)) (lo : Site)
     (among : AmongSites lo (all_sites x g line rest y)) (number : ℕ) (there : IsThere lo (of_place number)) (old : Value)
@@ -57,6 +58,8 @@ module _ (x : Basis) (g : Both) (line : BlockLine) (rest : List BlockLine) (y : 
         (away_cases x.table x.blocks x.small (all_sites x g line rest y) y.linked lo (of_place number) s (of_place m));
     roots = λ s m i other h. roots s m i other
         (away_cases x.table x.blocks x.small (all_sites x g line rest y) y.linked lo (of_place number) s (of_place m));
+    waits = λ s node i a. waits_alike g.world put_world (slot_alike g.world lo.level number (Some (Holds new))) s.level node;
+    once = λ s i h. once_alike g.world put_world (slot_alike g.world lo.level number (Some (Holds new))) s.level h;
   }
     where
       more : (s : Site) (m : ℕ) → AmongSites s (all_sites x g line rest y) → IsThere s (of_place m) → Filled g.world s.level m

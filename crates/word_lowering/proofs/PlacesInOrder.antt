@@ -1,5 +1,5 @@
 -- Places that stand in order: the first ones of a procedure are its parameters, and then its result.
-use Rattle.std.proofs.Common.{◌≡◌, ◌⊎◌, inl, inr, ℕ, suc, ◌+◌, ◌<◌, ◌≤◌, List, [], ◌∷◌, ◌++◌, length}
+use Rattle.std.proofs.Common.{◌≡◌, ◌⊎◌, inl, inr, ℕ, suc, ◌+◌, ◌<◌, ◌≤◌, List, [], ◌∷◌, ◌++◌, length, not, ◌&&◌}
 use Rattle.std.proofs.Common.{map, Option, Some, None, Bool, true, false}
 use Rattle.std.proofs.Common.{refl, sym, ap, subst, ◌∙◌, arith}
 use Rattle.std.specs.Prelude.{nat_eq, if◌then◌else◌}
@@ -24,7 +24,8 @@ use Rattle.word_lowering.specs.declared.homes.TheConstants.{OWN_FROM}
 use Rattle.word_lowering.specs.declared.homes.Housed.{Housed}
 use Rattle.word_lowering.specs.declared.homes.Free.{Free}
 use Rattle.word_lowering.specs.declared.texts.TheConstants.{FIXED_BYTES}
-use Rattle.word_lowering.specs.Layouts.{housed, behind, all_housed, layout_of, free_at, found, params_in, result_in, is_param, is_result, kept_in}
+use Rattle.word_lowering.specs.Layouts.{housed, behind, all_housed, layout_of, free_at, found, params_in, result_in, is_param, is_result, kept_in, address_by}
+use Rattle.word_lowering.specs.Layouts.{place_lent}
 use Rattle.word_lowering.proofs.Options.{none_some, some_same}
 use Rattle.word_lowering.proofs.HomesApart.{Each}
 use Rattle.word_lowering.proofs.LayoutBounds.{IsBelow, IsParamBelow}
@@ -141,7 +142,7 @@ module _ (table : List TypeDef) (start : Bool) (lines : List Line) (all : List H
             first = subst (λ o. ResultFirst table all n o (codes.result_in (known_in table) (p ∷ ps))) (sym same) (record {
               same = once n (housed table start lines free p) i e d;
               there = there_is n (housed table start lines free p) i e d;
-              own = ap is_own c;
+              own = ap (λ k. is_own k && not (address_by (place_lent table start lines p) k)) c;
               look = ap (λ k. shape_of (facts_in table) (type_by_kind k (type_at (types_in table) p.ty))) c;
               slots = ap (λ k. codes.if_result k (Holds (default_of (facts_in table) (type_at (types_in table) p.ty)) ∷ [])
                   (codes.result_in (known_in table) ps)) c;

@@ -30,6 +30,9 @@ use Rattle.word_lowering.proofs.Related.{Both, high}
 use Rattle.word_lowering.proofs.Settling.{LabelsLead}
 use Rattle.word_lowering.proofs.ShapeFacts.{never}
 use Rattle.word_lowering.proofs.Targets.{plain_operands, target}
+use Rattle.word_lowering.proofs.ValueFacts.{PlainNames}
+use Rattle.word_lowering.proofs.NamesIn.{names_from}
+use Rattle.word_lowering.proofs.Scenes.{of_value}
 
 neither : (a b : Bool) → (a || b) ≡ false → (a ≡ false) × (b ≡ false)
 neither true b h = never (sym h)
@@ -74,14 +77,15 @@ module _ (x : Basis) (labels : LabelsLead x) (g : Both) (rest : List BlockLine) 
       (does operation (facts_in x.table) (if_type (known x).types ty) (map (if_type (known x).types) of) xs))
       >>= made_by (gives_hooked (facts_in x.table) (if_type (known x).types ty)) (bound_for g how)))
 
-  module _ (operation : Operation) (y : IsGood x (starts g (apply_line x g rest to operation how ty of from) rest)) where
+  module _ (operation : Operation) (names : PlainNames x g.call.site (of_value to ∷ names_from from))
+      (y : IsGood x (starts g (apply_line x g rest to operation how ty of from) rest)) where
     value_unhooked : (o : Option ℕ) → ty ≡ o → gives_hooked (facts_in x.table) (if_type (known x).types o) ≡ false
     value_unhooked None e = refl
     value_unhooked (Some n) e =
         let line = apply_line x g rest to operation how ty of from in
         let typed = value_type_by (value_type x g line rest y to) (if_type (known x).types ty) (type_at (known x).types n)
-        (applies x g rest to operation how ty of from y).given (ap (if_type (known x).types) e) in
-        (target x g line rest y to (type_at (known x).types n) refl refl typed).unhooked
+        (applies x g rest to operation how ty of from names y).given (ap (if_type (known x).types) e) in
+        (target x g line rest y to (type_at (known x).types n) refl refl typed names.0).unhooked
 
     none_operands : is_echo operation ≡ false → any_hooked (facts_in x.table) (map (if_type (known x).types) of) ≡ false
     none_operands e = any_unhooked x of (not-true (may.any_hooked x.table of) (subst (λ b. (b || not (may.any_hooked x.table of)) ≡ true) e
@@ -92,7 +96,7 @@ module _ (x : Basis) (labels : LabelsLead x) (g : Both) (rest : List BlockLine) 
         ap (λ b. b || any_hooked (facts_in x.table) (map (if_type (known x).types) of)) (value_unhooked ty refl) ∙ none_operands e
 
   pub as_row : (operation : Operation) → RowHere x g rest to operation how ty of from → FollowedHere x labels g rest (L.Apply to operation how ty of from)
-  as_row O.Echo row y = by (any_hooked (facts_in x.table) (map (if_type (known x).types) of)) (has_hooks O.Echo)
+  as_row O.Echo row names y = by (any_hooked (facts_in x.table) (map (if_type (known x).types) of)) (has_hooks O.Echo)
     where
       here : Both
       here = starts g (apply_line x g rest to O.Echo how ty of from) rest
@@ -106,15 +110,15 @@ module _ (x : Basis) (labels : LabelsLead x) (g : Both) (rest : List BlockLine) 
 
       seen : Settles x here rest (using_all g.call.temps from (λ xs. gives_by (are_seen g.world xs) xs))
       seen = using_all_mapped x here rest g.call.temps from (gives_by true) (λ xs. gives_by (are_seen g.world xs) xs)
-          (λ xs s. where_there x here rest (are_seen g.world xs) (λ b. gives_by b xs) (λ before. tt) (λ h. s)) (row y)
+          (λ xs s. where_there x here rest (are_seen g.world xs) (λ b. gives_by b xs) (λ before. tt) (λ h. s)) (row names y)
 
       by : (operands any : Bool) → Settles x here rest (does_by O.Echo operands any)
       by true true = seen
       by false true = seen
-      by true false = row y
-      by false false = row y
-  as_row operation row y =
+      by true false = row names y
+      by false false = row names y
+  as_row operation row names y =
       let line = apply_line x g rest to operation how ty of from in
       subst (λ b. Settles x (starts g line rest) rest (does_by operation (any_hooked (facts_in x.table) (map (if_type (known x).types) of)) b))
-      (sym (none_hooked operation y refl))
-      (subst (λ b. Settles x (starts g line rest) rest (does_by operation b false)) (sym (none_operands operation y refl)) (row y))
+      (sym (none_hooked operation names y refl))
+      (subst (λ b. Settles x (starts g line rest) rest (does_by operation b false)) (sym (none_operands operation names y refl)) (row names y))

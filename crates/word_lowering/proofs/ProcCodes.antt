@@ -1,5 +1,6 @@
 -- Procedures of block code that may be lowered: each is tested, and has its word code under its number.
 use Rattle.std.proofs.Common.{◌≡◌, ◌⊎◌, inl, inr, ℕ, zero, suc, ◌+◌, ◌≤◌, List, [], ◌∷◌, ◌++◌, append_assoc, append-nil}
+use Rattle.word_lowering.specs.Aliases.{standing, is_among}
 use Rattle.std.proofs.Common.{length, map}
 use Rattle.std.proofs.Common.{Some, None, Bool, true, false, not, ◌&&◌}
 use Rattle.std.proofs.Common.{refl, sym, ap, subst, ◌∙◌, arith, if◌then◌else◌, nat_le}
@@ -36,8 +37,9 @@ use Rattle.word_lowering.specs.declared.homes.Layout.{Layout}
 use Rattle.word_lowering.specs.declared.texts.TheConstants.{FIXED_BYTES}
 use Rattle.word_lowering.specs.declared.may_lower.TheConstants.{MOST_ROOM}
 use Rattle.word_lowering.specs.Layouts.{is_empty, is_static, place_kept, place_bytes, place_alias, home_at, free_behind, free_by, free_at, layout_of}
+use Rattle.word_lowering.specs.Layouts.{address_by}
 use Rattle.word_lowering.specs.Layouts.{layouts, housed, behind}
-use Rattle.word_lowering.specs.Layouts.{all_housed, is_param, params_in, is_address}
+use Rattle.word_lowering.specs.Layouts.{all_housed, is_param, params_in}
 use Rattle.word_lowering.specs.Layouts.{found as found_in}
 use Rattle.word_lowering.specs.LineCode.{Around, no_layout, or_none, proc_number}
 use Rattle.word_lowering.specs.Texts.{texts_of, texts_in}
@@ -57,7 +59,7 @@ use Rattle.word_lowering.proofs.Callees.{Callee}
 use Rattle.word_lowering.proofs.ShapeFacts.{never}
 use Rattle.word_lowering.proofs.Sites.{Body, around, type_of, Among, sigs, globals_of, IsBody}
 use Rattle.word_lowering.proofs.LayoutBounds.{params_below}
-use Rattle.word_lowering.proofs.PlaceFacts.{one_found, own_home, declared_own, place_unhooked}
+use Rattle.word_lowering.proofs.PlaceFacts.{one_found, own_home, declared_own, place_unhooked, place_unlent}
 use Rattle.word_lowering.proofs.PlacesInOrder.{orderly}
 use Rattle.word_lowering.proofs.Bodies.{IsTested, body_at, is_body}
 
@@ -103,12 +105,14 @@ next_ends false false bytes rest last free h = omega (arith, h)
 
 module _ (table : List TypeDef) where
   add_param : (kind : PlaceKind) (h : Housed) → h.kind ≡ kind → (ty : Ty) → ty ≡ type_of table h
-      → (is_param kind ≡ true → is_hooked (facts_in table) ty ≡ false) → (hs : List Housed) (ts : List Taken)
+      → (is_param kind ≡ true → is_hooked (facts_in table) ty ≡ false) → (is_param kind ≡ true → h.lent ≡ false) → (hs : List Housed) (ts : List Taken)
       → ParamsAre table hs ts → ParamsAre table (if is_param kind then h ∷ hs else hs) (and_param (facts_in table) kind ty ts)
-  add_param (K.Param Plain) h e ty f plain hs ts r = ((plain refl ∙ sym (ap is_address e), sym (ap is_address e), f), r)
-  add_param (K.Param Sink) h e ty f plain hs ts r = ((sym (ap is_address e), sym (ap is_address e), f), r)
-  add_param (K.Param Var) h e ty f plain hs ts r = ((sym (ap is_address e), sym (ap is_address e), f), r)
-  add_param kind h e ty f plain hs ts r = r
+  add_param (K.Param Plain) h e ty f plain own hs ts r =
+      let no = sym (ap (address_by h.lent) e ∙ own refl) in
+      ((plain refl ∙ no, no, f), r)
+  add_param (K.Param Sink) h e ty f plain own hs ts r = ((sym (ap (address_by h.lent) e), sym (ap (address_by h.lent) e), f), r)
+  add_param (K.Param Var) h e ty f plain own hs ts r = ((sym (ap (address_by h.lent) e), sym (ap (address_by h.lent) e), f), r)
+  add_param kind h e ty f plain own hs ts r = r
 
   module _ (start : Bool) (lines : List Line) where
     abbrev one : Free → FlatPlace → Housed
@@ -143,6 +147,8 @@ module _ (table : List TypeDef) where
         plain in
         add_param p.kind (one free p) refl (place_type (known_in table) p) refl
         (λ e. place_unhooked table is_table have p.kind p.ty (place_alias table start lines p) (ap is_text (param_own p e)) q.0)
+        (λ e. place_unlent table p.kind p.ty (is_among p.number (standing lines))
+        (place_unhooked table is_table have p.kind p.ty (place_alias table start lines p) (ap is_text (param_own p e)) q.0))
         (params (next free p) ps) (taken_by (known_in table) ps) (params_are is_table have (next free p) ps q.1)
 
     param_ends : (free : Free) (ps : List FlatPlace) → params_lead ps ≡ true → (h : Housed) (at : ℕ) → Among h (params free ps) → h.home ≡ Placed at

@@ -5,23 +5,23 @@ use Rattle.std.proofs.lemmas.Bool.{cases_Bool}
 use Rattle.nim_types.specs.declared.types.TypeDef.{TypeDef}
 use Rattle.nim_types.specs.Types.{Ty}
 use Rattle.nim_types.specs.Table.{facts_in}
-use Rattle.nim_meaning.specs.Values.{Value, bytes, Standing, Location, Holds}
-use Rattle.nim_meaning.specs.State.{World, held, load, slot_at, is_full_at}
+use Rattle.nim_meaning.specs.Values.{Value, bytes, Standing, Location, Holds, at_base, Waiting}
+use Rattle.nim_meaning.specs.State.{World, held, load, slot_at, is_full_at, awaited, is_whole}
 use Rattle.nim_meaning.specs.Places.{place_at, through_slot, root_of}
 use Rattle.flat_code.specs.declared.block.BlockLine.{BlockLine}
 use Rattle.flat_code.specs.declared.code.Code.{Code}
 use Rattle.flat_code.specs.Scene.{known_in, Where, Located, Temps, if_value, location_at}
 use Rattle.flat_code.specs.Shapes.{Shape, has_shape, shape_of}
-use Rattle.flat_code.specs.Fits.{is_own, is_global, place_named, if_type_of}
+use Rattle.flat_code.specs.Fits.{is_global, place_named, if_type_of}
 use Rattle.word_lowering.specs.declared.homes.Alias.{Alias}
 use Rattle.word_lowering.specs.declared.homes.Alias.TheVariants as alias
 use Rattle.word_lowering.specs.declared.homes.Home.TheVariants.{Variable, Static}
 use Rattle.word_lowering.specs.declared.homes.Housed.{Housed}
 use Rattle.word_lowering.specs.declared.spots.Spot.TheVariants.{Lies}
 use Rattle.word_lowering.specs.declared.texts.TheConstants.{FIXED_BYTES}
-use Rattle.word_lowering.specs.Layouts.{is_address}
+use Rattle.word_lowering.specs.Layouts.{holds_address, owns}
 use Rattle.word_lowering.specs.LineCode.{variable_in, variable_of, named, place, location}
-use Rattle.word_lowering.proofs.Scenes.{FromOwned, Ground}
+use Rattle.word_lowering.proofs.Scenes.{FromOwned, Ground, of_waiting, FromWaiting, LeadsHere}
 use Rattle.word_lowering.proofs.InMemory.{IsAt, HasWords}
 use Rattle.word_lowering.proofs.ShapeFacts.{never, shape_bytes, of_numbers, bytes_is, values_of_numbers}
 use Rattle.word_lowering.proofs.ShapePaths.{path_within}
@@ -32,16 +32,16 @@ use Rattle.word_lowering.proofs.Sites.{data_end, globals_of, IsHoused, IsGlobal,
 use Rattle.word_lowering.proofs.Scenes.{address_of, Name, of_value, of_location, of_place, Call, site_of, house, Filled, IsNamed, IsThere, looked}
 use Rattle.word_lowering.proofs.Scenes.{FromPlace, FromConstant, standing_from, FromValue, IsRoot, IsInValue, IsLedBy, IsFilled, IsNumbers, HasValue}
 use Rattle.word_lowering.proofs.SitesApart.{houses, site_at}
-use Rattle.word_lowering.proofs.Keeping.{location_address, declared_address, spot_memory, spot_address, from_memory}
-use Rattle.word_lowering.proofs.GoodLeads.{OwnHome, own_home}
-use Rattle.word_lowering.proofs.Located.{IsReadAt, owned_located, led_located}
+use Rattle.word_lowering.proofs.Keeping.{location_address, declared_address, spot_memory, spot_address, from_memory, waiting_inside, node_look}
+use Rattle.word_lowering.proofs.GoodLeads.{OwnHome, own_home, waiting_value}
+use Rattle.word_lowering.proofs.Located.{IsReadAt, led_located, full_there}
 use Rattle.word_lowering.proofs.Sources.{Lying, lying_all, lying_near, lying_readable, Source, lies_at, item_source, size_is, word_is, small_word}
 use Rattle.word_lowering.proofs.Related.{Both, IsClosed, body_of, called_by, store_of}
 use Rattle.word_lowering.proofs.PieceWords.{room_of, words_room, words_are}
 use Rattle.word_lowering.proofs.SmallWords.{AllSmall, small_words}
 use Rattle.flat_code.specs.Pieces.{value_of, piece_words}
 use Rattle.word_lowering.proofs.Lines.{Basis, starts, IsGood, all_sites}
-use Rattle.word_lowering.proofs.ValueFacts.{has_type, look_of, value_there, place_there, location_of_numbers, numbers_there}
+use Rattle.word_lowering.proofs.ValueFacts.{has_type, look_of, value_there, place_there, location_of_numbers, IsPlain}
 use Rattle.word_lowering.proofs.Items.{numbers_of}
 
 module _ (x : Basis) where
@@ -79,6 +79,25 @@ module _ (x : Basis) (sites : List Site) (linked : Linked x.table x.blocks sites
       → a + shape_bytes t < 2 ^ 32
   owned_near ground w location a t (inl f) = place_near sites w location a t (λ s i. i) f
   owned_near ground w location a t (inr f) = f.near
+
+  pub waiting_near : (location : Location) (a : ℕ) (t : Shape) → FromWaiting x.table sites location a t → a + shape_bytes t < 2 ^ 32
+  waiting_near location a t f =
+      let b = site_at x.table x.blocks sites f.site linked f.among in
+      let h = houses x.table x.blocks f.site (of_waiting f.node) b.body f.there in
+      let size = h.bytes in
+      let near = lying_near x sites linked (address_of f.site.base (house f.site (of_waiting f.node)).home) (house f.site (of_waiting f.node)).bytes
+      (lying_all x sites linked f.site (of_waiting f.node) (house f.site (of_waiting f.node)).bytes f.among f.there
+      (waiting_inside f.site f.node f.there) refl) in
+      let within = path_within (looked x.table f.site (of_waiting f.node)) location.path f.offset t f.path in
+      let e = f.address in
+      omega (arith, near, within, e, size)
+
+  pub here_near : (ground : Ground) (w : World) (location : Location) (a : ℕ) (t : Shape)
+      → LeadsHere x.table x.blocks sites ground w location a t → a + shape_bytes t < 2 ^ 32
+  here_near ground w location a t (inl f) = owned_near ground w location a t (inl f)
+  here_near ground w location a t (inr (inl f)) = constant_near x location a t f
+  here_near ground w location a t (inr (inr (inl f))) = f.near
+  here_near ground w location a t (inr (inr (inr f))) = waiting_near location a t f
 
   pub value_near : (s : Site) (temps : Temps) (temp : ℕ) (path : List ℕ) (a : ℕ) (t : Shape) → AmongSites s sites
       → FromValue x.table s temps temp path a t → a + shape_bytes t < 2 ^ 32
@@ -122,29 +141,32 @@ module _ (x : Basis) (g : Both) (line : BlockLine) (rest : List BlockLine) (y : 
 
   pub record ValueRead (t : ℕ) (v : Value) : Type 0 where
     pub there : IsThere g.call.site (of_value t)
+    pub here : of_numbers (looked x.table g.call.site (of_value t)) ≡ true
     pub shaped : has_shape v (looked x.table g.call.site (of_value t)) ≡ true
     pub read : Read true (house g.call.site (of_value t)) v
 
   -- a value of the call
-  pub item_read : (f : Name) (v : Value) → IsThere g.call.site f → HasValue g.world g.call f v → IsNumbers x.table g.memory g.call f v
-  item_read f v there has = numbers_of x.table (store_of g) g.call f v (numbers_there x g.call.site f y.linked.0 there) (y.hold.0.items f v there has)
+  pub item_read : (f : Name) (v : Value) → IsThere g.call.site f → of_numbers (looked x.table g.call.site f) ≡ true → HasValue g.world g.call f v
+      → IsNumbers x.table g.memory g.call f v
+  item_read f v there numbers has = numbers_of x.table (store_of g) g.call f v numbers (y.hold.0.items f v there has)
 
   pub read_item : (f : Name) (v : Value) → IsNumbers x.table g.memory g.call f v → Read true (house g.call.site f) v
   read_item f v item = record {
-    word = word_is x sites y.linked g.call (inl refl) f item.there item.plain v item.shaped;
-    size = size_is x sites y.linked g.call (inl refl) f item.there item.plain v item.shaped;
-    small = small_word x sites y.linked g.call (inl refl) f item.there item.plain v item.shaped;
+    word = word_is x sites y.linked g.call (inl refl) f item.there item.plain v item.numbers item.shaped;
+    size = size_is x sites y.linked g.call (inl refl) f item.there item.plain v item.numbers item.shaped;
+    small = small_word x sites y.linked g.call (inl refl) f item.there item.plain v item.numbers item.shaped;
     source = item_source x sites y.linked g.memory y.memory g.call f v (inl refl) item;
   }
 
-  pub read_value : (t : ℕ) (v : Value) → IsThere g.call.site (of_value t) → g.call.temps.values t ≡ Some v → ValueRead t v
-  read_value t v there e =
-      let item = item_read (of_value t) v there e in
-      record { there = there; shaped = item.shaped; read = read_item (of_value t) v item }
+  pub read_value : (t : ℕ) (v : Value) → IsThere g.call.site (of_value t) → of_numbers (looked x.table g.call.site (of_value t)) ≡ true
+      → g.call.temps.values t ≡ Some v → ValueRead t v
+  read_value t v there numbers e =
+      let item = item_read (of_value t) v there numbers e in
+      record { there = there; here = numbers; shaped = item.shaped; read = read_item (of_value t) v item }
 
   -- ---- at addresses
 
-  pub read_address : (f : Name) → IsThere g.call.site f → is_address (house g.call.site f).kind ≡ true → (v : Value) (a : ℕ)
+  pub read_address : (f : Name) → IsThere g.call.site f → holds_address (house g.call.site f) ≡ true → (v : Value) (a : ℕ)
       → g.call.vars (variable_of (house g.call.site f)) ≡ Some a → IsReadAt x sites y.linked g.memory v a (looked x.table g.call.site f)
       → Read false (house g.call.site f) v
   read_address f there address v a is at = by place_is.where_is
@@ -181,18 +203,18 @@ module _ (x : Basis) (g : Both) (line : BlockLine) (rest : List BlockLine) (y : 
     pub all : Bool
     pub read : Read all (place (around x.table x.blocks (body_of g)) n global) (root_value level n)
 
-  pub read_own : (n : ℕ) → IsThere g.call.site (of_place n) → Filled g.world g.call.site.level n
+  pub read_own : (n : ℕ) → IsThere g.call.site (of_place n) → of_numbers (looked x.table g.call.site (of_place n)) ≡ true → Filled g.world g.call.site.level n
       → is_full_at g.world (root_of (Standing g.call.site.level n) g.world) ≡ true
       → PlaceRead g.call.site.level n false (looked x.table g.call.site (of_place n))
-  read_own n there filled full = by (cases_Bool (is_own (house g.call.site (of_place n)).kind))
+  read_own n there numbers filled full = by (cases_Bool (owns (house g.call.site (of_place n))))
     where
-      f : IsFilled x.table (all_sites x g line rest y) g.ground g.world g.call n
+      f : IsFilled x.table x.blocks (all_sites x g line rest y) g.ground g.world g.call n
       f = y.hold.0.filled n there filled
 
-      owned : is_own (house g.call.site (of_place n)).kind ≡ true → PlaceRead g.call.site.level n false (looked x.table g.call.site (of_place n))
+      owned : owns (house g.call.site (of_place n)) ≡ true → PlaceRead g.call.site.level n false (looked x.table g.call.site (of_place n))
       owned own =
           let v = f.own own in
-          let item = item_read (of_place n) v.0 there v.1 in
+          let item = item_read (of_place n) v.0 there numbers v.1 in
           let same = sym (own_load g.call.site.level n v.0 v.1) in
           record {
             shaped = subst (λ u. has_shape u (looked x.table g.call.site (of_place n)) ≡ true) same item.shaped;
@@ -200,22 +222,22 @@ module _ (x : Basis) (g : Both) (line : BlockLine) (rest : List BlockLine) (y : 
             read = subst (λ u. Read true (house g.call.site (of_place n)) u) same (read_item (of_place n) v.0 item);
           }
 
-      other : is_own (house g.call.site (of_place n)).kind ≡ false → PlaceRead g.call.site.level n false (looked x.table g.call.site (of_place n))
+      other : owns (house g.call.site (of_place n)) ≡ false → PlaceRead g.call.site.level n false (looked x.table g.call.site (of_place n))
       other no_own =
           let s = f.other no_own in
           let is : root_of (Standing g.call.site.level n) g.world ≡ s.location = ap (through_slot (Standing g.call.site.level n)) s.slot in
-          let at = owned_located x (starts g line rest) y s.location s.address (looked x.table g.call.site (of_place n)) s.leads
-          (numbers_there x g.call.site (of_place n) y.linked.0 there) (subst (λ l. is_full_at g.world l ≡ true) is full) in
+          let at = led_located x (starts g line rest) y g.call (inl refl) (inl refl) (Located s.location) s.address (looked x.table g.call.site (of_place n))
+          numbers (subst (λ l. is_full_at g.world l ≡ true) is full) s.leads in
           let same : load g.world s.location ≡ root_value g.call.site.level n = ap (load g.world) (sym is) in
           record {
             shaped = subst (λ u. has_shape u (looked x.table g.call.site (of_place n)) ≡ true) same at.shaped;
             all = false;
             read = subst (λ u. Read false (house g.call.site (of_place n)) u) same
-                (read_address (of_place n) there (declared_address (house g.call.site (of_place n)).kind there.kind no_own) (load g.world s.location)
+                (read_address (of_place n) there (declared_address (house g.call.site (of_place n)) there.kind no_own) (load g.world s.location)
                 s.address s.holds at);
           }
 
-      by : (is_own (house g.call.site (of_place n)).kind ≡ true) ⊎ (is_own (house g.call.site (of_place n)).kind ≡ false)
+      by : (owns (house g.call.site (of_place n)) ≡ true) ⊎ (owns (house g.call.site (of_place n)) ≡ false)
           → PlaceRead g.call.site.level n false (looked x.table g.call.site (of_place n))
       by (inl h) = owned h
       by (inr h) = other h
@@ -228,10 +250,9 @@ module _ (x : Basis) (g : Both) (line : BlockLine) (rest : List BlockLine) (y : 
     pub home : InMemory (house start.site (of_place n)).home
     pub filled : Filled g.world start.site.level n
     pub root : OwnHome x (starts g line rest) y start.site n
-    pub item : IsNumbers x.table g.memory (record { site = start.site; temps = root.temps; vars = root.vars }) (of_place n) root.value
 
-  pub global_root : (n : ℕ) (ty : Ty) → if_type_of (known_in x.table) (place_named is_global (globals_of x.table x.blocks) n) ≡ Some ty → Filled g.world 0 n
-      → GlobalRoot n ty
+  pub global_root : (n : ℕ) (ty : Ty) → if_type_of (known_in x.table) (place_named is_global (globals_of x.table x.blocks) n) ≡ Some ty
+      → Filled g.world 0 n → GlobalRoot n ty
   global_root n ty is h =
       let s = start_site x.table x.blocks g.call.site (map site_of (map called_by g.waiting)) y.linked in
       let filled : Filled g.world s.site.level n = subst (λ l. Filled g.world l n) (sym s.level) h in
@@ -246,8 +267,6 @@ module _ (x : Basis) (g : Both) (line : BlockLine) (rest : List BlockLine) (y : 
         home = home;
         filled = filled;
         root = root;
-        item = numbers_of x.table (store_of g) (record { site = s.site; temps = root.temps; vars = root.vars }) (of_place n) root.value
-            (numbers_there x s.site (of_place n) s.body there) root.item;
       }
 
   -- the same range, at an address in other words
@@ -263,17 +282,18 @@ module _ (x : Basis) (g : Both) (line : BlockLine) (rest : List BlockLine) (y : 
     whole = subst (λ n. n % 4 ≡ 0) e l.whole;
   }
 
-  pub read_global : (n : ℕ) (ty : Ty) → if_type_of (known_in x.table) (place_named is_global (globals_of x.table x.blocks) n) ≡ Some ty → Filled g.world 0 n
-      → PlaceRead 0 n true (shape_of (facts_in x.table) ty)
-  read_global n ty is h =
+  pub read_global : (n : ℕ) (ty : Ty) → if_type_of (known_in x.table) (place_named is_global (globals_of x.table x.blocks) n) ≡ Some ty
+      → of_numbers (shape_of (facts_in x.table) ty) ≡ true → Filled g.world 0 n → PlaceRead 0 n true (shape_of (facts_in x.table) ty)
+  read_global n ty is numbers h =
       let r = global_root n ty is h in
-      let item = r.item in
       let site0 = r.start.site in
       let c : Call = record { site = site0; temps = r.root.temps; vars = r.root.vars } in
       let v = r.root.value in
+      let item = numbers_of x.table (store_of g) c (of_place n) v (ap (λ u. of_numbers (shape_of (facts_in x.table) u)) r.global.typed ∙ numbers)
+      r.root.item in
       let same : house site0 (of_place n) ≡ place (around x.table x.blocks (body_of g)) n true = sym r.global.same in
       let at = from_memory g.memory site0.base r.root.vars (house site0 (of_place n)) v item.plain r.home item.at in
-      let size = size_is x sites y.linked c r.start.among (of_place n) item.there item.plain v item.shaped in
+      let size = size_is x sites y.linked c r.start.among (of_place n) item.there item.plain v item.numbers item.shaped in
       let address : address_of site0.base (house site0 (of_place n)).home ≡ address_of site0.base (Static r.global.datum) = ap
       (address_of site0.base) r.global.home in
       let lying = lying_as address (lying_all x sites y.linked site0 (of_place n) (bytes v) r.start.among r.there r.home size) in
@@ -283,9 +303,9 @@ module _ (x : Basis) (g : Both) (line : BlockLine) (rest : List BlockLine) (y : 
             (subst (λ t. has_shape v (shape_of (facts_in x.table) t) ≡ true) r.global.typed item.shaped);
         all = true;
         read = subst (λ u. Read true (place (around x.table x.blocks (body_of g)) n true) u) load_is (subst (λ k. Read true k v) same (record {
-          word = word_is x sites y.linked c r.start.among (of_place n) item.there item.plain v item.shaped;
+          word = word_is x sites y.linked c r.start.among (of_place n) item.there item.plain v item.numbers item.shaped;
           size = size;
-          small = small_word x sites y.linked c r.start.among (of_place n) item.there item.plain v item.shaped;
+          small = small_word x sites y.linked c r.start.among (of_place n) item.there item.plain v item.numbers item.shaped;
           source = lies_at (Static r.global.datum) (spot_memory (house site0 (of_place n)) item.plain r.home ∙ ap Lies r.global.home) tt
               (address_of site0.base (Static r.global.datum)) refl (subst (λ a. IsAt g.memory a v) address at)
               (lying_readable x sites y.linked g.memory (address_of site0.base (Static r.global.datum)) (bytes v) y.memory lying) (λ e. (lying, size));
@@ -307,9 +327,9 @@ module _ (x : Basis) (g : Both) (line : BlockLine) (rest : List BlockLine) (y : 
   named_as a t = named (around x.table x.blocks (body_of g)) a (house g.call.site (of_location t))
 
   -- where all of it is there
-  pub read_location : (t : ℕ) (there : Where) → IsNamed g.call.site (of_location t) → g.call.temps.places t ≡ Some there
-      → is_full_at g.world (location_at g.call.temps there) ≡ true → LocationRead t there
-  read_location t there n e full = by (house g.call.site (of_location t)).alias refl (y.hold.0.led t there n e)
+  pub read_location : (t : ℕ) (there : Where) → IsNamed g.call.site (of_location t) → IsPlain x g.call.site (of_location t)
+      → g.call.temps.places t ≡ Some there → is_full_at g.world (location_at g.call.temps there) ≡ true → LocationRead t there
+  read_location t there n plain e full = by (house g.call.site (of_location t)).alias refl (y.hold.0.led t there n e)
     where
       as_location : (a : Alias) (all : Bool) (v : Value) → (house g.call.site (of_location t)).alias ≡ a → Read all (named_as a t) v
           → Read all (location (around x.table x.blocks (body_of g)) t) v
@@ -335,7 +355,7 @@ module _ (x : Basis) (g : Both) (line : BlockLine) (rest : List BlockLine) (y : 
           let filled : Filled g.world 0 p = subst (λ l. Filled g.world l p) r.level r.filled in
           of_place_read p true 0 (shape_of (facts_in x.table) (type_of x.table (house g.call.site (of_location t)))) is
           (r.is ∙ ap (λ l. Located (root_of (Standing l p) g.world)) r.level) refl
-          (read_global p (type_of x.table (house g.call.site (of_location t))) ty filled)
+          (read_global p (type_of x.table (house g.call.site (of_location t))) ty (location_of_numbers x g.call.site t y.linked.0 n plain) filled)
       by_place p false is r =
           let ty = y.linked.0.aliased t p false n is in
           let filled : Filled g.world g.call.site.level p = subst (λ l. Filled g.world l p) r.level r.filled in
@@ -343,7 +363,9 @@ module _ (x : Basis) (g : Both) (line : BlockLine) (rest : List BlockLine) (y : 
           let there_is = place_there x g.call.site p y.linked.0 typed.named in
           of_place_read p false g.call.site.level (looked x.table g.call.site (of_place p)) is
           (r.is ∙ ap (λ l. Located (root_of (Standing l p) g.world)) r.level)
-          (look_of x g.call.site (of_place p) (type_of x.table (house g.call.site (of_location t))) typed) (read_own p there_is filled
+          (look_of x g.call.site (of_place p) (type_of x.table (house g.call.site (of_location t))) typed) (read_own p there_is
+          (ap of_numbers (look_of x g.call.site (of_place p) (type_of x.table (house g.call.site (of_location t))) typed)
+          ∙ location_of_numbers x g.call.site t y.linked.0 n plain) filled
           (subst (λ w. is_full_at g.world (location_at g.call.temps w) ≡ true)
           (r.is ∙ ap (λ l. Located (root_of (Standing l p) g.world)) r.level) full))
 
@@ -352,7 +374,8 @@ module _ (x : Basis) (g : Both) (line : BlockLine) (rest : List BlockLine) (y : 
           let ty = (y.linked.0.valued t u n is).0 in
           let typed = has_type x g.call.site (of_value u) (type_of x.table (house g.call.site (of_location t))) y.linked.0 ty in
           let look = look_of x g.call.site (of_value u) (type_of x.table (house g.call.site (of_location t))) typed in
-          let v = read_value u r.value (value_there x g.call.site u y.linked.0 typed.named (ap of_numbers look ∙ location_numbers)) r.has in
+          let v = read_value u r.value (value_there x g.call.site u y.linked.0 typed.named (ap of_numbers look ∙ location_numbers))
+          (ap of_numbers look ∙ location_numbers) r.has in
           let same : r.value ≡ located there = sym (ap located r.is ∙ ap if_value r.has) in
           record {
             shaped = subst (λ w. has_shape w (looked x.table g.call.site (of_location t)) ≡ true) same
@@ -362,21 +385,36 @@ module _ (x : Basis) (g : Both) (line : BlockLine) (rest : List BlockLine) (y : 
           }
         where
           location_numbers : of_numbers (looked x.table g.call.site (of_location t)) ≡ true
-          location_numbers = location_of_numbers x g.call.site t y.linked.0 n
+          location_numbers = location_of_numbers x g.call.site t y.linked.0 n plain
 
       by : (a : Alias) → (house g.call.site (of_location t)).alias ≡ a → IsLedBy x.table x.blocks a (all_sites x g line rest y) g.ground g.world g.call t there
           → LocationRead t there
       by alias.Own is r =
           let there_is : IsThere g.call.site (of_location t) = record { among = n.among; number = n.number; kind = n.kind; own = is } in
           let at = led_located x (starts g line rest) y g.call (inl refl) (inl refl) there r.address (looked x.table g.call.site (of_location t))
-          (location_of_numbers x g.call.site t y.linked.0 n) full r.leads in
+          (location_of_numbers x g.call.site t y.linked.0 n plain) full r.leads in
           record {
             shaped = at.shaped;
             all = false;
             read = as_location alias.Own false (located there) is
-                (read_address (of_location t) there_is (location_address (house g.call.site (of_location t)).kind n.kind) (located there) r.address
+                (read_address (of_location t) there_is (location_address (house g.call.site (of_location t)) n.kind) (located there) r.address
                 r.holds at);
           }
       by (alias.Place p global) is r = by_place p global is r
       by (alias.Value u) is r = by_value u is r
+      by (alias.Node m) is r =
+          let same : located there ≡ load g.world (at_base (Waiting g.call.site.level m)) = ap located r.is in
+          let whole = (full_there x (starts g line rest) y (location_at g.call.temps there) full).1 in
+          let v = waiting_value x (starts g line rest) y g.call (inl refl) m r.is_there []
+          (subst (λ w. is_whole g.world (located w) ≡ true) r.is whole) in
+          let item = item_read (of_waiting m) v.0 r.is_there
+          (ap of_numbers (node_look x.table g.call.site t m there r) ∙ location_of_numbers x g.call.site t y.linked.0 n plain) v.1 in
+          let is_value : v.0 ≡ located there = sym (same ∙ ap awaited v.1) in
+          record {
+            shaped = subst (λ w. has_shape w (looked x.table g.call.site (of_location t)) ≡ true) is_value
+                (subst (λ s. has_shape v.0 s ≡ true) (node_look x.table g.call.site t m there r) item.shaped);
+            all = true;
+            read = as_location (alias.Node m) true (located there) is
+                (subst (λ w. Read true (house g.call.site (of_waiting m)) w) is_value (read_item (of_waiting m) v.0 item));
+          }
       by (alias.Text behind size) is r = absurd r

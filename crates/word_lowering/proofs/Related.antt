@@ -5,6 +5,7 @@ use Rattle.nim_types.specs.declared.types.TypeDef.{TypeDef}
 use Rattle.nim_meaning.specs.State.{World}
 use Rattle.flat_code.specs.declared.block.BlockLine.{BlockLine}
 use Rattle.flat_code.specs.declared.code.Code.{Code}
+use Rattle.rv32_isa.specs.Regions.{AreBytes}
 use Rattle.word_code.specs.declared.word.WordInstr.{WordInstr}
 use Rattle.word_code.specs.declared.word.WordProc.{WordProc}
 use Rattle.word_code.specs.declared.routine.TheConstants.{RUNTIME_DATA, SCRATCH_BYTES}
@@ -22,6 +23,7 @@ use Rattle.word_lowering.specs.declared.homes.TheConstants.{FIRST}
 use Rattle.word_lowering.specs.declared.homes.Housed.{Housed}
 use Rattle.word_lowering.specs.declared.spots.Spot.{Spot}
 use Rattle.word_lowering.specs.declared.spots.Spot.TheVariants.{Held, Lies}
+use Rattle.word_lowering.specs.declared.handed.TheConstants.{LEFT_HANDLE_AT}
 use Rattle.word_lowering.specs.declared.texts.TheConstants.{FIXED_BYTES}
 use Rattle.word_lowering.specs.declared.may_lower.TheConstants.{MOST_DATA}
 use Rattle.word_lowering.specs.Layouts.{result_in}
@@ -176,7 +178,7 @@ module _ (table : List TypeDef) (blocks : Code BlockLine) where
 
   -- data beside all places and the byte of a character: what each program has, and all behind the globals, with what routines have
   abbrev pub IsClosed : (at n : ℕ) → Type 0
-  IsClosed at n = ((data_at + 4 ≤ at) × (at + n ≤ data_at + FIXED_BYTES)) ⊎
+  IsClosed at n = ((data_at + 4 ≤ at) × (at + n ≤ data_at + LEFT_HANDLE_AT)) ⊎
       ((data_at + data_end table blocks ≤ at) × (at + n ≤ data_at + (MOST_DATA + RUNTIME_DATA)))
 
   -- where the data of routines begins
@@ -211,6 +213,7 @@ module _ (table : List TypeDef) (blocks : Code BlockLine) where
     pub sized : Sized m
     pub statics : length m.statics ≡ length first.statics
     pub heap : length m.heap ≡ length first.heap
+    pub bytes : AreBytes m.heap
     pub places : stack_at + length m.places ≡ next_base sites + SPARE_ROOM
     pub cells : (a : ℕ) → a % 4 ≡ 0 → IsOpen sites a → Cell m a
     pub texts : (at n : ℕ) → IsText at n → bytes_at m at n ≡ bytes_at first at n

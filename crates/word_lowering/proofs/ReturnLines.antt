@@ -10,33 +10,24 @@ use Rattle.word_code.specs.Words.{Vars, no_words, put, WordState, settled, using
 use Rattle.word_lowering.proofs.ShapeFacts.{never}
 use Rattle.word_code.proofs.ForCallers.{got, Runs, Within, at, one, run_load, then_runs}
 use Rattle.word_lowering.specs.declared.homes.Home.{Home}
-use Rattle.word_lowering.specs.declared.homes.Home.TheVariants.{Variable}
 use Rattle.word_lowering.specs.declared.homes.Housed.{Housed}
 use Rattle.word_lowering.specs.declared.homes.TheConstants.{FIRST, LEFT, OWN_FROM}
-use Rattle.word_lowering.specs.declared.texts.TheConstants.{FIXED_BYTES}
 use Rattle.word_lowering.specs.Spots.{spot_of, address}
-use Rattle.word_lowering.specs.LineCode.{back_code, word_back, variable_in}
+use Rattle.word_lowering.specs.LineCode.{back_code, word_back}
 use Rattle.word_lowering.proofs.InMemory.{IsAt, HasWords}
 use Rattle.word_lowering.proofs.Moves.{is_single, single_word, address_runs}
-use Rattle.word_lowering.proofs.Sites.{room, Housing, in_variable, by_address, in_places, in_data, InMemory, data_end, word_of, Site, IsBody}
-use Rattle.word_lowering.proofs.SitesApart.{houses}
-use Rattle.word_lowering.proofs.Scenes.{Points, Name, house, IsThere}
-use Rattle.word_lowering.proofs.Related.{Both, Waits, within, low, high, code_behind, frame_of, awaits_for, left_for}
+use Rattle.word_lowering.proofs.Sites.{word_of, Site, IsBody}
+use Rattle.word_lowering.proofs.SitesApart.{variable_high}
+use Rattle.word_lowering.proofs.Scenes.{Points, Name, IsThere, HasVariable}
+use Rattle.word_lowering.proofs.Related.{Both, Waits, within, high, code_behind, frame_of, awaits_for, left_for}
 use Rattle.word_lowering.proofs.Lines.{Basis, all_procs, starts, IsGood, all_sites}
 use Rattle.word_lowering.proofs.Sources.{Source, held_in, lies_at}
 use Rattle.word_lowering.proofs.ReadFacts.{Read}
 use Rattle.word_lowering.proofs.Returned.{called, memory_left}
 
 -- variables of places aren't those for what comes between
-pub place_high : (x : Basis) (s : Site) → IsBody x.table x.blocks s.body → (f : Name) (u : ℕ) → IsThere s f → (house s f).home
-    ≡ Variable u → OWN_FROM ≤ u
-place_high x s b f u there home = by (houses x.table x.blocks s f b there).where_is
-  where
-    by : Housing (room s.body) FIXED_BYTES (data_end x.table x.blocks) s.body.start (house s f) → OWN_FROM ≤ u
-    by (in_variable w e plain low is_word) = subst (λ n. OWN_FROM ≤ n) (ap variable_in (sym e ∙ home)) low
-    by (by_address w e address low) = subst (λ n. OWN_FROM ≤ n) (ap variable_in (sym e ∙ home)) low
-    by (in_places n e plain aligned within_it) = absurd (subst InMemory (sym e ∙ home) tt)
-    by (in_data n e plain aligned low_end within_it start) = absurd (subst InMemory (sym e ∙ home) tt)
+pub place_high : (x : Basis) (s : Site) → IsBody x.table x.blocks s.body → (f : Name) (u : ℕ) → IsThere s f → HasVariable s f u → OWN_FROM ≤ u
+place_high x s b f u there home = variable_high x.table x.blocks s f u b there home
 
 module _ (x : Basis) (h : Both) (w : Waits) (ws : List Waits) (line : BlockLine) (rest : List BlockLine)
     (y : IsGood x (starts (called x h w ws line rest) line rest)) where

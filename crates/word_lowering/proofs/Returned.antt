@@ -1,8 +1,8 @@
 -- What is true where a caller goes on.
-use Rattle.std.proofs.Common.{◌≡◌, ◌≢◌, inl, inr, ℕ, zero, suc, ◌<◌, ◌≤◌, List, [], ◌∷◌, length, map, refl, ap, ◌∙◌, arith, Ok, ◌+◌}
+use Rattle.std.proofs.Common.{◌≡◌, ◌≢◌, inl, inr, ℕ, zero, suc, ◌<◌, ◌≤◌, List, [], ◌∷◌, length, map, refl, ap, ◌∙◌, arith, Ok, ◌+◌, subst, sym}
 use Rattle.std.specs.Prelude.{take, slice_get}
 use Rattle.nim_meaning.specs.Places.{through_slot}
-use Rattle.nim_meaning.specs.State.{World, down_to, slot_at, slot_of, frame_in}
+use Rattle.nim_meaning.specs.State.{World, down_to, slot_at, slot_of, frame_in, temporary_in}
 use Rattle.nim_meaning.specs.Values.{Standing}
 use Rattle.flat_code.specs.declared.block.BlockLine.{BlockLine}
 use Rattle.flat_code.specs.Scene.{Temps}
@@ -19,6 +19,7 @@ use Rattle.word_lowering.proofs.SitesApart.{site_at, next_least}
 use Rattle.word_lowering.proofs.CallPlaces.{Grown, places_go, good_go, heap_still, read_before}
 use Rattle.rv32_isa.specs.declared.micro_op.Size.TheVariants.{Word}
 use Rattle.word_code.specs.declared.word.TheConstants.{SPARE_ROOM}
+use Rattle.word_lowering.proofs.Temporaries.{AreOnce}
 
 module _ {A : Type 0} where
   get_take : (n : ℕ) (xs : List A) (i : ℕ) → i < n → slice_get (take n xs) i ≡ slice_get xs i
@@ -97,6 +98,8 @@ module _ (x : Basis) (h : Both) (w : Waits) (ws : List Waits) (line : BlockLine)
       slots = λ s n i there away. slot_down h.world h.call.site.level s.level n (below s i);
       more = λ s n i there k. (k.0, slot_down h.world h.call.site.level s.level n (below s i) ∙ k.1);
       roots = λ s n i there k. ap (through_slot (Standing s.level n)) (slot_down h.world h.call.site.level s.level n (below s i));
+      waits = λ s node i away. ap (λ f. temporary_in (frame_in f).temporaries node) (get_take h.call.site.level h.world.frames s.level (below s i));
+      once = λ s i k. subst (λ f. AreOnce (frame_in f).temporaries) (sym (get_take h.call.site.level h.world.frames s.level (below s i))) k;
     }
 
     -- the caller goes on

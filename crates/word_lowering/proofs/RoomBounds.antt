@@ -10,7 +10,7 @@ use Rattle.flat_code.specs.declared.block.BlockLine.{BlockLine}
 use Rattle.flat_code.specs.declared.code.Code.{Code}
 use Rattle.word_code.specs.declared.word.TheConstants.{SPARE_ROOM}
 use Rattle.word_lowering.specs.declared.may_lower.TheConstants.{MOST_ROOM, MOST_DATA}
-use Rattle.word_lowering.specs.declared.texts.TheConstants.{FIXED_BYTES}
+use Rattle.word_lowering.specs.declared.handed.TheConstants.{LEFT_HANDLE_AT}
 use Rattle.word_lowering.specs.Texts.{missing, padded, fixed_texts, all_names, joined_all, ends_from, laid_texts, data_in}
 use Rattle.word_lowering.specs.Lowered.{all_layouts, globals_end, data_of, lowered}
 use Rattle.word_lowering.specs.MayLower.{procs_may, defs_may, labels_may, may_lower}
@@ -61,8 +61,8 @@ globals_within : (table : List TypeDef) (globals_end : ℕ) (procs : List (CodeP
 globals_within table globals_end procs =
     let names : List (List ℕ) = all_names table in
     let rest : List ℕ = ends_from 0 names ++ (padded (joined_all names) ++ laid_texts procs) in
-    let h = three_parts (replicate 4 0) fixed_texts (replicate (globals_end - FIXED_BYTES) 0) rest in
-    let z = zeros_length (globals_end - FIXED_BYTES) in
+    let h = three_parts (replicate 4 0) fixed_texts (replicate (globals_end - LEFT_HANDLE_AT) 0) rest in
+    let z = zeros_length (globals_end - LEFT_HANDLE_AT) in
     let k = zeros_length 4 in
     let f : length fixed_texts ≡ 16 = refl in
     let l = longer (data_in table globals_end procs) (replicate (missing (length (data_in table globals_end procs))) 0) in

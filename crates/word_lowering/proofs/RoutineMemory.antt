@@ -5,10 +5,9 @@ use Rattle.std.specs.Prelude.{◌==◌, ◌&&◌, if◌then◌else◌}
 use Rattle.std.proofs.lemmas.Bool.{cases_Bool, cases_order, cond-false, eqb-true}
 use Rattle.rv32_isa.specs.declared.micro_op.Size.TheVariants.{Word}
 use Rattle.rv32_isa.specs.declared.machine.FaultKind.TheVariants.{Misaligned}
-use Rattle.rv32_isa.specs.Regions.{KeepsSizes}
 use Rattle.rv32_isa.specs.State.{readable}
 use Rattle.rv32_isa.specs.Steps.{number_of}
-use Rattle.word_code.specs.Memory.{Memory, as_state, number_at, bytes_at}
+use Rattle.word_code.specs.Memory.{KeepsShape, Memory, as_state, number_at, bytes_at}
 use Rattle.word_code.specs.RoutineTable.{Cell, Area, ZeroWords, Beside, IsRewritten, Moving, IsCopied, Clearing, IsCleared, AreSwapped, LowWords}
 use Rattle.word_code.proofs.ForCallers.{MemoryLaw, Sized, aligned, at_same, Apart, SameOutside, Changed, CopiedTo, low_word, low_read}
 
@@ -54,7 +53,7 @@ words_from m other from to n area same o within whole =
 
 -- ---- a range is other than it was
 
-module _ (law : MemoryLaw) (m other : Memory) (sizes : KeepsSizes (as_state m) (as_state other)) where
+module _ (law : MemoryLaw) (m other : Memory) (sizes : KeepsShape (as_state m) (as_state other)) where
   sized_still : Sized m → Sized other
   sized_still sized = law.regions (as_state m) (as_state other) sized sizes
 
@@ -117,7 +116,7 @@ cleared_changed law u m other sized there is = record {
 
 pub record Trade (m other : Memory) (left right bytes : ℕ) : Type 0 where
   pub sized : Sized other
-  pub sizes : KeepsSizes (as_state m) (as_state other)
+  pub sizes : KeepsShape (as_state m) (as_state other)
   pub cells : (b : ℕ) → Cell m b → Cell other b
   pub outside : (b : ℕ) → Apart b left bytes → Apart b right bytes → number_at other b Word ≡ number_at m b Word
   pub beside : (b n : ℕ) → Beside b n left bytes → Beside b n right bytes → bytes_at other b n ≡ bytes_at m b n

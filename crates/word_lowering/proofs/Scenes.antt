@@ -1,12 +1,12 @@
 -- What block code and word code have in common while they run: each value is where its place is, and each location has the address to
 -- which it leads.
-use Rattle.std.proofs.Common.{◌≡◌, ◌⊎◌, inl, inr, subst, ℕ, ◌+◌, ◌<◌, ◌^◌, List, [], ◌∷◌, ◌++◌, length, map, Some, Bool, true, false}
+use Rattle.std.proofs.Common.{◌≡◌, ◌⊎◌, inl, inr, subst, ℕ, ◌+◌, ◌<◌, ◌^◌, List, [], ◌∷◌, ◌++◌, length, map, Option, Some, None, Bool, true, false}
 use Rattle.std.specs.Set.{is_member}
 use Rattle.nim_types.specs.Types.{same_text}
 use Rattle.nim_types.specs.declared.types.TypeDef.{TypeDef}
-use Rattle.nim_meaning.specs.Values.{Value, Fixed, number_of, Base, Made, Location, Standing, InBlock, Slot, Holds, Stands}
+use Rattle.nim_meaning.specs.Values.{Value, Fixed, number_of, Base, Made, Location, Standing, Waiting, InBlock, at_base, Slot, Holds, Stands, Lends}
 use Rattle.nim_meaning.specs.Places.{root_of}
-use Rattle.nim_meaning.specs.State.{World, slot_at}
+use Rattle.nim_meaning.specs.State.{World, slot_at, frame_at, temporary_at}
 use Rattle.flat_code.specs.declared.block.BlockLine.{BlockLine}
 use Rattle.flat_code.specs.declared.code.Code.{Code}
 use Rattle.flat_code.specs.declared.line.Piece.{Piece}
@@ -15,7 +15,7 @@ use Rattle.word_code.specs.Memory.{Memory}
 use Rattle.word_code.specs.Words.{Vars}
 use Rattle.flat_code.specs.Scene.{Where, Located, Within, Temps}
 use Rattle.flat_code.specs.Shapes.{Shape, has_shape}
-use Rattle.flat_code.specs.Fits.{is_value, is_location, is_declared, is_own, is_standing}
+use Rattle.flat_code.specs.Fits.{is_value, is_location, is_declared, is_standing}
 use Rattle.word_lowering.specs.Lowered.{data_at}
 use Rattle.word_lowering.specs.declared.homes.TheConstants.{LEFT}
 use Rattle.word_lowering.specs.declared.homes.Alias.{Alias}
@@ -23,6 +23,7 @@ use Rattle.word_lowering.specs.declared.homes.Alias.TheVariants as alias
 use Rattle.word_lowering.specs.declared.homes.Home.{Home}
 use Rattle.word_lowering.specs.declared.homes.Home.TheVariants.{Variable, Placed, Static}
 use Rattle.word_lowering.specs.declared.homes.Housed.{Housed}
+use Rattle.word_lowering.specs.declared.homes.Waiter.{Waiter}
 use Rattle.word_lowering.specs.declared.spots.Spot.{Spot}
 use Rattle.word_lowering.specs.declared.spots.Spot.TheVariants.{Held, Lies}
 use Rattle.flat_code.specs.Codes.{block_plain}
@@ -30,7 +31,8 @@ use Rattle.flat_code.specs.Lines.{level_at}
 use Rattle.flat_code.specs.Pieces.{value_of, are_one, standing_bytes}
 use Rattle.flat_code.specs.Sizes.{lines_texts, code_texts}
 use Rattle.word_lowering.specs.Aliases.{texts_of}
-use Rattle.word_lowering.specs.Layouts.{found, is_address}
+use Rattle.word_lowering.specs.Layouts.{found, holds_address, owns}
+use Rattle.word_lowering.specs.WaitingCode.{waiter_at, waiter_house}
 use Rattle.word_lowering.specs.Spots.{spot_of}
 use Rattle.word_lowering.specs.Operations.{word}
 use Rattle.word_lowering.specs.Texts.{texts_at, standing_place}
@@ -40,7 +42,8 @@ use Rattle.word_lowering.proofs.Blocks.{Blocks, AreLater, Stored}
 use Rattle.word_lowering.proofs.BlockPaths.{LeadsInBlock}
 use Rattle.word_lowering.proofs.ShapeFacts.{of_numbers, shape_bytes}
 use Rattle.word_lowering.proofs.ShapePaths.{PathTo}
-use Rattle.word_lowering.proofs.Sites.{Body, data_end, lines_of, Site, AmongSites, Among, looks, There, InMemory}
+use Rattle.word_lowering.proofs.Temporaries.{AreOnce}
+use Rattle.word_lowering.proofs.Sites.{Body, type_of, data_end, lines_of, Site, AmongSites, Among, looks, There, InMemory}
 
 -- ---- where values are
 
@@ -88,21 +91,31 @@ At m base vars (Lies home) x = (a : ℕ) × Points base vars home a × IsAt m a 
 
 -- ---- what a call has
 
--- a temporary with a value, one with a location, or a declared place
+-- a temporary with a value, one with a location, a declared place, or what waits at a node
 pub data Name : Type 0 where
   of_value : (temp : ℕ) → Name
   of_location : (temp : ℕ) → Name
   of_place : (place : ℕ) → Name
+  of_waiting : (node : ℕ) → Name
 
 abbrev pub kind_in : Name → PlaceKind → Bool
 kind_in (of_value t) = is_value
 kind_in (of_location t) = is_location
 kind_in (of_place n) = is_declared
+kind_in (of_waiting node) = is_value
 
 abbrev pub number_in : Name → ℕ
 number_in (of_value t) = t
 number_in (of_location t) = t
 number_in (of_place n) = n
+number_in (of_waiting node) = node
+
+-- whose values have all of their shape, whatever it is: those of temporaries, and all of numbers
+abbrev pub asks_shape : Name → Shape → Bool
+asks_shape (of_value t) s = true
+asks_shape (of_location t) s = of_numbers s
+asks_shape (of_place n) s = of_numbers s
+asks_shape (of_waiting node) s = of_numbers s
 
 -- a call, with the temporaries of block code and the variables of word code
 pub record Call : Type 0 where
@@ -113,8 +126,26 @@ pub record Call : Type 0 where
 abbrev pub site_of : Call → Site
 site_of c = c.site
 
+-- where its procedure has it among its places
+abbrev pub row_of : Site → Name → Housed
+row_of s name = found (kind_in name) (number_in name) s.body.own.all
+
 abbrev pub house : Site → Name → Housed
-house s name = found (kind_in name) (number_in name) s.body.own.all
+house s (of_waiting node) = waiter_house (waiter_at node s.body.own.waiters)
+house s name = row_of s name
+
+abbrev pub IsPlaced : Name → Type 0
+IsPlaced (of_waiting node) = ⊥
+IsPlaced name = Unit {0}
+
+-- the variable that is its own
+abbrev pub variable_at : Option Waiter → Option ℕ
+variable_at None = None
+variable_at (Some w) = Some w.variable
+
+abbrev pub HasVariable : Site → Name → ℕ → Type 0
+HasVariable s (of_waiting node) u = variable_at (waiter_at node s.body.own.waiters) ≡ Some u
+HasVariable s name u = (house s name).home ≡ Variable u
 
 -- a declared place has a slot
 abbrev pub Filled : World → (level place : ℕ) → Type 0
@@ -125,17 +156,37 @@ abbrev pub HasValue : World → Call → Name → Value → Type 0
 HasValue w c (of_value t) x = c.temps.values t ≡ Some x
 HasValue w c (of_location t) x = ⊥
 HasValue w c (of_place n) x = slot_at w c.site.level n ≡ Some (Holds x)
+HasValue w c (of_waiting node) x = temporary_at w c.site.level node ≡ Some (Holds x)
 
 -- a name of some place
 abbrev pub IsNamed : Site → Name → Type 0
 IsNamed s name = There s.body.own.all (kind_in name) (number_in name)
 
+-- it is among the places of its procedure, or may wait there
+abbrev pub IsAmong : Site → Name → Type 0
+IsAmong s (of_waiting node) = (w : Waiter) × (waiter_at node s.body.own.waiters ≡ Some w)
+IsAmong s name = Among (house s name) s.body.own.all
+
 -- a name with a home of its own
 pub record IsThere (s : Site) (name : Name) : Type 0 where
-  pub among : Among (house s name) s.body.own.all
+  pub among : IsAmong s name
   pub number : (house s name).number ≡ number_in name
   pub kind : kind_in name (house s name).kind ≡ true
   pub own : (house s name).alias ≡ alias.Own
+
+-- ---- variables of what waits
+
+-- one says that a value stands at an address, or that nothing waits
+abbrev pub Says : Option Slot → (word : Option ℕ) → (address : ℕ) → Type 0
+Says None word address = word ≡ Some 0
+Says (Some (Holds v)) word address = word ≡ Some address
+Says (Some (Stands other)) word address = ⊥
+Says (Some (Lends v from seen)) word address = ⊥
+
+-- at a node; where nothing may wait nothing does
+abbrev pub SaysAt : Option Waiter → Option Slot → (base : ℕ) → Vars → Type 0
+SaysAt None slot base vars = slot ≡ None
+SaysAt (Some w) slot base vars = Says slot (vars w.variable) (base + w.at)
 
 -- a text of a line: so many bytes behind so many of the texts of its procedure
 pub record IsLiteral (b : Body) (behind bytes : ℕ) (x : Value) : Type 0 where
@@ -177,15 +228,15 @@ module _ (table : List TypeDef) where
   -- a value looks as its place says, and is there
   pub record IsItem (k : Store) (c : Call) (name : Name) (x : Value) : Type 0 where
     pub there : IsThere c.site name
-    pub plain : is_address (house c.site name).kind ≡ false
-    -- one of numbers has all of them
-    pub shaped : of_numbers (looked c.site name) ≡ true → has_shape x (looked c.site name) ≡ true
+    pub plain : holds_address (house c.site name) ≡ false
+    pub shaped : asks_shape name (looked c.site name) ≡ true → has_shape x (looked c.site name) ≡ true
     pub at : AtHome k c.site.base c.vars (looked c.site name) (spot_of (house c.site name)) x
 
   -- the same of a value of numbers
   pub record IsNumbers (m : Memory) (c : Call) (name : Name) (x : Value) : Type 0 where
     pub there : IsThere c.site name
-    pub plain : is_address (house c.site name).kind ≡ false
+    pub numbers : of_numbers (looked c.site name) ≡ true
+    pub plain : holds_address (house c.site name) ≡ false
     pub shaped : has_shape x (looked c.site name) ≡ true
     pub at : At m c.site.base c.vars (spot_of (house c.site name)) x
 
@@ -205,6 +256,17 @@ module _ (table : List TypeDef) where
   -- or of one in a block: of a part of something that is owned
   abbrev pub FromOwned : (sites : List Site) → Ground → World → Location → (a : ℕ) → Shape → Type 0
   FromOwned sites ground w location a t = FromPlace sites w location a t ⊎ FromBlock ground location a t
+
+  -- or of a part of what waits at a node of one of these calls, if anything does
+  pub record FromWaiting (sites : List Site) (location : Location) (a : ℕ) (t : Shape) : Type 0 where
+    pub site : Site
+    pub among : AmongSites site sites
+    pub node : ℕ
+    pub base : location.base ≡ Waiting site.level node
+    pub there : IsThere site (of_waiting node)
+    pub offset : ℕ
+    pub path : PathTo (looked site (of_waiting node)) location.path offset t
+    pub address : a ≡ address_of site.base (house site (of_waiting node)).home + offset
 
   -- the same of a part of a temporary's value
   pub record FromValue (s : Site) (temps : Temps) (temp : ℕ) (path : List ℕ) (a : ℕ) (t : Shape) : Type 0 where
@@ -233,19 +295,12 @@ module _ (table : List TypeDef) where
     pub value : Value
     pub has : c.temps.values t ≡ Some value
 
-  -- ---- places
-
-  -- a filled place: it has a value of its own, or stands for a location
-  pub record StandsFor (sites : List Site) (ground : Ground) (w : World) (c : Call) (n : ℕ) : Type 0 where
-    pub location : Location
-    pub slot : slot_at w c.site.level n ≡ Some (Stands location)
-    pub address : ℕ
-    pub holds : c.vars (variable_of (house c.site (of_place n))) ≡ Some address
-    pub leads : FromOwned sites ground w location address (looked c.site (of_place n))
-
-  pub record IsFilled (sites : List Site) (ground : Ground) (w : World) (c : Call) (n : ℕ) : Type 0 where
-    pub own : is_own (house c.site (of_place n)).kind ≡ true → (x : Value) × (slot_at w c.site.level n ≡ Some (Holds x))
-    pub other : is_own (house c.site (of_place n)).kind ≡ false → StandsFor sites ground w c n
+  -- another name for where something waits, if it does
+  pub record IsAtNode (s : Site) (temp node : ℕ) (there : Where) : Type 0 where
+    pub is : there ≡ Located (at_base (Waiting s.level node))
+    pub is_there : IsThere s (of_waiting node)
+    pub typed : type_of table (house s (of_waiting node)) ≡ type_of table (house s (of_location temp))
+    pub read_only : is_standing (house s (of_location temp)).kind ≡ false
 
   module _ (blocks : Code BlockLine) where
     -- ---- constants that stand in the data
@@ -266,20 +321,40 @@ module _ (table : List TypeDef) where
       pub path : PathTo shape location.path offset t
       pub address : a ≡ standing_from pieces + offset
 
+    abbrev pub LeadsHere : (sites : List Site) → Ground → World → Location → ℕ → Shape → Type 0
+    LeadsHere sites ground w location a t =
+        FromPlace sites w location a t ⊎ (FromConstant location a t ⊎ (FromBlock ground location a t ⊎ FromWaiting sites location a t))
+
     abbrev pub Leads : (sites : List Site) → Ground → World → (s : Site) → Temps → Where → ℕ → Shape → Type 0
-    Leads sites ground w s temps (Located location) a t = FromPlace sites w location a t ⊎ (FromConstant location a t ⊎ FromBlock ground location a t)
+    Leads sites ground w s temps (Located location) a t = LeadsHere sites ground w location a t
     Leads sites ground w s temps (Within temp path) a t = FromValue s temps temp path a t
 
     pub of_owned : {sites : List Site} {ground : Ground} {w : World} {location : Location} {a : ℕ} {t : Shape} → IsOwned location.base
-        → FromPlace sites w location a t ⊎ (FromConstant location a t ⊎ FromBlock ground location a t) → FromOwned sites ground w location a t
+        → LeadsHere sites ground w location a t → FromOwned sites ground w location a t
     of_owned is (inl f) = inl f
     of_owned is (inr (inl f)) = absurd (subst IsOwned f.base is)
-    of_owned is (inr (inr f)) = inr f
+    of_owned is (inr (inr (inl f))) = inr f
+    of_owned is (inr (inr (inr f))) = absurd (subst IsOwned f.base is)
 
     pub owned_leads : {sites : List Site} {ground : Ground} {w : World} {location : Location} {a : ℕ} {t : Shape} → FromOwned sites ground w location a t
-        → FromPlace sites w location a t ⊎ (FromConstant location a t ⊎ FromBlock ground location a t)
+        → LeadsHere sites ground w location a t
     owned_leads (inl f) = inl f
-    owned_leads (inr f) = inr (inr f)
+    owned_leads (inr f) = inr (inr (inl f))
+
+    -- ---- places
+
+    -- a filled place: it has a value of its own, or stands for a location, of something that is owned where it isn't lent
+    pub record StandsFor (sites : List Site) (ground : Ground) (w : World) (c : Call) (n : ℕ) : Type 0 where
+      pub location : Location
+      pub slot : slot_at w c.site.level n ≡ Some (Stands location)
+      pub address : ℕ
+      pub holds : c.vars (variable_of (house c.site (of_place n))) ≡ Some address
+      pub owned : (house c.site (of_place n)).lent ≡ false → IsOwned location.base
+      pub leads : LeadsHere sites ground w location address (looked c.site (of_place n))
+
+    pub record IsFilled (sites : List Site) (ground : Ground) (w : World) (c : Call) (n : ℕ) : Type 0 where
+      pub own : owns (house c.site (of_place n)) ≡ true → (x : Value) × (slot_at w c.site.level n ≡ Some (Holds x))
+      pub other : owns (house c.site (of_place n)) ≡ false → StandsFor sites ground w c n
 
     -- ---- temporaries with locations
 
@@ -295,6 +370,7 @@ module _ (table : List TypeDef) where
     IsLedBy alias.Own sites ground w c temp there = IsAddressed sites ground w c temp there
     IsLedBy (alias.Place place global) sites ground w c temp there = IsRoot sites w c place global there
     IsLedBy (alias.Value t) sites ground w c temp there = IsInValue c t there
+    IsLedBy (alias.Node node) sites ground w c temp there = IsAtNode c.site temp node there
     IsLedBy (alias.Text behind bytes) sites ground w c temp there = ⊥
 
     abbrev pub IsLed : (sites : List Site) → Ground → World → Call → (temp : ℕ) → Where → Type 0
@@ -309,6 +385,8 @@ module _ (table : List TypeDef) where
       pub led : (t : ℕ) (there : Where) → IsNamed c.site (of_location t) → c.temps.places t ≡ Some there → IsLed sites k.ground w c t there
       pub filled : (n : ℕ) → IsThere c.site (of_place n) → Filled w c.site.level n → IsFilled sites k.ground w c n
       pub left : c.site.body.start ≡ false → c.vars LEFT ≡ Some c.site.left
+      pub waits : (node : ℕ) → SaysAt (waiter_at node c.site.body.own.waiters) (temporary_at w c.site.level node) c.site.base c.vars
+      pub once : AreOnce (frame_at w c.site.level).temporaries
 
     abbrev pub AllHold : Store → World → List Call → Type 0
     AllHold k w [] = Unit {0}

@@ -32,6 +32,7 @@ use Rattle.word_lowering.proofs.Related.{Both, with_units, StandAt, body_of, cod
 use Rattle.word_lowering.proofs.Scenes.{IsThere, of_value, house, looked}
 use Rattle.word_lowering.proofs.Sites.{is_one_word, word_of, around}
 use Rattle.word_lowering.proofs.ValueFacts.{good_word}
+use Rattle.word_lowering.proofs.ShapeFacts.{number_numbers}
 
 -- ---- runs that end
 
@@ -119,7 +120,8 @@ module _ (x : Basis) where
         (variable_of (house g.call.site (of_value to))) (word z) code_next
         → Settles x (starts g line rest) rest (Passes (Answers [] work (with_value to g.call.temps (Number z)) g.world))
     gives_settles to z work some n given =
-        let good = good_word x g line rest y rest to (Number z) given.gives.vars n.there n.shaped n.one given.gives.but given.gives.given
+        let good = good_word x g line rest y rest to (Number z) given.gives.vars n.there
+        (number_numbers z (looked x.table g.call.site (of_value to)) n.shaped) n.shaped n.one given.gives.but given.gives.given
         (stands_next x.table x.blocks (body_of g) line rest y.stands) g.awaits in
         goes_on x (starts g line rest) (changed g rest (with_value to g.call.temps (Number z)) given.gives.vars g.memory g.words g.awaits g.world) rest good
         given.steps work (with_value to g.call.temps (Number z)) g.world given.gives.runs given.some (omega (arith, given.few, some)) refl
@@ -145,7 +147,7 @@ module _ (x : Basis) where
         let t = traps g line rest y trap leads in
         let l = led t.there t.stands in
         let long = line_long trap in
-        stops_more (lower x) (low x.table x.blocks (starts g line rest)) (l.steps + 7) (16 * (work + length (line_of (trap_text trap)))) 1
+        stops_more (lower x) (low x.table x.blocks (starts g line rest)) (l.steps + 7) (256 * (work + length (line_of (trap_text trap)))) 1
         (writes Err (line_of (trap_text trap))) (live g.world)
         (omega (arith, l.few, long, some))
         (stops_after (lower x) (low x.table x.blocks (starts g line rest))

@@ -1,5 +1,5 @@
 -- Shapes that are made of numbers alone, and their values: how many bytes they have, and where their parts are.
-use Rattle.std.proofs.Common.{◌≡◌, ℕ, zero, suc, ◌+◌, ◌*◌, ◌<◌, Bool, true, false, Option, Some, None, refl, sym, ap, ap₂}
+use Rattle.std.proofs.Common.{◌≡◌, ℕ, ℤ, zero, suc, ◌+◌, ◌*◌, ◌<◌, Bool, true, false, Option, Some, None, refl, sym, ap, ap₂}
 use Rattle.std.proofs.Common.{◌∙◌, arith, mul-suc, mul_comm}
 use Rattle.std.specs.Prelude.{◌&&◌}
 use Rattle.std.proofs.lemmas.Bool.{and_parts, true≢false}
@@ -34,6 +34,16 @@ abbrev mutual
 pub row_numbers : (n i : ℕ) (s : Shape) → i < n → of_numbers (row n s) ≡ true → of_numbers s ≡ true
 row_numbers zero i s lt o = absurd (omega (arith, lt))
 row_numbers (suc n) i s lt o = o
+
+-- what a number looks as is made of numbers
+pub number_numbers : (z : ℤ) (s : Shape) → has_shape (Number z) s ≡ true → of_numbers s ≡ true
+number_numbers z (number values) h = refl
+number_numbers z reference h = never h
+number_numbers z block h = never h
+number_numbers z (elements s) h = never h
+number_numbers z (row n s) h = never h
+number_numbers z (parts ss) h = never h
+number_numbers z (resource ss) h = never h
 
 pub fewer_numbers : (n : ℕ) (s : Shape) → of_numbers s ≡ true → of_numbers (row n s) ≡ true
 fewer_numbers zero s o = refl

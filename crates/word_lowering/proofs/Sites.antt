@@ -1,6 +1,6 @@
 -- The procedures of word code, and their calls, as far as a run doesn't change them: where the places of a call begin, how many calls
 -- may still be active behind it, and how its places are housed.
-use Rattle.std.proofs.Common.{◌≡◌, ◌⊎◌, ℕ, ◌+◌, ◌%◌, ◌<◌, ◌≤◌, List, [], ◌∷◌, ◌++◌, length, map, Option, Some, None}
+use Rattle.std.proofs.Common.{◌≡◌, ◌⊎◌, ℕ, ◌+◌, ◌%◌, ◌<◌, ◌≤◌, List, [], ◌∷◌, ◌++◌, length, map, Option, Some, None, ◌≢◌}
 use Rattle.std.proofs.Common.{Bool, true}
 use Rattle.std.proofs.Common.{false}
 use Rattle.std.specs.Set.{is_member}
@@ -12,6 +12,7 @@ use Rattle.nim_types.specs.Forms.{hooked, form_of}
 use Rattle.nim_program.specs.declared.program.TheConstants.{ACTIVE_CALLS}
 use Rattle.flat_code.specs.declared.line.Line.{Line}
 use Rattle.flat_code.specs.declared.place.PlaceKind.{PlaceKind}
+use Rattle.flat_code.specs.declared.place.PlaceKind.TheVariants as K
 use Rattle.flat_code.specs.declared.place.FlatPlace.{FlatPlace}
 use Rattle.flat_code.specs.declared.block.BlockLine.{BlockLine}
 use Rattle.flat_code.specs.declared.code.Code.{Code}
@@ -33,19 +34,24 @@ use Rattle.word_lowering.specs.declared.homes.Home.{Home}
 use Rattle.word_lowering.specs.declared.homes.Home.TheVariants.{Variable, Placed, Static}
 use Rattle.word_lowering.specs.declared.homes.Housed.{Housed}
 use Rattle.word_lowering.specs.declared.homes.Layout.{Layout}
+use Rattle.word_lowering.specs.declared.homes.Waiter.{Waiter}
 use Rattle.word_lowering.specs.declared.texts.TheConstants.{FIXED_BYTES}
 use Rattle.word_lowering.specs.declared.may_lower.TheConstants.{MOST_ROOM}
-use Rattle.word_lowering.specs.Stored.{entry_at, count_in, element_bytes, part_at}
+use Rattle.word_lowering.specs.OwnedCode.{has_handle}
+use Rattle.word_lowering.specs.Stored.{entry_at, count_in, element_bytes, part_at, is_hooked}
 use Rattle.word_lowering.specs.Aliases.{texts_of, is_among, addressed, alias_for}
-use Rattle.word_lowering.specs.Layouts.{result_in, is_empty, found, is_address}
+use Rattle.word_lowering.specs.Layouts.{result_in, is_empty, found, holds_address, owns}
 use Rattle.word_lowering.specs.MayLower.{lines_may}
 use Rattle.word_lowering.specs.Texts.{names_at, texts_at, texts_in}
 use Rattle.word_lowering.specs.LineCode.{Around}
+use Rattle.word_lowering.specs.WaitingCode.{waiter_at, waiting_house}
 use Rattle.word_lowering.specs.Lowered.{all_layouts, start_layout, globals_end, word_proc}
 use Rattle.word_lowering.proofs.ShapeFacts.{nth_shape, shape_bytes, of_numbers}
 use Rattle.word_lowering.proofs.ShapePaths.{shapes_before}
 use Rattle.word_lowering.proofs.HomesApart.{AllApart}
+use Rattle.word_lowering.proofs.Waiters.{AreApart}
 use Rattle.word_code.specs.declared.word.TheConstants.{SPARE_ROOM}
+use Rattle.word_lowering.proofs.BlankShapes.{of_handles}
 
 -- ---- procedures
 
@@ -87,10 +93,10 @@ pub record There (all : List Housed) (is_kind : PlaceKind → Bool) (n : ℕ) : 
 
 -- where a place is
 pub data Housing (room low high : ℕ) (start : Bool) (h : Housed) : Type 0 where
-  in_variable : (v : ℕ) → h.home ≡ Variable v → is_address h.kind ≡ false → OWN_FROM ≤ v → h.is_word ≡ true → Housing room low high start h
-  by_address : (v : ℕ) → h.home ≡ Variable v → is_address h.kind ≡ true → OWN_FROM ≤ v → Housing room low high start h
-  in_places : (at : ℕ) → h.home ≡ Placed at → is_address h.kind ≡ false → at % 4 ≡ 0 → at + h.bytes ≤ room → Housing room low high start h
-  in_data : (at : ℕ) → h.home ≡ Static at → is_address h.kind ≡ false → at % 4 ≡ 0 → low ≤ at → at + h.bytes ≤ high → start ≡ true
+  in_variable : (v : ℕ) → h.home ≡ Variable v → holds_address h ≡ false → OWN_FROM ≤ v → h.is_word ≡ true → Housing room low high start h
+  by_address : (v : ℕ) → h.home ≡ Variable v → holds_address h ≡ true → OWN_FROM ≤ v → Housing room low high start h
+  in_places : (at : ℕ) → h.home ≡ Placed at → holds_address h ≡ false → at % 4 ≡ 0 → at + h.bytes ≤ room → Housing room low high start h
+  in_data : (at : ℕ) → h.home ≡ Static at → holds_address h ≡ false → at % 4 ≡ 0 → low ≤ at → at + h.bytes ≤ high → start ≡ true
       → Housing room low high start h
 
 abbrev pub InVariable : Home → Type 0
@@ -120,6 +126,14 @@ next_base (s ∷ sites) = s.base + room s.body
 abbrev pub AmongSites : Site → List Site → Type 0
 AmongSites s [] = ⊥
 AmongSites s (t ∷ sites) = (t ≡ s) ⊎ AmongSites s sites
+
+-- something is to be done for what stands there; what a loop counts is a number, whatever its type says
+abbrev pub has_hooks_by : List TypeDef → PlaceKind → (ty : ℕ) → Bool
+has_hooks_by table K.Counter ty = false
+has_hooks_by table kind ty = is_hooked table ty
+
+abbrev pub has_hooks : List TypeDef → Housed → Bool
+has_hooks table h = has_hooks_by table h.kind h.ty
 
 module _ (table : List TypeDef) (blocks : Code BlockLine) where
   abbrev pub data_end : ℕ
@@ -156,13 +170,30 @@ module _ (table : List TypeDef) (blocks : Code BlockLine) where
     pub word : is_one_word (looks table h) ≡ h.is_word
     pub where_is : Housing (room b) FIXED_BYTES data_end b.start h
     pub kept : is_value h.kind ≡ true → h.is_word ≡ true → InVariable h.home
-    pub numbers : of_numbers (looks table h) ≡ true
-    pub unhooked : hooked (form_of (facts_in table) (type_of table h)) ≡ false
+    -- one whose type has no hooks is made of numbers
+    pub numbers : has_hooks table h ≡ false → of_numbers (looks table h) ≡ true
+    pub unhooked : has_hooks table h ≡ false → hooked (form_of (facts_in table) (type_of table h)) ≡ false
+    pub unlent : hooked (form_of (facts_in table) (type_of table h)) ≡ false → h.lent ≡ false
     -- where its parts are, by the table
     pub rows : (n : ℕ) (s : Shape) → looks table h ≡ row n s
         → (count_in (entry_at table h.ty) ≡ n) × (0 < n → element_bytes table (entry_at table h.ty) ≡ shape_bytes s)
+        × (has_handle (entry_at table h.ty) ≡ false)
     pub fields : (ss : Shapes) (i : ℕ) (s : Shape) → looks table h ≡ parts ss → nth_shape ss i ≡ Some s → part_at table h.ty i
         ≡ shapes_before ss i
+
+  -- a home is taken before one for what waits
+  abbrev pub IsTakenBefore : Home → (bytes : ℕ) → Waiter → Type 0
+  IsTakenBefore (Variable v) bytes w = v ≢ w.variable
+  IsTakenBefore (Placed at) bytes w = at + bytes ≤ w.at
+  IsTakenBefore (Static at) bytes w = Unit {0}
+
+  -- what waits at nodes has homes behind those of all places, each with a variable of its own
+  pub record AreWaiters (b : Body) : Type 0 where
+    pub housed : (node : ℕ) (w : Waiter) → waiter_at node b.own.waiters ≡ Some w → IsHoused b (waiting_house w)
+    pub variable : (node : ℕ) (w : Waiter) → waiter_at node b.own.waiters ≡ Some w → OWN_FROM ≤ w.variable
+    pub behind : (node : ℕ) (w : Waiter) → waiter_at node b.own.waiters ≡ Some w → (h : Housed) → Among h b.own.all → h.alias ≡ alias.Own
+        → IsTakenBefore h.home h.bytes w
+    pub apart : (n m : ℕ) (w u : Waiter) → n ≢ m → waiter_at n b.own.waiters ≡ Some w → waiter_at m b.own.waiters ≡ Some u → AreApart w u
 
   -- a global is a place of the start code, in the data
   pub record IsGlobal (b : Body) (n : ℕ) (ty : Ty) : Type 0 where
@@ -171,12 +202,12 @@ module _ (table : List TypeDef) (blocks : Code BlockLine) where
     pub typed : type_of table (found is_declared n b.own.all) ≡ ty
     pub datum : ℕ
     pub home : (found is_declared n b.own.all).home ≡ Static datum
-    pub own : is_own (found is_declared n b.own.all).kind ≡ true
+    pub own : owns (found is_declared n b.own.all) ≡ true
 
   -- the place of a result, as block code says it and as the layout does
   abbrev pub ResultIs : List Housed → Option ℕ → Option Housed → Type 0
   ResultIs all None o = o ≡ None
-  ResultIs all (Some p) o = (o ≡ Some (found is_declared p all)) × There all is_own p × (is_own (found is_declared p all).kind ≡ true)
+  ResultIs all (Some p) o = (o ≡ Some (found is_declared p all)) × There all is_own p × (owns (found is_declared p all) ≡ true)
 
   -- where the texts of its lines stand among all
   pub record HasTexts (b : Body) : Type 0 where
@@ -212,9 +243,10 @@ module _ (table : List TypeDef) (blocks : Code BlockLine) where
     -- a value is a text of a line, or has a home, as all declared places have
     pub values : (t : ℕ) → There b.own.all is_value t → ((found is_value t b.own.all).alias ≡ alias.Own) ⊎ IsTextual (found is_value t b.own.all)
     pub places : (h : Housed) → Among h b.own.all → is_declared h.kind ≡ true → h.alias ≡ alias.Own
-    -- locations lead to numbers, and nothing is to be done for these
-    pub locations : (t : ℕ) → There b.own.all is_location t → of_numbers (looks table (found is_location t b.own.all)) ≡ true
-    pub plain_locations : (t : ℕ) → There b.own.all is_location t
+    -- locations of types without hooks lead to numbers, and nothing is to be done for these
+    pub locations : (t : ℕ) → There b.own.all is_location t → has_hooks table (found is_location t b.own.all) ≡ false
+        → of_numbers (looks table (found is_location t b.own.all)) ≡ true
+    pub plain_locations : (t : ℕ) → There b.own.all is_location t → has_hooks table (found is_location t b.own.all) ≡ false
         → hooked (form_of (facts_in table) (type_of table (found is_location t b.own.all))) ≡ false
     -- the type of a location that is another name, which is written only where it is a place's
     pub aliased : (t p : ℕ) (global : Bool) → There b.own.all is_location t → (found is_location t b.own.all).alias ≡ alias.Place p global
@@ -233,16 +265,23 @@ module _ (table : List TypeDef) (blocks : Code BlockLine) where
     pub own : (n : ℕ) → There b.own.all is_own n → found is_own n b.own.all ≡ found is_declared n b.own.all
     -- those whose address a line hands on are in memory
     pub addressed : (n : ℕ) → is_among n (addressed (lines_of b)) ≡ true → There b.own.all is_declared n
-        → is_own (found is_declared n b.own.all).kind ≡ true → InMemory (found is_declared n b.own.all).home
+        → owns (found is_declared n b.own.all) ≡ true → InMemory (found is_declared n b.own.all).home
     pub global : b.start ≡ true → (n : ℕ) (ty : Ty) → if_type_of (known_in table) (place_named is_global globals_of n) ≡ Some ty → IsGlobal b n ty
     pub fits : all_fit (known_in table) sigs globals_of b.proc.places (lines_of b) ≡ true
     pub may : lines_may table b.own.all (lines_of b) ≡ true
+    -- yet nothing that has a home has hooks
+    pub plain : (h : Housed) → Among h b.own.all → h.alias ≡ alias.Own → has_hooks table h ≡ false
+    pub plain_led : (t : ℕ) → There b.own.all is_location t → has_hooks table (found is_location t b.own.all) ≡ false
+    -- what has hooks and a home has neither refs nor objects with hooks of their own, and is no word
+    pub built : (h : Housed) → Among h b.own.all → h.alias ≡ alias.Own → has_hooks table h ≡ true
+        → (of_handles (looks table h) ≡ true) × (is_one_word (looks table h) ≡ false)
     -- each label comes once: the one that stands behind is the first one
     pub once : (name : ℕ) (before after found_there : List BlockLine) → b.proc.lines ≡ before ++ after
         → line_from block_label name after ≡ Some found_there → line_from block_label name b.proc.lines ≡ Some found_there
     pub result : ResultIs b.own.all (result_at (known_in table) b.proc.places) (result_in b.own.all)
     -- nothing waits yet
     pub waiters : b.own.waiters ≡ []
+    pub waiting : AreWaiters b
     pub room_whole : room b % 4 ≡ 0
     pub room_most : room b ≤ MOST_ROOM
     -- a result stands within the room for arguments

@@ -1,7 +1,8 @@
 -- The places of calls that are active don't overlap.
-use Rattle.std.proofs.Common.{◌≡◌, ◌≢◌, ◌⊎◌, inl, inr, ℕ, ◌+◌, ◌%◌, ◌<◌, ◌≤◌, List, [], ◌∷◌, length, true, false}
+use Rattle.std.proofs.Common.{◌≡◌, ◌≢◌, ◌⊎◌, inl, inr, ℕ, ◌+◌, ◌%◌, ◌<◌, ◌≤◌, List, [], ◌∷◌, length, Option, Some, true, false}
 use Rattle.std.proofs.Common.{refl, sym, ap, subst, ◌∙◌, arith}
 use Rattle.std.proofs.lemmas.Bool.{cases_order}
+use Rattle.std.proofs.lemmas.Option.{same_Some}
 use Rattle.rv32_isa.specs.Image.{stack_at}
 use Rattle.nim_types.specs.declared.types.TypeDef.{TypeDef}
 use Rattle.flat_code.specs.declared.place.PlaceKind.{PlaceKind}
@@ -11,16 +12,21 @@ use Rattle.flat_code.specs.declared.code.Code.{Code}
 use Rattle.flat_code.specs.Fits.{is_value, is_location, is_declared}
 use Rattle.word_lowering.specs.Lowered.{data_at}
 use Rattle.word_lowering.proofs.ShapeFacts.{never}
+use Rattle.word_lowering.specs.declared.homes.TheConstants.{OWN_FROM}
 use Rattle.word_lowering.specs.declared.homes.Home.{Home}
 use Rattle.word_lowering.specs.declared.homes.Home.TheVariants.{Variable, Placed, Static}
 use Rattle.word_lowering.specs.declared.homes.Housed.{Housed}
+use Rattle.word_lowering.specs.declared.homes.Waiter.{Waiter}
 use Rattle.word_lowering.specs.declared.texts.TheConstants.{FIXED_BYTES}
 use Rattle.word_lowering.specs.declared.may_lower.TheConstants.{MOST_DATA}
 use Rattle.word_lowering.specs.Layouts.{is_empty}
+use Rattle.word_lowering.specs.LineCode.{variable_in}
+use Rattle.word_lowering.specs.WaitingCode.{waiter_at, waiting_house, waiter_house}
 use Rattle.word_lowering.proofs.HomesApart.{Apart, Each, Parted, AllApart}
 use Rattle.word_lowering.proofs.Sites.{room, Among, Housing, in_variable, by_address, in_places, in_data, InMemory, Site, next_base, AmongSites}
-use Rattle.word_lowering.proofs.Sites.{data_end, IsHoused, IsBody, Linked}
-use Rattle.word_lowering.proofs.Scenes.{address_of, Name, of_value, of_location, of_place, kind_in, number_in, house, IsThere}
+use Rattle.word_lowering.proofs.Sites.{data_end, IsHoused, IsTakenBefore, IsBody, Linked}
+use Rattle.word_lowering.proofs.Scenes.{address_of, Name, of_value, of_location, of_place, of_waiting, kind_in, number_in, house, IsPlaced}
+use Rattle.word_lowering.proofs.Scenes.{variable_at, HasVariable, IsThere}
 
 -- ---- names of different things
 
@@ -39,17 +45,19 @@ location_declared K.Location h g = never g
 location_declared K.Within h g = never g
 location_declared k h g = never h
 
--- different names have different numbers or kinds
-pub differ : (e f : Name) → (number_in e ≡ number_in f) → (k : PlaceKind) → kind_in e k ≡ true → kind_in f k ≡ true → e ≢ f → ⊥
-differ (of_value t) (of_value u) n k x y ne = ne (ap of_value n)
-differ (of_value t) (of_location u) n k x y ne = value_location k x y
-differ (of_value t) (of_place u) n k x y ne = value_declared k x y
-differ (of_location t) (of_value u) n k x y ne = value_location k y x
-differ (of_location t) (of_location u) n k x y ne = ne (ap of_location n)
-differ (of_location t) (of_place u) n k x y ne = location_declared k x y
-differ (of_place t) (of_value u) n k x y ne = value_declared k y x
-differ (of_place t) (of_location u) n k x y ne = location_declared k y x
-differ (of_place t) (of_place u) n k x y ne = ne (ap of_place n)
+-- different ones have different numbers or kinds
+differ : (e f : Name) → IsPlaced e → IsPlaced f → (number_in e ≡ number_in f) → (k : PlaceKind) → kind_in e k ≡ true → kind_in f k ≡ true → e ≢ f → ⊥
+differ (of_waiting n) f i j is k x y ne = absurd i
+differ e (of_waiting n) i j is k x y ne = absurd j
+differ (of_value t) (of_value u) i j n k x y ne = ne (ap of_value n)
+differ (of_value t) (of_location u) i j n k x y ne = value_location k x y
+differ (of_value t) (of_place u) i j n k x y ne = value_declared k x y
+differ (of_location t) (of_value u) i j n k x y ne = value_location k y x
+differ (of_location t) (of_location u) i j n k x y ne = ne (ap of_location n)
+differ (of_location t) (of_place u) i j n k x y ne = location_declared k x y
+differ (of_place t) (of_value u) i j n k x y ne = value_declared k y x
+differ (of_place t) (of_location u) i j n k x y ne = location_declared k y x
+differ (of_place t) (of_place u) i j n k x y ne = ne (ap of_place n)
 
 -- ---- homes of one layout
 
@@ -83,35 +91,101 @@ beside_turned a n b k (inr h) = inl h
 module _ (table : List TypeDef) (blocks : Code BlockLine) where
   -- what is there is housed
   pub houses : (s : Site) (e : Name) → IsBody table blocks s.body → IsThere s e → IsHoused table blocks s.body (house s e)
+  houses s (of_waiting node) b x =
+      subst (λ o. IsHoused table blocks s.body (waiter_house o)) (sym x.among.1) (b.waiting.housed node x.among.0 x.among.1)
   houses s e b x = b.housed (house s e) x.among x.own
 
   -- homes that are apart
   abbrev pub AreApart : Housed → Housed → Type 0
   AreApart h k = Apart h.home h.bytes k.home k.bytes
 
+  -- what waits stands behind all places
+  before_waiter : (home : Home) (bytes : ℕ) (w : Waiter) → IsTakenBefore table blocks home bytes w → Apart home bytes (Placed w.at) w.bytes
+  before_waiter (Variable v) bytes w h = tt
+  before_waiter (Placed at) bytes w h = h
+  before_waiter (Static at) bytes w h = tt
+
+  waits_behind : (s : Site) (node : ℕ) (f : Name) → IsBody table blocks s.body → (x : IsThere s (of_waiting node))
+      → IsTakenBefore table blocks (house s f).home (house s f).bytes x.among.0 → AreApart (house s f) (house s (of_waiting node))
+  waits_behind s node f b x h =
+      subst (λ o. AreApart (house s f) (waiter_house o)) (sym x.among.1) (before_waiter (house s f).home (house s f).bytes x.among.0 h)
+
   pub names_parted : (s : Site) (e f : Name) → IsBody table blocks s.body → IsThere s e → IsThere s f → e ≢ f
       → AreApart (house s e) (house s f) ⊎ AreApart (house s f) (house s e)
+  names_parted s (of_waiting n) (of_waiting m) b x y ne = inl_or (two x.among.0 y.among.0 (b.waiting.apart n m x.among.0 y.among.0
+      (λ e. ne (ap of_waiting e)) x.among.1 y.among.1).homes)
+    where
+      two : (w u : Waiter) → (w.at + w.bytes ≤ u.at) ⊎ (u.at + u.bytes ≤ w.at)
+          → AreApart (waiting_house w) (waiting_house u) ⊎ AreApart (waiting_house u) (waiting_house w)
+      two w u h = h
+
+      inl_or : AreApart (waiting_house x.among.0) (waiting_house y.among.0) ⊎ AreApart (waiting_house y.among.0) (waiting_house x.among.0)
+          → AreApart (house s (of_waiting n)) (house s (of_waiting m)) ⊎ AreApart (house s (of_waiting m)) (house s (of_waiting n))
+      inl_or h =
+          subst (λ o. AreApart (waiter_house o) (house s (of_waiting m)) ⊎ AreApart (house s (of_waiting m)) (waiter_house o)) (sym x.among.1)
+          (subst (λ o. AreApart (waiting_house x.among.0) (waiter_house o) ⊎ AreApart (waiter_house o) (waiting_house x.among.0)) (sym y.among.1) h)
+  names_parted s (of_waiting n) f b x y ne = inr (waits_behind s n f b x (b.waiting.behind n x.among.0 x.among.1 (house s f) y.among y.own))
+  names_parted s e (of_waiting m) b x y ne = inl (waits_behind s m e b y (b.waiting.behind m y.among.0 y.among.1 (house s e) x.among x.own))
   names_parted s e f b x y ne = by (among_apart s.body.own.all (house s e) (house s f) b.apart x.among y.among (λ same.
-      differ e f (sym x.number ∙ ap (λ h. h.number) same ∙ y.number) (house s f).kind
+      differ e f tt tt (sym x.number ∙ ap (λ h. h.number) same ∙ y.number) (house s f).kind
       (subst (λ h. kind_in e h.kind ≡ true) same x.kind) y.kind ne))
     where
       by : Parted (house s e) (house s f) ⊎ Parted (house s f) (house s e) → AreApart (house s e) (house s f) ⊎ AreApart (house s f) (house s e)
       by (inl h) = inl (h x.own y.own)
       by (inr h) = inr (h y.own x.own)
 
-  -- variables of different places
+  -- ---- variables
+
+  waiter_variable : (o : Option Waiter) (w : Waiter) (u : ℕ) → o ≡ Some w → variable_at o ≡ Some u → w.variable ≡ u
+  waiter_variable o w u is e = same_Some w.variable u (sym (ap variable_at is) ∙ e)
+
+  before_variable : (home : Home) (bytes : ℕ) (w : Waiter) (u : ℕ) → IsTakenBefore table blocks home bytes w → home ≡ Variable u → u ≢ w.variable
+  before_variable home bytes w u h is = subst (λ z. IsTakenBefore table blocks z bytes w) is h
+
+  -- those of different names
   pub variables_apart : (s : Site) (e f : Name) (u v : ℕ) → IsBody table blocks s.body → IsThere s e → IsThere s f
-      → e ≢ f → (house s e).home ≡ Variable u → (house s f).home ≡ Variable v → v ≢ u
-  variables_apart s e f u v b x y ne p q = by (names_parted s e f b x y ne)
+      → e ≢ f → HasVariable s e u → HasVariable s f v → v ≢ u
+  variables_apart s (of_waiting n) (of_waiting m) u v b x y ne p q same =
+      let a = b.waiting.apart n m x.among.0 y.among.0 (λ e. ne (ap of_waiting e)) x.among.1 y.among.1 in
+      let first = waiter_variable (waiter_at n s.body.own.waiters) x.among.0 u x.among.1 p in
+      let second = waiter_variable (waiter_at m s.body.own.waiters) y.among.0 v y.among.1 q in
+      a.variables (first ∙ sym same ∙ sym second)
+  variables_apart s (of_waiting n) f u v b x y ne p q same =
+      let first = waiter_variable (waiter_at n s.body.own.waiters) x.among.0 u x.among.1 p in
+      before_variable (house s f).home (house s f).bytes x.among.0 v (b.waiting.behind n x.among.0 x.among.1 (house s f) y.among y.own) q
+      (same ∙ sym first)
+  variables_apart s e (of_waiting m) u v b x y ne p q same =
+      let second = waiter_variable (waiter_at m s.body.own.waiters) y.among.0 v y.among.1 q in
+      before_variable (house s e).home (house s e).bytes y.among.0 u (b.waiting.behind m y.among.0 y.among.1 (house s e) x.among x.own) p
+      (sym same ∙ sym second)
+  variables_apart s e f u v b x y ne p q same = by (names_parted s e f b x y ne)
     where
-      by : AreApart (house s e) (house s f) ⊎ AreApart (house s f) (house s e) → v ≢ u
+      by : AreApart (house s e) (house s f) ⊎ AreApart (house s f) (house s e) → ⊥
       by (inl h) =
           let g : u ≢ v = subst (λ k. Apart (Variable u) (house s e).bytes k (house s f).bytes) q
           (subst (λ k. Apart k (house s e).bytes (house s f).home (house s f).bytes) p h) in
-          λ same. g (sym same)
+          g (sym same)
       by (inr h) =
           subst (λ k. Apart (Variable v) (house s f).bytes k (house s e).bytes) p
-          (subst (λ k. Apart k (house s f).bytes (house s e).home (house s e).bytes) q h)
+          (subst (λ k. Apart k (house s f).bytes (house s e).home (house s e).bytes) q h) same
+
+  -- none is one for what comes between
+  pub variable_high : (s : Site) (f : Name) (u : ℕ) → IsBody table blocks s.body → IsThere s f → HasVariable s f u → OWN_FROM ≤ u
+  variable_high s (of_waiting node) u b x p =
+      subst (λ v. OWN_FROM ≤ v) (waiter_variable (waiter_at node s.body.own.waiters) x.among.0 u x.among.1 p) (b.waiting.variable node x.among.0 x.among.1)
+  variable_high s f u b x p = by (houses s f b x).where_is
+    where
+      by : Housing (room s.body) FIXED_BYTES (data_end table blocks) s.body.start (house s f) → OWN_FROM ≤ u
+      by (in_variable w e plain low is_word) = subst (λ n. OWN_FROM ≤ n) (ap variable_in (sym e ∙ p)) low
+      by (by_address w e address low) = subst (λ n. OWN_FROM ≤ n) (ap variable_in (sym e ∙ p)) low
+      by (in_places at e plain whole within) = absurd (subst InMemory (sym e ∙ p) tt)
+      by (in_data at e plain whole low within start) = absurd (subst InMemory (sym e ∙ p) tt)
+
+  -- a home that is a variable is its name's own
+  pub home_variable : (s : Site) (f : Name) (u : ℕ) → IsThere s f → (house s f).home ≡ Variable u → HasVariable s f u
+  home_variable s (of_waiting node) u x is =
+      absurd (subst InMemory (sym (ap (λ o. (waiter_house o).home) x.among.1) ∙ is) tt)
+  home_variable s f u x is = is
 
   -- ---- ranges
 

@@ -1,8 +1,8 @@
 -- Procedures of word code are small, chains of those that don't count are short, and there are no hooks but block code's.
 use Rattle.std.proofs.Common.{◌≡◌, ℕ, suc, ◌+◌, ◌≤◌, List, [], ◌∷◌, length, map, Bool, true, false}
 use Rattle.std.proofs.Common.{Option, Some, None}
-use Rattle.std.proofs.Common.{refl, sym, ap, ◌∙◌, arith, ◌++◌, length-append}
-use Rattle.std.proofs.lemmas.Bool.{and_parts, and_from, le-leb, true≢false}
+use Rattle.std.proofs.Common.{refl, sym, ap, ◌∙◌, arith, ◌++◌}
+use Rattle.std.proofs.lemmas.Bool.{and_parts, and_from, true≢false}
 use Rattle.nim_types.specs.declared.types.TypeDef.{TypeDef}
 use Rattle.nim_program.specs.declared.program.HookOf.{HookOf}
 use Rattle.flat_code.specs.declared.block.BlockLine.{BlockLine}
@@ -12,14 +12,14 @@ use Rattle.word_code.specs.declared.word.WordProc.{WordProc}
 use Rattle.word_code.specs.declared.word.WordCode.{WordCode}
 use Rattle.flat_code.specs.Codes.{hooks_of, AreNone}
 use Rattle.flat_code.specs.Running.{last_of}
-use Rattle.word_code.specs.Sizes.{AreRanked, longest_chain, has_no_circle}
+use Rattle.word_code.specs.Sizes.{AreRanked, longest_chain}
 use Rattle.word_code.specs.Joined.{moved, all_moved, joined, HaveRoom}
 use Rattle.word_code.specs.Runtime.{AreRoutines, IsSmallRoutine}
 use Rattle.word_code.specs.Words.{is_counted, most_called, is_no_hook, have_no_hooks}
 use Rattle.word_code.proofs.ForCallers.{levels_most}
 use Rattle.word_code.proofs.ForCallers.{joined_ranked, joined_unhooked}
 use Rattle.word_lowering.specs.declared.homes.Layout.{Layout}
-use Rattle.heap_memory.specs.declared.numbers.TheConstants.{HEAP_CHAIN, HEAP_DATA}
+use Rattle.heap_memory.specs.declared.numbers.TheConstants.{HEAP_DATA}
 use Rattle.word_lowering.specs.Runtimes.{Runtimes, with_runtimes}
 use Rattle.word_lowering.specs.declared.texts.TheConstants.{FIXED_BYTES}
 use Rattle.word_lowering.specs.declared.may_lower.TheConstants.{MOST_ROOM, MOST_VARS}
@@ -156,22 +156,11 @@ module _ (table : List TypeDef) (blocks : Code BlockLine) (r : Runtimes) where
   abbrev all_procs : List WordProc
   all_procs = (with_runtimes r (code.lowered table blocks)).procs
 
-  are_ranked : AreRanked r.rank all_procs
+  pub are_ranked : AreRanked r.rank all_procs
   are_ranked =
       joined_ranked r.rank (length front.statics) front.procs r.others.procs
       (joined_ranked r.rank (length r.heap.statics) r.heap.procs (code.lowered table blocks).procs r.heap_ranked (own_ranked r.rank table blocks))
       r.others_ranked
-
-  pub no_circle : has_no_circle all_procs ≡ true
-  no_circle =
-      let many = r.many in
-      let l = length-append front.procs (all_moved (length front.statics) r.others.procs) in
-      let f = length-append r.heap.procs (all_moved (length r.heap.statics) (code.lowered table blocks).procs) in
-      let most = levels_most r.rank all_procs are_ranked HEAP_CHAIN r.chain (suc (length all_procs)) in
-      le-leb _ (length all_procs) (omega (arith, most, many, l, f))
-
-  pub chain_short : longest_chain all_procs ≤ HEAP_CHAIN
-  chain_short = levels_most r.rank all_procs are_ranked HEAP_CHAIN r.chain (length all_procs)
 
 -- without a runtime there are none
 pub no_chain : (table : List TypeDef) (blocks : Code BlockLine) → longest_chain (code.lowered table blocks).procs ≤ 0

@@ -7,7 +7,7 @@ use Rattle.word_code.specs.Words.{Vars}
 use Rattle.word_code.specs.declared.word.WordInstr.{WordInstr}
 use Rattle.flat_code.specs.Shapes.{has_shape}
 use Rattle.heap_memory.specs.declared.numbers.TheConstants.{HEAP_DATA}
-use Rattle.word_lowering.proofs.ShapeFacts.{never, bytes_is}
+use Rattle.word_lowering.proofs.ShapeFacts.{never, bytes_is, of_numbers}
 use Rattle.word_code.specs.RoutineTable.{Cell, Area, Separate}
 use Rattle.word_code.proofs.ForCallers.{Within}
 use Rattle.word_lowering.specs.declared.homes.TheConstants.{OWN_FROM}
@@ -20,7 +20,7 @@ use Rattle.word_lowering.specs.declared.texts.TheConstants.{FIXED_BYTES}
 use Rattle.rv32_isa.specs.Image.{heap_at}
 use Rattle.word_code.specs.RoutineTable.{Beside as Beside_of}
 use Rattle.word_lowering.specs.Lowered.{data_at}
-use Rattle.word_lowering.specs.Layouts.{is_address}
+use Rattle.word_lowering.specs.Layouts.{holds_address}
 use Rattle.word_lowering.specs.Spots.{spot_of, moved, moves}
 use Rattle.word_lowering.proofs.InMemory.{IsAt, HasWords}
 use Rattle.word_lowering.proofs.Moves.{is_single, single_word, IsHigh, MaySpot, IsArea, From, ToVariable, ToMemory, number_to_variable, number_to_memory}
@@ -227,16 +227,16 @@ module _ (x : Basis) (sites : List Site) (linked : Linked x.table x.blocks sites
     whole = address_whole s f i there inside;
   }
 
-  module _ (c : Call) (i : AmongSites c.site sites) (f : Name) (there : IsThere c.site f) (plain : is_address (house c.site f).kind ≡ false)
-      (v : Value) (shaped : has_shape v (looked x.table c.site f) ≡ true) where
+  module _ (c : Call) (i : AmongSites c.site sites) (f : Name) (there : IsThere c.site f) (plain : holds_address (house c.site f) ≡ false)
+      (v : Value) (numbers : of_numbers (looked x.table c.site f) ≡ true) (shaped : has_shape v (looked x.table c.site f) ≡ true) where
     place : IsHoused x.table x.blocks c.site.body (house c.site f)
     place = houses x.table x.blocks c.site f (site_at x.table x.blocks sites c.site linked i).body there
 
     pub size_is : (house c.site f).bytes ≡ bytes v
-    size_is = sym (bytes_is v (looked x.table c.site f) place.numbers shaped ∙ place.bytes)
+    size_is = sym (bytes_is v (looked x.table c.site f) numbers shaped ∙ place.bytes)
 
     pub word_is : (house c.site f).is_word ≡ is_single v
-    word_is = sym (single_is v (looked x.table c.site f) place.numbers shaped ∙ place.word)
+    word_is = sym (single_is v (looked x.table c.site f) numbers shaped ∙ place.word)
 
     pub small_word : HasWords v
     small_word = has_words v (looked x.table c.site f) shaped
@@ -265,7 +265,7 @@ module _ (x : Basis) (sites : List Site) (linked : Linked x.table x.blocks sites
 
   pub item_source : (m : Memory) → MemoryGood x.table x.blocks sites x.first m → (c : Call) (f : Name) (v : Value) → AmongSites c.site sites
       → IsNumbers x.table m c f v → Source m c.site.base c.vars true (house c.site f) v
-  item_source m good c f v i item = place_source c i f item.there item.plain v item.shaped m good item.at
+  item_source m good c f v i item = place_source c i f item.there item.plain v item.numbers item.shaped m good item.at
 
   -- ---- moves
 

@@ -93,7 +93,7 @@ module _ (x : Basis) (labels : LabelsLead x) (g : Both) (rest : List BlockLine) 
         })
 
   pub standing_line : FollowedHere x labels g rest (L.Standing to ty pieces)
-  standing_line y =
+  standing_line names y =
       let own_ty : Ty = type_at (known x).types ty in
       let may : Bool = if_kind is_standing (place_named is_location (body_of g).proc.places to) in
       let shaped : Bool = has_shape (value_of pieces) (shape_of (facts_in x.table) own_ty) in
@@ -106,7 +106,7 @@ module _ (x : Basis) (labels : LabelsLead x) (g : Both) (rest : List BlockLine) 
       let look : shape_of (facts_in x.table) own_ty ≡ looked x.table g.call.site (of_location to)
       = ap (shape_of (facts_in x.table)) (some_same own_ty v.ty v.is_other) ∙ sym q.look in
       let there_to : IsThere g.call.site (of_location to) = with_home x q.named
-      (own_alias (house g.call.site (of_location to)).alias (location_alias x g standing_here rest y to alias.Own refl refl)) in
+      (own_alias (house g.call.site (of_location to)).alias (location_alias x g standing_here rest y to alias.Own refl refl)) tt in
       let whole = y.stands.whole in
       let from : FromConstant x.table x.blocks (root_of (Made (value_of pieces)) g.world) address (looked x.table g.call.site (of_location to))
       = record {
@@ -118,7 +118,7 @@ module _ (x : Basis) (labels : LabelsLead x) (g : Both) (rest : List BlockLine) 
         base = refl;
         shape = looked x.table g.call.site (of_location to);
         shaped = subst (λ s. has_shape (value_of pieces) s ≡ true) look c.1;
-        numbers = location_of_numbers x g.call.site to y.linked.0 q.named;
+        numbers = location_of_numbers x g.call.site to y.linked.0 q.named names.0;
         offset = 0;
         path = (refl, refl);
         address = omega arith;

@@ -26,14 +26,15 @@ use Rattle.word_code.specs.Words.{no_words, step}
 use Rattle.word_code.proofs.ForCallers.{Runs, at, none}
 use Rattle.word_lowering.specs.Layouts.{result_in}
 use Rattle.word_lowering.specs.Lowered.{result_cleared}
-use Rattle.word_lowering.specs.WaitingCode.{none_code}
+use Rattle.word_lowering.specs.WaitingCode.{none_code, waiter_at}
 use Rattle.word_lowering.proofs.LabelsHere.{code_is}
 use Rattle.word_lowering.proofs.Sites.{Body, Site, lines_of, around, word_of, IsBody}
-use Rattle.word_lowering.proofs.Scenes.{is_fixed, Name, of_value, of_location, of_place, HasValue, Filled}
+use Rattle.word_lowering.proofs.Scenes.{is_fixed, Name, of_value, of_location, of_place, HasValue, Filled, of_waiting}
 use Rattle.word_lowering.proofs.Options.{none_some}
 use Rattle.word_lowering.proofs.Related.{Both, code_behind, within, low, MemoryGood, Good}
 use Rattle.nim_meaning.specs.Heap.{heap_of}
 use Rattle.word_lowering.proofs.Blocks.{Bytes, HasHeap}
+use Rattle.word_lowering.proofs.Waiting.{none_says}
 
 -- ---- both states
 
@@ -109,6 +110,7 @@ module _ (table : List TypeDef) (blocks : Code BlockLine) (b : Body) (is : IsBod
     no_item (of_value t) x h = none_some x h
     no_item (of_location t) x h = h
     no_item (of_place n) x h = no_slot n (Holds x, h)
+    no_item (of_waiting node) x h = none_some (Holds x) h
 
     pub first_good : Good table blocks first first_pair
     first_good = record {
@@ -123,6 +125,9 @@ module _ (table : List TypeDef) (blocks : Code BlockLine) (b : Body) (is : IsBod
           led = λ t there i e. absurd (none_some there e);
           filled = λ n i h. absurd (no_slot n h);
           left = λ h. absurd (true≢false (sym start ∙ h));
+          waits = λ node. none_says node b.own.waiters None stack_at no_words refl
+              (λ w e. absurd (none_some w (sym (ap (waiter_at node) is.waiters) ∙ e)));
+          once = tt;
         },
         tt,
       );

@@ -34,14 +34,14 @@ use Rattle.word_lowering.proofs.LineFits.{are_of, no_type, ordinal_shape, same_t
 use Rattle.word_lowering.proofs.Lines.{Basis, IsGood, Settles, known, mapped_settles, starts, all_settles, fits_here, using_settles, bound_for}
 use Rattle.word_lowering.proofs.Lines.{where_there}
 use Rattle.word_lowering.proofs.MovedLines.{value_read, moved_value, moved_word}
-use Rattle.word_lowering.proofs.OutPlaces.{Written, stored_settles, written_at}
+use Rattle.word_lowering.proofs.OutPlaces.{Written, stored_settles, unlent_plain, written_at}
 use Rattle.word_lowering.proofs.Related.{Both, body_of, high}
-use Rattle.word_lowering.proofs.Scenes.{house, of_value}
+use Rattle.word_lowering.proofs.Scenes.{house, of_value, of_location}
 use Rattle.word_lowering.proofs.Settling.{LabelsLead, code_next, silent_settles}
 use Rattle.word_lowering.proofs.ShapeFacts.{never, of_numbers, values_of_numbers}
 use Rattle.word_lowering.proofs.Sites.{around, is_one_word}
 use Rattle.word_lowering.proofs.Targets.{Target, no_target, pointed, target, unnamed_value}
-use Rattle.word_lowering.proofs.ValueFacts.{location_of_numbers, type_in}
+use Rattle.word_lowering.proofs.ValueFacts.{location_of_numbers, type_in, IsPlain}
 use Rattle.nim_meaning.specs.Meaning.{handed_by}
 use Rattle.nim_meaning.specs.Table.{moved}
 use Rattle.word_lowering.proofs.OperandLines.{value_type_by}
@@ -58,13 +58,13 @@ module _ (x : Basis) (g : Both) (line : BlockLine) (rest : List BlockLine) (y : 
     pub is : location_at g.call.temps there ≡ at
     pub written : Written x g line rest y (location (around x.table x.blocks (body_of g)) t) at (shape_of (facts_in x.table) ty)
 
-  pub writes_at : (t : ℕ) (there : Where) (ty : Ty) → type_in x is_location (body_of g) t ≡ Some ty
+  pub writes_at : (t : ℕ) (there : Where) (ty : Ty) → IsPlain x g.call.site (of_location t) → type_in x is_location (body_of g) t ≡ Some ty
       → if_kind is_standing (place_named is_location (body_of g).proc.places t) ≡ true → g.call.temps.places t ≡ Some there → WritesAt t there ty
-  writes_at t there ty typed may e =
+  writes_at t there ty plain typed may e =
       let p = pointed x g line rest y t ty typed in
-      let w = written_at x g line rest y t there p.named (y.linked.0.standing t may) e in
+      let w = written_at x g line rest y t there p.named (unlent_plain x g line rest y t p.named plain) (y.linked.0.standing t may) e in
       record {
-        numbers = sym (ap of_numbers p.look) ∙ location_of_numbers x g.call.site t y.linked.0 p.named;
+        numbers = sym (ap of_numbers p.look) ∙ location_of_numbers x g.call.site t y.linked.0 p.named plain;
         at = w.location_is;
         is = ap (location_at g.call.temps) w.is;
         written = subst (λ s. Written x g line rest y (location (around x.table x.blocks (body_of g)) t) w.location_is s) p.look w.written;
@@ -76,8 +76,8 @@ module _ (x : Basis) (labels : LabelsLead x) (g : Both) (rest : List BlockLine) 
     assign = plain (L.Apply to O.Assign how None (a ∷ b ∷ []) (F.Place at ∷ F.Value from ∷ []))
 
     pub assign_values : RowHere x g rest to O.Assign how None (a ∷ b ∷ []) (F.Place at ∷ F.Value from ∷ [])
-    assign_values y =
-        let f = applies x g rest to O.Assign how None (a ∷ b ∷ []) (F.Place at ∷ F.Value from ∷ []) y in
+    assign_values names y =
+        let f = applies x g rest to O.Assign how None (a ∷ b ∷ []) (F.Place at ∷ F.Value from ∷ []) names y in
         let none = no_type (value_type x g assign rest y to) f.given in
         let p = and_parts (same_value (type_in x is_location (body_of g) at) (if_type (known x).types a))
         (same_value (value_type x g assign rest y from) (if_type (known x).types b) && true) f.typed in
@@ -94,47 +94,48 @@ module _ (x : Basis) (labels : LabelsLead x) (g : Both) (rest : List BlockLine) 
         (λ there e. mapped_settles x (starts g assign rest) rest (g.call.temps.values from) Given
         (λ z. gives (scene_of (high x.table x.blocks (starts g assign rest))) to
         (costs 1 (put (location_at g.call.temps there) (value_of z)) >>= made_by false (bound_for g how)))
-        (λ z h. let s = writes_at x g assign rest y at there w.ty at_typed may.0 e in
+        (λ z h. let s = writes_at x g assign rest y at there w.ty names.1.0 at_typed may.0 e in
         let r = value_read x g assign rest y from z w.ty from_typed s.numbers h in
         subst (λ l. Settles x (starts g assign rest) rest (gives (scene_of (high x.table x.blocks (starts g assign rest))) to
         (costs 1 (put l z) >>= made_by false (bound_for g how)))) (sym s.is)
         (where_there x (starts g assign rest) rest (is_there g.world s.at)
         (λ b. gives (scene_of (high x.table x.blocks (starts g assign rest))) to
         (costs 1 (costs (bytes z) (unless_gone b (does (Stores s.at z)) >> give nothing)) >>= made_by false (bound_for g how))) (λ before. tt)
-        (λ seen. stored_settles x g assign rest y (location (around x.table x.blocks (body_of g)) at) s.at (shape_of (facts_in x.table) w.ty) s.numbers seen z r.1
+        (λ seen. stored_settles x g assign rest y (location (around x.table x.blocks (body_of g)) at) s.at (shape_of (facts_in x.table) w.ty) s.numbers
+        seen z r.1
         (house g.call.site (of_value from)) r.0.read refl (with_value to g.call.temps nothing) (none_temps x g assign rest y to none)
         (1 + (bytes z + 0)) (omega arith) s.written))))
 
   pub assign_line : (ty : Option ℕ) (of : List (Option ℕ)) (from : List From) → RowHere x g rest to O.Assign how ty of from
-  assign_line None (a ∷ b ∷ []) (F.Place at ∷ F.Value from ∷ []) y = assign_values a b at from y
-  assign_line (Some ty) of from y = never (applies x g rest to O.Assign how (Some ty) of from y).row
-  assign_line None [] from y = never (applies x g rest to O.Assign how None [] from y).row
-  assign_line None (a ∷ []) from y = never (applies x g rest to O.Assign how None (a ∷ []) from y).row
-  assign_line None (a ∷ b ∷ c ∷ of) from y = never (applies x g rest to O.Assign how None (a ∷ b ∷ c ∷ of) from y).row
-  assign_line None (a ∷ b ∷ []) [] y = never (applies x g rest to O.Assign how None (a ∷ b ∷ []) [] y).placed
-  assign_line None (a ∷ b ∷ []) (F.Value t ∷ others) y = never (applies x g rest to O.Assign how None (a ∷ b ∷ []) (F.Value t ∷ others) y).placed
-  assign_line None (a ∷ b ∷ []) (F.Place at ∷ []) y =
+  assign_line None (a ∷ b ∷ []) (F.Place at ∷ F.Value from ∷ []) names y = assign_values a b at from names y
+  assign_line (Some ty) of from names y = never (applies x g rest to O.Assign how (Some ty) of from names y).row
+  assign_line None [] from names y = never (applies x g rest to O.Assign how None [] from names y).row
+  assign_line None (a ∷ []) from names y = never (applies x g rest to O.Assign how None (a ∷ []) from names y).row
+  assign_line None (a ∷ b ∷ c ∷ of) from names y = never (applies x g rest to O.Assign how None (a ∷ b ∷ c ∷ of) from names y).row
+  assign_line None (a ∷ b ∷ []) [] names y = never (applies x g rest to O.Assign how None (a ∷ b ∷ []) [] names y).placed
+  assign_line None (a ∷ b ∷ []) (F.Value t ∷ others) names y = never (applies x g rest to O.Assign how None (a ∷ b ∷ []) (F.Value t ∷ others) names y).placed
+  assign_line None (a ∷ b ∷ []) (F.Place at ∷ []) names y =
       never (and_parts (same_value (type_in x is_location (body_of g) at) (if_type (known x).types a)) false
-      (applies x g rest to O.Assign how None (a ∷ b ∷ []) (F.Place at ∷ []) y).typed).1
-  assign_line None (a ∷ b ∷ []) (F.Place at ∷ F.Place t ∷ others) y =
-      never (applies x g rest to O.Assign how None (a ∷ b ∷ []) (F.Place at ∷ F.Place t ∷ others) y).placed
-  assign_line None (a ∷ b ∷ []) (F.Place at ∷ F.Value from ∷ other ∷ others) y =
+      (applies x g rest to O.Assign how None (a ∷ b ∷ []) (F.Place at ∷ []) names y).typed).1
+  assign_line None (a ∷ b ∷ []) (F.Place at ∷ F.Place t ∷ others) names y =
+      never (applies x g rest to O.Assign how None (a ∷ b ∷ []) (F.Place at ∷ F.Place t ∷ others) names y).placed
+  assign_line None (a ∷ b ∷ []) (F.Place at ∷ F.Value from ∷ other ∷ others) names y =
       never (and_parts (same_value (type_in x is_value (body_of g) from) (if_type (known x).types b)) false
       (and_parts (same_value (type_in x is_location (body_of g) at) (if_type (known x).types a))
       (same_value (type_in x is_value (body_of g) from) (if_type (known x).types b) && false)
-      (applies x g rest to O.Assign how None (a ∷ b ∷ []) (F.Place at ∷ F.Value from ∷ other ∷ others) y).typed).1).1
+      (applies x g rest to O.Assign how None (a ∷ b ∷ []) (F.Place at ∷ F.Value from ∷ other ∷ others) names y).typed).1).1
 
   -- ---- nothing is done
 
   pub discard_line : (ty : Option ℕ) (of : List (Option ℕ)) (from : List From) → RowHere x g rest to O.Discard how ty of from
-  discard_line None of from y =
+  discard_line None of from names y =
       let line = plain (L.Apply to O.Discard how None of from) in
-      let f = applies x g rest to O.Discard how None of from y in
+      let f = applies x g rest to O.Discard how None of from names y in
       all_settles x (starts g line rest) rest g.call.temps from
       (λ xs. gives (scene_of (high x.table x.blocks (starts g line rest))) to (costs 1 (give nothing) >>= made_by false (bound_for g how)))
       (λ xs. silent_settles x g line rest y (with_value to g.call.temps nothing)
       (none_temps x g line rest y to (no_type (value_type x g line rest y to) f.given)) 1 refl)
-  discard_line (Some ty) of from y = never (applies x g rest to O.Discard how (Some ty) of from y).row
+  discard_line (Some ty) of from names y = never (applies x g rest to O.Discard how (Some ty) of from names y).row
 
 -- ---- a value is handed on
 
@@ -152,14 +153,14 @@ module _ (x : Basis) (g : Both) (line : BlockLine) (rest : List BlockLine) (y : 
 
 module _ (x : Basis) (labels : LabelsLead x) (g : Both) (rest : List BlockLine) (to from : ℕ) (how : UseAt) where
   pub pass_line : (ty : ℕ) → FollowedHere x labels g rest (L.Pass to from how (Some ty))
-  pass_line ty y =
+  pass_line ty names y =
       let line = plain (L.Pass to from how (Some ty)) in
       let t : Ty = type_at (known x).types ty in
       let f = and_parts (same_value (value_type x g line rest y to) (value_type x g line rest y from)) (same_value (value_type x g line rest y to) (Some t))
       (fits_here x.table x.blocks (body_of g) line rest y.stands) in
       let typed = value_type_by (value_type x g line rest y to) (Some t) t f.1 refl in
       let from_typed = type_there (value_type x g line rest y to) (value_type x g line rest y from) t f.0 typed in
-      let s = target x g line rest y to t refl refl typed in
+      let s = target x g line rest y to t refl refl typed names.0 in
       using_settles x (starts g line rest) rest (g.call.temps.values from)
       (λ v. gives (scene_of (high x.table x.blocks (starts g line rest))) to (costs 1 (handed_by (facts_in x.table) (bound_for g how) (Some t) v)))
       (λ v e. let r = value_read x g line rest y from v t from_typed s.numbers e in
@@ -170,7 +171,7 @@ module _ (x : Basis) (labels : LabelsLead x) (g : Both) (rest : List BlockLine) 
 
   -- a number, whose type needn't stand in the line, or nothing at all
   pub number_pass : FollowedHere x labels g rest (L.Pass to from how None)
-  number_pass y = by (value_type x g here rest y to) refl
+  number_pass names y = by (value_type x g here rest y to) refl
     where
       here : BlockLine
       here = plain (L.Pass to from how None)
@@ -192,7 +193,7 @@ module _ (x : Basis) (labels : LabelsLead x) (g : Both) (rest : List BlockLine) 
           (ap (λ h. passes h.bytes (house g.call.site (of_value to)) h (code_next x g here rest y)) (unnamed_value x g here rest y from (sym same ∙ none))))
       by (Some t) typed =
           let n = ordinal_shape (facts_in x.table) t (sym (ap (needs_no_type (facts_in x.table)) typed) ∙ fit.1) in
-          let s = target x g here rest y to t refl refl typed in
+          let s = target x g here rest y to t refl refl typed names.0 in
           using_settles x (starts g here rest) rest (g.call.temps.values from)
           (λ v. gives (scene_of (high x.table x.blocks (starts g here rest))) to (costs 1 (give v)))
           (λ v e. let r = value_read x g here rest y from v t (sym same ∙ typed) s.numbers e in

@@ -12,7 +12,7 @@ use Rattle.rv32_isa.specs.declared.micro_op.Size.TheVariants.{Word}
 use Rattle.word_code.specs.Memory.{Memory, number_at}
 use Rattle.word_code.proofs.ForCallers.{at_same}
 use Rattle.word_lowering.specs.Operations.{word}
-use Rattle.word_lowering.proofs.InMemory.{Carries, or_word_least}
+use Rattle.word_lowering.proofs.InMemory.{Carries, or_word_least, or_word_some}
 use Rattle.word_lowering.proofs.ShapeFacts.{shape_bytes, shapes_bytes}
 use Rattle.word_lowering.proofs.Blocks.{Blocks, AreLater, IsPlace, IsHandle, IsLiteralHandle, Stored, AreStored, PartsStored, Holds_for}
 
@@ -37,6 +37,15 @@ mutual
   pub shapes_whole : (ss : Shapes) → shapes_bytes ss % 4 ≡ 0
   shapes_whole no_shapes = refl
   shapes_whole (shapes s ss) = let e = shape_whole s in let f = shapes_whole ss in omega arith
+
+pub shape_some : (s : Shape) → 4 ≤ shape_bytes s
+shape_some (number values) = omega arith
+shape_some reference = omega arith
+shape_some block = omega arith
+shape_some (elements s) = omega arith
+shape_some (row n s) = or_word_some (n * shape_bytes s) (let h = shape_whole s in times_whole n (shape_bytes s) h)
+shape_some (parts ss) = or_word_some (shapes_bytes ss) (shapes_whole ss)
+shape_some (resource ss) = or_word_some (shapes_bytes ss) (shapes_whole ss)
 
 -- words below 2^32 that are read in one range are read in the other one
 abbrev pub CarriesSmall : (m other : Memory) → (a b bytes : ℕ) → Type 0
@@ -127,7 +136,8 @@ module _ (StandsFixed : (place : ℕ) → List ℕ → Type 0) (d later : Blocks
 
   -- where all words are
 
-  pub stored_kept : (a b : ℕ) (s : Shape) (v : Value) → Carries m other a b (shape_bytes s) → Stored StandsFixed d m a s v → Stored StandsFixed later other b s v
+  pub stored_kept : (a b : ℕ) (s : Shape) (v : Value) → Carries m other a b (shape_bytes s) → Stored StandsFixed d m a s v →
+      Stored StandsFixed later other b s v
   stored_kept a b s v same at = stored_small a b s v (λ o w within whole small reads. same o w within whole reads) at
 
   pub all_kept : (a b : ℕ) (s : Shape) (vs : Values) (n : ℕ) → count vs ≡ n → Carries m other a b (n * shape_bytes s) → AreStored StandsFixed d m a s vs

@@ -49,7 +49,7 @@ use Rattle.word_lowering.proofs.Lines.{stands_next, starts, where_there}
 use Rattle.word_lowering.proofs.Located.{IsReadAt, full_there, owned_located, owned_readable, place_lying}
 use Rattle.word_lowering.proofs.LocationHouses.{location_house}
 use Rattle.word_lowering.proofs.Moves.{IsHigh, all_same, words_of}
-use Rattle.word_lowering.proofs.OutPlaces.{written_at, written_stands}
+use Rattle.word_lowering.proofs.OutPlaces.{unlent_plain, written_at, written_stands}
 use Rattle.word_lowering.proofs.Related.{Both, body_of, high, routines, sites_of, within}
 use Rattle.word_lowering.proofs.RoutineCalls.{awaiting}
 use Rattle.word_lowering.proofs.Scenes.{is_fixed, Ground, FromBlock, FromOwned, FromPlace, Leads, Points, of_owned, address_of, house, looked, of_location}
@@ -67,7 +67,7 @@ use Rattle.word_lowering.proofs.StoredLater.{shape_whole}
 use Rattle.word_lowering.proofs.SwapRuns.{Swapped, swap_called}
 use Rattle.word_lowering.proofs.Targets.{pointed}
 use Rattle.word_lowering.proofs.TradedWords.{TwoWrites, range_open, two_writes}
-use Rattle.word_lowering.proofs.ValueFacts.{location_of_numbers, type_in}
+use Rattle.word_lowering.proofs.ValueFacts.{location_of_numbers, type_in, IsPlain}
 use Rattle.rv32_isa.specs.Image.{heap_at, stack_at}
 use Rattle.rv32_isa.specs.State.{writable}
 
@@ -193,21 +193,21 @@ module _ (x : Basis) (g : Both) (line : BlockLine) (rest : List BlockLine) (y : 
     numbers : of_numbers shape ≡ true
     long : (location (around x.table x.blocks (body_of g)) t).bytes ≡ shape_bytes shape
 
-  end_at : (t : ℕ) (there : Where) → type_in x is_location (body_of g) t ≡ Some ty
+  end_at : (t : ℕ) (there : Where) → IsPlain x g.call.site (of_location t) → type_in x is_location (body_of g) t ≡ Some ty
       → if_kind is_standing (place_named is_location (body_of g).proc.places t) ≡ true → is_among t (places_in (handed_by (block_plain line))) ≡ true
       → g.call.temps.places t ≡ Some there → End t there
-  end_at t there typed may handed e =
+  end_at t there plain typed may handed e =
       let p = pointed x g line rest y t ty typed in
       let standing = y.linked.0.standing t may in
-      let w = written_at x g line rest y t there p.named standing e in
+      let w = written_at x g line rest y t there p.named (unlent_plain x g line rest y t p.named plain) standing e in
       let l : Location = w.location_is in
-      let a = handed_at x g line rest y t there p.named e standing handed in
+      let a = handed_at x g line rest y t there p.named plain e standing handed in
       let leads : FromOwned x.table sites g.ground g.world l a.address shape
       = subst (λ s. FromOwned x.table sites g.ground g.world l a.address s) p.look
       (of_owned x.table x.blocks (written_stands x g line rest y w.written)
       (subst (λ k. Leads x.table x.blocks sites g.ground g.world g.call.site g.call.temps k a.address (looked x.table g.call.site (of_location t))) w.is
       a.leads_to)) in
-      let h = location_house x g line rest y t there p.named e in
+      let h = location_house x g line rest y t there p.named plain e in
       record {
         at_location = l;
         is = ap (location_at g.call.temps) w.is;
@@ -215,7 +215,7 @@ module _ (x : Basis) (g : Both) (line : BlockLine) (rest : List BlockLine) (y : 
         address = a.address;
         points = subst (λ h. Points g.call.site.base g.call.vars h a.address) (sym a.home_is) a.points;
         leads = leads;
-        numbers = sym (ap of_numbers p.look) ∙ location_of_numbers x g.call.site t y.linked.0 p.named;
+        numbers = sym (ap of_numbers p.look) ∙ location_of_numbers x g.call.site t y.linked.0 p.named plain;
         long = sym h.housed.bytes ∙ ap shape_bytes (ap (shape_of (facts_in x.table)) h.typed ∙ p.look);
       }
 
@@ -281,7 +281,7 @@ module _ (x : Basis) (g : Both) (line : BlockLine) (rest : List BlockLine) (y : 
       memory = called.memory
 
       writes : TwoWrites g.memory memory e.address f.address (4 * suc j)
-      writes = two_writes x.law g.memory memory y.memory.sized e.address f.address (4 * suc j) (omega arith)
+      writes = two_writes x.law g.memory memory y.memory.sized y.memory.bytes e.address f.address (4 * suc j) (omega arith)
           (subst (λ n. writable (as_state g.memory) e.address n ≡ true) words
           (owned_open x (starts g line rest) y l e.address shape e.leads live_left)) called.is apart
 
@@ -416,8 +416,8 @@ module _ (x : Basis) (labels : LabelsLead x) (g : Both) (rest : List BlockLine) 
           (λ live. d full full_other live)))))
 
     swap_values : RowHere x g rest to O.Swap how None (a ∷ b ∷ []) (F.Place left ∷ F.Place right ∷ [])
-    swap_values y =
-        let f = applies x g rest to O.Swap how None (a ∷ b ∷ []) (F.Place left ∷ F.Place right ∷ []) y in
+    swap_values names y =
+        let f = applies x g rest to O.Swap how None (a ∷ b ∷ []) (F.Place left ∷ F.Place right ∷ []) names y in
         let none = none_temps x g swapping rest y to (no_type (value_type x g swapping rest y to) f.given) in
         let w = are_of (if_type (known x).types a) (if_type (known x).types b) f.row in
         let p = and_parts (same_value (location_type left) (if_type (known x).types a))
@@ -435,8 +435,8 @@ module _ (x : Basis) (labels : LabelsLead x) (g : Both) (rest : List BlockLine) 
         (λ m. gives (scene_of (high x.table x.blocks (starts g swapping rest))) to
         (costs 1 (swapped (location_at g.call.temps here) (location_of m)) >>= made_by false (bound_for g how)))
         (λ there h.
-        let l = end_at x g swapping rest y w.ty left here left_typed may.0 (among_first left (right ∷ [])) e in
-        let m = end_at x g swapping rest y w.ty right there right_typed may_right.0 (among_more right left (right ∷ []) (among_first right [])) h in
+        let l = end_at x g swapping rest y w.ty left here names.1.0 left_typed may.0 (among_first left (right ∷ [])) e in
+        let m = end_at x g swapping rest y w.ty right there names.1.1.0 right_typed may_right.0 (among_more right left (right ∷ []) (among_first right [])) h in
         subst (λ k. Settles x (starts g swapping rest) rest (gives (scene_of (high x.table x.blocks (starts g swapping rest))) to
         (costs 1 (swapped k (location_at g.call.temps there)) >>= made_by false (bound_for g how)))) (sym l.is)
         (subst (λ k. Settles x (starts g swapping rest) rest (gives (scene_of (high x.table x.blocks (starts g swapping rest))) to
@@ -446,18 +446,18 @@ module _ (x : Basis) (labels : LabelsLead x) (g : Both) (rest : List BlockLine) 
         both_settle x g swapping rest y w.ty left right here there l m (with_value to g.call.temps nothing) none full full_other live refl)))))
 
   pub swap_line : (ty : Option ℕ) (of : List (Option ℕ)) (from : List From) → RowHere x g rest to O.Swap how ty of from
-  swap_line None (a ∷ b ∷ []) (F.Place left ∷ F.Place right ∷ []) y = swap_values a b left right y
-  swap_line (Some ty) of from y = never (applies x g rest to O.Swap how (Some ty) of from y).row
-  swap_line None [] from y = never (applies x g rest to O.Swap how None [] from y).row
-  swap_line None (a ∷ []) from y = never (applies x g rest to O.Swap how None (a ∷ []) from y).row
-  swap_line None (a ∷ b ∷ c ∷ of) from y = never (applies x g rest to O.Swap how None (a ∷ b ∷ c ∷ of) from y).row
-  swap_line None (a ∷ b ∷ []) [] y = never (applies x g rest to O.Swap how None (a ∷ b ∷ []) [] y).placed
-  swap_line None (a ∷ b ∷ []) (F.Value t ∷ others) y = never (applies x g rest to O.Swap how None (a ∷ b ∷ []) (F.Value t ∷ others) y).placed
-  swap_line None (a ∷ b ∷ []) (F.Place left ∷ []) y = never (applies x g rest to O.Swap how None (a ∷ b ∷ []) (F.Place left ∷ []) y).placed
-  swap_line None (a ∷ b ∷ []) (F.Place left ∷ F.Value t ∷ others) y =
-      never (applies x g rest to O.Swap how None (a ∷ b ∷ []) (F.Place left ∷ F.Value t ∷ others) y).placed
-  swap_line None (a ∷ b ∷ []) (F.Place left ∷ F.Place right ∷ other ∷ others) y =
+  swap_line None (a ∷ b ∷ []) (F.Place left ∷ F.Place right ∷ []) names y = swap_values a b left right names y
+  swap_line (Some ty) of from names y = never (applies x g rest to O.Swap how (Some ty) of from names y).row
+  swap_line None [] from names y = never (applies x g rest to O.Swap how None [] from names y).row
+  swap_line None (a ∷ []) from names y = never (applies x g rest to O.Swap how None (a ∷ []) from names y).row
+  swap_line None (a ∷ b ∷ c ∷ of) from names y = never (applies x g rest to O.Swap how None (a ∷ b ∷ c ∷ of) from names y).row
+  swap_line None (a ∷ b ∷ []) [] names y = never (applies x g rest to O.Swap how None (a ∷ b ∷ []) [] names y).placed
+  swap_line None (a ∷ b ∷ []) (F.Value t ∷ others) names y = never (applies x g rest to O.Swap how None (a ∷ b ∷ []) (F.Value t ∷ others) names y).placed
+  swap_line None (a ∷ b ∷ []) (F.Place left ∷ []) names y = never (applies x g rest to O.Swap how None (a ∷ b ∷ []) (F.Place left ∷ []) names y).placed
+  swap_line None (a ∷ b ∷ []) (F.Place left ∷ F.Value t ∷ others) names y =
+      never (applies x g rest to O.Swap how None (a ∷ b ∷ []) (F.Place left ∷ F.Value t ∷ others) names y).placed
+  swap_line None (a ∷ b ∷ []) (F.Place left ∷ F.Place right ∷ other ∷ others) names y =
       never (and_parts (same_value (type_in x is_location (body_of g) right) (if_type (known x).types b)) false
       (and_parts (same_value (type_in x is_location (body_of g) left) (if_type (known x).types a))
       (same_value (type_in x is_location (body_of g) right) (if_type (known x).types b) && false)
-      (applies x g rest to O.Swap how None (a ∷ b ∷ []) (F.Place left ∷ F.Place right ∷ other ∷ others) y).typed).1).1
+      (applies x g rest to O.Swap how None (a ∷ b ∷ []) (F.Place left ∷ F.Place right ∷ other ∷ others) names y).typed).1).1

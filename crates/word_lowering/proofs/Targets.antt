@@ -21,7 +21,7 @@ use Rattle.word_lowering.proofs.Options.{none_some}
 use Rattle.word_lowering.proofs.Related.{Both, body_of}
 use Rattle.word_lowering.proofs.Scenes.{IsNamed, IsThere, house, looked, of_location, of_value}
 use Rattle.word_lowering.proofs.ShapeFacts.{never, of_numbers}
-use Rattle.word_lowering.proofs.ValueFacts.{has_type, look_of, type_in, with_home}
+use Rattle.word_lowering.proofs.ValueFacts.{has_type, look_of, type_in, with_home, IsPlain}
 use Rattle.word_lowering.specs.Layouts.{behind, found, nowhere}
 use Rattle.word_lowering.proofs.Sites.{Among, There}
 use Rattle.flat_code.specs.declared.place.PlaceKind.{PlaceKind}
@@ -41,6 +41,7 @@ pub own_alias : (a : Alias) → same_alias a alias.Own ≡ true → a ≡ alias.
 own_alias alias.Own h = refl
 own_alias (alias.Place p global) h = never h
 own_alias (alias.Value t) h = never h
+own_alias (alias.Node n) h = never h
 own_alias (alias.Text behind size) h = never h
 
 -- a place is there, or stands nowhere
@@ -97,25 +98,40 @@ module _ (x : Basis) (g : Both) (line : BlockLine) (rest : List BlockLine) (y : 
 
   -- ---- what gets a value
 
+  pub record Given (to : ℕ) (ty : Ty) : Type 0 where
+    pub there : IsThere g.call.site (of_value to)
+    pub look : looked x.table g.call.site (of_value to) ≡ shape_of (facts_in x.table) ty
+
+  pub given : (to : ℕ) (ty : Ty) → value_to (block_plain line) ≡ Some to → alias_by (block_plain line) texts_behind ≡ alias.Own
+      → type_in x is_value (body_of g) to ≡ Some ty → Given to ty
+  given to ty is own typed =
+      let n = has_type x g.call.site (of_value to) ty y.linked.0 typed in
+      record {
+        there = with_home x n.named (own_alias (house g.call.site (of_value to)).alias (value_alias to alias.Own is own)) tt;
+        look = look_of x g.call.site (of_value to) ty n;
+      }
+
   pub record Target (to : ℕ) (ty : Ty) : Type 0 where
     pub there : IsThere g.call.site (of_value to)
+    pub here : of_numbers (looked x.table g.call.site (of_value to)) ≡ true
     pub look : looked x.table g.call.site (of_value to) ≡ shape_of (facts_in x.table) ty
     pub numbers : of_numbers (shape_of (facts_in x.table) ty) ≡ true
     pub unhooked : hooked (form_of (facts_in x.table) ty) ≡ false
 
   pub target : (to : ℕ) (ty : Ty) → value_to (block_plain line) ≡ Some to → alias_by (block_plain line) texts_behind ≡ alias.Own
-      → type_in x is_value (body_of g) to ≡ Some ty → Target to ty
-  target to ty is own typed =
+      → type_in x is_value (body_of g) to ≡ Some ty → IsPlain x g.call.site (of_value to) → Target to ty
+  target to ty is own typed plain =
       let n = has_type x g.call.site (of_value to) ty y.linked.0 typed in
-      let there : IsThere g.call.site (of_value to)
-      = with_home x n.named (own_alias (house g.call.site (of_value to)).alias (value_alias to alias.Own is own)) in
+      let got = given to ty is own typed in
+      let there = got.there in
       let h = houses x.table x.blocks g.call.site (of_value to) y.linked.0 there in
-      let look = look_of x g.call.site (of_value to) ty n in
+      let look = got.look in
       record {
         there = there;
+        here = h.numbers (plain there);
         look = look;
-        numbers = sym (ap of_numbers look) ∙ h.numbers;
-        unhooked = subst (λ t. hooked (form_of (facts_in x.table) t) ≡ false) n.typed h.unhooked;
+        numbers = sym (ap of_numbers look) ∙ h.numbers (plain there);
+        unhooked = subst (λ t. hooked (form_of (facts_in x.table) t) ≡ false) n.typed (h.unhooked (plain there));
       }
 
   -- what gives nothing gives it to no place

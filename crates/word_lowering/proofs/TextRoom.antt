@@ -11,7 +11,7 @@ use Rattle.flat_code.specs.declared.code.CodeProc.{CodeProc}
 use Rattle.flat_code.specs.Codes.{block_plain}
 use Rattle.flat_code.specs.Sizes.{distinct_texts}
 use Rattle.word_lowering.specs.declared.homes.Layout.{Layout}
-use Rattle.word_lowering.specs.declared.texts.TheConstants.{FIXED_BYTES}
+use Rattle.word_lowering.specs.declared.handed.TheConstants.{LEFT_HANDLE_AT}
 use Rattle.word_lowering.specs.declared.may_lower.TheConstants.{MOST_DATA}
 use Rattle.word_lowering.specs.Layouts.{IsCounted, AreCounted}
 use Rattle.flat_code.specs.Running.{last_of}
@@ -48,9 +48,9 @@ texts_end : (table : List TypeDef) (globals_end : ℕ) (procs : List (CodeProc B
     → texts_at table globals_end + length (laid_texts procs) ≤ length (padded (data_in table globals_end procs))
 texts_end table globals_end procs =
     let names : List (List ℕ) = all_names table in
-    let e = six_parts (replicate 4 0) fixed_texts (replicate (globals_end - FIXED_BYTES) 0) (ends_from 0 names) (padded (joined_all names))
+    let e = six_parts (replicate 4 0) fixed_texts (replicate (globals_end - LEFT_HANDLE_AT) 0) (ends_from 0 names) (padded (joined_all names))
     (laid_texts procs) in
-    let f = zeros_length (globals_end - FIXED_BYTES) in
+    let f = zeros_length (globals_end - LEFT_HANDLE_AT) in
     let g = ends_length 0 names in
     let h : length fixed_texts ≡ 16 = refl in
     let i = zeros_length 4 in

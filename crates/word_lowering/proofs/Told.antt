@@ -18,6 +18,7 @@ use Rattle.word_code.specs.RoutineTable.{Beside, Cell, IsRewritten}
 use Rattle.word_code.specs.Words.{Vars}
 use Rattle.word_code.proofs.ForCallers.{at, none, on, AlwaysSteps}
 use Rattle.word_lowering.specs.Lowered.{data_at}
+use Rattle.word_lowering.specs.declared.handed.TheConstants.{LEFT_HANDLE_AT}
 use Rattle.word_lowering.specs.declared.texts.TheConstants.{FIXED_BYTES}
 use Rattle.word_lowering.proofs.HeapKept.{SameHeap, heap_same, heap_more, heap_beside}
 use Rattle.word_lowering.proofs.Gets.{SameTemps, high_variable, kept_temps, same_temps}
@@ -54,6 +55,7 @@ module _ (x : Basis) (least : FIXED_BYTES ≤ data_end x.table x.blocks) (sites 
         sized = x.law.regions (as_state m) (as_state m') good.sized new.sizes;
         statics = new.sizes.statics ∙ good.statics;
         heap = new.sizes.heap ∙ good.heap;
+        bytes = new.sizes.bytes good.bytes;
         places = ap (λ n. stack_at + n) new.sizes.stack ∙ good.places;
         cells = λ a whole h. cell a (place a (open_place a h)) (good.cells a whole h);
         texts = λ b k h. new.beside b k (text b k h) ∙ good.texts b k h;
@@ -87,6 +89,19 @@ module _ (x : Basis) (least : FIXED_BYTES ≤ data_end x.table x.blocks) (sites 
         text : (b k : ℕ) → IsClosed x.table x.blocks b k → Beside b k data_at 1
         text b k (inl h) = inr (omega (arith, h.0))
         text b k (inr h) = inr (omega (arith, h.0, least))
+
+    -- a handle that is made for an operand, with a character behind it
+    pub told_handle : (from : ℕ) → LEFT_HANDLE_AT ≤ from → from + 12 ≤ FIXED_BYTES → IsRewritten m m' (data_at + from) 12 → IsTold m m'
+    told_handle from low high new =
+        told_beside (data_at + from) 12 new place (λ b k h. text b k h.0) (omega arith) (omega (arith, high))
+      where
+        place : (a : ℕ) → IsPlace x.table x.blocks a → Beside a 4 (data_at + from) 12
+        place a (inl h) = inr (omega (arith, h.0, high))
+        place a (inr h) = inr (omega (arith, h, high))
+
+        text : (b k : ℕ) → IsClosed x.table x.blocks b k → Beside b k (data_at + from) 12
+        text b k (inl h) = inl (omega (arith, h.1, low))
+        text b k (inr h) = inr (omega (arith, h.0, least, high))
 
     -- those that routines may change
     pub told_scratch : IsRewritten m m' (routines x.table x.blocks) SCRATCH_BYTES → IsTold m m'

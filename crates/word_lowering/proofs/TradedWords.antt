@@ -1,17 +1,17 @@
 -- Where the words of two ranges traded places, one range was written first, and the other one then: the memory in between.
-use Rattle.std.proofs.Common.{◌≡◌, ◌⊎◌, inl, inr, ℕ, zero, suc, ◌+◌, ◌-◌, ◌<◌, ◌≤◌, List, [], ◌∷◌, length, take, drop, Option, Some, None}
+use Rattle.std.proofs.Common.{◌≡◌, ◌⊎◌, inl, inr, ℕ, zero, suc, ◌+◌, ◌-◌, ◌<◌, ◌≤◌, List, [], ◌∷◌, ◌++◌, length, take, drop, Option, Some, None}
 use Rattle.std.proofs.Common.{◌%◌, Bool, true, false, refl, sym, ap, subst, ◌∙◌, arith}
-use Rattle.std.specs.Prelude.{◌==◌, ◌&&◌, ◌||◌}
-use Rattle.std.proofs.lemmas.Bool.{and_from, cases_Bool, cases_order, le-leb, true≢false}
+use Rattle.std.specs.Prelude.{◌==◌, ◌&&◌, ◌||◌, if◌then◌else◌}
+use Rattle.std.proofs.lemmas.Bool.{and_from, cases_Bool, cond_both, cases_order, le-leb, true≢false}
 use Rattle.rv32_isa.specs.declared.micro_op.Size.TheVariants.{Word}
 use Rattle.rv32_isa.specs.Hooks.{code_at}
 use Rattle.rv32_isa.specs.Image.{statics_at, heap_at, stack_at}
-use Rattle.rv32_isa.specs.Regions.{HasRegions, KeepsSizes}
-use Rattle.rv32_isa.specs.State.{State, filled, lies_in, readable, writable}
-use Rattle.word_code.specs.Memory.{Memory, as_state, bytes_at, memory_of, number_at, with_bytes}
+use Rattle.rv32_isa.specs.Regions.{AreBytes, HasRegions}
+use Rattle.rv32_isa.specs.State.{State, filled, lies_in, put_bytes, readable, writable}
+use Rattle.word_code.specs.Memory.{KeepsShape, Memory, as_state, bytes_at, memory_of, number_at, with_bytes}
 use Rattle.word_code.specs.RoutineTable.{Beside, LowWords, Separate}
 use Rattle.word_code.proofs.ForCallers.{MemoryLaw, Sized, Apart, Changed, sizes_more, sizes_same}
-use Rattle.heap_memory.proofs.ForCallers.{InRegion, byte_before, lies, nothing_below, part_read, read_in, written_in}
+use Rattle.heap_memory.proofs.ForCallers.{InRegion, byte_before, heap_part, lies, nothing_below, part_read, read_in, written_in}
 use Rattle.word_lowering.proofs.OpenCells.{cell_by}
 use Rattle.word_lowering.proofs.RoutineMemory.{Trade, same_word}
 
@@ -28,6 +28,58 @@ length_part zero (suc n) [] le = absurd (omega (arith, le))
 length_part zero (suc n) (x ∷ xs) le = ap suc (length_part zero n xs (omega (arith, le)))
 length_part (suc j) (suc n) [] le = absurd (omega (arith, le))
 length_part (suc j) (suc n) (x ∷ xs) le = length_part j (suc n) xs (omega (arith, le))
+
+append_long : (xs ys : List ℕ) → length (xs ++ ys) ≡ length xs + length ys
+append_long [] ys = omega arith
+append_long (x ∷ xs) ys = let e = append_long xs ys in omega (arith, e)
+
+drop_long : (n : ℕ) (xs : List ℕ) → n ≤ length xs → length (drop n xs) + n ≡ length xs
+drop_long zero xs le = omega arith
+drop_long (suc n) [] le = absurd (omega (arith, le))
+drop_long (suc n) (x ∷ xs) le = let e = drop_long n xs (omega (arith, le)) in omega (arith, e)
+
+put_long : (region put : List ℕ) (i : ℕ) → i + length put ≤ length region → length (put_bytes region i put) ≡ length region
+put_long region put i le =
+    let behind : List ℕ = drop (i + length put) region in
+    let all : length (put_bytes region i put) ≡ length (take i region) + length (put ++ behind) = append_long (take i region) (put ++ behind) in
+    let end : length (put ++ behind) ≡ length put + length behind = append_long put behind in
+    let front : length (take i region) ≡ i = length_part 0 i region (omega (arith, le)) in
+    let rest : length behind + (i + length put) ≡ length region = drop_long (i + length put) region le in
+    omega (arith, all, end, front, rest)
+
+same_list : (xs ys : List ℕ) → Some xs ≡ Some ys → xs ≡ ys
+same_list xs ys e = ap (inside xs) e
+  where
+    inside : List ℕ → Option (List ℕ) → List ℕ
+    inside d None = d
+    inside d (Some zs) = zs
+
+-- ---- bytes
+
+are_behind : (front behind : List ℕ) → AreBytes front → AreBytes behind → AreBytes (front ++ behind)
+are_behind [] behind are more = more
+are_behind (b ∷ front) behind are more = (are.0, are_behind front behind are.1 more)
+
+are_taken : (n : ℕ) (xs : List ℕ) → AreBytes xs → AreBytes (take n xs)
+are_taken zero xs are = tt
+are_taken (suc n) [] are = tt
+are_taken (suc n) (x ∷ xs) are = (are.0, are_taken n xs are.1)
+
+are_dropped : (n : ℕ) (xs : List ℕ) → AreBytes xs → AreBytes (drop n xs)
+are_dropped zero xs are = are
+are_dropped (suc n) [] are = tt
+are_dropped (suc n) (x ∷ xs) are = are_dropped n xs are.1
+
+are_put : (region put : List ℕ) (i : ℕ) → AreBytes put → AreBytes region → AreBytes (put_bytes region i put)
+are_put region put i new old =
+    are_behind (take i region) (put ++ drop (i + length put) region) (are_taken i region old)
+    (are_behind put (drop (i + length put) region) new (are_dropped (i + length put) region old))
+
+last_one : (a b c d : Bool) → a ≡ false → b ≡ false → c ≡ false → (a || (b || (c || d))) ≡ true → d ≡ true
+last_one true b c d e f g h = absurd (true≢false e)
+last_one false true c d e f g h = absurd (true≢false f)
+last_one false false true d e f g h = absurd (true≢false g)
+last_one false false false d e f g h = h
 
 or_end : (a b c : Bool) → c ≡ true → (a || (b || c)) ≡ true
 or_end true b c e = refl
@@ -105,7 +157,7 @@ unread m sized b n closed = place (cases_order b code_at)
     place (inr (inl less)) = nothing_below m b n less
     place (inr (inr less)) = far (omega (arith, less)) (bytes_at m b (suc n)) refl
 
-module _ (law : MemoryLaw) (m other : Memory) (sized : Sized m) (sized_then : Sized other) (sizes : KeepsSizes (as_state m) (as_state other)) where
+module _ (law : MemoryLaw) (m other : Memory) (sized : Sized m) (sized_then : Sized other) (sizes : KeepsShape (as_state m) (as_state other)) where
   -- a byte and those behind it
   more_bytes : (n b : ℕ) → bytes_at other b 1 ≡ bytes_at m b 1 → bytes_at other (b + 1) n ≡ bytes_at m (b + 1) n
       → bytes_at other b (suc n) ≡ bytes_at m b (suc n)
@@ -154,24 +206,64 @@ same_state : (t : State) → t.regs ≡ [] → t.pc ≡ 0 → t.code ≡ [] → 
 same_state t r p c =
     ap (λ regs. state_of t regs 0 []) (sym r) ∙ ap (λ pc. state_of t t.regs pc []) (sym p) ∙ ap (λ code. state_of t t.regs t.pc code) (sym c)
 
-module _ (law : MemoryLaw) (m : Memory) (sized : Sized m) (a : ℕ) (bytes : List ℕ) (may : writable (as_state m) a (length bytes) ≡ true) where
-  kept : KeepsSizes (as_state m) (filled (as_state m) a bytes)
-  kept = law.sizes (as_state m) a bytes may
+-- what is put into the heap has to be bytes
+module _ (law : MemoryLaw) (m : Memory) (sized : Sized m) (a : ℕ) (put : List ℕ) (may : writable (as_state m) a (length put) ≡ true)
+    (are : lies_in heap_at m.heap a (length put) ≡ true → AreBytes put) where
+  kept : KeepsShape (as_state m) (filled (as_state m) a put)
+  kept =
+      let s : State = as_state m in
+      let n : ℕ = length put in
+      let data_put : State = record (as_state m) { statics = put_bytes m.statics (a - statics_at) put } in
+      let heap_put : State = record (as_state m) { heap = put_bytes m.heap (a - heap_at) put } in
+      let stack_put : State = record (as_state m) { stack = put_bytes m.places (a - stack_at) put } in
+      let above : State = if lies_in heap_at s.heap a n then heap_put else stack_put in
+      let P : State → Type 0 = λ t. KeepsShape (as_state m) t in
+      cond_both (n == 0) s (if lies_in statics_at s.statics a n then data_put else above) P
+      (λ e. sizes_same m)
+      (λ e. cond_both (lies_in statics_at s.statics a n) data_put above P
+      (λ f. let l = lies statics_at m.statics a (length put) f in record {
+        regs = refl;
+        pc = refl;
+        code = refl;
+        statics = put_long m.statics put (a - statics_at) (omega (arith, l.0, l.1));
+        heap = refl;
+        stack = refl;
+        bytes = λ old. old;
+      })
+      (λ f. cond_both (lies_in heap_at s.heap a n) heap_put stack_put P
+      (λ h. let l = lies heap_at m.heap a (length put) h in record {
+        regs = refl;
+        pc = refl;
+        code = refl;
+        statics = refl;
+        heap = put_long m.heap put (a - heap_at) (omega (arith, l.0, l.1));
+        stack = refl;
+        bytes = λ old. are_put m.heap put (a - heap_at) (are h) old;
+      })
+      (λ h. let l = lies stack_at m.places a (length put) (last_one _ _ _ _ e f h may) in record {
+        regs = refl;
+        pc = refl;
+        code = refl;
+        statics = refl;
+        heap = refl;
+        stack = put_long m.places put (a - stack_at) (omega (arith, l.0, l.1));
+        bytes = λ old. old;
+      })))
 
-  with_state : as_state (with_bytes m a bytes) ≡ filled (as_state m) a bytes
-  with_state = same_state (filled (as_state m) a bytes) kept.regs kept.pc kept.code
+  with_state : as_state (with_bytes m a put) ≡ filled (as_state m) a put
+  with_state = same_state (filled (as_state m) a put) kept.regs kept.pc kept.code
 
-  put_sizes : KeepsSizes (as_state m) (as_state (with_bytes m a bytes))
-  put_sizes = subst (KeepsSizes (as_state m)) (sym with_state) kept
+  put_sizes : KeepsShape (as_state m) (as_state (with_bytes m a put))
+  put_sizes = subst (KeepsShape (as_state m)) (sym with_state) kept
 
-  put_beside : (b n : ℕ) → Beside b n a (length bytes) → bytes_at (with_bytes m a bytes) b n ≡ bytes_at m b n
-  put_beside b n apart = ap (λ s. readable s b n) with_state ∙ law.elsewhere (as_state m) a bytes b n may apart
+  put_beside : (b n : ℕ) → Beside b n a (length put) → bytes_at (with_bytes m a put) b n ≡ bytes_at m b n
+  put_beside b n apart = ap (λ s. readable s b n) with_state ∙ law.elsewhere (as_state m) a put b n may apart
 
-  put_sized : Sized (with_bytes m a bytes)
-  put_sized = subst HasRegions (sym with_state) (law.regions (as_state m) (filled (as_state m) a bytes) sized kept)
+  put_sized : Sized (with_bytes m a put)
+  put_sized = subst HasRegions (sym with_state) (law.regions (as_state m) (filled (as_state m) a put) sized kept)
 
-  put_there : bytes_at (with_bytes m a bytes) a (length bytes) ≡ Some bytes
-  put_there = ap (λ s. readable s a (length bytes)) with_state ∙ law.here (as_state m) a bytes sized may
+  put_there : bytes_at (with_bytes m a put) a (length put) ≡ Some put
+  put_there = ap (λ s. readable s a (length put)) with_state ∙ law.here (as_state m) a put sized may
 
 -- ---- a trade in two writes
 
@@ -181,8 +273,8 @@ pub record TwoWrites (m other : Memory) (left right n : ℕ) : Type 0 where
   pub there : LowWords m left middle right n
   pub second : Changed middle other left n
 
-module _ (law : MemoryLaw) (m other : Memory) (sized : Sized m) (left right n : ℕ) (some : 0 < n) (may : writable (as_state m) left n ≡ true)
-    (t : Trade m other left right n) where
+module _ (law : MemoryLaw) (m other : Memory) (sized : Sized m) (are : AreBytes m.heap) (left right n : ℕ) (some : 0 < n)
+    (may : writable (as_state m) left n ≡ true) (t : Trade m other left right n) where
   -- of one range with itself
   writes_same : left ≡ right → TwoWrites m other left right n
   writes_same e = record {
@@ -217,23 +309,33 @@ module _ (law : MemoryLaw) (m other : Memory) (sized : Sized m) (left right n : 
     may_then : writable (as_state other) left (length old) ≡ true
     may_then = ap (λ k. writable (as_state other) left k) old_long ∙ law.stores (as_state m) (as_state other) left n t.sizes ∙ may
 
+    old_are : lies_in heap_at other.heap left (length old) ≡ true → AreBytes old
+    old_are h =
+        let l = lies heap_at other.heap left (length old) h in
+        let size = t.sizes.heap in
+        let long = old_long in
+        let part : List ℕ = take n (drop (left - heap_at) m.heap) in
+        let same : old ≡ take n (drop (left - heap_at) m.heap)
+        = same_list old part (sym old_is ∙ heap_part m sized left n l.0 (omega (arith, l.1, size, long))) in
+        subst AreBytes (sym same) (are_taken n (drop (left - heap_at) m.heap) (are_dropped (left - heap_at) m.heap are))
+
     abbrev between : Memory
     between = with_bytes other left old
 
     between_sized : Sized between
-    between_sized = put_sized law other t.sized left old may_then
+    between_sized = put_sized law other t.sized left old may_then old_are
 
-    between_sizes : KeepsSizes (as_state other) (as_state between)
-    between_sizes = put_sizes law other t.sized left old may_then
+    between_sizes : KeepsShape (as_state other) (as_state between)
+    between_sizes = put_sizes law other t.sized left old may_then old_are
 
     -- as it was behind the trade, beside the first range
     between_beside : (b k : ℕ) → Beside b k left n → bytes_at between b k ≡ bytes_at other b k
-    between_beside b k away = put_beside law other t.sized left old may_then b k (subst (λ z. Beside b k left z) (sym old_long) away)
+    between_beside b k away = put_beside law other t.sized left old may_then old_are b k (subst (λ z. Beside b k left z) (sym old_long) away)
 
     between_there : bytes_at between left n ≡ Some old
-    between_there = subst (λ k. bytes_at between left k ≡ Some old) old_long (put_there law other t.sized left old may_then)
+    between_there = subst (λ k. bytes_at between left k ≡ Some old) old_long (put_there law other t.sized left old may_then old_are)
 
-    sizes_first : KeepsSizes (as_state m) (as_state between)
+    sizes_first : KeepsShape (as_state m) (as_state between)
     sizes_first = sizes_more m other between t.sizes between_sizes
 
     may_between : writable (as_state between) left n ≡ true
@@ -280,12 +382,20 @@ module _ (law : MemoryLaw) (m other : Memory) (sized : Sized m) (left right n : 
       middle = between;
       first = rewritten_changed law m between sized between_sized sizes_first right n beside_right;
       there = λ o within whole. word_there o within ∙ t.to_right o within whole;
-      second = rewritten_changed law between other between_sized t.sized (turned other between between_sizes) left n
+      second = rewritten_changed law between other between_sized t.sized (turned other between (t.sizes.bytes are) between_sizes) left n
           (λ b k away. sym (between_beside b k away));
     }
       where
-        turned : (m other : Memory) → KeepsSizes (as_state m) (as_state other) → KeepsSizes (as_state other) (as_state m)
-        turned m other s = record { regs = refl; pc = refl; code = refl; statics = sym s.statics; heap = sym s.heap; stack = sym s.stack }
+        turned : (m other : Memory) → AreBytes m.heap → KeepsShape (as_state m) (as_state other) → KeepsShape (as_state other) (as_state m)
+        turned m other bytes_are s = record {
+          regs = refl;
+          pc = refl;
+          code = refl;
+          statics = sym s.statics;
+          heap = sym s.heap;
+          stack = sym s.stack;
+          bytes = λ old. bytes_are;
+        }
 
   pub two_writes : Separate left right n → TwoWrites m other left right n
   two_writes (inl e) = writes_same e

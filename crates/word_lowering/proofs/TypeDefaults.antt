@@ -1,5 +1,5 @@
--- What a type starts at has its shape.
-use Rattle.std.proofs.Common.{◌≡◌, ℕ, zero, suc, ◌+◌, ◌<◌, List, [], ◌∷◌, refl, sym, ap, ◌∙◌, Option, Some, None, subst, arith}
+-- What a type starts at has its shape, which says what that is.
+use Rattle.std.proofs.Common.{◌≡◌, ℕ, zero, suc, ◌+◌, ◌<◌, List, [], ◌∷◌, refl, sym, ap, ◌∙◌, Option, Some, None, subst, arith, ap₂}
 use Rattle.std.specs.Prelude.{Bool, true, false, not, slice_get, pos}
 use Rattle.std.proofs.lemmas.Bool.{both_ways, lt-ltb, and_parts, and_from, false≢true}
 use Rattle.nim_types.specs.declared.types.TypeDef.{TypeDef}
@@ -14,7 +14,7 @@ use Rattle.nim_types.specs.Table.{IsWithin, IsTable}
 use Rattle.nim_types.specs.Entries.{meant_at}
 use Rattle.nim_types.proofs.ForCallers.{the_form, entry_type, said_by, fields_types}
 use Rattle.nim_program.specs.Kinds.{declared_kind}
-use Rattle.nim_meaning.specs.Values.{Value, Number, repeated, blank, blanks, default_of}
+use Rattle.nim_meaning.specs.Values.{Value, Number, Parts, Resource, More, repeated, blank, blanks, default_of}
 use Rattle.flat_code.specs.Shapes.{Shape, Shapes, object_shape, shape_of, has_shape, are_rows, have_shapes}
 use Rattle.flat_code.proofs.ForCallers.{sorted_table, shapes_of, Matches, shaped}
 use Rattle.word_lowering.specs.Stored.{HaveForms}
@@ -22,6 +22,7 @@ use Rattle.word_lowering.specs.Layouts.{is_empty}
 use Rattle.word_lowering.specs.MayLower.{def_may, defs_may}
 use Rattle.word_lowering.proofs.Options.{none_some, some_same}
 use Rattle.word_lowering.proofs.TypeShapes.{within_at, has_form}
+use Rattle.word_lowering.proofs.BlankShapes.{blank_in, blanks_in}
 
 -- ---- what is known of the types inside
 
@@ -60,6 +61,10 @@ rows_start (suc n) v s h = and_from (has_shape v s) (are_rows (repeated n v) n s
 object_starts : (own : Bool) (fs : Forms) (ss : Shapes) → has_shape (blank (object_form own fs)) (object_shape own ss) ≡ have_shapes (blanks fs) ss
 object_starts true fs ss = refl
 object_starts false fs ss = refl
+
+object_blank : (own : Bool) (fs : Forms) (ss : Shapes) → blanks fs ≡ blanks_in ss → blank (object_form own fs) ≡ blank_in (object_shape own ss)
+object_blank true fs ss e = ap (λ vs. Resource vs None) e
+object_blank false fs ss e = ap Parts e
 
 module _ (table : List TypeDef) where
   abbrev facts : Facts
@@ -109,6 +114,38 @@ module _ (table : List TypeDef) where
       all_start none_of k = refl
       all_start (more_of {t} {ts = rest} {f} {fs} a s) k =
           and_from (has_shape (blank f) (shape_of facts t)) (have_shapes (blanks fs) (shapes_of facts rest)) (starts a k.0) (all_start s k.1)
+
+    mutual
+      blank_is : {ty : Ty} {f : Form} → HasForm facts ty f → IsKnown facts ty → blank f ≡ blank_in (shape_of facts ty)
+      blank_is of_int k = refl
+      blank_is of_bool k = refl
+      blank_is of_char k = refl
+      blank_is of_text k = refl
+      blank_is (of_sequence s a) k = refl
+      blank_is (of_any_sequence s) k = absurd (both_ways true s refl)
+      blank_is (of_array {n} {t} {f} a) k = ap (λ v. Parts (repeated n v)) (blank_is a k)
+      blank_is (of_tuple a) k = ap Parts (blanks_are a k)
+      blank_is of_parameter k = refl
+      blank_is (of_enum {key}) k =
+          let whole : HasForm facts (enum key) _ = of_enum in
+          let s : Shape = shape_of facts (enum key) in
+          sym (ap blank_in (declared_start (enum key) (members (k.0 ∷ k.1)) s (shaped facts (sorted_table table) whole).matches k.2))
+      blank_is (of_object {key} {arguments} {all} {own_hooks} {fs} e a) k =
+          let whole : HasForm facts (object key arguments) (object_form own_hooks fs) = of_object e a in
+          let s : Shape = shape_of facts (object key arguments) in
+          object_blank own_hooks fs (shapes_of facts (types_of all)) (blanks_are a (said (object key arguments) (fields all own_hooks) e))
+          ∙ sym (ap blank_in (declared_start (object key arguments) (fields all own_hooks) s (shaped facts (sorted_table table) whole).matches e))
+      blank_is (of_distinct {key} {t} {f} e a) k =
+          let whole : HasForm facts (distinct key) _ = of_distinct e a in
+          let s : Shape = shape_of facts (distinct key) in
+          blank_is a (said (distinct key) (base t) e)
+          ∙ sym (ap blank_in (declared_start (distinct key) (base t) s (shaped facts (sorted_table table) whole).matches e))
+      blank_is of_ref k = refl
+      blank_is of_exception k = refl
+
+      blanks_are : {tys : Tys} {fs : Forms} → AreForms true facts tys fs → AreKnown facts tys → blanks fs ≡ blanks_in (shapes_of facts tys)
+      blanks_are none_of k = refl
+      blanks_are (more_of {t} {ts = rest} {f} {fs} a s) k = ap₂ More (blank_is a k.0) (blanks_are s k.1)
 
 -- ---- the types of a table are known
 
@@ -196,3 +233,9 @@ module _ (table : List TypeDef) (is_table : IsTable table) (may : defs_may table
       let h = has_form table is_table have ty in
       ap (λ f. has_shape (blank f) (shape_of (facts table) (type_at (ts table) ty))) (the_form h.1)
       ∙ starts table (facts_known table) h.1 (known_at ty)
+
+  pub type_blank : HaveForms table → (ty : ℕ)
+      → default_of (facts table) (type_at (ts table) ty) ≡ blank_in (shape_of (facts table) (type_at (ts table) ty))
+  type_blank have ty =
+      let h = has_form table is_table have ty in
+      ap blank (the_form h.1) ∙ blank_is table (facts_known table) h.1 (known_at ty)

@@ -24,16 +24,19 @@ use Rattle.nim_meaning.specs.Table.{limit_of}
 use Rattle.flat_code.specs.Fits.{operation_fits}
 use Rattle.flat_code.specs.Shapes.{Shape, number, reference, block, elements, row, parts, resource, Shapes, no_shapes, shapes, shape_of, has_shape}
 use Rattle.flat_code.proofs.ForCallers.{sorted_table, shapes_of, Matches, shaped, plain_shaped, is_free, are_free, free_of}
-use Rattle.word_lowering.specs.Stored.{limit_in, limit_at, HaveForms}
+use Rattle.word_lowering.specs.OwnedCode.{is_text}
+use Rattle.word_lowering.specs.Stored.{entry_at, limit_in, limit_at, HaveForms}
 use Rattle.word_lowering.specs.MayLower.{is_hooked}
 use Rattle.word_lowering.proofs.Options.{none_some, some_same}
 use Rattle.word_lowering.proofs.ShapeFacts.{never, nth_shape, of_numbers, all_of_numbers}
-use Rattle.word_lowering.proofs.TypeShapes.{beyond_int, has_form}
+use Rattle.word_lowering.proofs.TypeShapes.{beyond_int, has_form, type_no_text}
+use Rattle.word_lowering.proofs.BlankShapes.{of_handles}
+use Rattle.word_lowering.proofs.Sites.{is_one_word}
 
 -- ---- shapes
 
 mutual
-  free_numbers : (s : Shape) → is_free s ≡ of_numbers s
+  pub free_numbers : (s : Shape) → is_free s ≡ of_numbers s
   free_numbers (number values) = refl
   free_numbers reference = refl
   free_numbers block = refl
@@ -119,6 +122,15 @@ module _ (table : List TypeDef) where
   fields_at kind.exception s m (suc field) of e n o = absurd (none_some of e)
   fields_at k s m field of e n o = absurd (none_some of e)
 
+  -- whatever they have
+  built_at : (k : TypeKind) (s : Shape) → Matches facts k s → (field : ℕ) (of : Ty) → field_at k field ≡ Some of → of_handles s ≡ true
+      → is_one_word s ≡ false → Fields s field of
+  built_at (kind.tuple tys) s m field of e n o = (shapes_of facts tys, m, nth_is tys field of e)
+  built_at (kind.object true tys) s m field of e n o = never (sym (ap of_handles m) ∙ n)
+  built_at (kind.object false tys) s m field of e n o = (shapes_of facts tys, m, nth_is tys field of e)
+  built_at kind.exception s m field of e n o = never (sym o ∙ ap is_one_word m)
+  built_at k s m field of e n o = absurd (none_some of e)
+
   abbrev Parts : TypeKind → Shape → Type 0
   Parts k s = (all : Shapes) × (s ≡ parts all) × ((field : ℕ) (of : Ty) → field_at k field ≡ Some of → nth_shape all field ≡ Some (shape_of facts of))
 
@@ -126,6 +138,11 @@ module _ (table : List TypeDef) where
   object_at (kind.object true tys) s m h n = never (sym (ap of_numbers m) ∙ n)
   object_at (kind.object false tys) s m h n = (shapes_of facts tys, m, λ field of e. nth_is tys field of e)
   object_at k s m h n = never h
+
+  built_object_at : (k : TypeKind) (s : Shape) → Matches facts k s → is_built k ≡ true → of_handles s ≡ true → Parts k s
+  built_object_at (kind.object true tys) s m h n = never (sym (ap of_handles m) ∙ n)
+  built_object_at (kind.object false tys) s m h n = (shapes_of facts tys, m, λ field of e. nth_is tys field of e)
+  built_object_at k s m h n = never h
 
   -- ---- limits
 
@@ -225,8 +242,9 @@ module _ (table : List TypeDef) where
     type_resource ty h = resource_at (kind_of facts (type_at ts ty)) (shape_of facts (type_at ts ty)) (shaped_at ty) h
 
     pub type_compared : (ty : ℕ) (comparison : Comparison) → is_compared comparison (plain_kind facts (type_at ts ty)) ≡ true
-        → is_hooked table ty ≡ false → (values : Option ℕ) × (shape_of facts (type_at ts ty) ≡ number values)
-    type_compared ty comparison h unhooked = by (compared_is comparison k h)
+        → is_hooked table ty ≡ false → (values : Option ℕ) × (shape_of facts (type_at ts ty) ≡ number values) × (is_text (entry_at table ty) ≡ false)
+    type_compared ty comparison h unhooked =
+        let n = by (compared_is comparison k h) in (n.0, n.1, type_no_text table is_table have ty (type_plain ty unhooked))
       where
         k : TypeKind
         k = plain_kind facts (type_at ts ty)
@@ -243,9 +261,18 @@ module _ (table : List TypeDef) where
         → Fields (shape_of facts (type_at ts ty)) field of
     type_fields ty field of e n o = fields_at (kind_of facts (type_at ts ty)) (shape_of facts (type_at ts ty)) (shaped_at ty) field of e n o
 
+    pub type_built : (ty field : ℕ) (of : Ty) → field_at (kind_of facts (type_at ts ty)) field ≡ Some of
+        → of_handles (shape_of facts (type_at ts ty)) ≡ true → is_one_word (shape_of facts (type_at ts ty)) ≡ false
+        → Fields (shape_of facts (type_at ts ty)) field of
+    type_built ty field of e n o = built_at (kind_of facts (type_at ts ty)) (shape_of facts (type_at ts ty)) (shaped_at ty) field of e n o
+
     pub type_object : (ty : ℕ) → is_built (kind_of facts (type_at ts ty)) ≡ true → of_numbers (shape_of facts (type_at ts ty)) ≡ true
         → Parts (kind_of facts (type_at ts ty)) (shape_of facts (type_at ts ty))
     type_object ty h n = object_at (kind_of facts (type_at ts ty)) (shape_of facts (type_at ts ty)) (shaped_at ty) h n
+
+    pub type_built_object : (ty : ℕ) → is_built (kind_of facts (type_at ts ty)) ≡ true → of_handles (shape_of facts (type_at ts ty)) ≡ true
+        → Parts (kind_of facts (type_at ts ty)) (shape_of facts (type_at ts ty))
+    type_built_object ty h n = built_object_at (kind_of facts (type_at ts ty)) (shape_of facts (type_at ts ty)) (shaped_at ty) h n
 
     pub type_limit : (ty : ℕ) → limit_at table (Some ty) ≡ limit_of facts (type_at ts ty)
     type_limit ty =

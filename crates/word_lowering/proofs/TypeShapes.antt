@@ -20,6 +20,7 @@ use Rattle.nim_types.proofs.ForCallers.{the_form, by_entry, said_by, fields_type
 use Rattle.nim_program.specs.Kinds.{declared_kind}
 use Rattle.flat_code.specs.Shapes.{Shape, number, reference, block, elements, row, parts, Shapes, object_shape, shape_by, shape_within, shape_of}
 use Rattle.flat_code.proofs.ForCallers.{sorted_table, shapes_of, Matches, shaped}
+use Rattle.word_lowering.specs.OwnedCode.{has_handle, is_text}
 use Rattle.word_lowering.specs.Stored.{bytes_at, bytes_all, base_or, base_within, entry_at, is_word, parts_in, part_at, count_in, element_bytes, HaveForms}
 use Rattle.word_lowering.proofs.Options.{none_some, some_same}
 use Rattle.word_lowering.proofs.ShapeFacts.{never, shape_bytes, shapes_bytes, of_numbers}
@@ -283,10 +284,30 @@ module _ (table : List TypeDef) where
         → is_one_word (shape_of facts (type_at ts ty)) ≡ is_word (entry_at table ty)
     type_is_word ty n = word_at (entry_at table ty) (shape_of facts (type_at ts ty)) (type_looks ty) n
 
+    text_at : (o : Option TypeDef) (s : Shape) → Looks o s → of_numbers s ≡ true → is_text o ≡ false
+    text_at None s l n = refl
+    text_at (Some D.Int) s l n = refl
+    text_at (Some D.Bool) s l n = refl
+    text_at (Some D.Char) s l n = refl
+    text_at (Some D.Text) s l n = never (sym (ap of_numbers l) ∙ n)
+    text_at (Some (D.Seq i)) s l n = refl
+    text_at (Some (D.Param k)) s l n = refl
+    text_at (Some (D.Enum name at all)) s l n = refl
+    text_at (Some (D.Array k i)) s l n = refl
+    text_at (Some (D.Tuple names is)) s l n = refl
+    text_at (Some (D.Object name at is all own tys)) s l n = refl
+    text_at (Some (D.Distinct name at i)) s l n = refl
+    text_at (Some (D.Ref name i)) s l n = refl
+    text_at (Some (D.Exception name at parent)) s l n = refl
+
+    -- what is made of numbers is no text
+    pub type_no_text : (ty : ℕ) → of_numbers (shape_of facts (type_at ts ty)) ≡ true → is_text (entry_at table ty) ≡ false
+    type_no_text ty n = text_at (entry_at table ty) (shape_of facts (type_at ts ty)) (type_looks ty) n
+
     -- ---- elements
 
     abbrev RowIs : Option TypeDef → ℕ → Shape → Type 0
-    RowIs o count s = (count_in o ≡ count) × (0 < count → element_bytes table o ≡ shape_bytes s)
+    RowIs o count s = (count_in o ≡ count) × (0 < count → element_bytes table o ≡ shape_bytes s) × (has_handle o ≡ false)
 
     row_at : (o : Option TypeDef) (s : Shape) → Looks o s → (count : ℕ) (t : Shape) → s ≡ row count t → RowIs o count t
     row_at None s l count t e = no_row refl (sym l ∙ e) refl
@@ -299,7 +320,7 @@ module _ (table : List TypeDef) where
     row_at (Some (D.Enum name at all)) s l count t e = no_row refl (sym l ∙ e) refl
     row_at (Some (D.Array k i)) s l count t e =
         let r = same_rows k count (shape_of facts (type_at ts i)) t (sym l ∙ e) in
-        (r.0, λ some. type_bytes i ∙ ap shape_bytes r.1)
+        (r.0, λ some. type_bytes i ∙ ap shape_bytes r.1, refl)
     row_at (Some (D.Tuple names is)) s l count t e = no_row refl (sym l ∙ e) refl
     row_at (Some (D.Object name at is all own tys)) s l count t e = no_row (object_row own (shapes_of facts (types_at ts tys))) (sym l ∙ e) refl
     row_at (Some (D.Distinct name at i)) s l count t e = absurd l

@@ -28,7 +28,7 @@ use Rattle.flat_code.specs.declared.line.From.{From}
 use Rattle.flat_code.specs.declared.line.From.TheVariants as F
 use Rattle.flat_code.specs.declared.line.Line.TheVariants as L
 use Rattle.flat_code.specs.Codes.{block_plain}
-use Rattle.flat_code.specs.Fits.{if_kind, is_location, is_own, is_standing, is_value, place_named}
+use Rattle.flat_code.specs.Fits.{if_kind, is_location, is_standing, is_value, place_named}
 use Rattle.flat_code.specs.Lines.{gives, using}
 use Rattle.flat_code.specs.Running.{scene_of}
 use Rattle.flat_code.specs.Scene.{Passes, Temps, Where, location_at, with_value}
@@ -46,7 +46,7 @@ use Rattle.word_lowering.specs.declared.homes.Housed.{Housed}
 use Rattle.word_lowering.specs.declared.spots.Spot.{Spot}
 use Rattle.word_lowering.specs.declared.spots.Spot.TheVariants.{Held, Lies}
 use Rattle.word_lowering.specs.declared.texts.TheConstants.{FIXED_BYTES}
-use Rattle.word_lowering.specs.Layouts.{is_address}
+use Rattle.word_lowering.specs.Layouts.{holds_address, owns}
 use Rattle.word_lowering.specs.LineCode.{label_before, location, updated_code}
 use Rattle.word_lowering.specs.Lowered.{any_branches, branches_to}
 use Rattle.word_lowering.specs.Operations.{binary_code, trap_label, word}
@@ -72,16 +72,16 @@ use Rattle.word_lowering.proofs.OrdinalRuns.{AllSame, beyond, put_here, put_othe
 use Rattle.word_lowering.proofs.OutPlaces.{Written, far_written, high_in_memory, own_written}
 use Rattle.word_lowering.proofs.ReadFacts.{item_read}
 use Rattle.word_lowering.proofs.Related.{Both, body_of, high, within}
-use Rattle.word_lowering.proofs.Scenes.{At as IsHeldAt, FromOwned, FromPlace, IsThere, Points, address_of, house, looked, of_place}
+use Rattle.word_lowering.proofs.Scenes.{At as IsHeldAt, FromOwned, FromPlace, IsThere, Points, address_of, house, looked, of_place, of_location}
 use Rattle.word_lowering.proofs.Settling.{LabelsLead, TrapsStop, code_here, code_next, code_of_line, trap_settles}
-use Rattle.word_lowering.proofs.ShapeFacts.{never}
+use Rattle.word_lowering.proofs.ShapeFacts.{never, of_numbers}
 use Rattle.word_lowering.proofs.Sites.{Housing, InMemory, Site, around, by_address, data_end, in_data, in_places, in_variable, room}
 use Rattle.word_lowering.proofs.SitesApart.{houses, variables_apart}
 use Rattle.word_lowering.proofs.Sources.{Readable}
 use Rattle.word_lowering.proofs.StoreLines.{none_temps, writes_at}
 use Rattle.word_lowering.proofs.Stores.{good_written, ground_then}
 use Rattle.word_lowering.proofs.UpdateRuns.{Comes, fourth_stored, update_comes}
-use Rattle.word_lowering.proofs.ValueFacts.{type_in}
+use Rattle.word_lowering.proofs.ValueFacts.{type_in, IsPlain}
 
 -- ---- traps that code of an update may come to
 
@@ -118,7 +118,7 @@ module _ (x : Basis) (g : Both) (line : BlockLine) (rest : List BlockLine) (y : 
   -- ---- where the number is: in the variable of a place of the call, or at an address
 
   data WordAt (h : Housed) (l : Location) : Type 0 where
-    held_at : (n v : ℕ) → IsThere g.call.site (of_place n) → is_own (house g.call.site (of_place n)).kind ≡ true
+    held_at : (n v : ℕ) → IsThere g.call.site (of_place n) → owns (house g.call.site (of_place n)) ≡ true
         → looked x.table g.call.site (of_place n) ≡ number None → (house g.call.site (of_place n)).home ≡ Variable v → OWN_FROM ≤ v
         → h ≡ house g.call.site (of_place n) → (old : Value) → slot_at g.world g.call.site.level n ≡ Some (Holds old)
         → l ≡ place_at g.call.site.level n → WordAt h l
@@ -129,8 +129,8 @@ module _ (x : Basis) (g : Both) (line : BlockLine) (rest : List BlockLine) (y : 
   word_at h l (far_written home spot up a points f) = lies_at home spot up a points f
   word_at h l (own_written n there own is look old slot l_is) = by (houses x.table x.blocks g.call.site (of_place n) y.linked.0 there).where_is
     where
-      plain_is : is_address (house g.call.site (of_place n)).kind ≡ false
-      plain_is = own_plain (house g.call.site (of_place n)).kind own
+      plain_is : holds_address (house g.call.site (of_place n)) ≡ false
+      plain_is = own_plain (house g.call.site (of_place n)) own
 
       lying : InMemory (house g.call.site (of_place n)).home → WordAt h l
       lying inside =
@@ -185,21 +185,22 @@ module _ (x : Basis) (g : Both) (line : BlockLine) (rest : List BlockLine) (y : 
           (λ trap leads k. shown trap k ∙ leads k) (applied operator u step) (updated_may label operator (spot_of h) by u step)
 
       -- in a variable
-      module _ (n t : ℕ) (there : IsThere g.call.site (of_place n)) (own : is_own (house g.call.site (of_place n)).kind ≡ true)
+      module _ (n t : ℕ) (there : IsThere g.call.site (of_place n)) (own : owns (house g.call.site (of_place n)) ≡ true)
           (look : looked x.table g.call.site (of_place n) ≡ number None) (home : (house g.call.site (of_place n)).home ≡ Variable t) (least : OWN_FROM ≤ t)
           (is : h ≡ house g.call.site (of_place n)) (old : Value) (slot : slot_at g.world g.call.site.level n ≡ Some (Holds old)) where
-        plain_is : is_address (house g.call.site (of_place n)).kind ≡ false
-        plain_is = own_plain (house g.call.site (of_place n)).kind own
+        plain_is : holds_address (house g.call.site (of_place n)) ≡ false
+        plain_is = own_plain (house g.call.site (of_place n)) own
 
         spot : spot_of (house g.call.site (of_place n)) ≡ Held t
         spot = spot_held (house g.call.site (of_place n)) t plain_is home
 
         old_shaped : has_shape old (number None) ≡ true
-        old_shaped = subst (λ s. has_shape old s ≡ true) look (item_read x g line rest y (of_place n) old there slot).shaped
+        old_shaped = subst (λ s. has_shape old s ≡ true) look (item_read x g line rest y (of_place n) old there (ap of_numbers look) slot).shaped
 
         old_is : v t ≡ Some (word (number_of old))
         old_is = same.others t least
-            ∙ subst (λ p. IsHeldAt g.memory g.call.site.base g.call.vars p old) spot (item_read x g line rest y (of_place n) old there slot).at
+            ∙ subst (λ p. IsHeldAt g.memory g.call.site.base g.call.vars p old) spot
+            (item_read x g line rest y (of_place n) old there (ap of_numbers look) slot).at
 
         runs_held : runs_by (Held t)
         runs_held = subst runs_by (ap spot_of is ∙ spot) runs
@@ -240,7 +241,8 @@ module _ (x : Basis) (g : Both) (line : BlockLine) (rest : List BlockLine) (y : 
             let world = with_slot g.world g.call.site.level n (Some (Holds (Number z))) in
             goes_on x (starts g line rest) (changed g rest temps get.vars get.memory get.words get.awaits world) rest
             (good_place x g line rest y n there own (Number z) rest (stands_next x.table x.blocks (body_of g) line rest y.stands) temps same_at
-            (code_here x g line rest y) next 7 (subst (λ s. has_shape (Number z) s ≡ true) (sym look) c.0) plain_is get)
+            (code_here x g line rest y) next 7 (ap of_numbers look)
+            (subst (λ s. has_shape (Number z) s ≡ true) (sym look) c.0) plain_is get)
             get.steps (1 + (bytes old + (4 + 0))) temps world get.runs get.some (omega (arith, short)) refl
         held_did (Trapped trap) leads c =
             trap_settles x g line rest y traps trap (1 + bytes old) (omega arith) leads
@@ -397,7 +399,8 @@ module _ (x : Basis) (traps : TrapsStop x) (labels : LabelsLead x) (g : Both) (r
         no_more : (m n : ℕ) → 1 + m + n ≡ 1 + (m + (n + 0))
         no_more m n = omega arith
 
-    updates_there : (t : ℕ) (there : Where) → value_type x g line rest y to ≡ None → is_int (kind_if (facts_in x.table) (location_type t)) ≡ true
+    updates_there : (t : ℕ) (there : Where) → IsPlain x g.call.site (of_location t) → value_type x g line rest y to ≡ None →
+        is_int (kind_if (facts_in x.table) (location_type t)) ≡ true
         → may_write t ≡ true → g.call.temps.places t ≡ Some there → updates operator ≡ true → (label by : ℕ) → FIFTH ≤ by → (step : ℤ)
         → is_int_number step ≡ true → (v : Vars) → AllSame g.call.vars v → v by ≡ Some (word step) → (front : ℕ) → front ≤ 1
         → Runs x.live (all_procs x) front (at (within x.table x.blocks g) g.memory (code_here x g line rest y) g.call.vars g.words)
@@ -407,9 +410,9 @@ module _ (x : Basis) (traps : TrapsStop x) (labels : LabelsLead x) (g : Both) (r
         ≡ any_branches trap (updated_code label operator (spot_of (location (around x.table x.blocks (body_of g)) t)) by k))
         → Settles x (starts g line rest) rest (gives (scene_of (high x.table x.blocks (starts g line rest))) to
         (costs 1 (updated (location_at g.call.temps there) (λ n. operate operator n step)) >>= made_by false (bound_for g how)))
-    updates_there t there none k may e up label by high_by step step_fits v same step_is front short runs shown =
+    updates_there t there plain none k may e up label by high_by step step_fits v same step_is front short runs shown =
         let s = some_kind (facts_in x.table) (location_type t) is_int refl k in
-        let w = writes_at x g line rest y t there s.0 s.1 may e in
+        let w = writes_at x g line rest y t there s.0 plain s.1 may e in
         let same_at = none_temps x g line rest y to none in
         let h : Housed = location (around x.table x.blocks (body_of g)) t in
         let at_word = word_at x g line rest y h w.at (subst (λ q. Written x g line rest y h w.at q) (int_shape (facts_in x.table) s.0 s.2) w.written) in
@@ -428,8 +431,8 @@ module _ (x : Basis) (traps : TrapsStop x) (labels : LabelsLead x) (g : Both) (r
     stepping = plain (L.Apply to (O.Update operator) how None (a ∷ []) (F.Place t ∷ []))
 
     step_value : RowHere x g rest to (O.Update operator) how None (a ∷ []) (F.Place t ∷ [])
-    step_value y =
-        let f = applies x g rest to (O.Update operator) how None (a ∷ []) (F.Place t ∷ []) y in
+    step_value names y =
+        let f = applies x g rest to (O.Update operator) how None (a ∷ []) (F.Place t ∷ []) names y in
         let r = and_parts (steps operator) (is_int (kind_if (facts_in x.table) (if_type (known x).types a))) f.row in
         let p = and_parts (same_value (location_type t) (if_type (known x).types a)) true f.typed in
         let may = and_parts (may_write t) true f.written in
@@ -437,7 +440,7 @@ module _ (x : Basis) (traps : TrapsStop x) (labels : LabelsLead x) (g : Both) (r
         mapped_settles x (starts g stepping rest) rest (g.call.temps.places t) (λ place. At (location_at g.call.temps place))
         (λ l. gives (scene_of (high x.table x.blocks (starts g stepping rest))) to
         (costs 1 (updated (location_of l) (λ n. operate operator n (pos 1))) >>= made_by false (bound_for g how)))
-        (λ there e. updates_there stepping y t there (no_type (value_type x g stepping rest y to) f.given) k may.0 e (step_updates operator r.0)
+        (λ there e. updates_there stepping y t there names.1.0 (no_type (value_type x g stepping rest y to) f.given) k may.0 e (step_updates operator r.0)
         (label_before (map block_plain rest)) FIFTH (omega arith) (pos 1) refl (put g.call.vars FIFTH 1)
         (same_put g.call.vars FIFTH 1 (omega arith) (omega arith)) (put_here g.call.vars FIFTH 1 (omega arith)) 1 (omega arith)
         (run_constant x.live (all_procs x) (within x.table x.blocks g) g.memory (updated_code (label_before (map block_plain rest)) operator
@@ -450,8 +453,8 @@ module _ (x : Basis) (traps : TrapsStop x) (labels : LabelsLead x) (g : Both) (r
     adding = plain (L.Apply to (O.Update operator) how None (a ∷ b ∷ []) (F.Place t ∷ F.Value by ∷ []))
 
     add_value : RowHere x g rest to (O.Update operator) how None (a ∷ b ∷ []) (F.Place t ∷ F.Value by ∷ [])
-    add_value y =
-        let f = applies x g rest to (O.Update operator) how None (a ∷ b ∷ []) (F.Place t ∷ F.Value by ∷ []) y in
+    add_value names y =
+        let f = applies x g rest to (O.Update operator) how None (a ∷ b ∷ []) (F.Place t ∷ F.Value by ∷ []) names y in
         let int_a : Bool = is_int (kind_if (facts_in x.table) (if_type (known x).types a)) in
         let int_b : Bool = is_int (kind_if (facts_in x.table) (if_type (known x).types b)) in
         let r = and_parts (updates operator) (int_a && int_b) f.row in
@@ -470,33 +473,33 @@ module _ (x : Basis) (traps : TrapsStop x) (labels : LabelsLead x) (g : Both) (r
         (λ z. gives (scene_of (high x.table x.blocks (starts g adding rest))) to
         (costs 1 (updated (location_at g.call.temps there) (λ n. operate operator n (number_of (value_of z)))) >>= made_by false (bound_for g how)))
         (λ z h. let o = int_read x g adding rest y by z k_by h in
-        updates_there adding y t there (no_type (value_type x g adding rest y to) f.given) k may.0 e r.0
+        updates_there adding y t there names.1.0 (no_type (value_type x g adding rest y to) f.given) k may.0 e r.0
         (label_before (map block_plain rest)) (variable x g adding rest y by) (let high_by = o.high in omega (arith, high_by)) (number_of z) o.fits
         g.call.vars (all_same g.call.vars) o.word_is 0 (omega arith)
         (no_run (lower x) (at (within x.table x.blocks g) g.memory (code_here x g adding rest y) g.call.vars g.words))
         (λ trap k. refl)))
 
   pub update_line : (ty : Option ℕ) (of : List (Option ℕ)) (from : List From) → RowHere x g rest to (O.Update operator) how ty of from
-  update_line None (a ∷ []) (F.Place t ∷ []) y = step_value a t y
-  update_line None (a ∷ b ∷ []) (F.Place t ∷ F.Value by ∷ []) y = add_value a b t by y
-  update_line (Some ty) of from y = never (applies x g rest to (O.Update operator) how (Some ty) of from y).row
-  update_line None [] from y = never (applies x g rest to (O.Update operator) how None [] from y).row
-  update_line None (a ∷ b ∷ c ∷ of) from y = never (applies x g rest to (O.Update operator) how None (a ∷ b ∷ c ∷ of) from y).row
-  update_line None (a ∷ []) [] y = never (applies x g rest to (O.Update operator) how None (a ∷ []) [] y).placed
-  update_line None (a ∷ []) (F.Value t ∷ others) y = never (applies x g rest to (O.Update operator) how None (a ∷ []) (F.Value t ∷ others) y).placed
-  update_line None (a ∷ []) (F.Place t ∷ other ∷ others) y =
+  update_line None (a ∷ []) (F.Place t ∷ []) names y = step_value a t names y
+  update_line None (a ∷ b ∷ []) (F.Place t ∷ F.Value by ∷ []) names y = add_value a b t by names y
+  update_line (Some ty) of from names y = never (applies x g rest to (O.Update operator) how (Some ty) of from names y).row
+  update_line None [] from names y = never (applies x g rest to (O.Update operator) how None [] from names y).row
+  update_line None (a ∷ b ∷ c ∷ of) from names y = never (applies x g rest to (O.Update operator) how None (a ∷ b ∷ c ∷ of) from names y).row
+  update_line None (a ∷ []) [] names y = never (applies x g rest to (O.Update operator) how None (a ∷ []) [] names y).placed
+  update_line None (a ∷ []) (F.Value t ∷ others) names y = never (applies x g rest to (O.Update operator) how None (a ∷ []) (F.Value t ∷ others) names y).placed
+  update_line None (a ∷ []) (F.Place t ∷ other ∷ others) names y =
       never (and_parts (same_value (location_type t) (if_type (known x).types a)) false
-      (applies x g rest to (O.Update operator) how None (a ∷ []) (F.Place t ∷ other ∷ others) y).typed).1
-  update_line None (a ∷ b ∷ []) [] y = never (applies x g rest to (O.Update operator) how None (a ∷ b ∷ []) [] y).placed
-  update_line None (a ∷ b ∷ []) (F.Value t ∷ others) y =
-      never (applies x g rest to (O.Update operator) how None (a ∷ b ∷ []) (F.Value t ∷ others) y).placed
-  update_line None (a ∷ b ∷ []) (F.Place t ∷ []) y =
+      (applies x g rest to (O.Update operator) how None (a ∷ []) (F.Place t ∷ other ∷ others) names y).typed).1
+  update_line None (a ∷ b ∷ []) [] names y = never (applies x g rest to (O.Update operator) how None (a ∷ b ∷ []) [] names y).placed
+  update_line None (a ∷ b ∷ []) (F.Value t ∷ others) names y =
+      never (applies x g rest to (O.Update operator) how None (a ∷ b ∷ []) (F.Value t ∷ others) names y).placed
+  update_line None (a ∷ b ∷ []) (F.Place t ∷ []) names y =
       never (and_parts (same_value (location_type t) (if_type (known x).types a)) false
-      (applies x g rest to (O.Update operator) how None (a ∷ b ∷ []) (F.Place t ∷ []) y).typed).1
-  update_line None (a ∷ b ∷ []) (F.Place t ∷ F.Place by ∷ others) y =
-      never (applies x g rest to (O.Update operator) how None (a ∷ b ∷ []) (F.Place t ∷ F.Place by ∷ others) y).placed
-  update_line None (a ∷ b ∷ []) (F.Place t ∷ F.Value by ∷ other ∷ others) y =
+      (applies x g rest to (O.Update operator) how None (a ∷ b ∷ []) (F.Place t ∷ []) names y).typed).1
+  update_line None (a ∷ b ∷ []) (F.Place t ∷ F.Place by ∷ others) names y =
+      never (applies x g rest to (O.Update operator) how None (a ∷ b ∷ []) (F.Place t ∷ F.Place by ∷ others) names y).placed
+  update_line None (a ∷ b ∷ []) (F.Place t ∷ F.Value by ∷ other ∷ others) names y =
       never (and_parts (same_value (type_in x is_value (body_of g) by) (if_type (known x).types b)) false
       (and_parts (same_value (location_type t) (if_type (known x).types a))
       (same_value (type_in x is_value (body_of g) by) (if_type (known x).types b) && false)
-      (applies x g rest to (O.Update operator) how None (a ∷ b ∷ []) (F.Place t ∷ F.Value by ∷ other ∷ others) y).typed).1).1
+      (applies x g rest to (O.Update operator) how None (a ∷ b ∷ []) (F.Place t ∷ F.Value by ∷ other ∷ others) names y).typed).1).1

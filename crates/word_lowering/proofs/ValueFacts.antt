@@ -1,5 +1,5 @@
 -- Values that lines read and give: where they are, and what is true behind a line that gives one.
-use Rattle.std.proofs.Common.{◌≡◌, ◌≢◌, ◌⊎◌, inl, inr, ℕ, ℤ, ◌≤◌, List, Option, Some, Bool, true, false}
+use Rattle.std.proofs.Common.{◌≡◌, ◌≢◌, ◌⊎◌, inl, inr, ℕ, ℤ, ◌≤◌, List, [], ◌∷◌, Option, Some, Bool, true, false}
 use Rattle.std.proofs.Common.{refl, sym, ap, subst, ◌∙◌}
 use Rattle.std.specs.Prelude.{nat_eq}
 use Rattle.std.proofs.lemmas.Bool.{eq-eqb, ne_eqb, cond-true, cond-false}
@@ -23,7 +23,7 @@ use Rattle.word_lowering.specs.declared.homes.Home.TheVariants.{Variable}
 use Rattle.word_lowering.specs.declared.homes.Housed.{Housed}
 use Rattle.word_lowering.specs.declared.spots.Spot.TheVariants.{Held}
 use Rattle.word_lowering.specs.declared.texts.TheConstants.{FIXED_BYTES}
-use Rattle.word_lowering.specs.Layouts.{is_address}
+use Rattle.word_lowering.specs.Layouts.{holds_address, address_by}
 use Rattle.word_lowering.specs.Spots.{spot_of}
 use Rattle.word_lowering.specs.Operations.{word}
 use Rattle.word_lowering.specs.LineCode.{variable_in, variable_of}
@@ -31,22 +31,26 @@ use Rattle.word_lowering.proofs.Options.{some_same}
 use Rattle.word_lowering.proofs.OrdinalRuns.{AllBut}
 use Rattle.word_lowering.proofs.Moves.{single_word}
 use Rattle.word_lowering.proofs.LineFits.{number_fits, number_value}
-use Rattle.word_lowering.proofs.Sites.{Body, type_of, room, Housing, in_variable, by_address, in_places, in_data, InVariable, InMemory, Site}
-use Rattle.word_lowering.proofs.Sites.{data_end, is_one_word}
+use Rattle.word_lowering.proofs.Sites.{Body, type_of, room, Housing, in_variable, by_address, in_places, in_data, InVariable, InMemory, Site, has_hooks}
+use Rattle.word_lowering.proofs.Sites.{data_end, is_one_word, looks}
 use Rattle.word_lowering.proofs.Sites.{IsHoused, IsTextual, IsBody}
 use Rattle.word_lowering.proofs.Scenes.{Name, of_value, of_location, of_place, kind_in, number_in, At, Call, house, IsNamed, IsThere, looked, IsItem, Holding}
-use Rattle.word_lowering.proofs.Scenes.{Store}
-use Rattle.word_lowering.proofs.SitesApart.{houses, variables_apart}
-use Rattle.word_lowering.proofs.Keeping.{own_text, spot_held, value_no_location, value_no_place, call, nowhere, Kept, New, worlds_same}
+use Rattle.word_lowering.proofs.Scenes.{row_of, IsPlaced, of_waiting}
+use Rattle.word_lowering.proofs.Scenes.{Store, HasVariable}
+use Rattle.word_lowering.proofs.SitesApart.{houses, variables_apart, variable_high}
+use Rattle.word_lowering.proofs.Keeping.{own_text, spot_held, value_no_location, value_no_place, call, nowhere, Kept, New, worlds_same, value_no_waiting}
 use Rattle.word_lowering.proofs.Related.{Both, body_of, StandAt, store_of}
 use Rattle.word_lowering.proofs.Items.{numbers_of, item_of}
 use Rattle.word_lowering.proofs.Lines.{Basis, changed, starts, IsGood, all_sites, good_changed, waits_below}
 
 -- a temporary's place holds no address
-pub value_plain : (k : PlaceKind) → is_value k ≡ true → is_address k ≡ false
-value_plain K.Temp h = refl
-value_plain K.Counter h = refl
-value_plain k h = never h
+value_by : (lent : Bool) (k : PlaceKind) → is_value k ≡ true → address_by lent k ≡ false
+value_by lent K.Temp h = refl
+value_by lent K.Counter h = refl
+value_by lent k h = never h
+
+pub value_plain : (place : Housed) → is_value place.kind ≡ true → holds_address place ≡ false
+value_plain place h = value_by place.lent place.kind h
 
 -- where a word of a temporary is
 pub record InWord (h : Housed) : Type 0 where
@@ -65,17 +69,21 @@ module _ (x : Basis) where
   -- a name with a type is there, and has that type
   pub record HasType (s : Site) (name : Name) (ty : Ty) : Type 0 where
     pub named : IsNamed s name
-    pub typed : type_of x.table (house s name) ≡ ty
+    pub typed : type_of x.table (row_of s name) ≡ ty
 
   pub has_type : (s : Site) (name : Name) (ty : Ty) → IsBody x.table x.blocks s.body → type_in (kind_in name) s.body (number_in name) ≡ Some ty
       → HasType s name ty
   has_type s name ty b e = let n = b.named (kind_in name) (number_in name) ty e in record { named = n.0; typed = n.1 }
 
-  pub look_of : (s : Site) (name : Name) (ty : Ty) → HasType s name ty → looked x.table s name ≡ shape_of (facts_in x.table) ty
+  pub look_of : (s : Site) (name : Name) (ty : Ty) → HasType s name ty →
+      shape_of (facts_in x.table) (type_of x.table (row_of s name)) ≡ shape_of (facts_in x.table) ty
   look_of s name ty h = ap (shape_of (facts_in x.table)) h.typed
 
-  abbrev pub with_home : {s : Site} {name : Name} → IsNamed s name → (house s name).alias ≡ alias.Own → IsThere s name
-  with_home n own = record { among = n.among; number = n.number; kind = n.kind; own = own }
+  abbrev pub with_home : {s : Site} {name : Name} → IsNamed s name → (row_of s name).alias ≡ alias.Own → IsPlaced name → IsThere s name
+  with_home {name = of_value t} n own placed = record { among = n.among; number = n.number; kind = n.kind; own = own }
+  with_home {name = of_location t} n own placed = record { among = n.among; number = n.number; kind = n.kind; own = own }
+  with_home {name = of_place p} n own placed = record { among = n.among; number = n.number; kind = n.kind; own = own }
+  with_home {name = of_waiting node} n own placed = absurd placed
 
   -- a value of numbers has a home
   pub value_there : (s : Site) (t : ℕ) → IsBody x.table x.blocks s.body → IsNamed s (of_value t) → of_numbers (looked x.table s (of_value t)) ≡ true
@@ -83,19 +91,52 @@ module _ (x : Basis) where
   value_there s t b n numbers = by (b.values t n)
     where
       by : ((house s (of_value t)).alias ≡ alias.Own) ⊎ IsTextual x.table x.blocks (house s (of_value t)) → IsThere s (of_value t)
-      by (inl own) = with_home n own
+      by (inl own) = with_home n own tt
       by (inr text) = never (sym (ap of_numbers text.look) ∙ numbers)
 
-  -- all locations lead to numbers
-  pub location_of_numbers : (s : Site) (t : ℕ) → IsBody x.table x.blocks s.body → IsNamed s (of_location t)
+  -- nothing is to be done for what a name has, if it has anything
+  abbrev pub IsPlain : (s : Site) → Name → Type 0
+  IsPlain s (of_value t) = IsThere s (of_value t) → has_hooks x.table (house s (of_value t)) ≡ false
+  IsPlain s (of_location t) = IsNamed s (of_location t) → has_hooks x.table (house s (of_location t)) ≡ false
+  IsPlain s (of_place n) = IsThere s (of_place n) → has_hooks x.table (house s (of_place n)) ≡ false
+  IsPlain s (of_waiting node) = Unit {0}
+
+  abbrev pub PlainNames : (s : Site) → List Name → Type 0
+  PlainNames s [] = Unit {0}
+  PlainNames s (name ∷ names) = IsPlain s name × PlainNames s names
+
+  -- yet so it is of all names
+  pub plain_name : (s : Site) (name : Name) → IsBody x.table x.blocks s.body → IsPlain s name
+  plain_name s (of_value t) b = λ there. b.plain (house s (of_value t)) there.among there.own
+  plain_name s (of_location t) b = b.plain_led t
+  plain_name s (of_place n) b = λ there. b.plain (house s (of_place n)) there.among there.own
+  plain_name s (of_waiting node) b = tt
+
+  pub plain_names : (s : Site) (names : List Name) → IsBody x.table x.blocks s.body → PlainNames s names
+  plain_names s [] b = tt
+  plain_names s (name ∷ names) b = (plain_name s name b, plain_names s names b)
+
+  -- such locations lead to numbers
+  pub location_of_numbers : (s : Site) (t : ℕ) → IsBody x.table x.blocks s.body → IsNamed s (of_location t) → IsPlain s (of_location t)
       → of_numbers (looked x.table s (of_location t)) ≡ true
-  location_of_numbers s t b n = b.locations t n
+  location_of_numbers s t b n plain = b.locations t n (plain n)
+
+  -- a value of which a location is another name has a home
+  abbrev pub IsHomed : (s : Site) → ℕ → Type 0
+  IsHomed s t = (u : ℕ) → (house s (of_location t)).alias ≡ alias.Value u → IsThere s (of_value u)
+
+  pub homed_plain : (s : Site) (t : ℕ) → IsBody x.table x.blocks s.body → IsNamed s (of_location t) → IsPlain s (of_location t) → IsHomed s t
+  homed_plain s t b n plain u is =
+      let ty : Ty = type_of x.table (house s (of_location t)) in
+      let typed = has_type s (of_value u) ty b (b.valued t u n is).0 in
+      value_there s u b typed.named (ap of_numbers (look_of s (of_value u) ty typed) ∙ location_of_numbers s t b n plain)
 
   pub place_there : (s : Site) (p : ℕ) → IsBody x.table x.blocks s.body → IsNamed s (of_place p) → IsThere s (of_place p)
-  place_there s p b n = with_home n (b.places (house s (of_place p)) n.among n.kind)
+  place_there s p b n = with_home n (b.places (house s (of_place p)) n.among n.kind) tt
 
-  pub numbers_there : (s : Site) (name : Name) → IsBody x.table x.blocks s.body → IsThere s name → of_numbers (looked x.table s name) ≡ true
-  numbers_there s name b there = (houses x.table x.blocks s name b there).numbers
+  pub numbers_there : (s : Site) (name : Name) → IsBody x.table x.blocks s.body → IsThere s name
+      → has_hooks x.table (house s name) ≡ false → of_numbers (looked x.table s name) ≡ true
+  numbers_there s name b there plain = (houses x.table x.blocks s name b there).numbers plain
 
   -- ---- words
 
@@ -117,9 +158,20 @@ module _ (x : Basis) where
         is = ap variable_in e;
         spot = spot_held (house s (of_value t)) v plain e;
       }
-      by (by_address v e address low) = never (sym (value_plain (house s (of_value t)).kind there.kind) ∙ address)
+      by (by_address v e address low) = never (sym (value_plain (house s (of_value t)) there.kind) ∙ address)
       by (in_places at e plain whole within) = absurd (subst InVariable e inside)
       by (in_data at e plain whole low within start) = absurd (subst InVariable e inside)
+
+  -- what is no word is in memory
+  pub housed_inside : (b : Body) (h : Housed) → IsHoused x.table x.blocks b h → holds_address h ≡ false → is_one_word (looks x.table h) ≡ false
+      → InMemory h.home
+  housed_inside b h is plain_is many = by is.where_is
+    where
+      by : Housing (room b) FIXED_BYTES (data_end x.table x.blocks) b.start h → InMemory h.home
+      by (in_variable v e p least w) = never (sym many ∙ (is.word ∙ w))
+      by (by_address v e k least) = never (sym plain_is ∙ k)
+      by (in_places m e p whole within) = subst InMemory (sym e) tt
+      by (in_data m e p whole least within start) = subst InMemory (sym e) tt
 
   -- the word of an operand
   pub record Operand (c : Call) (t : ℕ) (v : Value) : Type 0 where
@@ -135,7 +187,7 @@ module _ (x : Basis) where
       → looked x.table c.site (of_value t) ≡ number values → Operand c t v
   operand k w from c t v values b hold named e look =
       let there = value_there c.site t b named (ap of_numbers look) in
-      let item = numbers_of x.table k c (of_value t) v (numbers_there c.site (of_value t) b there) (hold.items (of_value t) v there e) in
+      let item = numbers_of x.table k c (of_value t) v (ap of_numbers look) (hold.items (of_value t) v there e) in
       let z = in_word c.site t b there (ap is_one_word look) in
       let n = number_value v values (subst (λ s. has_shape v s ≡ true) look item.shaped) in
       record {
@@ -175,11 +227,12 @@ module _ (x : Basis) where
 
     -- to a variable
     pub good_word : (after : List BlockLine) (t : ℕ) (v : Value) (vars : Vars) → IsThere g.call.site (of_value t)
-        → has_shape v (looked x.table g.call.site (of_value t)) ≡ true → is_one_word (looked x.table g.call.site (of_value t)) ≡ true
+        → of_numbers (looked x.table g.call.site (of_value t)) ≡ true → has_shape v (looked x.table g.call.site (of_value t)) ≡ true
+        → is_one_word (looked x.table g.call.site (of_value t)) ≡ true
         → AllBut g.call.vars (variable_of (house g.call.site (of_value t))) vars
         → vars (variable_of (house g.call.site (of_value t))) ≡ Some (single_word v) → StandAt x.table x.blocks (body_of g) after
         → (awaits : ℕ) → IsGood x (changed g after (with_value t g.call.temps v) vars g.memory g.words awaits g.world)
-    good_word after t v vars there shaped one but is stands awaits =
+    good_word after t v vars there numbers shaped one but is stands awaits =
         good_changed x g line rest y after g.call.site (of_value t) (with_value t g.call.temps v) vars g.memory g.words awaits g.world
         y.memory (heap_same g.memory) (refl, refl) (nowhere refl)
         (worlds_same x.table x.blocks x.small (all_sites x g line rest y) y.linked g.call.site (of_value t) g.world)
@@ -200,17 +253,11 @@ module _ (x : Basis) where
           left = but.left;
         }
           where
-            above : (f : Name) (u : ℕ) → IsThere g.call.site f → (house g.call.site f).home ≡ Variable u → OWN_FROM ≤ u
-            above f u other home = by (houses x.table x.blocks g.call.site f body other).where_is
-              where
-                by : Housing (room (body_of g)) FIXED_BYTES (data_end x.table x.blocks) (body_of g).start (house g.call.site f) → OWN_FROM ≤ u
-                by (in_variable w e plain low is_word) = subst (λ n. OWN_FROM ≤ n) (ap variable_in (sym e ∙ home)) low
-                by (by_address w e address low) = subst (λ n. OWN_FROM ≤ n) (ap variable_in (sym e ∙ home)) low
-                by (in_places at e plain whole within) = absurd (subst InMemory (sym e ∙ home) tt)
-                by (in_data at e plain whole low within start) = absurd (subst InMemory (sym e ∙ home) tt)
+            above : (f : Name) (u : ℕ) → IsThere g.call.site f → HasVariable g.call.site f u → OWN_FROM ≤ u
+            above f u other home = variable_high x.table x.blocks g.call.site f u body other home
 
             apart : (f : Name) (u : ℕ) → IsThere g.call.site f → (g.call.site.level ≢ g.call.site.level) ⊎ (f ≢ of_value t)
-                → (house g.call.site f).home ≡ Variable u → u ≢ variable_of (house g.call.site (of_value t))
+                → HasVariable g.call.site f u → u ≢ variable_of (house g.call.site (of_value t))
             apart f u other (inl ne) home e = ne refl
             apart f u other (inr ne) home e =
                 variables_apart x.table x.blocks g.call.site (of_value t) f z.variable u body there other (λ s. ne (sym s)) z.home home (e ∙ z.is)
@@ -219,14 +266,15 @@ module _ (x : Basis) where
             (call g.call.site (with_value t g.call.temps v) vars)
         new = record {
           item = λ u i h. subst (λ w. IsItem x.table (store_of g) (call g.call.site (with_value t g.call.temps v) vars) (of_value t) w) (put_here t v u h)
-              (item_of x.table (store_of g) (call g.call.site (with_value t g.call.temps v) vars) (of_value t) v
-              (numbers_there g.call.site (of_value t) body there) (record {
+              (item_of x.table (store_of g) (call g.call.site (with_value t g.call.temps v) vars) (of_value t) v (record {
                 there = there;
-                plain = value_plain (house g.call.site (of_value t)).kind there.kind;
+                numbers = numbers;
+                plain = value_plain (house g.call.site (of_value t)) there.kind;
                 shaped = shaped;
                 at = subst (λ p. At g.memory g.call.site.base vars p v) (sym z.spot) (ap vars (sym z.is) ∙ is);
               }));
           text = λ u n k w e a h. own_text g.call.site (of_value u) n k (subst (IsThere g.call.site) (sym e) there) a;
           led = λ u other e n h. absurd (value_no_location t u (sym e));
           filled = λ n e h. absurd (value_no_place t n (sym e));
+          waits = λ n e. absurd (value_no_waiting t n (sym e));
         }

@@ -53,7 +53,7 @@ pub record NameAt (x : Basis) (ends names a : ℕ) (text : List ℕ) : Type 0 wh
   pub closes_text : IsText x.table x.blocks (data_at + (ends + 4 * a) + 4) 4
   pub small : data_at + (ends + 4 * a) + 4 < 2 ^ 32
 
-one_byte : (n : ℕ) → n < 256 → low_bytes Byte n ≡ n ∷ []
+pub one_byte : (n : ℕ) → n < 256 → low_bytes Byte n ≡ n ∷ []
 unfolding word_bytes
 one_byte n small = let e : n % 256 ≡ n = omega (arith, small) in ap (λ b. b ∷ []) e
 

@@ -18,7 +18,7 @@ use Rattle.flat_code.specs.Shapes.{Shape, block, has_shape, number, shape_of}
 use Rattle.word_code.specs.declared.word.WordInstr.{WordInstr}
 use Rattle.word_lowering.specs.declared.homes.Alias.TheVariants as alias
 use Rattle.word_lowering.specs.declared.texts.TheConstants.{FIXED_BYTES}
-use Rattle.word_lowering.specs.LineCode.{literal_at, bool_code, char_code, literal_code, name_code, text_code, typed_code, value, variable_of, written_code}
+use Rattle.word_lowering.specs.LineCode.{literal_at, bool_code, char_code, told_code, name_code, text_code, typed_code, value, variable_of, written_code}
 use Rattle.word_lowering.specs.Operations.{word}
 use Rattle.word_lowering.specs.Stored.{base_at, entry_at}
 use Rattle.word_lowering.specs.Texts.{members_of, names_at, names_before}
@@ -30,12 +30,11 @@ use Rattle.word_lowering.proofs.Related.{Both, body_of}
 use Rattle.word_lowering.proofs.Scenes.{IsLiteral, IsNamed, house, of_value}
 use Rattle.word_lowering.proofs.ShapeFacts.{never, of_numbers}
 use Rattle.word_lowering.proofs.Sites.{IsTextual, around, data_end}
-use Rattle.word_lowering.proofs.SitesApart.{houses}
 use Rattle.word_lowering.proofs.TextLines.{LiteralsThere, TextAt, text_tells}
 use Rattle.word_lowering.proofs.Told.{Tells, none_tells}
 use Rattle.word_lowering.proofs.TypeEntries.{entry_text}
 use Rattle.word_lowering.proofs.TypeShapes.{Looks}
-use Rattle.word_lowering.proofs.ValueFacts.{Operand, has_type, look_of, type_in, with_home}
+use Rattle.word_lowering.proofs.ValueFacts.{Operand, has_type, look_of, type_in, with_home, numbers_there, plain_name}
 use Rattle.word_lowering.proofs.WriteLines.{NameAt, bool_tells, char_tells, name_tells, number_tells}
 use Rattle.nim_meaning.specs.State.{World, text_of}
 
@@ -96,17 +95,17 @@ module _ (x : Basis) (said : Writing x) (g : Both) (line : BlockLine) (rest : Li
 
   -- ---- a number
 
-  read : (values : Option ℕ) → shape ≡ number values → Operand x g.call t v
+  pub read : (values : Option ℕ) → shape ≡ number values → Operand x g.call t v
   read values is = number_read x g line rest y t v value_ty values typed is e
 
   module _ (n : ℕ) (is : shape ≡ number (Some n)) where
-    small : (m : ℕ) × (number_of v ≡ pos m) × (m < n)
+    pub small : (m : ℕ) × (number_of v ≡ pos m) × (m < n)
     small =
         let o = read (Some n) is in
         value_small v n (subst (λ s. has_shape v s ≡ true) (look_of x g.call.site (of_value t) value_ty
         (has_type x g.call.site (of_value t) value_ty y.linked.0 typed) ∙ is) o.shaped)
 
-    small_word : g.call.vars held ≡ Some small.0
+    pub small_word : g.call.vars held ≡ Some small.0
     small_word =
         let o = read (Some n) is in
         let same = small.1 in
@@ -152,7 +151,7 @@ module _ (x : Basis) (said : Writing x) (g : Both) (line : BlockLine) (rest : Li
     named : IsNamed g.call.site (of_value t)
     named = (has_type x g.call.site (of_value t) value_ty y.linked.0 typed).named
 
-    textual : IsTextual x.table x.blocks (house g.call.site (of_value t))
+    pub textual : IsTextual x.table x.blocks (house g.call.site (of_value t))
     textual = by (y.linked.0.values t named)
       where
         by : ((house g.call.site (of_value t)).alias ≡ alias.Own) ⊎ IsTextual x.table x.blocks (house g.call.site (of_value t))
@@ -160,21 +159,23 @@ module _ (x : Basis) (said : Writing x) (g : Both) (line : BlockLine) (rest : Li
         by (inr text) = text
         by (inl own) =
             let look = look_of x g.call.site (of_value t) value_ty (has_type x g.call.site (of_value t) value_ty y.linked.0 typed) in
-            never (sym (ap of_numbers (look ∙ is)) ∙ (houses x.table x.blocks g.call.site (of_value t) y.linked.0 (with_home x named own)).numbers)
+            never (sym (ap of_numbers (look ∙ is)) ∙ numbers_there x g.call.site (of_value t) y.linked.0 (with_home x named own tt)
+            (plain_name x g.call.site (of_value t) y.linked.0 (with_home x named own tt)))
 
-    literal : IsLiteral (body_of g) textual.behind textual.bytes v
+    pub literal : IsLiteral (body_of g) textual.behind textual.bytes v
     literal = y.hold.0.texts t textual.behind textual.bytes v named textual.is e
 
     abbrev place : (behind bytes : ℕ) → ℕ
     place = literal_at (around x.table x.blocks (body_of g))
 
-    a_text : Writes (literal_code (literal_at (around x.table x.blocks (body_of g))) (house g.call.site (of_value t)).alias k) (text_of world v)
+    a_text : Writes (told_code (literal_at (around x.table x.blocks (body_of g))) (house g.call.site (of_value t)).alias
+        (house g.call.site (of_value t)).home k) (text_of world v)
     a_text =
         let l = literal in
         let s = textual in
         let code : text_code (place (length l.before) (length l.text)) (length l.text) k
-        ≡ literal_code place (house g.call.site (of_value t)).alias k
-        = ap₂ (λ n m. text_code (place n m) m k) l.at l.size ∙ sym (ap (λ a. literal_code place a k) s.is) in
+        ≡ told_code place (house g.call.site (of_value t)).alias (house g.call.site (of_value t)).home k
+        = ap₂ (λ n m. text_code (place n m) m k) l.at l.size ∙ sym (ap (λ a. told_code place a (house g.call.site (of_value t)).home k) s.is) in
         subst (λ c. Writes c (text_of world v)) code
         (subst (Writes (text_code (place (length l.before) (length l.text)) (length l.text) k)) (sym (ap (text_of world) l.is))
         (text_tells x said.least g line rest y (place (length l.before) (length l.text)) l.text k

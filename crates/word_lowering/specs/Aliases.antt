@@ -1,4 +1,5 @@
--- Temporaries that are other names: for a declared place, where a line leads to its location; for a temporary with a value, where one leads into that;
+-- Temporaries that are other names: for a declared place, where a line leads to its location; for a temporary with a value, where one leads into that,
+-- or for where it waits;
 -- and for a text in the data, where one gives a literal. The first line of a procedure that gives a temporary says it, and all that give it have to
 -- agree (specs/MayLower.antt). No public contract speaks of it.
 use Rattle.std.specs.Prelude.{◌≡◌, ℕ, Bool, false, nat_eq, ◌||◌, if◌then◌else◌, List, [], ◌∷◌, ◌++◌, length, Option, Some, None}
@@ -8,12 +9,13 @@ use Rattle.flat_code.specs.declared.line.From.{From}
 use Rattle.flat_code.specs.declared.line.From.TheVariants as F
 use Rattle.flat_code.specs.declared.line.Line.{Line}
 use Rattle.flat_code.specs.declared.line.Line.TheVariants as L
+use Rattle.flat_code.specs.declared.line.Owning.TheVariants as W
 use Rattle.flat_code.specs.declared.line.Piece.{Piece}
 use Rattle.flat_code.specs.declared.line.Piece.TheVariants as P
 use Rattle.flat_code.specs.declared.place.PlaceKind.{PlaceKind}
 use Rattle.flat_code.specs.declared.place.PlaceKind.TheVariants as K
 use Rattle.word_lowering.specs.declared.homes.Alias.{Alias}
-use Rattle.word_lowering.specs.declared.homes.Alias.TheVariants.{Own, Place, Value, Text}
+use Rattle.word_lowering.specs.declared.homes.Alias.TheVariants.{Own, Place, Value, Node, Text}
 
 -- ---- what lines give
 
@@ -73,7 +75,8 @@ text_alias behind (Some text) = Text behind (length text)
 -- what a line gives is another name for, where so many bytes of texts are behind it
 abbrev pub alias_by : Line → (behind : ℕ) → Alias
 alias_by (L.Root to place global) behind = Place place global
-alias_by (L.Fresh to from waits) behind = Value from
+alias_by (L.Fresh to from None) behind = Value from
+alias_by (L.Fresh to from (Some node)) behind = Node node
 alias_by (L.Constant to how ty pieces) behind = text_alias behind (text_in pieces)
 alias_by line behind = Own
 
@@ -97,6 +100,7 @@ alias_for kind n lines = Own
 abbrev pub handed_by : Line → List From
 handed_by (L.Call to how ty proc from) = from
 handed_by (L.Apply to O.Swap how ty of from) = from
+handed_by (L.Own (W.PlaceStands place) from) = from
 handed_by line = []
 
 -- the temporaries whose locations are among operands
@@ -128,6 +132,15 @@ addressed_in handed (line ∷ rest) = and_some (addressed_by handed line) (addre
 
 abbrev pub addressed : List Line → List ℕ
 addressed lines = addressed_in (handed_in lines) lines
+
+-- the places to which lines give locations
+abbrev pub stands_by : Line → Option ℕ
+stands_by (L.Own (W.PlaceStands place) from) = Some place
+stands_by line = None
+
+abbrev pub standing : List Line → List ℕ
+standing [] = []
+standing (line ∷ rest) = and_some (stands_by line) (standing rest)
 
 -- ---- as the code has them, by number
 

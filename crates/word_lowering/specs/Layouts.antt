@@ -1,10 +1,10 @@
 -- Where the places and temporaries of a procedure are in word code. An ordinal is a variable, unless a line hands its address on; a location is one
 -- too, with the address to which it leads, unless it is another name for a place or a value. All else is in memory: globals in the data, the rest in
 -- the places of the call. No public contract speaks of it.
-use Rattle.std.specs.Prelude.{◌≤◌, ℕ, suc, ◌+◌, Bool, true, false, not, ◌&&◌, List, [], ◌∷◌, map, Option, Some, None}
+use Rattle.std.specs.Prelude.{◌≤◌, ℕ, suc, ◌+◌, Bool, true, false, not, ◌&&◌, ◌||◌, List, [], ◌∷◌, map, Option, Some, None}
 use Rattle.nim_types.specs.declared.types.TypeDef.{TypeDef}
 use Rattle.nim_types.specs.declared.types.TheConstants.{WORD_BYTES}
-use Rattle.nim_program.specs.declared.program.Mode.TheVariants.{Var}
+use Rattle.nim_program.specs.declared.program.Mode.TheVariants.{Plain, Var}
 use Rattle.flat_code.specs.declared.line.Line.{Line}
 use Rattle.flat_code.specs.declared.place.PlaceKind.{PlaceKind}
 use Rattle.flat_code.specs.declared.place.PlaceKind.TheVariants as K
@@ -23,19 +23,34 @@ use Rattle.word_lowering.specs.declared.homes.Free.{Free}
 use Rattle.word_lowering.specs.declared.homes.Waiter.{Waiter}
 use Rattle.word_lowering.specs.declared.homes.Layout.{Layout}
 use Rattle.word_lowering.specs.Stored.{bytes_at, entry_at, is_word, is_hooked}
-use Rattle.word_lowering.specs.Aliases.{alias_for, addressed, is_among}
-pub use Rattle.word_lowering.specs.Lookups.{nowhere, is_sort, found, is_param, is_result, params_in, result_in, is_address, kept_by, kept_in}
+use Rattle.word_lowering.specs.Aliases.{alias_for, addressed, standing, is_among}
+pub use Rattle.word_lowering.specs.Lookups.{
+  nowhere,
+  is_sort,
+  found,
+  is_param,
+  is_result,
+  params_in,
+  result_in,
+  address_by,
+  holds_address,
+  owns,
+  kept_by,
+  kept_in,
+}
 
 -- ---- homes
 
 -- what is in a variable: an address, and a word whose own address isn't needed
-abbrev pub is_kept : (addressed word : Bool) → PlaceKind → Bool
-is_kept addressed word K.Location = true
-is_kept addressed word K.Within = true
-is_kept addressed word (K.Param Var) = true
-is_kept addressed word K.Counter = true
-is_kept addressed word K.Temp = word
-is_kept addressed word kind = word && not addressed
+abbrev pub is_kept : (lent addressed word : Bool) → PlaceKind → Bool
+is_kept lent addressed word K.Location = true
+is_kept lent addressed word K.Within = true
+is_kept lent addressed word (K.Param Var) = true
+is_kept lent addressed word (K.Param Plain) = lent || word && not addressed
+is_kept lent addressed word K.ForVar = lent || word && not addressed
+is_kept lent addressed word K.Counter = true
+is_kept lent addressed word K.Temp = word
+is_kept lent addressed word kind = word && not addressed
 
 -- globals are those of the start code
 abbrev pub is_static : (start : Bool) → PlaceKind → Bool
@@ -75,6 +90,13 @@ abbrev pub waits_by : PlaceKind → Alias → (hooked : Bool) → Option ℕ →
 waits_by K.Temp Own true waits = waits
 waits_by kind alias hooked waits = None
 
+-- A place that stands for another one: a plain parameter whose type has something to do at its end, and the place of a loop to which a line gives
+-- a location.
+abbrev pub lent_by : PlaceKind → (hooked stands : Bool) → Bool
+lent_by (K.Param Plain) hooked stands = hooked
+lent_by K.ForVar hooked stands = hooked && stands
+lent_by kind hooked stands = false
+
 module _ (table : List TypeDef) (start : Bool) (lines : List Line) where
   abbrev pub place_word : FlatPlace → Bool
   place_word p = word_by p.kind (is_word (entry_at table p.ty))
@@ -82,8 +104,11 @@ module _ (table : List TypeDef) (start : Bool) (lines : List Line) where
   abbrev pub place_bytes : FlatPlace → ℕ
   place_bytes p = bytes_by p.kind (bytes_at table p.ty)
 
+  abbrev pub place_lent : FlatPlace → Bool
+  place_lent p = lent_by p.kind (is_hooked table p.ty) (is_among p.number (standing lines))
+
   abbrev pub place_kept : FlatPlace → Bool
-  place_kept p = is_kept (is_among p.number (addressed lines)) (place_word p) p.kind
+  place_kept p = is_kept (place_lent p) (is_among p.number (addressed lines)) (place_word p) p.kind
 
   abbrev pub place_alias : FlatPlace → Alias
   place_alias p = alias_for p.kind p.number lines
@@ -98,6 +123,7 @@ module _ (table : List TypeDef) (start : Bool) (lines : List Line) where
     alias = place_alias p;
     home = home_by (place_alias p) (home_at (is_static start p.kind) (place_kept p) free);
     waits = waits_by p.kind (place_alias p) (is_hooked table p.ty) p.waits;
+    lent = place_lent p;
   }
 
   abbrev pub behind : Free → FlatPlace → Free

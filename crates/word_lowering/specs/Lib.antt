@@ -1,3 +1,4 @@
+pub mod Operands
 pub mod Stored
 pub mod ShapeBytes
 pub mod Aliases
@@ -12,7 +13,9 @@ pub mod WaitingCode
 pub mod Texts
 pub mod LaidTexts
 pub mod LineCode
+pub mod RoutineCode
 pub mod Runtimes
+pub mod OwnedCode
 pub mod Scope
 pub mod Lowered
 pub mod MayLower

@@ -1,6 +1,6 @@
 -- The word code of block code: for each line some lines, which stand before those of the lines behind it. The code of a line is a function of
 -- it and of the lines behind it. No public contract speaks of it.
-use Rattle.std.specs.Prelude.{ℕ, zero, suc, ◌+◌, ◌-◌, ◌^◌, ◌*◌, Bool, true, false, List, [], ◌∷◌, length, map, Option, Some, None, slice_get}
+use Rattle.std.specs.Prelude.{ℕ, zero, suc, ◌+◌, ◌-◌, ◌*◌, Bool, true, false, List, [], ◌∷◌, length, Option, Some, None, slice_get}
 use Rattle.arc_base.specs.declared.outside.Stream.TheVariants.{Out}
 use Rattle.nim_types.specs.declared.types.TypeDef.{TypeDef}
 use Rattle.nim_types.specs.declared.types.TypeDef.TheVariants as D
@@ -8,6 +8,7 @@ use Rattle.nim_program.specs.declared.expr.Label.{Label as Choice}
 use Rattle.nim_program.specs.declared.expr.Label.TheVariants as C
 use Rattle.nim_program.specs.declared.operation.Measure.{Measure}
 use Rattle.nim_program.specs.declared.operation.Measure.TheVariants.{Len, High}
+use Rattle.nim_program.specs.declared.operation.Comparison.{Comparison}
 use Rattle.nim_program.specs.declared.operation.Operation.{Operation}
 use Rattle.nim_program.specs.declared.operation.Operation.TheVariants as O
 use Rattle.nim_program.specs.declared.operation.Operator.{Operator}
@@ -15,8 +16,6 @@ use Rattle.nim_program.specs.declared.program.TheConstants.{ACTIVE_CALLS}
 use Rattle.nim_program.specs.Traps.{IndexOutOfBounds, LengthChanged, CallDepth}
 use Rattle.rv32_isa.specs.declared.micro_op.Size.TheVariants.{Byte, Word as whole}
 use Rattle.rv32_isa.specs.Values.{subtracted}
-use Rattle.flat_code.specs.declared.block.BlockLine.{BlockLine}
-use Rattle.flat_code.specs.declared.code.CodeProc.{CodeProc}
 use Rattle.flat_code.specs.declared.line.From.{From}
 use Rattle.flat_code.specs.declared.line.From.TheVariants as F
 use Rattle.flat_code.specs.declared.line.Line.{Line}
@@ -26,7 +25,6 @@ use Rattle.flat_code.specs.declared.line.Owning.TheVariants as W
 use Rattle.flat_code.specs.declared.line.Piece.{Piece}
 use Rattle.flat_code.specs.declared.line.Piece.TheVariants as P
 use Rattle.flat_code.specs.Pieces.{piece_words}
-use Rattle.flat_code.specs.Fits.{is_value, is_location, is_own, is_declared, is_global}
 use Rattle.word_code.specs.declared.routine.TheConstants.{SWAP, NUMBER, PROCS_FROM}
 use Rattle.word_code.specs.declared.word.WordOperation.TheVariants as operation
 use Rattle.word_code.specs.declared.word.Test.TheVariants as test
@@ -43,14 +41,18 @@ use Rattle.word_lowering.specs.declared.homes.Layout.{Layout}
 use Rattle.word_lowering.specs.declared.spots.Spot.{Spot}
 use Rattle.word_lowering.specs.declared.spots.Spot.TheVariants.{Held, Lies}
 use Rattle.word_lowering.specs.declared.texts.TheConstants.{LINE_END_AT, FALSE_AT}
-use Rattle.word_lowering.specs.declared.setting.Setting.{Setting}
 use Rattle.word_lowering.specs.Stored.{base_at, entry_at, part_at, count_in, element_bytes, limit_at}
-use Rattle.word_lowering.specs.Layouts.{free_at, nowhere, found, params_in, result_in}
+use Rattle.word_lowering.specs.Layouts.{free_at, params_in, result_in}
 use Rattle.word_lowering.specs.Spots.{spot_of, shifted, address, moved, moves, passes, cleared, clears, starts, handed}
 use Rattle.word_lowering.specs.Operations.{word, trap_label, binary_code, unary_code, compare_code, narrow_code, unless_code, turn_if_code, fits_code}
 use Rattle.word_lowering.specs.Operations.{beyond_code, turn_code}
 use Rattle.word_lowering.specs.Aliases.{text_in}
-use Rattle.word_lowering.specs.Texts.{names_before, place_of, standing_place}
+use Rattle.word_lowering.specs.Texts.{names_before, standing_place}
+pub use Rattle.word_lowering.specs.Operands.{variable_in, variable_of, operand_at, one_less, word_argument, Around, value, own_place, place, named}
+pub use Rattle.word_lowering.specs.Operands.{location_by, location, operand, operands, literal_at}
+use Rattle.word_lowering.specs.OwnedCode.{type_of, entry_of, is_text, has_handle, each_bytes, two_made, left_of, right_of, with_operands, owned_code}
+use Rattle.word_lowering.specs.OwnedCode.{measured_code, owned_item_code, owned_element_code, element_read}
+use Rattle.word_lowering.specs.RoutineCode.{text_compare_code, echo_code}
 use Rattle.word_lowering.specs.WaitingCode.{waiter_at, waits_code, leaves_code, kept_code}
 
 -- ---- labels: those of traps are below 8, those of the lines are even, and those that code of a line has are odd
@@ -132,11 +134,6 @@ abbrev pub item_code : (to : ℕ) → Home → (index count bytes : ℕ) → Lis
 item_code to home index count bytes k =
     Constant FIRST count ∷ Branch test.NotBelow index FIRST (trap_label IndexOutOfBounds) ∷ element_code to home index bytes k
 
--- an argument that is the word in a variable, or the address of a home
-abbrev pub word_argument : (index : ℕ) → Home → List WordInstr → List WordInstr
-word_argument index (Variable v) k = Argument index v ∷ k
-word_argument index home k = address FIRST home ∷ Argument index FIRST ∷ k
-
 abbrev pub swap_code : (left right : Home) → (bytes : ℕ) → List WordInstr → List WordInstr
 swap_code left right bytes k =
     word_argument 0 left (word_argument 1 right (Constant THIRD bytes ∷ Argument 2 THIRD ∷ Call FIRST SWAP ∷ k))
@@ -153,22 +150,10 @@ or_none (Some layout) = layout
 abbrev pub proc_number : ℕ → ℕ
 proc_number proc = PROCS_FROM + proc
 
--- the variable of a word
-abbrev pub variable_in : Home → ℕ
-variable_in (Variable v) = v
-variable_in home = FIRST
-
-abbrev pub variable_of : Housed → ℕ
-variable_of h = variable_in h.home
-
 -- where the places of a call behind so many bytes left something; what is no word has no variable
 abbrev pub left_at : (room : ℕ) → Home → Home
 left_at room (Placed at) = Placed (at + room)
 left_at room home = Placed room
-
--- what makes a word one less
-abbrev pub one_less : ℕ
-one_less = 2 ^ 32 - 1
 
 -- What is done before a call: how many calls may be active behind the new one comes into FIRST. The start code may always call. A procedure
 -- may not where LEFT is 0; there alone it is below the word that is one less. By the copy LEFT, which stands in the frame, is loaded once: the sum
@@ -223,21 +208,15 @@ abbrev pub text_code : (at bytes : ℕ) → List WordInstr → List WordInstr
 text_code at zero k = k
 text_code at (suc n) k = Datum FIRST at ∷ Constant SECOND (suc n) ∷ write_code k
 
--- a text that a temporary is another name for
-abbrev pub literal_code : (place : (behind bytes : ℕ) → ℕ) → Alias → List WordInstr → List WordInstr
-literal_code place (alias.Text behind bytes) k = text_code (place behind bytes) bytes k
-literal_code place other k = k
+-- a text that a temporary is another name for, or that of a handle
+abbrev pub told_code : (place : (behind bytes : ℕ) → ℕ) → Alias → Home → List WordInstr → List WordInstr
+told_code place (alias.Text behind bytes) home k = text_code (place behind bytes) bytes k
+told_code place other home k = echo_code home k
 
 abbrev pub exit_code : List WordInstr → List WordInstr
 exit_code k = Constant FIRST 0 ∷ Exit FIRST ∷ k
 
 -- ---- operations on operands
-
--- the operand at a position
-abbrev pub operand_at : List Housed → ℕ → Housed
-operand_at [] i = nowhere
-operand_at (h ∷ hs) zero = h
-operand_at (h ∷ hs) (suc i) = operand_at hs i
 
 abbrev pub converted_code : Option ℕ → (to from : Housed) → List WordInstr → List WordInstr
 converted_code None to from k = moves to from k
@@ -272,61 +251,23 @@ parts_code to (h ∷ hs) k = moved h.is_word h.bytes (Lies to) (spot_of h) (part
 
 -- ---- lines of a procedure
 
--- what is around them: the table of types, all procedures, their layouts and the procedure's own, the globals, and where its data is
-pub record Around : Type 0 where
-  pub table : List TypeDef
-  pub procs : List (CodeProc BlockLine)
-  pub layouts : List Layout
-  pub own : Layout
-  pub globals : List Housed
-  pub setting : Setting
-
 module _ (x : Around) where
-  abbrev pub value : ℕ → Housed
-  value t = found is_value t x.own.all
-
-  abbrev pub own_place : ℕ → Housed
-  own_place p = found is_own p x.own.all
-
-  abbrev pub place : ℕ → (global : Bool) → Housed
-  place p true = found is_global p x.globals
-  place p false = found is_declared p x.own.all
-
-  -- what a temporary with a location leads to: a place or a value that it is another name for, or what stands at the address in its variable
-  abbrev pub named : Alias → Housed → Housed
-  named (alias.Place p global) own = place p global
-  named (alias.Value t) own = value t
-  named other own = own
-
-  abbrev pub location_by : Housed → Housed
-  location_by own = named own.alias own
-
-  abbrev pub location : ℕ → Housed
-  location t = location_by (found is_location t x.own.all)
-
-  abbrev pub operand : From → Housed
-  operand (F.Value t) = value t
-  operand (F.Place t) = location t
-
-  abbrev pub operands : List From → List Housed
-  operands from = map operand from
-
   -- the variables of an ordinal and of a location
   abbrev pub held : ℕ → ℕ
-  held t = variable_of (value t)
+  held t = variable_of (value x t)
 
   abbrev pub led : ℕ → ℕ
-  led t = variable_of (location t)
+  led t = variable_of (location x t)
 
   abbrev pub layout_at : ℕ → Layout
   layout_at proc = or_none (slice_get x.layouts proc)
 
   -- how many elements what stands at a location has, and how many bytes each
   abbrev pub count_at : ℕ → ℕ
-  count_at t = count_in (entry_at x.table (location t).ty)
+  count_at t = count_in (entry_at x.table (location x t).ty)
 
   abbrev pub bytes_each : ℕ → ℕ
-  bytes_each t = element_bytes x.table (entry_at x.table (location t).ty)
+  bytes_each t = element_bytes x.table (entry_at x.table (location x t).ty)
 
   -- fields of an object of a type
   abbrev pub fields_code : Home → (ty : ℕ) → (fields : List ℕ) → List Housed → List WordInstr → List WordInstr
@@ -359,7 +300,7 @@ module _ (x : Around) where
   entered_code proc to (Lies home) k = Call FIRST (proc_number proc) ∷ result_code to (result_in (layout_at proc).all) k
 
   abbrev pub given_code : (proc to : ℕ) → List WordInstr → List WordInstr
-  given_code proc to k = entered_code proc (value to) (spot_of (value to)) k
+  given_code proc to k = entered_code proc (value x to) (spot_of (value x to)) k
 
   abbrev pub nothing_code : (ty : Option ℕ) → (to : ℕ) → List WordInstr → List WordInstr
   nothing_code None to k = k
@@ -373,19 +314,15 @@ module _ (x : Around) where
   called_code false label proc ty to hs k = checked_code x.setting.start (nothing_code ty to k)
 
   abbrev pub call_code : (label proc : ℕ) → (ty : Option ℕ) → (to : ℕ) → List From → List WordInstr → List WordInstr
-  call_code label proc ty to from k = called_code (layout_at proc).runs label proc ty to (operands from) k
+  call_code label proc ty to from k = called_code (layout_at proc).runs label proc ty to (operands x from) k
 
   -- the start code ends the program
   abbrev pub return_code : (start : Bool) → Option ℕ → List WordInstr → List WordInstr
   return_code true result k = exit_code k
   return_code false None k = Return LEFT ∷ k
-  return_code false (Some p) k = back_code (own_place p).is_word (spot_of (own_place p)) k
+  return_code false (Some p) k = back_code (own_place x p).is_word (spot_of (own_place x p)) k
 
   -- ---- writing
-
-  -- where a literal of the procedure is laid out: so many bytes, behind so many of its literals
-  abbrev pub literal_at : (behind bytes : ℕ) → ℕ
-  literal_at behind bytes = x.setting.texts + place_of x.procs (x.setting.literals + behind) bytes
 
   -- and a constant that stands in the data
   abbrev pub standing_at : List Piece → ℕ
@@ -397,7 +334,7 @@ module _ (x : Around) where
   written_code (Some D.Int) enum from k = number_code (variable_of from) k
   written_code (Some D.Bool) enum from k = bool_code (variable_of from) k
   written_code (Some D.Char) enum from k = char_code (variable_of from) k
-  written_code (Some D.Text) enum from k = literal_code literal_at from.alias k
+  written_code (Some D.Text) enum from k = told_code (literal_at x) from.alias from.home k
   written_code (Some (D.Enum name at members)) enum from k =
       name_code (x.setting.ends + 4 * names_before x.table enum) x.setting.names (variable_of from) k
   written_code _ enum from k = k
@@ -412,7 +349,18 @@ module _ (x : Around) where
   texts_code (ty ∷ tys) [] k = k
   texts_code (ty ∷ tys) (h ∷ hs) k = typed_code ty h (texts_code tys hs k)
 
-  -- ---- operations, a row each: with a label of its own, by the type of the value and those of the operands. What comes with the heap isn't built.
+  -- ---- operations, a row each: with a label of its own, by the type of the value and those of the operands
+
+  -- texts are compared by what they hold, all else by numbers
+  abbrev pub compared_code : (text : Bool) → Comparison → (to : ℕ) → List (Option ℕ) → List Housed → List WordInstr → List WordInstr
+  compared_code true comparison to of hs k =
+      two_made x of hs (text_compare_code comparison to (left_of x of hs) (right_of x of hs) k)
+  compared_code false comparison to of hs k = compare_code comparison to (variable_of (operand_at hs 0)) (variable_of (operand_at hs 1)) k
+
+  -- what has no handle is an array
+  abbrev pub measure_code : (handle : Bool) → Measure → (to : ℕ) → Housed → List WordInstr → List WordInstr
+  measure_code true measure to from k = measured_code measure to from.home k
+  measure_code false measure to from k = Constant to (measure_word measure (count_in (entry_at x.table from.ty))) ∷ k
 
   abbrev pub row_code : Operation → (label : ℕ) → Option ℕ → List (Option ℕ) → Housed → List Housed → List WordInstr → List WordInstr
   row_code O.Default label ty of to hs k = starts to.bytes to k
@@ -420,53 +368,76 @@ module _ (x : Around) where
   row_code (O.Binary operator) label ty of to hs k =
       binary_code label operator (variable_of to) (variable_of (operand_at hs 0)) (variable_of (operand_at hs 1)) k
   row_code (O.Compare comparison) label ty of to hs k =
-      compare_code comparison (variable_of to) (variable_of (operand_at hs 0)) (variable_of (operand_at hs 1)) k
+      with_operands 2 hs (compared_code (is_text (entry_of x.table (type_of of 0))) comparison (variable_of to) of hs k) k
   row_code O.Convert label ty of to hs k = converted_code (limit_at x.table ty) to (operand_at hs 0) k
   row_code O.Make label ty of to hs k = parts_code to.home hs k
   row_code (O.Measure measure) label ty of to hs k =
-      Constant (variable_of to) (measure_word measure (count_in (entry_at x.table (operand_at hs 0).ty))) ∷ k
+      measure_code (has_handle (entry_at x.table (operand_at hs 0).ty)) measure (variable_of to) (operand_at hs 0) k
   row_code O.Echo label ty of to hs k = texts_code of hs (text_code LINE_END_AT 1 k)
   row_code O.Quit label ty of to hs k = quit_code hs k
   row_code O.Assign label ty of to hs k = moves (operand_at hs 0) (operand_at hs 1) k
   row_code (O.Update operator) label ty of to hs k = update_code label operator hs k
   row_code O.Move label ty of to hs k = moves to (operand_at hs 0) (clears (operand_at hs 0) k)
   row_code O.Swap label ty of to hs k = swap_code (operand_at hs 0).home (operand_at hs 1).home (operand_at hs 0).bytes k
-  row_code _ label ty of to hs k = k
+  row_code operation label ty of to hs k = owned_code x operation label of to hs k
+
+  -- ---- elements, of arrays and of what has a handle
+
+  abbrev pub entry_from : ℕ → Option TypeDef
+  entry_from t = entry_at x.table (location x t).ty
+
+  abbrev pub item_in : (handle : Bool) → (to : ℕ) → Housed → (index : ℕ) → List WordInstr → List WordInstr
+  item_in true to from index k = owned_item_code to from.home index (each_bytes x.table (entry_at x.table from.ty)) k
+  item_in false to from index k =
+      item_code to from.home index (count_in (entry_at x.table from.ty)) (element_bytes x.table (entry_at x.table from.ty)) k
+
+  abbrev pub item_at : (handle : Bool) → (to from index : ℕ) → List WordInstr → List WordInstr
+  item_at handle to from index k = item_in handle (led to) (location x from) (held index) k
+
+  abbrev pub element_in : (handle : Bool) → Housed → (index : ℕ) → Housed → List WordInstr → List WordInstr
+  element_in true from index to k =
+      owned_element_code FIFTH from.home index (each_bytes x.table (entry_at x.table from.ty))
+      (element_read (is_text (entry_at x.table from.ty)) to k)
+  element_in false from index to k =
+      element_code FIFTH from.home index (element_bytes x.table (entry_at x.table from.ty))
+      (moved to.is_word to.bytes (spot_of to) (Lies (Variable FIFTH)) k)
+
+  abbrev pub element_at : (handle : Bool) → (from index : ℕ) → Housed → List WordInstr → List WordInstr
+  element_at handle from index to k = element_in handle (location x from) (held index) to k
 
   -- ---- what somebody owns: it waits at a node, or doesn't any more; what ends, and places, come with hooks
 
   abbrev pub owning_code : Owning → List From → List WordInstr → List WordInstr
   owning_code (W.TakenUp node) from k = leaves_code (waiter_at node x.own.waiters) k
-  owning_code (W.Waits node) (F.Value t ∷ []) k = waits_code (waiter_at node x.own.waiters) (value t) k
+  owning_code (W.Waits node) (F.Value t ∷ []) k = waits_code (waiter_at node x.own.waiters) (value x t) k
   owning_code what from k = k
 
   -- ---- lines
 
   abbrev pub line_code : Line → (label : ℕ) → List WordInstr → List WordInstr
-  line_code (L.Apply to operation how ty of from) label k = row_code operation label ty of (value to) (operands from) k
-  line_code (L.Construct to how ty fields from) label k = clears (value to) (fields_code (value to).home ty fields (operands from) k)
-  line_code (L.Constant to how ty pieces) label k = constant_code (value to) pieces k
+  line_code (L.Apply to operation how ty of from) label k = row_code operation label ty of (value x to) (operands x from) k
+  line_code (L.Construct to how ty fields from) label k = clears (value x to) (fields_code (value x to).home ty fields (operands x from) k)
+  line_code (L.Constant to how ty pieces) label k = constant_code (value x to) pieces k
   line_code (L.Call to how ty proc from) label k = Spend ∷ call_code label proc ty to from k
-  line_code (L.Get to from how ty) label k = moves (value to) (location from) k
-  line_code (L.Look to from) label k = moves (value to) (location from) k
+  line_code (L.Get to from how ty) label k = moves (value x to) (location x from) k
+  line_code (L.Look to from) label k = moves (value x to) (location x from) k
   line_code (L.Root to p global) label k = k
   line_code (L.Fresh to from waits) label k = k
   line_code (L.Standing to ty pieces) label k = Datum (led to) (standing_at pieces) ∷ k
-  line_code (L.Part to from field) label k = part_code (led to) (location from).home (part_at x.table (location from).ty field) k
-  line_code (L.Item to from index) label k = item_code (led to) (location from).home (held index) (count_at from) (bytes_each from) k
+  line_code (L.Part to from field) label k = part_code (led to) (location x from).home (part_at x.table (location x from).ty field) k
+  line_code (L.Item to from index) label k = item_at (has_handle (entry_from from)) to from index k
   -- refs come with the heap
   line_code (L.Object to from) label k = k
-  line_code (L.Pass to from how ty) label k = passes (value from).bytes (value to) (value from) k
+  line_code (L.Pass to from how ty) label k = passes (value x from).bytes (value x to) (value x from) k
   line_code (L.Truth to holds) label k = Constant (held to) (truth_word holds) ∷ k
-  line_code (L.Fill p from) label k = moves (own_place p) (value from) k
-  line_code (L.Blank p ty) label k = clears (own_place p) k
-  line_code (L.Give p from) label k = moves (own_place p) (value from) k
+  line_code (L.Fill p from) label k = moves (own_place x p) (value x from) k
+  line_code (L.Blank p ty) label k = clears (own_place x p) k
+  line_code (L.Give p from) label k = moves (own_place x p) (value x from) k
   line_code (L.Zero to) label k = Constant (held to) 0 ∷ k
-  line_code (L.Length to from) label k = Constant (held to) (count_at from) ∷ k
-  line_code (L.Still from len) label k = Constant FIRST (count_at from) ∷ Branch test.Unequal (held len) FIRST (trap_label LengthChanged) ∷ k
-  line_code (L.Element to from index) label k =
-      element_code FIFTH (location from).home (held index) (bytes_each from)
-      (moved (value to).is_word (value to).bytes (spot_of (value to)) (Lies (Variable FIFTH)) k)
+  line_code (L.Length to from) label k = measure_code (has_handle (entry_from from)) Len (held to) (location x from) k
+  line_code (L.Still from len) label k =
+      measure_code (has_handle (entry_from from)) Len FIRST (location x from) (Branch test.Unequal (held len) FIRST (trap_label LengthChanged) ∷ k)
+  line_code (L.Element to from index) label k = element_at (has_handle (entry_from from)) from index (value x to) k
   line_code (L.Beyond counter last inclusive to) label k = beyond_code inclusive (held counter) (held last) (own_label to) k
   line_code (L.Next counter last) label k = Sum (held counter) (held counter) 1 ∷ k
   line_code (L.Label name) label k = Label (own_label name) ∷ k
@@ -482,7 +453,7 @@ module _ (x : Around) where
 
   -- behind a line whose value waits it stands where it waits
   abbrev pub behind_line : Line → List WordInstr → List WordInstr
-  behind_line line k = kept_code x.table x.own.waiters value line k
+  behind_line line k = kept_code x.table x.own.waiters (value x) line k
 
   abbrev pub lines_code : List Line → List WordInstr → List WordInstr
   lines_code [] k = k

@@ -1,6 +1,6 @@
 -- Looking up places among those of a procedure. No public contract speaks of it.
-use Rattle.std.specs.Prelude.{ℕ, suc, nat_eq, Bool, true, false, ◌&&◌, if◌then◌else◌, List, [], ◌∷◌, Option, Some, None}
-use Rattle.nim_program.specs.declared.program.Mode.TheVariants.{Var}
+use Rattle.std.specs.Prelude.{ℕ, suc, nat_eq, Bool, true, false, not, ◌&&◌, if◌then◌else◌, List, [], ◌∷◌, Option, Some, None}
+use Rattle.nim_program.specs.declared.program.Mode.TheVariants.{Plain, Var}
 use Rattle.flat_code.specs.declared.place.PlaceKind.{PlaceKind}
 use Rattle.flat_code.specs.declared.place.PlaceKind.TheVariants as K
 use Rattle.flat_code.specs.Fits.{is_value, is_location, is_own, is_declared, is_global}
@@ -14,7 +14,7 @@ use Rattle.word_lowering.specs.declared.homes.Sort.TheVariants.{Value, Location,
 
 -- What isn't there: it has no bytes. Lines of code that fits name it where they have no value.
 abbrev pub nowhere : Housed
-nowhere = record { number = 0; kind = K.Temp; ty = 0; bytes = 0; is_word = true; alias = alias.Own; home = Variable FIRST; waits = None }
+nowhere = record { number = 0; kind = K.Temp; ty = 0; bytes = 0; is_word = true; alias = alias.Own; home = Variable FIRST; waits = None; lent = false }
 
 -- the kinds among which a line seeks a place
 abbrev pub is_sort : Sort → PlaceKind → Bool
@@ -45,12 +45,21 @@ abbrev pub result_in : List Housed → Option Housed
 result_in [] = None
 result_in (h ∷ hs) = if is_result h.kind then Some h else result_in hs
 
--- a place that holds an address, and not a value
-abbrev pub is_address : PlaceKind → Bool
-is_address K.Location = true
-is_address K.Within = true
-is_address (K.Param Var) = true
-is_address kind = false
+-- a place that holds an address, and not a value: one of these kinds, or one that stands for another place
+abbrev pub address_by : (lent : Bool) → PlaceKind → Bool
+address_by lent K.Location = true
+address_by lent K.Within = true
+address_by lent (K.Param Var) = true
+address_by lent (K.Param Plain) = lent
+address_by lent K.ForVar = lent
+address_by lent kind = false
+
+abbrev pub holds_address : Housed → Bool
+holds_address h = address_by h.lent h.kind
+
+-- a place with a value of its own
+abbrev pub owns : Housed → Bool
+owns h = is_own h.kind && not (holds_address h)
 
 -- how many parameters are in variables
 abbrev pub kept_by : Home → ℕ → ℕ

@@ -20,7 +20,7 @@ use Rattle.word_code.specs.declared.routine.TheConstants.{RUNTIME_DATA}
 use Rattle.word_code.specs.declared.word.WordProc.{WordProc}
 use Rattle.word_code.specs.declared.word.WordCode.{WordCode}
 use Rattle.word_code.specs.Memory.{Memory, as_state}
-use Rattle.word_code.specs.Sizes.{word_weight, longest_chain, has_no_circle}
+use Rattle.word_code.specs.Sizes.{word_weight, AreRanked}
 use Rattle.word_code.specs.Words.{is_counted, have_no_hooks, is_word_code, word_meaning, word_by_units, Fresh}
 use Rattle.word_code.specs.Joined.{joined, AreApart, HaveRoom}
 use Rattle.word_code.specs.Runtime.{IsSmallRoutine}
@@ -74,9 +74,10 @@ pub record Lowers (table : List TypeDef) (blocks : Code BlockLine) (code : WordC
       ((block_within table blocks units heap input m).work + 1))
   -- it is well formed, whatever block code does
   pub formed : is_word_code code ≡ true
-  -- frames and places of 2,001 calls have room in a machine's stack, with those of routines
-  pub no_circle : has_no_circle code.procs ≡ true
-  pub chain : longest_chain code.procs ≤ HEAP_CHAIN
+  -- Frames and places of 2,001 calls have room in a machine's stack, with those of routines: what doesn't count calls only what has a lower rank.
+  pub rank : ℕ → ℕ
+  pub ranked : AreRanked rank code.procs
+  pub chain : (number : ℕ) → rank number ≤ HEAP_CHAIN
   pub small : AreSmall code.procs
   -- data is whole words, and as much as an image has
   pub whole : length code.statics % 4 ≡ 0

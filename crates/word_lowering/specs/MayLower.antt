@@ -24,7 +24,7 @@ use Rattle.flat_code.specs.Whole.{label_in}
 use Rattle.word_code.specs.declared.word.TheConstants.{SPARE_ROOM, MOST_ARGUMENTS, HOOK_KINDS}
 use Rattle.word_lowering.specs.declared.homes.TheConstants.{OWN_FROM}
 use Rattle.word_lowering.specs.declared.homes.Alias.{Alias}
-use Rattle.word_lowering.specs.declared.homes.Alias.TheVariants.{Own, Place, Value, Text}
+use Rattle.word_lowering.specs.declared.homes.Alias.TheVariants.{Own, Place, Value, Node, Text}
 use Rattle.word_lowering.specs.declared.homes.Home.{Home}
 use Rattle.word_lowering.specs.declared.homes.Home.TheVariants.{Placed}
 use Rattle.word_lowering.specs.declared.homes.Housed.{Housed}
@@ -66,6 +66,7 @@ same_alias Own Own = true
 same_alias (Place p global) (Place q true) = nat_eq p q && global
 same_alias (Place p global) (Place q false) = nat_eq p q && not global
 same_alias (Value t) (Value u) = nat_eq t u
+same_alias (Node n) (Node m) = nat_eq n m
 same_alias (Text behind bytes) (Text other more) = nat_eq behind other && nat_eq bytes more
 same_alias alias other = false
 

@@ -1,5 +1,5 @@
 -- The routines that a program's word code is joined with: those of the heap, whose data stands in front of all, and the others behind it.
-use Rattle.std.specs.Prelude.{◌≤◌, ℕ, length}
+use Rattle.std.specs.Prelude.{◌≤◌, ℕ}
 use Rattle.word_code.specs.declared.word.WordCode.{WordCode}
 use Rattle.word_code.specs.Joined.{joined, AreApart}
 use Rattle.word_code.specs.Runtime.{IsRuntime}
@@ -19,7 +19,6 @@ pub record Runtimes : Type 0 where
   pub heap_ranked : AreRanked rank heap.procs
   pub others_ranked : AreRanked rank others.procs
   pub chain : (number : ℕ) → rank number ≤ HEAP_CHAIN
-  pub many : HEAP_CHAIN ≤ length heap.procs
 
 abbrev pub with_runtimes : Runtimes → WordCode → WordCode
 with_runtimes r code = joined (joined r.heap code) r.others

@@ -12,7 +12,7 @@ use Rattle.word_lowering.specs.declared.homes.Housed.{Housed}
 use Rattle.word_lowering.specs.declared.spots.Spot.{Spot}
 use Rattle.word_lowering.specs.declared.spots.Spot.TheVariants.{Held, Lies}
 use Rattle.word_code.specs.declared.routine.TheConstants.{COPY, CLEAR}
-use Rattle.word_lowering.specs.Layouts.{is_address}
+use Rattle.word_lowering.specs.Layouts.{holds_address}
 
 -- a value is held by a variable, or lies in memory: at an address that a variable has, or where the place is
 abbrev pub spot_by : (address : Bool) → Home → Spot
@@ -20,7 +20,7 @@ spot_by false (Variable v) = Held v
 spot_by address home = Lies home
 
 abbrev pub spot_of : Housed → Spot
-spot_of h = spot_by (is_address h.kind) h.home
+spot_of h = spot_by (holds_address h) h.home
 
 -- so many bytes further
 abbrev pub shifted : ℕ → Home → Home

@@ -13,7 +13,7 @@ use Rattle.flat_code.specs.declared.line.Piece.{Piece}
 use Rattle.flat_code.specs.Codes.{block_plain}
 use Rattle.flat_code.specs.Pieces.{standing_bytes}
 use Rattle.flat_code.specs.Sizes.{distinct_texts}
-use Rattle.word_lowering.specs.declared.texts.TheConstants.{FIXED_BYTES}
+use Rattle.word_lowering.specs.declared.handed.TheConstants.{LEFT_HANDLE_AT}
 pub use Rattle.word_lowering.specs.Aliases.{text_of, texts_of}
 
 -- ---- what each program has: a word whose first byte is a character that is written, a line end, the names of bools
@@ -98,5 +98,5 @@ texts_at table globals_end = names_at table globals_end + length (padded (joined
 
 abbrev pub data_in : List TypeDef → (globals_end : ℕ) → List (CodeProc BlockLine) → List ℕ
 data_in table globals_end procs =
-    replicate WORD_BYTES 0 ++ (fixed_texts ++ (replicate (globals_end - FIXED_BYTES) 0
+    replicate WORD_BYTES 0 ++ (fixed_texts ++ (replicate (globals_end - LEFT_HANDLE_AT) 0
     ++ (ends_from 0 (all_names table) ++ (padded (joined_all (all_names table)) ++ laid_texts procs))))

@@ -13,6 +13,7 @@ use Rattle.word_lowering.specs.declared.homes.Alias.TheVariants.{Own}
 use Rattle.word_lowering.specs.declared.homes.Home.TheVariants.{Placed}
 use Rattle.word_lowering.specs.declared.homes.Housed.{Housed}
 use Rattle.word_lowering.specs.declared.homes.Waiter.{Waiter}
+use Rattle.word_lowering.specs.Lookups.{nowhere}
 use Rattle.word_lowering.specs.Spots.{moves}
 use Rattle.word_lowering.specs.Stored.{is_hooked}
 
@@ -32,7 +33,13 @@ waiting_house w = record {
   alias = Own;
   home = Placed w.at;
   waits = None;
+  lent = false;
 }
+
+-- or nowhere
+abbrev pub waiter_house : Option Waiter → Housed
+waiter_house None = nowhere
+waiter_house (Some w) = waiting_house w
 
 -- a value comes there
 abbrev pub waits_code : Option Waiter → Housed → List WordInstr → List WordInstr

@@ -3,9 +3,10 @@ ghost use Rattle.std.specs.Prelude.{◌≡◌, ◌++◌, map, IfOk, OnOk};
 ghost use Rattle.flat_code.specs.Codes.{block_plain};
 ghost use Rattle.word_lowering.specs.Aliases.{handed_by, places_in, handed_in, is_among};
 ghost use Rattle.word_lowering.specs.Aliases.{addressed_by, addressed_in, addressed};
+ghost use Rattle.word_lowering.specs.Aliases.{stands_by, standing};
 
 use arc_base::{Items, Memory};
-use flat_code::{BlockLine, From, Line, OwnedLine};
+use flat_code::{BlockLine, From, Line, OwnedLine, Owning};
 use nim_program::Operation;
 use std::alloc::Global;
 
@@ -21,6 +22,10 @@ fn handed_by(line: &BlockLine) -> &[From]
                     operation: Operation::Swap,
                     from,
                     ..
+                }
+                | Line::Own {
+                    what: Owning::PlaceStands { .. },
+                    from,
                 },
             ),
         ) => from.as_slice(),
@@ -90,6 +95,36 @@ fn push_addressed(found: &mut Items<u32>, handed: &[u32], lines: &[BlockLine]) -
         }
     }
     Ok(())
+}
+
+// The place to which a line gives a location.
+fn stands_by(line: &BlockLine) -> Option<u32>
+    ensures { result ≡ stands_by (block_plain line.now) }
+{
+    match line {
+        BlockLine::Plain(
+            OwnedLine::Plain(
+                Line::Own {
+                    what: Owning::PlaceStands { place },
+                    ..
+                },
+            ),
+        ) => Some(*place),
+        _ => None,
+    }
+}
+
+/// The places to which lines give locations.
+pub fn standing(alloc: Global, lines: &[BlockLine]) -> Result<Items<u32>, Memory>
+    ensures { IfOk result (λ found. found ≡ standing (map block_plain lines.now)) }
+{
+    let mut found = Items::new(alloc);
+    for line in lines {
+        if let Some(place) = stands_by(line) {
+            found.push(place)?;
+        }
+    }
+    Ok(found)
 }
 
 /// The places of a call whose addresses its lines need.

@@ -124,7 +124,10 @@ pub fn alias_by(line: &BlockLine, behind: u32) -> Result<Alias, Memory>
             place: *place,
             global: *global,
         }),
-        BlockLine::Plain(OwnedLine::Plain(Line::Fresh { from, .. })) => Ok(Alias::Value(*from)),
+        BlockLine::Plain(OwnedLine::Plain(Line::Fresh { from, waits, .. })) => match waits {
+            None => Ok(Alias::Value(*from)),
+            Some(node) => Ok(Alias::Node(*node)),
+        },
         BlockLine::Plain(OwnedLine::Plain(Line::Constant { pieces, .. })) => {
             text_alias(behind, pieces.as_slice())
         }

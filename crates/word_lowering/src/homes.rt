@@ -48,6 +48,8 @@ pub enum Alias {
     Place { place: u32, global: bool },
     /// The location of the value in a temporary.
     Value(u32),
+    /// What waits at a node.
+    Node(u32),
     /// A text that stands in the data: so many bytes from behind so many bytes of the procedure's
     /// literals on.
     Text { behind: u32, bytes: u32 },
@@ -68,6 +70,8 @@ pub struct Housed {
     pub home: Home,
     /// The node at which it may wait: of a temporary whose type has something to do at its end.
     pub waits: Option<u32>,
+    /// Whether it stands for another place, whose address it holds then.
+    pub lent: bool,
 }
 
 /// Where a value stands while it waits at a node.

@@ -1,8 +1,8 @@
 // Where the places and temporaries of each procedure are.
 ghost use Rattle.std.specs.Prelude.{◌≡◌, ◌++◌, ◌∷◌, [], map, IfOk, OnOk};
 ghost use Rattle.flat_code.specs.Codes.{block_plain};
-ghost use Rattle.word_lowering.specs.Aliases.{is_among, addressed, alias_for};
-ghost use Rattle.word_lowering.specs.Layouts.{is_kept, is_static, home_at, free_behind};
+ghost use Rattle.word_lowering.specs.Aliases.{is_among, addressed, standing, alias_for};
+ghost use Rattle.word_lowering.specs.Layouts.{is_kept, is_static, lent_by, home_at, free_behind};
 ghost use Rattle.word_lowering.specs.Layouts.{home_by, free_by, housed, behind};
 ghost use Rattle.word_lowering.specs.Layouts.{all_housed, behind_all, laid, layout_of, layouts};
 ghost use Rattle.word_lowering.specs.Layouts.{waits_by, behind_waiter, and_waiter, waiters};
@@ -12,7 +12,7 @@ ghost use Rattle.word_lowering.specs.Layouts.{result_in, kept_in, nowhere, AreNu
 ghost use Rattle.word_lowering.specs.Survey.{IsSurvey};
 ghost use Rattle.word_lowering.specs.Stored.{HaveForms};
 
-use crate::addresses::{addressed, is_among};
+use crate::addresses::{addressed, is_among, standing};
 use crate::aliases::put_aliases;
 use crate::homes::{Alias, FIRST, Free, Home, Housed, Layout, OWN_FROM, Sort, Waiter};
 use crate::place_table::places_of;
@@ -27,8 +27,8 @@ use std::collections::HashMap;
 
 // What is in a variable: an address, and a word whose own address isn't needed. That of a temporary
 // never is, so none is looked for among the addressed.
-fn is_kept(number: u32, addressed: &[u32], word: bool, kind: PlaceKind) -> bool
-    ensures { result ≡ is_kept (is_among number addressed.now) word kind }
+fn is_kept(number: u32, lent: bool, addressed: &[u32], word: bool, kind: PlaceKind) -> bool
+    ensures { result ≡ is_kept lent (is_among number addressed.now) word kind }
 {
     match kind {
         PlaceKind::Location
@@ -36,6 +36,9 @@ fn is_kept(number: u32, addressed: &[u32], word: bool, kind: PlaceKind) -> bool
         | PlaceKind::Param(Mode::Var)
         | PlaceKind::Counter => true,
         PlaceKind::Temp => word,
+        PlaceKind::Param(Mode::Plain) | PlaceKind::ForVar => {
+            lent || word && !is_among(number, addressed)
+        }
         _ => word && !is_among(number, addressed),
     }
 }
@@ -96,6 +99,17 @@ fn waits_by(kind: PlaceKind, alias: Alias, hooked: bool, waits: Option<u32>) -> 
     }
 }
 
+// A place that stands for another one.
+fn lent_by(kind: PlaceKind, hooked: bool, stands: bool) -> bool
+    ensures { result ≡ lent_by kind hooked stands }
+{
+    match kind {
+        PlaceKind::Param(Mode::Plain) => hooked,
+        PlaceKind::ForVar => hooked && stands,
+        _ => false,
+    }
+}
+
 // Where one place is.
 fn housed(
     types: &TypeTable,
@@ -116,7 +130,9 @@ fn housed(
     } else {
         bytes_at(types, place.ty)?
     };
-    let kept = is_kept(place.number, survey.addressed, word, place.kind);
+    let hooked = is_hooked(types, place.ty);
+    let lent = lent_by(place.kind, hooked, is_among(place.number, survey.standing));
+    let kept = is_kept(place.number, lent, survey.addressed, word, place.kind);
     let alias = survey.alias(place.kind, place.number);
     Ok(Housed {
         number: place.number,
@@ -126,7 +142,8 @@ fn housed(
         is_word: word,
         alias,
         home: home_by(alias, home_at(is_static(start, place.kind), kept, free)),
-        waits: waits_by(place.kind, alias, is_hooked(types, place.ty), place.waits),
+        waits: waits_by(place.kind, alias, hooked, place.waits),
+        lent,
     })
 }
 
@@ -135,16 +152,24 @@ fn behind(survey: &Survey, start: bool, free: Free, place: Housed) -> Free
     requires survey { IsSurvey survey.now }
     requires small { AreNumbers (free_by place.alias free
         (free_behind (is_static start place.kind)
-        (is_kept (is_among place.number (addressed (map block_plain survey.now.lines.now)))
+        (is_kept place.lent
+        (is_among place.number (addressed (map block_plain survey.now.lines.now)))
         place.is_word place.kind) place.bytes free)) }
     ensures { result ≡ free_by place.alias free
         (free_behind (is_static start place.kind)
-        (is_kept (is_among place.number (addressed (map block_plain survey.now.lines.now)))
+        (is_kept place.lent
+        (is_among place.number (addressed (map block_plain survey.now.lines.now)))
         place.is_word place.kind) place.bytes free) }
 {
     match place.alias {
         Alias::Own => {
-            let kept = is_kept(place.number, survey.addressed, place.is_word, place.kind);
+            let kept = is_kept(
+                place.number,
+                place.lent,
+                survey.addressed,
+                place.is_word,
+                place.kind,
+            );
             free_behind(is_static(start, place.kind), kept, place.bytes, free)
         }
         _ => free,
@@ -298,11 +323,13 @@ pub fn layout_of(
     let mut locations = HashMap::new(alloc);
     put_aliases(lines, &mut values, &mut locations)?;
     let needed = addressed(alloc, lines)?;
+    let stands = standing(alloc, lines)?;
     let survey = Survey {
         lines,
         values: &values,
         locations: &locations,
         addressed: needed.as_slice(),
+        standing: stands.as_slice(),
     };
     laid(alloc, types, start, datum, &survey, proc.places.as_slice())
 }
@@ -363,6 +390,7 @@ pub fn nowhere() -> Housed
         alias: Alias::Own,
         home: Home::Variable(FIRST),
         waits: None,
+        lent: false,
     }
 }
 

@@ -3,31 +3,32 @@ ghost use Rattle.std.specs.Prelude.{◌≡◌, true, ◌∷◌, map, OnOk};
 ghost use Rattle.nim_program.specs.Traps.{LengthChanged};
 ghost use Rattle.flat_code.specs.Codes.{block_plain};
 ghost use Rattle.word_lowering.specs.Emission.{Puts};
-ghost use Rattle.word_lowering.specs.LineCode.{part_code, item_code, element_code, own_label};
-ghost use Rattle.word_lowering.specs.LineCode.{value, own_place, location, held, led, count_at, bytes_each};
+ghost use Rattle.word_lowering.specs.LineCode.{part_code, item_at, item_in, element_at, element_in, own_label};
+ghost use Rattle.word_lowering.specs.LineCode.{value, own_place, location, held, led, measure_code, entry_from};
 ghost use Rattle.word_lowering.specs.LineCode.{operands, row_code, choice_code, line_code, lines_code, labels_in};
 ghost use Rattle.word_lowering.specs.LineCode.{is_control, standing_at, behind_line};
 ghost use Rattle.word_lowering.specs.Operations.{trap_label};
 ghost use Rattle.word_lowering.specs.Scope.{around_of, HasRoom};
-ghost use Rattle.word_lowering.specs.Spots.{spot_of, moved, moves};
+ghost use Rattle.word_lowering.specs.OwnedCode.{has_handle};
+ghost use Rattle.word_lowering.specs.Spots.{moves};
 ghost use Rattle.word_lowering.specs.Stored.{part_at, HaveForms};
 
 use crate::calls::{emit_call, emit_return};
-use crate::homes::{FIFTH, FIRST, Home};
+use crate::homes::{FIFTH, FIRST, Home, Housed};
 use crate::kept::{emit_behind_line, emit_owning};
-use crate::locations::{emit_element, emit_item, emit_part};
+use crate::locations::{emit_element, emit_item, emit_owned_element, emit_owned_item, emit_part};
 use crate::operations::{LENGTH, emit_beyond, emit_fits, emit_turn, emit_turn_if, emit_unless};
-use crate::rows::emit_row;
+use crate::rows::{emit_measure, emit_row, has_handle, is_text};
 use crate::scope::{Scope, label_before, labels_in, labels_of, own_label};
+use crate::sequence_rows::{emit_element_read, size_in};
 use crate::spots::{
-    Spot, address, branch, constant, emit, emit_clears, emit_moved, emit_moves, emit_passes,
-    spot_of, sum_with,
+    address, branch, constant, emit, emit_clears, emit_moves, emit_passes, sum_with,
 };
-use crate::stored::part_at;
+use crate::stored::{count_in, element_bytes, part_at};
 use crate::values::{emit_constant, emit_construct, truth_word};
 use arc_base::{Items, Memory};
 use flat_code::{BlockLine, From, Line, OwnedLine, Piece};
-use nim_program::{Label, Operation};
+use nim_program::{Label, Measure, Operation};
 use nim_types::TypeId;
 use word_code::{Test, WordInstr};
 
@@ -68,6 +69,33 @@ fn emit_part_at(
     emit_part(code, x.led(to), whole.home, at)
 }
 
+// The address of an element, of an array or of what has a handle.
+fn emit_item_in(
+    code: &mut Items<WordInstr>,
+    x: &Scope,
+    handle: bool,
+    to: u32,
+    from: Housed,
+    index: u32,
+) -> Result<(), Memory>
+    requires { HasRoom (around_of x.now) }
+    ensures { OnOk result (Puts code.old code.new (item_in (around_of x.now) handle to from index)) }
+{
+    if handle {
+        let size = size_in(x, from)?;
+        return emit_owned_item(code, to, from.home, index, size);
+    }
+    let bytes = element_bytes(x.types, from.ty)?;
+    emit_item(
+        code,
+        to,
+        from.home,
+        index,
+        count_in(x.types, from.ty),
+        bytes,
+    )
+}
+
 // The location of an element.
 fn emit_item_at(
     code: &mut Items<WordInstr>,
@@ -76,17 +104,37 @@ fn emit_item_at(
     from: u32,
     index: u32,
 ) -> Result<(), Memory>
-    requires { HaveForms x.now.types.now }
-    ensures { OnOk result (Puts code.old code.new (item_code (led (around_of x.now) to)
-        (location (around_of x.now) from).home (held (around_of x.now) index)
-        (count_at (around_of x.now) from) (bytes_each (around_of x.now) from))) }
+    requires { HasRoom (around_of x.now) }
+    ensures { OnOk result (Puts code.old code.new (item_at (around_of x.now)
+        (has_handle (entry_from (around_of x.now) from)) to from index)) }
 {
-    let bytes = x.bytes_each(from)?;
-    let (home, n) = (x.location(from).home, x.count_at(from));
-    emit_item(code, x.led(to), home, x.held(index), n, bytes)
+    let handle = has_handle(x.types, x.location(from).ty);
+    emit_item_in(code, x, handle, x.led(to), x.location(from), x.held(index))
 }
 
-// The value of an element.
+// The value of an element, of an array or of what has a handle.
+fn emit_element_in(
+    code: &mut Items<WordInstr>,
+    x: &Scope,
+    handle: bool,
+    from: Housed,
+    index: u32,
+    to: Housed,
+) -> Result<(), Memory>
+    requires { HasRoom (around_of x.now) }
+    ensures { OnOk result (Puts code.old code.new
+        (element_in (around_of x.now) handle from index to)) }
+{
+    if handle {
+        let size = size_in(x, from)?;
+        emit_owned_element(code, FIFTH, from.home, index, size)?;
+        return emit_element_read(code, is_text(x.types, Some(from.ty)), to);
+    }
+    let bytes = element_bytes(x.types, from.ty)?;
+    emit_element(code, FIFTH, from.home, index, bytes)?;
+    emit_element_read(code, false, to)
+}
+
 fn emit_element_of(
     code: &mut Items<WordInstr>,
     x: &Scope,
@@ -94,33 +142,41 @@ fn emit_element_of(
     from: u32,
     index: u32,
 ) -> Result<(), Memory>
-    requires { HaveForms x.now.types.now }
-    ensures { OnOk result (Puts code.old code.new (λ k. element_code FIFTH
-        (location (around_of x.now) from).home (held (around_of x.now) index)
-        (bytes_each (around_of x.now) from)
-        (moved (value (around_of x.now) to).is_word (value (around_of x.now) to).bytes
-        (spot_of (value (around_of x.now) to)) (Spot.Lies (Home.Variable FIFTH)) k))) }
+    requires { HasRoom (around_of x.now) }
+    ensures { OnOk result (Puts code.old code.new (element_at (around_of x.now)
+        (has_handle (entry_from (around_of x.now) from)) from index (value (around_of x.now) to))) }
 {
-    let bytes = x.bytes_each(from)?;
-    emit_element(code, FIFTH, x.location(from).home, x.held(index), bytes)?;
-    let h = x.value(to);
-    let there = Spot::Lies(Home::Variable(FIFTH));
-    emit_moved(code, h.is_word, h.bytes, spot_of(h), there)
+    let handle = has_handle(x.types, x.location(from).ty);
+    emit_element_in(
+        code,
+        x,
+        handle,
+        x.location(from),
+        x.held(index),
+        x.value(to),
+    )
+}
+
+// How many elements stand at a location.
+fn emit_length(code: &mut Items<WordInstr>, x: &Scope, to: u32, from: u32) -> Result<(), Memory>
+    ensures { OnOk result (Puts code.old code.new (measure_code (around_of x.now)
+        (has_handle (entry_from (around_of x.now) from)) Measure.Len (held (around_of x.now) to)
+        (location (around_of x.now) from))) }
+{
+    emit_measure(code, x, Measure::Len, x.held(to), x.location(from))
 }
 
 // So many elements stand at a location still.
 fn emit_still(code: &mut Items<WordInstr>, x: &Scope, from: u32, length: u32) -> Result<(), Memory>
-    ensures { OnOk result (Puts code.old code.new (λ k.
-        WordInstr.Constant FIRST (count_at (around_of x.now) from)
-        ∷ WordInstr.Branch Test.Unequal (held (around_of x.now) length) FIRST
-        (trap_label LengthChanged) ∷ k)) }
+    ensures { OnOk result (Puts code.old code.new (λ k. measure_code (around_of x.now)
+        (has_handle (entry_from (around_of x.now) from)) Measure.Len FIRST
+        (location (around_of x.now) from) (WordInstr.Branch Test.Unequal
+        (held (around_of x.now) length) FIRST (trap_label LengthChanged) ∷ k))) }
 {
+    emit_measure(code, x, Measure::Len, FIRST, x.location(from))?;
     emit(
         code,
-        &[
-            constant(FIRST, x.count_at(from)),
-            branch(Test::Unequal, x.held(length), FIRST, LENGTH),
-        ],
+        &[branch(Test::Unequal, x.held(length), FIRST, LENGTH)],
     )
 }
 
@@ -279,7 +335,7 @@ fn emit_line(code: &mut Items<WordInstr>, x: &Scope, line: &Line, label: u32) ->
         Line::Give { place, from } => emit_put(code, x, *place, *from),
         Line::Blank { place, .. } => emit_clears(code, x.own_place(*place)),
         Line::Zero { to } => emit(code, &[constant(x.held(*to), 0)]),
-        Line::Length { to, from } => emit(code, &[constant(x.held(*to), x.count_at(*from))]),
+        Line::Length { to, from } => emit_length(code, x, *to, *from),
         Line::Still { from, length } => emit_still(code, x, *from, *length),
         Line::Element { to, from, index } => emit_element_of(code, x, *to, *from, *index),
         Line::Beyond { .. }

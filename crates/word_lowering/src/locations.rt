@@ -3,10 +3,11 @@ ghost use Rattle.std.specs.Prelude.{◌≡◌, OnOk};
 ghost use Rattle.word_lowering.specs.Emission.{Puts};
 ghost use Rattle.word_lowering.specs.LineCode.{part_code, behind_code, element_code, item_code};
 ghost use Rattle.word_lowering.specs.LineCode.{word_argument, swap_code, measure_word};
+ghost use Rattle.word_lowering.specs.OwnedCode.{owned_element_code, owned_item_code};
 
 use crate::homes::{FIRST, Home, SECOND, THIRD};
 use crate::operations::INDEX;
-use crate::spots::{address, argument, branch, call, compute, constant, emit, sum, sum_with};
+use crate::spots::{address, argument, branch, call, compute, constant, emit, load, sum, sum_with};
 use arc_base::{Items, Memory};
 use nim_program::Measure;
 use word_code::{SWAP, Test, WordInstr, WordOperation};
@@ -124,4 +125,52 @@ pub fn measure_word(measure: Measure, count: u32) -> u32
         Measure::Len => count,
         Measure::High => count.wrapping_sub(1),
     }
+}
+
+/// The address of an element of so many bytes of what is in a handle. The index has to be below its length.
+pub fn emit_owned_item(
+    code: &mut Items<WordInstr>,
+    to: u32,
+    from: Home,
+    index: u32,
+    size: u32,
+) -> Result<(), Memory>
+    ensures { OnOk result (Puts code.old code.new (owned_item_code to from index size)) }
+{
+    emit(
+        code,
+        &[
+            address(SECOND, from),
+            load(FIRST, SECOND),
+            branch(Test::NotBelow, index, FIRST, INDEX),
+            sum_with(SECOND, SECOND, 4),
+            load(SECOND, SECOND),
+            constant(FIRST, size),
+            compute(FIRST, WordOperation::Multiply, index, FIRST),
+            compute(to, WordOperation::Add, SECOND, FIRST),
+        ],
+    )
+}
+
+/// That of an element that is there.
+pub fn emit_owned_element(
+    code: &mut Items<WordInstr>,
+    to: u32,
+    from: Home,
+    index: u32,
+    size: u32,
+) -> Result<(), Memory>
+    ensures { OnOk result (Puts code.old code.new (owned_element_code to from index size)) }
+{
+    emit(
+        code,
+        &[
+            address(SECOND, from),
+            sum_with(SECOND, SECOND, 4),
+            load(SECOND, SECOND),
+            constant(FIRST, size),
+            compute(FIRST, WordOperation::Multiply, index, FIRST),
+            compute(to, WordOperation::Add, SECOND, FIRST),
+        ],
+    )
 }

@@ -31,7 +31,7 @@ use std::alloc::Global;
 use word_code::{ProcKind, WordCode, WordInstr, WordProc};
 
 /// Word code has at most so many lines carried out for each work of the block code that it is of.
-pub const WORD_PACE: u32 = 16;
+pub const WORD_PACE: u32 = 256;
 
 /// Without a runtime word code has at most so many lines and procedures beside what block code weighs:
 /// a start code without lines.

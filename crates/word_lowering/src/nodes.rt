@@ -1,10 +1,11 @@
 // The word code of what waits at nodes.
 ghost use Rattle.std.specs.Prelude.{◌≡◌, OnOk};
 ghost use Rattle.word_lowering.specs.Emission.{Puts};
-ghost use Rattle.word_lowering.specs.WaitingCode.{waiter_at, waiting_house, waits_code};
+ghost use Rattle.word_lowering.specs.WaitingCode.{waiter_at, waiting_house, waiter_house, waits_code};
 ghost use Rattle.word_lowering.specs.WaitingCode.{leaves_code, none_code};
 
 use crate::homes::{Alias, Home, Housed, Waiter};
+use crate::layouts::nowhere;
 use crate::spots::{address, constant, emit, emit_moves};
 use arc_base::{Items, Memory};
 use flat_code::PlaceKind;
@@ -35,6 +36,17 @@ fn waiting_house(w: Waiter) -> Housed
         alias: Alias::Own,
         home: Home::Placed(w.at),
         waits: None,
+        lent: false,
+    }
+}
+
+/// Or nowhere.
+pub fn waiter_house(there: Option<Waiter>) -> Housed
+    ensures { result ≡ waiter_house there }
+{
+    match there {
+        None => nowhere(),
+        Some(w) => waiting_house(w),
     }
 }
 

@@ -1,26 +1,33 @@
 // The word code of operations, a row each.
-ghost use Rattle.std.specs.Prelude.{◌≡◌, OnOk};
+ghost use Rattle.std.specs.Prelude.{◌≡◌, OnOk, if◌then◌else◌};
 ghost use Rattle.word_lowering.specs.Emission.{Puts};
 ghost use Rattle.word_lowering.specs.LineCode.{converted_code, updated_code, update_code, quit_code};
-ghost use Rattle.word_lowering.specs.LineCode.{operands, row_code};
+ghost use Rattle.word_lowering.specs.LineCode.{compared_code, measure_code, operands, row_code};
+ghost use Rattle.word_lowering.specs.LineCode.{variable_of};
+ghost use Rattle.word_lowering.specs.OwnedCode.{entry_of, has_handle, is_text, type_of};
 ghost use Rattle.word_lowering.specs.Scope.{around_of, HasRoom};
+ghost use Rattle.word_lowering.specs.Stored.{entry_at};
 
 use crate::calls::emit_exit;
 use crate::homes::{FIFTH, FIRST, FOURTH, Housed, SECOND};
 use crate::locations::{emit_swap, measure_word};
 use crate::operations::{emit_binary, emit_compare, emit_narrow, emit_unary};
+use crate::owned_rows::{emit_owned, lacks};
 use crate::scope::{Scope, variable_of};
+use crate::sequence_rows::emit_measured;
 use crate::spots::{
     Spot, address, constant, emit, emit_clears, emit_moves, emit_starts, load, spot_of, store,
 };
-use crate::stored::{count_in, limit_at};
+use crate::stored::{count_in, entry_at, limit_at};
+use crate::text_handles::first_type;
+use crate::text_rows::emit_compared;
 use crate::texts::LINE_END_AT;
 use crate::values::emit_parts;
 use crate::writing::{emit_text, emit_texts};
 use arc_base::{Items, Memory};
 use flat_code::From;
-use nim_program::{Operation, Operator};
-use nim_types::TypeId;
+use nim_program::{Comparison, Measure, Operation, Operator};
+use nim_types::{TypeDef, TypeId, TypeTable};
 use word_code::WordInstr;
 
 // The same value as one of another type, of which it has to be one where that has so many.
@@ -96,6 +103,118 @@ fn emit_quit(code: &mut Items<WordInstr>, x: &Scope, from: &[From]) -> Result<()
     }
 }
 
+/// Whether values of a type are in handles, distinct types looked through.
+pub fn has_handle(types: &TypeTable, ty: TypeId) -> bool
+    ensures { result ≡ has_handle (entry_at types.now ty) }
+{
+    match entry_at(types, ty) {
+        Some(TypeDef::Text) => true,
+        Some(TypeDef::Seq(_)) => true,
+        _ => false,
+    }
+}
+
+/// Whether a type is that of texts, distinct types looked through.
+pub fn is_text(types: &TypeTable, ty: Option<TypeId>) -> bool
+    ensures { result ≡ is_text (entry_of types.now ty) }
+{
+    let Some(ty) = ty else {
+        return false;
+    };
+    match entry_at(types, ty) {
+        Some(TypeDef::Text) => true,
+        _ => false,
+    }
+}
+
+// Texts are compared by what they hold, all else by numbers.
+fn emit_compared_by(
+    code: &mut Items<WordInstr>,
+    x: &Scope,
+    text: bool,
+    comparison: Comparison,
+    of: &[Option<TypeId>],
+    to: Housed,
+    from: &[From],
+) -> Result<(), Memory>
+    requires { HasRoom (around_of x.now) }
+    ensures { OnOk result (Puts code.old code.new (compared_code (around_of x.now) text comparison
+        (variable_of to) of.now (operands (around_of x.now) from.now))) }
+{
+    if text {
+        return emit_compared(code, x, comparison, of, to, from);
+    }
+    let (a, b) = (x.operand_at(from, 0), x.operand_at(from, 1));
+    emit_compare(
+        code,
+        comparison,
+        variable_of(to),
+        variable_of(a),
+        variable_of(b),
+    )
+}
+
+fn emit_comparison(
+    code: &mut Items<WordInstr>,
+    x: &Scope,
+    few: bool,
+    comparison: Comparison,
+    of: &[Option<TypeId>],
+    to: Housed,
+    from: &[From],
+) -> Result<(), Memory>
+    requires { HasRoom (around_of x.now) }
+    ensures { OnOk result (Puts code.old code.new (λ k. if few then k else compared_code
+        (around_of x.now) (is_text (entry_of x.now.types.now (type_of of.now 0))) comparison
+        (variable_of to) of.now (operands (around_of x.now) from.now) k)) }
+{
+    if few {
+        return Ok(());
+    }
+    emit_compared_by(
+        code,
+        x,
+        is_text(x.types, first_type(of)),
+        comparison,
+        of,
+        to,
+        from,
+    )
+}
+
+// A length, or the last index, of what has a handle, or of an array.
+fn emit_measure_by(
+    code: &mut Items<WordInstr>,
+    x: &Scope,
+    handle: bool,
+    measure: Measure,
+    to: u32,
+    from: Housed,
+) -> Result<(), Memory>
+    ensures { OnOk result (Puts code.old code.new
+        (measure_code (around_of x.now) handle measure to from)) }
+{
+    if handle {
+        return emit_measured(code, measure, to, from.home);
+    }
+    let count = count_in(x.types, from.ty);
+    emit(code, &[constant(to, measure_word(measure, count))])
+}
+
+/// A length, or the last index, at a place.
+pub fn emit_measure(
+    code: &mut Items<WordInstr>,
+    x: &Scope,
+    measure: Measure,
+    to: u32,
+    from: Housed,
+) -> Result<(), Memory>
+    ensures { OnOk result (Puts code.old code.new (measure_code (around_of x.now)
+        (has_handle (entry_at x.now.types.now from.ty)) measure to from)) }
+{
+    emit_measure_by(code, x, has_handle(x.types, from.ty), measure, to, from)
+}
+
 /// An operation on operands of types, with a label of its own.
 pub fn emit_row(
     code: &mut Items<WordInstr>,
@@ -118,13 +237,12 @@ pub fn emit_row(
         Operation::Default => emit_starts(code, to),
         Operation::Unary(operator) => emit_unary(code, operator, t, a),
         Operation::Binary(operator) => emit_binary(code, label, operator, t, a, b),
-        Operation::Compare(comparison) => emit_compare(code, comparison, t, a, b),
+        Operation::Compare(comparison) => {
+            emit_comparison(code, x, lacks(x, from, 2), comparison, of, to, from)
+        }
         Operation::Convert => emit_converted(code, limit_at(x.types, ty), to, first),
         Operation::Make => emit_parts(code, x, to.home, from),
-        Operation::Measure(measure) => {
-            let count = count_in(x.types, first.ty);
-            emit(code, &[constant(t, measure_word(measure, count))])
-        }
+        Operation::Measure(measure) => emit_measure(code, x, measure, t, first),
         Operation::Echo => {
             emit_texts(code, x, of, from)?;
             emit_text(code, LINE_END_AT, 1)
@@ -137,6 +255,6 @@ pub fn emit_row(
             emit_clears(code, first)
         }
         Operation::Swap => emit_swap(code, first.home, second.home, first.bytes),
-        _ => Ok(()),
+        _ => emit_owned(code, x, label, operation, of, to, from),
     }
 }

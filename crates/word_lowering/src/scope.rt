@@ -5,18 +5,17 @@ ghost use Rattle.word_lowering.specs.Layouts.{params_in};
 ghost use Rattle.word_lowering.specs.LineCode.{own_label, arguments_of, labels_in};
 ghost use Rattle.word_lowering.specs.LineCode.{value, location_by, location, own_place, place};
 ghost use Rattle.word_lowering.specs.LineCode.{operand, operands, operand_at, held, led};
-ghost use Rattle.word_lowering.specs.LineCode.{layout_at, variable_of, count_at, bytes_each};
+ghost use Rattle.word_lowering.specs.LineCode.{layout_at, variable_of};
 ghost use Rattle.word_lowering.specs.LineCode.{literal_at, standing_at};
 ghost use Rattle.word_lowering.specs.Scope.{around_of, HasRoom};
-ghost use Rattle.word_lowering.specs.Stored.{HaveForms};
 
 use crate::homes::{Alias, FIRST, Home, Housed, Layout, Sort};
 use crate::laid_texts::LaidTexts;
 use crate::layouts::nowhere;
+use crate::nodes::{waiter_at, waiter_house};
 use crate::place_table::PlaceTable;
 use crate::setting::Setting;
 use crate::spots::sum;
-use crate::stored::{count_in, element_bytes};
 use arc_base::Memory;
 use flat_code::{BlockLine, From, Line, OwnedLine, Piece};
 use nim_types::TypeTable;
@@ -68,6 +67,7 @@ impl Scope<'_> {
         match own.alias {
             Alias::Place { place, global } => self.place(place, global),
             Alias::Value(t) => self.value(t),
+            Alias::Node(node) => waiter_house(waiter_at(node, self.own.waiters.as_slice())),
             _ => own,
         }
     }
@@ -160,21 +160,6 @@ impl Scope<'_> {
         ensures { result ≡ led (around_of self.now) t }
     {
         variable_of(self.location(t))
-    }
-
-    /// How many elements what stands at a location has.
-    pub fn count_at(&self, t: u32) -> u32
-        ensures { result ≡ count_at (around_of self.now) t }
-    {
-        count_in(self.types, self.location(t).ty)
-    }
-
-    /// How many bytes each of them has.
-    pub fn bytes_each(&self, t: u32) -> Result<u32, Memory>
-        requires { HaveForms self.now.types.now }
-        ensures { IfOk result (λ bytes. bytes ≡ bytes_each (around_of self.now) t) }
-    {
-        element_bytes(self.types, self.location(t).ty)
     }
 }
 

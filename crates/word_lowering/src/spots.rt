@@ -1,7 +1,7 @@
 // Code that moves values between variables and memory.
 ghost use Rattle.std.specs.Prelude.{◌+◌, ◌≡◌, ◌++◌, length, IfOk, OnOk};
 ghost use Rattle.word_lowering.specs.Emission.{Puts};
-ghost use Rattle.word_lowering.specs.Layouts.{is_address};
+ghost use Rattle.word_lowering.specs.Layouts.{holds_address};
 ghost use Rattle.word_lowering.specs.Spots.{spot_of, shifted, address, moved, moves, passes};
 ghost use Rattle.word_lowering.specs.Spots.{cleared, clears, starts, handed};
 
@@ -53,13 +53,14 @@ pub fn emit(code: &mut Items<WordInstr>, lines: &[WordInstr]) -> Result<(), Memo
 }
 
 /// Whether a place holds an address, and not a value.
-pub fn is_address(kind: PlaceKind) -> bool
-    ensures { result ≡ is_address kind }
+pub fn holds_address(place: Housed) -> bool
+    ensures { result ≡ holds_address place }
 {
-    matches!(
-        kind,
-        PlaceKind::Location | PlaceKind::Within | PlaceKind::Param(Mode::Var)
-    )
+    match place.kind {
+        PlaceKind::Location | PlaceKind::Within | PlaceKind::Param(Mode::Var) => true,
+        PlaceKind::Param(Mode::Plain) | PlaceKind::ForVar => place.lent,
+        _ => false,
+    }
 }
 
 /// Where the value of a place is, or the one to which it leads.
@@ -67,7 +68,7 @@ pub fn spot_of(place: Housed) -> Spot
     ensures { result ≡ spot_of place }
 {
     match place.home {
-        Home::Variable(v) if !is_address(place.kind) => Spot::Held(v),
+        Home::Variable(v) if !holds_address(place) => Spot::Held(v),
         home => Spot::Lies(home),
     }
 }

@@ -19,6 +19,8 @@ pub struct Survey<'a> {
     pub locations: &'a Names,
     /// The places whose addresses are needed.
     pub addressed: &'a [u32],
+    /// The places to which lines give locations.
+    pub standing: &'a [u32],
 }
 
 fn named(names: &Names, number: u32) -> Alias

@@ -8,6 +8,7 @@ ghost use Rattle.word_lowering.specs.Texts.{joined_all, starts_from, names_befor
 ghost use Rattle.word_lowering.specs.Texts.{ends_from, names_at, texts_at, data_in, padded};
 
 use crate::aliases::text_of;
+use crate::handed::LEFT_HANDLE_AT;
 use crate::laid_texts::LaidTexts;
 use crate::spots::{more, sum};
 use arc_base::{Bytes, Memory};
@@ -21,8 +22,9 @@ pub const LINE_END_AT: u32 = 4;
 /// Where `false` stands.
 pub const FALSE_AT: u32 = 8;
 
-/// The bytes of what each program has. Globals stand behind them.
-pub const FIXED_BYTES: u32 = 20;
+/// The bytes of what each program has: these texts, and two handles that are made for operands.
+/// Globals stand behind them.
+pub const FIXED_BYTES: u32 = 44;
 
 /// The word of which the first byte is a character that is written.
 const LETTER_BYTES: usize = 4;
@@ -231,7 +233,10 @@ pub fn data(
     let mut bytes = Bytes::new(alloc);
     push_zeros(&mut bytes, LETTER_BYTES)?;
     bytes.append(FIXED_TEXTS)?;
-    push_zeros(&mut bytes, globals_end.saturating_sub(FIXED_BYTES) as usize)?;
+    push_zeros(
+        &mut bytes,
+        globals_end.saturating_sub(LEFT_HANDLE_AT) as usize,
+    )?;
     push_ends(&mut bytes, types)?;
     let mut names = Bytes::new(alloc);
     push_names(&mut names, types)?;

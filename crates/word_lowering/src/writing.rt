@@ -2,20 +2,23 @@
 ghost use Rattle.std.specs.Prelude.{◌≡◌, ◌+◌, ◌*◌, OnOk};
 ghost use Rattle.word_lowering.specs.Emission.{Puts};
 ghost use Rattle.word_lowering.specs.LineCode.{number_code, bool_code, char_code, name_code};
-ghost use Rattle.word_lowering.specs.LineCode.{text_code, literal_at, literal_code, written_code};
+ghost use Rattle.word_lowering.specs.LineCode.{text_code, literal_at, told_code, written_code};
 ghost use Rattle.word_lowering.specs.LineCode.{typed_code};
 ghost use Rattle.word_lowering.specs.LineCode.{texts_code, operands, variable_of};
 ghost use Rattle.word_lowering.specs.Scope.{around_of, HasRoom};
 ghost use Rattle.word_lowering.specs.Stored.{entry_at, base_at};
 ghost use Rattle.word_lowering.specs.Texts.{names_before};
 
+use crate::handed::Handed;
 use crate::homes::{Alias, FIRST, Housed, SECOND, THIRD};
+use crate::routine_calls::emit_one;
 use crate::scope::{Scope, variable_of};
 use crate::spots::{argument, call, compute, constant, emit, load};
 use crate::stored::{base_at, entry_at};
 use crate::texts::{FALSE_AT, names_before};
 use arc_base::{Items, Memory, Stream};
 use flat_code::From;
+use heap_memory::TEXT_WRITE;
 use nim_types::{TypeDef, TypeId};
 use rv32_isa::Size;
 use word_code::{NUMBER, WordInstr, WordOperation};
@@ -88,8 +91,8 @@ fn emit_name(code: &mut Items<WordInstr>, ends: u32, names: u32, from: u32) -> R
     )
 }
 
-// The ends of the names of an enum, with distinct types looked through.
-fn ends_of(x: &Scope, ty: TypeId) -> u32
+/// The ends of the names of an enum, with distinct types looked through.
+pub fn ends_of(x: &Scope, ty: TypeId) -> u32
     requires { HasRoom (around_of x.now) }
     ensures { result ≡ x.now.setting.ends
         + 4 * names_before x.now.types.now (base_at x.now.types.now ty) }
@@ -107,18 +110,18 @@ pub fn emit_text(code: &mut Items<WordInstr>, at: u32, bytes: u32) -> Result<(),
     emit(code, &[datum(FIRST, at), constant(SECOND, bytes), WRITE])
 }
 
-// A text that a temporary is another name for.
-fn emit_literal(code: &mut Items<WordInstr>, x: &Scope, alias: Alias) -> Result<(), Memory>
+// A text that a temporary is another name for, or that of a handle.
+fn emit_told(code: &mut Items<WordInstr>, x: &Scope, from: Housed) -> Result<(), Memory>
     requires { HasRoom (around_of x.now) }
     ensures { OnOk result (Puts code.old code.new
-        (literal_code (literal_at (around_of x.now)) alias)) }
+        (told_code (literal_at (around_of x.now)) from.alias from.home)) }
 {
-    match alias {
+    match from.alias {
         Alias::Text { behind, bytes } => {
             let at = x.literal_at(behind, bytes)?;
             emit_text(code, at, bytes)
         }
-        _ => Ok(()),
+        _ => emit_one(code, FIRST, TEXT_WRITE, Handed::Where(from.home)),
     }
 }
 
@@ -137,7 +140,7 @@ fn emit_written(
         None | Some(TypeDef::Int) => emit_number(code, variable_of(from)),
         Some(TypeDef::Bool) => emit_bool(code, variable_of(from)),
         Some(TypeDef::Char) => emit_char(code, variable_of(from)),
-        Some(TypeDef::Text) => emit_literal(code, x, from.alias),
+        Some(TypeDef::Text) => emit_told(code, x, from),
         Some(TypeDef::Enum { .. }) => {
             emit_name(code, ends_of(x, ty), x.setting.names, variable_of(from))
         }
@@ -145,6 +148,7 @@ fn emit_written(
     }
 }
 
+// The text of an operand, by its type.
 fn emit_typed(
     code: &mut Items<WordInstr>,
     x: &Scope,

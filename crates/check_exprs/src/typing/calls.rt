@@ -8,16 +8,16 @@ ghost use Rattle.nim_tree.specs.Terms.{term_of, parts_of, part, no_parts, Parts}
 ghost use Rattle.expr_rules.specs.Names.{is_single};
 ghost use Rattle.expr_rules.specs.Typed.{is_callee};
 ghost use Rattle.expr_parts.specs.ViewReady.{IsReady};
-ghost use Rattle.check_exprs.specs.ViewTyped.{ReadSo};
+ghost use Rattle.check_exprs.specs.ViewTyped.{ConversionSo, ReadSo, SequenceSo};
 
 use crate::typing::operands::{operand_at, operands};
-use crate::typing::read_type;
+use crate::typing::written::{formed, read_type};
 use arc_base::{Code, Place, Stop};
-use expr_parts::names::{check_brackets, check_callee, check_count, check_quoted};
+use expr_parts::names::{check_brackets, check_callee, check_count, check_quoted, is_new_sequence};
 use expr_parts::scope::Scope;
 use expr_parts::value::{Typed, refusal};
 use expr_steps::demands::{Demand, call_demand, is_alone, method_demand};
-use expr_steps::endings::{call_from, new_sequence_from};
+use expr_steps::endings::{call_from, conversion_from, new_sequence_from};
 use expr_steps::given::{alone_in, behind};
 use indent_scanner::{inner_of, normal_form};
 use nim_tree::Expr as Tree;
@@ -95,10 +95,10 @@ pub(crate) fn call(
             )
         }
         Tree::Index {
+            at: place,
             base,
             parts: inside,
-            ..
-        } => { bracket_call(alloc, types, scope, number, at, base, inside, parts) }
+        } => { bracket_call(alloc, types, scope, number, at, *place, base, inside, parts) }
         _ => Err(no_callee(at, base)),
     }
 }
@@ -201,7 +201,7 @@ fn method_call(
     call_from(alloc, types, scope, number, at, word, given)
 }
 
-// A call of a name with something in brackets: `newSeq` of a type.
+// A call of a name with something in brackets.
 #[cycle(typing)]
 fn bracket_call(
     alloc: Global,
@@ -209,23 +209,26 @@ fn bracket_call(
     scope: &Scope,
     number: u32,
     at: Place,
+    p: Place,
     base: &Tree,
     given: &[Tree],
     parts: &[Tree],
 ) -> Result<Typed, Stop>
     requires ready { IsReady types.old scope.now }
-    ensures { (place : Place) → ReadSo types.old types.new scope.now number
-        (term.call at (term.index place (term_of base.now) (parts_of given.now))
+    ensures { ReadSo types.old types.new scope.now number
+        (term.call at (term.index p (term_of base.now) (parts_of given.now))
         (parts_of parts.now)) result }
 {
     match base {
-        Tree::Name { text, .. } => {
+        Tree::Name { at: q, text } => {
             bracket_named(
                 alloc,
                 types,
                 scope,
                 number,
                 at,
+                p,
+                *q,
                 text.as_slice(),
                 given,
                 parts,
@@ -242,19 +245,52 @@ fn bracket_named(
     scope: &Scope,
     number: u32,
     at: Place,
+    p: Place,
+    q: Place,
     text: &[u8],
     given: &[Tree],
     parts: &[Tree],
 ) -> Result<Typed, Stop>
     requires ready { IsReady types.old scope.now }
-    ensures { (p q : Place) → ReadSo types.old types.new scope.now number
+    ensures { ReadSo types.old types.new scope.now number
         (term.call at (term.index p (term.name q text.now) (parts_of given.now))
         (parts_of parts.now)) result }
 {
     match given {
-        [ty] => new_sequence(alloc, types, scope, number, at, text, ty, parts),
-        _ => Err(refusal(Code::NotTyped, at)),
+        [ty] => one_bracket(
+            alloc, types, scope, number, at, p, q, text, given, ty, parts,
+        ),
+        _ => conversion(alloc, types, scope, number, at, p, q, text, given, parts),
     }
+}
+
+// With one part in the brackets: `newSeq` of a type, or a type.
+#[cycle(typing)]
+fn one_bracket(
+    alloc: Global,
+    types: &mut TypeTable,
+    scope: &Scope,
+    number: u32,
+    at: Place,
+    p: Place,
+    q: Place,
+    text: &[u8],
+    given: &[Tree],
+    ty: &Tree,
+    parts: &[Tree],
+) -> Result<Typed, Stop>
+    requires ready { IsReady types.old scope.now }
+    requires alone { parts_of given.now ≡ part (term_of ty.now) no_parts }
+    ensures { ReadSo types.old types.new scope.now number
+        (term.call at (term.index p (term.name q text.now) (parts_of given.now))
+        (parts_of parts.now)) result }
+{
+    let name = normal_form(alloc, text)?;
+    let word = name.as_slice();
+    if is_new_sequence(word) {
+        return new_sequence(alloc, types, scope, number, at, ty, parts);
+    }
+    conversion(alloc, types, scope, number, at, p, q, text, given, parts)
 }
 
 #[cycle(typing)]
@@ -264,18 +300,13 @@ fn new_sequence(
     scope: &Scope,
     number: u32,
     at: Place,
-    text: &[u8],
     ty: &Tree,
     parts: &[Tree],
 ) -> Result<Typed, Stop>
     requires ready { IsReady types.old scope.now }
-    ensures { (p q : Place) → ReadSo types.old types.new scope.now number
-        (term.call at (term.index p (term.name q text.now) (part (term_of ty.now) no_parts))
-        (parts_of parts.now)) result }
+    ensures { SequenceSo types.old types.new scope.now number at (term_of ty.now)
+        (parts_of parts.now) result }
 {
-    let name = normal_form(alloc, text)?;
-    let word = name.as_slice();
-    check_brackets(at, word)?;
     let of = read_type(alloc, types, scope, ty)?;
     let first = behind(number)?;
     let given = operands(
@@ -288,4 +319,39 @@ fn new_sequence(
         parts,
     )?;
     new_sequence_from(alloc, types, scope, number, at, of, given)
+}
+
+// A value of a type that is written with brackets.
+#[cycle(typing)]
+fn conversion(
+    alloc: Global,
+    types: &mut TypeTable,
+    scope: &Scope,
+    number: u32,
+    at: Place,
+    p: Place,
+    q: Place,
+    text: &[u8],
+    given: &[Tree],
+    parts: &[Tree],
+) -> Result<Typed, Stop>
+    requires ready { IsReady types.old scope.now }
+    ensures { ConversionSo types.old types.new scope.now number at p q text.now
+        (parts_of given.now) (parts_of parts.now) result }
+{
+    let name = normal_form(alloc, text)?;
+    let word = name.as_slice();
+    check_brackets(scope, at, word)?;
+    let ty = formed(alloc, types, scope, p, q, text, given)?;
+    let first = behind(number)?;
+    let values = operands(
+        alloc,
+        types,
+        scope,
+        Demand::Arguments,
+        Vec::new(alloc),
+        first,
+        parts,
+    )?;
+    conversion_from(alloc, types, scope, number, at, ty, values)
 }

@@ -83,7 +83,7 @@ fn bracket_type(
 }
 
 #[cycle(typing)]
-fn formed(
+pub(crate) fn formed(
     alloc: Global,
     types: &mut TypeTable,
     scope: &Scope,

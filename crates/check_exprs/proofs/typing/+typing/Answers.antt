@@ -30,7 +30,8 @@ use Rattle.expr_builds.specs.ViewBuilt.{plan_of, PlanWithin, FoundsWithin}
 use Rattle.expr_steps.specs.ViewChoices.{Tests, conditions_of, ConditionsWithin, next_condition, picked_of, PickedWithin, next_pick, rows_of}
 use Rattle.expr_steps.specs.ViewChoices.{tests_of, next_test}
 use Rattle.expr_steps.specs.ViewChoices.{test_place}
-use Rattle.expr_steps.specs.ViewEndings.{tuple_end, array_end, sequence_end, object_end, field_end, call_end, new_sequence_end, unary_end, binary_end}
+use Rattle.expr_steps.specs.ViewEndings.{tuple_end, array_end, sequence_end, object_end, field_end, call_end, new_sequence_end, conversion_end, unary_end}
+use Rattle.expr_steps.specs.ViewEndings.{binary_end}
 use Rattle.expr_steps.specs.ViewEndings.{index_end, if_end, case_else_end}
 use Rattle.expr_steps.specs.ViewTyping.{asks_of, AsksWithin, inners, TypedWithin, given_of, GivenWithin, part_of, PartWithin, values_of, AllWithin}
 use Rattle.expr_steps.specs.ViewTyping.{operands_of, AllOperandsWithin, shown_part}
@@ -38,7 +39,7 @@ use Rattle.expr_steps.proofs.ForCallers.{said_so, stops_there, goes_on, ready_on
 use Rattle.expr_steps.proofs.ForCallers.{forgotten, operands_and, branches_more, ids_and, all_below_more}
 use Rattle.check_exprs.specs.ViewTyped.{value_said, values_said, operand_said, operands_said, types_said, test_said, condition_said, conditions_said}
 use Rattle.check_exprs.specs.ViewTyped.{pick_said, picks_said, labels_said, no_tests, label_said, one_label_said, case_by, AreAll, LabelProper, ids_of}
-use Rattle.check_exprs.specs.ViewTyped.{IdWithin}
+use Rattle.check_exprs.specs.ViewTyped.{IdWithin, sequence_said, conversion_said}
 use Rattle.check_exprs.specs.ViewTyped.{IdsWithin}
 use Rattle.check_exprs.proofs.Stepping.{exits, exits_without, stays, made_here, here, refused_here, checked, stop_as, go_as, said_from, yet_first, yet_stops}
 use Rattle.check_exprs.proofs.Stepping.{yet_goes, yet_ends, AnyLength, Any}
@@ -47,7 +48,8 @@ use Rattle.check_exprs.proofs.Folding.{value_then, values_first, values_next, va
 use Rattle.check_exprs.proofs.Folding.{conditions_next, conditions_last, picks_next, picks_last, labels_next, labels_last, next_all, label_by_typed}
 use Rattle.check_exprs.proofs.Chains.{tuple_chain, array_chain, sequence_chain, object_go, object_chain, field_chain, element_go, element_chain, unary_chain}
 use Rattle.check_exprs.proofs.Chains.{binary_go, binary_chain, counted_go, named_chain, counted_chain, quoted_go, quoted_chain, arguments_chain, method_then}
-use Rattle.check_exprs.proofs.Chains.{method_behind, method_go, method_chain, receiver_chain, behind_chain, new_then, new_chain, length_chain, if_go}
+use Rattle.check_exprs.proofs.Chains.{method_behind, method_go, method_chain, receiver_chain, behind_chain, new_then, bracket_chain, length_chain, if_go}
+use Rattle.check_exprs.proofs.Chains.{conversion_then, conversion_go, conversion_chain, conversion_behind, converted_chain}
 use Rattle.check_exprs.proofs.Chains.{if_chain, case_go, else_go, case_then, else_then, case_chain, else_chain, formed_by, formed_chain, formed_so}
 use Rattle.check_exprs.proofs.Chains.{array_behind, length_first}
 use Rattle.check_exprs.proofs.Shapes.{call_none, read_none, label_plain, index_none, bracket_none, test_none, case_is, array_none, counted_parts}
@@ -1165,12 +1167,12 @@ calls::call-returns-in-Field t c = λ want.
 pub calls::call-returns-in-Index : goal.calls::call-returns-in-Index
 calls::call-returns-in-Index t c = λ want.
     let s = c.args.scope.now in
-    let is = ap term_of c.in-Index.is ∙ indexed c.in-Index.at c.in-Index.base c.in-Index.inside
-    ∙ ap₂ (λ a xs. term.index c.in-Index.at (term_of a) (parts_of xs)) (sym c.deref-in-Index.ensures) (sym c.deref-in-Index-2.ensures.value) in
+    let is = ap term_of c.in-Index.is ∙ indexed c.in-Index.place c.in-Index.base c.in-Index.inside
+    ∙ ap₂ (λ a xs. term.index c.in-Index.place (term_of a) (parts_of xs)) (sym c.deref-in-Index.ensures) (sym c.deref-in-Index-2.ensures.value) in
     said_so (λ ts facts. typed (env_of ts facts s) (want_of ts want) c.args.number
     (term.call c.args.at (term_of c.args.base.now) (parts_of c.args.parts.now)))
     (λ ts facts u. ap (λ k. typed (env_of ts facts s) (want_of ts want) c.args.number (term.call c.args.at k (parts_of c.args.parts.now))) is)
-    (c.bracket_call.ensures c.in-Index.at want)
+    (c.bracket_call.ensures want)
 
 pub calls::call-returns-in_default : goal.calls::call-returns-in_default
 calls::call-returns-in_default t c = λ want.
@@ -1198,8 +1200,8 @@ calls::call-method_call-requires t c =
 
 pub calls::call-bracket_call-requires : goal.calls::call-bracket_call-requires
 calls::call-bracket_call-requires t c =
-    let e = ap nodes (ap term_of c.in-Index.is ∙ indexed c.in-Index.at c.in-Index.base c.in-Index.inside
-    ∙ ap₂ (λ a xs. term.index c.in-Index.at (term_of a) (parts_of xs)) (sym c.deref-in-Index.ensures) (sym c.deref-in-Index-2.ensures.value)) in
+    let e = ap nodes (ap term_of c.in-Index.is ∙ indexed c.in-Index.place c.in-Index.base c.in-Index.inside
+    ∙ ap₂ (λ a xs. term.index c.in-Index.place (term_of a) (parts_of xs)) (sym c.deref-in-Index.ensures) (sym c.deref-in-Index-2.ensures.value)) in
     (omega (arith, c.decreases, e), c.requires.ready)
 
 pub calls::named_call-returns-in_err-name : goal.calls::named_call-returns-in_err-name
@@ -1547,120 +1549,131 @@ calls::method_call-returns t c = λ place want.
     c.behind-2.ensures (ap (map (operand_of ts)) c.in_ok-before.ensures.all)) c.in_ok-given.ensures c.call_from.ensures)
 
 pub calls::bracket_call-returns-in-Name : goal.calls::bracket_call-returns-in-Name
-calls::bracket_call-returns-in-Name t c = λ place want.
+calls::bracket_call-returns-in-Name t c = λ want.
     let s = c.args.scope.now in
     let at = c.args.at in
     let n = c.args.number in
     let ps = parts_of c.args.parts.now in
     let given = parts_of c.args.given.now in
-    let is = ap term_of c.in-Name.is ∙ ap (term.name c.in-Name.at) (sym c.as_slice.ensures) in
-    said_so (λ ts facts. typed (env_of ts facts s) (want_of ts want) n (term.call at (term.index place (term_of c.args.base.now) given) ps))
-    (λ ts facts u. ap (λ k. typed (env_of ts facts s) (want_of ts want) n (term.call at (term.index place k given) ps)) is)
-    (c.bracket_named.ensures place c.in-Name.at want)
+    let is = ap term_of c.in-Name.is ∙ ap (term.name c.in-Name.q) (sym c.as_slice.ensures) in
+    said_so (λ ts facts. typed (env_of ts facts s) (want_of ts want) n (term.call at (term.index c.args.p (term_of c.args.base.now) given) ps))
+    (λ ts facts u. ap (λ k. typed (env_of ts facts s) (want_of ts want) n (term.call at (term.index c.args.p k given) ps)) is)
+    (c.bracket_named.ensures want)
 
 pub calls::bracket_call-returns-in_default : goal.calls::bracket_call-returns-in_default
-calls::bracket_call-returns-in_default t c = λ place want.
+calls::bracket_call-returns-in_default t c = λ want.
     let s = c.args.scope.now in
     let at = c.args.at in
     let n = c.args.number in
     let ps = parts_of c.args.parts.now in
-    let a = term.index place (term_of c.args.base.now) (parts_of c.args.given.now) in
+    let a = term.index c.args.p (term_of c.args.base.now) (parts_of c.args.given.now) in
     refused_here c.args.types.now typed_of (λ ts facts. typed (env_of ts facts s) (want_of ts want) n (term.call at a ps)) TypedWithin NotTyped at
     c.no_name.result c.no_name.ensures.stop
-    (λ ts facts. call_none (env_of ts facts s) (want_of ts want) n at a ps (c.no_name.ensures.none place (parts_of c.args.given.now)))
+    (λ ts facts. call_none (env_of ts facts s) (want_of ts want) n at a ps (c.no_name.ensures.none c.args.p (parts_of c.args.given.now)))
 
 pub calls::bracket_call-bracket_named-requires : goal.calls::bracket_call-bracket_named-requires
 calls::bracket_call-bracket_named-requires t c = (omega (arith, c.decreases), c.requires.ready)
 
 pub calls::bracket_named-returns-in-len1 : goal.calls::bracket_named-returns-in-len1
-calls::bracket_named-returns-in-len1 t c = λ p q want.
-    let s = c.args.scope.now in
-    let at = c.args.at in
-    let n = c.args.number in
-    let ps = parts_of c.args.parts.now in
-    said_so (λ ts facts. typed (env_of ts facts s) (want_of ts want) n
-    (term.call at (term.index p (term.name q c.args.text.now) (parts_of c.args.given.now)) ps))
-    (λ ts facts u. ap (λ xs. typed (env_of ts facts s) (want_of ts want) n (term.call at (term.index p (term.name q c.args.text.now) (parts_of xs)) ps))
-    (alone_item c.args.given.now c.ty-item.result c.ty-item.is (omega arith)))
-    (c.new_sequence.ensures p q want)
+calls::bracket_named-returns-in-len1 t c = λ want. c.one_bracket.ensures want
 
 pub calls::bracket_named-returns-in_default : goal.calls::bracket_named-returns-in_default
-calls::bracket_named-returns-in_default t c = λ p q want.
+calls::bracket_named-returns-in_default t c = λ want.
     let s = c.args.scope.now in
     let at = c.args.at in
+    let p = c.args.p in
+    let q = c.args.q in
+    let x = c.args.text.now in
     let n = c.args.number in
+    let given = parts_of c.args.given.now in
     let ps = parts_of c.args.parts.now in
     let none : nat_eq (length c.args.given.now) 1 ≡ false = grind (arith, nat_tests) in
-    refused_here c.args.types.now typed_of
-    (λ ts facts. typed (env_of ts facts s) (want_of ts want) n (term.call at (term.index p (term.name q c.args.text.now) (parts_of c.args.given.now)) ps))
-    TypedWithin NotTyped at
-    c.refusal.result c.refusal.ensures (λ ts facts. bracket_none (env_of ts facts s) (want_of ts want) n at p q c.args.text.now c.args.given.now ps none)
+    said_so (λ ts facts. typed (env_of ts facts s) (want_of ts want) n (term.call at (term.index p (term.name q x) given) ps))
+    (λ ts facts u. bracket_none (env_of ts facts s) (want_of ts want) n at p q x c.args.given.now ps none) c.conversion.ensures
 
-pub calls::bracket_named-new_sequence-requires : goal.calls::bracket_named-new_sequence-requires
-calls::bracket_named-new_sequence-requires t c =
-    let e = ap (λ xs. nodes_in (parts_of xs)) (alone_item c.args.given.now c.ty-item.result c.ty-item.is (omega arith)) in
+pub calls::bracket_named-one_bracket-requires : goal.calls::bracket_named-one_bracket-requires
+calls::bracket_named-one_bracket-requires t c = (
+  omega (arith, c.decreases),
+  (c.requires.ready, ap parts_of (alone_item c.args.given.now c.ty-item.result c.ty-item.is (omega arith))),
+)
+
+pub calls::bracket_named-conversion-requires : goal.calls::bracket_named-conversion-requires
+calls::bracket_named-conversion-requires t c = (omega (arith, c.decreases), c.requires.ready)
+
+pub calls::one_bracket-returns-in_err-name : goal.calls::one_bracket-returns-in_err-name
+calls::one_bracket-returns-in_err-name t c = λ want.
+    let s = c.args.scope.now in
+    let at = c.args.at in
+    let p = c.args.p in
+    let q = c.args.q in
+    let x = c.args.text.now in
+    let n = c.args.number in
+    let given = parts_of c.args.given.now in
+    let ps = parts_of c.args.parts.now in
+    exits_without typed_of (λ ts facts. typed (env_of ts facts s) (want_of ts want) n (term.call at (term.index p (term.name q x) given) ps)) TypedWithin
+    stop.Memory c.from_residual.result c.from_residual.ensures.1
+    (grown_same c.args.types.now) refl
+
+pub calls::one_bracket-returns-then-is_new_sequence : goal.calls::one_bracket-returns-then-is_new_sequence
+calls::one_bracket-returns-then-is_new_sequence t c = λ want.
+    let s = c.args.scope.now in
+    let at = c.args.at in
+    let p = c.args.p in
+    let q = c.args.q in
+    let x = c.args.text.now in
+    let n = c.args.number in
+    let given = parts_of c.args.given.now in
+    let ps = parts_of c.args.parts.now in
+    said_so (λ ts facts. typed (env_of ts facts s) (want_of ts want) n (term.call at (term.index p (term.name q x) given) ps))
+    (λ ts facts u. bracket_chain (env_of ts facts s) (want_of ts want) n at p q x c.as_slice-word.result.now given (term_of c.args.ty.now) ps true
+    (c.as_slice-word.ensures ∙ c.in_ok-name.ensures) c.requires.alone (c.is_new_sequence.ensures ∙ c.if-is_new_sequence.true)) c.new_sequence.ensures
+
+pub calls::one_bracket-returns : goal.calls::one_bracket-returns
+calls::one_bracket-returns t c = λ want.
+    let s = c.args.scope.now in
+    let at = c.args.at in
+    let p = c.args.p in
+    let q = c.args.q in
+    let x = c.args.text.now in
+    let n = c.args.number in
+    let given = parts_of c.args.given.now in
+    let ps = parts_of c.args.parts.now in
+    said_so (λ ts facts. typed (env_of ts facts s) (want_of ts want) n (term.call at (term.index p (term.name q x) given) ps))
+    (λ ts facts u. bracket_chain (env_of ts facts s) (want_of ts want) n at p q x c.as_slice-word.result.now given (term_of c.args.ty.now) ps false
+    (c.as_slice-word.ensures ∙ c.in_ok-name.ensures) c.requires.alone (c.is_new_sequence.ensures ∙ c.if-is_new_sequence.false)
+    ∙ ap (λ g. conversion_said (env_of ts facts s) n at p q x g ps) (sym c.requires.alone)) c.conversion.ensures
+
+pub calls::one_bracket-new_sequence-requires : goal.calls::one_bracket-new_sequence-requires
+calls::one_bracket-new_sequence-requires t c =
+    let e = ap nodes_in c.requires.alone in
     (omega (arith, c.decreases, e), c.requires.ready)
 
-pub calls::new_sequence-returns-in_err-name : goal.calls::new_sequence-returns-in_err-name
-calls::new_sequence-returns-in_err-name t c = λ p q want.
-    let s = c.args.scope.now in
-    let at = c.args.at in
-    let n = c.args.number in
-    let ps = parts_of c.args.parts.now in
-    let a = term_of c.args.ty.now in
-    exits_without typed_of
-    (λ ts facts. typed (env_of ts facts s) (want_of ts want) n (term.call at (term.index p (term.name q c.args.text.now) (part a no_parts)) ps))
-    TypedWithin
-    stop.Memory c.from_residual.result c.from_residual.ensures.1 (grown_same c.args.types.now) refl
-
-pub calls::new_sequence-returns-in_err-check_brackets : goal.calls::new_sequence-returns-in_err-check_brackets
-calls::new_sequence-returns-in_err-check_brackets t c = λ p q want.
-    let s = c.args.scope.now in
-    let at = c.args.at in
-    let n = c.args.number in
-    let ps = parts_of c.args.parts.now in
-    let a = term_of c.args.ty.now in
-    exits c.in_err-check_brackets.field-0.0 c.from_residual-in_err-check_brackets.result c.from_residual-in_err-check_brackets.ensures.1
-    (stop_as typed_of
-    (λ ts facts. typed (env_of ts facts s) (want_of ts want) n (term.call at (term.index p (term.name q c.args.text.now) (part a no_parts)) ps))
-    TypedWithin
-    (λ (ts : List Ty) (facts : Facts) (_ : Unit {0}). and_then (read_type (env_of ts facts s) a) (new_then (env_of ts facts s) n at ps))
-    (λ ts facts u. new_chain (env_of ts facts s) (want_of ts want) n at p q c.args.text.now c.as_slice-word.result.now a ps
-    (c.as_slice-word.ensures ∙ c.in_ok-name.ensures))
-    (checked c.args.types.now (λ ts facts. bracket_rule at c.as_slice-word.result.now) (Err c.in_err-check_brackets.field-0.0)
-    (λ ts facts. c.in_err-check_brackets.ensures) tt))
+pub calls::one_bracket-conversion-requires : goal.calls::one_bracket-conversion-requires
+calls::one_bracket-conversion-requires t c = (omega (arith, c.decreases), c.requires.ready)
 
 pub calls::new_sequence-read_type-requires : goal.calls::new_sequence-read_type-requires
 calls::new_sequence-read_type-requires t c =
     (omega (arith, c.decreases), c.requires.ready)
 
 pub calls::new_sequence-returns-in_err-of : goal.calls::new_sequence-returns-in_err-of
-calls::new_sequence-returns-in_err-of t c = λ p q want.
+calls::new_sequence-returns-in_err-of t c =
     let s = c.args.scope.now in
     let at = c.args.at in
     let n = c.args.number in
     let ps = parts_of c.args.parts.now in
     let a = term_of c.args.ty.now in
-    exits c.in_err-of.field-0.0 c.from_residual-in_err-of.result c.from_residual-in_err-of.ensures.1
-    (stop_as typed_of
-    (λ ts facts. typed (env_of ts facts s) (want_of ts want) n (term.call at (term.index p (term.name q c.args.text.now) (part a no_parts)) ps))
-    TypedWithin
-    (λ (ts : List Ty) (facts : Facts) (ty : Ty). new_then (env_of ts facts s) n at ps ty)
-    (λ ts facts u. new_chain (env_of ts facts s) (want_of ts want) n at p q c.args.text.now c.as_slice-word.result.now a ps
-    (c.as_slice-word.ensures ∙ c.in_ok-name.ensures)
-    ∙ ap (λ z. and_then z (λ (_ : Unit {0}). and_then (read_type (env_of ts facts s) a) (new_then (env_of ts facts s) n at ps)))
-    c.in_ok-check_brackets.ensures) c.in_err-of.ensures)
+    exits c.in_err-of.field-0.0 c.from_residual.result c.from_residual.ensures.1
+    (stop_as typed_of (λ ts facts. sequence_said (env_of ts facts s) n at a ps) TypedWithin
+    (λ (ts : List Ty) (facts : Facts) (ty : Ty). new_then (env_of ts facts s) n at ps ty) (λ ts facts u. refl) c.in_err-of.ensures)
 
 pub calls::new_sequence-returns-in_err-first : goal.calls::new_sequence-returns-in_err-first
-calls::new_sequence-returns-in_err-first t c = λ p q want.
+calls::new_sequence-returns-in_err-first t c =
     let s = c.args.scope.now in
     let at = c.args.at in
     let n = c.args.number in
     let ps = parts_of c.args.parts.now in
     let a = term_of c.args.ty.now in
-    exits_without typed_of
-    (λ ts facts. typed (env_of ts facts s) (want_of ts want) n (term.call at (term.index p (term.name q c.args.text.now) (part a no_parts)) ps))
-    TypedWithin
+    exits_without typed_of (λ ts facts. sequence_said (env_of ts facts s) n at a ps) TypedWithin
     c.in_err-first.field-0.0 c.from_residual-in_err-first.result c.from_residual-in_err-first.ensures.1 c.in_ok-of.ensures.grown
     c.in_err-first.ensures.memory
 
@@ -1684,41 +1697,154 @@ calls::new_sequence-new_sequence_from-requires t c =
     }
 
 pub calls::new_sequence-returns-in_err-given : goal.calls::new_sequence-returns-in_err-given
-calls::new_sequence-returns-in_err-given t c = λ p q want.
+calls::new_sequence-returns-in_err-given t c =
     let s = c.args.scope.now in
     let at = c.args.at in
     let n = c.args.number in
     let ps = parts_of c.args.parts.now in
     let a = term_of c.args.ty.now in
     exits c.in_err-given.field-0.0 c.from_residual-in_err-given.result c.from_residual-in_err-given.ensures.1
-    (go_as (λ ts facts. typed (env_of ts facts s) (want_of ts want) n (term.call at (term.index p (term.name q c.args.text.now) (part a no_parts)) ps))
-    (λ (ts : List Ty) (facts : Facts) (ty : Ty). new_then (env_of ts facts s) n at ps ty)
-    (λ ts facts u. new_chain (env_of ts facts s) (want_of ts want) n at p q c.args.text.now c.as_slice-word.result.now a ps
-    (c.as_slice-word.ensures ∙ c.in_ok-name.ensures)
-    ∙ ap (λ z. and_then z (λ (_ : Unit {0}). and_then (read_type (env_of ts facts s) a) (new_then (env_of ts facts s) n at ps)))
-    c.in_ok-check_brackets.ensures) c.in_ok-of.ensures
+    (go_as (λ ts facts. sequence_said (env_of ts facts s) n at a ps)
+    (λ (ts : List Ty) (facts : Facts) (ty : Ty). new_then (env_of ts facts s) n at ps ty) (λ ts facts u. refl) c.in_ok-of.ensures
     (stop_as typed_of (λ ts facts. new_then (env_of ts facts s) n at ps (type_at ts c.in_ok-of.of)) TypedWithin
     (λ (ts : List Ty) (facts : Facts) (os : Several). new_sequence_end n at (type_at ts c.in_ok-of.of) os)
     (λ ts facts u. length_chain (env_of ts facts s) n at ps (type_at ts c.in_ok-of.of) c.in_ok-first.first (map (operand_of ts) c.new.result.items)
     c.in_ok-first.ensures.next (ap (map (operand_of ts)) c.new.ensures.items)) c.in_err-given.ensures))
 
 pub calls::new_sequence-returns : goal.calls::new_sequence-returns
-calls::new_sequence-returns t c = λ p q want.
+calls::new_sequence-returns t c =
     let s = c.args.scope.now in
     let at = c.args.at in
     let n = c.args.number in
     let ps = parts_of c.args.parts.now in
     let a = term_of c.args.ty.now in
-    go_as (λ ts facts. typed (env_of ts facts s) (want_of ts want) n (term.call at (term.index p (term.name q c.args.text.now) (part a no_parts)) ps))
-    (λ (ts : List Ty) (facts : Facts) (ty : Ty). new_then (env_of ts facts s) n at ps ty)
-    (λ ts facts u. new_chain (env_of ts facts s) (want_of ts want) n at p q c.args.text.now c.as_slice-word.result.now a ps
-    (c.as_slice-word.ensures ∙ c.in_ok-name.ensures)
-    ∙ ap (λ z. and_then z (λ (_ : Unit {0}). and_then (read_type (env_of ts facts s) a) (new_then (env_of ts facts s) n at ps)))
-    c.in_ok-check_brackets.ensures) c.in_ok-of.ensures
+    go_as (λ ts facts. sequence_said (env_of ts facts s) n at a ps)
+    (λ (ts : List Ty) (facts : Facts) (ty : Ty). new_then (env_of ts facts s) n at ps ty) (λ ts facts u. refl) c.in_ok-of.ensures
     (go_as (λ ts facts. new_then (env_of ts facts s) n at ps (type_at ts c.in_ok-of.of))
     (λ (ts : List Ty) (facts : Facts) (os : Several). new_sequence_end n at (type_at ts c.in_ok-of.of) os)
     (λ ts facts u. length_chain (env_of ts facts s) n at ps (type_at ts c.in_ok-of.of) c.in_ok-first.first (map (operand_of ts) c.new.result.items)
     c.in_ok-first.ensures.next (ap (map (operand_of ts)) c.new.ensures.items)) c.in_ok-given.ensures c.new_sequence_from.ensures)
+
+pub calls::conversion-returns-in_err-name : goal.calls::conversion-returns-in_err-name
+calls::conversion-returns-in_err-name t c =
+    let s = c.args.scope.now in
+    let at = c.args.at in
+    let p = c.args.p in
+    let q = c.args.q in
+    let x = c.args.text.now in
+    let n = c.args.number in
+    let given = parts_of c.args.given.now in
+    let ps = parts_of c.args.parts.now in
+    exits_without typed_of (λ ts facts. conversion_said (env_of ts facts s) n at p q x given ps) TypedWithin stop.Memory c.from_residual.result
+    c.from_residual.ensures.1 (grown_same c.args.types.now) refl
+
+pub calls::conversion-returns-in_err-check_brackets : goal.calls::conversion-returns-in_err-check_brackets
+calls::conversion-returns-in_err-check_brackets t c =
+    let s = c.args.scope.now in
+    let at = c.args.at in
+    let p = c.args.p in
+    let q = c.args.q in
+    let x = c.args.text.now in
+    let n = c.args.number in
+    let given = parts_of c.args.given.now in
+    let ps = parts_of c.args.parts.now in
+    exits c.in_err-check_brackets.field-0.0 c.from_residual-in_err-check_brackets.result c.from_residual-in_err-check_brackets.ensures.1
+    (stop_as typed_of (λ ts facts. conversion_said (env_of ts facts s) n at p q x given ps) TypedWithin
+    (λ (ts : List Ty) (facts : Facts) (_ : Unit {0}). conversion_go (env_of ts facts s) n at p q x given ps)
+    (λ ts facts u. conversion_chain (env_of ts facts s) n at p q x c.as_slice-word.result.now given ps (c.as_slice-word.ensures ∙ c.in_ok-name.ensures))
+    (checked c.args.types.now (λ ts facts. bracket_rule (env_of ts facts s) at c.as_slice-word.result.now) (Err c.in_err-check_brackets.field-0.0)
+    c.in_err-check_brackets.ensures tt))
+
+pub calls::conversion-formed-requires : goal.calls::conversion-formed-requires
+calls::conversion-formed-requires t c = (omega (arith, c.decreases), c.requires.ready)
+
+pub calls::conversion-returns-in_err-ty : goal.calls::conversion-returns-in_err-ty
+calls::conversion-returns-in_err-ty t c =
+    let s = c.args.scope.now in
+    let at = c.args.at in
+    let p = c.args.p in
+    let q = c.args.q in
+    let x = c.args.text.now in
+    let n = c.args.number in
+    let given = parts_of c.args.given.now in
+    let ps = parts_of c.args.parts.now in
+    exits c.in_err-ty.field-0.0 c.from_residual-in_err-ty.result c.from_residual-in_err-ty.ensures.1
+    (stop_as typed_of (λ ts facts. conversion_said (env_of ts facts s) n at p q x given ps) TypedWithin
+    (λ (ts : List Ty) (facts : Facts) (ty : Ty). conversion_then (env_of ts facts s) n at ps ty)
+    (λ ts facts u. conversion_behind (env_of ts facts s) n at p q x c.as_slice-word.result.now given ps (c.as_slice-word.ensures ∙ c.in_ok-name.ensures)
+    (c.in_ok-check_brackets.ensures ts facts)) c.in_err-ty.ensures)
+
+pub calls::conversion-returns-in_err-first : goal.calls::conversion-returns-in_err-first
+calls::conversion-returns-in_err-first t c =
+    let s = c.args.scope.now in
+    let at = c.args.at in
+    let p = c.args.p in
+    let q = c.args.q in
+    let x = c.args.text.now in
+    let n = c.args.number in
+    let given = parts_of c.args.given.now in
+    let ps = parts_of c.args.parts.now in
+    exits_without typed_of (λ ts facts. conversion_said (env_of ts facts s) n at p q x given ps) TypedWithin
+    c.in_err-first.field-0.0 c.from_residual-in_err-first.result c.from_residual-in_err-first.ensures.1 c.in_ok-ty.ensures.grown
+    c.in_err-first.ensures.memory
+
+pub calls::conversion-operands-requires : goal.calls::conversion-operands-requires
+calls::conversion-operands-requires t c = (
+  omega (arith, c.decreases),
+  (
+    ready_on c.in_ok-ty.ensures.grown c.requires.ready,
+    subst (OperandsWithin (length c.formed.new.types))
+        (sym c.new.ensures.items) tt,
+  ),
+)
+
+pub calls::conversion-conversion_from-requires : goal.calls::conversion-conversion_from-requires
+calls::conversion-conversion_from-requires t c =
+    let g = c.in_ok-values.ensures.grown in
+    record {
+      ready = ready_on g (ready_on c.in_ok-ty.ensures.grown c.requires.ready);
+      ty = (let l = g.length in let h = c.in_ok-ty.ensures.fits in omega (arith, l, h));
+      given = c.in_ok-values.ensures.fits;
+    }
+
+pub calls::conversion-returns-in_err-values : goal.calls::conversion-returns-in_err-values
+calls::conversion-returns-in_err-values t c =
+    let s = c.args.scope.now in
+    let at = c.args.at in
+    let p = c.args.p in
+    let q = c.args.q in
+    let x = c.args.text.now in
+    let n = c.args.number in
+    let given = parts_of c.args.given.now in
+    let ps = parts_of c.args.parts.now in
+    exits c.in_err-values.field-0.0 c.from_residual-in_err-values.result c.from_residual-in_err-values.ensures.1
+    (go_as (λ ts facts. conversion_said (env_of ts facts s) n at p q x given ps)
+    (λ (ts : List Ty) (facts : Facts) (ty : Ty). conversion_then (env_of ts facts s) n at ps ty)
+    (λ ts facts u. conversion_behind (env_of ts facts s) n at p q x c.as_slice-word.result.now given ps (c.as_slice-word.ensures ∙ c.in_ok-name.ensures)
+    (c.in_ok-check_brackets.ensures ts facts)) c.in_ok-ty.ensures
+    (stop_as typed_of (λ ts facts. conversion_then (env_of ts facts s) n at ps (type_at ts c.in_ok-ty.ty)) TypedWithin
+    (λ (ts : List Ty) (facts : Facts) (os : Several). conversion_end (env_of ts facts s) n at (type_at ts c.in_ok-ty.ty) os)
+    (λ ts facts u. converted_chain (env_of ts facts s) n at ps (type_at ts c.in_ok-ty.ty) c.in_ok-first.first (map (operand_of ts) c.new.result.items)
+    c.in_ok-first.ensures.next (ap (map (operand_of ts)) c.new.ensures.items)) c.in_err-values.ensures))
+
+pub calls::conversion-returns : goal.calls::conversion-returns
+calls::conversion-returns t c =
+    let s = c.args.scope.now in
+    let at = c.args.at in
+    let p = c.args.p in
+    let q = c.args.q in
+    let x = c.args.text.now in
+    let n = c.args.number in
+    let given = parts_of c.args.given.now in
+    let ps = parts_of c.args.parts.now in
+    go_as (λ ts facts. conversion_said (env_of ts facts s) n at p q x given ps)
+    (λ (ts : List Ty) (facts : Facts) (ty : Ty). conversion_then (env_of ts facts s) n at ps ty)
+    (λ ts facts u. conversion_behind (env_of ts facts s) n at p q x c.as_slice-word.result.now given ps (c.as_slice-word.ensures ∙ c.in_ok-name.ensures)
+    (c.in_ok-check_brackets.ensures ts facts)) c.in_ok-ty.ensures
+    (go_as (λ ts facts. conversion_then (env_of ts facts s) n at ps (type_at ts c.in_ok-ty.ty))
+    (λ (ts : List Ty) (facts : Facts) (os : Several). conversion_end (env_of ts facts s) n at (type_at ts c.in_ok-ty.ty) os)
+    (λ ts facts u. converted_chain (env_of ts facts s) n at ps (type_at ts c.in_ok-ty.ty) c.in_ok-first.first (map (operand_of ts) c.new.result.items)
+    c.in_ok-first.ensures.next (ap (map (operand_of ts)) c.new.ensures.items)) c.in_ok-values.ensures c.conversion_from.ensures)
 
 -- ---- branches
 

@@ -72,10 +72,16 @@ abbrev pub decreases-calls::method_call : goal.decreases-calls::method_call
 decreases-calls::method_call l = 8 * (nodes (term_of l.base.now) + nodes_in (parts_of l.parts.now)) + 7
 
 abbrev pub decreases-calls::bracket_call : goal.decreases-calls::bracket_call
-decreases-calls::bracket_call l = 8 * (nodes (term_of l.base.now) + nodes_in (parts_of l.given.now) + nodes_in (parts_of l.parts.now)) + 8
+decreases-calls::bracket_call l = 8 * (nodes (term_of l.base.now) + nodes_in (parts_of l.given.now) + nodes_in (parts_of l.parts.now)) + 11
 
 abbrev pub decreases-calls::bracket_named : goal.decreases-calls::bracket_named
-decreases-calls::bracket_named l = 8 * (nodes_in (parts_of l.given.now) + nodes_in (parts_of l.parts.now)) + 7
+decreases-calls::bracket_named l = 8 * (nodes_in (parts_of l.given.now) + nodes_in (parts_of l.parts.now)) + 10
+
+abbrev pub decreases-calls::one_bracket : goal.decreases-calls::one_bracket
+decreases-calls::one_bracket l = 8 * (nodes_in (parts_of l.given.now) + nodes_in (parts_of l.parts.now)) + 9
+
+abbrev pub decreases-calls::conversion : goal.decreases-calls::conversion
+decreases-calls::conversion l = 8 * (nodes_in (parts_of l.given.now) + nodes_in (parts_of l.parts.now)) + 8
 
 abbrev pub decreases-calls::new_sequence : goal.decreases-calls::new_sequence
 decreases-calls::new_sequence l = 8 * (nodes (term_of l.ty.now) + nodes_in (parts_of l.parts.now)) + 6

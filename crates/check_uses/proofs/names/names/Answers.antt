@@ -2,7 +2,7 @@ use Rattle.std.proofs.Common.{◌≡◌, ◌≤◌, ◌∙◌, ap, length, arith
 use Rattle.std.proofs.lemmas.Option.{slice_get_past}
 use Rattle.decl_rules.specs.Whole.{occurring}
 use Rattle.check_uses.specs.Uses.{seen}
-use Rattle.check_uses.specs.Numbers.{with_number}
+use Rattle.number_sets.specs.Numbers.{with_number}
 use Rattle.check_uses.specs.Known.{all_procs}
 use Rattle.check_uses.proofs.Listing.{listed_at}
 use Rattle.check_uses.proofs.Searching.{search_begins, search_goes_on, search_finds, search_ends, names_so, names_not, leaves_none, leaves_some}

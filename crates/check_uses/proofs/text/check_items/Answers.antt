@@ -2,7 +2,7 @@ use Rattle.std.proofs.Common.{◌≡◌, [], ◌∷◌, ◌∙◌, ap, sym, subs
 use Rattle.std.proofs.lemmas.List.{drop_all}
 use Rattle.decl_rules.specs.Whole.{text_rule, item_rule, comes_in_time}
 use Rattle.check_uses.specs.View.{item_of, items_of}
-use Rattle.check_uses.specs.Numbers.{is_among}
+use Rattle.number_sets.specs.Numbers.{is_among}
 use Rattle.check_uses.specs.Known.{all_procs}
 use Rattle.check_uses.specs.InTime.{AreInTime}
 use Rattle.check_uses.proofs.Answering.{Says}

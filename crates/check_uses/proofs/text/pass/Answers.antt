@@ -5,7 +5,7 @@ use Rattle.nim_program.specs.View.{stmts_of}
 use Rattle.decl_rules.specs.State.{completes, code}
 use Rattle.decl_rules.specs.Whole.{declares_any}
 use Rattle.check_uses.specs.View.{block_at}
-use Rattle.check_uses.specs.Numbers.{with_number}
+use Rattle.number_sets.specs.Numbers.{with_number}
 use Rattle.check_uses.specs.declared.text.Item.TheVariants as item
 use Rattle.check_uses.proofs.Timing.{time_as, time_same, time_completed, time_over, time_left}
 use Rattle.check_uses.proofs.text.pass.Goals as goal

@@ -3,7 +3,7 @@ use Rattle.std.proofs.lemmas.Result.{IfOk-weaker}
 use Rattle.word_code.specs.declared.word.WordCode.{WordCode}
 use Rattle.word_code.specs.Joined.{joined, AreApart, HaveRoom}
 use Rattle.word_code.proofs.ForCallers.{routines_room}
-use Rattle.core_compiler.specs.Stages.{AreWordsOf}
+use Rattle.reachable_procs.specs.Reachable.{IsPruned}
 use Rattle.core_compiler.proofs.Composing.{both_of, words_of_flat, front_small}
 use Rattle.core_compiler.proofs.MayLower.{may_be, some_blocks}
 use Rattle.core_compiler.proofs.program.words_of.Goals as goal
@@ -52,12 +52,20 @@ words-requires-clause-some c =
 
 pub returns : goal.returns
 returns c =
-    IfOk-weaker c.join-2.result _ _
-    (λ words is. subst (AreWordsOf c.args.types.now c.args.plan.now c.args.flat.now)
-    (sym (is ∙ ap (λ (w : WordCode). joined w c.in_ok-runtimes.runtimes.others) c.in_ok-front.ensures))
-    (words_of_flat c.agreement.ensures.law c.agreement.ensures.pace c.args.types.now c.args.plan.now c.args.flat.now
+    IfOk-weaker c.prune.result _ _
+    (λ pruned is. words_of_flat c.agreement.ensures.law c.agreement.ensures.pace c.args.types.now c.args.plan.now c.args.flat.now
     c.in_ok-owned.owned c.in_ok-blocks.blocks c.in_ok-words.words
     (both_of c.in_ok-runtimes.runtimes.heap c.in_ok-runtimes.runtimes.others c.in_ok-runtimes.ensures)
     (c.in_ok-owned.ensures c.requires.ordered) c.in_ok-blocks.ensures c.in_ok-words.ensures
-    c.owned_codes.ensures.units c.block_codes.ensures.units))
-    c.join-2.ensures
+    c.owned_codes.ensures.units c.block_codes.ensures.units
+    (record {
+      meaning = c.pruning.ensures.meaning;
+      by_units = c.pruning.ensures.by_units;
+      formed = c.pruning.ensures.formed;
+      no_circle = c.pruning.ensures.no_circle;
+      chain = c.pruning.ensures.chain;
+    })
+    pruned
+    (subst (λ (w : WordCode). IsPruned w pruned)
+    (c.in_ok-whole.ensures ∙ ap (λ (w : WordCode). joined w c.in_ok-runtimes.runtimes.others) c.in_ok-front.ensures) is))
+    c.prune.ensures

@@ -7,7 +7,7 @@ use Rattle.nim_program.specs.Program.{Empty, NoArg}
 use Rattle.nim_program.specs.View.{expr_of, operand_before, operands_of, kind_of, stmts_of, stmt_before, branch_conditions, branch_blocks}
 use Rattle.nim_program.specs.View.{branch_labels, case_blocks}
 use Rattle.nim_program.proofs.ForCallers.{decided, selected_statement, repeated}
-use Rattle.plain_plan.specs.TreeSites.{value_sites, selector_sites, loop_sites, block_sites, branch_sites, arm_sites}
+use Rattle.nim_meaning.specs.TreeSites.{value_sites, selector_sites, loop_sites, block_sites, branch_sites, arm_sites}
 use Rattle.plain_plan.specs.Views.{types_of, facts_of, modes_of}
 use Rattle.plain_plan.proofs.Adding.{adds_two, adds_as, drop_turn, drop_end, turned, ended}
 use Rattle.plain_plan.proofs.Tree.{stmt_next, defer_sites, branches_last, arms_last}

@@ -5,7 +5,7 @@ use Rattle.nim_program.specs.declared.stmt.Branch.{Branch}
 use Rattle.nim_program.specs.declared.stmt.CaseBranch.{CaseBranch}
 use Rattle.nim_program.specs.declared.stmt.Stmt.{Stmt}
 use Rattle.plain_plan.specs.Adding.{Adds}
-use Rattle.plain_plan.specs.TreeSites.{block_sites, branch_sites, arm_sites}
+use Rattle.nim_meaning.specs.TreeSites.{block_sites, branch_sites, arm_sites}
 use Rattle.plain_plan.specs.Views.{types_of, facts_of, modes_of}
 use Rattle.plain_plan.proofs.blocks.+blocks.Given as goal
 

@@ -1,6 +1,6 @@
 use Rattle.std.proofs.Common.{sym, ap}
 use Rattle.nim_program.specs.View.{kind_of, operands_of}
-use Rattle.plain_plan.specs.TreeSites.{loop_sites}
+use Rattle.nim_meaning.specs.TreeSites.{loop_sites}
 use Rattle.plain_plan.specs.Views.{types_of, facts_of, modes_of}
 use Rattle.plain_plan.proofs.Adding.{adds_two, adds_as}
 use Rattle.plain_plan.proofs.blocks.add_loop.Goals as goal

@@ -1,7 +1,6 @@
 use Rattle.std.proofs.Common.{◌≡◌, ◌++◌}
 use Rattle.std.specs.Prelude.{map}
-use Rattle.plain_plan.specs.Plain.{AreWords}
-use Rattle.plain_plan.specs.Sites.{copied}
+use Rattle.plain_plan.specs.Plain.{AreWords, copied}
 use Rattle.plain_plan.proofs.found.copies.Given as goal
 
 abbrev pub invariant-loop-site : goal.invariant-loop-site

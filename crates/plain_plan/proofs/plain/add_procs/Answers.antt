@@ -2,7 +2,7 @@ use Rattle.std.proofs.Common.{List, sym, ap}
 use Rattle.std.specs.Prelude.{map}
 use Rattle.nim_program.specs.declared.program.Proc.{Proc}
 use Rattle.nim_program.specs.View.{proc_of}
-use Rattle.plain_plan.specs.TreeSites.{proc_sites}
+use Rattle.nim_meaning.specs.TreeSites.{proc_sites}
 use Rattle.plain_plan.specs.Views.{types_of, facts_of, modes_of}
 use Rattle.plain_plan.proofs.Adding.{drop_turn, drop_end, turned, ended}
 use Rattle.plain_plan.proofs.plain.add_procs.Goals as goal

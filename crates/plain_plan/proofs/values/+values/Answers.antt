@@ -7,7 +7,7 @@ use Rattle.nim_program.specs.Program.{ByConditions, ByLabels, ByValue, NoArg}
 use Rattle.nim_program.specs.Program as T
 use Rattle.nim_program.specs.View.{expr_of, path_of, operand_before, operands_of, choices_of, picks_of, pick_labels, if_type, if_value}
 use Rattle.nim_program.proofs.ForCallers.{applied, called, constructed, chosen, selected}
-use Rattle.plain_plan.specs.TreeSites.{value_sites, path_sites, operand_sites, choice_sites, pick_sites}
+use Rattle.nim_meaning.specs.TreeSites.{value_sites, path_sites, operand_sites, choice_sites, pick_sites}
 use Rattle.plain_plan.specs.Views.{types_of, facts_of, modes_of, uses_of}
 use Rattle.plain_plan.proofs.Adding.{adds_two, adds_as, drop_turn, drop_end, turned, ended}
 use Rattle.plain_plan.proofs.Tree.{choices_last, picks_last, selector_first, operand_next}

@@ -4,7 +4,7 @@ use Rattle.nim_program.specs.View.{operands_of, choices_of, picks_of, pick_label
 use Rattle.nim_program.specs.declared.expr.Choice.{Choice}
 use Rattle.nim_program.specs.declared.expr.Pick.{Pick}
 use Rattle.plain_plan.specs.Adding.{Adds}
-use Rattle.plain_plan.specs.TreeSites.{operand_sites, choice_sites, pick_sites}
+use Rattle.nim_meaning.specs.TreeSites.{operand_sites, choice_sites, pick_sites}
 use Rattle.plain_plan.specs.Views.{types_of, facts_of, modes_of, uses_of}
 use Rattle.plain_plan.proofs.values.+values.Given as goal
 

@@ -36,15 +36,15 @@ returns-in-Give c = rw c.in-Give.is c.emit_put-in-Give.ensures
 pub returns-in-Item : goal.returns-in-Item
 returns-in-Item c = rw c.in-Item.is c.emit_item_at.ensures
 
+pub returns-in-Length : goal.returns-in-Length
+returns-in-Length c = rw c.in-Length.is c.emit_length.ensures
+
+pub returns-in-Element : goal.returns-in-Element
+returns-in-Element c = rw c.in-Element.is c.emit_element_of.ensures
+
 -- types have forms
 pub emit_part_at-requires : goal.emit_part_at-requires
 emit_part_at-requires c = c.requires.forms
-
-pub emit_item_at-requires : goal.emit_item_at-requires
-emit_item_at-requires c = c.requires.forms
-
-pub emit_element_of-requires : goal.emit_element_of-requires
-emit_element_of-requires c = c.requires.forms
 
 pub emit_construct-requires : goal.emit_construct-requires
 emit_construct-requires c = c.requires.forms

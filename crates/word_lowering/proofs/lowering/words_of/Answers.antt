@@ -1,3 +1,4 @@
+use Rattle.word_code.proofs.ForCallers.{law_by}
 use Rattle.std.proofs.Common.{◌≡◌, ◌-◌, ◌∙◌, length, slice_get, sym, ap, subst, arith}
 use Rattle.std.specs.Option.{option_copied}
 use Rattle.word_lowering.specs.declared.texts.TheConstants.{FIXED_BYTES}
@@ -39,13 +40,8 @@ pub returns : goal.returns
 returns c =
     lowers_given c.args.types.now c.args.blocks.now (both c.args.types.now c.args.blocks.now c.in_ok-procs.procs c.in_ok-statics.statics)
     c.count-types.ensures.table c.requires.forms
-    (record {
-      sizes = c.memories.ensures.sizes;
-      regions = c.memories.ensures.regions;
-      stores = c.memories.ensures.stores;
-      here = c.memories.ensures.here;
-      elsewhere = c.memories.ensures.elsewhere;
-    })
+    (law_by c.memories.ensures.sizes c.memories.ensures.bytes c.memories.ensures.regions c.memories.ensures.stores c.memories.ensures.here
+    c.memories.ensures.elsewhere)
     (whole_by c.args.types.now c.args.blocks.now c.as_slice-procs.result.now c.args.layouts.now
     c.in-Some.own.now c.in-Some-last.start.now (around_of c.start_scope-x.result) c.in_ok-procs.procs c.in_ok-statics.statics
     c.as_slice-procs.ensures c.requires.layouts (sym c.in-Some.ensures.value) (sym c.in-Some-last.ensures.value)

@@ -1,0 +1,3 @@
+mod Stamping
+mod Positions
+pub mod ForCallers

@@ -1,0 +1,6 @@
+mod Indexing
+mod Searching
+mod Following
+mod Shapes
+mod Ranks
+mod Whole
