@@ -11,6 +11,7 @@ from typing import Any, Iterator, Set
 import frames
 import tree
 from check import RECURSION_LIMIT, Program, check
+from left_out import nodes_of_constants
 from meanings import Constant
 from scan import Refusal
 from tree import walk
@@ -41,7 +42,7 @@ def _globals(program: Program) -> int:
 
 def _texts(program: Program) -> Set[bytes]:
     """The distinct texts of literals and of constants where they are used."""
-    in_constants = {id(node) for node in frames.nodes_of_constants(program)}
+    in_constants = {id(node) for node in nodes_of_constants(program)}
     texts: Set[bytes] = set()
     for node in walk(program.statements):
         if id(node) in in_constants:

@@ -10,6 +10,7 @@ from typing import Iterator, List, Optional
 
 import tree
 from check import RECURSION_LIMIT, Program, check
+from left_out import first_left_out, nodes_of_constants
 from meanings import (READ_LINE, SET_LEN, BuiltInCall, Constant, Conversion, DollarCall, Meaning, Procedure, ProcedureCall,
                       Variable)
 from scan import Position, Refusal
@@ -56,13 +57,6 @@ def _faults(program: Program) -> Iterator[Position]:
                     yield name.position
         elif isinstance(node, tree.Expression) and _is_deep(program.types, node.type):
             yield place_of(node)
-
-
-def nodes_of_constants(program: Program) -> Iterator[tree.Node]:
-    """They are no nodes of the program: only a constant's uses are."""
-    for node in walk(program.statements):
-        if isinstance(node, tree.Definitions) and node.word == 'const':
-            yield from walk(node.definitions)
 
 
 def _deep_head(types: TypeTable, proc: tree.Proc, procedure: Procedure) -> Iterator[Position]:
@@ -206,35 +200,13 @@ class Sums:
         return sum(map(self.begun, arguments[:paths])) + sum(map(self.value, arguments[paths:]))
 
 
-def has_only_written_texts(program: Program) -> bool:
-    """Whether it has no sequences, and texts only as literals that `echo` writes: no variable has a text in it, no
-    constant, and no value."""
-    if any(form.kind == 'seq' for form in program.types.forms):
-        return False
-    heads = [type_number for procedure in program.procedures
-             for type_number in [*procedure.parameters, procedure.result_type]]
-    if any(program.types.has_text(type_number) for type_number in heads):
-        return False
-    echoed = set()
-    for node in tree.walk(program.statements):
-        if isinstance(node, tree.Call) and isinstance(node.meaning, BuiltInCall) and node.meaning.name == 'echo':
-            echoed.update(node.arguments)
-        elif isinstance(node, tree.Parentheses):
-            if node in echoed:
-                echoed.add(node.inner)
-        elif isinstance(node, (tree.Expression, tree.Definition)) and program.types.has_text(node.type):
-            if not (isinstance(node, tree.TextLiteral) and node in echoed):
-                return False
-    return True
-
-
 def answer(source: str) -> str:
     """'0', or place and code of the refusal, as `1:5: E21`. A program that isn't built has no size."""
     try:
         program = check(source)
     except Refusal as refusal:
         return str(refusal)
-    fault = frame_fault(program) if has_only_written_texts(program) else None
+    fault = frame_fault(program) if first_left_out(program) is None else None
     return '0' if fault is None else '%d:%d: E21' % fault
 
 

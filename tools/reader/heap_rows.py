@@ -9,7 +9,7 @@
   with a heap of 31 bytes, where it has written the first 7 bytes of `out` |
 
 Each row is run with a heap of exactly the demand too, where it does the same. A heap of less than 4,096 bytes is less than a
-command takes: such a run is that of the source behind the line BALLAST, which takes one block of 4,096 bytes and keeps it to the
+command takes: such a run is that of the source behind the lines BALLAST, which take one block of 4,096 bytes and keep it to the
 end, with 4,096 bytes of heap more.
 """
 from __future__ import annotations
@@ -23,7 +23,7 @@ from interp import Outcome, run
 from rows import Row
 from scan import Refusal
 
-BALLAST = 'var ballast = newSeq[int](1022)\n'
+BALLAST = 'var ballast: string\nballast.setLen(4088)\n'
 BALLAST_BYTES = 4_096
 USUAL_HEAP = 4_096
 UNITS = 5_000_000

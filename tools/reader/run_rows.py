@@ -17,7 +17,9 @@ import data
 import frames
 import heap_rows
 from check import check
+from heap import LARGEST_HEAP
 from interp import run, with_deep_stack
+from left_out import first_left_out
 from rows import REPOSITORY, WAITING, Row, files_of, read
 from scan import Refusal
 
@@ -25,6 +27,7 @@ UNITS = 5_000_000
 """Where a row says nothing of its steps."""
 
 STEPS_WORD = '--steps='
+HEAP_WORD = '--heap='
 STEPS_SPENT = 'StepsSpent'
 REFUSED = 'Refused'
 SPENT_LINE = 'nimarc: steps spent\n'
@@ -89,22 +92,28 @@ def wanted_run(row: Row) -> Written:
     return Written(None if call[1] == STEPS_SPENT else int(call[0]), out, err)
 
 
-def units_of(row: Row) -> int:
+def number_of(row: Row, flag: str, usual: int) -> int:
+    """What a word of the row's command says behind the flag."""
     for word in row.parts.get('words', '').split('\n'):
-        if word.startswith(STEPS_WORD):
-            return int(word[len(STEPS_WORD):])
-    return UNITS
+        if word.startswith(flag):
+            return int(word[len(flag):])
+    return usual
 
 
 def plain_difference(row: Row) -> Optional[str]:
-    """What differs in a row of a plain program."""
+    """What differs in a row of a program."""
     try:
         program = check(row.parts['source'])
     except Refusal as refusal:
         return 'wanted a program, got %s' % refusal
+    left_out, wanted_refusal = first_left_out(program), refused_call(row)
+    if left_out is not None or wanted_refusal is not None:
+        got_refusal = '%d:%d: %s' % (*left_out, LEFT_OUT) if left_out is not None else None
+        return None if wanted_refusal == got_refusal else 'wanted %s, got %s' % (wanted_refusal, got_refusal)
     if frames.frame_fault(program) is not None:
         return 'wanted a program, got one that is too large'
-    outcome = run(program, units_of(row), row.parts.get('input', '').encode('latin-1'))
+    units, heap = number_of(row, STEPS_WORD, UNITS), number_of(row, HEAP_WORD, LARGEST_HEAP)
+    outcome = run(program, units, row.parts.get('input', '').encode('latin-1'), heap)
     err = outcome.err.decode('latin-1') + (SPENT_LINE if outcome.status is None else '')
     got = Written(outcome.status, outcome.out.decode('latin-1'), err)
     wanted = wanted_run(row)

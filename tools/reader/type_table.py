@@ -128,19 +128,6 @@ class TypeTable:
         part = declared.base if form.kind == 'distinct' else declared.target
         return None if part is None else [part]
 
-    def has_text(self, type_number: Optional[int]) -> bool:
-        """Whether it is string or has strings as its parts, but not in sequences; False of None."""
-        if type_number is None:
-            return False
-        form = self.forms[type_number]
-        if form.kind == 'distinct':
-            return self.has_text(self.base(type_number))
-        if form.kind == 'object':
-            return any(self.has_text(field_type) for _, field_type in self.fields(type_number))
-        if form.kind == 'array':
-            return self.has_text(form.element)
-        return form.kind == 'string' or any(self.has_text(part) for part in form.parts)
-
     def owns_blocks(self, type_number: int) -> bool:
         """Whether it is, or has as parts, strings or sequences."""
         if type_number not in self._owns_blocks:

@@ -12,7 +12,8 @@ ghost use Rattle.plain_plan.specs.Plain.{plain_plan};
 ghost use Rattle.check_decls.specs.Modules.{program_in};
 ghost use Rattle.source_compiler.specs.Source.{alone, read_program, Reads};
 ghost use Rattle.program_limits.specs.Limits.{tree_limits};
-ghost use Rattle.core_compiler.specs.Compile.{MembersNamed};
+ghost use Rattle.core_compiler.specs.Compile.{MembersNamed, IsSoundWhereBuilt};
+ghost use Rattle.nim_plan.specs.declared.plan.Plan.{Plan as RustPlan};
 ghost use Rattle.source_compiler.specs.Limits.{build_limits, check_limits};
 ghost use Rattle.core_compiler.specs.Mean.{IsEnd};
 ghost use Rattle.source_compiler.specs.Compile.{Compiled, IsNoProgram, source_most, OnTooLong};
@@ -83,6 +84,7 @@ fn read_main<F: Files>(alloc: Global, main: &str, files: &mut F) -> Result<Progr
     ensures is_typed { IfOk result (λ program. IsTyped (program_in program)) }
     ensures is_numbered { IfOk result (λ program. is_numbered_program (program_in program) ≡ true) }
     ensures is_named { IfOk result (λ program. MembersNamed (program_in program).facts) }
+    ensures is_sound { IfOk result (λ program. (plan : RustPlan) → IsSoundWhereBuilt (program_in program) plan) }
     ensures stops_check { IfErr result (λ answer. StopsReading (IsTurnedDown check_limits main.now) main.now answer
         (files_state (F.held files.old) (F.load_faults files.old) (F.store_faults files.old) (F.calls files.old))
         (files_state (F.held files.new) (F.load_faults files.new) (F.store_faults files.new) (F.calls files.new))) }
@@ -127,6 +129,7 @@ fn read_within<F: Files>(alloc: Global, main: &str, files: &mut F) -> Result<Pro
     ensures is_typed { IfOk result (λ program. IsTyped (program_in program)) }
     ensures is_numbered { IfOk result (λ program. is_numbered_program (program_in program) ≡ true) }
     ensures is_named { IfOk result (λ program. MembersNamed (program_in program).facts) }
+    ensures is_sound { IfOk result (λ program. (plan : RustPlan) → IsSoundWhereBuilt (program_in program) plan) }
     ensures within { IfOk result (λ program. tree_limits (program_in program) ≡ Ok tt) }
     ensures stops { IfErr result (λ answer. StopsReading (IsNoProgram tree_limits main.now) main.now answer
         (files_state (F.held files.old) (F.load_faults files.old) (F.store_faults files.old) (F.calls files.old))
@@ -241,6 +244,7 @@ fn run_program<I: Source, O: Sink, E: Sink>(
     requires typed { IsTyped (program_in program.now) }
     requires numbered { is_numbered_program (program_in program.now) ≡ true }
     requires named { MembersNamed (program_in program.now).facts }
+    requires sound { (plan : RustPlan) → IsSoundWhereBuilt (program_in program.now) plan }
     requires plain { plan.now ≡ plain_plan (read_program program.now) }
     requires ordered { IsInOrder plan.now }
     requires heap { heap ≤ 16777216 }

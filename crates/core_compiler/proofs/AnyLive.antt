@@ -8,7 +8,8 @@ use Rattle.rv32_isa.specs.Machine.{Lives}
 use Rattle.word_code.specs.declared.word.WordCode.{WordCode}
 use Rattle.word_code.specs.declared.word.WordInstr.{WordInstr}
 use Rattle.word_code.specs.declared.word.WordProc.{WordProc}
-use Rattle.word_code.specs.Words.{Exits, Fails, Fresh, Passes, Leaps, Calls, Returns, Spends, WordDid, WordFrame, WordScene, WordState, does, entered, from_label}
+use Rattle.word_code.specs.Words.{Exits, Fails, Fresh, Passes, Leaps, Calls, Returns, Spends, WordDid, WordFrame, WordScene, WordState, does, entered}
+use Rattle.word_code.specs.Words.{from_label}
 use Rattle.word_code.specs.Words.{from_proc, if_formed, is_full, is_word_code, jumped, onward, returned, scene_of, settled, spent, start, step_lines, step_of}
 use Rattle.word_code.specs.Words.{word_by_units}
 use Rattle.core_compiler.specs.Compile.{live_objects}
@@ -116,10 +117,12 @@ module _ (procs : List WordProc) (fresh : Fresh) where
 -- ---- whole runs
 
 module _ (code : WordCode) (fresh : Fresh) (heap stack : ℕ) (input : List ℕ) (units n : ℕ) where
-  pub work_same : (live other : Lives) → (word_by_units live code fresh heap stack input units n).work ≡ (word_by_units other code fresh heap stack input units n).work
+  pub work_same : (live other : Lives) → (word_by_units live code fresh heap stack input units n).work
+      ≡ (word_by_units other code fresh heap stack input units n).work
   work_same live other = by_test (is_word_code code)
     where
-      by_test : (b : Bool) → (if_formed b (λ n. run (step_of live code.procs fresh) n (0, record (start code heap stack input) { units = Some units }) [] 0) n).work
+      by_test : (b : Bool) → (if_formed b (λ n. run (step_of live code.procs fresh) n (0, record (start code heap stack input) { units = Some units }) []
+          0) n).work
           ≡ (if_formed b (λ n. run (step_of other code.procs fresh) n (0, record (start code heap stack input) { units = Some units }) [] 0) n).work
       by_test true = works code.procs fresh live other n (0, record (start code heap stack input) { units = Some units }) [] [] 0
       by_test false = refl
@@ -128,6 +131,7 @@ module _ (code : WordCode) (fresh : Fresh) (heap stack : ℕ) (input : List ℕ)
   ended_none status l e = subst (Ends_none code.procs fresh) e (by_test (is_word_code code))
     where
       by_test : (b : Bool)
-          → Ends_none code.procs fresh (if_formed b (λ n. run (step_of live_objects code.procs fresh) n (0, record (start code heap stack input) { units = Some units }) [] 0) n).phase
+          → Ends_none code.procs fresh (if_formed b
+          (λ n. run (step_of live_objects code.procs fresh) n (0, record (start code heap stack input) { units = Some units }) [] 0) n).phase
       by_test true = nones code.procs fresh n (0, record (start code heap stack input) { units = Some units }) [] 0
       by_test false = tt

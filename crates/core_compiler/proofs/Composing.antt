@@ -17,7 +17,7 @@ use Rattle.flat_code.specs.declared.line.Line.{Line}
 use Rattle.flat_code.specs.declared.owned.OwnedLine.{OwnedLine}
 use Rattle.flat_code.specs.declared.block.BlockLine.{BlockLine}
 use Rattle.flat_code.specs.declared.block.BlockLine.TheVariants.{Plain}
-use Rattle.flat_code.specs.Codes.{flat_plain, flat_meaning, owned_meaning, block_meaning, hooks_of, AreNone}
+use Rattle.flat_code.specs.Codes.{flat_plain, flat_meaning, owned_meaning, block_meaning, hooks_of, places_of, waiting_in, AreNone}
 use Rattle.flat_code.specs.Codes.{block_within, by_lines, flat_within, owned_within, under}
 use Rattle.flat_code.specs.Fits.{code_fits}
 use Rattle.flat_code.specs.Scene.{known_in}
@@ -25,7 +25,7 @@ use Rattle.rv32_isa.specs.Machine.{Lives}
 use Rattle.word_code.specs.Words.{word_by_units, word_meaning, is_word_code, have_no_hooks, Fresh}
 use Rattle.word_code.specs.Sizes.{AreRanked, has_no_circle, longest_chain}
 use Rattle.reachable_procs.specs.Reachable.{IsPruned, kept}
-use Rattle.heap_memory.specs.declared.numbers.TheConstants.{HEAP_CHAIN}
+use Rattle.word_lowering.specs.declared.lowering.TheConstants.{MOST_CHAIN}
 use Rattle.word_code.specs.Memory.{data_of}
 use Rattle.word_code.specs.Joined.{joined}
 use Rattle.refc_runtime.specs.BothRuntimes.{AreRuntimes}
@@ -35,13 +35,17 @@ use Rattle.rv32_codegen.specs.Layout.{DoesCode, IsFault, laid_out}
 use Rattle.rv32_codegen.specs.Lowering.{CanRun, most_bytes, procs_bytes, DoesWords}
 use Rattle.rv32_codegen.specs.Stack.{stack_need}
 use Rattle.word_lowering.specs.Runtimes.{Runtimes, with_runtimes}
-use Rattle.word_lowering.specs.Lowers.{Lowers, LowersWithRuntime, IsFitting, AreSilent, AreSmall}
+use Rattle.flat_code.specs.Waits.{AllWaitOnce}
+use Rattle.flattening.specs.Counted.{places_waiting}
+use Rattle.word_lowering.specs.Lowers.{Lowers, LowersWithRuntime, IsFitting, AreSilent, AreSmall, all_waiting}
 use Rattle.core_compiler.specs.Compile.{live_objects, HasCode, DoesProgram}
+use Rattle.hook_code.specs.Kept.{hook_parts}
+use Rattle.core_compiler.specs.declared.program.TheConstants.{BYTES_OF_HOOK}
 use Rattle.core_compiler.specs.Limits.{code_bound}
 use Rattle.rv32_codegen.specs.declared.layout.LayFault.{LayFault}
 use Rattle.rv32_codegen.specs.declared.layout.LayFault.TheVariants.{TooLarge, Memory}
 use Rattle.program_limits.specs.Data.{data_counted}
-use Rattle.core_compiler.specs.Stages.{HasLines, IsTooLarge, IsImageOf, IsFlatOf, AreWordsOf, DoesWith, ShowsSame}
+use Rattle.core_compiler.specs.Stages.{FlatFits, HasLines, IsTooLarge, IsImageOf, IsFlatOf, AreWordsOf, DoesWith, ShowsSame}
 use Rattle.core_compiler.proofs.Refusals.{bound_is}
 use Rattle.core_compiler.proofs.CodeSizes.{joined_bytes}
 use Rattle.core_compiler.proofs.PrunedWords.{agrees_alike, paced_alike, kept_small, kept_bytes, kept_unhooked}
@@ -109,6 +113,8 @@ both_of heap others are = record {
   heap_ranked = are.heap_ranked;
   others_ranked = are.others_ranked;
   chain = are.chain;
+  heap_calls = are.heap_calls;
+  others_calls = are.others_calls;
 }
 
 -- word code without other routines than those of the heap has data of few bytes
@@ -118,6 +124,11 @@ front_small own r lowered =
     let both = length-append (joined r.heap own).statics r.others.statics in
     let most = (lowered.lowers r).data_most in
     omega (arith, both, most)
+
+-- what may wait, by the places alone
+all_waits : (ps : List (CodeProc BlockLine)) → all_waiting ps ≡ places_waiting (map (λ (p : CodeProc BlockLine). p.places) ps)
+all_waits [] = refl
+all_waits (p ∷ ps) = ap (λ n. waiting_in p.places + n) (all_waits ps)
 
 module _ (law : AgreesLaw) (pace : PaceLaw) where
   -- ---- flat code, owned code, block code, word code
@@ -134,13 +145,23 @@ module _ (law : AgreesLaw) (pace : PaceLaw) where
       low = lowered.lowers r
 
       abbrev Fits : Type 0
-      Fits = code_fits flat_plain (known_in table) flat.procs ≡ true
+      Fits = FlatFits table flat
 
       none_before : AreNone (hooks_of flat) → AreNone (hooks_of blocks)
       none_before none = subst AreNone (sym (branched.form.hooks ∙ injected.form.hooks)) none
 
+      places_same : places_of blocks ≡ places_of flat
+      places_same = branched.form.places ∙ injected.form.places
+
       blocks_fit : Fits → IsFitting table blocks
-      blocks_fit fits = branched.form.fits (known_in table) (injected.form.fits (known_in table) fits)
+      blocks_fit fits = record {
+        fits = branched.form.fits (known_in table) (injected.form.fits (known_in table) fits.fits);
+        waits = branched.form.waits (known_in table) (injected.form.waits (known_in table) fits.waits);
+        once = subst AllWaitOnce (sym places_same) fits.once;
+      }
+
+      waiting_same : all_waiting blocks.procs ≡ places_waiting (places_of flat)
+      waiting_same = all_waits blocks.procs ∙ ap places_waiting places_same
 
       owned_flat : (heap : ℕ) (input : List ℕ) → Sound (flat_meaning table flat plan heap input) →
           Agrees (owned_meaning table owned heap input) (flat_meaning table flat plan heap input)
@@ -162,13 +183,13 @@ module _ (law : AgreesLaw) (pace : PaceLaw) where
 
       words_paced : (fresh : Fresh) (heap stack : ℕ) (input : List ℕ) → heap ≤ 16777216 → Fits → AreNone (hooks_of flat) →
           Sound (flat_meaning table flat plan heap input) →
-          PacedFrom 256 1 (word_meaning live_objects words fresh heap stack input) (flat_meaning table flat plan heap input)
+          PacedFrom 256 33 (word_meaning live_objects words fresh heap stack input) (flat_meaning table flat plan heap input)
       words_paced fresh heap stack input few fits none sound =
           let upper = injected.paced table heap input sound in
           let middle = branched.paced table heap input (sound_low (owned_flat heap input sound)) in
           let lower = low.paced live_objects fresh heap stack input (λ m. refl) few (blocks_fit fits) (silent blocks.procs (none_before none))
           (sound_low (blocks_owned heap input sound)) in
-          pace 256 1 1 0 _ _ _ (omega arith) (pace 256 1 1 0 _ _ _ (omega arith) lower middle) upper
+          pace 256 1 33 0 _ _ _ (omega arith) (pace 256 1 33 0 _ _ _ (omega arith) lower middle) upper
 
       -- also by units
       blocks_within : (units heap : ℕ) (input : List ℕ) (n : ℕ) → block_within table blocks units heap input n
@@ -195,7 +216,7 @@ module _ (law : AgreesLaw) (pace : PaceLaw) where
           agrees = λ fresh heap stack input few fits none sound.
               agrees_alike _ _ _ (same fresh heap stack input) (words_agree fresh heap stack input few fits none sound);
           paced = λ fresh heap stack input few fits none sound.
-              paced_alike _ _ _ (same fresh heap stack input) 256 1 (words_paced fresh heap stack input few fits none sound);
+              paced_alike _ _ _ (same fresh heap stack input) 256 33 (words_paced fresh heap stack input few fits none sound);
           exact = λ fresh heap stack input few fits none sound units.
               let e = low.exact live_objects fresh heap stack input (λ m. refl) few (blocks_fit fits) (silent blocks.procs (none_before none))
               (sound_low (blocks_owned heap input sound)) units in (
@@ -214,15 +235,15 @@ module _ (law : AgreesLaw) (pace : PaceLaw) where
               let e = low.bounded live_objects fresh heap stack input (λ m. refl) few (blocks_fit fits) (silent blocks.procs (none_before none))
               (sound_low (blocks_owned heap input sound)) units n in (
                 e.0,
-                subst (λ (z : Seen Event). z.work ≤ 256 * ((flat_within table flat plan units heap input e.0).work + 1))
+                subst (λ (z : Seen Event). z.work ≤ 256 * ((flat_within table flat plan units heap input e.0).work + 33))
                     (sym (same_units fresh heap stack input units n))
-                    (subst (λ (z : Seen Event). (word_by_units live_objects words fresh heap stack input units n).work ≤ 256 * (z.work + 1))
+                    (subst (λ (z : Seen Event). (word_by_units live_objects words fresh heap stack input units n).work ≤ 256 * (z.work + 33))
                     (blocks_within units heap input e.0) e.1),
               );
           can = record {
             formed = laws.formed words pruned is low.formed;
             no_circle = laws.no_circle words pruned is low.rank low.ranked;
-            chain = laws.chain words pruned is low.rank low.ranked HEAP_CHAIN low.chain;
+            chain = laws.chain words pruned is low.rank low.ranked MOST_CHAIN low.chain;
             small = subst AreSmall (sym is.procs) (kept_small is.numbers words.procs low.small);
             whole = ap (λ n. n % 4) statics_same ∙ low.whole;
             statics_most = omega (arith, statics_same, low.data_most);
@@ -232,7 +253,7 @@ module _ (law : AgreesLaw) (pace : PaceLaw) where
               r.is_others.routines in
               let less = kept_bytes is.numbers words.procs in
               let bytes : procs_bytes pruned.procs ≡ procs_bytes (kept is.numbers words.procs) = ap procs_bytes is.procs in
-              omega (arith, most, less, bytes, lowered.weight, r.is_heap.weight, r.is_others.weight, injected.form.weight, branched.form.weight);
+              omega (arith, most, less, bytes, lowered.weight, r.is_heap.weight, r.is_others.weight, injected.form.weight, branched.form.weight, waiting_same);
           data_size =
               let few = lowered.data_size in
               let more = branched.form.statics table in
@@ -280,8 +301,9 @@ module _ (law : AgreesLaw) (pace : PaceLaw) where
         let upper = top.agrees heap input in
         law _ _ _ (middle.agrees fresh heap stack input few top.fits top.hooks (sound_low upper)) upper
 
-    pub code_most : (bytes : ℕ) → bytes ≤ most_bytes words.procs → bytes ≤ code_bound program plan
-    code_most bytes few = let bound = bound_is program plan flat words.procs top.weight middle.code_most in omega (arith, few, bound)
+    pub code_most : (bytes : ℕ) → bytes ≤ most_bytes words.procs → bytes ≤ code_bound program plan + BYTES_OF_HOOK * hook_parts table
+    code_most bytes few =
+        let bound = bound_is program plan flat words.procs (hook_parts table) top.weight top.waiting middle.code_most in omega (arith, few, bound)
 
     pub data_most : length words.statics ≤ data_counted program + 4220
     data_most = let few = middle.data_size in omega (arith, few, top.data_size)
@@ -308,7 +330,7 @@ module _ (law : AgreesLaw) (pace : PaceLaw) where
         crossed a b c = omega arith
 
     pub words_within : (fresh : Fresh) (heap stack : ℕ) (input : List ℕ) → heap ≤ 16777216 → (units n : ℕ) →
-        (word_by_units live_objects words fresh heap stack input units n).work ≤ 256 * (12 * ((meaning program plan heap input units).work + 1) + 2)
+        (word_by_units live_objects words fresh heap stack input units n).work ≤ 256 * (12 * ((meaning program plan heap input units).work + 1) + 34)
     words_within fresh heap stack input few units n =
         let w = middle.within fresh heap stack input few top.fits top.hooks (sound_low (top.agrees heap input)) units n in
         let f = top.within heap input units w.0 in
@@ -322,6 +344,8 @@ module _ (law : AgreesLaw) (pace : PaceLaw) where
       code = has.code;
       agrees = λ fresh heap stack input can. words_do fresh heap stack input can.heap_most;
       size = has.size;
+      types = table;
+      facts = top.facts;
       bound = code_most bytes has.bound;
       data_most = data_most;
     }
@@ -333,13 +357,13 @@ module _ (law : AgreesLaw) (pace : PaceLaw) where
           let mid = words_do d.0 heap image.stack input few in
           law _ _ _ (d.1 (sound_low mid)).agrees mid
 
-      does_paced : (input : List ℕ) → PacedFrom 196608 4 (machine live_objects image input) (meaning program plan heap input)
+      does_paced : (input : List ℕ) → PacedFrom 196608 36 (machine live_objects image input) (meaning program plan heap input)
       does_paced input =
           let upper = top.agrees heap input in
           let d = low.does input in
           let between = middle.agrees d.0 heap image.stack input few top.fits top.hooks (sound_low upper) in
-          pace 64 3072 2 2 _ _ _ (omega arith) (d.1 (sound_low between)).paced
-          (pace 256 12 1 1 _ _ _ (omega arith) (middle.paced d.0 heap image.stack input few top.fits top.hooks (sound_low upper)) (top.paced heap input))
+          pace 64 3072 2 34 _ _ _ (omega arith) (d.1 (sound_low between)).paced
+          (pace 256 12 33 1 _ _ _ (omega arith) (middle.paced d.0 heap image.stack input few top.fits top.hooks (sound_low upper)) (top.paced heap input))
 
       pub does_program : DoesProgram program plan heap image
       does_program = record {

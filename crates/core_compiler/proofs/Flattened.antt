@@ -1,5 +1,5 @@
 -- Flat code that is that of a program does what the program means.
-use Rattle.std.proofs.Common.{◌≡◌, ◌≤◌, ◌<◌, ℕ, ◌+◌, ◌*◌, List, [], ◌∷◌, ◌++◌, length, sym, ap, subst, ◌∙◌, arith, true}
+use Rattle.std.proofs.Common.{◌≡◌, ◌≤◌, ◌<◌, ℕ, ◌+◌, ◌*◌, List, [], ◌∷◌, ◌++◌, length, refl, sym, ap, subst, ◌∙◌, arith, true}
 use Rattle.arc_base.specs.Event.{Event}
 use Rattle.arc_base.specs.Behaviour.{Agrees, Seen, Sound}
 use Rattle.arc_base.specs.Pace.{Paced}
@@ -21,12 +21,12 @@ use Rattle.flat_code.specs.Sizes.{code_weight, code_texts, distinct_texts, data_
 use Rattle.flat_code.specs.Whole.{label_in}
 use Rattle.program_limits.specs.Data.{data_counted, program_texts, texts_size}
 use Rattle.program_limits.specs.Limits.{program_in}
-use Rattle.flattening.specs.Counted.{program_parts, program_pairs, times, program_times}
+use Rattle.flattening.specs.Counted.{program_parts, program_pairs, times, program_times, places_waiting}
 use Rattle.flattening.specs.Flattened.{known_of, code_of, modes_of, flat_meaning, IsExact}
 use Rattle.flattening.specs.Given.{flat_procs, flat_of}
-use Rattle.flattening.specs.Lent.{NoneLent}
 use Rattle.flat_code.specs.Alike.{AllAlike}
-use Rattle.flat_code.specs.PlainCode.{ArePlainProcs}
+use Rattle.flat_code.specs.BuiltCode.{AreBuiltProcs}
+use Rattle.flat_code.specs.Leads.{AllLeadRight}
 use Rattle.flat_code.specs.Waits.{AllWaitRight, AllWaitOnce}
 use Rattle.core_compiler.specs.Stages.{ShowsSame, IsFlatOf}
 use Rattle.core_compiler.proofs.ProgramTexts.{distinct_most}
@@ -50,16 +50,17 @@ module _ (p : RustProgram) (plan : Plan) (flat : Code Line) (procs : flat.procs 
     (at_first label_in (does (known_in p.types) plan) (procs_of (known_in p.types) flat) heap input) units [] 0).work + 1)
     (fits : code_fits flat_plain (known_of (program_in p)) (flat_procs (program_in p) plan) ≡ true)
     (hooks : AreNone (hooks_of (flat_of (program_in p) plan)))
-    (weight : code_weight flat_plain (flat_procs (program_in p) plan) ≤ 33 * program_parts (program_in p)
-    + 5 * program_pairs (modes_of (program_in p) plan) (program_in p))
+    (weight : code_weight flat_plain (flat_procs (program_in p) plan) ≤ 47 * program_parts (program_in p)
+    + 9 * program_pairs (modes_of (program_in p) plan) (program_in p))
+    (waiting : places_waiting (places_of (flat_of (program_in p) plan)) ≤ program_parts (program_in p))
     (globals : globals_bytes (known_of (program_in p)) (start_places (flat_procs (program_in p) plan))
     ≤ globals_size (program_in p).facts (program_in p).globals)
     (texts : (text : List ℕ) → times text (code_texts flat_plain (flat_procs (program_in p) plan)) ≤ 2 * program_times text (program_in p))
     (forms : HaveForms p.types)
-    (alike : AllAlike (flat_procs (program_in p) plan)) (plain : ArePlainProcs (known_of (program_in p)) 16384 (flat_procs (program_in p) plan))
-    (lent : NoneLent (flat_procs (program_in p) plan))
+    (alike : AllAlike (flat_procs (program_in p) plan)) (built : AreBuiltProcs (known_of (program_in p)) 16384 (flat_procs (program_in p) plan))
     (waits : AllWaitRight flat_plain (known_of (program_in p)) (flat_procs (program_in p) plan))
     (once : AllWaitOnce (places_of (flat_of (program_in p) plan)))
+    (leads : AllLeadRight (known_of (program_in p)) (flat_procs (program_in p) plan))
     (few : data_counted (program_in p) ≤ 1040384)
   where
     abbrev program : Program
@@ -103,6 +104,12 @@ module _ (p : RustProgram) (plan : Plan) (flat : Code Line) (procs : flat.procs 
     fit : code_fits flat_plain known flat.procs ≡ true
     fit = ap (code_fits flat_plain known) procs ∙ fits
 
+    wait : AllWaitRight flat_plain known flat.procs
+    wait = subst (λ ps. AllWaitRight flat_plain known ps) (sym procs) waits
+
+    one : AllWaitOnce (places_of flat)
+    one = subst (λ ps. AllWaitOnce (places_of (record { procs = ps }))) (sym procs) once
+
     none : AreNone (hooks_of flat)
     none = subst (λ ps. AreNone (hooks_of (record { procs = ps }))) (sym procs) hooks
 
@@ -123,20 +130,26 @@ module _ (p : RustProgram) (plan : Plan) (flat : Code Line) (procs : flat.procs 
           (sym code) (paced heap input);
       exact = exactly;
       within = bounded;
-      fits = fit;
-      weight = subst (λ ps. code_weight flat_plain ps ≤ 33 * program_parts program + 5 * program_pairs (modes_of program plan) program) (sym procs) weight;
+      fits = record {
+        fits = fit;
+        waits = wait;
+        once = one;
+      };
+      waiting = subst (λ ps. places_waiting (places_of (record { procs = ps })) ≤ program_parts program) (sym procs) waiting;
+      weight = subst (λ ps. code_weight flat_plain ps ≤ 47 * program_parts program + 9 * program_pairs (modes_of program plan) program) (sym procs) weight;
       data_size = data_most;
       hooks = none;
       may = record {
         some = subst (λ (ps : List (CodeProc Line)). 0 < length ps) (sym procs) (last_there _ _);
         alike = subst (λ ps. AllAlike ps) (sym procs) alike;
-        plain = subst (λ ps. ArePlainProcs known 16384 ps) (sym procs) plain;
-        lent = subst NoneLent (sym procs) lent;
+        built = subst (λ ps. AreBuiltProcs known 16384 ps) (sym procs) built;
         fits = fit;
-        waits = subst (λ ps. AllWaitRight flat_plain known ps) (sym procs) waits;
-        once = subst (λ ps. AllWaitOnce (places_of (record { procs = ps }))) (sym procs) once;
+        waits = wait;
+        leads = subst (λ ps. AllLeadRight known ps) (sym procs) leads;
+        once = one;
         hooks = none;
         data_few = let most = data_most in omega (arith, most, few);
       };
       forms = forms;
+      facts = refl;
     }

@@ -14,13 +14,13 @@ use Rattle.program_limits.specs.Data.{data_counted}
 use Rattle.program_limits.specs.Frames.{body_fault, proc_fault, procs_fault, start_fault, frame_fault, unless_fault, frame_limits}
 use Rattle.program_limits.specs.Limits.{unless_left_out, unless_large, data_limits, tree_limits}
 
-found : {A : Type 0} (node : Node) → Some node ≡ None → A
+pub found : {A : Type 0} (node : Node) → Some node ≡ None → A
 found node e = cc
 
 refused : {A : Type 0} {r : Refusal} → ◌≡◌ {A = Result (Unit {0}) Refusal} (Err r) (Ok tt) → A
 refused e = cc
 
-none_first : (a b : Option Node) → earlier a b ≡ None → (a ≡ None) × (b ≡ None)
+pub none_first : (a b : Option Node) → earlier a b ≡ None → (a ≡ None) × (b ≡ None)
 none_first None b e = (refl, e)
 none_first (Some node) None e = found node e
 none_first (Some node) (Some other) e = by (nat_lt node.number other.number) e
@@ -64,11 +64,11 @@ module _ (program : Program) where
   both_ok None rest e = (refl, e)
   both_ok (Some at) rest e = refused e
 
-  unmapped : (o : Option Node) → option_map (λ (node : Node). node.at) o ≡ None → o ≡ None
+  pub unmapped : (o : Option Node) → option_map (λ (node : Node). node.at) o ≡ None → o ≡ None
   unmapped None e = refl
   unmapped (Some node) e = cc
 
-  within : tree_limits program ≡ Ok tt → (frame_fault program ≡ None) × (data_limits program ≡ Ok tt)
+  pub within : tree_limits program ≡ Ok tt → (frame_fault program ≡ None) × (data_limits program ≡ Ok tt)
   within e = both_ok (frame_fault program) (data_limits program)
       (rest_ok (first_left_out program) (and_then (frame_limits program) (λ small. data_limits program)) e)
 

@@ -50,11 +50,11 @@ module _ (live : Lives) (hooks : List HookAt) where
       end_after n most r (advance r) out done status objects (ends_within n) refl ends few
 
 pub in_time : (live : Lives) (image : Image) (input : List ℕ) (high : Behaviour Event) →
-    PacedFrom 196608 4 (machine live image input) high → EndsInTime (machine live image input) high
+    PacedFrom 196608 36 (machine live image input) high → EndsInTime (machine live image input) high
 in_time live image input high paced = λ n status objects ends.
     let low = paced n in
     let covered = low.1.end status objects ends in
-    let few : (machine live image input low.0).work ≤ 196608 * ((high n).work + 4) = low.2 in (
+    let few : (machine live image input low.0).work ≤ 196608 * ((high n).work + 36) = low.2 in (
       covered.1,
       ends_within live image.hooks low.0 (time_for (high n).work) (start image input) [] 0 status covered.1 covered.2
           (omega (arith, few)),

@@ -1,11 +1,13 @@
--- Layouts of plain procedures: what is found in them, and how many variables and bytes they take.
+-- Layouts of procedures: what is found in them, and how many variables and bytes they take.
 use Rattle.std.proofs.Common.{◌≡◌, ℕ, ◌+◌, ◌*◌, ◌≤◌, ◌<◌, ◌⊎◌, inl, inr, Bool, true, false, List, [], ◌∷◌, length, Some, None, refl, ap, ap₂, sym, Option}
 use Rattle.std.proofs.Common.{◌∙◌, subst, arith}
-use Rattle.std.specs.Prelude.{nat_eq, nat_lt, ◌&&◌, ◌||◌, not, if◌then◌else◌}
-use Rattle.std.proofs.lemmas.Bool.{both_ways, and_parts, and_from, eqb-true, lt-ltb}
+use Rattle.std.specs.Prelude.{nat_eq, nat_lt, nat_le, ◌&&◌, ◌||◌, not, if◌then◌else◌}
+use Rattle.std.proofs.lemmas.Bool.{both_ways, and_parts, and_from, eqb-true, lt-ltb, le-leb}
 use Rattle.nim_types.specs.declared.types.TypeDef.{TypeDef}
+use Rattle.nim_types.specs.Forms.{hooked, levels, form_of}
 use Rattle.nim_types.specs.Table.{type_at, types_in, facts_in}
 use Rattle.nim_types.proofs.ForCallers.{count as counted}
+use Rattle.nim_meaning.specs.Unbuilt.{is_unbuilt}
 use Rattle.nim_program.specs.declared.program.Mode.TheVariants.{Plain, Sink, Var}
 use Rattle.nim_program.specs.Sizes.{type_bytes}
 use Rattle.flat_code.specs.declared.line.Line.{Line}
@@ -14,75 +16,96 @@ use Rattle.flat_code.specs.declared.place.PlaceKind.{PlaceKind}
 use Rattle.flat_code.specs.declared.place.PlaceKind.TheVariants as K
 use Rattle.flat_code.specs.Fits.{Signature, is_value, is_location, is_global, place_named}
 use Rattle.flat_code.specs.Scene.{known_in}
-use Rattle.flat_code.specs.Sizes.{kind_bytes, lent_bytes, place_bytes, places_bytes}
-use Rattle.flattening.specs.Lent.{is_lent, none_lent}
-use Rattle.flat_code.specs.PlainCode.{is_counter, is_temporary, has_hooks, gets_text, IsPlainPlace, ArePlainPlaces, no_globals, params_among, handed_among}
-use Rattle.flat_code.specs.PlainCode as plain
+use Rattle.flat_code.specs.Sizes.{lent_bytes, place_bytes, places_bytes}
+use Rattle.flat_code.specs.BuiltCode.{is_counter, IsOfBuilt, IsBuiltPlace, AreBuiltPlaces, no_globals, params_among, handed_among, and_waiting, waiting_bytes}
+use Rattle.flat_code.specs.BuiltCode as built
 use Rattle.flattening.proofs.ForCallers.{bytes_least}
 use Rattle.word_lowering.specs.declared.homes.Alias.{Alias}
 use Rattle.word_lowering.specs.declared.homes.Alias.TheVariants.{Own, Place, Value, Node, Text}
 use Rattle.word_lowering.specs.declared.homes.Free.{Free}
 use Rattle.word_lowering.specs.declared.homes.Housed.{Housed}
-use Rattle.word_lowering.specs.Aliases.{value_to, location_to, alias_in, alias_for, addressed, is_among}
-use Rattle.word_lowering.specs.Layouts.{is_kept, is_static, home_at, home_by, free_behind, free_by, word_by, bytes_by, place_word, place_lent, place_kept}
-use Rattle.word_lowering.specs.Layouts.{place_alias}
-use Rattle.word_lowering.specs.Layouts.{housed, behind, all_housed, behind_all}
-use Rattle.word_lowering.specs.Stored.{is_word, entry_at}
+use Rattle.word_lowering.specs.Aliases.{value_to, location_to, alias_in, alias_for, own_where, own_literal, homed, addressed, standing, is_among}
+use Rattle.word_lowering.specs.Layouts.{is_kept, is_static, home_at, home_by, free_behind, free_by, word_by, bytes_by, lent_by, place_word, place_lent}
+use Rattle.word_lowering.specs.Layouts.{place_kept, place_alias}
+use Rattle.word_lowering.specs.Layouts.{waits_by, housed, behind, all_housed, behind_all, behind_waiter, behind_waiters, and_waiter, waiters}
+use Rattle.word_lowering.specs.Stored.{is_word, is_hooked, entry_at}
 use Rattle.word_lowering.specs.Lookups.{found, is_param, params_in, kept_by, kept_in, is_result, result_in}
-use Rattle.word_lowering.specs.MayLower.{no_params, params_lead, is_hooked, is_text, is_plain, all_plain, and_placed, placed_bytes, placed_end, result_end}
+use Rattle.word_lowering.specs.MayLower.{no_params, params_lead, is_known, all_known, and_placed, placed_bytes, placed_end, result_end}
 use Rattle.core_compiler.proofs.LinesAgree.{Finds, never, nothing, one}
 
 -- ---- parameters lead
 
-same_param : (kind : PlaceKind) → plain.is_param kind ≡ is_param kind
+same_param : (kind : PlaceKind) → built.is_param kind ≡ is_param kind
 same_param (K.Param mode) = refl
 same_param kind = refl
 
-none_same : (ps : List FlatPlace) → plain.no_params ps ≡ no_params ps
+none_same : (ps : List FlatPlace) → built.no_params ps ≡ no_params ps
 none_same [] = refl
 none_same (p ∷ ps) = ap₂ (λ a b. not a && b) (same_param p.kind) (none_same ps)
 
-pub lead_same : (ps : List FlatPlace) → plain.params_lead ps ≡ params_lead ps
+pub lead_same : (ps : List FlatPlace) → built.params_lead ps ≡ params_lead ps
 lead_same [] = refl
 lead_same (p ∷ ps) =
-    ap (λ b. if b then plain.params_lead ps else plain.no_params ps) (same_param p.kind)
+    ap (λ b. if b then built.params_lead ps else built.no_params ps) (same_param p.kind)
     ∙ ap₂ (λ x y. if is_param p.kind then x else y) (lead_same ps) (none_same ps)
 
 -- ---- what one place takes
 
 -- what is kept in a variable counts as a word at least, and all else as its bytes
-kept_word : (word out : Bool) (kind : PlaceKind) (n : ℕ) → is_global kind ≡ false → 4 ≤ n → 4 ≤ kind_bytes kind n
-kept_word word out K.Global n g l = absurd (both_ways true g refl)
-kept_word word out (K.Param Var) n g l = omega arith
-kept_word word out K.Location n g l = omega arith
-kept_word word out K.Within n g l = omega arith
-kept_word word out K.Counter n g l = omega arith
-kept_word word out kind n g l = l
+kept_word : (kind : PlaceKind) (lent : Bool) (n : ℕ) → is_global kind ≡ false → 4 ≤ n → 4 ≤ lent_bytes kind lent n
+kept_word K.Global lent n g l = absurd (both_ways true g refl)
+kept_word (K.Param Plain) true n g l = omega arith
+kept_word (K.Param Plain) false n g l = l
+kept_word (K.Param Var) lent n g l = omega arith
+kept_word K.Location lent n g l = omega arith
+kept_word K.Within lent n g l = omega arith
+kept_word K.Counter lent n g l = omega arith
+kept_word kind lent n g l = l
 
-placed_most : (lent out word : Bool) (kind : PlaceKind) (n : ℕ) → is_global kind ≡ false → is_kept lent out word kind ≡ false →
-    bytes_by kind n ≤ kind_bytes kind n
-placed_most lent out word K.Global n g k = absurd (both_ways true g refl)
-placed_most lent out word (K.Param Var) n g k = absurd (both_ways true k refl)
-placed_most lent out word K.Location n g k = absurd (both_ways true k refl)
-placed_most lent out word K.Within n g k = absurd (both_ways true k refl)
-placed_most lent out word K.Counter n g k = absurd (both_ways true k refl)
-placed_most lent out word kind n g k = omega arith
+placed_most : (hooked stands out word : Bool) (kind : PlaceKind) (n : ℕ) → is_global kind ≡ false → is_kept (lent_by kind hooked stands) out word kind ≡ false →
+    bytes_by kind n ≤ lent_bytes kind hooked n
+placed_most hooked stands out word K.Global n g k = absurd (both_ways true g refl)
+placed_most true stands out word (K.Param Plain) n g k = absurd (both_ways true k refl)
+placed_most false stands out word (K.Param Plain) n g k = omega arith
+placed_most hooked stands out word (K.Param Var) n g k = absurd (both_ways true k refl)
+placed_most hooked stands out word K.Location n g k = absurd (both_ways true k refl)
+placed_most hooked stands out word K.Within n g k = absurd (both_ways true k refl)
+placed_most hooked stands out word K.Counter n g k = absurd (both_ways true k refl)
+placed_most hooked stands out word kind n g k = omega arith
 
--- what isn't lent has its value's bytes
-own_bytes : (kind : PlaceKind) (hooked : Bool) (n : ℕ) → not (is_lent kind hooked) ≡ true → lent_bytes kind hooked n ≡ kind_bytes kind n
-own_bytes (K.Param Plain) true n e = never e
-own_bytes (K.Param Plain) false n e = refl
-own_bytes kind hooked n e = refl
+-- a number that a loop keeps is never lent
+counter_bytes : (kind : PlaceKind) (a b : Bool) (n : ℕ) → is_counter kind ≡ true → lent_bytes kind a n ≡ lent_bytes kind b n
+counter_bytes K.Counter a b n e = refl
+counter_bytes kind a b n e = never e
+
+-- a variable for each of what waits
+pub waiters_count : (free : Free) (hs : List Housed) → (behind_waiters free hs).variable ≡ free.variable + length (waiters free hs)
+waiters_count free [] = omega arith
+waiters_count free (h ∷ hs) = by h.waits (waiters_count (behind_waiter h.waits h.bytes free) hs)
+  where
+    by : (o : Option ℕ) →
+        (behind_waiters (behind_waiter o h.bytes free) hs).variable
+        ≡ (behind_waiter o h.bytes free).variable + length (waiters (behind_waiter o h.bytes free) hs) →
+        (behind_waiters (behind_waiter o h.bytes free) hs).variable
+        ≡ free.variable + length (and_waiter o h.ty h.bytes free (waiters (behind_waiter o h.bytes free) hs))
+    by None e = e
+    by (Some node) e = omega (arith, e)
 
 module _ (table : List TypeDef) (start : Bool) (lines : List Line) where
   abbrev one_bytes : FlatPlace → ℕ
-  one_bytes p = kind_bytes p.kind (type_bytes (facts_in table) (type_at (types_in table) p.ty))
+  one_bytes p = lent_bytes p.kind (is_hooked table p.ty) (type_bytes (facts_in table) (type_at (types_in table) p.ty))
 
-  first_own : (p : FlatPlace) (ps : List FlatPlace) → none_lent (p ∷ ps) ≡ true →
-      (place_bytes (known_in table) p ≡ one_bytes p) × (none_lent ps ≡ true)
-  first_own p ps e =
-      let q = and_parts (not (is_lent p.kind p.hooked)) (none_lent ps) e in
-      (own_bytes p.kind p.hooked (type_bytes (facts_in table) (type_at (types_in table) p.ty)) q.0, q.1)
+  within : (p : FlatPlace) → p.ty < length (types_in table) → nat_lt p.ty (length table) ≡ true
+  within p l = let c = counted table in lt-ltb p.ty (length table) (omega (arith, l, c))
+
+  -- types of flat code are those of the table
+  hooked_same : (p : FlatPlace) → IsOfBuilt (known_in table) p → p.hooked ≡ is_hooked table p.ty
+  hooked_same p b = b.hooked ∙ sym (ap (λ c. c && hooked (form_of (facts_in table) (type_at (types_in table) p.ty))) (within p b.numbered))
+
+  first_same : (p : FlatPlace) → IsBuiltPlace (known_in table) p → place_bytes (known_in table) p ≡ one_bytes p
+  first_same p (inl counter) =
+      counter_bytes p.kind p.hooked (is_hooked table p.ty) (type_bytes (facts_in table) (type_at (types_in table) p.ty)) counter
+  first_same p (inr b) = ap (λ c. lent_bytes p.kind c (type_bytes (facts_in table) (type_at (types_in table) p.ty))) (hooked_same p b)
 
   -- a global of the start code is in the data
   of_static : (kind : PlaceKind) → (start ≡ false → is_global kind ≡ false) → is_static start kind ≡ false → is_global kind ≡ false
@@ -99,19 +122,24 @@ module _ (table : List TypeDef) (start : Bool) (lines : List Line) where
       out : Bool
       out = is_among p.number (addressed lines)
 
+      lent : Bool
+      lent = is_hooked table p.ty
+
+      stands : Bool
+      stands = is_among p.number (standing lines)
+
       by : (alias : Alias) (static : Bool) → is_static start p.kind ≡ static → (kept : Bool) →
           is_kept (place_lent table start lines p) out (place_word table start lines p) p.kind ≡ kept →
           4 * (free_by alias free (free_behind static kept (bytes_by p.kind n) free)).variable
-          + (free_by alias free (free_behind static kept (bytes_by p.kind n) free)).byte ≤ 4 * free.variable + free.byte + kind_bytes p.kind n
+          + (free_by alias free (free_behind static kept (bytes_by p.kind n) free)).byte ≤ 4 * free.variable + free.byte + lent_bytes p.kind lent n
       by (Place q other) static s kept k = omega arith
       by (Value t) static s kept k = omega arith
-      by (Node n) static s kept k = omega arith
+      by (Node m) static s kept k = omega arith
       by (Text other more) static s kept k = omega arith
       by Own true s kept k = omega arith
       by Own false s true k =
-          let h = kept_word out out p.kind n (of_static p.kind g s) (bytes_least (facts_in table) (type_at (types_in table) p.ty)) in omega (arith, h)
-      by Own false s false k = let h = placed_most (place_lent table start lines p) out (place_word table start lines p) p.kind n (of_static p.kind g s) k in
-          omega (arith, h)
+          let h = kept_word p.kind lent n (of_static p.kind g s) (bytes_least (facts_in table) (type_at (types_in table) p.ty)) in omega (arith, h)
+      by Own false s false k = let h = placed_most lent stands out (place_word table start lines p) p.kind n (of_static p.kind g s) k in omega (arith, h)
 
   abbrev Globals : List FlatPlace → Type 0
   Globals ps = start ≡ false → no_globals ps ≡ true
@@ -126,15 +154,14 @@ module _ (table : List TypeDef) (start : Bool) (lines : List Line) where
   rest_globals : (p : FlatPlace) (ps : List FlatPlace) → Globals (p ∷ ps) → Globals ps
   rest_globals p ps g s = (and_parts (not (is_global p.kind)) (no_globals ps) (g s)).1
 
-  pub room : (ps : List FlatPlace) (free : Free) → Globals ps → none_lent ps ≡ true →
+  pub room : (ps : List FlatPlace) (free : Free) → Globals ps → AreBuiltPlaces (known_in table) ps →
       4 * (behind_all table start lines free ps).variable + (behind_all table start lines free ps).byte
       ≤ 4 * free.variable + free.byte + places_bytes (known_in table) ps
   room [] free g own = omega arith
   room (p ∷ ps) free g own =
-      let o = first_own p ps own in
-      let b = o.0 in
+      let b = first_same p own.0 in
       let h = one_behind free p (first_global p ps g) in
-      let i = room ps (behind table start lines free p) (rest_globals p ps g) o.1 in
+      let i = room ps (behind table start lines free p) (rest_globals p ps g) own.1 in
       omega (arith, b, h, i)
 
   -- ---- parameters
@@ -142,7 +169,7 @@ module _ (table : List TypeDef) (start : Bool) (lines : List Line) where
   param_kept : (p : FlatPlace) (free : Free) (rest : ℕ) (more : ℕ) → is_param p.kind ≡ true →
       4 * kept_by (housed table start lines free p).home rest + and_placed (housed table start lines free p).home (housed table start lines free p).bytes more
       ≤ one_bytes p + (4 * rest + more)
-  param_kept p free rest more is = of (place_lent table start lines p) p.kind is
+  param_kept p free rest more is = of (is_hooked table p.ty) (is_among p.number (standing lines)) p.kind is
     where
       n : ℕ
       n = type_bytes (facts_in table) (type_at (types_in table) p.ty)
@@ -154,24 +181,25 @@ module _ (table : List TypeDef) (start : Bool) (lines : List Line) where
       by true = let h = l in omega (arith, h)
       by false = omega arith
 
-      of : (lent : Bool) (kind : PlaceKind) → is_param kind ≡ true →
+      of : (hooked stands : Bool) (kind : PlaceKind) → is_param kind ≡ true →
           4 * kept_by (home_by (alias_for kind p.number lines) (home_at (is_static start kind)
-          (is_kept lent (is_among p.number (addressed lines)) (word_by kind (is_word (entry_at table p.ty))) kind) free)) rest
+          (is_kept (lent_by kind hooked stands) (is_among p.number (addressed lines)) (word_by kind (is_word (entry_at table p.ty))) kind) free)) rest
           + and_placed (home_by (alias_for kind p.number lines) (home_at (is_static start kind)
-          (is_kept lent (is_among p.number (addressed lines)) (word_by kind (is_word (entry_at table p.ty))) kind) free)) (bytes_by kind n) more
-          ≤ kind_bytes kind n + (4 * rest + more)
-      of lent (K.Param Plain) e = by _
-      of lent (K.Param Sink) e = by _
-      of lent (K.Param Var) e = omega arith
-      of lent kind e = never e
+          (is_kept (lent_by kind hooked stands) (is_among p.number (addressed lines)) (word_by kind (is_word (entry_at table p.ty))) kind) free))
+          (bytes_by kind n) more
+          ≤ lent_bytes kind hooked n + (4 * rest + more)
+      of true stands (K.Param Plain) e = omega arith
+      of false stands (K.Param Plain) e = by _
+      of hooked stands (K.Param Sink) e = by _
+      of hooked stands (K.Param Var) e = omega arith
+      of hooked stands kind e = never e
 
-  pub params_room : (ps : List FlatPlace) (free : Free) → none_lent ps ≡ true →
+  pub params_room : (ps : List FlatPlace) (free : Free) → AreBuiltPlaces (known_in table) ps →
       4 * kept_in (params_in (all_housed table start lines free ps)) + placed_bytes (params_in (all_housed table start lines free ps))
       ≤ places_bytes (known_in table) (params_among ps)
   params_room [] free own = omega arith
   params_room (p ∷ ps) free own =
-      let o = first_own p ps own in
-      by (is_param p.kind) refl o.0 (params_room ps (behind table start lines free p) o.1)
+      by (is_param p.kind) refl (first_same p own.0) (params_room ps (behind table start lines free p) own.1)
     where
       tail : List Housed
       tail = params_in (all_housed table start lines (behind table start lines free p) ps)
@@ -202,22 +230,27 @@ module _ (table : List TypeDef) (start : Bool) (lines : List Line) where
       out : Bool
       out = is_among p.number (addressed lines)
 
+      lent : Bool
+      lent = is_hooked table p.ty
+
+      stands : Bool
+      stands = is_among p.number (standing lines)
+
       by : (alias : Alias) (static : Bool) → is_static start p.kind ≡ static → (kept : Bool) →
           is_kept (place_lent table start lines p) out (place_word table start lines p) p.kind ≡ kept →
-          (free_by alias free (free_behind static kept (bytes_by p.kind n) free)).byte ≤ free.byte + kind_bytes p.kind n
+          (free_by alias free (free_behind static kept (bytes_by p.kind n) free)).byte ≤ free.byte + lent_bytes p.kind lent n
       by (Place q other) static s kept k = omega arith
       by (Value t) static s kept k = omega arith
-      by (Node n) static s kept k = omega arith
+      by (Node m) static s kept k = omega arith
       by (Text other more) static s kept k = omega arith
       by Own true s kept k = omega arith
       by Own false s true k = omega arith
-      by Own false s false k = let h = placed_most (place_lent table start lines p) out (place_word table start lines p) p.kind n (of_static p.kind g s) k in
-          omega (arith, h)
+      by Own false s false k = let h = placed_most lent stands out (place_word table start lines p) p.kind n (of_static p.kind g s) k in omega (arith, h)
 
   -- where one place ends
-  one_end : (free : Free) (p : FlatPlace) → plain.is_result p.kind ≡ true →
+  one_end : (free : Free) (p : FlatPlace) → built.is_result p.kind ≡ true →
       placed_end (housed table start lines free p).home (housed table start lines free p).bytes ≤ free.byte + one_bytes p
-  one_end free p is = of (place_lent table start lines p) p.kind is
+  one_end free p is = of (is_hooked table p.ty) (is_among p.number (standing lines)) p.kind is
     where
       n : ℕ
       n = type_bytes (facts_in table) (type_at (types_in table) p.ty)
@@ -226,27 +259,28 @@ module _ (table : List TypeDef) (start : Bool) (lines : List Line) where
       by true = omega arith
       by false = omega arith
 
-      of : (lent : Bool) (kind : PlaceKind) → plain.is_result kind ≡ true →
+      of : (hooked stands : Bool) (kind : PlaceKind) → built.is_result kind ≡ true →
           placed_end (home_by (alias_for kind p.number lines) (home_at (is_static start kind)
-          (is_kept lent (is_among p.number (addressed lines)) (word_by kind (is_word (entry_at table p.ty))) kind) free)) (bytes_by kind n)
-          ≤ free.byte + kind_bytes kind n
-      of lent K.Result e = by _
-      of lent kind e = never e
+          (is_kept (lent_by kind hooked stands) (is_among p.number (addressed lines)) (word_by kind (is_word (entry_at table p.ty))) kind) free))
+          (bytes_by kind n)
+          ≤ free.byte + lent_bytes kind hooked n
+      of hooked stands K.Result e = by _
+      of hooked stands kind e = never e
 
-  same_result : (kind : PlaceKind) → plain.is_result kind ≡ is_result kind
+  same_result : (kind : PlaceKind) → built.is_result kind ≡ is_result kind
   same_result K.Result = refl
   same_result kind = refl
 
-  no_result : (ps : List FlatPlace) (free : Free) → plain.none_handed ps ≡ true → result_end (result_in (all_housed table start lines free ps)) ≤ 0
+  no_result : (ps : List FlatPlace) (free : Free) → built.none_handed ps ≡ true → result_end (result_in (all_housed table start lines free ps)) ≤ 0
   no_result [] free e = omega arith
   no_result (p ∷ ps) free e =
-      let q = and_parts (not (plain.is_handed p.kind)) (plain.none_handed ps) e in
-      by (is_result p.kind) (sym (same_result p.kind)) (plain.is_param p.kind) q.0 (no_result ps (behind table start lines free p) q.1)
+      let q = and_parts (not (built.is_handed p.kind)) (built.none_handed ps) e in
+      by (is_result p.kind) (sym (same_result p.kind)) (built.is_param p.kind) q.0 (no_result ps (behind table start lines free p) q.1)
     where
-      by : (b : Bool) → b ≡ plain.is_result p.kind → (c : Bool) → not (c || plain.is_result p.kind) ≡ true →
+      by : (b : Bool) → b ≡ built.is_result p.kind → (c : Bool) → not (c || built.is_result p.kind) ≡ true →
           result_end (result_in (all_housed table start lines (behind table start lines free p) ps)) ≤ 0 →
           result_end (if b then Some (housed table start lines free p) else result_in (all_housed table start lines (behind table start lines free p) ps)) ≤ 0
-      by true e c n go = absurd (refuted c (plain.is_result p.kind) (sym e) n)
+      by true e c n go = absurd (refuted c (built.is_result p.kind) (sym e) n)
         where
           refuted : (c b : Bool) → b ≡ true → not (c || b) ≡ true → ⊥
           refuted true b e n = never n
@@ -254,24 +288,23 @@ module _ (table : List TypeDef) (start : Bool) (lines : List Line) where
           refuted false false e n = never e
       by false e c n go = go
 
-  pub result_room : (ps : List FlatPlace) (free : Free) → Globals ps → none_lent ps ≡ true → plain.handed_lead ps ≡ true →
+  pub result_room : (ps : List FlatPlace) (free : Free) → Globals ps → AreBuiltPlaces (known_in table) ps → built.handed_lead ps ≡ true →
       result_end (result_in (all_housed table start lines free ps)) ≤ free.byte + places_bytes (known_in table) (handed_among ps)
   result_room [] free g own lead = omega arith
   result_room (p ∷ ps) free g own lead =
-      let o = first_own p ps own in
-      by (plain.is_param p.kind) refl (plain.is_result p.kind) refl lead o.0
-      (result_room ps (behind table start lines free p) (rest_globals p ps g) o.1)
+      by (built.is_param p.kind) refl (built.is_result p.kind) refl lead (first_same p own.0)
+      (result_room ps (behind table start lines free p) (rest_globals p ps g) own.1)
     where
       tail : Option Housed
       tail = result_in (all_housed table start lines (behind table start lines free p) ps)
 
-      picked : (b : Bool) → plain.is_result p.kind ≡ b →
+      picked : (b : Bool) → built.is_result p.kind ≡ b →
           result_in (all_housed table start lines free (p ∷ ps)) ≡ (if b then Some (housed table start lines free p) else tail)
       picked b e = ap (λ c. if c then Some (housed table start lines free p) else tail) (sym (same_result p.kind) ∙ e)
 
-      by : (a : Bool) → plain.is_param p.kind ≡ a → (b : Bool) → plain.is_result p.kind ≡ b →
-          (if a || b then plain.handed_lead ps else plain.none_handed ps) ≡ true → place_bytes (known_in table) p ≡ one_bytes p →
-          (plain.handed_lead ps ≡ true → result_end tail ≤ (behind table start lines free p).byte + places_bytes (known_in table) (handed_among ps)) →
+      by : (a : Bool) → built.is_param p.kind ≡ a → (b : Bool) → built.is_result p.kind ≡ b →
+          (if a || b then built.handed_lead ps else built.none_handed ps) ≡ true → place_bytes (known_in table) p ≡ one_bytes p →
+          (built.handed_lead ps ≡ true → result_end tail ≤ (behind table start lines free p).byte + places_bytes (known_in table) (handed_among ps)) →
           result_end (result_in (all_housed table start lines free (p ∷ ps)))
           ≤ free.byte + places_bytes (known_in table) (if a || b then p ∷ handed_among ps else handed_among ps)
       by true is true e l o go =
@@ -292,22 +325,81 @@ module _ (table : List TypeDef) (start : Bool) (lines : List Line) where
           let i = ap result_end (picked false e) in
           omega (arith, h, i)
 
+  -- ---- the bytes alone, and what waits
+
+  pub byte_room : (ps : List FlatPlace) (free : Free) → Globals ps → AreBuiltPlaces (known_in table) ps →
+      (behind_all table start lines free ps).byte ≤ free.byte + places_bytes (known_in table) ps
+  byte_room [] free g own = omega arith
+  byte_room (p ∷ ps) free g own =
+      let b = first_same p own.0 in
+      let h = byte_behind free p (first_global p ps g) in
+      let i = byte_room ps (behind table start lines free p) (rest_globals p ps g) own.1 in
+      omega (arith, b, h, i)
+
+  -- one more waits
+  abbrev Waited : (waits : Option ℕ) → (n : ℕ) → (before after : Free) → Type 0
+  Waited waits n before after = (after.byte ≤ before.byte + and_waiting waits n 0) × (8 * after.variable ≤ 8 * before.variable + and_waiting waits n 0)
+      × (4 * after.variable + after.byte ≤ 4 * before.variable + before.byte + and_waiting waits n 0)
+
+  one_waits : (kind : PlaceKind) (alias : Alias) (hooked : Bool) (waits : Option ℕ) (n : ℕ) (free : Free) → 4 ≤ n →
+      Waited waits n free (behind_waiter (waits_by kind alias hooked waits) (bytes_by kind n) free)
+  one_waits K.Temp Own true waits n free l = by waits
+    where
+      by : (waits : Option ℕ) → Waited waits n free (behind_waiter waits n free)
+      by None = (omega arith, omega arith, omega arith)
+      by (Some node) = (omega arith, omega (arith, l), omega arith)
+  one_waits kind alias hooked waits n free l = by waits
+    where
+      by : (waits : Option ℕ) → Waited waits n free free
+      by None = (omega arith, omega arith, omega arith)
+      by (Some node) = (omega arith, omega arith, omega arith)
+
+  abbrev WaitersFit : (before after : Free) → (most : ℕ) → Type 0
+  WaitersFit before after most = (after.byte ≤ before.byte + most) × (8 * after.variable ≤ 8 * before.variable + most)
+      × (4 * after.variable + after.byte ≤ 4 * before.variable + before.byte + most)
+
+  pub waiting_room : (ps : List FlatPlace) (first free : Free) →
+      WaitersFit free (behind_waiters free (all_housed table start lines first ps)) (waiting_bytes (known_in table) ps)
+  waiting_room [] first free = (omega arith, omega arith, omega arith)
+  waiting_room (p ∷ ps) first free =
+      by (behind_waiter (waits_by p.kind (place_alias table start lines p) (is_hooked table p.ty) p.waits) (bytes_by p.kind n) free) p.waits
+      (one_waits p.kind (place_alias table start lines p) (is_hooked table p.ty) p.waits n free
+      (bytes_least (facts_in table) (type_at (types_in table) p.ty)))
+      (waiting_room ps (behind table start lines first p)
+      (behind_waiter (waits_by p.kind (place_alias table start lines p) (is_hooked table p.ty) p.waits) (bytes_by p.kind n) free))
+    where
+      n : ℕ
+      n = type_bytes (facts_in table) (type_at (types_in table) p.ty)
+
+      more : ℕ
+      more = waiting_bytes (known_in table) ps
+
+      by : (next : Free) (waits : Option ℕ) → Waited waits n free next →
+          WaitersFit next (behind_waiters next (all_housed table start lines (behind table start lines first p) ps)) more →
+          WaitersFit free (behind_waiters next (all_housed table start lines (behind table start lines first p) ps)) (and_waiting waits n more)
+      by next None w r =
+          let a = w.0 in let b = w.1 in let c = r.0 in let d = r.1 in let e = w.2 in let f = r.2 in
+          (omega (arith, a, c), omega (arith, b, d), omega (arith, e, f))
+      by next (Some node) w r =
+          let a = w.0 in let b = w.1 in let c = r.0 in let d = r.1 in let e = w.2 in let f = r.2 in
+          (omega (arith, a, c), omega (arith, b, d), omega (arith, e, f))
+
   -- ---- what is found
 
   -- a temporary is what its lines say, and the number of a loop its own
   value_alias : (kind : PlaceKind) (n : ℕ) → is_value kind ≡ true →
-      (alias_for kind n lines ≡ alias_in value_to n lines) ⊎ ((alias_for kind n lines ≡ Own) × (is_counter kind ≡ true))
+      (alias_for kind n lines ≡ own_literal (homed lines) n (alias_in value_to n lines)) ⊎ ((alias_for kind n lines ≡ Own) × (is_counter kind ≡ true))
   value_alias K.Temp n e = inl refl
   value_alias K.Counter n e = inr (refl, refl)
   value_alias kind n e = never e
 
-  location_alias : (kind : PlaceKind) (n : ℕ) → is_location kind ≡ true → alias_for kind n lines ≡ alias_in location_to n lines
+  location_alias : (kind : PlaceKind) (n : ℕ) → is_location kind ≡ true → alias_for kind n lines ≡ own_where (standing lines) (alias_in location_to n lines)
   location_alias K.Location n e = refl
   location_alias K.Within n e = refl
   location_alias kind n e = never e
 
   value_found : (ps : List FlatPlace) (free : Free) (t : ℕ) →
-      ((found is_value t (all_housed table start lines free ps)).alias ≡ alias_in value_to t lines)
+      ((found is_value t (all_housed table start lines free ps)).alias ≡ own_literal (homed lines) t (alias_in value_to t lines))
       ⊎ (((found is_value t (all_housed table start lines free ps)).alias ≡ Own)
       × ((p : FlatPlace) → place_named is_value ps t ≡ Some p → is_counter p.kind ≡ true))
   value_found [] free t = inr (refl, λ p e. nothing e)
@@ -317,16 +409,17 @@ module _ (table : List TypeDef) (start : Bool) (lines : List Line) where
       tail = found is_value t (all_housed table start lines (behind table start lines free p) ps)
 
       here : p.number ≡ t →
-          (alias_for p.kind p.number lines ≡ alias_in value_to p.number lines) ⊎ ((alias_for p.kind p.number lines ≡ Own) × (is_counter p.kind ≡ true)) →
-          (alias_for p.kind p.number lines ≡ alias_in value_to t lines)
+          (alias_for p.kind p.number lines ≡ own_literal (homed lines) p.number (alias_in value_to p.number lines)) ⊎
+          ((alias_for p.kind p.number lines ≡ Own) × (is_counter p.kind ≡ true)) →
+          (alias_for p.kind p.number lines ≡ own_literal (homed lines) t (alias_in value_to t lines))
           ⊎ ((alias_for p.kind p.number lines ≡ Own) × ((q : FlatPlace) → Some p ≡ Some q → is_counter q.kind ≡ true))
-      here n (inl a) = inl (a ∙ ap (λ m. alias_in value_to m lines) n)
+      here n (inl a) = inl (a ∙ ap (λ m. own_literal (homed lines) m (alias_in value_to m lines)) n)
       here n (inr q) = inr (q.0, λ r e. subst (λ (r : FlatPlace). is_counter r.kind ≡ true) (one e) q.1)
 
       by : (b : Bool) → nat_eq p.number t ≡ b → (c : Bool) → is_value p.kind ≡ c →
-          (tail.alias ≡ alias_in value_to t lines)
+          (tail.alias ≡ own_literal (homed lines) t (alias_in value_to t lines))
           ⊎ ((tail.alias ≡ Own) × ((q : FlatPlace) → place_named is_value ps t ≡ Some q → is_counter q.kind ≡ true)) →
-          ((if b && c then housed table start lines free p else tail).alias ≡ alias_in value_to t lines)
+          ((if b && c then housed table start lines free p else tail).alias ≡ own_literal (homed lines) t (alias_in value_to t lines))
           ⊎ (((if b && c then housed table start lines free p else tail).alias ≡ Own)
           × ((q : FlatPlace) → (if b && c then Some p else place_named is_value ps t) ≡ Some q → is_counter q.kind ≡ true))
       by true n true k rest = here (eqb-true p.number t n) (value_alias p.kind p.number k)
@@ -334,7 +427,7 @@ module _ (table : List TypeDef) (start : Bool) (lines : List Line) where
       by false n c k rest = rest
 
   location_found : (ps : List FlatPlace) (free : Free) (t : ℕ) →
-      ((found is_location t (all_housed table start lines free ps)).alias ≡ alias_in location_to t lines)
+      ((found is_location t (all_housed table start lines free ps)).alias ≡ own_where (standing lines) (alias_in location_to t lines))
       ⊎ (((found is_location t (all_housed table start lines free ps)).alias ≡ Own) × (place_named is_location ps t ≡ None))
   location_found [] free t = inr (refl, refl)
   location_found (p ∷ ps) free t = by (nat_eq p.number t) refl (is_location p.kind) refl (location_found ps (behind table start lines free p) t)
@@ -343,58 +436,35 @@ module _ (table : List TypeDef) (start : Bool) (lines : List Line) where
       tail = found is_location t (all_housed table start lines (behind table start lines free p) ps)
 
       by : (b : Bool) → nat_eq p.number t ≡ b → (c : Bool) → is_location p.kind ≡ c →
-          (tail.alias ≡ alias_in location_to t lines) ⊎ ((tail.alias ≡ Own) × (place_named is_location ps t ≡ None)) →
-          ((if b && c then housed table start lines free p else tail).alias ≡ alias_in location_to t lines)
+          (tail.alias ≡ own_where (standing lines) (alias_in location_to t lines)) ⊎ ((tail.alias ≡ Own) × (place_named is_location ps t ≡ None)) →
+          ((if b && c then housed table start lines free p else tail).alias ≡ own_where (standing lines) (alias_in location_to t lines))
           ⊎ (((if b && c then housed table start lines free p else tail).alias ≡ Own)
           × ((if b && c then Some p else place_named is_location ps t) ≡ None))
-      by true n true k rest = inl (location_alias p.kind p.number k ∙ ap (λ m. alias_in location_to m lines) (eqb-true p.number t n))
+      by true n true k rest = inl (location_alias p.kind p.number k
+          ∙ ap (λ m. own_where (standing lines) (alias_in location_to m lines)) (eqb-true p.number t n))
       by true n false k rest = rest
       by false n c k rest = rest
 
   pub finds : (procs : List Signature) (globals ps : List FlatPlace) (free : Free) → Finds table procs globals ps lines (all_housed table start lines free ps)
   finds procs globals ps free = record { value = value_found ps free; location = location_found ps free }
 
-  -- ---- plain places
+  -- ---- types of the table
 
-  counter_plain : (ty : ℕ) (alias : Alias) (kind : PlaceKind) → is_counter kind ≡ true → is_plain table ty alias kind ≡ true
-  counter_plain ty alias K.Counter e = refl
-  counter_plain ty alias kind e = never e
+  one_known : (p : FlatPlace) → IsBuiltPlace (known_in table) p → is_known table p.ty p.kind ≡ true
+  one_known p (inl counter) = by p.kind counter
+    where
+      by : (kind : PlaceKind) → is_counter kind ≡ true → is_known table p.ty kind ≡ true
+      by K.Counter e = refl
+      by kind e = never e
+  one_known p (inr b) =
+      by p.kind (and_from _ _ (within p b.numbered) (and_from _ _ (ap not b.built)
+      (le-leb (levels (form_of (facts_in table) (type_at (types_in table) p.ty))) 64 b.few)))
+    where
+      by : (kind : PlaceKind) → (nat_lt p.ty (length table) && (not (is_unbuilt (facts_in table) (type_at (types_in table) p.ty))
+          && nat_le (levels (form_of (facts_in table) (type_at (types_in table) p.ty))) 64)) ≡ true → is_known table p.ty kind ≡ true
+      by K.Counter e = refl
+      by kind e = e
 
-  right_plain : (ty : ℕ) (alias : Alias) (kind : PlaceKind) → nat_lt ty (length table) && (is_text alias || not (is_hooked table ty)) ≡ true →
-      is_plain table ty alias kind ≡ true
-  right_plain ty alias K.Counter e = refl
-  right_plain ty alias kind e = e
-
-  temporary_text : (kind : PlaceKind) (n : ℕ) → is_temporary kind ≡ true → is_text (alias_in value_to n lines) ≡ true → is_text (alias_for kind n lines) ≡ true
-  temporary_text K.Temp n e h = h
-  temporary_text kind n e h = never e
-
-  module _ (texts : (t : ℕ) → gets_text t lines ≡ true → is_text (alias_in value_to t lines) ≡ true) where
-    within : (p : FlatPlace) → p.ty < length (types_in table) → nat_lt p.ty (length table) ≡ true
-    within p l = let c = counted table in lt-ltb p.ty (length table) (omega (arith, l, c))
-
-    unhooked : (ty : ℕ) (b : Bool) → has_hooks (known_in table) ty ≡ false → b || not (is_hooked table ty) ≡ true
-    unhooked ty true e = refl
-    unhooked ty false e = ap not (both_false (nat_lt ty (length table)) (has_hooks (known_in table) ty) e)
-      where
-        both_false : (a b : Bool) → b ≡ false → a && b ≡ false
-        both_false true b f = f
-        both_false false b f = refl
-
-    or_first : (a b : Bool) → a ≡ true → a || b ≡ true
-    or_first true b e = refl
-    or_first false b e = never e
-
-    one_plain : (p : FlatPlace) → IsPlainPlace (known_in table) lines p → is_plain table p.ty (alias_for p.kind p.number lines) p.kind ≡ true
-    one_plain p (inl counter) = counter_plain p.ty (alias_for p.kind p.number lines) p.kind counter
-    one_plain p (inr h) = right_plain p.ty (alias_for p.kind p.number lines) p.kind (and_from _ _ (within p h.0) (by h.1))
-      where
-        by : (has_hooks (known_in table) p.ty ≡ false) ⊎ ((is_temporary p.kind ≡ true) × (gets_text p.number lines ≡ true)) →
-            is_text (alias_for p.kind p.number lines) || not (is_hooked table p.ty) ≡ true
-        by (inl e) = unhooked p.ty (is_text (alias_for p.kind p.number lines)) e
-        by (inr q) = or_first _ _ (temporary_text p.kind p.number q.0 (texts p.number q.1))
-
-    pub plain_all : (ps : List FlatPlace) (free : Free) → ArePlainPlaces (known_in table) lines ps →
-        all_plain table (all_housed table start lines free ps) ≡ true
-    plain_all [] free h = refl
-    plain_all (p ∷ ps) free h = and_from _ _ (one_plain p h.0) (plain_all ps (behind table start lines free p) h.1)
+  pub known_all : (ps : List FlatPlace) (free : Free) → AreBuiltPlaces (known_in table) ps → all_known table (all_housed table start lines free ps) ≡ true
+  known_all [] free h = refl
+  known_all (p ∷ ps) free h = and_from _ _ (one_known p h.0) (known_all ps (behind table start lines free p) h.1)

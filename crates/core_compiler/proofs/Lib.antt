@@ -10,10 +10,12 @@ mod ProgramTexts
 mod Flattened
 mod Shown
 mod TableNames
+mod FewLevels
 mod FrameSums
 mod LineNames
 mod LinesAgree
 mod AnyLive
 mod LayoutRooms
+mod LeadsAgree
 mod EnumMembers
 mod MayLower

@@ -9,7 +9,7 @@ use Rattle.flat_code.specs.declared.line.Piece.TheVariants as P
 use Rattle.flat_code.specs.Whole.{label_in}
 use Rattle.flat_code.specs.Alike.{value_name, location_name, label_name, name_of, is_one_text, gives_text, is_named}
 use Rattle.word_lowering.specs.declared.homes.Alias.TheVariants.{Own}
-use Rattle.word_lowering.specs.Aliases.{value_to, location_to, text_in, text_alias, alias_by, is_it}
+use Rattle.word_lowering.specs.Aliases.{value_to, location_to, text_in, text_alias, is_read, alias_by, is_it}
 
 -- ---- names
 
@@ -82,18 +82,18 @@ named line = unnamed line refl refl refl refl
 
 -- ---- aliases
 
-no_alias : (pieces : List Piece) (behind : ℕ) → is_one_text pieces ≡ false → text_alias behind (text_in pieces) ≡ Own
-no_alias [] behind e = refl
-no_alias (P.Text text ∷ []) behind e = absurd (both_ways true e refl)
-no_alias (P.Text text ∷ other ∷ pieces) behind e = refl
-no_alias (P.Ordinal z ∷ pieces) behind e = refl
-no_alias (P.Nil ∷ pieces) behind e = refl
-no_alias (P.Parts n ∷ pieces) behind e = refl
-no_alias (P.Elements n ∷ pieces) behind e = refl
+no_alias : (pieces : List Piece) (read : Bool) (behind : ℕ) → is_one_text pieces ≡ false → text_alias read behind (text_in pieces) ≡ Own
+no_alias [] read behind e = refl
+no_alias (P.Text text ∷ []) read behind e = absurd (both_ways true e refl)
+no_alias (P.Text text ∷ other ∷ pieces) read behind e = refl
+no_alias (P.Ordinal z ∷ pieces) read behind e = refl
+no_alias (P.Nil ∷ pieces) read behind e = refl
+no_alias (P.Parts n ∷ pieces) read behind e = refl
+no_alias (P.Elements n ∷ pieces) read behind e = refl
 
 -- a value that is no text is its temporary's own
 pub own_value : (line : Line) (behind t : ℕ) → is_it t (value_to line) ≡ true → gives_text line ≡ false → alias_by line behind ≡ Own
-own_value (L.Constant to how ty pieces) behind t e bare = no_alias pieces behind bare
+own_value (L.Constant to how ty pieces) behind t e bare = no_alias pieces (is_read how.how) behind bare
 own_value (L.Root to place global) behind t e bare = absurd (both_ways false refl e)
 own_value (L.Fresh to from waits) behind t e bare = absurd (both_ways false refl e)
 own_value line behind t e bare = refl

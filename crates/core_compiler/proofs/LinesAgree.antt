@@ -1,39 +1,27 @@
--- Lines of block code that give one temporary agree on what it is another name for, and read no texts but to write them.
-use Rattle.std.proofs.Common.{◌≡◌, ℕ, ◌⊎◌, inl, inr, Bool, true, false, List, [], ◌∷◌, length, Option, Some, None, refl, sym, ap, ap₂, ◌∙◌, subst}
-use Rattle.std.specs.Prelude.{nat_lt, ◌&&◌, ◌||◌, not, if◌then◌else◌}
-use Rattle.std.proofs.lemmas.Bool.{eqb-true, eq-eqb, both_ways, and_parts, and_from, or_parts, or_left}
+-- Lines of block code that give one temporary agree on what it is another name for, and have code.
+use Rattle.std.proofs.Common.{◌≡◌, ℕ, ◌⊎◌, inl, inr, Bool, true, false, List, [], ◌∷◌, ◌++◌, length, Option, Some, None, refl, sym, ap, ap₂, ◌∙◌}
+use Rattle.std.specs.Prelude.{nat_eq, ◌&&◌, ◌||◌, not, if◌then◌else◌}
+use Rattle.std.proofs.lemmas.Bool.{eq-eqb, both_ways, and_parts, and_from}
 use Rattle.nim_types.specs.declared.types.TypeDef.{TypeDef}
-use Rattle.nim_types.specs.Types.{Ty, int}
-use Rattle.nim_types.specs.Table.{type_at, types_in, facts_in}
-use Rattle.nim_types.proofs.ForCallers.{same_sound}
-use Rattle.nim_program.specs.declared.operation.Operation.{Operation}
-use Rattle.nim_program.specs.declared.operation.Operation.TheVariants as O
-use Rattle.nim_program.specs.declared.expr.Label.TheVariants as C
+use Rattle.nim_types.specs.Types.{Ty}
 use Rattle.nim_program.specs.Kinds.{is_of}
-use Rattle.nim_program.specs.Program.{Doing}
-use Rattle.nim_meaning.specs.LeftOut.{writes_literals}
-use Rattle.nim_meaning.specs.Shapes.{is_lent}
-use Rattle.nim_meaning.specs.Values.{Fixed}
-use Rattle.flat_code.specs.declared.line.UseAt.{UseAt}
+use Rattle.flat_code.specs.declared.line.From.{From}
+use Rattle.flat_code.specs.declared.line.From.TheVariants as F
 use Rattle.flat_code.specs.declared.line.Line.{Line}
 use Rattle.flat_code.specs.declared.line.Line.TheVariants as L
-use Rattle.flat_code.specs.declared.line.Piece.{Piece}
-use Rattle.flat_code.specs.declared.line.Piece.TheVariants as P
 use Rattle.flat_code.specs.declared.place.FlatPlace.{FlatPlace}
-use Rattle.flat_code.specs.declared.place.PlaceKind.{PlaceKind}
-use Rattle.flat_code.specs.declared.place.PlaceKind.TheVariants as K
-use Rattle.flat_code.specs.Fits.{Signature, is_value, is_location, place_named, type_by_kind, if_type_of, any_place, value, fits, all_fit}
-use Rattle.flat_code.specs.Pieces.{are_one}
+use Rattle.flat_code.specs.Fits.{Signature, is_value, is_location, place_named, if_type_of, any_place, value, fits, all_fit}
 use Rattle.flat_code.specs.Scene.{known_in}
-use Rattle.flat_code.specs.Shapes.{shape_of, has_shape}
-use Rattle.flat_code.specs.Alike.{value_name, location_name, name_of, is_one_text, gives_text, IsProperty, is_named, is_as as has_as, gives_as, AreAlike}
-use Rattle.flat_code.specs.PlainCode.{is_counter, has_hooks, any_has_hooks, gets_text, ReadsPlain, ReadPlain}
+use Rattle.flat_code.specs.Alike.{value_name, location_name, name_of, IsProperty, is_named, is_as as has_as, gives_as, AreAlike}
+use Rattle.flat_code.specs.BuiltCode.{is_counter, IsBuiltLine, AreBuiltLines}
 use Rattle.word_lowering.specs.declared.homes.Alias.{Alias}
 use Rattle.word_lowering.specs.declared.homes.Alias.TheVariants.{Own, Place, Value, Node, Text}
 use Rattle.word_lowering.specs.declared.homes.Housed.{Housed}
-use Rattle.word_lowering.specs.Aliases.{value_to, location_to, alias_by, alias_in, is_it, text_in, texts_of}
+use Rattle.word_lowering.specs.Aliases.{value_to, location_to, alias_by, alias_in, is_it, texts_of, own_where, standing, own_literal, homed, homed_by}
+use Rattle.word_lowering.specs.Aliases.{is_among, is_read, text_alias, text_in, values_in}
 use Rattle.word_lowering.specs.Lookups.{found}
-use Rattle.word_lowering.specs.MayLower.{is_text, same_alias, is_as, is_echo, any_hooked, lends, reads_plain, lines_may}
+use Rattle.word_lowering.specs.MayLower.{same_alias, is_as, is_value_as, own_values, has_code, lines_may}
+use Rattle.core_compiler.proofs.LeadsAgree.{CallsHook, AreLed}
 use Rattle.core_compiler.proofs.LineNames.{named, own_value, same_place}
 
 pub never : {A : Type 0} → false ≡ true → A
@@ -59,84 +47,85 @@ itself (Value t) = eq-eqb t t refl
 itself (Node n) = eq-eqb n n refl
 itself (Text behind bytes) = and_from _ _ (eq-eqb behind behind refl) (eq-eqb bytes bytes refl)
 
--- what is the same as a text is one
-pub text_too : (a : Alias) (behind bytes : ℕ) → same_alias a (Text behind bytes) ≡ true → is_text a ≡ true
-text_too Own behind bytes h = never h
-text_too (Place p true) behind bytes h = never h
-text_too (Place p false) behind bytes h = never h
-text_too (Value t) behind bytes h = never h
-text_too (Node n) behind bytes h = never h
-text_too (Text other more) behind bytes h = refl
+-- ---- literals that lines take from homes
 
--- ---- a text's line
+own_or_literal : (taken : List ℕ) (t : ℕ) (a : Alias) → (own_literal taken t a ≡ Own) ⊎ (own_literal taken t a ≡ a)
+own_or_literal taken t (Text behind size) = by (is_among t taken)
+  where
+    by : (b : Bool) → ((if b then Own else Text behind size) ≡ Own) ⊎ ((if b then Own else Text behind size) ≡ Text behind size)
+    by true = inl refl
+    by false = inr refl
+own_or_literal taken t a = inr refl
 
-pub record IsText (line : Line) : Type 0 where
-  pub to : ℕ
-  pub how : UseAt
-  pub ty : ℕ
-  pub text : List ℕ
-  pub is : line ≡ L.Constant to how ty (P.Text text ∷ [])
+abbrev IsTextName : Alias → Type 0
+IsTextName (Text behind bytes) = Unit {0}
+IsTextName other = ⊥
 
-text_pieces : (pieces : List Piece) → is_one_text pieces ≡ true → (text : List ℕ) × (pieces ≡ P.Text text ∷ [])
-text_pieces [] h = never h
-text_pieces (P.Text text ∷ []) h = (text, refl)
-text_pieces (P.Text text ∷ other ∷ pieces) h = never h
-text_pieces (P.Ordinal z ∷ pieces) h = never h
-text_pieces (P.Nil ∷ pieces) h = never h
-text_pieces (P.Parts n ∷ pieces) h = never h
-text_pieces (P.Elements n ∷ pieces) h = never h
+text_named : (read : Bool) (n : ℕ) (o : Option (List ℕ)) → (text_alias read n o ≡ Own) ⊎ IsTextName (text_alias read n o)
+text_named read n None = inl refl
+text_named true n (Some text) = inr tt
+text_named false n (Some text) = inl refl
 
-pub text_line : (line : Line) → gives_text line ≡ true → IsText line
-text_line (L.Constant to how ty pieces) h = let q =
-    text_pieces pieces h in record { to = to; how = how; ty = ty; text = q.0; is = ap (L.Constant to how ty) q.1 }
-text_line line h = never h
+value_named : (line : Line) (t n : ℕ) → is_it t (value_to line) ≡ true → (alias_by line n ≡ Own) ⊎ IsTextName (alias_by line n)
+value_named (L.Root to place global) t n i = never i
+value_named (L.Fresh to from waits) t n i = never i
+value_named (L.Constant to how ty pieces) t n i = text_named (is_read how.how) n (text_in pieces)
+value_named line t n i = inl refl
 
--- ---- operations that write
+value_name_is : (t : ℕ) (lines : List Line) → (alias_in value_to t lines ≡ Own) ⊎ IsTextName (alias_in value_to t lines)
+value_name_is t [] = inl refl
+value_name_is t (line ∷ rest) = by (is_it t (value_to line)) refl (value_name_is t rest)
+  where
+    by : (b : Bool) → is_it t (value_to line) ≡ b → (alias_in value_to t rest ≡ Own) ⊎ IsTextName (alias_in value_to t rest) →
+        ((if b then alias_by line (length (texts_of rest)) else alias_in value_to t rest) ≡ Own)
+        ⊎ IsTextName (if b then alias_by line (length (texts_of rest)) else alias_in value_to t rest)
+    by true i behind = value_named line t (length (texts_of rest)) i
+    by false i behind = behind
 
-echoes : (operation : Operation) → writes_literals (Doing operation) ≡ true → is_echo operation ≡ true
-echoes O.Echo h = refl
-echoes operation h = never h
+-- a literal that is taken from a home has one
+literal_homed : (taken : List ℕ) (t : ℕ) (a : Alias) → is_among t taken ≡ true → (a ≡ Own) ⊎ IsTextName a → own_literal taken t a ≡ Own
+literal_homed taken t a i (inl e) = ap (own_literal taken t) e
+literal_homed taken t (Text behind size) i (inr n) = ap (λ b. if b then Own else Text behind size) i
+literal_homed taken t Own i (inr n) = refl
+literal_homed taken t a i (inr n) = absurd n
+
+among_front : (t : ℕ) (xs ys : List ℕ) → is_among t xs ≡ true → is_among t (xs ++ ys) ≡ true
+among_front t [] ys i = never i
+among_front t (x ∷ xs) ys i = by (nat_eq x t) i (λ h. among_front t xs ys h)
+  where
+    by : (b : Bool) → (b || is_among t xs) ≡ true → (is_among t xs ≡ true → is_among t (xs ++ ys) ≡ true) → (b || is_among t (xs ++ ys)) ≡ true
+    by true h rest = refl
+    by false h rest = rest h
+
+among_behind : (t : ℕ) (xs ys : List ℕ) → is_among t ys ≡ true → is_among t (xs ++ ys) ≡ true
+among_behind t [] ys i = i
+among_behind t (x ∷ xs) ys i = or_right (nat_eq x t) _ (among_behind t xs ys i)
+
+-- ---- lines that have code
 
 module _ (table : List TypeDef) where
-  none_hooked : (of : List (Option ℕ)) → any_has_hooks (known_in table) of ≡ false → any_hooked table of ≡ false
-  none_hooked [] h = refl
-  none_hooked (None ∷ of) h = none_hooked of h
-  none_hooked (Some ty ∷ of) h =
-      let q = or_parts (has_hooks (known_in table) ty) (any_has_hooks (known_in table) of) h in
-      ap₂ (λ a b. a || b) (both_false (nat_lt ty (length table)) _ q.0) (none_hooked of q.1)
-    where
-      both_false : (a b : Bool) → b ≡ false → a && b ≡ false
-      both_false true b e = e
-      both_false false b e = refl
-
-  reads : (line : Line) → ReadsPlain (known_in table) line → reads_plain table line ≡ true
-  reads (L.Apply to operation how ty of from) (inl e) = or_left (is_echo operation) (not (any_hooked table of)) (echoes operation e)
-  reads (L.Apply to operation how ty of from) (inr e) = or_right (is_echo operation) (not (any_hooked table of)) (ap not (none_hooked of e))
-  reads (L.Constant to how ty pieces) h = reads_constant pieces how h
-    where
-      reads_constant : (pieces : List Piece) (how : UseAt) → (is_one_text pieces ≡ false) ⊎ (is_lent how.how ≡ true) → lends (text_in pieces) how.how ≡ true
-      reads_constant (P.Text text ∷ []) how (inl e) = never (sym e)
-      reads_constant (P.Text text ∷ []) how (inr e) = e
-      reads_constant pieces how h = refl
-  reads (L.Fresh to from (Some node)) h = absurd h
-  reads (L.Fits from (C.Text text) to) h = absurd h
-  reads (L.Own what from) h = absurd h
-  reads line h = refl
+  coded : (line : Line) → IsBuiltLine (known_in table) line → CallsHook table line → has_code table line ≡ true
+  coded (L.Apply to operation how ty of from) h hook = h
+  coded (L.Object to from) h hook = absurd h
+  coded (L.Own what from) h hook = hook
+  coded line h hook = refl
 
   -- ---- the first line that gives a temporary, and all others
 
-  module _ (given : Line → Option ℕ) (key : ℕ → ℕ) (keyed : (line : Line) (t : ℕ) → is_named (key t) (name_of line) ≡ is_it t (given line)) where
+  -- as far as it is told: a location of a place that stands for another one has a home of its own
+  module _ (given : Line → Option ℕ) (key : ℕ → ℕ) (keyed : (line : Line) (t : ℕ) → is_named (key t) (name_of line) ≡ is_it t (given line))
+      (told : Alias → Alias) (own_told : told Own ≡ Own) where
     abbrev has : Alias → Line → (behind : List Line) → Bool
-    has a line k = same_alias a (alias_by line (length (texts_of k)))
+    has a line k = same_alias a (told (alias_by line (length (texts_of k))))
 
     property : (a : Alias) → IsProperty (has a) (same_alias a Own)
     property a = record {
       values = λ line to k n bare.
-          ap (same_alias a) (own_value line (length (texts_of k)) to
-          (sym ((named line).value to) ∙ ap (is_named (value_name to)) n ∙ eq-eqb (value_name to) (value_name to) refl) bare);
+          ap (same_alias a) (ap told (own_value line (length (texts_of k)) to
+          (sym ((named line).value to) ∙ ap (is_named (value_name to)) n ∙ eq-eqb (value_name to) (value_name to) refl) bare) ∙ own_told);
       locations = λ line to k l n.
-          ap (same_alias a) (same_place line (length (texts_of k)) (length (texts_of l)) to
-          (sym ((named line).location to) ∙ ap (is_named (location_name to)) n ∙ eq-eqb (location_name to) (location_name to) refl));
+          ap (same_alias a) (ap told (same_place line (length (texts_of k)) (length (texts_of l)) to
+          (sym ((named line).location to) ∙ ap (is_named (location_name to)) n ∙ eq-eqb (location_name to) (location_name to) refl)));
     }
 
     abbrev any_gives : (t : ℕ) → List Line → Bool
@@ -147,12 +136,13 @@ module _ (table : List TypeDef) where
         gives_as (key t) (has a) b (line ∷ k) ≡ true
     gives_here t a b line k e h = ap (λ c. c || gives_as (key t) (has a) b k) (and_from _ _ (keyed line t ∙ e) h)
 
-    first_has : (t : ℕ) (a : Alias) (lines : List Line) → alias_in given t lines ≡ a → any_gives t lines ≡ true → gives_as (key t) (has a) true lines ≡ true
+    first_has : (t : ℕ) (a : Alias) (lines : List Line) → told (alias_in given t lines) ≡ a → any_gives t lines ≡ true →
+        gives_as (key t) (has a) true lines ≡ true
     first_has t a [] e h = never h
     first_has t a (line ∷ k) e h = at (is_it t (given line)) refl e h (λ f g. first_has t a k f g)
       where
-        at : (b : Bool) → is_it t (given line) ≡ b → (if b then alias_by line (length (texts_of k)) else alias_in given t k) ≡ a →
-            (b || any_gives t k) ≡ true → (alias_in given t k ≡ a → any_gives t k ≡ true → gives_as (key t) (has a) true k ≡ true) →
+        at : (b : Bool) → is_it t (given line) ≡ b → told (if b then alias_by line (length (texts_of k)) else alias_in given t k) ≡ a →
+            (b || any_gives t k) ≡ true → (told (alias_in given t k) ≡ a → any_gives t k ≡ true → gives_as (key t) (has a) true k ≡ true) →
             gives_as (key t) (has a) true (line ∷ k) ≡ true
         at true i f g rest = gives_here t a true line k i (ap (same_alias a) f ∙ itself a)
         at false i f g rest = or_right (is_named (key t) (name_of line) && has a line k) _ (rest f g)
@@ -170,11 +160,11 @@ module _ (table : List TypeDef) where
       }
 
       pub agrees : (t : ℕ) (line : Line) (k : List Line) → Ends (line ∷ k) → is_it t (given line) ≡ true →
-          same_alias (alias_in given t whole) (alias_by line (length (texts_of k))) ≡ true
+          same_alias (told (alias_in given t whole)) (told (alias_by line (length (texts_of k)))) ≡ true
       agrees t line k e i = at (has a line k) refl
         where
           a : Alias
-          a = alias_in given t whole
+          a = told (alias_in given t whole)
 
           at : (b : Bool) → has a line k ≡ b → has a line k ≡ true
           at true h = h
@@ -189,32 +179,6 @@ module _ (table : List TypeDef) where
   module _ (procs : List Signature) (globals places : List FlatPlace) where
     abbrev fit : Line → Bool
     fit line = fits (known_in table) procs globals places line
-
-    -- a text comes to no counter
-    no_text : {A : Type 0} (line : Line) (t : ℕ) → fit line ≡ true → gives_text line ≡ true → is_it t (value_to line) ≡ true →
-        ((p : FlatPlace) → place_named is_value places t ≡ Some p → is_counter p.kind ≡ true) → A
-    no_text line t f g i all =
-        let x = text_line line g in
-        let h : fit (L.Constant x.to x.how x.ty (P.Text x.text ∷ [])) ≡ true = subst (λ l. fit l ≡ true) x.is f in
-        let n : x.to ≡ t = eqb-true x.to t (subst (λ l. is_it t (value_to l) ≡ true) x.is i) in
-        let q = and_parts (are_one (P.Text x.text ∷ []) 0 && has_shape (Fixed x.text) (shape_of (facts_in table) (type_at (types_in table) x.ty))) _ h in
-        let s = and_parts (are_one (P.Text x.text ∷ []) 0) _ q.0 in
-        at (place_named is_value places x.to) (subst (λ m. (p : FlatPlace) → place_named is_value places m ≡ Some p → is_counter p.kind ≡ true) (sym n)
-        all) x.ty
-        x.text s.1 q.1
-      where
-        at : {A : Type 0} (o : Option FlatPlace) → ((p : FlatPlace) → o ≡ Some p → is_counter p.kind ≡ true) → (ty : ℕ) (text : List ℕ) →
-            has_shape (Fixed text) (shape_of (facts_in table) (type_at (types_in table) ty)) ≡ true →
-            is_of (if_type_of (known_in table) o) (Some (type_at (types_in table) ty)) ≡ true → A
-        at None all ty text s q = never q
-        at (Some p) all ty text s q = counted p.kind (type_at (types_in table) p.ty) (all p refl) ty text s q
-          where
-            counted : {A : Type 0} (kind : PlaceKind) (own : Ty) → is_counter kind ≡ true → (ty : ℕ) (text : List ℕ) →
-                has_shape (Fixed text) (shape_of (facts_in table) (type_at (types_in table) ty)) ≡ true →
-                is_of (Some (type_by_kind kind own)) (Some (type_at (types_in table) ty)) ≡ true → A
-            counted K.Counter own c ty text s q =
-                never (subst (λ (u : Ty). has_shape (Fixed text) (shape_of (facts_in table) u) ≡ true) (sym (same_sound int (type_at (types_in table) ty) q)) s)
-            counted kind own c ty text s q = never c
 
     none_of : {A : Type 0} (a b : Option Ty) → a ≡ None → is_of a b ≡ true → A
     none_of a b e h = bare b (sym (ap (λ x. is_of x b) e) ∙ h)
@@ -239,79 +203,109 @@ module _ (table : List TypeDef) where
 
     -- what is found of a temporary is what its first line says, or it has no place of its own
     pub record Finds (whole : List Line) (hs : List Housed) : Type 0 where
-      pub value : (t : ℕ) → ((found is_value t hs).alias ≡ alias_in value_to t whole)
+      pub value : (t : ℕ) → ((found is_value t hs).alias ≡ own_literal (homed whole) t (alias_in value_to t whole))
           ⊎ (((found is_value t hs).alias ≡ Own) × ((p : FlatPlace) → place_named is_value places t ≡ Some p → is_counter p.kind ≡ true))
-      pub location : (t : ℕ) → ((found is_location t hs).alias ≡ alias_in location_to t whole)
+      pub location : (t : ℕ) → ((found is_location t hs).alias ≡ own_where (standing whole) (alias_in location_to t whole))
           ⊎ (((found is_location t hs).alias ≡ Own) × (place_named is_location places t ≡ None))
 
     module _ (whole : List Line) (alike : AreAlike whole) (hs : List Housed) (finds : Finds whole hs) where
+      -- what is told of locations
+      abbrev told_here : Alias → Alias
+      told_here a = own_where (standing whole) a
+
       abbrev ValueEnds : List Line → Type 0
-      ValueEnds lines = Ends value_to value_name (λ line t. (named line).value t) whole alike lines
+      ValueEnds lines = Ends value_to value_name (λ line t. (named line).value t) (λ a. a) refl whole alike lines
 
       abbrev LocationEnds : List Line → Type 0
-      LocationEnds lines = Ends location_to location_name (λ line t. (named line).location t) whole alike lines
+      LocationEnds lines = Ends location_to location_name (λ line t. (named line).location t) told_here refl whole alike lines
 
       value_may : (line : Line) (k : List Line) (o : Option ℕ) → value_to line ≡ o → fit line ≡ true → ValueEnds (line ∷ k) →
-          is_as is_value hs o (alias_by line (length (texts_of k))) ≡ true
+          is_value_as hs o (alias_by line (length (texts_of k))) ≡ true
       value_may line k None e f ends = refl
       value_may line k (Some t) e f ends = by (finds.value t)
         where
           here : is_it t (value_to line) ≡ true
           here = ap (is_it t) e ∙ eq-eqb t t refl
 
-          own : (b : Bool) → gives_text line ≡ b → ((p : FlatPlace) → place_named is_value places t ≡ Some p → is_counter p.kind ≡ true) →
-              alias_by line (length (texts_of k)) ≡ Own
-          own true g all = no_text line t f g here all
-          own false g all = own_value line (length (texts_of k)) t here g
+          name : Alias
+          name = alias_by line (length (texts_of k))
 
-          by : ((found is_value t hs).alias ≡ alias_in value_to t whole)
+          own : (a : Alias) → a ≡ Own → (same_alias a Own || same_alias a name) ≡ true
+          own a e = ap (λ c. same_alias c Own || same_alias c name) e
+
+          literal : (a : Alias) → a ≡ own_literal (homed whole) t (alias_in value_to t whole)
+              → (own_literal (homed whole) t (alias_in value_to t whole) ≡ Own)
+              ⊎ (own_literal (homed whole) t (alias_in value_to t whole) ≡ alias_in value_to t whole) → (same_alias a Own || same_alias a name) ≡ true
+          literal a e (inl is) = own a (e ∙ is)
+          literal a e (inr is) =
+              or_right (same_alias a Own) _ (ap (λ c. same_alias c name) (e ∙ is)
+              ∙ agrees value_to value_name (λ line t. (named line).value t) (λ a. a) refl whole alike t line k ends here)
+
+          by : ((found is_value t hs).alias ≡ own_literal (homed whole) t (alias_in value_to t whole))
               ⊎ (((found is_value t hs).alias ≡ Own) × ((p : FlatPlace) → place_named is_value places t ≡ Some p → is_counter p.kind ≡ true)) →
-              same_alias (found is_value t hs).alias (alias_by line (length (texts_of k))) ≡ true
-          by (inl a) = ap (λ x. same_alias x (alias_by line (length (texts_of k)))) a
-              ∙ agrees value_to value_name (λ line t. (named line).value t) whole alike t line k ends here
-          by (inr q) = ap₂ same_alias q.0 (own (gives_text line) refl q.1)
+              (same_alias (found is_value t hs).alias Own || same_alias (found is_value t hs).alias name) ≡ true
+          by (inl a) = literal (found is_value t hs).alias a (own_or_literal (homed whole) t (alias_in value_to t whole))
+          by (inr q) = own (found is_value t hs).alias q.0
 
       location_may : (line : Line) (k : List Line) (o : Option ℕ) → location_to line ≡ o → fit line ≡ true → LocationEnds (line ∷ k) →
-          is_as is_location hs o (alias_by line (length (texts_of k))) ≡ true
+          is_as is_location hs o (told_here (alias_by line (length (texts_of k)))) ≡ true
       location_may line k None e f ends = refl
       location_may line k (Some t) e f ends = by (finds.location t)
         where
           here : is_it t (location_to line) ≡ true
           here = ap (is_it t) e ∙ eq-eqb t t refl
 
-          by : ((found is_location t hs).alias ≡ alias_in location_to t whole)
+          by : ((found is_location t hs).alias ≡ told_here (alias_in location_to t whole))
               ⊎ (((found is_location t hs).alias ≡ Own) × (place_named is_location places t ≡ None)) →
-              same_alias (found is_location t hs).alias (alias_by line (length (texts_of k))) ≡ true
-          by (inl a) = ap (λ x. same_alias x (alias_by line (length (texts_of k)))) a
-              ∙ agrees location_to location_name (λ line t. (named line).location t) whole alike t line k ends here
-          by (inr q) = ap₂ same_alias q.0 (led_own line (length (texts_of k)) t e f q.1)
+              same_alias (found is_location t hs).alias (told_here (alias_by line (length (texts_of k)))) ≡ true
+          by (inl a) = ap (λ x. same_alias x (told_here (alias_by line (length (texts_of k))))) a
+              ∙ agrees location_to location_name (λ line t. (named line).location t) told_here refl whole alike t line k ends here
+          by (inr q) = ap₂ same_alias q.0 (ap told_here (led_own line (length (texts_of k)) t e f q.1))
+
+      homed_own : (t : ℕ) → is_among t (homed whole) ≡ true → (found is_value t hs).alias ≡ Own
+      homed_own t i = by (finds.value t)
+        where
+          by : ((found is_value t hs).alias ≡ own_literal (homed whole) t (alias_in value_to t whole))
+              ⊎ (((found is_value t hs).alias ≡ Own) × ((p : FlatPlace) → place_named is_value places t ≡ Some p → is_counter p.kind ≡ true)) →
+              (found is_value t hs).alias ≡ Own
+          by (inl a) = a ∙ literal_homed (homed whole) t (alias_in value_to t whole) i (value_name_is t whole)
+          by (inr q) = q.0
+
+      from_own : (from : List From) → ((t : ℕ) → is_among t (values_in from) ≡ true → is_among t (homed whole) ≡ true) → own_values hs from ≡ true
+      from_own [] h = refl
+      from_own (F.Value t ∷ from) h =
+          and_from _ _ (ap (λ a. same_alias a Own) (homed_own t (h t (ap (λ b. b || is_among t (values_in from)) (eq-eqb t t refl)))))
+          (from_own from (λ u i. h u (among_behind u (t ∷ []) (values_in from) i)))
+      from_own (F.Place t ∷ from) h = from_own from h
+
+      -- own_values (homed_by line) of each line
+      abbrev AllOwn : List Line → Type 0
+      AllOwn [] = Unit {0}
+      AllOwn (line ∷ k) = (own_values hs (homed_by line) ≡ true) × AllOwn k
+
+      all_own : (lines : List Line) → ((t : ℕ) → is_among t (homed lines) ≡ true → is_among t (homed whole) ≡ true) → AllOwn lines
+      all_own [] h = tt
+      all_own (line ∷ k) h = (
+        from_own (homed_by line) (λ t i. h t (among_front t (values_in (homed_by line)) (homed k) i)),
+        all_own k (λ t i. h t (among_behind t (values_in (homed_by line)) (homed k) i)),
+      )
+
+      pub owned_values : AllOwn whole
+      owned_values = all_own whole (λ t i. i)
 
       all_may : (lines : List Line) → ValueEnds lines → LocationEnds lines → all_fit (known_in table) procs globals places lines ≡ true →
-          ReadPlain (known_in table) lines → lines_may table hs lines ≡ true
-      all_may [] v l f r = refl
-      all_may (line ∷ k) v l f r =
+          AreBuiltLines (known_in table) lines → AllOwn lines → AreLed table hs lines → lines_may table hs (standing whole) lines ≡ true
+      all_may [] v l f r own led = refl
+      all_may (line ∷ k) v l f r own led =
           let q = and_parts (fit line) (all_fit (known_in table) procs globals places k) f in
           and_from _ _
           (and_from _ _ (value_may line k (value_to line) refl q.0 v)
-          (and_from _ _ (location_may line k (location_to line) refl q.0 l) (reads line r.0)))
-          (all_may k (ends_behind value_to value_name (λ line t. (named line).value t) whole alike line k v)
-          (ends_behind location_to location_name (λ line t. (named line).location t) whole alike line k l) q.1 r.1)
+          (and_from _ _ (location_may line k (location_to line) refl q.0 l)
+          (and_from _ _ (coded line r.0 led.1) (and_from _ _ own.0 led.0))))
+          (all_may k (ends_behind value_to value_name (λ line t. (named line).value t) (λ a. a) refl whole alike line k v)
+          (ends_behind location_to location_name (λ line t. (named line).location t) told_here refl whole alike line k l) q.1 r.1 own.1 led.2)
 
-      pub may : all_fit (known_in table) procs globals places whole ≡ true → ReadPlain (known_in table) whole → lines_may table hs whole ≡ true
-      may f r = all_may whole (record { gives = λ n holds b h. h; any = λ t h. h }) (record { gives = λ n holds b h. h; any = λ t h. h }) f r
-
-      -- a temporary that gets a text is another name for one
-      pub text_named : (t : ℕ) (lines : List Line) → ValueEnds lines → gets_text t lines ≡ true → is_text (alias_in value_to t whole) ≡ true
-      text_named t [] v g = never g
-      text_named t (line ∷ k) v g = at (gives_text line) refl (is_named (value_name t) (name_of line)) refl g (λ h.
-          text_named t k (ends_behind value_to value_name (λ line t. (named line).value t) whole alike line k v) h)
-        where
-          at : (b : Bool) → gives_text line ≡ b → (c : Bool) → is_named (value_name t) (name_of line) ≡ c → ((b && c) || gets_text t k) ≡ true →
-              (gets_text t k ≡ true → is_text (alias_in value_to t whole) ≡ true) → is_text (alias_in value_to t whole) ≡ true
-          at true e true n h rest =
-              let x = text_line line e in
-              text_too (alias_in value_to t whole) (length (texts_of k)) (length x.text)
-              (sym (ap (λ l. same_alias (alias_in value_to t whole) (alias_by l (length (texts_of k)))) x.is)
-              ∙ agrees value_to value_name (λ line t. (named line).value t) whole alike t line k v (sym ((named line).value t) ∙ n))
-          at true e false n h rest = rest h
-          at false e c n h rest = rest h
+      pub may : all_fit (known_in table) procs globals places whole ≡ true → AreBuiltLines (known_in table) whole → AreLed table hs whole
+          → lines_may table hs (standing whole) whole ≡ true
+      may f r led =
+          all_may whole (record { gives = λ n holds b h. h; any = λ t h. h }) (record { gives = λ n holds b h. h; any = λ t h. h }) f r owned_values led

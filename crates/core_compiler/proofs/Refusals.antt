@@ -14,11 +14,11 @@ use Rattle.nim_meaning.specs.LeftOut.{first_left_out}
 use Rattle.word_code.specs.declared.word.WordProc.{WordProc}
 use Rattle.flat_code.specs.declared.code.Code.{Code}
 use Rattle.flat_code.specs.declared.line.Line.{Line}
-use Rattle.flat_code.specs.Codes.{flat_plain}
+use Rattle.flat_code.specs.Codes.{flat_plain, places_of}
 use Rattle.flat_code.specs.Sizes.{code_weight}
 use Rattle.program_limits.specs.Frames.{beginning, frame_limits}
 use Rattle.program_limits.specs.Limits.{unless_left_out, unless_large, data_limits, tree_limits}
-use Rattle.flattening.specs.Counted.{program_parts, program_pairs}
+use Rattle.flattening.specs.Counted.{program_parts, program_pairs, places_waiting}
 use Rattle.flattening.specs.Flattened.{modes_of}
 use Rattle.rv32_codegen.specs.Lowering.{most_bytes}
 use Rattle.core_compiler.specs.Limits.{code_bound, code_limits, note_bytes, note_limits, build_limits}
@@ -45,12 +45,14 @@ module _ (program : Program) where
         | inr f ↦ f
       ]
 
-  pub bound_is : (plan : Plan) (flat : Code Line) (procs : List WordProc) →
-      code_weight flat_plain flat.procs ≤ 33 * program_parts program + 5 * program_pairs (modes_of program plan) program →
-      most_bytes procs ≤ 48 * code_weight flat_plain flat.procs + 13436 → most_bytes procs ≤ code_bound program plan
-  bound_is plan flat procs few most =
-      let bound : 1584 * program_parts program + (240 * program_pairs (modes_of program plan) program + 2756) ≤ code_bound program plan = omega arith in
-      omega (arith, few, most, bound)
+  pub bound_is : (plan : Plan) (flat : Code Line) (procs : List WordProc) (hooks : ℕ) →
+      code_weight flat_plain flat.procs ≤ 47 * program_parts program + 9 * program_pairs (modes_of program plan) program →
+      places_waiting (places_of flat) ≤ program_parts program →
+      most_bytes procs ≤ 48 * (code_weight flat_plain flat.procs + places_waiting (places_of flat)) + (36672 * hooks + 13436) →
+      most_bytes procs ≤ code_bound program plan + 36672 * hooks
+  bound_is plan flat procs hooks few waiting most =
+      let bound : 2304 * program_parts program + (432 * program_pairs (modes_of program plan) program + 13436) ≤ code_bound program plan = omega arith in
+      omega (arith, few, waiting, most, bound)
 
 -- ---- where all of it is built
 
@@ -82,12 +84,12 @@ refused_before of T program plan bytes (Refused k at) is = λ small. absurd (nei
 refused_before of T program plan bytes Memory is = tt
 
 -- a program that isn't refused before it has code has nothing that is left out
-plain_if : (found : Option Place) (rest : Result (Unit {0}) Refusal) → and_then (unless_left_out found) (λ built. rest) ≡ Ok tt → found ≡ None
-plain_if None rest e = refl
-plain_if (Some at) rest e = absurd (neither (refused LeftOut at) _ refl e)
+built_if : (found : Option Place) (rest : Result (Unit {0}) Refusal) → and_then (unless_left_out found) (λ built. rest) ≡ Ok tt → found ≡ None
+built_if None rest e = refl
+built_if (Some at) rest e = absurd (neither (refused LeftOut at) _ refl e)
 
-pub plain_within : (program : Program) → tree_limits program ≡ Ok tt → first_left_out program ≡ None
-plain_within program small = plain_if (first_left_out program) (and_then (frame_limits program) (λ small. data_limits program)) small
+pub built_within : (program : Program) → tree_limits program ≡ Ok tt → first_left_out program ≡ None
+built_within program small = built_if (first_left_out program) (and_then (frame_limits program) (λ small. data_limits program)) small
 
 out_is : (program : Program) (at : Place) → first_left_out program ≡ Some at → tree_limits program ≡ refused LeftOut at
 out_is program at e = ap (λ o. and_then (unless_left_out o) (λ built. and_then (frame_limits program) (λ small. data_limits program))) e

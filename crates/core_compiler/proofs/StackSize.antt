@@ -12,9 +12,10 @@ use Rattle.reg_scan.specs.declared.homes.Homes.{Homes}
 use Rattle.rv32_codegen.specs.Stack.{frame_for, stack_need, most_size, call_size, counted_size}
 use Rattle.rv32_codegen.specs.Layout.{code_size}
 use Rattle.rv32_codegen.specs.Lowering.{AllHomes, CanRun, AlwaysDoes, MakeFrames, most_bytes}
-use Rattle.word_code.specs.declared.routine.TheConstants.{ROUTINE_VARIABLES, ROUTINE_ROOM}
-use Rattle.heap_memory.specs.declared.numbers.TheConstants.{HEAP_CHAIN}
-use Rattle.word_lowering.specs.declared.may_lower.TheConstants.{MOST_VARS, MOST_ROOM}
+use Rattle.nim_types.specs.declared.types.TheConstants.{LIST_BYTES}
+use Rattle.hook_code.specs.declared.numbers.TheConstants.{HOOK_VARIABLES}
+use Rattle.word_lowering.specs.declared.lowering.TheConstants.{MOST_CHAIN}
+use Rattle.word_lowering.specs.declared.may_lower.TheConstants.{MOST_FRAME}
 use Rattle.word_lowering.specs.Lowers.{AreSmall}
 use Rattle.word_lowering.proofs.ForCallers.{small_found}
 use Rattle.core_compiler.specs.Stages.{CanLayOut, HasLines}
@@ -37,27 +38,26 @@ frame_found (q ∷ procs) (own ∷ homes) all p tail e = elim (cases_Bool (q.num
 ]
 
 -- what a call takes, its frame and its places
-calls : (procs : List WordProc) (homes : List Homes) → AllHomes procs homes → AreSmall procs → most_size procs homes ≤ 4 * suc MOST_VARS + MOST_ROOM
+calls : (procs : List WordProc) (homes : List Homes) → AllHomes procs homes → AreSmall procs → most_size procs homes ≤ 4 + MOST_FRAME
 calls [] [] all small = omega arith
 calls [] (own ∷ homes) all small = absurd all
 calls (p ∷ procs) [] all small = absurd all
 calls (p ∷ procs) (own ∷ homes) all small =
-    let few = small.0.variables in
-    let room = small.0.room in
+    let few = small.0.together in
     let most : own.frame ≤ 4 * suc p.vars = all.0.most in
-    omega (arith, few, room, most, calls procs homes all.1 small.1)
+    omega (arith, few, most, calls procs homes all.1 small.1)
 
 -- ---- the stack
 
 module _ (procs : List WordProc) (homes : List Homes) (all : AllHomes procs homes) (small : AreSmall procs)
-    (chain : longest_chain procs ≤ HEAP_CHAIN) where
+    (chain : longest_chain procs ≤ MOST_CHAIN) where
   -- of one that counts, with the chain of calls that it may make
-  call_most : counted_size procs homes ≤ 4 * suc MOST_VARS + MOST_ROOM + (4 * suc ROUTINE_VARIABLES + ROUTINE_ROOM) * HEAP_CHAIN
+  call_most : counted_size procs homes ≤ 4 + MOST_FRAME + (4 * suc HOOK_VARIABLES + LIST_BYTES) * MOST_CHAIN
   call_most =
       let own = calls procs homes all small in
-      let behind = longest_times procs (call_size procs homes) (4 * suc ROUTINE_VARIABLES + ROUTINE_ROOM) (λ p tail e f.
-      let few = ((small_found p.number procs p tail e small).routine f).variables in
-      let room = ((small_found p.number procs p tail e small).routine f).room in
+      let behind = longest_times procs (call_size procs homes) (4 * suc HOOK_VARIABLES + LIST_BYTES) (λ p tail e f.
+      let few = ((small_found p.number procs p tail e small).uncounted f).variables in
+      let room = ((small_found p.number procs p tail e small).uncounted f).room in
       omega (arith, frame_found procs homes all p tail e, few, room)) in
       omega (arith, own, behind, chain)
 

@@ -1,10 +1,12 @@
 -- What code of a typed program does and how many bytes it has, and what its image does.
 use Rattle.std.specs.Prelude.{◌≡◌, ◌≢◌, ◌≤◌, ℕ, ◌+◌, ◌*◌, All, List, [], length, Some, None, Ok, Result, Err}
 use Rattle.arc_base.specs.Event.{Event}
-use Rattle.arc_base.specs.Behaviour.{Live, Ended, Behaviour, Agrees, no_objects}
+use Rattle.arc_base.specs.Behaviour.{Live, Ended, Behaviour, Agrees, Sound, no_objects}
 use Rattle.arc_base.specs.Pace.{PacedFrom}
 use Rattle.arc_base.specs.declared.place.Stop.{Stop}
 use Rattle.arc_base.specs.declared.place.Stop.TheVariants.{Refused, Memory}
+use Rattle.nim_types.specs.declared.types.TypeDef.{TypeDef}
+use Rattle.nim_types.specs.Table.{facts_in}
 use Rattle.nim_types.specs.Types.{Ty, members, Facts, fact_of}
 use Rattle.nim_plan.specs.declared.plan.Plan.{Plan}
 use Rattle.nim_program.specs.Program.{Program}
@@ -20,11 +22,12 @@ use Rattle.word_code.specs.declared.routine.TheConstants.{RUNTIME_DATA}
 use Rattle.heap_memory.specs.declared.numbers.TheConstants.{HEAP_DATA}
 use Rattle.program_limits.specs.Data.{data_counted}
 use Rattle.word_lowering.specs.declared.lowering.TheConstants.{MOST_HEAP, MORE_DATA}
+use Rattle.hook_code.specs.Kept.{hook_parts}
 use Rattle.reg_scan.specs.declared.homes.Homes.{Homes}
 use Rattle.rv32_codegen.specs.Layout.{code_size, laid_out}
 use Rattle.rv32_codegen.specs.Lowering.{AllHomes, CanRun, AlwaysDoes, MakeFrames}
 use Rattle.rv32_codegen.specs.Stack.{stack_need}
-use Rattle.core_compiler.specs.declared.program.TheConstants.{IMAGE_PACE, IMAGE_LATE, TIME_PACE, TIME_LATE}
+use Rattle.core_compiler.specs.declared.program.TheConstants.{IMAGE_PACE, IMAGE_LATE, TIME_PACE, TIME_LATE, BYTES_OF_HOOK}
 use Rattle.program_limits.specs.Limits.{tree_limits}
 use Rattle.core_compiler.specs.Limits.{code_bound}
 
@@ -59,7 +62,7 @@ pub record IsLabelCode (words : WordCode) (homes : List Homes) (lines : List Lab
 
 -- Code of so many bytes does what the program means under a plan: label code of word code that means the same, with each heap and each stack
 -- that a machine may have, whatever bytes new places bring. The bytes are those that the lines have where they are laid out, and no more than the bound for the
--- program under the plan; its data are at most those of the program that count, and 4,220 bytes more.
+-- program under the plan and for the hooks of a table of its types; its data are at most those of the program that count, and 4,220 bytes more.
 pub record HasCode (program : Program) (plan : Plan) (bytes : ℕ) : Type 0 where
   pub words : WordCode
   pub homes : List Homes
@@ -68,7 +71,9 @@ pub record HasCode (program : Program) (plan : Plan) (bytes : ℕ) : Type 0 wher
   pub agrees : (fresh : Fresh) (heap stack : ℕ) (input : List ℕ) → CanRun words homes heap stack →
       Agrees (word_meaning live_objects words fresh heap stack input) (meaning program plan heap input)
   pub size : code_size lines ≡ bytes
-  pub bound : bytes ≤ code_bound program plan
+  pub types : List TypeDef
+  pub facts : facts_in types ≡ program.facts
+  pub bound : bytes ≤ code_bound program plan + BYTES_OF_HOOK * hook_parts types
   pub data_most : length words.statics ≤ data_counted program + (HEAP_DATA + MORE_DATA + RUNTIME_DATA)
 
 -- the image of code with such a heap, and with just the stack that it needs
@@ -110,3 +115,7 @@ pub record HasImage (program : Program) (plan : Plan) (code : ℕ) : Type 0 wher
 -- the image of which the limits of `check` speak, where all of the program is built
 abbrev pub HasImageWhereBuilt : Program → Plan → (code : ℕ) → Type 0
 HasImageWhereBuilt program plan code = first_left_out program ≡ None → HasImage program plan code
+
+-- no run of it is wrong, where all of it is built
+abbrev pub IsSoundWhereBuilt : Program → Plan → Type 0
+IsSoundWhereBuilt program plan = first_left_out program ≡ None → (heap : ℕ) (input : List ℕ) → Sound (meaning program plan heap input)

@@ -7,6 +7,7 @@ use Rattle.arc_base.specs.declared.place.Code.TheVariants as code
 use Rattle.arc_base.specs.declared.place.Stop.{Stop}
 use Rattle.arc_base.specs.declared.place.Stop.TheVariants as stop
 use Rattle.nim_types.specs.declared.types.TypeDef.{TypeDef}
+use Rattle.nim_types.specs.Table.{facts_in}
 use Rattle.nim_plan.specs.declared.plan.Plan.{Plan}
 use Rattle.nim_program.specs.declared.sizes.TheConstants.{MOST_BYTES}
 use Rattle.nim_program.specs.declared.text_sizes.TheConstants.{MOST_DATA as MOST_DATA_BYTES}
@@ -28,10 +29,10 @@ use Rattle.word_code.specs.Words.{word_meaning, word_by_units, is_word_code, hav
 use Rattle.program_limits.specs.Frames.{beginning}
 use Rattle.flattening.specs.declared.laws.TheConstants.{FLAT_PACE, NODE_WEIGHT, PAIR_WEIGHT}
 use Rattle.flat_code.specs.Alike.{AllAlike}
-use Rattle.flattening.specs.Counted.{program_parts, program_pairs}
+use Rattle.flattening.specs.Counted.{program_parts, program_pairs, places_waiting}
 use Rattle.flattening.specs.Flattened.{modes_of}
-use Rattle.flattening.specs.Lent.{NoneLent}
-use Rattle.flat_code.specs.PlainCode.{ArePlainProcs}
+use Rattle.flat_code.specs.BuiltCode.{AreBuiltProcs}
+use Rattle.flat_code.specs.Leads.{AllLeadRight}
 use Rattle.flat_code.specs.Waits.{AllWaitRight, AllWaitOnce}
 use Rattle.program_limits.specs.Data.{data_counted}
 use Rattle.rv32_codegen.specs.declared.label_code.TheConstants.{BYTES_OF_LINE, CODE_PACE}
@@ -43,11 +44,12 @@ use Rattle.rv32_codegen.specs.Lowering.{most_bytes}
 use Rattle.rv32_codegen.specs.Stack.{stack_need}
 use Rattle.reg_scan.specs.declared.homes.Homes.{Homes}
 use Rattle.word_code.specs.declared.routine.TheConstants.{RUNTIME_DATA}
-use Rattle.heap_memory.specs.declared.numbers.TheConstants.{HEAP_CHAIN, HEAP_DATA}
-use Rattle.word_lowering.specs.declared.lowering.TheConstants.{WORD_PACE, MOST_HEAP, MORE_DATA}
+use Rattle.heap_memory.specs.declared.numbers.TheConstants.{HEAP_DATA}
+use Rattle.word_lowering.specs.declared.lowering.TheConstants.{WORD_LATE, WORD_PACE, MOST_HEAP, MOST_CHAIN, MORE_DATA}
 use Rattle.word_lowering.specs.declared.may_lower.TheConstants.{MOST_DATA}
+use Rattle.hook_code.specs.Kept.{hook_parts}
 use Rattle.word_lowering.specs.Lowers.{AreSmall}
-use Rattle.core_compiler.specs.declared.program.TheConstants.{BYTES_OF_ALL}
+use Rattle.core_compiler.specs.declared.program.TheConstants.{BYTES_OF_HOOK, BYTES_OF_ALL}
 use Rattle.core_compiler.specs.Compile.{live_objects, IsLabelCode}
 
 -- ---- a typed program and its flat code
@@ -57,16 +59,22 @@ pub record ShowsSame (low high : Seen Event) : Type 0 where
   pub events : low.events ≡ high.events
   pub phase : low.phase ≡ high.phase
 
--- what word code rests on beside that flat code fits, and that values wait where lines say: it has the module's code, it has no heap, no procedure is too
--- large, and neither are its data
-pub record MayBeLowered (table : List TypeDef) (flat : Code Line) : Type 0 where
-  pub some : 0 < length flat.procs
-  pub alike : AllAlike flat.procs
-  pub plain : ArePlainProcs (known_in table) MOST_BYTES flat.procs
-  pub lent : NoneLent flat.procs
+-- Its lines fit the types of its places, and what they give, take or end waits where they say, nothing else at the same node.
+pub record FlatFits (table : List TypeDef) (flat : Code Line) : Type 0 where
   pub fits : code_fits flat_plain (known_in table) flat.procs ≡ true
   pub waits : AllWaitRight flat_plain (known_in table) flat.procs
   pub once : AllWaitOnce (places_of flat)
+
+-- what word code rests on beside that flat code fits, and that values wait where lines say: it has the module's code, its types and operations are
+-- built, no procedure is too large, and neither are its data
+pub record MayBeLowered (table : List TypeDef) (flat : Code Line) : Type 0 where
+  pub some : 0 < length flat.procs
+  pub alike : AllAlike flat.procs
+  pub built : AreBuiltProcs (known_in table) MOST_BYTES flat.procs
+  pub fits : code_fits flat_plain (known_in table) flat.procs ≡ true
+  pub waits : AllWaitRight flat_plain (known_in table) flat.procs
+  pub once : AllWaitOnce (places_of flat)
+  pub leads : AllLeadRight (known_in table) flat.procs
   pub hooks : AreNone (hooks_of flat)
   pub data_few : data_bytes flat_plain table flat.procs ≤ MOST_DATA_BYTES
 
@@ -81,11 +89,13 @@ pub record IsFlatOf (table : List TypeDef) (program : Program) (plan : Plan) (fl
       × ((more : ℕ) → ShowsSame (flat_within table flat plan units heap input (lines + more)) (meaning program plan heap input units))
   pub within : (heap : ℕ) (input : List ℕ) (units n : ℕ) →
       (flat_within table flat plan units heap input n).work ≤ FLAT_PACE * ((meaning program plan heap input units).work + 1) + 1
-  pub fits : code_fits flat_plain (known_in table) flat.procs ≡ true
+  pub fits : FlatFits table flat
   pub weight : code_weight flat_plain flat.procs ≤ NODE_WEIGHT * program_parts program + PAIR_WEIGHT * program_pairs (modes_of program plan) program
+  pub waiting : places_waiting (places_of flat) ≤ program_parts program
   pub data_size : data_bytes flat_plain table flat.procs ≤ data_counted program
   pub hooks : AreNone (hooks_of flat)
   pub forms : HaveForms table
+  pub facts : facts_in table ≡ program.facts
   pub may : MayBeLowered table flat
 
 -- ---- flat code and its word code
@@ -94,7 +104,7 @@ pub record IsFlatOf (table : List TypeDef) (program : Program) (plan : Plan) (fl
 pub record CanLayOut (words : WordCode) : Type 0 where
   pub formed : is_word_code words ≡ true
   pub no_circle : has_no_circle words.procs ≡ true
-  pub chain : longest_chain words.procs ≤ HEAP_CHAIN
+  pub chain : longest_chain words.procs ≤ MOST_CHAIN
   pub small : AreSmall words.procs
   pub whole : length words.statics % 4 ≡ 0
   pub statics_most : length words.statics ≤ HEAP_DATA + MOST_DATA + RUNTIME_DATA
@@ -102,22 +112,23 @@ pub record CanLayOut (words : WordCode) : Type 0 where
 -- Word code, with all routines, does what flat code does under the plan, where that is never at a fault and never wrong, whatever bytes new places
 -- bring; and what it becomes has at most so many bytes.
 pub record AreWordsOf (table : List TypeDef) (plan : Plan) (flat : Code Line) (words : WordCode) : Type 0 where
-  pub agrees : (fresh : Fresh) (heap stack : ℕ) (input : List ℕ) → heap ≤ MOST_HEAP → code_fits flat_plain (known_in table) flat.procs ≡ true →
+  pub agrees : (fresh : Fresh) (heap stack : ℕ) (input : List ℕ) → heap ≤ MOST_HEAP → FlatFits table flat →
       AreNone (hooks_of flat) → Sound (flat_meaning table flat plan heap input) →
       Agrees (word_meaning live_objects words fresh heap stack input) (flat_meaning table flat plan heap input)
-  pub paced : (fresh : Fresh) (heap stack : ℕ) (input : List ℕ) → heap ≤ MOST_HEAP → code_fits flat_plain (known_in table) flat.procs ≡ true →
+  pub paced : (fresh : Fresh) (heap stack : ℕ) (input : List ℕ) → heap ≤ MOST_HEAP → FlatFits table flat →
       AreNone (hooks_of flat) → Sound (flat_meaning table flat plan heap input) →
-      PacedFrom WORD_PACE 1 (word_meaning live_objects words fresh heap stack input) (flat_meaning table flat plan heap input)
+      PacedFrom WORD_PACE WORD_LATE (word_meaning live_objects words fresh heap stack input) (flat_meaning table flat plan heap input)
   -- with so many units it shows from some moment on what flat code shows from some moment on, and never does more work than so many times that of
   -- flat code at some moment
-  pub exact : (fresh : Fresh) (heap stack : ℕ) (input : List ℕ) → heap ≤ MOST_HEAP → code_fits flat_plain (known_in table) flat.procs ≡ true →
+  pub exact : (fresh : Fresh) (heap stack : ℕ) (input : List ℕ) → heap ≤ MOST_HEAP → FlatFits table flat →
       AreNone (hooks_of flat) → Sound (flat_meaning table flat plan heap input) → (units : ℕ) → (from lines : ℕ) × ((more : ℕ) →
       ShowsSame (word_by_units live_objects words fresh heap stack input units (from + more)) (flat_within table flat plan units heap input (lines + more)))
-  pub within : (fresh : Fresh) (heap stack : ℕ) (input : List ℕ) → heap ≤ MOST_HEAP → code_fits flat_plain (known_in table) flat.procs ≡ true →
+  pub within : (fresh : Fresh) (heap stack : ℕ) (input : List ℕ) → heap ≤ MOST_HEAP → FlatFits table flat →
       AreNone (hooks_of flat) → Sound (flat_meaning table flat plan heap input) → (units n : ℕ) → (m : ℕ) ×
-      ((word_by_units live_objects words fresh heap stack input units n).work ≤ WORD_PACE * ((flat_within table flat plan units heap input m).work + 1))
+      ((word_by_units live_objects words fresh heap stack input units n).work ≤ WORD_PACE * ((flat_within table flat plan units heap input m).work + WORD_LATE))
   pub can : CanLayOut words
-  pub code_most : most_bytes words.procs ≤ BYTES_OF_LINE * code_weight flat_plain flat.procs + BYTES_OF_ALL
+  pub code_most : most_bytes words.procs
+      ≤ BYTES_OF_LINE * (code_weight flat_plain flat.procs + places_waiting (places_of flat)) + (BYTES_OF_HOOK * hook_parts table + BYTES_OF_ALL)
   pub data_size : length words.statics ≤ data_bytes flat_plain table flat.procs + (HEAP_DATA + MORE_DATA + RUNTIME_DATA)
   pub hooks : AreNone (hooks_of flat) → have_no_hooks words.procs ≡ true
 

@@ -11,6 +11,6 @@ pub use laws::code_limits;
 pub use meaning::mean_core;
 pub use note::MOST_NOTE_BYTES;
 pub use program::{
-    BYTES_OF_ALL, BYTES_OF_PAIR, BYTES_OF_PART, IMAGE_LATE, IMAGE_PACE, TIME_LATE, TIME_PACE,
-    check_core, compile_core, within_core,
+    BYTES_OF_ALL, BYTES_OF_HOOK, BYTES_OF_PAIR, BYTES_OF_PART, IMAGE_LATE, IMAGE_PACE, TIME_LATE,
+    TIME_PACE, check_core, compile_core, within_core,
 };

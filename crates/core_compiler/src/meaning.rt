@@ -10,7 +10,7 @@ ghost use Rattle.rv32_runner.specs.Streams.{feed};
 ghost use Rattle.word_code.specs.Words.{is_word_code};
 ghost use Rattle.word_runner.specs.Mean.{Came, Stops, shown_by};
 ghost use Rattle.word_runner.specs.Sinks.{told};
-ghost use Rattle.core_compiler.specs.Compile.{MembersNamed};
+ghost use Rattle.core_compiler.specs.Compile.{MembersNamed, IsSoundWhereBuilt};
 ghost use Rattle.core_compiler.specs.Mean.{CameTo, IsEnd};
 
 use crate::program::{flat_of, words_of};
@@ -62,6 +62,7 @@ pub fn mean_core<I: Source, O: Sink, E: Sink>(
     requires numbered { is_numbered_program (program_in program.now) ≡ true }
     requires named { MembersNamed (program_in program.now).facts }
     requires ordered { IsInOrder plan.now }
+    requires sound { IsSoundWhereBuilt (program_in program.now) plan.now }
     requires heap { heap ≤ 16777216 }
     requires within { tree_limits (program_in program.now) ≡ Ok tt }
     ensures came { CameTo (λ (bytes : List ℕ). meaning (program_in program.now) plan.now heap bytes n)

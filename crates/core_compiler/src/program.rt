@@ -2,6 +2,7 @@
 ghost use Rattle.std.specs.Prelude.{◌≡◌, ◌≤◌, ℕ, true, length, Ok, IfOk};
 ghost use Rattle.arc_base.specs.Refusal.{Answers};
 ghost use Rattle.nim_plan.specs.Order.{IsInOrder};
+ghost use Rattle.nim_types.specs.Table.{IsTable};
 ghost use Rattle.nim_program.specs.Sizes.{HaveForms};
 ghost use Rattle.nim_program.specs.Numbering.{is_numbered_program};
 ghost use Rattle.nim_program.specs.Typed.{IsTyped};
@@ -11,7 +12,7 @@ ghost use Rattle.program_limits.specs.Limits.{program_in, tree_limits};
 ghost use Rattle.word_lowering.specs.MayLower.{defs_may};
 ghost use Rattle.core_compiler.specs.Limits.{build_limits, check_limits};
 ghost use Rattle.core_compiler.specs.Compile.{HasCodeWhereWithin, UnlessMemory, DoesProgram};
-ghost use Rattle.core_compiler.specs.Compile.{MembersNamed, HasImageWhereBuilt};
+ghost use Rattle.core_compiler.specs.Compile.{MembersNamed, HasImageWhereBuilt, IsSoundWhereBuilt};
 ghost use Rattle.core_compiler.specs.Stages.{IsFlatOf, MayBeLowered, AreWordsOf, too_large};
 
 use crate::image::image_of_words;
@@ -20,13 +21,12 @@ use arc_base::{Code, Memory, Place, Stop, agreement};
 use destructor_injection::{owned_codes, owned_of};
 use flat_code::{Flat, Line, by_units};
 use flattening::{fits, flat_code, flatten, may_be_lowered, sizes};
-use formed_programs::{formed, table_forms, without_hooks};
+use formed_programs::{formed, table_forms};
 use goto_exceptions::{block_codes, branches};
-use nim_meaning::meanings;
 use nim_plan::Plan;
 use nim_program::Program;
 use nim_types::TypeTable;
-use program_limits::{left_out, within};
+use program_limits::{left_out, shallow_types, within};
 use reachable_procs::{prune, pruning};
 use refc_runtime::runtime_pair;
 use rv32_codegen::LayFault;
@@ -39,7 +39,7 @@ use word_lowering::words;
 pub const IMAGE_PACE: u32 = 196_608;
 
 /// So much more.
-pub const IMAGE_LATE: u32 = 4;
+pub const IMAGE_LATE: u32 = 36;
 
 /// Where the meaning ends, the machine has exited after so many instructions for each work of the
 /// meaning and for `TIME_LATE` more.
@@ -49,10 +49,13 @@ pub const TIME_PACE: u32 = 262_144;
 pub const TIME_LATE: u32 = 64;
 
 /// The most bytes of code for each part that is counted of a program.
-pub const BYTES_OF_PART: u32 = 1_584;
+pub const BYTES_OF_PART: u32 = 2_304;
 
 /// The most for each pair of an exit and what ends there.
-pub const BYTES_OF_PAIR: u32 = 240;
+pub const BYTES_OF_PAIR: u32 = 432;
+
+/// The most for each type with hooks, and for each of its parts.
+pub const BYTES_OF_HOOK: u32 = 36_672;
 
 /// And for the whole.
 pub const BYTES_OF_ALL: u32 = 13_436;
@@ -76,14 +79,13 @@ pub fn flat_of(alloc: Global, program: &Program, plan: &Plan) -> Result<Flat, Me
     requires typed { IsTyped (program_in program.now) }
     requires numbered { is_numbered_program (program_in program.now) ≡ true }
     requires within { tree_limits (program_in program.now) ≡ Ok tt }
+    requires sound { IsSoundWhereBuilt (program_in program.now) plan.now }
     ensures { IfOk result (λ flat.
         IsFlatOf program.now.types (program_in program.now) plan.now flat) }
 {
     table_forms();
     let flat = flatten(alloc, program, plan)?;
     formed();
-    without_hooks();
-    meanings();
     flat_code();
     by_units::<Line>();
     fits();
@@ -102,6 +104,7 @@ pub fn words_of(
     requires forms { HaveForms types.now }
     requires ordered { IsInOrder plan.now }
     requires enums { defs_may types.now ≡ true }
+    requires table { IsTable types.now }
     requires may { MayBeLowered types.now flat.now }
     ensures { IfOk result (λ words. AreWordsOf types.now plan.now flat.now words) }
 {
@@ -110,7 +113,8 @@ pub fn words_of(
     block_codes();
     let owned = owned_of(alloc, flat, plan)?;
     let blocks = branches(alloc, &owned)?;
-    let words = words(alloc, &blocks, types)?;
+    let shallow = shallow_types(alloc, types)?;
+    let words = words(alloc, &blocks, types, shallow.as_slice())?;
     let runtimes = runtime_pair(alloc)?;
     let front = runtimes.heap.join(alloc, words)?;
     let whole = front.join(alloc, runtimes.others)?;
@@ -139,6 +143,7 @@ pub fn compile_core(alloc: Global, program: &Program, plan: &Plan, heap: u32) ->
     requires numbered { is_numbered_program (program_in program.now) ≡ true }
     requires named { MembersNamed (program_in program.now).facts }
     requires ordered { IsInOrder plan.now }
+    requires sound { IsSoundWhereBuilt (program_in program.now) plan.now }
     requires heap { heap ≤ 16777216 }
     ensures answers { (code : ℕ) × Answers (λ (image : RustImage). tt)
         (build_limits plan.now code (program_in program.now)) result
@@ -171,6 +176,7 @@ pub fn check_core(alloc: Global, program: &Program, plan: &Plan) -> Result<(), S
     requires numbered { is_numbered_program (program_in program.now) ≡ true }
     requires named { MembersNamed (program_in program.now).facts }
     requires ordered { IsInOrder plan.now }
+    requires sound { IsSoundWhereBuilt (program_in program.now) plan.now }
     ensures answers { (code : ℕ) × Answers (λ (done : Unit {0}). tt)
         (check_limits plan.now code (program_in program.now)) result
         × UnlessMemory result (HasCodeWhereWithin (program_in program.now) plan.now code)

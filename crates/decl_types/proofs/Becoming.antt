@@ -19,7 +19,8 @@ use Rattle.decl_types.specs.declared.known.Meaning.TheVariants as M
 use Rattle.decl_types.specs.declared.known.Definition.{Definition}
 use Rattle.decl_types.specs.ViewNodes.{node_types}
 use Rattle.decl_types.specs.ViewKnown.{meant_of, typed_fields}
-use Rattle.decl_types.specs.ViewKnown.{KnownAs, Untouched, NodesIn, Declares, Kept, object_def, enum_def, distinct_def, AddsMeant, Becomes, HasType, MeaningWithin}
+use Rattle.decl_types.specs.ViewKnown.{KnownAs, Untouched, NodesIn, Declares, Kept, object_def, enum_def, distinct_def, AddsMeant, Becomes, HasType}
+use Rattle.decl_types.specs.ViewKnown.{MeaningWithin}
 use Rattle.decl_types.specs.ViewMarks.{is_unknown, mark_at, node_marks, meaning_mark, definition_mark, RenamedWhere}
 use Rattle.decl_types.proofs.Renaming.{listed_renamed}
 use Rattle.std.proofs.lemmas.List.{length-map}
@@ -67,7 +68,8 @@ node_resolved : (marks : List Bool) (k : List KnownType) (ts done : List Ty) (id
     → type_at ts id ≡ resolved k (type_at done i)
 node_resolved marks k ts done ids i id h lt m at = sym (number_type ts ids i id at) ∙ h i (omega (arith, lt, length-map ids (type_at ts))) m
 
-means_as : (marks : List Bool) (old mid new : List TypeDef) (ids : List ℕ) (id : ℕ) (d : Definition) (m : Meaning) (k : List KnownType) (done ts : List Ty) (facts : Facts)
+means_as : (marks : List Bool) (old mid new : List TypeDef) (ids : List ℕ) (id : ℕ) (d : Definition) (m : Meaning) (k : List KnownType) (done ts : List Ty)
+    (facts : Facts)
     → facts_in mid ≡ facts_in old → IsTable mid → AllBelow (length mid) ids → AddsMeant mid new ids d m id
     → RenamedWhere marks (map (type_at ts) ids) (meaning_by k) done → MeaningWithin (length ids) m → meaning_mark marks m ≡ false
     → Under mid ts (facts_in mid) → Under new ts facts → MeansAs old new id d m k done ts facts
@@ -200,7 +202,8 @@ becomes old mid new known ids id d g t b are within unmarked a = record {
   within = within_as mid new ids id d d.meaning b a;
   means = λ n m w ts facts u keys k knows same.
       let v = under_as mid new ids id d d.meaning ts facts t a u in
-      means_as (node_marks (map is_unknown known) d.nodes.items) old mid new ids id d d.meaning k (node_types ts keys d.nodes.items) ts facts (g.under ts (facts_in mid) v).said t b a
+      means_as (node_marks (map is_unknown known) d.nodes.items) old mid new ids id d d.meaning k (node_types ts keys d.nodes.items) ts facts
+      (g.under ts (facts_in mid) v).said t b a
       (are n m w.nodes ts (facts_in mid) v keys (meaning_by k) knows same) within unmarked v u;
 }
 

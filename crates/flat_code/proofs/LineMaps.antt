@@ -7,7 +7,8 @@ use Rattle.nim_meaning.specs.Values.{Value, Slot}
 use Rattle.nim_meaning.specs.Deeds.{Done, Answers, Finishes, Fails}
 use Rattle.flat_code.specs.Scene.{Temps, Scene, Did, Passes, Leaps, Enters, Turns, Calls, Returns}
 use Rattle.flat_code.specs.Scene as scenes
-use Rattle.flat_code.specs.Running.{Proc, Active, Waiting, Machine, Counting, Going, Standing, within, no_proc, is_name, from_label, last_of, before_last, callable}
+use Rattle.flat_code.specs.Running.{Proc, Active, Waiting, Machine, Counting, Going, Standing, within, no_proc, is_name, from_label, last_of, before_last}
+use Rattle.flat_code.specs.Running.{callable}
 use Rattle.flat_code.specs.Running.{scene_of, went, jumped, entered, found, called, returned, settled, step_lines, step, at_first, runs}
 use Rattle.flat_code.specs.Running.{spends, spends_next, counting_step, runs_within}
 

@@ -1,8 +1,6 @@
 -- Each line weighs at least one.
 use Rattle.std.proofs.Common.{ℕ, ◌≤◌, List, [], ◌∷◌, length, arith}
 use Rattle.std.specs.Prelude.{map}
-use Rattle.nim_program.specs.declared.operation.Operation.{Operation}
-use Rattle.nim_program.specs.declared.operation.Operation.TheVariants as O
 use Rattle.flat_code.specs.declared.code.CodeProc.{CodeProc}
 use Rattle.nim_program.specs.declared.expr.Label.{Label}
 use Rattle.nim_program.specs.declared.expr.Label.TheVariants as C
@@ -11,12 +9,7 @@ use Rattle.flat_code.specs.declared.line.Owning.TheVariants as W
 use Rattle.flat_code.specs.declared.line.Line.{Line}
 use Rattle.flat_code.specs.declared.line.Line.TheVariants as L
 use Rattle.flat_code.specs.Codes.{lines_in}
-use Rattle.flat_code.specs.Sizes.{weight_of, label_weight, owning_weight, weight, summed, proc_weight, code_weight}
-
-operation_weighs : (o : Operation) (n : ℕ) → 1 ≤ weight_of o n
-operation_weighs O.Make n = omega arith
-operation_weighs O.Echo n = omega arith
-operation_weighs o n = omega arith
+use Rattle.flat_code.specs.Sizes.{label_weight, owning_weight, weight, summed, proc_weight, code_weight}
 
 label_weighs : (label : Label) → 1 ≤ label_weight label
 label_weighs (C.Ordinals low high) = omega arith
@@ -32,7 +25,7 @@ owning_weighs (W.PlaceStands place) = omega arith
 owning_weighs (W.ResultGets place ty) = omega arith
 
 line_weighs : (line : Line) → 1 ≤ weight line
-line_weighs (L.Apply to operation how ty of from) = operation_weighs operation (length from)
+line_weighs (L.Apply to operation how ty of from) = omega arith
 line_weighs (L.Fits from these to) = label_weighs these
 line_weighs (L.Own what from) = owning_weighs what
 line_weighs line = omega arith

@@ -4,7 +4,7 @@ use Rattle.std.specs.Prelude.{◌||◌, not, nat_eq, if◌then◌else◌}
 use Rattle.std.proofs.lemmas.Bool.{and_parts, or_parts, or_from, and_left, not-true, eqb-true}
 use Rattle.flat_code.specs.declared.place.FlatPlace.{FlatPlace}
 use Rattle.flat_code.specs.Fits.{is_value, place_named}
-use Rattle.flat_code.specs.PlainCode.{is_temporary}
+use Rattle.flat_code.specs.BuiltCode.{is_temporary}
 use Rattle.flat_code.specs.Scene.{Known}
 use Rattle.flat_code.specs.Waits.{is_node, any_waits, if_waits, waiter, waits_alone, wait_once, waits_in}
 use Rattle.flat_code.proofs.ConstantShapes.{never}

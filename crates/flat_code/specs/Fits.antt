@@ -11,7 +11,8 @@ use Rattle.nim_program.specs.declared.program.Mode.TheVariants.{Plain, Var}
 use Rattle.nim_program.specs.Ints.{fits as is_int_number}
 use Rattle.nim_program.specs.Fitting as table
 use Rattle.nim_program.specs.Fitting.{building_fits, places_in}
-use Rattle.nim_program.specs.Kinds.{TypeKind, kind_of, kind_if, is_int, is_bool, is_ordinal, is_text, has_length, field_at, element_of, object_of, is_of, same_value}
+use Rattle.nim_program.specs.Kinds.{TypeKind, kind_of, kind_if, is_int, is_bool, is_ordinal, is_text, has_length, field_at, element_of, object_of, is_of}
+use Rattle.nim_program.specs.Kinds.{same_value}
 use Rattle.nim_program.specs.View.{if_type}
 use Rattle.nim_program.specs.declared.operation.Use.{Use}
 use Rattle.nim_program.specs.Uses.{use_by}
@@ -30,7 +31,8 @@ use Rattle.flat_code.specs.declared.line.Piece.{Piece}
 use Rattle.flat_code.specs.declared.place.PlaceKind.{PlaceKind}
 use Rattle.flat_code.specs.declared.place.PlaceKind.TheVariants as K
 use Rattle.flat_code.specs.declared.place.FlatPlace.{FlatPlace}
-use Rattle.flat_code.specs.Pieces.{value_of, are_one}
+use Rattle.nim_meaning.specs.LeftOut.{is_text_type, is_exception_type}
+use Rattle.flat_code.specs.Pieces.{value_of, are_one, is_one_text}
 use Rattle.flat_code.specs.Running.{before_last}
 use Rattle.flat_code.specs.Scene.{Known}
 use Rattle.flat_code.specs.Shapes.{shape_of, has_shape}
@@ -50,6 +52,11 @@ abbrev pub is_location : PlaceKind → Bool
 is_location K.Location = true
 is_location K.Within = true
 is_location kind = false
+
+-- a value with hooks that has a place of its own waits at a node
+abbrev pub is_waiting : (waits : Option ℕ) → (hooked : Bool) → Bool
+is_waiting None hooked = not hooked
+is_waiting (Some node) hooked = true
 
 -- a location that may be written
 abbrev pub is_standing : PlaceKind → Bool
@@ -267,18 +274,24 @@ module _ (known : Known) (procs : List Signature) (globals places : List FlatPla
   fits (L.Construct to how ty fields from) =
       (building_fits known.facts (Some (type_at known.types ty)) fields (map taken from) && are_values from)
       && is_of (value to) (Some (type_at known.types ty))
-  fits (L.Constant to how ty pieces) = is_constant_of ty pieces && is_of (value to) (Some (type_at known.types ty))
+  fits (L.Constant to how ty pieces) =
+      is_constant_of ty pieces
+      && (is_of (value to) (Some (type_at known.types ty)) && (is_one_text pieces || not (is_hooked known.facts (type_at known.types ty))))
   fits (L.Call to how ty proc from) =
       call_fits (slice_get procs proc) (if_type known.types ty) from && same_value (value to) (if_type known.types ty)
   fits (L.Get to from how ty) = is_of (value to) (if_type known.types ty) && is_of (value to) (location from)
   fits (L.Look to from) = is_of (value to) (location from)
   fits (L.Root to place global) = is_of (location to) (any_place place global) && may_write to
-  fits (L.Fresh to from waits) = is_of (location to) (value from) && not (may_write to)
+  fits (L.Fresh to from waits) =
+      is_of (location to) (value from) && (not (may_write to) && is_waiting waits (gives_hooked known.facts (value from)))
   fits (L.Standing to ty pieces) =
-      is_constant_of ty pieces && (is_of (location to) (Some (type_at known.types ty)) && not (may_write to))
-  fits (L.Part to from field) = is_of (location to) (field_at (kind_at (location from)) field) && same_base to from
+      is_constant_of ty pieces
+      && (is_of (location to) (Some (type_at known.types ty)) && (not (may_write to) && not (is_hooked known.facts (type_at known.types ty))))
+  fits (L.Part to from field) =
+      is_of (location to) (field_at (kind_at (location from)) field) && (same_base to from && not (is_exception_type (location from)))
   fits (L.Item to from index) =
-      is_of (location to) (element_of (kind_at (location from))) && (is_int (kind_at (value index)) && same_base to from)
+      is_of (location to) (element_of (kind_at (location from)))
+      && (is_int (kind_at (value index)) && (same_base to from && not (is_text_type (location from))))
   fits (L.Object to from) = is_of (location to) (object_of (kind_at (location from))) && may_write to
   fits (L.Pass to from how ty) = same_value (value to) (value from) && passes_as (value to) (if_type known.types ty)
   fits (L.Truth to holds) = is_bool (kind_at (value to))

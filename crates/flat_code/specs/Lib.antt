@@ -7,7 +7,8 @@ pub mod Shapes
 pub mod Fits
 pub mod Sizes
 pub mod Alike
-pub mod PlainCode
+pub mod BuiltCode
 pub mod Waits
+pub mod Leads
 pub mod Codes
 pub mod Examples

@@ -8,7 +8,8 @@ use Rattle.nim_program.specs.Traps.{LengthChanged}
 use Rattle.nim_program.specs.Ints.{truth, is_true, inside}
 use Rattle.nim_program.specs.Program.{Label, Ordinals, Exactly, Doing, Building}
 use Rattle.nim_program.specs.View.{if_type, label_of}
-use Rattle.nim_meaning.specs.Values.{Value, Number, Fixed, nothing, number_of, length_of, bytes, is_full, default_of, Standing, Waiting, Made, Location, at_base, Holds}
+use Rattle.nim_meaning.specs.Values.{Value, Number, Fixed, nothing, number_of, length_of, bytes, is_full, default_of, Standing, Waiting, Made, Location}
+use Rattle.nim_meaning.specs.Values.{at_base, Holds}
 use Rattle.nim_meaning.specs.Values.{Stands, Operand, Given, At, operand, value, location, slots_for}
 use Rattle.nim_meaning.specs.State.{World, slot_at, load, text_of, is_whole}
 use Rattle.nim_meaning.specs.Acts.{branch}
@@ -142,7 +143,7 @@ form_in known ty = form_of known.facts (type_at known.types ty)
 
 abbrev pub owns : Known → Owning → (level : ℕ) → List Operand → Deed (Unit {0})
 owns known (W.TakenUp node) level xs = changes (Leaves level node)
-owns known (W.Waits node) level xs = changes (Waits level node (Holds (value xs 0)))
+owns known (W.Waits node) level xs = costs (bytes (value xs 0)) (changes (Waits level node (Holds (value xs 0))))
 owns known (W.TemporaryEnds node ty) level xs = temporary_ends (form_in known ty) level node
 owns known (W.PlaceEnds place ty) level xs = place_ends (form_in known ty) level place
 owns known (W.PlaceCopies place ty) level xs = place_copies (form_in known ty) level place (location xs 0)
@@ -204,7 +205,8 @@ does known plan x (L.Truth to value) = gives x to (costs 1 (give (Number (truth 
 does known plan x (L.Fill place from) = using (x.temps.values from) (λ v. acts x (costs 1 (fills x.level place v)))
 does known plan x (L.Blank place ty) = acts x (costs 1 (fills x.level place (default_of known.facts (type_at known.types ty))))
 does known plan x (L.Give place from) = using (x.temps.values from) (λ v. acts x (costs 1 (put (place_at x.level place) v)))
-does known plan x (L.Own what from) = using_all x.temps from (λ xs. if_filled what x (acts (without_all (traded_by what from) x) (costs 1 (owns known what x.level xs))))
+does known plan x (L.Own what from) = using_all x.temps from
+    (λ xs. if_filled what x (acts (without_all (traded_by what from) x) (costs 1 (owns known what x.level xs))))
 does known plan x (L.Zero to) = gives x to (costs 1 (give (Number (pos 0))))
 does known plan x (L.Length to from) =
     using_place x.temps from (λ place location. gives x to (costs 1 (length_at location >>= (λ n. give (Number (pos n))))))

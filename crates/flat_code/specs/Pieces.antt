@@ -1,6 +1,6 @@
 -- The value of a constant, from its pieces: parts stand before the whole.
 use Rattle.std.specs.Int.{w32, cast_unsigned, to_le_bytes}
-use Rattle.std.specs.Prelude.{ℕ, zero, suc, ◌-◌, nat_eq, nat_le, Bool, ◌&&◌, List, [], ◌∷◌, ◌++◌, None}
+use Rattle.std.specs.Prelude.{ℕ, zero, suc, ◌-◌, nat_eq, nat_le, Bool, true, false, not, ◌&&◌, List, [], ◌∷◌, ◌++◌, None}
 use Rattle.nim_program.specs.Program.{Literal, Number as Ordinal, Characters, NoObject, PartsOf, ElementsOf, Literals, NoLiteral, ALiteral}
 use Rattle.nim_meaning.specs.Values.{Value, Number, Parts, Fixed, Ref, Values, Nil, More, nothing, bytes}
 use Rattle.flat_code.specs.declared.line.Piece.{Piece}
@@ -36,6 +36,11 @@ are_one (P.Text text ∷ pieces) before = are_one pieces (suc before)
 are_one (P.Nil ∷ pieces) before = are_one pieces (suc before)
 are_one (P.Parts n ∷ pieces) before = nat_le n before && are_one pieces (suc (before - n))
 are_one (P.Elements n ∷ pieces) before = nat_le n before && are_one pieces (suc (before - n))
+
+-- one text, which a line reads where it stands
+abbrev pub is_one_text : List Piece → Bool
+is_one_text (P.Text text ∷ []) = true
+is_one_text pieces = false
 
 -- the bytes of a constant that is built; a number and a text that is read have none
 abbrev pub pieces_bytes : List Piece → ℕ

@@ -72,6 +72,10 @@ clear_weight = 5
 abbrev pub argument_weight : ℕ
 argument_weight = 11
 
+-- a value that waits as it is used is moved to where it does, which is said there
+abbrev pub keep_weight : ℕ
+keep_weight = 8
+
 -- what `echo` writes of an operand: the longest is that of a member of an enum
 abbrev pub text_weight : ℕ
 text_weight = 12
@@ -114,28 +118,28 @@ abbrev pub pieces_weight : List Piece → ℕ
 pieces_weight [] = 0
 pieces_weight (piece ∷ pieces) = piece_weight piece + pieces_weight pieces
 
--- a label of a `case`: a text is compared by a routine
+-- a label of a `case`: a text is compared by a routine, which is given two handles
 abbrev pub label_weight : Label → ℕ
 label_weight (C.Ordinals low high) = 4
-label_weight (C.Text text) = 9
+label_weight (C.Text text) = 19
 
--- what is owned: a hook is called with one or two addresses
+-- what is owned: a hook is called with one or two addresses, for what waits where something does
 abbrev pub owning_weight : Owning → ℕ
 owning_weight (W.TakenUp node) = 1
-owning_weight (W.Waits node) = 1
-owning_weight (W.TemporaryEnds node ty) = 5
+owning_weight (W.Waits node) = keep_weight
+owning_weight (W.TemporaryEnds node ty) = 9
 owning_weight (W.PlaceEnds place ty) = 5
 owning_weight (W.PlaceCopies place ty) = 7
 owning_weight (W.PlaceStands place) = 1
 owning_weight (W.ResultGets place ty) = 7
 
 abbrev pub weight : Line → ℕ
-weight (L.Apply to operation how ty of from) = weight_of operation (length from)
-weight (L.Construct to how ty fields from) = clear_weight + move_weight * length from
-weight (L.Constant to how ty pieces) = clear_weight + pieces_weight pieces
+weight (L.Apply to operation how ty of from) = keep_weight + weight_of operation (length from)
+weight (L.Construct to how ty fields from) = keep_weight + clear_weight + move_weight * length from
+weight (L.Constant to how ty pieces) = keep_weight + clear_weight + pieces_weight pieces
 -- the unit, the test of how many calls are active, and the result
 weight (L.Call to how ty proc from) = 6 + move_weight + argument_weight * length from
-weight (L.Get to from how ty) = move_weight
+weight (L.Get to from how ty) = keep_weight + move_weight
 weight (L.Look to from) = move_weight
 weight (L.Root to place global) = 1
 weight (L.Fresh to from waits) = 1
@@ -143,7 +147,7 @@ weight (L.Standing to ty pieces) = 1
 weight (L.Part to from field) = 2
 weight (L.Item to from index) = 8
 weight (L.Object to from) = 3
-weight (L.Pass to from how ty) = move_weight
+weight (L.Pass to from how ty) = keep_weight + move_weight
 weight (L.Truth to holds) = 1
 weight (L.Fill place from) = move_weight
 weight (L.Blank place ty) = clear_weight

@@ -19,7 +19,7 @@ use Rattle.flat_code.specs.declared.line.Piece.{Piece}
 use Rattle.flat_code.specs.declared.line.Piece.TheVariants as P
 use Rattle.flat_code.specs.declared.place.FlatPlace.{FlatPlace}
 use Rattle.flat_code.specs.Fits.{is_value, place_named, place_type}
-use Rattle.flat_code.specs.PlainCode.{is_temporary}
+use Rattle.flat_code.specs.BuiltCode.{is_temporary}
 use Rattle.flat_code.specs.Scene.{Known}
 
 -- ---- places by the nodes at which their values wait

@@ -13,7 +13,7 @@ ghost use Rattle.flat_code.specs.Running.{Proc, ShowsAlike, at_first, runs, run_
 ghost use Rattle.flat_code.specs.Scene.{Scene, Did, Known};
 ghost use Rattle.flat_code.specs.declared.place.FlatPlace.{FlatPlace};
 ghost use Rattle.flat_code.specs.Fits.{is_value, place_named};
-ghost use Rattle.flat_code.specs.PlainCode.{is_temporary};
+ghost use Rattle.flat_code.specs.BuiltCode.{is_temporary};
 ghost use Rattle.flat_code.specs.Sizes.{code_weight};
 ghost use Rattle.flat_code.specs.Waits.{any_waits, waiter, wait_once, waits_in};
 

@@ -19,4 +19,4 @@ pub use flat::Flat;
 pub use laws::{by_units, codes, waits, weights};
 pub use line::{From, Line, Owning, Piece, UseAt};
 pub use owned::{Owned, OwnedLine};
-pub use place::{FlatPlace, PlaceKind};
+pub use place::{FlatPlace, MOST_LEVELS, PlaceKind};

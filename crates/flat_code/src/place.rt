@@ -3,6 +3,9 @@ use arc_base::Place;
 use nim_program::Mode;
 use nim_types::TypeId;
 
+/// How many levels the types of places have at most in code of a program that isn't too large.
+pub const MOST_LEVELS: u32 = 64;
+
 /// What kind of place a place is.
 #[derive(Clone, Copy)]
 pub enum PlaceKind {

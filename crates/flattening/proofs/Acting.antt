@@ -16,7 +16,7 @@ use Rattle.nim_meaning.specs.Values.{Value, Holds, bytes, literal_value, nothing
 use Rattle.nim_meaning.specs.State.{State, slot_at}
 use Rattle.nim_meaning.specs.Shapes.{waits}
 use Rattle.nim_meaning.specs.Acts.{worked}
-use Rattle.nim_meaning.specs.Deeds.{Deed, Waits, Changes, Gives, carry, give, branch, costs, looks, ◌>>=◌}
+use Rattle.nim_meaning.specs.Deeds.{Deed, Waits, Changes, Gives, Works, carry, give, branch, costs, looks, ◌>>=◌}
 use Rattle.nim_meaning.specs.Here.{Here, gives_hooked, any_hooked, form_for}
 use Rattle.nim_meaning.specs.Places.{Destination, made_by, kept_if}
 use Rattle.nim_meaning.specs.Table.{default_for, literal_bytes, with_fields, operates, constant_for, constant_row}
@@ -158,9 +158,9 @@ module _ (c : Spot) (top : Bool) (room : ℕ → Type 0) (names : (proc place : 
 
   waits_follow : (how : Use) (node : ℕ) (v : Value) (t : ℕ) (k : List Line) (now : Temps) (b : State) → now.values t ≡ Some v →
       Runs c.fixed (Lands c k t (suc t) now b.world (Has t)) 10 2 (there c (L.Own (W.Waits node) (F.Value t ∷ []) ∷ k) now b.world) b.meter
-      (carry (Changes (Waits c.level node (Holds v)) (Gives v)) b)
+      (carry (Works (bytes v) (Changes (Waits c.level node (Holds v)) (Gives v))) b)
   waits_follow how node v t k now b has =
-      performs c (λ u. now) (Changes (Waits c.level node (Holds v)) (Gives v)) b 1 (omega arith) has (λ u. kept_none t (suc t) now)
+      performs c (λ u. now) (Works (bytes v) (Changes (Waits c.level node (Holds v)) (Gives v))) b 1 (omega arith) has (λ u. kept_none t (suc t) now)
       (ap (λ o. using (option_map Given o) (λ x. does.acts (scene c now b.world) (costs 1 (does.owns (known c.fixed) (W.Waits node) c.level (x ∷ []))))) has)
 
   kept_follows : (hooked : Bool) (how : Use) (node : ℕ) (v : Value) (t : ℕ) (k : List Line) (now : Temps) (b : State) → now.values t ≡ Some v →
@@ -190,7 +190,7 @@ module _ (c : Spot) (top : Bool) (room : ℕ → Type 0) (names : (proc place : 
       let hooked = any_hooked facts (map (if_type types) (all_numbers types of)) in
       let gone = traded hooked operation from in
       let x = scene c (without_handed gone temps) s.world in
-      gives_follow gone _ (operates operation facts ty of xs >>= made_by (gives_hooked facts ty) to) t (u + widths operands) k temps s (omega (arith, less))
+      gives_follow gone _ (operates operation facts ty of xs >>= kept_if (gives_hooked facts ty) to) t (u + widths operands) k temps s (omega (arith, less))
       (traded_within t (u + widths operands) hooked operation from (within_wide from (omega (arith, less)) (omega arith)
       (froms_within facts (Doing operation) operands (use_of modes (Doing operation)) 0 u)))
       (takes.fetched (λ xs. does.gives x t (row facts (Doing operation) to (if_type types (if_number types ty))
@@ -201,7 +201,7 @@ module _ (c : Spot) (top : Bool) (room : ℕ → Type 0) (names : (proc place : 
       let to = destination here how node.number in
       let x = scene c temps s.world in
       let d = default_for facts (Some ty) in
-      gives_follow [] _ (costs (bytes d) (give (with_fields d fields (values_in xs))) >>= made_by (gives_hooked facts (Some ty)) to) t (u + widths operands)
+      gives_follow [] _ (costs (bytes d) (give (with_fields d fields (values_in xs))) >>= kept_if (gives_hooked facts (Some ty)) to) t (u + widths operands)
       k temps s
       (omega (arith, less)) tt
       (takes.fetched (λ xs. does.gives x t (row facts (Building fields) to (Some (type_by_number types (type_number types ty))) [] xs))
@@ -264,4 +264,4 @@ module _ (c : Spot) (top : Bool) (room : ℕ → Type 0) (names : (proc place : 
       performs c (λ v. with_value t temps v) deed s 1 (omega arith)
       (answering_all (λ v. Has t v (with_value t temps v)) (λ v. put_same temps.values t v) deed) (own t temps)
       (ap (λ ty. does.gives x t (row facts (Doing O.Default) to (Some ty) [] [])) f
-      ∙ default_is x t (gives_hooked facts (Some ty) || false) (table.does O.Default facts (Some ty) [] []) (made_by (gives_hooked facts (Some ty)) to))
+      ∙ default_is x t (gives_hooked facts (Some ty) || false) (table.does O.Default facts (Some ty) [] []) (kept_if (gives_hooked facts (Some ty)) to))

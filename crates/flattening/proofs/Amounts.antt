@@ -84,7 +84,7 @@ module _ (part : ℕ) (built standing : Literal → ℕ) (said : Label → ℕ) 
 -- ---- in the measure of weights: a constant that is read where it stands is none of the code
 
 abbrev pub taken : Literal → ℕ
-taken literal = 33 * literal_parts literal
+taken literal = 47 * literal_parts literal
 
 abbrev pub none_of : Literal → ℕ
 none_of literal = 0
@@ -92,19 +92,19 @@ none_of literal = 0
 abbrev pub no_label : Label → ℕ
 no_label label = 0
 
-labels_scaled : (labels : List Label) → labels_counted 33 taken none_of no_label labels ≡ 33 * length labels
+labels_scaled : (labels : List Label) → labels_counted 47 taken none_of no_label labels ≡ 47 * length labels
 labels_scaled [] = refl
 labels_scaled (label ∷ labels) = let h = labels_scaled labels in omega (arith, h)
 
-branches_scaled : (labels : List (List Label)) → branches_counted 33 taken none_of no_label labels ≡ 33 * labels_parts labels
+branches_scaled : (labels : List (List Label)) → branches_counted 47 taken none_of no_label labels ≡ 47 * labels_parts labels
 branches_scaled [] = refl
 branches_scaled (labels ∷ rest) = let h = labels_scaled labels in let i = branches_scaled rest in omega (arith, h, i)
 
-chooser_scaled : (chooser : Chooser) → chooser_counted 33 taken none_of no_label chooser ≡ 33 * chooser_parts chooser
+chooser_scaled : (chooser : Chooser) → chooser_counted 47 taken none_of no_label chooser ≡ 47 * chooser_parts chooser
 chooser_scaled ByConditions = refl
 chooser_scaled (ByLabels labels) = branches_scaled labels
 
-part_scaled : (part : Part) → part_counted 33 taken none_of no_label part ≡ 33 * part_parts part
+part_scaled : (part : Part) → part_counted 47 taken none_of no_label part ≡ 47 * part_parts part
 part_scaled (Acting (Giving literal)) = omega arith
 part_scaled (Acting (Doing operation)) = refl
 part_scaled (Acting (Building fields)) = refl
@@ -124,21 +124,21 @@ part_scaled (Looping kind false) = omega arith
 part_scaled Handling = refl
 
 abbrev Scaled : ℕ → ℕ → Type 0
-Scaled x y = x ≡ 33 * y
+Scaled x y = x ≡ 47 * y
 
-block_scaled : (block : Stmts) → block_counted 33 taken none_of no_label block ≡ 33 * block_parts block
-block_scaled block = related_of numbers numbers (own_counted 33 taken none_of no_label) own_parts Scaled (record {
+block_scaled : (block : Stmts) → block_counted 47 taken none_of no_label block ≡ 47 * block_parts block
+block_scaled block = related_of numbers numbers (own_counted 47 taken none_of no_label) own_parts Scaled (record {
   none = refl;
   plus = λ x y u v h g. omega (arith, h, g);
   own = λ seen. part_scaled seen.part;
 }) block
 
-body_scaled : (body : Body) → body_counted 33 taken none_of no_label body ≡ 33 * body_parts body
+body_scaled : (body : Body) → body_counted 47 taken none_of no_label body ≡ 47 * body_parts body
 body_scaled body = let h = block_scaled body.stmts in omega (arith, h)
 
-pub program_scaled : (program : Program) → counted 33 taken none_of no_label program ≡ 33 * program_parts program
+pub program_scaled : (program : Program) → counted 47 taken none_of no_label program ≡ 47 * program_parts program
 program_scaled program =
-    related_bodies numbers numbers (body_counted 33 taken none_of no_label) body_parts Scaled refl (λ x y u v h g. omega (arith, h, g))
+    related_bodies numbers numbers (body_counted 47 taken none_of no_label) body_parts Scaled refl (λ x y u v h g. omega (arith, h, g))
     (λ body. body_scaled body) program
 
 -- ---- pairs of what ends and an exit, where they count otherwise
@@ -254,12 +254,12 @@ module _ (R : ℕ → ℕ → Type 0) (alike : Alike R) (facts : Facts) (modes :
       alike.plus (procs_pairs facts modes each program.procs) (body_pairs facts modes each [] program.start) (procs_pairs facts modes other program.procs)
       (body_pairs facts modes other [] program.start) (procs_same program.procs) (body_same [] program.start)
 
-abbrev Fives : ℕ → ℕ → Type 0
-Fives x y = x ≡ 5 * y
+abbrev Nines : ℕ → ℕ → Type 0
+Nines x y = x ≡ 9 * y
 
-pub pairs_scaled : (modes : (proc position : ℕ) → Mode) (program : Program) → all_pairs program.facts modes 5 program ≡ 5 * program_pairs modes program
+pub pairs_scaled : (modes : (proc position : ℕ) → Mode) (program : Program) → all_pairs program.facts modes 9 program ≡ 9 * program_pairs modes program
 pairs_scaled modes program =
-    all_same Fives (record { none = refl; plus = λ x y u v h g. omega (arith, h, g) }) program.facts modes 5 1 refl program
+    all_same Nines (record { none = refl; plus = λ x y u v h g. omega (arith, h, g) }) program.facts modes 9 1 refl program
 
 abbrev Nothing : ℕ → ℕ → Type 0
 Nothing x y = x ≡ 0

@@ -232,9 +232,9 @@ module _ (types : List Ty) (facts : Facts) (modes : (proc position : ℕ) → Mo
   take_all z (node ∷ nodes) =
       most z 0 _ (omega (arith, x.takes node)) (quiet z (L.Own (W.TakenUp node) []) refl (refl, refl, refl) >> take_all z nodes)
 
-  waits_back : (z : k.ground.World) (t : ℕ) (act : Act) (how : UseAt) (ty : Option Ty) → P z 0 x.waited (back_line types facts modes t act how ty)
+  waits_back : (z : k.ground.World) (t : ℕ) (act : Act) (how : UseAt) (ty : Option Ty) → P z 0 (x.waited act) (back_line types facts modes t act how ty)
   waits_back z t (Calling proc of) how ty =
-      most z 0 _ (omega (arith, x.waits how.node (F.Value t ∷ [])))
+      most z 0 _ (omega (arith, x.waits proc of how.node (F.Value t ∷ [])))
       (maybe z (gives_hooked facts ty && waits how.how) (L.Own (W.Waits how.node) (F.Value t ∷ [])) refl (refl, refl, refl))
   waits_back z t (Doing operation) how ty = most z 0 _ (omega arith) (none z)
   waits_back z t (Building fields) how ty = most z 0 _ (omega arith) (none z)

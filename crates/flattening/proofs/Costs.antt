@@ -10,7 +10,7 @@ use Rattle.nim_program.specs.declared.operation.Use.TheVariants.{Owned}
 use Rattle.nim_program.specs.declared.program.Mode.{Mode}
 use Rattle.nim_program.specs.declared.stmt.Leaving.{Leaving}
 use Rattle.nim_program.specs.declared.stmt.Leaving.TheVariants as K
-use Rattle.nim_program.specs.Program.{Literal, Label, Act, ByConditions, ByLabels, Expr, Apply, Read, Early, Choose}
+use Rattle.nim_program.specs.Program.{Literal, Label, Act, Calling, ByConditions, ByLabels, Expr, Apply, Read, Early, Choose}
 use Rattle.nim_program.specs.Program.{Path, Variable, Fresh, Field, Element, Deref, Args, NoArg, ByValue, ByPath, Declared, Chooser, Kind}
 use Rattle.nim_program.specs.Program.{While, Count, Each, Stmt, Do, Give, Leave, Select, Loop, Stmts, Then, Declare, Blocks, Otherwise, Block}
 use Rattle.nim_program.specs.Program.{type_at, types_in, constant_in}
@@ -67,7 +67,7 @@ pub record Costs (types : List Ty) (facts : Facts) (modes : (proc position : ℕ
   pub held : Args → (t : ℕ) → ℕ
   pub get : ℕ
   -- that a call's value waits; that an operation takes what waits; and that what waits ends, or a place does
-  pub waited : ℕ
+  pub waited : Act → ℕ
   pub taken : ℕ
   pub ended : ℕ
   -- that a place is filled, the result given, and an element taken
@@ -92,7 +92,7 @@ pub record Costs (types : List Ty) (facts : Facts) (modes : (proc position : ℕ
   pub of_turns : Args → Blocks → Ways → (t : ℕ) → ℕ
   pub next_spare : (t : ℕ) → spare t + value t ≤ spare (suc t)
   -- what waits
-  pub waits : (node : ℕ) (from : List From) → line (L.Own (W.Waits node) from) ≤ waited
+  pub waits : (proc : ℕ) (of : List Ty) (node : ℕ) (from : List From) → line (L.Own (W.Waits node) from) ≤ waited (Calling proc of)
   pub takes : (node : ℕ) → line (L.Own (W.TakenUp node) []) ≤ taken
   pub ends : (node ty : ℕ) → line (L.Own (W.TemporaryEnds node ty) []) ≤ ended
   pub lends : (t : ℕ) (node : Option ℕ) → lead (L.Fresh t t node) t ≤ lent t
@@ -100,7 +100,7 @@ pub record Costs (types : List Ty) (facts : Facts) (modes : (proc position : ℕ
   pub applies : (node : Node) (ty : Option Ty) (act : Act) (operands : Args) (how : UseAt) (t : ℕ) →
       spare t + lent t + value t
       + line (act_line types facts modes t act how ty (types_in operands) (froms facts act operands (use_of modes act) 0 (suc t)))
-      + waited + ended + of_args operands (suc t)
+      + waited act + ended + of_args operands (suc t)
       ≤ of_expr (Apply node ty act operands) t + held operands (suc t)
   pub reads : (path : Path) (how : UseAt) (t : ℕ) →
       spare t + lent t + value t + of_path path (suc t) + line (L.Get t (suc t) how (if_number types (type_at path))) + ended

@@ -1,30 +1,29 @@
--- Lines in front of others, and the places that they are for: these are plain, whatever comes behind, and take at most so many bytes, with so many to
+-- Lines in front of others, and the places that they are for: both are of what is built, and the places take at most so many bytes, with so many to
 -- spare.
-use Rattle.std.proofs.Common.{◌≡◌, ℕ, zero, suc, ◌+◌, ◌*◌, ◌<◌, ◌≤◌, ◌⊎◌, inl, inr, Bool, true, false, List, [], ◌∷◌, ◌++◌, length}
+use Rattle.std.proofs.Common.{◌≡◌, ℕ, zero, suc, ◌+◌, ◌*◌, ◌<◌, ◌≤◌, ◌⊎◌, inl, inr, Bool, true, false, List, [], ◌∷◌, ◌++◌, length, Option, Some, None}
 use Rattle.std.proofs.Common.{refl, sym, ap, ◌∙◌, subst, arith}
-use Rattle.std.specs.Prelude.{◌&&◌, ◌||◌, if◌then◌else◌, None}
-use Rattle.std.proofs.lemmas.Bool.{both_ways}
+use Rattle.std.specs.Prelude.{◌||◌, if◌then◌else◌}
+use Rattle.std.proofs.lemmas.Bool.{both_ways, or_parts}
 use Rattle.nim_types.specs.Types.{Ty, Facts, same}
 use Rattle.nim_types.specs.Forms as form
-use Rattle.nim_types.specs.Forms.{Form, Forms, size, size_all, form_of, or_word}
+use Rattle.nim_types.specs.Forms.{Form, Forms, hooked, hooked_any, levels, size, size_all, form_of, or_word}
 use Rattle.nim_types.specs.Table.{type_at}
 use Rattle.nim_types.proofs.ForCallers.{same_sound, same_refl}
 use Rattle.nim_program.specs.declared.expr.Node.{Node}
 use Rattle.nim_program.specs.declared.program.Mode.{Mode}
-use Rattle.nim_program.specs.declared.program.Mode.TheVariants.{Plain}
 use Rattle.nim_program.specs.Kinds.{is_among_types}
 use Rattle.nim_program.specs.Sizes.{type_bytes}
 use Rattle.nim_meaning.specs.Here.{is_hooked}
+use Rattle.nim_meaning.specs.Unbuilt.{has_unbuilt, has_unbuilt_any, is_unbuilt}
 use Rattle.flat_code.specs.declared.line.Line.{Line}
 use Rattle.flat_code.specs.declared.place.FlatPlace.{FlatPlace}
 use Rattle.flat_code.specs.declared.place.PlaceKind.{PlaceKind}
 use Rattle.flat_code.specs.declared.place.PlaceKind.TheVariants as K
 use Rattle.flat_code.specs.Scene.{Known}
 use Rattle.flat_code.specs.Sizes.{kind_bytes, lent_bytes, place_bytes, places_bytes}
-use Rattle.flat_code.specs.Alike.{value_name, name_of, is_named, gives_text}
 use Rattle.flattening.specs.Numbering.{type_number}
 use Rattle.flattening.specs.Places.{place}
-use Rattle.flat_code.specs.PlainCode.{is_temporary, gets_text, has_hooks, IsPlainPlace, ArePlainPlaces, ReadsPlain, ReadPlain}
+use Rattle.flat_code.specs.BuiltCode.{is_param, IsBuiltPlace, AreBuiltPlaces, IsBuiltLine, AreBuiltLines}
 use Rattle.flattening.proofs.Listed.{listed}
 use Rattle.flattening.proofs.Simple.{never, IsFine}
 
@@ -65,6 +64,38 @@ mutual
 pub bytes_least : (facts : Facts) (ty : Ty) → 4 ≤ type_bytes facts ty
 bytes_least facts ty = size_least (form_of facts ty)
 
+-- and one with hooks two, where it is built
+two_words : (n : ℕ) → 8 ≤ n → 8 ≤ or_word n
+two_words zero h = absurd (omega (arith, h))
+two_words (suc n) h = h
+
+mutual
+  hooked_size : (f : Form) → has_unbuilt f ≡ false → hooked f ≡ true → 8 ≤ size f
+  hooked_size form.plain u h = never h
+  hooked_size form.reference u h = never (sym u)
+  hooked_size form.block u h = omega arith
+  hooked_size (form.elements f) u h = omega arith
+  hooked_size (form.row zero f) u h = never h
+  hooked_size (form.row (suc n) f) u h = let l = hooked_size f u h in two_words (suc n * size f) (omega (arith, l))
+  hooked_size (form.parts fs) u h = let l = all_hooked fs u h in two_words (size_all fs) l
+  hooked_size (form.resource fs) u h = never (sym u)
+  hooked_size (form.wrapped f) u h = hooked_size f u h
+
+  all_hooked : (fs : Forms) → has_unbuilt_any fs ≡ false → hooked_any fs ≡ true → 8 ≤ size_all fs
+  all_hooked form.no_forms u h = never h
+  all_hooked (form.forms f fs) u h =
+      let q = or_parts (has_unbuilt f) (has_unbuilt_any fs) u in
+      by (hooked f) h (λ e. hooked_size f q.0 e) (λ e. all_hooked fs q.1 e)
+    where
+      by : (b : Bool) → b || hooked_any fs ≡ true → (b ≡ true → 8 ≤ size f) → (hooked_any fs ≡ true → 8 ≤ size_all fs) → 8 ≤ size f + size_all fs
+      by true h first rest = let l = first refl in omega (arith, l)
+      by false h first rest = let l = rest h in omega (arith, l)
+
+-- what is lent has hooks
+abbrev pub word_lent : Facts → Option Ty → ℕ
+word_lent facts None = 0
+word_lent facts (Some ty) = if is_hooked facts ty then 4 else 0
+
 module _ (types : List Ty) (facts : Facts) where
   abbrev pub known : Known
   known = record { types = types; facts = facts }
@@ -73,60 +104,32 @@ module _ (types : List Ty) (facts : Facts) where
   bytes_both [] ys = omega arith
   bytes_both (p ∷ xs) ys = let h = bytes_both xs ys in omega (arith, h)
 
-  pub plain_both : (lines : List Line) (xs ys : List FlatPlace) → ArePlainPlaces known lines xs → ArePlainPlaces known lines ys →
-      ArePlainPlaces known lines (xs ++ ys)
-  plain_both lines [] ys h k = k
-  plain_both lines (p ∷ xs) ys h k = (h.0, plain_both lines xs ys h.1 k)
+  pub built_both : (xs ys : List FlatPlace) → AreBuiltPlaces known xs → AreBuiltPlaces known ys → AreBuiltPlaces known (xs ++ ys)
+  built_both [] ys h k = k
+  built_both (p ∷ xs) ys h k = (h.0, built_both xs ys h.1 k)
 
-  plain_apart : (lines : List Line) (xs ys : List FlatPlace) → ArePlainPlaces known lines (xs ++ ys) →
-      ArePlainPlaces known lines xs × ArePlainPlaces known lines ys
-  plain_apart lines [] ys h = (tt, h)
-  plain_apart lines (p ∷ xs) ys h = let q = plain_apart lines xs ys h.1 in ((h.0, q.0), q.1)
-
-  -- where each text that is given stays given
-  plain_more : (old new : List Line) → ((t : ℕ) → gets_text t old ≡ true → gets_text t new ≡ true) → (places : List FlatPlace) →
-      ArePlainPlaces known old places → ArePlainPlaces known new places
-  plain_more old new keeps [] h = tt
-  plain_more old new keeps (p ∷ places) h = (one h.0, plain_more old new keeps places h.1)
-    where
-      text : (has_hooks known p.ty ≡ false) ⊎ ((is_temporary p.kind ≡ true) × (gets_text p.number old ≡ true)) →
-          (has_hooks known p.ty ≡ false) ⊎ ((is_temporary p.kind ≡ true) × (gets_text p.number new ≡ true))
-      text (inl unhooked) = inl unhooked
-      text (inr given) = inr (given.0, keeps p.number given.1)
-
-      one : IsPlainPlace known old p → IsPlainPlace known new p
-      one (inl counter) = inl counter
-      one (inr h) = inr (h.0, text h.1)
+  built_apart : (xs ys : List FlatPlace) → AreBuiltPlaces known (xs ++ ys) → AreBuiltPlaces known xs × AreBuiltPlaces known ys
+  built_apart [] ys h = (tt, h)
+  built_apart (p ∷ xs) ys h = let q = built_apart xs ys h.1 in ((h.0, q.0), q.1)
 
   pub record Covers (places : List FlatPlace) (spare most : ℕ) (front : List Line → List Line) : Type 0 where
-    pub right : (k : List Line) → ArePlainPlaces known (front k) places
-    pub keeps : (t : ℕ) (k : List Line) → gets_text t k ≡ true → gets_text t (front k) ≡ true
-    pub reads : (k : List Line) → ReadPlain known k → ReadPlain known (front k)
+    pub built : AreBuiltPlaces known places
+    pub lines : (k : List Line) → AreBuiltLines known k → AreBuiltLines known (front k)
     pub bytes : places_bytes known places + spare ≤ most
 
   pub covers_none : Covers [] 0 0 (λ k. k)
-  covers_none = record { right = λ k. tt; keeps = λ t k h. h; reads = λ k h. h; bytes = omega arith }
+  covers_none = record { built = tt; lines = λ k h. h; bytes = omega arith }
 
-  or_right : (a b : Bool) → b ≡ true → a || b ≡ true
-  or_right true b h = refl
-  or_right false b h = h
-
-  pub covers_line : (line : Line) → ReadsPlain known line → Covers [] 0 0 (λ k. line ∷ k)
-  covers_line line r = record {
-    right = λ k. tt;
-    keeps = λ t k h. or_right (gives_text line && is_named (value_name t) (name_of line)) (gets_text t k) h;
-    reads = λ k h. (r, h);
-    bytes = omega arith;
-  }
+  pub covers_line : (line : Line) → IsBuiltLine known line → Covers [] 0 0 (λ k. line ∷ k)
+  covers_line line r = record { built = tt; lines = λ k h. (r, h); bytes = omega arith }
 
 infixl 10 ◌>>◌
 pub ◌>>◌ : {types : List Ty} {facts : Facts} {xs ys : List FlatPlace} {r s a b : ℕ} {F G : List Line → List Line} → Covers types facts xs r a F →
     Covers types facts ys s b G →
     Covers types facts (xs ++ ys) (r + s) (a + b) (λ k. F (G k))
 ◌>>◌ {types} {facts} {xs} {ys} {r} {s} {a} {b} {F} {G} p q = record {
-  right = λ k. plain_both types facts (F (G k)) xs ys (p.right (G k)) (plain_more types facts (G k) (F (G k)) (λ t h. p.keeps t (G k) h) ys (q.right k));
-  keeps = λ t k h. p.keeps t (G k) (q.keeps t k h);
-  reads = λ k h. p.reads (G k) (q.reads k h);
+  built = built_both types facts xs ys p.built q.built;
+  lines = λ k h. p.lines (G k) (q.lines k h);
   bytes = let e = bytes_both types facts xs ys in let h = p.bytes in let i = q.bytes in omega (arith, e, h, i);
 }
 
@@ -135,9 +138,8 @@ infixl 10 ◌~>◌
 pub ◌~>◌ : {types : List Ty} {facts : Facts} {ys : List FlatPlace} {s b : ℕ} {F G : List Line → List Line} → Covers types facts [] 0 0 F →
     Covers types facts ys s b G → Covers types facts ys s b (λ k. F (G k))
 ◌~>◌ {types} {facts} {ys} {s} {b} {F} {G} p q = record {
-  right = λ k. plain_more types facts (G k) (F (G k)) (λ t h. p.keeps t (G k) h) ys (q.right k);
-  keeps = λ t k h. p.keeps t (G k) (q.keeps t k h);
-  reads = λ k h. p.reads (G k) (q.reads k h);
+  built = q.built;
+  lines = λ k h. p.lines (G k) (q.lines k h);
   bytes = q.bytes;
 }
 
@@ -145,9 +147,8 @@ infixl 10 ◌<~◌
 pub ◌<~◌ : {types : List Ty} {facts : Facts} {xs : List FlatPlace} {r a : ℕ} {F G : List Line → List Line} → Covers types facts xs r a F →
     Covers types facts [] 0 0 G → Covers types facts xs r a (λ k. F (G k))
 ◌<~◌ {types} {facts} {xs} {r} {a} {F} {G} p q = record {
-  right = λ k. p.right (G k);
-  keeps = λ t k h. p.keeps t (G k) (q.keeps t k h);
-  reads = λ k h. p.reads (G k) (q.reads k h);
+  built = p.built;
+  lines = λ k h. p.lines (G k) (q.lines k h);
   bytes = p.bytes;
 }
 
@@ -155,14 +156,13 @@ module _ (types : List Ty) (facts : Facts) where
   pub covers_most : {xs : List FlatPlace} {r a : ℕ} {F : List Line → List Line} (r' a' : ℕ) → r' + a ≤ a' + r → Covers types facts xs r a F →
       Covers types facts xs r' a' F
   covers_most {xs} {r} {a} {F} r' a' le p =
-      record { right = p.right; keeps = p.keeps; reads = p.reads; bytes = let h = p.bytes in omega (arith, h, le) }
+      record { built = p.built; lines = p.lines; bytes = let h = p.bytes in omega (arith, h, le) }
 
   -- places in another order
   pub turned : (xs ys : List FlatPlace) {r a : ℕ} {F : List Line → List Line} → Covers types facts (ys ++ xs) r a F → Covers types facts (xs ++ ys) r a F
   turned xs ys {r} {a} {F} p = record {
-    right = λ k. let q = plain_apart types facts (F k) ys xs (p.right k) in plain_both types facts (F k) xs ys q.1 q.0;
-    keeps = p.keeps;
-    reads = p.reads;
+    built = let q = built_apart types facts ys xs p.built in built_both types facts xs ys q.1 q.0;
+    lines = p.lines;
     bytes = let e = bytes_both types facts xs ys in let f = bytes_both types facts ys xs in let h = p.bytes in omega (arith, e, f, h);
   }
 
@@ -171,20 +171,32 @@ module _ (types : List Ty) (facts : Facts) where
 
   -- ---- places of types of the table
 
-  pub place_plain : (modes : (proc position : ℕ) → Mode) (lines : List Line) (number : ℕ) (node : Node) (kind : PlaceKind) (ty : Ty) →
-      IsFine types facts ty → IsPlainPlace (known types facts) lines (place types facts modes None number node.at kind ty)
-  place_plain modes lines number node kind ty f =
-      inr (number_within types ty f.0, inl (subst (λ t. is_hooked facts t ≡ false) (sym (listed types ty f.0)) f.1))
+  pub place_built : (modes : (proc position : ℕ) → Mode) (waits : Option ℕ) (number : ℕ) (node : Node) (kind : PlaceKind) (ty : Ty) →
+      IsFine types facts ty → IsBuiltPlace (known types facts) (place types facts modes waits number node.at kind ty)
+  place_built modes waits number node kind ty f = inr record {
+    numbered = number_within types ty f.0.0;
+    built = subst (λ t. is_unbuilt facts t ≡ false) (sym (listed types ty f.0.0)) f.1;
+    hooked = ap (is_hooked facts) (sym (listed types ty f.0.0));
+    few = subst (λ t. levels (form_of facts t) ≤ 64) (sym (listed types ty f.0.0)) f.0.1;
+  }
 
   pub value_bytes : (ty : Ty) → is_among_types types ty ≡ true → type_bytes facts (type_at types (type_number types ty)) ≡ type_bytes facts ty
   value_bytes ty among = ap (type_bytes facts) (listed types ty among)
 
-  -- without hooks nothing is lent
-  unlent : (kind : PlaceKind) (hooked : Bool) (n : ℕ) → hooked ≡ false → lent_bytes kind hooked n ≡ kind_bytes kind n
-  unlent kind true n e = never (sym e)
-  unlent (K.Param Plain) false n e = refl
-  unlent kind false n e = refl
+  -- it has a word to spare
+  pub lent_least : (ty : Ty) → IsFine types facts ty → word_lent facts (Some ty) + 4 ≤ type_bytes facts ty
+  lent_least ty f = by (is_hooked facts ty) (λ e. hooked_size (form_of facts ty) f.1 e) (bytes_least facts ty)
+    where
+      by : (b : Bool) → (b ≡ true → 8 ≤ type_bytes facts ty) → 4 ≤ type_bytes facts ty → (if b then 4 else 0) + 4 ≤ type_bytes facts ty
+      by true two one = let l = two refl in omega (arith, l)
+      by false two one = omega (arith, one)
 
-  pub fine_bytes : (modes : (proc position : ℕ) → Mode) (number : ℕ) (node : Node) (kind : PlaceKind) (ty : Ty) → IsFine types facts ty →
-      place_bytes (known types facts) (place types facts modes None number node.at kind ty) ≡ kind_bytes kind (type_bytes facts ty)
-  fine_bytes modes number node kind ty f = unlent kind (is_hooked facts ty) _ f.1 ∙ ap (kind_bytes kind) (value_bytes ty f.0)
+  -- what is no parameter isn't lent
+  unlent : (kind : PlaceKind) (hooked : Bool) (n : ℕ) → is_param kind ≡ false → lent_bytes kind hooked n ≡ kind_bytes kind n
+  unlent (K.Param mode) hooked n e = absurd (both_ways true e refl)
+  unlent kind hooked n e = refl
+
+  pub fine_bytes : (modes : (proc position : ℕ) → Mode) (waits : Option ℕ) (number : ℕ) (node : Node) (kind : PlaceKind) (ty : Ty) → IsFine types facts ty →
+      is_param kind ≡ false →
+      place_bytes (known types facts) (place types facts modes waits number node.at kind ty) ≡ kind_bytes kind (type_bytes facts ty)
+  fine_bytes modes waits number node kind ty f own = unlent kind (is_hooked facts ty) _ own ∙ ap (kind_bytes kind) (value_bytes ty f.0.0)

@@ -55,7 +55,7 @@ module _ (program : Program) (plan : Plan) where
 
   -- what is known where so many of them are there
   abbrev seen_by : ℕ → List Placed → Here
-  seen_by filled first_in = parts.seen types facts modes program.procs globals [] start start filled first_in None
+  seen_by filled first_in = parts.seen types facts modes program.procs globals [] start start (λ n. false) filled first_in None
 
   -- ---- types that stand in a body
 

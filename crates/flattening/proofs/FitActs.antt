@@ -2,6 +2,7 @@
 use Rattle.std.proofs.Common.{◌≡◌, ℕ, suc, ◌+◌, Bool, true, false, List, [], ◌∷◌, Option, Some, None, refl, sym, ap, ap₂, ◌∙◌}
 use Rattle.std.specs.Prelude.{◌&&◌, ◌||◌, not, if◌then◌else◌, nat_eq, map, slice_get}
 use Rattle.std.proofs.lemmas.Bool.{and_parts, and_from}
+use Rattle.flat_code.specs.Pieces.{is_one_text, pieces_of}
 use Rattle.nim_types.specs.Types.{Ty, Tys, no_types, types as more_types, Facts}
 use Rattle.nim_types.specs.Types as type
 use Rattle.nim_program.specs.declared.operation.Operation.{Operation}
@@ -31,12 +32,15 @@ use Rattle.flat_code.specs.declared.line.Line.TheVariants as L
 use Rattle.flat_code.specs.declared.place.FlatPlace.{FlatPlace}
 use Rattle.flat_code.specs.Scene.{Known}
 use Rattle.flat_code.specs.Fits as fit
+use Rattle.flat_code.specs.Leads.{place_hooked}
 use Rattle.flat_code.specs.Fits.{Taken, Signature, is_var, is_value, place_named, if_type_of, if_kind, operation_fits, writes, are_arguments}
 use Rattle.flattening.specs.Formed.{IfListed, AreListed}
 use Rattle.flattening.specs.Numbering.{if_number, width, width_at}
 use Rattle.flattening.specs.ExprLines.{has_hooks, is_copied, is_lent_at, froms, act_line, back_line}
 use Rattle.flattening.proofs.Acting.{type_is, types_are}
-use Rattle.flattening.proofs.Direct.{is_text, has_own_hooks, of_act}
+use Rattle.nim_meaning.specs.LeftOut.{is_literal_built}
+use Rattle.flattening.proofs.BuiltPieces.{pieces_built}
+use Rattle.flattening.proofs.Direct.{is_characters, has_own_hooks, of_act}
 use Rattle.flattening.proofs.Fit.{Among, Fit, fitting, fit_none, fit_line, fit_by}
 use Rattle.flattening.proofs.FitParts.{never, of_same, both_are, both_some}
 use Rattle.flattening.proofs.FitParts as parts
@@ -79,23 +83,23 @@ given_if_none None = refl
 given_if_none (Some ty) = ap Some (given_none ty)
 
 module _ (types : List Ty) (facts : Facts) (modes : (proc position : ℕ) → Mode) (procs : List Proc) (globals : List Placed) (sigs : List Signature)
-    (start whole : List FlatPlace)
-    (grounds : parts.Grounds types facts modes procs globals sigs start whole)
-    (filled : ℕ) (places : List Placed) (dest : Option ℕ) (sees : parts.Sees types facts modes procs globals sigs start whole filled places) where
+    (start whole : List FlatPlace) (stands_for : ℕ → Bool)
+    (grounds : parts.Grounds types facts modes procs globals sigs start whole stands_for)
+    (filled : ℕ) (places : List Placed) (dest : Option ℕ) (sees : parts.Sees types facts modes procs globals sigs start whole stands_for filled places) where
   abbrev known : Known
-  known = parts.known types facts modes procs globals sigs start whole
+  known = parts.known types facts modes procs globals sigs start whole stands_for
 
   abbrev around : Among
-  around = parts.around types facts modes procs globals sigs start whole
+  around = parts.around types facts modes procs globals sigs start whole stands_for
 
   abbrev here : Here
-  here = parts.seen types facts modes procs globals sigs start whole filled places dest
+  here = parts.seen types facts modes procs globals sigs start whole stands_for filled places dest
 
   abbrev value : ℕ → Option Ty
-  value = parts.value types facts modes procs globals sigs start whole
+  value = parts.value types facts modes procs globals sigs start whole stands_for
 
   abbrev AllStood : Act → (uses : (position : ℕ) → Use) → (position : ℕ) → Args → (t : ℕ) → Type 0
-  AllStood = parts.AllStood types facts modes procs globals sigs start whole filled places dest
+  AllStood = parts.AllStood types facts modes procs globals sigs start whole stands_for filled places dest
 
   -- operands of an act, from its first one on
   abbrev ActStood : Act → Args → (t : ℕ) → Type 0
@@ -105,10 +109,11 @@ module _ (types : List Ty) (facts : Facts) (modes : (proc position : ℕ) → Mo
   from_all act operands t = froms facts act operands (use_of modes act) 0 t
 
   abbrev taken_from : From → Option Ty
-  taken_from = paths.taken_from types facts modes procs globals sigs start whole grounds filled places dest sees
+  taken_from = paths.taken_from types facts modes procs globals sigs start whole stands_for grounds filled places dest sees
 
   taken_are : (act : Act) (args : Args) (t : ℕ) → ActStood act args t → map taken_from (from_all act args t) ≡ types_in args
-  taken_are act args t all = paths.taken_are types facts modes procs globals sigs start whole grounds filled places dest sees act (use_of modes act) 0
+  taken_are act args t all = paths.taken_are types facts modes procs globals sigs start whole stands_for grounds filled places dest sees act
+      (use_of modes act) 0
       args t all
 
   -- ---- operations
@@ -128,13 +133,13 @@ module _ (types : List Ty) (facts : Facts) (modes : (proc position : ℕ) → Mo
       and_from _ _
       (and_from _ _ (ap₂ (operation_fits facts operation) e es ∙ operation_right facts operation ty (types_in operands) q.0)
       (and_from _ _
-      (paths.are_of_these types facts modes procs globals sigs start whole grounds filled places dest sees from _
+      (paths.are_of_these types facts modes procs globals sigs start whole stands_for grounds filled places dest sees from _
       (taken_are (Doing operation) operands (suc t) all ∙ sym es))
       (and_from _ _
       (ap (λ tys. fit.are_placed facts (use_by operation) (places_in operation) tys from) es
-      ∙ paths.placed_same types facts modes procs globals sigs start whole grounds filled places dest sees (Doing operation) uses
+      ∙ paths.placed_same types facts modes procs globals sigs start whole stands_for grounds filled places dest sees (Doing operation) uses
       (use_by operation) (λ i. refl) (places_in operation) 0 operands (suc t) r.0)
-      (paths.may_be_written types facts modes procs globals sigs start whole grounds filled places dest sees (Doing operation) uses operation
+      (paths.may_be_written types facts modes procs globals sigs start whole stands_for grounds filled places dest sees (Doing operation) uses operation
       (places_in operation) operands (suc t) all r.0 r.1))))
       (both_are _ _ ty is e)
 
@@ -151,11 +156,13 @@ module _ (types : List Ty) (facts : Facts) (modes : (proc position : ℕ) → Mo
       and_from _ _
       (and_from _ _
       (ap₂ (λ u tys. building_fits facts (Some u) fields tys) listed (taken_are (Building fields) operands (suc t) all) ∙ q.0)
-      (paths.values_all types facts modes procs globals sigs start whole grounds filled places dest sees (Building fields) (use_of modes (Building fields))
+      (paths.values_all types facts modes procs globals sigs start whole stands_for grounds filled places dest sees (Building fields)
+      (use_of modes (Building fields))
       Held (λ i. refl) 0 operands (suc t) refl q.1))
       (both_some _ _ (Some ty) refl is (ap Some listed))
 
-  giving_right : (t : ℕ) (literal : Literal) (how : UseAt) (ty : Option Ty) (operands : Args) → is_text literal || not (has_own_hooks facts ty) ≡ true →
+  giving_right : (t : ℕ) (literal : Literal) (how : UseAt) (ty : Option Ty) (operands : Args) →
+      (is_characters literal || not (has_own_hooks facts ty)) && is_literal_built facts ty literal ≡ true →
       act_fits here ty (Giving literal) operands ≡ true → IfListed types ty → value t ≡ ty →
       fitting around (act_line types facts modes t (Giving literal) how ty (types_in operands) (from_all (Giving literal) operands (suc t))) ≡ true
   giving_right t literal how ty (ByValue e rest) d h listed is = never h
@@ -163,8 +170,12 @@ module _ (types : List Ty) (facts : Facts) (modes : (proc position : ℕ) → Mo
   giving_right t literal how None NoArg d h listed is = never h
   giving_right t literal how (Some ty) NoArg d h listed is =
       and_from _ _
-      (paths.constant_right types facts modes procs globals sigs start whole grounds filled places dest sees ty literal listed d h)
-      (both_some _ _ (Some ty) refl is (ap Some listed))
+      (paths.constant_right types facts modes procs globals sigs start whole stands_for grounds filled places dest sees ty literal listed
+      (and_parts (is_characters literal || not (has_own_hooks facts (Some ty))) (is_literal_built facts (Some ty) literal) d).0 h)
+      (and_from _ _ (both_some _ _ (Some ty) refl is (ap Some listed))
+      (ap (λ u. is_one_text (pieces_of literal) || not (is_hooked facts u)) listed
+      ∙ pieces_built facts ty literal
+      (and_parts (is_characters literal || not (has_own_hooks facts (Some ty))) (is_literal_built facts (Some ty) literal) d).1))
 
   -- ---- calls
 
@@ -195,7 +206,7 @@ module _ (types : List Ty) (facts : Facts) (modes : (proc position : ℕ) → Mo
     uses = use_of modes act
 
     abbrev AllTaken : (position : ℕ) → List Param → List Taken → Type 0
-    AllTaken i params taken = parts.AreTaken types facts modes procs globals sigs start whole proc i params taken
+    AllTaken i params taken = parts.AreTaken types facts modes procs globals sigs start whole stands_for proc i params taken
 
     lent_is : (i : ℕ) (p : Param) (e : Expr) → type_of e ≡ Some p.place.of →
         is_lent_at facts act (uses i) e ≡ is_hooked facts p.place.of && is_lent (use_for (modes proc i))
@@ -213,7 +224,7 @@ module _ (types : List Ty) (facts : Facts) (modes : (proc position : ℕ) → Mo
     arguments_right i (p ∷ params) (a ∷ taken) (ByValue e rest) t k h all =
         by (is_copied facts (uses i) e) (is_lent_at facts act (uses i) e) refl refl
         (arguments_right (suc i) params taken rest (t + width e) k.1 r.1
-        (parts.rest_stood types facts modes procs globals sigs start whole filled places dest act uses i e rest t all))
+        (parts.rest_stood types facts modes procs globals sigs start whole stands_for filled places dest act uses i e rest t all))
       where
         q : (not (scopes.is_var p.mode) ≡ true) × (is_of (type_of e) (Some (given [] p.place.of)) && are_taken [] params rest ≡ true)
         q = and_parts (not (scopes.is_var p.mode)) _ h
@@ -234,29 +245,31 @@ module _ (types : List Ty) (facts : Facts) (modes : (proc position : ℕ) → Mo
 
         by : (b c : Bool) → is_copied facts (uses i) e ≡ b → is_lent_at facts act (uses i) e ≡ c →
             are_arguments known sigs start whole taken (froms facts act rest uses (suc i) (t + width e)) ≡ true →
-            are_arguments known sigs start whole (a ∷ taken) (paths.by_ways types facts modes procs globals sigs start whole grounds filled places dest sees b c
+            are_arguments known sigs start whole (a ∷ taken)
+            (paths.by_ways types facts modes procs globals sigs start whole stands_for grounds filled places dest sees b c
             t ∷ froms facts act rest uses (suc i) (t + width e)) ≡ true
         by true c copied lent behind =
             never (sym (never_given (modes proc i)) ∙ (and_parts (is_given (uses i)) (is_read e) (and_parts (has_hooks facts e) _ copied).1).0)
         by false true copied lent behind =
-            let l = parts.lent_leads types facts modes procs globals sigs start whole filled places dest act uses i e rest t lent all in
+            let l = parts.lent_leads types facts modes procs globals sigs start whole stands_for filled places dest act uses i e rest t lent all in
             and_from _ _
-            (and_from _ _ (sym lent_as ∙ lent) (ap (λ w. not w || parts.may_write types facts modes procs globals sigs start whole t) (k.0.kept plain_mode)))
+            (and_from _ _ (sym lent_as ∙ lent) (ap (λ w. not w || parts.may_write types facts modes procs globals sigs start whole stands_for t)
+            (k.0.kept plain_mode)))
             (and_from _ _ (ap₂ is_of l.0 of ∙ r.0) behind)
         by false false copied lent behind =
             and_from _ _ (ap not (sym lent_as ∙ lent))
-            (and_from _ _ (ap₂ is_of (parts.value_is types facts modes procs globals sigs start whole filled places dest e t
-            (parts.first_stood types facts modes procs globals sigs start whole filled places dest act uses i e rest t all)) of ∙ r.0) behind)
+            (and_from _ _ (ap₂ is_of (parts.value_is types facts modes procs globals sigs start whole stands_for filled places dest e t
+            (parts.first_stood types facts modes procs globals sigs start whole stands_for filled places dest act uses i e rest t all)) of ∙ r.0) behind)
     arguments_right i (p ∷ params) (a ∷ taken) (ByPath path rest) t k h all =
         let q = and_parts (scopes.is_var p.mode && is_written path) _ h in
         let w = and_parts (scopes.is_var p.mode) (is_written path) q.0 in
         let r = and_parts (is_of (type_at path) (Some (given [] p.place.of))) (are_taken [] params rest) q.1 in
-        let l = parts.leads types facts modes procs globals sigs start whole filled places dest false path t
-        (parts.first_path types facts modes procs globals sigs start whole filled places dest act uses i path rest t all) in
+        let l = parts.leads types facts modes procs globals sigs start whole stands_for filled places dest false path t
+        (parts.first_path types facts modes procs globals sigs start whole stands_for filled places dest act uses i path rest t all) in
         and_from _ _ (and_from _ _ (k.0.by_path (sym (same_var p.mode) ∙ w.0)) (written a.written (l.writes ∙ w.1)))
         (and_from _ _ (ap₂ is_of l.type (ap Some (k.0.of ∙ sym (given_none p.place.of))) ∙ r.0)
         (arguments_right (suc i) params taken rest (t + width_at path) k.1 r.1
-        (parts.behind_path types facts modes procs globals sigs start whole filled places dest act uses i path rest t all)))
+        (parts.behind_path types facts modes procs globals sigs start whole stands_for filled places dest act uses i path rest t all)))
       where
         written : (b : Bool) {c : Bool} → c ≡ true → not b || c ≡ true
         written true h = h
@@ -273,7 +286,7 @@ module _ (types : List Ty) (facts : Facts) (modes : (proc position : ℕ) → Mo
       Said : Type 0
       Said = fitting around (L.Call t how (if_number types ty) proc (from_all (Calling proc []) operands (suc t))) ≡ true
 
-      signed : (p : Proc) → parts.Signed types facts modes procs globals sigs start whole proc p →
+      signed : (p : Proc) → parts.Signed types facts modes procs globals sigs start whole stands_for proc p →
           same_value (given_if [] p.gives) ty && are_taken [] p.params operands ≡ true → Said
       signed p s k =
           let q = and_parts (same_value (given_if [] p.gives) ty) (are_taken [] p.params operands) k in
@@ -295,7 +308,7 @@ module _ (types : List Ty) (facts : Facts) (modes : (proc position : ℕ) → Mo
           let r = and_parts (is_no_hook p.hook && is_ready here p.body) (nat_eq 0 p.type_params) q.0 in
           found p p.body e refl (and_parts (is_no_hook p.hook) (is_ready here p.body) r.0).1 q.1
 
-  pub act_right : (t : ℕ) (act : Act) (how : UseAt) (ty : Option Ty) (operands : Args) (all : Bool) → of_act facts ty act all ≡ true →
+  pub act_right : (t : ℕ) (act : Act) (how : UseAt) (ty : Option Ty) (operands : Args) (all : Bool) → of_act facts ty act operands all ≡ true →
       act_fits here ty act operands ≡ true → IfListed types ty → AreListed types (types_in operands) → value t ≡ ty → ActStood act operands (suc t) →
       fitting around (act_line types facts modes t act how ty (types_in operands) (from_all act operands (suc t))) ≡ true
   act_right t (Doing operation) how ty operands all d h listed of is stood = doing_fits t operation how ty operands h listed of is stood
@@ -324,13 +337,16 @@ module _ (types : List Ty) (facts : Facts) (modes : (proc position : ℕ) → Mo
   there (Some ty) h = refl
 
   pub back_fits : (t : ℕ) (act : Act) (how : UseAt) (ty : Option Ty) → value t ≡ ty →
-      waiting.Kept types facts modes procs globals sigs start whole t how.node ty →
+      place_hooked known (place_named is_value whole t) ≡ gives_hooked facts ty →
+      waiting.Kept types facts modes procs globals sigs start whole stands_for t how.node ty →
       Fit around (back_line types facts modes t act how ty)
-  back_fits t (Doing operation) how ty is kept = fit_none
-  back_fits t (Building fields) how ty is kept = fit_none
-  back_fits t (Giving literal) how ty is kept = fit_none
-  back_fits t (Calling proc args) how ty is kept =
+  back_fits t (Doing operation) how ty is same kept = fit_none
+  back_fits t (Building fields) how ty is same kept = fit_none
+  back_fits t (Giving literal) how ty is same kept = fit_none
+  back_fits t (Calling proc args) how ty is same kept =
       fit_by (gives_hooked facts ty && waits how.how)
-      (λ waits_back. fit_line (L.Own (W.Waits how.node) (F.Value t ∷ [])) (kept (and_parts (gives_hooked facts ty) (waits how.how) waits_back).0)
+      (λ waits_back. fit_line (L.Own (W.Waits how.node) (F.Value t ∷ []))
+      (let hooked = (and_parts (gives_hooked facts ty) (waits how.how) waits_back).0 in
+      and_from _ _ (same ∙ hooked) (kept hooked))
       (has_place whole t (ap is_there is ∙ there ty (and_parts (gives_hooked facts ty) (waits how.how) waits_back).0)))
       (λ not_waiting. fit_none)

@@ -13,6 +13,7 @@ use Rattle.nim_program.specs.Scopes.{Placed, placed, Here, look}
 use Rattle.nim_program.specs.Typed.{own_types, is_typed}
 use Rattle.flat_code.specs.declared.place.FlatPlace.{FlatPlace}
 use Rattle.flat_code.specs.Fits.{Signature, own}
+use Rattle.flat_code.specs.Leads.{may_fill, may_stand}
 use Rattle.flattening.specs.Formed.{IsListed}
 use Rattle.flattening.specs.Numbering.{width, selector_from, behind_selector}
 use Rattle.flattening.specs.Places.{expr_places, part_places, selector_place}
@@ -24,6 +25,7 @@ use Rattle.flattening.proofs.Owned as owned
 use Rattle.flattening.proofs.Owned.{selector_later}
 use Rattle.flattening.proofs.Parts.{Each, EachIn, both}
 use Rattle.flattening.proofs.PlaceNumbers.{part_numbers, selector_number}
+use Rattle.flattening.proofs.StoodPlaces.{Mark}
 
 -- ---- what is an int
 
@@ -97,31 +99,38 @@ together_each holds own (ByValue e rest) h = both holds (total lists own e) (tot
 together_each holds own (ByPath path rest) h = both holds (total_at lists own false path) (totals lists own rest) h.0 (together_each holds own rest h.1)
 
 module _ (types : List Ty) (facts : Facts) (modes : (proc position : ℕ) → Mode) (procs : List Proc) (globals : List Placed) (sigs : List Signature)
-    (start whole : List FlatPlace) where
+    (start whole : List FlatPlace) (stands_for : ℕ → Bool) where
   abbrev pub own_place : ℕ → Option Ty
-  own_place = own (parts.known types facts modes procs globals sigs start whole) sigs start whole
+  own_place = own (parts.known types facts modes procs globals sigs start whole stands_for) sigs start whole
 
   -- a declared place is one of the code, of its type
   pub record Held (d : Declared) : Type 0 where
     pub own : own_place d.number ≡ Some d.of
-    pub named : parts.named types facts modes procs globals sigs start whole d.number false ≡ Some d.of
+    pub named : parts.named types facts modes procs globals sigs start whole stands_for d.number false ≡ Some d.of
+
+  -- a place is filled, or stands for others
+  pub record Marked (m : Mark) : Type 0 where
+    pub fills : m.stands ≡ false → may_fill (parts.known types facts modes procs globals sigs start whole stands_for) whole stands_for m.place.number ≡ true
+    pub stands : m.stands ≡ true → IsListed types m.place.of →
+        may_stand (parts.known types facts modes procs globals sigs start whole stands_for) whole stands_for m.place.number ≡ true
 
   abbrev Sees : ℕ → List Placed → Type 0
-  Sees = parts.Sees types facts modes procs globals sigs start whole
+  Sees = parts.Sees types facts modes procs globals sigs start whole stands_for
 
   pub sees_place : (filled : ℕ) (places : List Placed) (d : Declared) → Sees filled places → Held d → Sees filled (places ++ placed d ∷ [])
   sees_place filled places d sees held = record {
-    local = λ n ty e. look_end places (placed d) n ty (parts.named types facts modes procs globals sigs start whole n false ≡ Some ty) e (sees.local n ty)
-        (λ same is. subst (λ m. parts.named types facts modes procs globals sigs start whole m false ≡ Some ty) same (held.named ∙ ap Some is));
+    local = λ n ty e. look_end places (placed d) n ty (parts.named types facts modes procs globals sigs start whole stands_for n false ≡ Some ty) e
+        (sees.local n ty)
+        (λ same is. subst (λ m. parts.named types facts modes procs globals sigs start whole stands_for m false ≡ Some ty) same (held.named ∙ ap Some is));
     global = sees.global;
   }
 
   module _ (filled : ℕ) (places : List Placed) (dest : Option ℕ) where
     abbrev here : Here
-    here = parts.seen types facts modes procs globals sigs start whole filled places dest
+    here = parts.seen types facts modes procs globals sigs start whole stands_for filled places dest
 
     abbrev Stood : Expr → ℕ → Type 0
-    Stood = parts.Stood types facts modes procs globals sigs start whole filled places dest
+    Stood = parts.Stood types facts modes procs globals sigs start whole stands_for filled places dest
 
     -- an expression that owns its temporaries
     pub stood : (e : Expr) (t : ℕ) → is_typed here e ≡ true → is_direct facts e ≡ true → Each (IsListed types) (total lists own_types e) →
@@ -132,7 +141,7 @@ module _ (types : List Ty) (facts : Facts) (modes : (proc position : ℕ) → Mo
     -- the selector of a `case`, before other places
     pub selector_owned : (selector : Args) (u v : ℕ) (more : List FlatPlace) → Numbered (behind_selector selector u) v more → behind_selector selector u ≤ v →
         Owns whole (selector_place types facts modes selector u ++ (part_places types facts modes selector (selector_from selector u) ++ more)) u u v →
-        owned.ChoiceOwned (parts.known types facts modes procs globals sigs start whole) modes whole selector u
+        owned.ChoiceOwned (parts.known types facts modes procs globals sigs start whole stands_for) modes whole selector u
         × Owns whole more (behind_selector selector u) (behind_selector selector u) v
     selector_owned selector u v more behind le owns =
         let from = selector_from selector u in

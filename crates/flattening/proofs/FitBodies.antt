@@ -25,6 +25,7 @@ use Rattle.flat_code.specs.Fits.{Taken, Signature, is_lent_by, is_value, is_loca
 use Rattle.flat_code.specs.Fits.{given_by, result_at}
 use Rattle.flat_code.specs.Fits.{params_at, results_at, and_param, and_number, and_result, or_result}
 use Rattle.flat_code.specs.Fits.{is_var, follow, are_within, same_place}
+use Rattle.flat_code.specs.Leads.{fills_kind, stands_kind, is_filled, is_stood, may_fill, may_stand}
 use Rattle.flattening.specs.Formed.{IsListed}
 use Rattle.flattening.specs.Numbering.{type_number}
 use Rattle.flattening.specs.Places.{taken_as, kind_of_param, of_declared, own_declared, param_places, result_places, block_places, body_places}
@@ -32,6 +33,8 @@ use Rattle.flattening.specs.StmtLines.{number_of}
 use Rattle.flattening.proofs.Declared.{is_block, block_own, block_declared, declared_type, Likes, block_like, block_listed, numbers, Member, member_first}
 use Rattle.flattening.proofs.Declared.{member_second}
 use Rattle.flattening.proofs.Declared.{found_by, rise_within}
+use Rattle.flattening.proofs.Declaring.{declares}
+use Rattle.flattening.proofs.StoodPlaces.{Mark, marks_of, stood_by, AllMarked, all_marked, all_own, rise_behind}
 use Rattle.flattening.proofs.FitParts.{never}
 use Rattle.flattening.proofs.FitParts as parts
 use Rattle.flattening.proofs.Numbered.{named_past, named_behind, Owns}
@@ -199,8 +202,8 @@ module _ (types : List Ty) (facts : Facts) (modes : (proc position : ℕ) → Mo
   by_path M.Sink planned hooked h = never h
   by_path M.Var planned hooked h = refl
 
-  module _ (procs : List Proc) (globals : List Placed) (sigs : List Signature) (start whole : List FlatPlace) where
-    is_taken : (p : Param) → parts.IsTaken types facts modes procs globals sigs start whole (mode_of sinks p) p (taken_of p)
+  module _ (procs : List Proc) (globals : List Placed) (sigs : List Signature) (start whole : List FlatPlace) (stands_for : ℕ → Bool) where
+    is_taken : (p : Param) → parts.IsTaken types facts modes procs globals sigs start whole stands_for (mode_of sinks p) p (taken_of p)
     is_taken p = record {
       of = refl;
       by_path = λ h. by_path p.mode (mode_of sinks p) (is_hooked facts p.place.of) h;
@@ -209,10 +212,11 @@ module _ (types : List Ty) (facts : Facts) (modes : (proc position : ℕ) → Mo
     }
 
     pub are_taken : (proc i : ℕ) (params : List Param) → ((j : ℕ) → modes proc (j + i) ≡ mode_in sinks params j) →
-        parts.AreTaken types facts modes procs globals sigs start whole proc i params (takes_of params)
+        parts.AreTaken types facts modes procs globals sigs start whole stands_for proc i params (takes_of params)
     are_taken proc i [] same = tt
     are_taken proc i (p ∷ params) same = (
-      subst (λ mode. parts.IsTaken types facts modes procs globals sigs start whole mode p (taken_of p)) (sym (ap (modes proc) at_first ∙ same 0)) (is_taken p),
+      subst (λ mode. parts.IsTaken types facts modes procs globals sigs start whole stands_for mode p (taken_of p)) (sym (ap (modes proc) at_first ∙ same 0))
+          (is_taken p),
       are_taken proc (suc i) params (λ j. ap (modes proc) (next j) ∙ same (suc j)),
     )
       where
@@ -253,6 +257,11 @@ module _ (types : List Ty) (facts : Facts) (modes : (proc position : ℕ) → Mo
   split =
       append_assoc (param_places types facts modes sinks params) (result_places types facts modes body.result ++ declared) temporaries
       ∙ ap (λ rest. param_places types facts modes sinks params ++ rest) (append_assoc (result_places types facts modes body.result) declared temporaries)
+
+  -- what is known of a place that is filled, or stands for others
+  pub record IsPlaced (m : Mark) : Type 0 where
+    pub fills : m.stands ≡ false → may_fill known' whole (stood_by (marks_of facts body.stmts)) m.place.number ≡ true
+    pub stands : m.stands ≡ true → IsListed types m.place.of → may_stand known' whole (stood_by (marks_of facts body.stmts)) m.place.number ≡ true
 
   pub undeclared : Each (λ (p : FlatPlace). is_declared p.kind ≡ false) temporaries
   undeclared = (block_numbers types facts modes body.stmts 0).undeclared
@@ -413,6 +422,56 @@ module _ (types : List Ty) (facts : Facts) (modes : (proc position : ℕ) → Mo
           type_found is_own (of_declared types facts modes K.Result d) d m refl refl refl refl listed,
           type_found is_declared (of_declared types facts modes K.Result d) d m refl refl refl refl listed,
         )
+
+    pub result_filled : (stood : ℕ → Bool) (d : Declared) → body.result ≡ Some d → may_fill known' whole stood d.number ≡ true
+    result_filled stood d e =
+        let m = member_second (of_declared types facts modes K.Result d) (param_places types facts modes sinks params)
+        (result_places types facts modes body.result ++ declared)
+        (result_at_front body.result d e) in
+        ap (is_filled known' whole stood) (found is_own (of_declared types facts modes K.Result d) m refl)
+
+    -- ---- places that stand for others
+
+    fills_block : (kind : PlaceKind) → is_block kind ≡ true → fills_kind kind false ≡ true
+    fills_block K.Local h = refl
+    fills_block K.Cursor h = refl
+    fills_block K.ForVar h = refl
+    fills_block K.Caught h = refl
+    fills_block K.Global h = refl
+    fills_block kind h = never h
+
+    abbrev pub stood : ℕ → Bool
+    stood = stood_by (marks_of facts body.stmts)
+
+    marked_found : (ps : List FlatPlace) (ms : List Mark) → AllMarked types facts ps ms → Each (λ (m : Mark). stood m.place.number ≡ m.stands) ms →
+        ((p : FlatPlace) → Member p ps → Member p front) → Each IsPlaced ms
+    marked_found [] [] h own in_front = tt
+    marked_found [] (m ∷ ms) h own in_front = absurd h
+    marked_found (p ∷ ps) [] h own in_front = absurd h
+    marked_found (p ∷ ps) (m ∷ ms) h own in_front =
+        let at = in_front p (inl refl) in
+        let same = ap stood h.0.number ∙ own.0 in (
+          record {
+            fills = λ unstood. subst (λ n. may_fill known' whole stood n ≡ true) h.0.number
+                (ap (is_filled known' whole stood) (found is_own p at (block_own p.kind h.0.block))
+                ∙ ap (fills_kind p.kind) (same ∙ unstood) ∙ fills_block p.kind h.0.block);
+            stands = λ stands listed. subst (λ n. may_stand known' whole stood n ≡ true) h.0.number
+                (ap (is_stood known' whole stood) (found is_declared p at (block_declared p.kind h.0.block))
+                ∙ and_from _ _ (ap stands_kind (h.0.of_loop stands))
+                (and_from _ _ (ap (λ n. is_hooked facts (type_at types n)) h.0.of ∙ ap (is_hooked facts) listed ∙ h.0.hooked stands) (same ∙ stands)));
+          },
+          marked_found ps ms h.1 own.1 (λ q k. in_front q (inr k)),
+        )
+
+    pub marks_found : Each IsPlaced (marks_of facts body.stmts)
+    marks_found =
+        let marked = subst (λ ps. AllMarked types facts ps (marks_of facts body.stmts)) (sym (declares types facts modes globals body.stmts))
+        (all_marked types facts modes globals body.stmts) in
+        let behind = rise_behind body.first (body.first + body.places) (param_places types facts modes sinks params)
+        (result_places types facts modes body.result ++ declared) rise in
+        let least = rise_behind behind.0 (body.first + body.places) (result_places types facts modes body.result) declared behind.1 in
+        marked_found declared (marks_of facts body.stmts) marked
+        (all_own types facts least.0 (body.first + body.places) declared (marks_of facts body.stmts) marked least.1) in_blocks
 
     params_found : (ps : List Param) → Each (λ (d : Declared). IsListed types d.of) (param_declared ps) →
         ((p : FlatPlace) → Member p (param_places types facts modes sinks ps) → Member p front) → Each Named (param_declared ps)

@@ -1,7 +1,8 @@
 -- The lines of expressions fit.
-use Rattle.std.proofs.Common.{◌≡◌, ℕ, suc, ◌+◌, Bool, true, false, List, [], ◌∷◌, Option, Some, None, refl, ap, ap₂, ◌∙◌}
-use Rattle.std.specs.Prelude.{◌&&◌, not}
-use Rattle.std.proofs.lemmas.Bool.{and_parts, and_from}
+use Rattle.std.proofs.Common.{◌≡◌, ℕ, suc, ◌+◌, Bool, true, false, List, [], ◌∷◌, Option, Some, None, refl, sym, ap, ap₂, ◌∙◌}
+use Rattle.std.specs.Prelude.{◌&&◌, ◌||◌, not, if◌then◌else◌}
+use Rattle.std.proofs.lemmas.Bool.{and_parts, or_parts, and_from, not-true, eq-eqb}
+use Rattle.nim_meaning.specs.LeftOut.{any_text}
 use Rattle.nim_types.specs.Types.{Ty, Facts}
 use Rattle.nim_program.specs.declared.operation.Short.{Short}
 use Rattle.nim_program.specs.declared.operation.Short.TheVariants.{And, Or}
@@ -9,6 +10,8 @@ use Rattle.nim_program.specs.declared.operation.Use.{Use}
 use Rattle.nim_program.specs.declared.operation.Use.TheVariants.{Owned, Looked}
 use Rattle.nim_program.specs.declared.program.Mode.{Mode}
 use Rattle.nim_program.specs.Ints.{fits as is_int_value}
+use Rattle.nim_program.specs.declared.expr.Node.{Node}
+use Rattle.nim_program.specs.Program.{Number, Characters, NoObject, PartsOf, ElementsOf}
 use Rattle.nim_program.specs.Program.{Act, Doing, Building, Giving, Calling, Literal, Label, Ordinals, Exactly, ByConditions, ByLabels, Expr, Apply, Read}
 use Rattle.nim_program.specs.Program.{Early, Choose}
 use Rattle.nim_program.specs.Program.{Path, Variable, Fresh, Field, Element, Deref, Args, NoArg, ByValue, ByPath, Proc, type_of, type_at, types_in}
@@ -20,26 +23,28 @@ use Rattle.nim_program.specs.Fitting.{conditions_fit, values_fit, chooser_fits}
 use Rattle.nim_program.specs.Scopes.{Placed, Here}
 use Rattle.nim_program.specs.Typed.{are_typed, act_fits, are_placed, is_selector, choice_is_placed}
 use Rattle.nim_program.specs.Uses.{use_of}
-use Rattle.nim_meaning.specs.Here.{gives_hooked}
-use Rattle.nim_meaning.specs.Shapes.{is_covered, is_last_value, waits as are_kept, is_text as is_literal_text}
+use Rattle.nim_meaning.specs.Here.{is_hooked, gives_hooked}
+use Rattle.nim_meaning.specs.Shapes.{is_covered, is_last_value, waits as are_kept, is_text as is_literal_text, is_lent}
 use Rattle.nim_meaning.specs.Waiting.{waiting, held_from, held_if, reads_kept}
 use Rattle.nim_program.specs.declared.expr.Label.TheVariants as C
 use Rattle.flat_code.specs.declared.line.UseAt.{UseAt}
 use Rattle.flat_code.specs.declared.line.Line.{Line}
 use Rattle.flat_code.specs.declared.line.Line.TheVariants as L
+use Rattle.flat_code.specs.declared.line.Piece.TheVariants as P
 use Rattle.flat_code.specs.declared.place.FlatPlace.{FlatPlace}
 use Rattle.flat_code.specs.Scene.{Known}
-use Rattle.flat_code.specs.Fits.{Signature, needs_no_type}
-use Rattle.flat_code.specs.Waits.{used_at}
+use Rattle.flat_code.specs.Fits.{Signature, needs_no_type, is_waiting}
+use Rattle.flat_code.specs.Leads.{leads_to_text}
+use Rattle.flat_code.specs.Waits.{used_at, led_at}
 use Rattle.flattening.specs.declared.numbers.Purpose.TheVariants.{End, Next, Arm}
 use Rattle.flattening.specs.Formed.{IfListed}
-use Rattle.flattening.specs.Numbering.{if_number, width, width_at, arm_count, looked_from, label}
-use Rattle.flattening.specs.ExprLines.{find_lines, label_tests, value_tests, arm_label, none_fits, handed_on, early_lines}
+use Rattle.flattening.specs.Numbering.{type_number, if_number, width, width_at, arm_count, looked_from, label}
+use Rattle.flattening.specs.ExprLines.{find_lines, label_tests, value_tests, arm_label, none_fits, handed_on, early_lines, is_call}
 use Rattle.flattening.specs.ExprLines.{lines, aim_lines, copied_lines, ready_lines, choice_lines, arm_lines, branch_use, branch_ends, value_ends}
-use Rattle.flattening.specs.ExprLines.{use_at, froms, act_line, has_hooks, is_copied, is_lent_at, waits_at}
+use Rattle.flattening.specs.ExprLines.{use_at, lent_line, froms, act_line, has_hooks, is_copied, is_lent_at, waits_at}
 use Rattle.flattening.proofs.Acting.{type_is}
-use Rattle.flattening.proofs.Direct.{are_direct}
-use Rattle.flattening.proofs.Fit.{Among, Fit, Ends, fitting, fit_none, fit_line, ◌>>◌, fit_if, fit_by, fit_taken, fit_ends}
+use Rattle.flattening.proofs.Direct.{lends_text, are_direct}
+use Rattle.flattening.proofs.Fit.{Among, Fit, Ends, fitting, fit_none, fit_line, ◌>>◌, fit_if, fit_by, fit_text, fit_taken, fit_ends}
 use Rattle.flattening.proofs.FitParts.{value_turned, never, of_same, itself, both_are}
 use Rattle.flattening.proofs.FitParts as parts
 use Rattle.flattening.proofs.FitPaths as paths
@@ -50,53 +55,53 @@ use Rattle.flattening.proofs.FitWaits as waits
 use Rattle.flattening.proofs.FitWaits.{HasType}
 
 module _ (types : List Ty) (facts : Facts) (modes : (proc position : ℕ) → Mode) (procs : List Proc) (globals : List Placed) (sigs : List Signature)
-    (start whole : List FlatPlace)
-    (grounds : parts.Grounds types facts modes procs globals sigs start whole)
-    (filled : ℕ) (places : List Placed) (dest : Option ℕ) (sees : parts.Sees types facts modes procs globals sigs start whole filled places) where
+    (start whole : List FlatPlace) (stands_for : ℕ → Bool)
+    (grounds : parts.Grounds types facts modes procs globals sigs start whole stands_for)
+    (filled : ℕ) (places : List Placed) (dest : Option ℕ) (sees : parts.Sees types facts modes procs globals sigs start whole stands_for filled places) where
   abbrev known : Known
-  known = parts.known types facts modes procs globals sigs start whole
+  known = parts.known types facts modes procs globals sigs start whole stands_for
 
   abbrev around : Among
-  around = parts.around types facts modes procs globals sigs start whole
+  around = parts.around types facts modes procs globals sigs start whole stands_for
 
   abbrev here : Here
-  here = parts.seen types facts modes procs globals sigs start whole filled places dest
+  here = parts.seen types facts modes procs globals sigs start whole stands_for filled places dest
 
   abbrev value : ℕ → Option Ty
-  value = parts.value types facts modes procs globals sigs start whole
+  value = parts.value types facts modes procs globals sigs start whole stands_for
 
   abbrev Stood : Expr → ℕ → Type 0
-  Stood = parts.Stood types facts modes procs globals sigs start whole filled places dest
+  Stood = parts.Stood types facts modes procs globals sigs start whole stands_for filled places dest
 
   abbrev PathStood : Bool → Path → ℕ → Type 0
-  PathStood = parts.PathStood types facts modes procs globals sigs start whole filled places dest
+  PathStood = parts.PathStood types facts modes procs globals sigs start whole stands_for filled places dest
 
   abbrev AllStood : Act → (uses : (position : ℕ) → Use) → (position : ℕ) → Args → (t : ℕ) → Type 0
-  AllStood = parts.AllStood types facts modes procs globals sigs start whole filled places dest
+  AllStood = parts.AllStood types facts modes procs globals sigs start whole stands_for filled places dest
 
   abbrev PartsStood : (position : ℕ) → Args → (t : ℕ) → Type 0
-  PartsStood = parts.PartsStood types facts modes procs globals sigs start whole filled places dest
+  PartsStood = parts.PartsStood types facts modes procs globals sigs start whole stands_for filled places dest
 
   value_is : (e : Expr) (t : ℕ) → Stood e t → value t ≡ type_of e
-  value_is = parts.value_is types facts modes procs globals sigs start whole filled places dest
+  value_is = parts.value_is types facts modes procs globals sigs start whole stands_for filled places dest
 
   find_fits : (read : Bool) (path : Path) (t : ℕ) → PathStood read path t → Fit around (find_lines types facts path t)
-  find_fits = paths.find_fits types facts modes procs globals sigs start whole grounds filled places dest sees
+  find_fits = paths.find_fits types facts modes procs globals sigs start whole stands_for grounds filled places dest sees
 
   -- ---- what waits
 
   abbrev Kept : (t node : ℕ) → Option Ty → Type 0
-  Kept = waits.Kept types facts modes procs globals sigs start whole
+  Kept = waits.Kept types facts modes procs globals sigs start whole stands_for
 
   used_right : (b : Bool) (t : ℕ) (how : UseAt) (ty : Option Ty) → IfListed types ty → Kept t how.node ty →
       used_at known whole b t how (if_number types ty) ≡ true
-  used_right = waits.used_right types facts modes procs globals sigs start whole
+  used_right = waits.used_right types facts modes procs globals sigs start whole stands_for
 
   kept : (e : Expr) (t : ℕ) → Stood e t → Kept t (node_of e).number (type_of e)
-  kept = waits.kept types facts modes procs globals sigs start whole filled places dest
+  kept = waits.kept types facts modes procs globals sigs start whole stands_for filled places dest
 
   all_end : (e : Expr) (how : Use) (t : ℕ) → Stood e t → Each (Ends around types) (waiting facts modes e how)
-  all_end = waits.all_end types facts modes procs globals sigs start whole filled places dest
+  all_end = waits.all_end types facts modes procs globals sigs start whole stands_for filled places dest
 
   -- ---- lines of choices
 
@@ -176,19 +181,19 @@ module _ (types : List Ty) (facts : Facts) (modes : (proc position : ℕ) → Mo
   branch_then e t s fit =
       fit
       >> (fit_ends types (waiting facts modes e Owned) (all_end e Owned t s) >> fit_taken (held_if (has_hooks facts e) (node_of e).number [])
-      (waits.branch_taken types facts modes procs globals sigs start whole filled places dest e t s))
+      (waits.branch_taken types facts modes procs globals sigs start whole stands_for filled places dest e t s))
 
   -- ---- expressions
 
   -- of parts from a position on
   first_stood : (i : ℕ) (e : Expr) (rest : Args) (t : ℕ) → PartsStood i (ByValue e rest) t → Stood e t
-  first_stood i = parts.first_stood types facts modes procs globals sigs start whole filled places dest (Building []) (λ j. Owned) i
+  first_stood i = parts.first_stood types facts modes procs globals sigs start whole stands_for filled places dest (Building []) (λ j. Owned) i
 
   rest_stood : (i : ℕ) (e : Expr) (rest : Args) (t : ℕ) → PartsStood i (ByValue e rest) t → PartsStood (suc i) rest (t + width e)
-  rest_stood i = parts.rest_stood types facts modes procs globals sigs start whole filled places dest (Building []) (λ j. Owned) i
+  rest_stood i = parts.rest_stood types facts modes procs globals sigs start whole stands_for filled places dest (Building []) (λ j. Owned) i
 
   first_path : (path : Path) (rest : Args) (t : ℕ) → PartsStood 0 (ByPath path rest) t → PathStood false path t
-  first_path = parts.first_path types facts modes procs globals sigs start whole filled places dest (Building []) (λ j. Owned) 0
+  first_path = parts.first_path types facts modes procs globals sigs start whole stands_for filled places dest (Building []) (λ j. Owned) 0
 
   -- what is done with operands has a type where it builds a value or gives a constant
   acted_type : (ty : Option Ty) (act : Act) (operands : Args) → act_fits here ty act operands ≡ true → HasType act ty
@@ -207,6 +212,84 @@ module _ (types : List Ty) (facts : Facts) (modes : (proc position : ℕ) → Mo
   hooked_there None h = never h
   hooked_there (Some ty) h = refl
 
+  -- an operand, and where it is lent its location: that of a literal leads to its text
+  abbrev WithLent : (act : Act) (e : Expr) (how : Use) (t : ℕ) → Type 0
+  WithLent act e how t = Fit around (lines types facts modes e how t) →
+      (is_lent_at facts act how e ≡ true → fitting around (L.Fresh t t (waits_at facts e)) ≡ true) →
+      Fit around (λ k. lines types facts modes e how t (lent_line facts act how e t k))
+
+  lent_text : (act : Act) (node : Node) (ty : Ty) (text : List ℕ) (how : Use) (t : ℕ) →
+      WithLent act (Apply node (Some ty) (Giving (Characters text)) NoArg) how t
+  lent_text act node ty text how t fit right = by (is_lent_at facts act how e) refl
+    where
+      e : Expr
+      e = Apply node (Some ty) (Giving (Characters text)) NoArg
+
+      nowhere : (b : Bool) → (if b && false then Some node.number else None) ≡ None
+      nowhere true = refl
+      nowhere false = refl
+
+      none : waits_at facts e ≡ None
+      none = nowhere (is_hooked facts ty)
+
+      by : (b : Bool) → is_lent_at facts act how e ≡ b →
+          Fit around (λ k. lines types facts modes e how t (if b then L.Fresh t t (waits_at facts e) ∷ k else k))
+      by false h = fit
+      by true lent =
+          fit_text (L.Constant t (use_at how node.number) (type_number types ty) (P.Text text ∷ [])) (L.Fresh t t (waits_at facts e)) fit
+          (ap (λ o. led_at known whole t o) none) (right lent)
+          (ap (λ o. leads_to_text (Some (L.Constant t (use_at how node.number) (type_number types ty) (P.Text text ∷ []))) (L.Fresh t t o)) none
+          ∙ and_from _ _ (eq-eqb t t refl) (and_from _ _ (and_parts (is_lent how) _ (and_parts (has_hooks facts e) _ lent).1).0 (eq-eqb t t refl)))
+
+  lent_value : (act : Act) (e : Expr) (how : Use) (t : ℕ) → Stood e t → is_literal_text e ≡ false → WithLent act e how t
+  lent_value act e how t s no_text fit right =
+      fit
+      >> fit_by (is_lent_at facts act how e)
+      (λ lent. let hooked = (and_parts (has_hooks facts e) _ lent).0 in
+      fit_line (L.Fresh t t (waits_at facts e))
+      (waits.fresh_right types facts modes procs globals sigs start whole stands_for filled places dest e t t (has_hooks facts e && not (is_literal_text e))
+      (hooked ∙ sym (and_from _ _ hooked (ap not no_text))) s)
+      (right lent))
+      (λ not_lent. fit_none)
+
+  with_lent : (act : Act) (e : Expr) (how : Use) (t : ℕ) → Stood e t → WithLent act e how t
+  with_lent act (Apply node (Some ty) (Giving (Characters text)) NoArg) how t s fit right = lent_text act node ty text how t fit right
+  with_lent act (Apply node None (Giving (Characters text)) NoArg) how t s fit right = fit
+  with_lent act (Apply node ty (Giving (Characters text)) (ByValue e rest)) how t s fit right =
+      never (and_parts false (are_typed here (ByValue e rest)) s.typed).0
+  with_lent act (Apply node ty (Giving (Characters text)) (ByPath path rest)) how t s fit right =
+      never (and_parts false (are_typed here (ByPath path rest)) s.typed).0
+  with_lent act (Apply node ty (Giving (Number z)) operands) how t s fit right =
+      lent_value act (Apply node ty (Giving (Number z)) operands) how t s refl fit right
+  with_lent act (Apply node ty (Giving NoObject) operands) how t s fit right = lent_value act (Apply node ty (Giving NoObject) operands) how t s refl fit right
+  with_lent act (Apply node ty (Giving (PartsOf all)) operands) how t s fit right =
+      lent_value act (Apply node ty (Giving (PartsOf all)) operands) how t s refl fit right
+  with_lent act (Apply node ty (Giving (ElementsOf all)) operands) how t s fit right =
+      lent_value act (Apply node ty (Giving (ElementsOf all)) operands) how t s refl fit right
+  with_lent act (Apply node ty (Doing operation) operands) how t s fit right = lent_value act (Apply node ty (Doing operation) operands) how t s refl fit right
+  with_lent act (Apply node ty (Building fields) operands) how t s fit right = lent_value act (Apply node ty (Building fields) operands) how t s refl fit right
+  with_lent act (Apply node ty (Calling proc given) operands) how t s fit right =
+      lent_value act (Apply node ty (Calling proc given) operands) how t s refl fit right
+  with_lent act (Read path) how t s fit right = lent_value act (Read path) how t s refl fit right
+  with_lent act (Early node ty short left right') how t s fit right = lent_value act (Early node ty short left right') how t s refl fit right
+  with_lent act (Choose node ty chooser parts') how t s fit right = lent_value act (Choose node ty chooser parts') how t s refl fit right
+
+  waits_lent : (n : ℕ) (h text : Bool) → text ≡ false → is_waiting (if h && not text then Some n else None) h ≡ true
+  waits_lent n true true none = never (sym none)
+  waits_lent n true false none = refl
+  waits_lent n false text none = refl
+
+  -- no text of a literal is lent
+  bare_lent : (act : Act) (how : Use) (e : Expr) (rest : Args) → lends_text act (ByValue e rest) ≡ false → is_lent_at facts act how e ≡ true →
+      is_literal_text e ≡ false
+  bare_lent act how e rest bare lent = by act bare (and_parts (is_lent how) _ (and_parts (has_hooks facts e) _ lent).1).1
+    where
+      by : (x : Act) → lends_text x (ByValue e rest) ≡ false → is_call facts x || not (is_literal_text e) ≡ true → is_literal_text e ≡ false
+      by (Doing operation) b l = not-true (is_literal_text e) l
+      by (Building fields) b l = not-true (is_literal_text e) l
+      by (Giving literal) b l = not-true (is_literal_text e) l
+      by (Calling proc types) b l = (or_parts (is_literal_text e) (any_text rest) b).0
+
   -- what is done for a value that a path begins with, which isn't a constant
   fit_begun : {F : List Line → List Line} (constant : Option Literal) → (constant ≡ None → Fit around F) → Fit around (λ k. if_constant constant k (F k))
   fit_begun None fit = fit refl
@@ -215,36 +298,40 @@ module _ (types : List Ty) (facts : Facts) (modes : (proc position : ℕ) → Mo
   mutual
     pub expr_fits : (e : Expr) (how : Use) (t : ℕ) → Stood e t → Fit around (lines types facts modes e how t)
     expr_fits (Apply node ty act operands) how t e =
-        let all = parts.operands_stood types facts modes procs globals sigs start whole filled places dest node ty act operands t e in
+        let all = parts.operands_stood types facts modes procs globals sigs start whole stands_for filled places dest node ty act operands t e in
         let is = value_is (Apply node ty act operands) t e in
         let keeps : Kept t node.number ty = kept (Apply node ty act operands) t e in
         let fits = (and_parts (act_fits here ty act operands) (are_typed here operands) e.typed).0 in
-        let listed = parts.value_listed types facts modes procs globals sigs start whole (Apply node ty act operands) e.listed in
+        let listed = parts.value_listed types facts modes procs globals sigs start whole stands_for (Apply node ty act operands) e.listed in
         ready_fits act operands (use_of modes act) 0 (suc t) all
-        >> (paths.settle_fits types facts modes procs globals sigs start whole grounds filled places dest sees act (use_of modes act) 0 operands (suc t) all
+        >> (paths.settle_fits types facts modes procs globals sigs start whole stands_for grounds filled places dest sees act (use_of modes act) 0 operands
+        (suc t) all
         >> (fit_taken (held_from facts modes operands (use_of modes act) 0)
-        (waits.all_taken types facts modes procs globals sigs start whole filled places dest act (use_of modes act) operands 0 (suc t) all)
+        (waits.all_taken types facts modes procs globals sigs start whole stands_for filled places dest act (use_of modes act) operands 0 (suc t) all)
         >> (fit_line (act_line types facts modes t act (use_at how node.number) ty (types_in operands) (froms facts act operands (use_of modes act) 0 (suc t)))
-        (waits.act_waits types facts modes procs globals sigs start whole t act (use_at how node.number) ty (types_in operands)
-        (froms facts act operands (use_of modes act) 0 (suc t)) (acted_type ty act operands fits) listed keeps)
-        (acts.act_right types facts modes procs globals sigs start whole grounds filled places dest sees t act (use_at how node.number)
+        (waits.act_waits types facts modes procs globals sigs start whole stands_for t act (use_at how node.number) ty (types_in operands)
+        (froms facts act operands (use_of modes act) 0 (suc t))
+        (parts.unled_all types facts modes procs globals sigs start whole stands_for filled places dest act (use_of modes act) 0 operands (suc t) all)
+        (acted_type ty act operands fits) listed keeps)
+        (acts.act_right types facts modes procs globals sigs start whole stands_for grounds filled places dest sees t act (use_at how node.number)
         ty operands (are_direct facts operands) e.direct fits listed
-        (parts.all_listed types facts modes procs globals sigs start whole operands all.listed) is all)
-        >> acts.back_fits types facts modes procs globals sigs start whole grounds filled places dest sees t act (use_at how node.number) ty is keeps)))
+        (parts.all_listed types facts modes procs globals sigs start whole stands_for operands all.listed) is all)
+        >> acts.back_fits types facts modes procs globals sigs start whole stands_for grounds filled places dest sees t act (use_at how node.number) ty is
+        (parts.value_hooked types facts modes procs globals sigs start whole stands_for filled places dest (Apply node ty act operands) t e) keeps)))
     expr_fits (Read path) how t e =
-        let p = parts.read_stood types facts modes procs globals sigs start whole filled places dest path t e in
-        let l = parts.leads types facts modes procs globals sigs start whole filled places dest true path (suc t) p in
+        let p = parts.read_stood types facts modes procs globals sigs start whole stands_for filled places dest path t e in
+        let l = parts.leads types facts modes procs globals sigs start whole stands_for filled places dest true path (suc t) p in
         let is = value_is (Read path) t e in
-        let listed = parts.value_listed types facts modes procs globals sigs start whole (Read path) e.listed in
-        let some = parts.path_typed types facts modes procs globals sigs start whole filled places dest true path (suc t) p in
+        let listed = parts.value_listed types facts modes procs globals sigs start whole stands_for (Read path) e.listed in
+        let some = parts.path_typed types facts modes procs globals sigs start whole stands_for filled places dest true path (suc t) p in
         aim_fits true path (suc t) p
         >> (find_fits true path (suc t) p
         >> fit_line (L.Get t (suc t) (use_at how (node_at path).number) (if_number types (type_at path)))
         (used_right (reads_kept how) t (use_at how (node_at path).number) (type_at path) listed (kept (Read path) t e))
         (and_from _ _ (parts.both_some _ _ (type_at path) some is (type_is types (type_at path) listed)) (parts.both_some _ _ (type_at path) some is l.type)))
     expr_fits (Early node ty short left right) how t e =
-        let l = parts.left_stood types facts modes procs globals sigs start whole filled places dest node ty short left right t e in
-        let r = parts.right_stood types facts modes procs globals sigs start whole filled places dest node ty short left right t e in
+        let l = parts.left_stood types facts modes procs globals sigs start whole stands_for filled places dest node ty short left right t e in
+        let r = parts.right_stood types facts modes procs globals sigs start whole stands_for filled places dest node ty short left right t e in
         let q = and_parts (early_fits facts ty (type_of left) (type_of right)) _ e.typed in
         let b = and_parts (is_bool (kind_of facts ty)) _ q.0 in
         let c = and_parts (is_of (type_of left) (Some ty)) (is_of (type_of right) (Some ty)) b.1 in
@@ -258,10 +345,10 @@ module _ (types : List Ty) (facts : Facts) (modes : (proc position : ℕ) → Mo
         (bool_passes t (suc t + width left) ty (use_at how node.number) is right_is b.0)
         >> fit_line (L.Label (label End t)) refl refl)))
     expr_fits (Choose node ty ByConditions parts') how t e =
-        let all = parts.conditions_stood types facts modes procs globals sigs start whole filled places dest node ty parts' t e in
+        let all = parts.conditions_stood types facts modes procs globals sigs start whole stands_for filled places dest node ty parts' t e in
         let q = and_parts (chooser_fits facts ty ByConditions (types_in parts')) (choice_is_placed ByConditions parts')
         (and_parts _ (are_typed here parts') e.typed).0 in
-        let listed = parts.value_listed types facts modes procs globals sigs start whole (Choose node ty ByConditions parts') e.listed in
+        let listed = parts.value_listed types facts modes procs globals sigs start whole stands_for (Choose node ty ByConditions parts') e.listed in
         choice_fits 0 parts' ty (use_at how node.number) t (suc t) (kept (Choose node ty ByConditions parts') t e) listed
         (value_is (Choose node ty ByConditions parts') t e) q.0 q.1 all >> fit_line
         (L.Label (label End t)) refl refl
@@ -269,13 +356,14 @@ module _ (types : List Ty) (facts : Facts) (modes : (proc position : ℕ) → Mo
         never (and_parts false (choice_is_placed (ByLabels labels) NoArg) (and_parts _ true e.typed).0).0
     expr_fits (Choose node ty (ByLabels labels) (ByValue selector rest)) how t e =
         let u = suc t + arm_count (ByLabels labels) in
-        let all = parts.selected_stood types facts modes procs globals sigs start whole filled places dest node ty labels (ByValue selector rest) t e in
+        let all = parts.selected_stood types facts modes procs globals sigs start whole stands_for filled places dest node ty labels
+        (ByValue selector rest) t e in
         let q = and_parts (chooser_fits facts ty (ByLabels labels) (type_of selector ∷ types_in rest))
         (choice_is_placed (ByLabels labels) (ByValue selector rest))
         (and_parts _ (are_typed here (ByValue selector rest)) e.typed).0 in
         let k = kind_if facts (type_of selector) in
         let h = and_parts (is_selected k && are_labels k labels) (values_fit facts ty (are_enough k ty labels) labels (types_in rest)) q.0 in
-        let listed = parts.value_listed types facts modes procs globals sigs start whole
+        let listed = parts.value_listed types facts modes procs globals sigs start whole stands_for
         (Choose node ty (ByLabels labels) (ByValue selector rest)) e.listed in
         let s = first_stood 0 selector rest u all in
         let is = value_is selector u s in
@@ -290,17 +378,18 @@ module _ (types : List Ty) (facts : Facts) (modes : (proc position : ℕ) → Mo
     expr_fits (Choose node ty (ByLabels labels) (ByPath path rest)) how t e =
         let u = suc t + arm_count (ByLabels labels) in
         let from = looked_from path u in
-        let all = parts.selected_stood types facts modes procs globals sigs start whole filled places dest node ty labels (ByPath path rest) t e in
+        let all = parts.selected_stood types facts modes procs globals sigs start whole stands_for filled places dest node ty labels (ByPath path rest) t e in
         let q = and_parts (chooser_fits facts ty (ByLabels labels) (type_at path ∷ types_in rest)) (choice_is_placed (ByLabels labels) (ByPath path rest))
         (and_parts _ (are_typed here (ByPath path rest)) e.typed).0 in
         let k = kind_if facts (type_at path) in
         let h = and_parts (is_selected k && are_labels k labels) (values_fit facts ty (are_enough k ty labels) labels (types_in rest)) q.0 in
-        let listed = parts.value_listed types facts modes procs globals sigs start whole (Choose node ty (ByLabels labels) (ByPath path rest)) e.listed in
+        let listed = parts.value_listed types facts modes procs globals sigs start whole stands_for (Choose node ty (ByLabels labels) (ByPath path rest))
+        e.listed in
         let p = first_path path rest from all in
-        let l = parts.leads types facts modes procs globals sigs start whole filled places dest false path from p in
-        let is = parts.selector_is types facts modes procs globals sigs start whole filled places dest path rest u
-        (parts.choice_stands types facts modes procs globals sigs start whole filled places dest node ty labels (ByPath path rest) t e) all in
-        let some = parts.path_typed types facts modes procs globals sigs start whole filled places dest false path from p in
+        let l = parts.leads types facts modes procs globals sigs start whole stands_for filled places dest false path from p in
+        let is = parts.selector_is types facts modes procs globals sigs start whole stands_for filled places dest path rest u
+        (parts.choice_stands types facts modes procs globals sigs start whole stands_for filled places dest node ty labels (ByPath path rest) t e) all in
+        let some = parts.path_typed types facts modes procs globals sigs start whole stands_for filled places dest false path from p in
         aim_fits false path from p
         >> (find_fits false path from p
         >> (fit_line (L.Look u from) refl (parts.both_some _ _ (type_at path) some is l.type)
@@ -309,26 +398,28 @@ module _ (types : List Ty) (facts : Facts) (modes : (proc position : ℕ) → Mo
         >> (arms_fit (are_enough k ty labels) (is_covered (type_at path)) 1 labels rest ty (use_at how node.number) t (from + width_at path)
         (kept (Choose node ty (ByLabels labels) (ByPath path rest)) t e) listed
         (value_is (Choose node ty (ByLabels labels) (ByPath path rest)) t e) h.1 (and_parts (is_selector (ByPath path rest)) (are_placed 0 rest) q.1).1
-        (parts.behind_path types facts modes procs globals sigs start whole filled places dest (Building []) (λ j. Owned) 0 path rest from all)
+        (parts.behind_path types facts modes procs globals sigs start whole stands_for filled places dest (Building []) (λ j. Owned) 0 path rest from all)
         >> fit_line (L.Label (label End t)) refl refl)))))
 
     pub aim_fits : (read : Bool) (path : Path) (t : ℕ) → PathStood read path t → Fit around (aim_lines types facts modes path t)
     aim_fits read (Variable node ty place global) t p = fit_none
     aim_fits read (Fresh v) t p =
         fit_begun (constant_in v)
-        (λ none. expr_fits v Looked (suc t) (parts.fresh_stood types facts modes procs globals sigs start whole filled places dest read v t none p))
+        (λ none. expr_fits v Looked (suc t) (parts.fresh_stood types facts modes procs globals sigs start whole stands_for filled places dest read v t none p))
     aim_fits read (Field node ty base field) t p =
-        aim_fits false base (suc t) (parts.base_stood types facts modes procs globals sigs start whole filled places dest read node ty base field t p)
+        aim_fits false base (suc t) (parts.base_stood types facts modes procs globals sigs start whole stands_for filled places dest read node ty base
+        field t p)
     aim_fits read (Element node ty base index constant) t p =
-        let b = parts.row_stood types facts modes procs globals sigs start whole filled places dest read node ty base index constant t p in
+        let b = parts.row_stood types facts modes procs globals sigs start whole stands_for filled places dest read node ty base index constant t p in
         aim_fits false base (suc t) b.0 >> expr_fits index Owned (suc t + width_at base) b.1
     aim_fits read (Deref ty base) t p = aim_fits false base (suc t)
-        (parts.object_stood types facts modes procs globals sigs start whole filled places dest read ty base t p)
+        (parts.object_stood types facts modes procs globals sigs start whole stands_for filled places dest read ty base t p)
 
     -- where a place copies from
     pub copied_fits : (e : Expr) (t : ℕ) → Stood e t → Fit around (copied_lines types facts modes e t)
     copied_fits (Read path) t e =
-        let p = parts.read_stood types facts modes procs globals sigs start whole filled places dest path t e in aim_fits true path (suc t) p >> find_fits true
+        let p = parts.read_stood types facts modes procs globals sigs start whole stands_for filled places dest path t e in aim_fits true path (suc t) p >>
+        find_fits true
         path (suc t) p
     copied_fits (Apply node ty act operands) t e = fit_none
     copied_fits (Early node ty short left right) t e = fit_none
@@ -338,23 +429,21 @@ module _ (types : List Ty) (facts : Facts) (modes : (proc position : ℕ) → Mo
         Fit around (ready_lines types facts modes act args uses i t)
     ready_fits act NoArg uses i t all = fit_none
     ready_fits act (ByValue e rest) uses i t all =
-        let s = parts.first_stood types facts modes procs globals sigs start whole filled places dest act uses i e rest t all in
+        let s = parts.first_stood types facts modes procs globals sigs start whole stands_for filled places dest act uses i e rest t all in
         let behind = ready_fits act rest uses (suc i) (t + width e)
-        (parts.rest_stood types facts modes procs globals sigs start whole filled places dest act uses i e rest t all) in
+        (parts.rest_stood types facts modes procs globals sigs start whole stands_for filled places dest act uses i e rest t all) in
         fit_if (is_copied facts (uses i) e) (copied_fits e t s >> behind)
-        (expr_fits e (uses i) t s
-        >> (fit_by (is_lent_at facts act (uses i) e)
-        (λ lent. fit_line (L.Fresh t t (waits_at facts e))
-        (waits.fresh_right types facts modes procs globals sigs start whole filled places dest e t (has_hooks facts e && not (is_literal_text e))
-        (λ h. (and_parts (has_hooks facts e) _ h).0) s)
-        (let l = parts.lent_leads types facts modes procs globals sigs start whole filled places dest act uses i e rest t lent all in
-        and_from _ _ (parts.both_some _ _ (type_of e) (hooked_there (type_of e) (and_parts (has_hooks facts e) _ lent).0) l.0 (value_is e t s)) (ap not l.1)))
-        (λ not_lent. fit_none)
-        >> behind))
+        (with_lent act e (uses i) t s (expr_fits e (uses i) t s)
+        (λ lent. let l = parts.lent_leads types facts modes procs globals sigs start whole stands_for filled places dest act uses i e rest t lent all in
+        and_from _ _ (parts.both_some _ _ (type_of e) (hooked_there (type_of e) (and_parts (has_hooks facts e) _ lent).0) l.0 (value_is e t s))
+        (and_from _ _ (ap not l.1)
+        (ap (λ o. is_waiting (waits_at facts e) (gives_hooked facts o)) (value_is e t s)
+        ∙ waits_lent (node_of e).number (has_hooks facts e) (is_literal_text e) (bare_lent act (uses i) e rest all.bare lent))))
+        >> behind)
     ready_fits act (ByPath path rest) uses i t all =
-        aim_fits false path t (parts.first_path types facts modes procs globals sigs start whole filled places dest act uses i path rest t all)
+        aim_fits false path t (parts.first_path types facts modes procs globals sigs start whole stands_for filled places dest act uses i path rest t all)
         >> ready_fits act rest uses (suc i) (t + width_at path)
-        (parts.behind_path types facts modes procs globals sigs start whole filled places dest act uses i path rest t all)
+        (parts.behind_path types facts modes procs globals sigs start whole stands_for filled places dest act uses i path rest t all)
 
     choice_fits : (i : ℕ) (args : Args) (ty : Option Ty) (how : UseAt) (t u : ℕ) → Kept t how.node ty → IfListed types ty → value t ≡ ty →
         conditions_fit facts ty (types_in args) ≡ true → are_placed 0 args ≡ true → PartsStood i args u →

@@ -1,13 +1,16 @@
 -- The lines that look paths up fit, and operands are as their types say.
 use Rattle.std.proofs.Common.{◌≡◌, ℕ, zero, suc, ◌+◌, Bool, true, false, List, [], ◌∷◌, Option, Some, None, refl, sym, ap, ap₂, ◌∙◌, subst}
 use Rattle.std.specs.Prelude.{◌&&◌, ◌||◌, not, if◌then◌else◌, map}
-use Rattle.std.proofs.lemmas.Bool.{and_parts, and_from}
+use Rattle.std.proofs.lemmas.Bool.{and_parts, and_from, not-true}
+use Rattle.nim_meaning.specs.Here.{gives_hooked, is_hooked}
+use Rattle.nim_program.specs.declared.expr.Node.{Node}
 use Rattle.nim_types.specs.Types.{Ty, Facts}
 use Rattle.nim_program.specs.declared.operation.Operation.{Operation}
 use Rattle.nim_program.specs.declared.operation.Operation.TheVariants as O
 use Rattle.nim_program.specs.declared.operation.Use.{Use}
 use Rattle.nim_program.specs.declared.program.Mode.{Mode}
 use Rattle.nim_program.specs.Program.{Act, Literal, Doing, Building, Giving, Calling, Expr, Apply, Read, Early, Choose, Path, Variable, Fresh, Field, Element}
+use Rattle.nim_program.specs.Program.{node_of, Characters, NoObject, PartsOf, ElementsOf, Number}
 use Rattle.nim_program.specs.Program.{Deref, Args, NoArg, ByValue, ByPath, Proc, type_of, type_at, types_in, constant_in}
 use Rattle.nim_program.specs.Kinds.{kind_if, is_int, field_at, element_of, object_of, is_of, is_there, is_constant}
 use Rattle.nim_program.specs.Scopes.{Placed, Here, type_in}
@@ -19,19 +22,21 @@ use Rattle.flat_code.specs.declared.line.From.TheVariants as F
 use Rattle.flat_code.specs.declared.line.Line.TheVariants as L
 use Rattle.flat_code.specs.declared.place.FlatPlace.{FlatPlace}
 use Rattle.flat_code.specs.Fits as fit
-use Rattle.flat_code.specs.Fits.{Signature, same_bool, writes, taken, are_of, are_values, may_write_first}
+use Rattle.flat_code.specs.Fits.{Signature, same_bool, writes, taken, are_of, are_values, may_write_first, is_waiting}
+use Rattle.nim_meaning.specs.LeftOut.{is_literal_built, is_text_type, is_exception_type}
 use Rattle.flat_code.specs.Pieces.{pieces_of}
 use Rattle.flat_code.specs.Shapes.{has_shape, shape_of}
 use Rattle.flattening.specs.Formed.{IsListed, IfListed}
 use Rattle.flattening.specs.Numbering.{type_number, width, width_at}
 use Rattle.flattening.specs.ExprLines.{begin_line, from_of, froms, has_hooks, is_copied, is_call, is_lent_at, find_lines, settle_lines}
-use Rattle.flattening.proofs.Direct.{has_own_hooks, is_text, is_direct}
+use Rattle.flattening.proofs.Direct.{has_own_hooks, is_characters, is_direct}
 use Rattle.flattening.proofs.Fit.{Among, Fit, fitting, fit_none, fit_line, ◌>>◌}
 use Rattle.flattening.proofs.FitParts.{turned, never, of_same, itself, both_some}
 use Rattle.flattening.proofs.FitParts as parts
 use Rattle.flattening.proofs.FitWaits as waits
 use Rattle.flattening.proofs.Literals.{pieces_value}
 use Rattle.flattening.proofs.OnePiece.{is_one}
+use Rattle.flattening.proofs.BuiltPieces.{literal_plain}
 
 same_itself : (b : Bool) → same_bool b b ≡ true
 same_itself true = refl
@@ -41,87 +46,107 @@ pub both_same : (a b c : Bool) → a ≡ c → b ≡ c → same_bool a b ≡ tru
 both_same a b c e f = ap₂ same_bool e f ∙ same_itself c
 
 module _ (types : List Ty) (facts : Facts) (modes : (proc position : ℕ) → Mode) (procs : List Proc) (globals : List Placed) (sigs : List Signature)
-    (start whole : List FlatPlace)
-    (grounds : parts.Grounds types facts modes procs globals sigs start whole)
-    (filled : ℕ) (places : List Placed) (dest : Option ℕ) (sees : parts.Sees types facts modes procs globals sigs start whole filled places) where
+    (start whole : List FlatPlace) (stands_for : ℕ → Bool)
+    (grounds : parts.Grounds types facts modes procs globals sigs start whole stands_for)
+    (filled : ℕ) (places : List Placed) (dest : Option ℕ) (sees : parts.Sees types facts modes procs globals sigs start whole stands_for filled places) where
   abbrev around : Among
-  around = parts.around types facts modes procs globals sigs start whole
+  around = parts.around types facts modes procs globals sigs start whole stands_for
 
   abbrev here : Here
-  here = parts.seen types facts modes procs globals sigs start whole filled places dest
+  here = parts.seen types facts modes procs globals sigs start whole stands_for filled places dest
 
   abbrev value : ℕ → Option Ty
-  value = parts.value types facts modes procs globals sigs start whole
+  value = parts.value types facts modes procs globals sigs start whole stands_for
 
   abbrev led : ℕ → Option Ty
-  led = parts.led types facts modes procs globals sigs start whole
+  led = parts.led types facts modes procs globals sigs start whole stands_for
 
   abbrev may_write : ℕ → Bool
-  may_write = parts.may_write types facts modes procs globals sigs start whole
+  may_write = parts.may_write types facts modes procs globals sigs start whole stands_for
 
   abbrev Stood : Expr → ℕ → Type 0
-  Stood = parts.Stood types facts modes procs globals sigs start whole filled places dest
+  Stood = parts.Stood types facts modes procs globals sigs start whole stands_for filled places dest
 
   abbrev PathStood : Bool → Path → ℕ → Type 0
-  PathStood = parts.PathStood types facts modes procs globals sigs start whole filled places dest
+  PathStood = parts.PathStood types facts modes procs globals sigs start whole stands_for filled places dest
 
   abbrev AllStood : Act → (uses : (position : ℕ) → Use) → (position : ℕ) → Args → (t : ℕ) → Type 0
-  AllStood = parts.AllStood types facts modes procs globals sigs start whole filled places dest
+  AllStood = parts.AllStood types facts modes procs globals sigs start whole stands_for filled places dest
 
   value_is : (e : Expr) (t : ℕ) → Stood e t → value t ≡ type_of e
-  value_is = parts.value_is types facts modes procs globals sigs start whole filled places dest
+  value_is = parts.value_is types facts modes procs globals sigs start whole stands_for filled places dest
 
-  leads : (read : Bool) (path : Path) (t : ℕ) → PathStood read path t → parts.Leads types facts modes procs globals sigs start whole filled places dest path t
-  leads = parts.leads types facts modes procs globals sigs start whole filled places dest
+  leads : (read : Bool) (path : Path) (t : ℕ) → PathStood read path t →
+      parts.Leads types facts modes procs globals sigs start whole stands_for filled places dest path t
+  leads = parts.leads types facts modes procs globals sigs start whole stands_for filled places dest
 
   -- a named place has the type that it has in scope
   named_is : (n : ℕ) (global : Bool) (ty : Ty) → type_in here global n ≡ Some ty →
-      parts.named types facts modes procs globals sigs start whole n global ≡ Some ty
+      parts.named types facts modes procs globals sigs start whole stands_for n global ≡ Some ty
   named_is n true ty e = sees.global n ty e
   named_is n false ty e = sees.local n ty e
 
   -- ---- constants
 
-  pub constant_right : (ty : Ty) (literal : Literal) → IsListed types ty → is_text literal || not (has_own_hooks facts (Some ty)) ≡ true →
+  pub constant_right : (ty : Ty) (literal : Literal) → IsListed types ty → is_characters literal || not (has_own_hooks facts (Some ty)) ≡ true →
       is_constant facts ty literal ≡ true →
-      fit.is_constant_of (parts.known types facts modes procs globals sigs start whole) sigs start whole (type_number types ty) (pieces_of literal) ≡ true
+      fit.is_constant_of (parts.known types facts modes procs globals sigs start whole stands_for) sigs start whole (type_number types ty)
+      (pieces_of literal) ≡ true
   constant_right ty literal listed direct is =
       and_from _ _ (is_one literal)
       (ap₂ (λ v u. has_shape v (shape_of facts u)) (pieces_value literal) listed ∙ grounds.constants ty literal listed direct is)
 
+  no_characters : (node : Node) (ty : Option Ty) (l : Literal) → is_literal_text (Apply node ty (Giving l) NoArg) ≡ false → is_characters l ≡ false
+  no_characters node ty (Number z) h = refl
+  no_characters node ty (Characters characters) h = h
+  no_characters node ty NoObject h = refl
+  no_characters node ty (PartsOf all) h = refl
+  no_characters node ty (ElementsOf all) h = refl
+
   standing_right : (value : Expr) (literal : Literal) (t : ℕ) → constant_in value ≡ Some literal → is_typed here value ≡ true →
-      is_direct facts value ≡ true → IfListed types (type_of value) → led t ≡ type_of value → may_write t ≡ false →
+      is_direct facts value ≡ true → is_literal_text value ≡ false → IfListed types (type_of value) → led t ≡ type_of value → may_write t ≡ false →
       fitting around (begin_line types facts (Some literal) value t) ≡ true
-  standing_right (Apply node None (Giving l) NoArg) literal t e typed direct listed is writes = never (and_parts false true typed).0
-  standing_right (Apply node (Some ty) (Giving l) NoArg) literal t e typed direct listed is writes =
+  standing_right (Apply node None (Giving l) NoArg) literal t e typed direct bare listed is writes = never (and_parts false true typed).0
+  standing_right (Apply node (Some ty) (Giving l) NoArg) literal t e typed direct bare listed is writes =
       let same : l ≡ literal = cc in
+      let d = and_parts (is_characters l || not (has_own_hooks facts (Some ty))) (is_literal_built facts (Some ty) l) direct in
       and_from _ _
-      (subst (λ x. fit.is_constant_of (parts.known types facts modes procs globals sigs start whole) sigs start whole (type_number types ty)
+      (subst (λ x. fit.is_constant_of (parts.known types facts modes procs globals sigs start whole stands_for) sigs start whole (type_number types ty)
       (pieces_of x) ≡ true)
-      same (constant_right ty l listed direct (and_parts (is_constant facts ty l) true typed).0))
-      (and_from _ _ (both_some _ _ (Some ty) refl is (ap Some listed)) (ap not writes))
-  standing_right (Apply node ty (Giving l) (ByValue value rest)) literal t e typed direct listed is writes = absurd cc
-  standing_right (Apply node ty (Giving l) (ByPath path rest)) literal t e typed direct listed is writes = absurd cc
-  standing_right (Apply node ty (Doing operation) operands) literal t e typed direct listed is writes = absurd cc
-  standing_right (Apply node ty (Building fields) operands) literal t e typed direct listed is writes = absurd cc
-  standing_right (Apply node ty (Calling proc of) operands) literal t e typed direct listed is writes = absurd cc
-  standing_right (Read path) literal t e typed direct listed is writes = absurd cc
-  standing_right (Early node ty short left right) literal t e typed direct listed is writes = absurd cc
-  standing_right (Choose node ty chooser parts) literal t e typed direct listed is writes = absurd cc
+      same (constant_right ty l listed d.0 (and_parts (is_constant facts ty l) true typed).0))
+      (and_from _ _ (both_some _ _ (Some ty) refl is (ap Some listed))
+      (and_from _ _ (ap not writes) (ap (λ u. not (is_hooked facts u)) listed ∙ literal_plain facts ty l d.1 (no_characters node (Some ty) l bare))))
+  standing_right (Apply node ty (Giving l) (ByValue value rest)) literal t e typed direct bare listed is writes = absurd cc
+  standing_right (Apply node ty (Giving l) (ByPath path rest)) literal t e typed direct bare listed is writes = absurd cc
+  standing_right (Apply node ty (Doing operation) operands) literal t e typed direct bare listed is writes = absurd cc
+  standing_right (Apply node ty (Building fields) operands) literal t e typed direct bare listed is writes = absurd cc
+  standing_right (Apply node ty (Calling proc of) operands) literal t e typed direct bare listed is writes = absurd cc
+  standing_right (Read path) literal t e typed direct bare listed is writes = absurd cc
+  standing_right (Early node ty short left right) literal t e typed direct bare listed is writes = absurd cc
+  standing_right (Choose node ty chooser parts) literal t e typed direct bare listed is writes = absurd cc
 
   -- ---- paths
+
+  waits_begun : (n : ℕ) (h : Bool) → is_waiting (if h then Some n else None) h ≡ true
+  waits_begun n true = refl
+  waits_begun n false = refl
 
   begun_right : (constant : Option Literal) (read : Bool) (value : Expr) (t : ℕ) → constant_in value ≡ constant → PathStood read (Fresh value) t →
       fitting around (begin_line types facts constant value t) ≡ true
   begun_right None read value t e p =
       let l = leads read (Fresh value) t p in
       let h = and_parts (is_fresh value) (is_there (type_of value)) (and_parts (is_fresh value && is_there (type_of value)) (is_typed here value) p.typed).0 in
-      let s = parts.fresh_stood types facts modes procs globals sigs start whole filled places dest read value t e p in
-      and_from _ _ (both_some _ _ (type_of value) h.1 l.type (value_is value (suc t) s)) (ap not l.writes)
+      let s = parts.fresh_stood types facts modes procs globals sigs start whole stands_for filled places dest read value t e p in
+      and_from _ _ (both_some _ _ (type_of value) h.1 l.type (value_is value (suc t) s))
+      (and_from _ _ (ap not l.writes)
+      (ap (λ o. is_waiting (if has_hooks facts value then Some (node_of value).number else None) (gives_hooked facts o)) (value_is value (suc t) s)
+      ∙ waits_begun (node_of value).number (has_hooks facts value)))
   begun_right (Some literal) read value t e p =
       let l = leads read (Fresh value) t p in
-      standing_right value literal t e (and_parts (is_fresh value && is_there (type_of value)) (is_typed here value) p.typed).1 p.direct
-      (parts.path_listed types facts modes procs globals sigs start whole read (Fresh value) p.listed) l.type l.writes
+      let d = and_parts (not (is_literal_text value)) (is_direct facts value) p.direct in
+      standing_right value literal t e (and_parts (is_fresh value && is_there (type_of value)) (is_typed here value) p.typed).1 d.1
+      (not-true (is_literal_text value) d.0)
+      (parts.path_listed types facts modes procs globals sigs start whole stands_for read (Fresh value) p.listed) l.type l.writes
 
   pub find_fits : (read : Bool) (path : Path) (t : ℕ) → PathStood read path t → Fit around (find_lines types facts path t)
   find_fits read (Variable node ty place global) t p =
@@ -130,11 +155,11 @@ module _ (types : List Ty) (facts : Facts) (modes : (proc position : ℕ) → Mo
       (and_from _ _ (both_some _ _ (Some ty) refl l.type (named_is place global ty (of_same _ _ p.typed))) l.writes)
   find_fits read (Fresh value) t p =
       fit_line (begin_line types facts (constant_in value) value t)
-      (waits.begun_waits types facts modes procs globals sigs start whole filled places dest read value t p)
+      (waits.begun_waits types facts modes procs globals sigs start whole stands_for filled places dest read value t p)
       (begun_right (constant_in value) read value t refl p)
   find_fits read (Field node ty base field) t p =
       let l = leads read (Field node ty base field) t p in
-      let b = parts.base_stood types facts modes procs globals sigs start whole filled places dest read node ty base field t p in
+      let b = parts.base_stood types facts modes procs globals sigs start whole stands_for filled places dest read node ty base field t p in
       let k = leads false base (suc t) b in
       find_fits false base (suc t) b
       >> fit_line (L.Part t (suc t) field) refl
@@ -142,20 +167,24 @@ module _ (types : List Ty) (facts : Facts) (modes : (proc position : ℕ) → Mo
       (ap₂ (λ q o. is_of q (field_at (kind_if facts o) field)) l.type k.type
       ∙ turned (field_at (kind_if facts (type_at base)) field) (Some ty)
       (and_parts (is_of (field_at (kind_if facts (type_at base)) field) (Some ty)) (is_typed_path here base) p.typed).0)
-      (both_same _ _ (is_written base) l.writes k.writes))
+      (and_from _ _ (both_same _ _ (is_written base) l.writes k.writes)
+      (ap (λ o. not (is_exception_type o)) k.type
+      ∙ parts.base_has_parts types facts modes procs globals sigs start whole stands_for filled places dest read node ty base field t p)))
   find_fits read (Element node ty base index constant) t p =
       let l = leads read (Element node ty base index constant) t p in
-      let b = parts.row_stood types facts modes procs globals sigs start whole filled places dest read node ty base index constant t p in
+      let b = parts.row_stood types facts modes procs globals sigs start whole stands_for filled places dest read node ty base index constant t p in
       let k = leads false base (suc t) b.0 in
       let h = and_parts (is_of (element_of (kind_if facts (type_at base))) (Some ty)) (is_int (kind_if facts (type_of index))) (and_parts _ _ p.typed).0 in
       find_fits false base (suc t) b.0
       >> fit_line (L.Item t (suc t) (suc t + width_at base)) refl
       (and_from _ _ (ap₂ (λ q o. is_of q (element_of (kind_if facts o))) l.type k.type ∙ turned (element_of (kind_if facts (type_at base))) (Some ty) h.0)
       (and_from _ _ (ap (λ o. is_int (kind_if facts o)) (value_is index (suc t + width_at base) b.1) ∙ h.1)
-      (both_same _ _ (is_written base) l.writes k.writes)))
+      (and_from _ _ (both_same _ _ (is_written base) l.writes k.writes)
+      (ap (λ o. not (is_text_type o)) k.type
+      ∙ parts.row_no_text types facts modes procs globals sigs start whole stands_for filled places dest read node ty base index constant t p))))
   find_fits read (Deref ty base) t p =
       let l = leads read (Deref ty base) t p in
-      let b = parts.object_stood types facts modes procs globals sigs start whole filled places dest read ty base t p in
+      let b = parts.object_stood types facts modes procs globals sigs start whole stands_for filled places dest read ty base t p in
       let k = leads false base (suc t) b in
       find_fits false base (suc t) b
       >> fit_line (L.Object t (suc t)) refl
@@ -168,10 +197,10 @@ module _ (types : List Ty) (facts : Facts) (modes : (proc position : ℕ) → Mo
   -- ---- operands of something, from a position on
 
   abbrev pub taken_from : From → Option Ty
-  taken_from = taken (parts.known types facts modes procs globals sigs start whole) sigs start whole
+  taken_from = taken (parts.known types facts modes procs globals sigs start whole stands_for) sigs start whole
 
   abbrev pub all_of : List (Option Ty) → List From → Bool
-  all_of = are_of (parts.known types facts modes procs globals sigs start whole) sigs start whole
+  all_of = are_of (parts.known types facts modes procs globals sigs start whole stands_for) sigs start whole
 
   pub are_of_these : (from : List From) (tys : List (Option Ty)) → map taken_from from ≡ tys → all_of tys from ≡ true
   are_of_these from tys e = subst (λ ts. all_of ts from ≡ true) e (own from)
@@ -181,7 +210,7 @@ module _ (types : List Ty) (facts : Facts) (modes : (proc position : ℕ) → Mo
       own (x ∷ from) = and_from _ _ (itself (taken_from x)) (own from)
 
   abbrev first_written : ℕ → List From → Bool
-  first_written = may_write_first (parts.known types facts modes procs globals sigs start whole) sigs start whole
+  first_written = may_write_first (parts.known types facts modes procs globals sigs start whole stands_for) sigs start whole
 
   -- the place of a hook is one that may be written
   place_written : (d : Option ℕ) (path : Path) → is_place d path ≡ true → is_written path ≡ true
@@ -207,33 +236,34 @@ module _ (types : List Ty) (facts : Facts) (modes : (proc position : ℕ) → Mo
     pub settle_fits : (i : ℕ) (args : Args) (t : ℕ) → AllStood act uses i args t → Fit around (settle_lines types facts args t)
     settle_fits i NoArg t all = fit_none
     settle_fits i (ByValue e rest) t all = settle_fits (suc i) rest (t + width e)
-        (parts.rest_stood types facts modes procs globals sigs start whole filled places dest act uses i e rest t all)
+        (parts.rest_stood types facts modes procs globals sigs start whole stands_for filled places dest act uses i e rest t all)
     settle_fits i (ByPath path rest) t all =
-        find_fits false path t (parts.first_path types facts modes procs globals sigs start whole filled places dest act uses i path rest t all)
+        find_fits false path t (parts.first_path types facts modes procs globals sigs start whole stands_for filled places dest act uses i path rest t all)
         >> settle_fits (suc i) rest (t + width_at path)
-        (parts.behind_path types facts modes procs globals sigs start whole filled places dest act uses i path rest t all)
+        (parts.behind_path types facts modes procs globals sigs start whole stands_for filled places dest act uses i path rest t all)
 
     taken_one : (i : ℕ) (e : Expr) (rest : Args) (t : ℕ) → AllStood act uses i (ByValue e rest) t → taken_from (from_of facts act (uses i) e t) ≡ type_of e
     taken_one i e rest t all = by (is_copied facts (uses i) e) (is_lent_at facts act (uses i) e) refl refl
       where
         stood : Stood e t
-        stood = parts.first_stood types facts modes procs globals sigs start whole filled places dest act uses i e rest t all
+        stood = parts.first_stood types facts modes procs globals sigs start whole stands_for filled places dest act uses i e rest t all
 
         by : (b c : Bool) → is_copied facts (uses i) e ≡ b → is_lent_at facts act (uses i) e ≡ c → taken_from (by_ways b c t) ≡ type_of e
-        by true c copied lent = parts.copied_leads types facts modes procs globals sigs start whole filled places dest (uses i) e t copied stood
-        by false true copied lent = (parts.lent_leads types facts modes procs globals sigs start whole filled places dest act uses i e rest t lent all).0
+        by true c copied lent = parts.copied_leads types facts modes procs globals sigs start whole stands_for filled places dest (uses i) e t copied stood
+        by false true copied lent = (parts.lent_leads types facts modes procs globals sigs start whole stands_for filled places dest act uses i e rest t
+            lent all).0
         by false false copied lent = value_is e t stood
 
     pub taken_are : (i : ℕ) (args : Args) (t : ℕ) → AllStood act uses i args t → map taken_from (froms facts act args uses i t) ≡ types_in args
     taken_are i NoArg t all = refl
     taken_are i (ByValue e rest) t all =
         ap₂ (λ ty tys. ty ∷ tys) (taken_one i e rest t all) (taken_are (suc i) rest (t + width e)
-        (parts.rest_stood types facts modes procs globals sigs start whole filled places dest act uses i e rest t all))
+        (parts.rest_stood types facts modes procs globals sigs start whole stands_for filled places dest act uses i e rest t all))
     taken_are i (ByPath path rest) t all =
         ap₂ (λ ty tys. ty ∷ tys) (leads false path t
-        (parts.first_path types facts modes procs globals sigs start whole filled places dest act uses i path rest t all)).type
+        (parts.first_path types facts modes procs globals sigs start whole stands_for filled places dest act uses i path rest t all)).type
         (taken_are (suc i) rest (t + width_at path)
-        (parts.behind_path types facts modes procs globals sigs start whole filled places dest act uses i path rest t all))
+        (parts.behind_path types facts modes procs globals sigs start whole stands_for filled places dest act uses i path rest t all))
 
     module _ (how : Use) (same : (position : ℕ) → uses position ≡ how) where
       -- of a value that stands somewhere
@@ -296,10 +326,11 @@ module _ (types : List Ty) (facts : Facts) (modes : (proc position : ℕ) → Mo
     written_first operation (suc n) i (ByPath path rest) t w all placed h =
         let q = and_parts (may_take here operation path) (may_take_all here operation rest) h in
         and_from _ _
-        ((leads false path t (parts.first_path types facts modes procs globals sigs start whole filled places dest act uses i path rest t all)).writes
+        ((leads false path t (parts.first_path types facts modes procs globals sigs start whole stands_for filled places dest act uses i path rest t
+        all)).writes
         ∙ take_written operation path w q.0)
         (written_first operation n (suc i) rest (t + width_at path) w
-        (parts.behind_path types facts modes procs globals sigs start whole filled places dest act uses i path rest t all) placed q.1)
+        (parts.behind_path types facts modes procs globals sigs start whole stands_for filled places dest act uses i path rest t all) placed q.1)
 
     pub may_be_written : (operation : Operation) (n : ℕ) (args : Args) (t : ℕ) → AllStood act uses 0 args t → are_placed n args ≡ true →
         may_take_all here operation args ≡ true → not (writes operation) || first_written n (froms facts act args uses 0 t) ≡ true

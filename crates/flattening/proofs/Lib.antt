@@ -62,6 +62,7 @@ mod Owned
 mod Fit
 mod Direct
 mod FitParts
+mod BuiltPieces
 mod FitPaths
 mod OnePiece
 mod FitActs
@@ -72,6 +73,7 @@ mod FitWaits
 mod FitLoops
 mod FitStmts
 mod Declared
+mod StoodPlaces
 mod FitBodies
 mod DeclaredGlobals
 mod FitPrograms
@@ -90,9 +92,9 @@ mod AlikeLines
 mod Covers
 mod CoversExprs
 mod CoversStmts
-mod PlainBodies
-mod PlainPrograms
-mod Unlent
+mod BuiltBodies
+mod BuiltWaits
+mod BuiltPrograms
 mod Led
 mod LedParts
 mod EachTurns
@@ -109,7 +111,6 @@ mod Shaped
 mod WaysOut
 pub mod ForCallers
 mod LentPlaces
-mod Ordinals
-mod SimpleWaits
 mod SimplePrograms
+mod WaitCounts
 mod WaitSums

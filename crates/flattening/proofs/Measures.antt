@@ -6,7 +6,8 @@ use Rattle.nim_types.specs.Types.{Ty, Facts}
 use Rattle.nim_program.specs.declared.program.Mode.{Mode}
 use Rattle.nim_program.specs.declared.stmt.Leaving.{Leaving}
 use Rattle.nim_program.specs.declared.stmt.Leaving.TheVariants.{Break, Continue, Return}
-use Rattle.nim_program.specs.Program.{Literal, Label, Act, ByLabels, Expr, Read, Path, Args, NoArg, ByValue, ByPath, Declared, Kind, While, Count, Each, Stmts}
+use Rattle.nim_program.specs.Program.{Literal, Label, Act, Calling, ByLabels, Expr, Read, Path, Args, NoArg, ByValue, ByPath, Declared, Kind, While, Count}
+use Rattle.nim_program.specs.Program.{Each, Stmts}
 use Rattle.nim_program.specs.Program.{Param, node_of, type_of, type_at, types_in}
 use Rattle.nim_program.specs.Uses.{use_of}
 use Rattle.nim_program.specs.Folds.{numbers, if_constant, begun_by, Step, Named, Standing, Begun, ToField, ToElement, ToObject, Leading, Looping, is_headed}
@@ -39,16 +40,22 @@ reserved operand NoArg = 0
 reserved operand (ByValue value rest) = operand + reserved operand rest
 reserved operand (ByPath path rest) = operand + reserved operand rest
 
+-- a call's value waits by a line of its own
+abbrev pub back : (hold : ℕ) → Act → ℕ
+back hold (Calling proc of) = hold
+back hold act = 0
+
 -- What lines may take where a part may take so much: of this so much is for the operation that it is an operand of, one for lending and one for taking
 -- its value, and so much for reading at a path; beside it what ends takes so much, at each exit.
 pub record Bounds (types : List Ty) (facts : Facts) (modes : (proc position : ℕ) → Mode) (m : Line → ℕ) (part : ℕ) (built standing : Literal → ℕ)
     (said : Label → ℕ)
-    (reserve operand get exit each one fill turn : ℕ) : Type 0 where
+    (reserve operand get exit each one fill turn hold : ℕ) : Type 0 where
   pub reserves : reserve + one ≤ operand
   pub act : (t : ℕ) (act : Act) (how : UseAt) (ty : Option Ty) (operands : Args) →
-      m (act_line types facts modes t act how ty (types_in operands) (froms facts act operands (use_of modes act) 0 (suc t))) + operand + one + one + each
+      m (act_line types facts modes t act how ty (types_in operands) (froms facts act operands (use_of modes act) 0 (suc t))) + operand + back hold act +
+      one + each
       ≤ act_counted part built standing said act + reserved reserve operands
-  pub waits : (node : ℕ) (from : List From) → m (L.Own (W.Waits node) from) ≤ one
+  pub waits : (node : ℕ) (from : List From) → m (L.Own (W.Waits node) from) ≤ hold
   pub takes : (node : ℕ) → m (L.Own (W.TakenUp node) []) ≤ one
   pub ends : (node ty : ℕ) → m (L.Own (W.TemporaryEnds node ty) []) ≤ each
   pub place_ends : (place ty : ℕ) → m (L.Own (W.PlaceEnds place ty) []) ≤ each
@@ -96,8 +103,8 @@ pub record Bounds (types : List Ty) (facts : Facts) (modes : (proc position : �
   pub kept : fill + each ≤ part
 
 module _ (types : List Ty) (facts : Facts) (modes : (proc position : ℕ) → Mode) (m : Line → ℕ) (part : ℕ) (built standing : Literal → ℕ) (said : Label → ℕ)
-    (reserve operand get exit each one fill turn : ℕ)
-    (b : Bounds types facts modes m part built standing said reserve operand get exit each one fill turn) where
+    (reserve operand get exit each one fill turn hold : ℕ)
+    (b : Bounds types facts modes m part built standing said reserve operand get exit each one fill turn hold) where
   abbrev E : Expr → ℕ
   E = expr_counted part built standing said
 
@@ -187,7 +194,7 @@ module _ (types : List Ty) (facts : Facts) (modes : (proc position : ℕ) → Mo
     lent = λ t. one;
     held = λ args t. reserved reserve args;
     get = get;
-    waited = one;
+    waited = back hold;
     taken = one;
     ended = each;
     filled = fill;
@@ -208,7 +215,7 @@ module _ (types : List Ty) (facts : Facts) (modes : (proc position : ℕ) → Mo
     of_blocks = λ blocks w t. blocks_counted part built standing said blocks + block_pairs facts modes each blocks w;
     of_turns = λ conditions blocks w t. A conditions + blocks_counted part built standing said blocks + block_pairs facts modes each blocks w;
     next_spare = λ t. omega arith;
-    waits = b.waits;
+    waits = λ proc of node from. b.waits node from;
     takes = b.takes;
     ends = b.ends;
     lends = λ t node. b.lends t t node;

@@ -54,7 +54,7 @@ module _ (types : List Ty) (facts : Facts) (modes : (proc position : ℕ) → Mo
     lent = locations;
     held = λ args t. Z t;
     get = 0;
-    waited = 0;
+    waited = λ act. 0;
     taken = 0;
     ended = 0;
     filled = 0;
@@ -75,7 +75,7 @@ module _ (types : List Ty) (facts : Facts) (modes : (proc position : ℕ) → Mo
     of_blocks = λ blocks w t. Z (t + width_of_blocks blocks);
     of_turns = λ conditions blocks w t. Z (t + (widths conditions + width_of_blocks blocks));
     next_spare = λ t. omega (arith, names t);
-    waits = λ node from. omega arith;
+    waits = λ proc of node from. omega arith;
     takes = λ node. omega arith;
     ends = λ node ty. omega arith;
     lends = λ t node. omega arith;

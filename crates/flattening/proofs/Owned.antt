@@ -23,6 +23,7 @@ use Rattle.flat_code.specs.declared.place.PlaceKind.TheVariants as K
 use Rattle.flat_code.specs.declared.place.FlatPlace.{FlatPlace}
 use Rattle.flat_code.specs.Scene.{Known}
 use Rattle.flat_code.specs.Fits.{is_value, is_location, is_standing, place_named, place_type, type_by_kind, if_type_of, if_kind}
+use Rattle.flat_code.specs.Leads.{place_hooked}
 use Rattle.flat_code.specs.Waits.{is_node, any_waits, if_waits}
 use Rattle.flattening.specs.ExprLines.{is_lent_at}
 use Rattle.flattening.specs.Formed.{IsListed, IfListed}
@@ -106,6 +107,18 @@ module _ (known : Known) (modes : (proc position : ℕ) → Mode) (whole : List 
       Owns whole (value_at types facts modes may node ty t ++ rest) t l hi → value t ≡ ty
   there_found may node None t rest less listed there owns = never there
   there_found may node (Some ty) t rest less listed there owns = value_there may node ty t rest less listed owns
+
+  -- and whether its type has hooks
+  pub hooked_there : {l hi : ℕ} (may : Bool) (node : Node) (ty : Ty) (t : ℕ) (rest : List FlatPlace) → t < hi → IsListed types ty →
+      Owns whole (value_of may node ty t ∷ rest) t l hi → place_hooked known (place_named is_value whole t) ≡ is_hooked facts ty
+  hooked_there may node ty t rest less listed owns =
+      ap (place_hooked known) (owns.values t (omega arith) less ∙ named_here is_value (value_of may node ty t) rest refl) ∙ ap (is_hooked facts) listed
+
+  pub hooked_found : {l hi : ℕ} (may : Bool) (node : Node) (ty : Option Ty) (t : ℕ) (rest : List FlatPlace) → t < hi → IfListed types ty →
+      place_named is_value rest t ≡ None → Owns whole (value_at types facts modes may node ty t ++ rest) t l hi →
+      place_hooked known (place_named is_value whole t) ≡ gives_hooked facts ty
+  hooked_found may node None t rest less listed none owns = ap (place_hooked known) (owns.values t (omega arith) less ∙ none)
+  hooked_found may node (Some ty) t rest less listed none owns = hooked_there may node ty t rest less listed owns
 
   -- ---- what waits
 
@@ -260,6 +273,10 @@ module _ (known : Known) (modes : (proc position : ℕ) → Mode) (whole : List 
       by_lent true = by_type (type_of value)
       by_lent false = refl
 
+  pub value_unled : {hi : ℕ} (value : Expr) (t : ℕ) → t < hi → Owns whole (expr_places types facts modes value t) t t hi →
+      place_named is_location whole t ≡ None
+  value_unled value t less owns = owns.locations t (omega arith) less ∙ none_at_value value t
+
   module _ (act : Act) (uses : (position : ℕ) → Use) (i : ℕ) where
     pub first_owned : (value : Expr) (rest : Args) (t : ℕ) → AllOwned act (ByValue value rest) uses i t → Owned value t
     first_owned value rest t owns =
@@ -288,6 +305,17 @@ module _ (known : Known) (modes : (proc position : ℕ) → Mode) (whole : List 
         owns_second t mid hi (omega arith) (omega arith) (omega arith) (lent_number types facts modes act (uses i) value t (omega arith) (omega (arith, w)))
         (owns_second {ys = Lends act (uses i) value t ++ operand_places types facts modes act rest uses (suc i) mid} t mid hi (omega arith) (omega arith)
         (omega arith) (expr_numbers types facts modes value t) owns)
+
+    -- what isn't lent leads nowhere by its own number
+    pub lent_none : (value : Expr) (rest : Args) (t : ℕ) → is_lent_at facts act (uses i) value ≡ false → AllOwned act (ByValue value rest) uses i t →
+        place_named is_location whole t ≡ None
+    lent_none value rest t unlent owns =
+        let w = some_width value in
+        let others = operand_places types facts modes act rest uses (suc i) (t + width value) in
+        owns.locations t (omega arith) (omega (arith, w))
+        ∙ named_behind is_location (expr_places types facts modes value t) _ t (none_at_value value t)
+        ∙ ap (λ b. place_named is_location ((if b then temporary types facts modes (node_of value) (type_of value) K.Within t else []) ++ others) t) unlent
+        ∙ (operand_numbers types facts modes act rest uses (suc i) (t + width value)).locations t (λ m. absurd (omega (arith, m, w)))
 
     -- what is lent leads to a value that no place holds
     pub lent_found : (value : Expr) (rest : Args) (t : ℕ) → is_lent_at facts act (uses i) value ≡ true → is_there (type_of value) ≡ true →

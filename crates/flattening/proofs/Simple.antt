@@ -1,36 +1,23 @@
--- Code of types of the table without hooks, but for texts that `echo` writes; without dereferences; in which no path begins with a path that is read or
--- with a text, nor ends where it begins with a value, and no loop counts from a text: what is plain and typed.
-use Rattle.std.proofs.Common.{◌≡◌, ◌≤◌, ◌⊎◌, Bool, true, false, List, [], ◌∷◌, Option, Some, None, refl}
+-- Code of types of the table that are built, without dereferences; in which no path begins with a path that is read: what is typed, and of which
+-- nothing is left out.
+use Rattle.std.proofs.Common.{◌≡◌, ◌≤◌, true, false, List, [], ◌∷◌, Option, Some, None, refl}
 use Rattle.std.proofs.lemmas.Bool.{both_ways}
 use Rattle.nim_types.specs.Types.{Ty, Facts}
+use Rattle.nim_types.specs.Forms.{form_of, levels}
 use Rattle.nim_program.specs.Kinds.{is_among_types}
-use Rattle.nim_program.specs.Program.{Act, Doing, Giving, Characters, Label, Chooser, ByConditions, ByLabels, Expr, Apply, Read, Early, Choose}
+use Rattle.nim_program.specs.Program.{Label, Chooser, ByConditions, ByLabels, Expr, Apply, Read, Early, Choose}
 use Rattle.nim_program.specs.Program.{Path, Variable, Fresh, Field, Element, Deref}
 use Rattle.nim_program.specs.Program.{Args, NoArg, ByValue, ByPath, Kind, While, Count, Each, Stmt, Do, Idle, Give, Leave, Select, Loop, Raise, Try}
 use Rattle.nim_program.specs.Program.{Stmts, Empty, Then, Declare, Defer, Blocks, Otherwise, Block, types_in, type_at}
 use Rattle.nim_program.specs.Sizes.{type_bytes}
 use Rattle.nim_program.specs.Typed.{is_fresh, is_located, behind_first}
-use Rattle.nim_meaning.specs.Here.{is_hooked}
-use Rattle.nim_meaning.specs.LeftOut.{any_hooked, writes_literals}
-use Rattle.flattening.specs.Formed.{AllOf, HasSelector, HeadFits}
+use Rattle.nim_meaning.specs.LeftOut.{is_act_built}
+use Rattle.nim_meaning.specs.Unbuilt.{is_unbuilt}
+use Rattle.flat_code.specs.declared.place.TheConstants.{MOST_LEVELS}
+use Rattle.flattening.specs.Formed.{HasSelector, HeadFits}
 
 pub never : {A : Type 0} → false ≡ true → A
 never e = absurd (both_ways false refl e)
-
-abbrev pub act_text : Act → Bool
-act_text (Giving (Characters text)) = true
-act_text act = false
-
-abbrev pub is_literal : Expr → Bool
-is_literal (Apply node ty act operands) = act_text act
-is_literal (Read path) = false
-is_literal (Early node ty short left right) = false
-is_literal (Choose node ty chooser parts) = false
-
--- what a loop counts from
-abbrev pub CountsFrom : Kind → Args → Type 0
-CountsFrom (Count variable inclusive) (ByValue first rest) = is_literal first ≡ false
-CountsFrom kind head = Unit {0}
 
 -- values alone
 abbrev pub AllValues : Args → Type 0
@@ -80,63 +67,44 @@ module _ (types : List Ty) (facts : Facts) where
   -- what chooses among values, and among blocks
   abbrev pub ChoosesBy : Chooser → Args → Type 0
   ChoosesBy ByConditions parts = AllValues parts
-  ChoosesBy (ByLabels labels) parts = AllValues (behind_first parts) × SmallFirst parts × LabelsFit labels (behind_first parts) × AllOf false labels
+  ChoosesBy (ByLabels labels) parts = AllValues (behind_first parts) × SmallFirst parts × LabelsFit labels (behind_first parts)
 
   abbrev pub SelectsBy : Chooser → Args → Blocks → Type 0
   SelectsBy ByConditions tests blocks = Unit {0}
-  SelectsBy (ByLabels labels) tests blocks = Alone tests × SmallFirst tests × LabelledBlocks labels blocks × AllOf false labels
+  SelectsBy (ByLabels labels) tests blocks = Alone tests × SmallFirst tests × LabelledBlocks labels blocks
 
   abbrev pub IsAmong : Ty → Type 0
   IsAmong ty = is_among_types types ty ≡ true
 
+  -- it is one of these types, and has few levels
+  abbrev pub IsListed : Ty → Type 0
+  IsListed ty = (is_among_types types ty ≡ true) × (levels (form_of facts ty) ≤ MOST_LEVELS)
+
   abbrev pub IsFine : Ty → Type 0
-  IsFine ty = (is_among_types types ty ≡ true) × (is_hooked facts ty ≡ false)
+  IsFine ty = IsListed ty × (is_unbuilt facts ty ≡ false)
 
   abbrev pub IfFine : Option Ty → Type 0
   IfFine None = Unit {0}
   IfFine (Some ty) = IsFine ty
 
-  abbrev pub IfAmong : Option Ty → Type 0
-  IfAmong None = Unit {0}
-  IfAmong (Some ty) = IsAmong ty
-
-  -- a text has hooks
-  abbrev pub OfText : (text : Bool) → Option Ty → Type 0
-  OfText true ty = IfAmong ty
-  OfText false ty = IfFine ty
-
-  abbrev pub Reads : Act → List (Option Ty) → Type 0
-  Reads (Doing operation) of = (writes_literals (Doing operation) ≡ true) ⊎ (any_hooked facts of ≡ false)
-  Reads act of = Unit {0}
-
-  -- an operand, which may be a text where literals are written
-  abbrev pub TextOr : (written : Bool) → Expr → (simple : Type 0) → Type 0
-  TextOr false value simple = simple
-  TextOr true (Apply node ty (Giving (Characters text)) NoArg) simple = IfAmong ty
-  TextOr true value simple = simple
-
   abbrev mutual
     pub IsSimple : Expr → Type 0
-    IsSimple (Apply node ty act operands) =
-        ((act_text act ≡ false) × IfFine ty) × Reads act (types_in operands) × AreSimple (writes_literals act) operands
+    IsSimple (Apply node ty act operands) = IfFine ty × (is_act_built act facts ty operands ≡ true) × AreSimple operands
     IsSimple (Read path) = (is_located path ≡ true) × IsSimplePath path
     IsSimple (Early node ty short left right) = IsFine ty × IsSimple left × IsSimple right
-    IsSimple (Choose node ty chooser parts) = IfFine ty × AreSimple false parts × ChoosesBy chooser parts
+    IsSimple (Choose node ty chooser parts) = IfFine ty × AreSimple parts × ChoosesBy chooser parts
 
     pub IsSimplePath : Path → Type 0
     IsSimplePath (Variable node ty place global) = IsFine ty
-    IsSimplePath (Fresh value) = (is_fresh value ≡ true) × (is_literal value ≡ false) × IsSimple value
+    IsSimplePath (Fresh value) = (is_fresh value ≡ true) × IsSimple value
     IsSimplePath (Field node ty base field) = IsFine ty × IsSimplePath base
     IsSimplePath (Element node ty base index constant) = IsFine ty × IsSimplePath base × IsSimple index
     IsSimplePath (Deref ty base) = ⊥
 
-    pub AreSimple : (written : Bool) → Args → Type 0
-    AreSimple written NoArg = Unit {0}
-    AreSimple written (ByValue value rest) = TextOr written value (IsSimple value) × AreSimple written rest
-    AreSimple written (ByPath path rest) = IsSimplePath path × AreSimple written rest
-
-  abbrev pub IsOperand : (written : Bool) → Expr → Type 0
-  IsOperand written value = TextOr written value (IsSimple value)
+    pub AreSimple : Args → Type 0
+    AreSimple NoArg = Unit {0}
+    AreSimple (ByValue value rest) = IsSimple value × AreSimple rest
+    AreSimple (ByPath path rest) = IsSimplePath path × AreSimple rest
 
   abbrev pub LoopFine : Kind → Type 0
   LoopFine While = Unit {0}
@@ -149,17 +117,16 @@ module _ (types : List Ty) (facts : Facts) where
     IsSimpleStmt (Idle node parts) = Unit {0}
     IsSimpleStmt (Give node back value) = IsSimple value
     IsSimpleStmt (Leave node leaving parts) = Unit {0}
-    IsSimpleStmt (Select node chooser tests blocks) = HasSelector chooser tests × AreSimple false tests × AreSimpleBlocks blocks
+    IsSimpleStmt (Select node chooser tests blocks) = HasSelector chooser tests × AreSimple tests × AreSimpleBlocks blocks
         × SelectsBy chooser tests blocks
-    IsSimpleStmt (Loop node kind head body) = HeadFits kind head × CountsFrom kind head × LoopFine kind × AreSimple false head × AreSimpleStmts body
-        × IsOne kind head
+    IsSimpleStmt (Loop node kind head body) = HeadFits kind head × LoopFine kind × AreSimple head × AreSimpleStmts body × IsOne kind head
     IsSimpleStmt (Raise node exception message) = ⊥
     IsSimpleStmt (Try node body handlers last) = ⊥
 
     pub AreSimpleStmts : Stmts → Type 0
     AreSimpleStmts Empty = Unit {0}
     AreSimpleStmts (Then first rest) = IsSimpleStmt first × AreSimpleStmts rest
-    AreSimpleStmts (Declare node place cursor value rest) = IsFine place.of × AreSimple false value × AreSimpleStmts rest × IsLast value
+    AreSimpleStmts (Declare node place cursor value rest) = IsFine place.of × AreSimple value × AreSimpleStmts rest × IsLast value
     AreSimpleStmts (Defer node last rest) = ⊥
 
     pub AreSimpleBlocks : Blocks → Type 0

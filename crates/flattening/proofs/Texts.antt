@@ -25,7 +25,7 @@ use Rattle.flattening.specs.ExprLines.{none_fits, froms, act_line, written_label
 use Rattle.flattening.specs.Flattened.{modes_of}
 use Rattle.flattening.specs.Given.{flat_body, flat_proc, flat_procs}
 use Rattle.flattening.specs.StmtLines.{body_lines}
-use Rattle.flattening.proofs.Measures.{reserved, Bounds, body_spare}
+use Rattle.flattening.proofs.Measures.{back, reserved, Bounds, body_spare}
 use Rattle.flattening.proofs.Weights.{plain_same}
 
 module _ (text : List ℕ) where
@@ -98,7 +98,7 @@ module _ (text : List ℕ) where
 
   module _ (types : List Ty) (facts : Facts) (modes : (proc position : ℕ) → Mode) where
     act_most : (t : ℕ) (act : Act) (how : UseAt) (ty : Option Ty) (operands : Args) →
-        times_in (act_line types facts modes t act how ty (types_in operands) (froms facts act operands (use_of modes act) 0 (suc t))) + 0 + 0 + 0 + 0
+        times_in (act_line types facts modes t act how ty (types_in operands) (froms facts act operands (use_of modes act) 0 (suc t))) + 0 + back 0 act + 0 + 0
         ≤ act_counted 0 built standing said act + reserved 0 operands
     act_most t (Doing operation) how ty operands = omega arith
     act_most t (Building fields) how None operands = omega arith
@@ -115,7 +115,7 @@ module _ (text : List ℕ) where
     label_most s arm (Ordinals low high) = omega arith
     label_most s arm (Exactly written) = omega arith
 
-    text_bounds : Bounds types facts modes times_in 0 built standing said 0 0 0 0 0 0 0 0
+    text_bounds : Bounds types facts modes times_in 0 built standing said 0 0 0 0 0 0 0 0 0
     text_bounds = record {
       reserves = omega arith;
       act = act_most;
@@ -164,7 +164,7 @@ module _ (text : List ℕ) where
     body_most hook params body =
         let modes = modes_of program plan in
         let lines = body_lines program.types program.facts modes params body in
-        let s = body_spare program.types program.facts modes times_in 0 built standing said 0 0 0 0 0 0 0 0
+        let s = body_spare program.types program.facts modes times_in 0 built standing said 0 0 0 0 0 0 0 0 0
         (text_bounds program.types program.facts modes) params body.result body.stmts in
         let e = ap (λ ls. times text (lines_texts ls)) (plain_same lines) ∙ in_lines lines in
         let i = block_within body.stmts in

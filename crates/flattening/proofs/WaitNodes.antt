@@ -25,7 +25,7 @@ use Rattle.flat_code.specs.declared.place.PlaceKind.{PlaceKind}
 use Rattle.flat_code.specs.declared.place.PlaceKind.TheVariants as K
 use Rattle.flat_code.specs.declared.place.FlatPlace.{FlatPlace}
 use Rattle.flat_code.specs.Codes.{places_of}
-use Rattle.flat_code.specs.PlainCode.{is_temporary}
+use Rattle.flat_code.specs.BuiltCode.{is_temporary}
 use Rattle.flat_code.specs.Waits.{is_node, any_waits, waits_alone, wait_once, AllWaitOnce}
 use Rattle.flat_code.specs.declared.code.CodeProc.{CodeProc}
 use Rattle.flat_code.specs.declared.line.Line.{Line}

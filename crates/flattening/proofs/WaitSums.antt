@@ -1,7 +1,9 @@
--- No more values may wait in a body than its places and nodes have bytes.
-use Rattle.std.proofs.Common.{◌≡◌, ℕ, suc, ◌+◌, ◌≤◌, Bool, true, false, List, [], ◌∷◌, ◌++◌, Option, Some, None, ap, arith}
+-- What may wait in a body has at most as many bytes as its places and nodes have; so there are no more of them.
+use Rattle.std.proofs.Common.{◌≡◌, ℕ, zero, suc, ◌+◌, ◌*◌, ◌≤◌, Bool, true, false, List, [], ◌∷◌, ◌++◌, Option, Some, None, refl, ap, arith}
 use Rattle.std.specs.Prelude.{if◌then◌else◌}
-use Rattle.nim_types.specs.Types.{Ty, Facts}
+use Rattle.nim_types.specs.Types.{Ty, Facts, same}
+use Rattle.nim_types.specs.Table.{type_at as type_by_number}
+use Rattle.nim_types.proofs.ForCallers.{same_sound}
 use Rattle.nim_program.specs.declared.expr.Node.{Node}
 use Rattle.nim_program.specs.declared.operation.Use.{Use}
 use Rattle.nim_program.specs.declared.program.Mode.{Mode}
@@ -18,39 +20,80 @@ use Rattle.nim_meaning.specs.Here.{is_hooked}
 use Rattle.flat_code.specs.declared.place.PlaceKind.{PlaceKind}
 use Rattle.flat_code.specs.declared.place.PlaceKind.TheVariants as K
 use Rattle.flat_code.specs.declared.place.FlatPlace.{FlatPlace}
+use Rattle.flat_code.specs.BuiltCode.{and_waiting, waiting_bytes}
 use Rattle.flat_code.specs.Codes.{and_waits, waiting_in}
+use Rattle.flat_code.specs.Scene.{Known}
 use Rattle.flattening.specs.ExprLines.{is_lent_at}
-use Rattle.flattening.specs.Numbering.{width, width_at, widths, arm_count, selector_from, behind_selector, width_in, width_of}
+use Rattle.flattening.specs.Numbering.{type_number, width, width_at, widths, arm_count, selector_from, behind_selector, width_in, width_of}
 use Rattle.flattening.specs.Places.{kind_of_path, head_from, temporary, value_at, location, lent_place, selector_place, expr_places, path_places}
 use Rattle.flattening.specs.Places.{operand_places, part_places, loop_places, value_places, behind_value, stmt_places, block_places, branch_places, arm_places}
 use Rattle.flattening.specs.Places.{own_declared, param_places, result_places, body_places, waits_by}
 use Rattle.flattening.proofs.Covers.{bytes_least}
 use Rattle.flattening.proofs.Declared.{Likes, block_like}
 
--- as many as some places and others
-both : (ps qs : List FlatPlace) → waiting_in (ps ++ qs) ≡ waiting_in ps + waiting_in qs
-both [] qs = omega arith
-both (p ∷ ps) qs = by p.waits (both ps qs)
+-- ---- types by their numbers
+
+pub number_bytes : (facts : Facts) (types : List Ty) (ty : Ty) → type_bytes facts (type_by_number types (type_number types ty)) ≤ type_bytes facts ty
+number_bytes facts [] ty = bytes_least facts ty
+number_bytes facts (t ∷ types) ty = by (same t ty) refl (number_bytes facts types ty)
   where
-    by : (o : Option ℕ) → waiting_in (ps ++ qs) ≡ waiting_in ps + waiting_in qs
-        → and_waits o (waiting_in (ps ++ qs)) ≡ and_waits o (waiting_in ps) + waiting_in qs
-    by None e = e
-    by (Some n) e = omega (arith, e)
+    by : (b : Bool) → same t ty ≡ b → type_bytes facts (type_by_number types (type_number types ty)) ≤ type_bytes facts ty →
+        type_bytes facts (type_by_number (t ∷ types) (if b then zero else suc (type_number types ty))) ≤ type_bytes facts ty
+    by true e rest = let i = ap (type_bytes facts) (same_sound t ty e) in omega (arith, i)
+    by false e rest = rest
 
--- at most so many
-abbrev pub Few : List FlatPlace → ℕ → Type 0
-Few ps n = waiting_in ps ≤ n
-
-few_both : (ps qs : List FlatPlace) (m n : ℕ) → Few ps m → Few qs n → Few (ps ++ qs) (m + n)
-few_both ps qs m n h k = let e = both ps qs in omega (arith, e, h, k)
-
-few_led : (ps qs : List FlatPlace) (n : ℕ) → Few ps 0 → Few qs n → Few (ps ++ qs) n
-few_led ps qs n h k = let e = both ps qs in omega (arith, e, h, k)
-
-few_more : (ps : List FlatPlace) (m n : ℕ) → Few ps m → m ≤ n → Few ps n
-few_more ps m n h le = omega (arith, h, le)
+-- the bytes of what waits
+abbrev and_held : Option ℕ → (bytes rest : ℕ) → ℕ
+and_held None bytes rest = rest
+and_held (Some node) bytes rest = bytes + rest
 
 module _ (types : List Ty) (facts : Facts) (modes : (proc position : ℕ) → Mode) (globals : List Declared) where
+  abbrev pub known : Known
+  known = record { types = types; facts = facts }
+
+  abbrev pub held : List FlatPlace → ℕ
+  held [] = 0
+  held (p ∷ ps) = and_held p.waits (type_bytes facts (type_by_number types p.ty)) (held ps)
+
+  -- as many as some places and others
+  pub both : (ps qs : List FlatPlace) → held (ps ++ qs) ≡ held ps + held qs
+  both [] qs = omega arith
+  both (p ∷ ps) qs = by p.waits (type_bytes facts (type_by_number types p.ty)) (both ps qs)
+    where
+      by : (o : Option ℕ) (n : ℕ) → held (ps ++ qs) ≡ held ps + held qs → and_held o n (held (ps ++ qs)) ≡ and_held o n (held ps) + held qs
+      by None n e = e
+      by (Some node) n e = omega (arith, e)
+
+  -- with a word for each
+  pub words_few : (ps : List FlatPlace) → waiting_bytes known ps ≤ 2 * held ps
+  words_few [] = omega arith
+  words_few (p ∷ ps) = by p.waits (type_bytes facts (type_by_number types p.ty)) (bytes_least facts (type_by_number types p.ty)) (words_few ps)
+    where
+      by : (o : Option ℕ) (n : ℕ) → 4 ≤ n → waiting_bytes known ps ≤ 2 * held ps → and_waiting o n (waiting_bytes known ps) ≤ 2 * and_held o n (held ps)
+      by None n l h = h
+      by (Some node) n l h = omega (arith, l, h)
+
+  waiters_few : (ps : List FlatPlace) → waiting_in ps ≤ held ps
+  waiters_few [] = omega arith
+  waiters_few (p ∷ ps) = by p.waits (type_bytes facts (type_by_number types p.ty)) (bytes_least facts (type_by_number types p.ty)) (waiters_few ps)
+    where
+      by : (o : Option ℕ) (n : ℕ) → 4 ≤ n → waiting_in ps ≤ held ps → and_waits o (waiting_in ps) ≤ and_held o n (held ps)
+      by None n l h = h
+      by (Some node) n l h = omega (arith, l, h)
+
+  -- at most so many
+  abbrev pub Few : List FlatPlace → ℕ → Type 0
+  Few ps n = held ps ≤ n
+
+  few_both : (ps qs : List FlatPlace) (m n : ℕ) → Few ps m → Few qs n → Few (ps ++ qs) (m + n)
+  few_both ps qs m n h k = let e = both ps qs in omega (arith, e, h, k)
+
+  few_led : (ps qs : List FlatPlace) (n : ℕ) → Few ps 0 → Few qs n → Few (ps ++ qs) n
+  few_led ps qs n h k = let e = both ps qs in omega (arith, e, h, k)
+
+  few_more : (ps : List FlatPlace) (m n : ℕ) → Few ps m → m ≤ n → Few ps n
+  few_more ps m n h le = omega (arith, h, le)
+
   -- where a path leads nothing waits
   led_none : (node : Node) (ty : Option Ty) (kind : PlaceKind) (t : ℕ) → Few (temporary types facts modes node ty kind t) 0
   led_none node None kind t = omega arith
@@ -58,11 +101,14 @@ module _ (types : List Ty) (facts : Facts) (modes : (proc position : ℕ) → Mo
 
   value_few : (may : Bool) (node : Node) (ty : Option Ty) (t : ℕ) → Few (value_at types facts modes may node ty t) (value_bytes facts ty)
   value_few may node None t = omega arith
-  value_few may node (Some ty) t = let l = bytes_least facts ty in by (waits_by may (is_hooked facts ty) node.number) (omega (arith, l))
+  value_few may node (Some ty) t = by (waits_by may (is_hooked facts ty) node.number) (number_bytes facts types ty)
     where
-      by : (o : Option ℕ) → 1 ≤ type_bytes facts ty → and_waits o 0 ≤ type_bytes facts ty
-      by None l = omega arith
-      by (Some n) l = omega (arith, l)
+      n : ℕ
+      n = type_bytes facts (type_by_number types (type_number types ty))
+
+      by : (o : Option ℕ) → n ≤ type_bytes facts ty → and_held o n 0 ≤ type_bytes facts ty
+      by None m = omega arith
+      by (Some node) m = omega (arith, m)
 
   only_read : (node : Node) (ty : Option Ty) (t : ℕ) → Few (value_at types facts modes false node ty t) 0
   only_read node None t = omega arith
@@ -75,7 +121,7 @@ module _ (types : List Ty) (facts : Facts) (modes : (proc position : ℕ) → Mo
       by true = led_none (node_of value) (type_of value) K.Within t
       by false = omega arith
 
-  selector_none : (parts : Args) (s : ℕ) → Few (selector_place types facts modes parts s) 0
+  pub selector_none : (parts : Args) (s : ℕ) → Few (selector_place types facts modes parts s) 0
   selector_none NoArg s = omega arith
   selector_none (ByValue value rest) s = omega arith
   selector_none (ByPath path rest) s = only_read (node_at path) (type_at path) s
@@ -167,7 +213,7 @@ module _ (types : List Ty) (facts : Facts) (modes : (proc position : ℕ) → Mo
         few_both (path_places types facts modes path t) (operand_places types facts modes act rest uses (suc i) (t + width_at path)) _ _
         (path_few false path t) (operands_few act rest uses (suc i) (t + width_at path))
 
-    parts_few : (args : Args) (t : ℕ) → Few (part_places types facts modes args t) (totals numbers own args)
+    pub parts_few : (args : Args) (t : ℕ) → Few (part_places types facts modes args t) (totals numbers own args)
     parts_few NoArg t = omega arith
     parts_few (ByValue value rest) t =
         few_both (expr_places types facts modes value t) (part_places types facts modes rest (t + width value)) _ _ (expr_few value t)
@@ -178,12 +224,12 @@ module _ (types : List Ty) (facts : Facts) (modes : (proc position : ℕ) → Mo
 
   -- ---- statements
 
-  loop_none : (node : Node) (kind : Kind) (head : Args) (t : ℕ) → Few (loop_places types facts modes node kind head t) 0
+  pub loop_none : (node : Node) (kind : Kind) (head : Args) (t : ℕ) → Few (loop_places types facts modes node kind head t) 0
   loop_none node While head t = omega arith
   loop_none node (Count variable inclusive) head t = omega arith
   loop_none node (OfEach variable) head t = omega arith
 
-  declared_few : (value : Args) (t : ℕ) → Few (value_places types facts modes value t) (totals numbers own value)
+  pub declared_few : (value : Args) (t : ℕ) → Few (value_places types facts modes value t) (totals numbers own value)
   declared_few NoArg t = omega arith
   declared_few (ByValue value rest) t = few_more (expr_places types facts modes value t) _ _ (expr_few value t) (omega arith)
   declared_few (ByPath path rest) t = omega arith
@@ -248,19 +294,19 @@ module _ (types : List Ty) (facts : Facts) (modes : (proc position : ℕ) → Mo
 
   -- ---- bodies
 
-  likes_none : (ps : List FlatPlace) (ds : List Declared) → Likes types ps ds → Few ps 0
+  pub likes_none : (ps : List FlatPlace) (ds : List Declared) → Likes types ps ds → Few ps 0
   likes_none [] ds h = omega arith
   likes_none (p ∷ ps) [] h = absurd h
   likes_none (p ∷ ps) (d ∷ ds) h =
-      let e = ap (λ o. and_waits o (waiting_in ps)) h.0.waits in
+      let e = ap (λ o. and_held o (type_bytes facts (type_by_number types p.ty)) (held ps)) h.0.waits in
       let rest = likes_none ps ds h.1 in
       omega (arith, e, rest)
 
-  params_none : (sinks : List ℕ) (params : List Param) → Few (param_places types facts modes sinks params) 0
+  pub params_none : (sinks : List ℕ) (params : List Param) → Few (param_places types facts modes sinks params) 0
   params_none sinks [] = omega arith
   params_none sinks (param ∷ params) = params_none sinks params
 
-  result_none : (result : Option Declared) → Few (result_places types facts modes result) 0
+  pub result_none : (result : Option Declared) → Few (result_places types facts modes result) 0
   result_none None = omega arith
   result_none (Some d) = omega arith
 
@@ -271,10 +317,11 @@ body_waits types facts modes sinks globals params body =
     let mine = param_places types facts modes sinks params in
     let back = result_places types facts modes body.result in
     let temporaries = block_places types facts modes body.stmts 0 in
-    let h = few_led mine (back ++ (declared ++ temporaries)) (total_of numbers (own_bytes facts globals) body.stmts)
+    let h = few_led types facts modes globals mine (back ++ (declared ++ temporaries)) (total_of numbers (own_bytes facts globals) body.stmts)
     (params_none types facts modes globals sinks params)
-    (few_led back (declared ++ temporaries) _ (result_none types facts modes globals body.result)
-    (few_led declared temporaries _
+    (few_led types facts modes globals back (declared ++ temporaries) _ (result_none types facts modes globals body.result)
+    (few_led types facts modes globals declared temporaries _
     (likes_none types facts modes globals declared (total_of lists own_places body.stmts) (block_like types facts modes globals body.stmts))
     (block_few types facts modes globals body.stmts 0))) in
-    omega (arith, h)
+    let w = waiters_few types facts modes globals (body_places types facts modes sinks globals params body) in
+    omega (arith, h, w)

@@ -14,6 +14,8 @@ use Rattle.nim_program.specs.Program.{Raise, Try, Stmts, Empty, Then, Declare, D
 use Rattle.nim_program.specs.Folds.{Standing, Part, Acting, Choosing, Leading, Looping, Handling, Seen, numbers, total_of, in_bodies}
 use Rattle.nim_meaning.specs.Here.{is_hooked}
 use Rattle.nim_meaning.specs.Waiting.{Wait, waiting_all, waiting_first}
+use Rattle.flat_code.specs.declared.place.FlatPlace.{FlatPlace}
+use Rattle.flat_code.specs.Codes.{waiting_in}
 use Rattle.flat_code.specs.Pieces.{pieces_of, standing_bytes}
 use Rattle.flat_code.specs.Sizes.{pieces_texts}
 
@@ -58,6 +60,11 @@ body_parts body = suc (block_parts body.stmts)
 
 abbrev pub program_parts : Program → ℕ
 program_parts = in_bodies numbers body_parts
+
+-- values that may wait, of all procedures by their places
+abbrev pub places_waiting : List (List FlatPlace) → ℕ
+places_waiting [] = 0
+places_waiting (places ∷ rest) = waiting_in places + places_waiting rest
 
 -- ---- what ends where control leaves: pairs of an exit and what is around it, a place with hooks or a value that waits
 

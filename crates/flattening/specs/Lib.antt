@@ -14,4 +14,4 @@ pub mod StmtViews
 pub mod PlaceViews
 pub mod Forms
 pub mod BodySums
-pub mod Lent
+pub mod Shallow

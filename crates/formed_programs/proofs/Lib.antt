@@ -1,9 +1,7 @@
 mod Parts
-mod Plain
 mod Listed
 mod Seen
 mod Exprs
 mod Stmts
 mod Programs
 mod Tables
-mod Unhooked

@@ -6,8 +6,6 @@ ghost use Rattle.nim_program.specs.Program.{Program};
 ghost use Rattle.nim_program.specs.Typed.{IsTyped};
 ghost use Rattle.nim_program.specs.Numbering.{is_numbered_program};
 ghost use Rattle.nim_program.specs.Sizes.{HaveForms};
-ghost use Rattle.nim_meaning.specs.LeftOut.{IsPlain};
-ghost use Rattle.nim_meaning.specs.Runs.{has_no_hooks};
 ghost use Rattle.flattening.specs.Formed.{IsFormed};
 
 /// A typed program, numbered in order of text, is one whose flat code does what it means, whatever
@@ -21,11 +19,4 @@ pub fn formed()
 pub fn table_forms()
     ensures { (table : List TypeDef) (program : Program) → program.types ≡ types_in table →
         program.facts ≡ facts_in table → IsTyped program → HaveForms table }
-{}
-
-/// No value and no place of a typed program of which nothing is left out has hooks, but literals
-/// that `echo` writes. So its runs go by the ways through its acts (`runs` of nim_meaning).
-pub fn without_hooks()
-    ensures { (program : Program) → IsTyped program → IsPlain program →
-        has_no_hooks program ≡ true }
 {}

@@ -5,4 +5,4 @@ mod examples;
 mod laws;
 
 pub use examples::flat_examples;
-pub use laws::{formed, table_forms, without_hooks};
+pub use laws::{formed, table_forms};

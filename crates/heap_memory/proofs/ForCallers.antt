@@ -18,3 +18,5 @@ pub use Rattle.heap_memory.proofs.HeapUses.{distant, is_there, refilled, still_h
 -- ---- sizes
 pub use Rattle.heap_memory.proofs.Sizes.{class_few, class_holds, class_shifted, later_size, no_size, same_stands, size_most, size_shifted}
 pub use Rattle.heap_memory.proofs.Sizes.{size_within, sizes_behind, this_size}
+-- ---- the meaning's classes
+pub use Rattle.heap_memory.proofs.ClassLaws.{class_same, room_same}

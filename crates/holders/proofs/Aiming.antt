@@ -9,7 +9,7 @@ use Rattle.nim_program.specs.declared.expr.Node.{Node}
 use Rattle.nim_program.specs.declared.operation.Use.TheVariants.{Owned, Looked}
 use Rattle.nim_program.specs.Program.{Literal, Expr, Path, Variable, Fresh, Field, Element, type_of, type_at, node_of, constant_in}
 use Rattle.nim_program.specs.Folds.{if_constant, by_constant}
-use Rattle.nim_program.specs.Kinds.{kind_if, field_at, element_of, object_of, is_of}
+use Rattle.nim_program.specs.Kinds.{kind_if, field_at, element_of, object_of, is_of, is_held as keeps_values}
 use Rattle.nim_program.specs.Scopes as scopes
 use Rattle.nim_program.specs.Scopes.{type_in}
 use Rattle.nim_meaning.specs.Values.{Value, number_of, literal_value, Made}
@@ -35,22 +35,37 @@ use Rattle.holders.proofs.PartsInTurn.{leaves_none, begins_part, First, begins_n
 use Rattle.holders.specs.Claimed.{NoExit, From, Sees, HasValue, ValueSo, HasAim, AimSo}
 use Rattle.holders.proofs.Claims.{behind_value, value_bare, scene_passes, aims_first}
 use Rattle.holders.proofs.Constants.{no_ref}
+use Rattle.holders.specs.Finding.{IsWhole}
+use Rattle.nim_program.specs.Kinds.{is_text}
+use Rattle.holders.proofs.FormsOfTypes.{no_text_form}
 
 -- ---- steps, by types
 
 module _ (facts : Facts) {os : List Owner} {world : World} {b : Bool} {n : ℕ} {aim : Aim} where
-  field_aim : (field : ℕ) (o : Option Ty) (ty : Ty) → IfSimple facts o → is_of (field_at (kind_if facts o) field) (Some ty) ≡ true →
+  abbrev field_aim : (field : ℕ) (o : Option Ty) (ty : Ty) → IfSimple facts o → keeps_values (kind_if facts o) ≡ true →
+      is_of (field_at (kind_if facts o) field) (Some ty) ≡ true →
       AimsAt os world b n aim (form_for facts o) → AimsAt os world b n (PartOf aim field) (form_of facts ty)
-  field_aim field None ty simple typed a = absurd (false≢true typed)
-  field_aim field (Some t) ty simple typed a =
-      aim_field field simple.has simple.blocks simple.declared simple.held (of_type typed)
+  field_aim field None ty simple held typed a = absurd (false≢true typed)
+  field_aim field (Some t) ty simple held typed a =
+      aim_field field simple.has simple.blocks simple.declared held (of_type typed)
       (subst (λ g. AimsAt os world b n aim g) (the_form simple.has) a)
 
-  element_aim : (z : ℤ) (o : Option Ty) (ty : Ty) → IfSimple facts o → is_of (element_of (kind_if facts o)) (Some ty) ≡ true →
+  abbrev element_aim : (z : ℤ) (o : Option Ty) (ty : Ty) → IfSimple facts o → is_of (element_of (kind_if facts o)) (Some ty) ≡ true →
       AimsAt os world b n aim (form_for facts o) → AimsAt os world b n (ItemOf aim z) (form_of facts ty)
   element_aim z None ty simple typed a = absurd (false≢true typed)
   element_aim z (Some t) ty simple typed a =
       aim_element simple.has (of_type typed) (subst (λ g. AimsAt os world b n aim g) (the_form simple.has) a)
+
+module _ (facts : Facts) {os : List Owner} {world : World} {b : Bool} {n : ℕ} {aim : Aim} where
+  whole_field : (field : ℕ) (o : Option Ty) (ty : Ty) (simple : IfSimple facts o) (held : keeps_values (kind_if facts o) ≡ true)
+      (typed : is_of (field_at (kind_if facts o) field) (Some ty) ≡ true)
+      (a : AimsAt os world b n aim (form_for facts o)) → IsWhole (PartOf aim field) (field_aim facts field o ty simple held typed a)
+  whole_field field o ty simple held typed a = tt
+
+  whole_element : (z : ℤ) (o : Option Ty) (ty : Ty) (simple : IfSimple facts o) (typed : is_of (element_of (kind_if facts o)) (Some ty) ≡ true)
+      (a : AimsAt os world b n aim (form_for facts o)) → is_text (kind_if facts o) ≡ false → IsWhole (ItemOf aim z) (element_aim facts z o ty simple typed a)
+  whole_element z None ty simple typed a no_text = absurd (false≢true typed)
+  whole_element z (Some t) ty simple typed a no_text = no_text_form simple.has (of_type typed) no_text
 
 pub no_object : (facts : Facts) (o : Option Ty) (ty : Ty) → IfSimple facts o → is_of (object_of (kind_if facts o)) (Some ty) ≡ true → ⊥
 no_object facts None ty simple typed = false≢true typed
@@ -73,21 +88,25 @@ module _ (here : Here) (scope : scopes.Here) (limits : Limits) (root : (global :
     later = nodes;
     leaves = leaves_none b.distinct;
     stage = stage_begins b.territory tt b.active;
-    aims = at_place (λ world sees. at_root (sees.place global place ty named (of_type typed))) refl;
+    aims = at_place (λ world sees. at_root (sees.place global place ty named (of_type typed))) (refl, λ no_text world sees. tt) tt;
   }
 
   field_aims : {ms : List Owner} {aim : Aim} (node : Node) (ty : Ty) (base : Path) (field : ℕ) → IfSimple here.facts (type_at base) →
-      is_of (field_at (kind_if here.facts (type_at base)) field) (Some ty) ≡ true → Aims_to ms base aim →
+      keeps_values (kind_if here.facts (type_at base)) ≡ true → is_of (field_at (kind_if here.facts (type_at base)) field) (Some ty) ≡ true →
+      Aims_to ms base aim →
       Aims_to ms (Field node ty base field) (PartOf aim field)
-  field_aims node ty base field simple typed (at_place h steps) =
-      at_place (λ world sees. field_aim here.facts field (type_at base) ty simple typed (h world sees))
-      (ap (λ (ss : List Step). ss ++ to_field field ∷ []) steps)
-  field_aims node ty base field simple typed (at_made unwritten h) =
-      at_made unwritten (λ world. field_aim here.facts field (type_at base) ty simple typed (h world))
+  field_aims node ty base field simple held typed (at_place h steps fresh) =
+      at_place (λ world sees. field_aim here.facts field (type_at base) ty simple held typed (h world sees)) (
+        ap (λ (ss : List Step). ss ++ to_field field ∷ []) steps.0,
+        λ no_text world sees. whole_field here.facts field (type_at base) ty simple held typed (h world sees),
+      ) tt
+  field_aims node ty base field simple held typed (at_made unwritten h fresh) =
+      at_made unwritten (λ world. field_aim here.facts field (type_at base) ty simple held typed (h world)) tt
 
   pub field_so : (node : Node) (ty : Ty) (base : Path) (field : ℕ) → IfSimple here.facts (type_at base) →
-      is_of (field_at (kind_if here.facts (type_at base)) field) (Some ty) ≡ true → Aim_so base → Aim_so (Field node ty base field)
-  field_so node ty base field simple typed so nodes s b scene =
+      keeps_values (kind_if here.facts (type_at base)) ≡ true → is_of (field_at (kind_if here.facts (type_at base)) field) (Some ty) ≡ true → Aim_so base →
+      Aim_so (Field node ty base field)
+  field_so node ty base field simple held typed so nodes s b scene =
       let ns = path_nodes base in
       let ws = waiting_at here.facts here.modes base in
       comes_then (aimed base here) (λ aim. give (PartOf aim field)) (Has_aim base ns ws nodes b.territory.blocks s.world)
@@ -97,16 +116,19 @@ module _ (here : Here) (scope : scopes.Here) (limits : Limits) (root : (global :
         later = a.later;
         leaves = a.leaves;
         stage = a.stage;
-        aims = field_aims node ty base field simple typed a.aims;
+        aims = field_aims node ty base field simple held typed a.aims;
       })
 
   element_aims : {ms : List Owner} (ks : List Owner) {aim : Aim} (z : ℤ) (node : Node) (ty : Ty) (base : Path) (index : Expr) (constant : Option ℤ) →
       IfSimple here.facts (type_at base) → is_of (element_of (kind_if here.facts (type_at base))) (Some ty) ≡ true → Aims_to ms base aim →
       Aims_to (ms ++ ks) (Element node ty base index constant) (ItemOf aim z)
-  element_aims ks z node ty base index constant simple typed (at_place h steps) =
-      at_place (λ world sees. element_aim here.facts z (type_at base) ty simple typed (h world sees)) (ap (λ (ss : List Step). ss ++ to_element ∷ []) steps)
-  element_aims ks z node ty base index constant simple typed (at_made unwritten h) =
-      at_made unwritten (λ world. element_aim here.facts z (type_at base) ty simple typed (aims_first ks (h world)))
+  element_aims ks z node ty base index constant simple typed (at_place h steps fresh) =
+      at_place (λ world sees. element_aim here.facts z (type_at base) ty simple typed (h world sees)) (
+        ap (λ (ss : List Step). ss ++ to_element ∷ []) steps.0,
+        λ no_text world sees. whole_element here.facts z (type_at base) ty simple typed (h world sees) no_text,
+      ) tt
+  element_aims ks z node ty base index constant simple typed (at_made unwritten h fresh) =
+      at_made unwritten (λ world. element_aim here.facts z (type_at base) ty simple typed (aims_first ks (h world))) tt
 
   pub element_so : (node : Node) (ty : Ty) (base : Path) (index : Expr) (constant : Option ℤ) → IfSimple here.facts (type_at base) →
       is_of (element_of (kind_if here.facts (type_at base))) (Some ty) ≡ true → Distinct (path_nodes base ++ value_nodes index) → Aim_so base →
@@ -156,7 +178,7 @@ module _ (here : Here) (scope : scopes.Here) (limits : Limits) (root : (global :
         later = after.later;
         leaves = after.leaves;
         stage = after.stage;
-        aims = at_made {n = 0} refl (λ world. at_value (value_bare here value Looked unhooked v world));
+        aims = at_made {n = 0} refl (λ world. at_value (value_bare here value Looked unhooked v world)) tt;
       }
   fresh_aim value d true hooked waits (is_bare which a none st h) = absurd (waits none refl)
   fresh_aim value d true hooked waits (is_seen l a none st h) = absurd (waits none refl)
@@ -168,7 +190,7 @@ module _ (here : Here) (scope : scopes.Here) (limits : Limits) (root : (global :
         later = after.later;
         leaves = after.leaves;
         stage = after.stage;
-        aims = at_made refl (λ world. at_waiting first_owner);
+        aims = at_made refl (λ world. at_waiting first_owner) tt;
       }
 
   -- a constant is read where it stands, and all else waits
@@ -196,7 +218,7 @@ module _ (here : Here) (scope : scopes.Here) (limits : Limits) (root : (global :
         later = nodes;
         leaves = leaves_none b.distinct;
         stage = stage_begins b.territory tt b.active;
-        aims = at_made {n = 0} refl (λ world. at_constant (literal_so literal is world));
+        aims = at_made {n = 0} refl (λ world. at_constant (literal_so literal is world)) tt;
       }
       by None is d nodes s b scene =
           comes_then (eval value Looked here) (λ v. give (fresh_root hooked here.level node v))

@@ -99,7 +99,7 @@ module _ (here : Here) (scope : scopes.Here) (limits : Limits) (root : (global :
         Value_so (Apply node ty (Building fields) operands) how
     pub called : (node : Node) (ty : Option Ty) (proc : ℕ) (types : List Ty) (operands : Args) (how : Use) → IfSimple here.facts ty →
         ActAsked here.facts limits OfCall (Calling proc types) operands → AsksAll operands → AllRegular here.facts operands →
-        act_fits known ty (Calling proc types) operands ≡ true →
+        act_fits known ty (Calling proc types) operands ≡ true → are_typed known operands ≡ true →
         Distinct (node.number ∷ operand_nodes operands) → Ready_so (use_of here.modes (Calling proc types)) operands 0 →
         Value_so (Apply node ty (Calling proc types) operands) how
 
@@ -275,7 +275,7 @@ module _ (here : Here) (scope : scopes.Here) (limits : Limits) (root : (global :
     value_so rest (Apply node ty (Calling proc types) operands) typed asked d how =
         let t = and_parts (act_fits known ty (Calling proc types) operands) (are_typed known operands) typed in
         let uses = use_of here.modes (Calling proc types) in
-        rest.called node ty proc types operands how asked.0 asked.1.0 asked.1.1 (regulars operands t.1 asked.1.1) t.0 d
+        rest.called node ty proc types operands how asked.0 asked.1.0 asked.1.1 (regulars operands t.1 asked.1.1) t.0 t.1 d
         (ready_so rest operands uses 0 t.1 asked.1.1 d.1 (all_last here uses (λ j. uses_lent proc types j) operands 0))
     value_so rest (Apply node (Some ty) (Giving literal) NoArg) typed asked d how =
         let e = (and_parts (is_constant here.facts ty literal) true typed).0 in
@@ -320,7 +320,8 @@ module _ (here : Here) (scope : scopes.Here) (limits : Limits) (root : (global :
         (λ e. value_so rest value t.1 asked (fresh_distinct value e d) Looked)
     aim_so rest (Field node ty base field) typed asked d =
         let t = and_parts (is_of (field_at (kind_if here.facts (type_at base)) field) (Some ty)) (is_typed_path known base) typed in
-        field_so here known limits root first places os node ty base field (asked_at here.facts limits OfCall base asked.1) t.0 (aim_so rest base t.1 asked.1 d)
+        field_so here known limits root first places os node ty base field (asked_at here.facts limits OfCall base asked.1.1) asked.1.0 t.0
+        (aim_so rest base t.1 asked.1.1 d)
     aim_so rest (Element node ty base index constant) typed asked d =
         let t = and_parts (is_of (element_of (kind_if here.facts (type_at base))) (Some ty) && is_int (kind_if here.facts (type_of index)))
         (is_typed_path known base && is_typed known index) typed in

@@ -1,14 +1,14 @@
 -- Values that come to be: texts and sequences that are made; and those that trade places.
-use Rattle.std.proofs.Common.{◌≡◌, refl, arith, ℕ, zero, suc, ◌<◌, ◌≤◌, inl, inr, ◌⊎◌, List, [], ◌∷◌, length, Some, None, true}
+use Rattle.std.proofs.Common.{◌≡◌, refl, sym, subst, arith, ℕ, zero, suc, ◌<◌, ◌≤◌, inl, inr, ◌⊎◌, List, [], ◌∷◌, length, Some, None, true}
 use Rattle.nim_types.specs.Forms.{Form, plain, block, elements}
-use Rattle.nim_meaning.specs.Values.{Value, Handle, Number, Values, count, part, Location, put_part}
+use Rattle.nim_meaning.specs.Values.{Value, Handle, Number, Values, count, part, is_handle, Location, put_part}
 use Rattle.nim_meaning.specs.Heap.{Contents, Characters, Elements, class_for}
 use Rattle.nim_meaning.specs.Marks.{Member, Distinct}
 use Rattle.nim_meaning.specs.State.{World, pushed, reading_on}
-use Rattle.nim_meaning.specs.Deeds.{with_block, sets, give, ◌>>◌}
+use Rattle.nim_meaning.specs.Deeds.{with_block, give, unless_gone, ◌>>◌}
 use Rattle.nim_meaning.specs.Lifted.{fresh, fresh_text, in_hand, replaced, under_way}
-use Rattle.nim_meaning.specs.OwnedRows.{each_appended, line_read, line_into, next_line, up_to_feed, appended}
-use Rattle.nim_meaning.specs.Places.{exchanged}
+use Rattle.nim_meaning.specs.OwnedRows.{each_appended, line_read, line_or_none, line_into, next_line, up_to_feed, appended}
+use Rattle.nim_meaning.specs.Places.{exchanged, changes}
 use Rattle.holders.specs.Holders.{held_by, held_in}
 use Rattle.holders.specs.Owned.{IsBase, at_place, at_node, in_hand as under_way_is, in_row, in_text, in_program, At, Full, Has, a_number, no_text, a_text}
 use Rattle.holders.specs.Owned.{no_sequence}
@@ -22,7 +22,7 @@ use Rattle.holders.proofs.BaseChanges.{taken_elsewhere, taken_text, taken_row}
 use Rattle.holders.proofs.Sure.{sure_then, sure_weaker}
 use Rattle.holders.proofs.Ledger.{taken_live}
 use Rattle.holders.proofs.Owning.{each_stays}
-use Rattle.holders.proofs.Guards.{sure_takes, sure_sets, read_at}
+use Rattle.holders.proofs.Guards.{sure_takes, sure_sees, sure_changes, read_at}
 use Rattle.holders.proofs.Copying.{each_below}
 use Rattle.holders.proofs.Growing.{one_more_length}
 use Rattle.holders.proofs.UnderWay.{at_hand, under_way_gives}
@@ -148,11 +148,11 @@ line_made input world =
       λ others is. t.1 others is,
     ))
 
-pub line_goes_into : (input : List ℕ) (l : Location) (w v : Value) (old : List ℕ) (world : World) → At world l w → part w l.path ≡ v →
+line_or_none_goes : (input : List ℕ) (l : Location) (w v : Value) (old : List ℕ) (world : World) → At world l w → part w l.path ≡ v →
     Has world Full block v old → Distinct old → Apart l.base old →
-    Sure (line_into l input) (λ x after. Has after Full plain x [] × Turns none none block l w [] old world after) world
-line_goes_into [] l w v old world at e h d apart = (a_number, nothing_turns block l w v old world at e h d)
-line_goes_into (c ∷ cs) l w v old world at e h d apart =
+    Sure (line_or_none l input) (λ x after. Has after Full plain x [] × Turns none none block l w [] old world after) world
+line_or_none_goes [] l w v old world at e h d apart = (a_number, nothing_turns block l w v old world at e h d)
+line_or_none_goes (c ∷ cs) l w v old world at e h d apart =
     sure_then (line_read (c ∷ cs)) (λ x. replaced block l x >> give (Number (truth true)))
     (λ x after. Gives block x [] world after × KeepsHolders none (λ k. held_by k x) world after)
     (λ x after. Has after Full plain x [] × Turns none none block l w [] old world after) world (line_made (c ∷ cs) world)
@@ -162,6 +162,18 @@ line_goes_into (c ∷ cs) l w v old world at e h d apart =
     (after_made block x l w v old world middle at e h d apart m)
     (λ u after t. (a_number, t)))
 
+text_handle : {world : World} {v : Value} {bs : List ℕ} → Has world Full block v bs → is_handle v ≡ true
+text_handle no_text = refl
+text_handle (a_text same b) = refl
+
+pub line_goes_into : (input : List ℕ) (l : Location) (w v : Value) (old : List ℕ) (world : World) → At world l w → part w l.path ≡ v →
+    Has world Full block v old → Distinct old → Apart l.base old →
+    Sure (line_into l input) (λ x after. Has after Full plain x [] × Turns none none block l w [] old world after) world
+line_goes_into input l w v old world at e h d apart =
+    let Q : Value → World → Type 0 = λ x after. Has after Full plain x [] × Turns none none block l w [] old world after in
+    sure_sees (λ world x. unless_gone (is_handle x) (line_or_none l input)) Q at e tt h
+    (subst (λ b. Sure (unless_gone b (line_or_none l input)) Q world) (sym (text_handle h)) (line_or_none_goes input l w v old world at e h d apart))
+
 -- ---- a value is taken, and another one put in its place
 
 pub exchanges : (f : Form) (l : Location) (w v x : Value) (old new : List ℕ) (world : World) → At world l w → part w l.path ≡ v → Has world Full f v old →
@@ -169,7 +181,7 @@ pub exchanges : (f : Form) (l : Location) (w v x : Value) (old new : List ℕ) (
     Sure (exchanged l x) (λ y after. (y ≡ v) × Turns (λ k. held_by k x) (λ k. held_by k v) f l w new [] world after) world
 exchanges f l w v x old new world at e h0 h d apart =
     let Q : Value → World → Type 0 = λ y after. (y ≡ v) × Turns (λ k. held_by k x) (λ k. held_by k v) f l w new [] world after in
-    sure_takes (λ world old. sets l x >> give old) Q (read_at at e) tt h0
-    (sure_then (sets l x) (λ u. give v) (λ u after. Turns (λ k. held_by k x) (λ k. held_by k v) f l w new [] world after) Q world
-    (sure_sets x (λ u after. Turns (λ k. held_by k x) (λ k. held_by k v) f l w new [] world after) at (set_turns f l w v x new world at e h d apart))
+    sure_takes (λ world old. changes l x >> give old) Q (read_at at e) tt h0
+    (sure_then (changes l x) (λ u. give v) (λ u after. Turns (λ k. held_by k x) (λ k. held_by k v) f l w new [] world after) Q world
+    (sure_changes x (λ u after. Turns (λ k. held_by k x) (λ k. held_by k v) f l w new [] world after) at (set_turns f l w v x new world at e h d apart))
     (λ u after t. (refl, t)))

@@ -15,7 +15,7 @@ use Rattle.nim_meaning.specs.Deeds.{Deed, carry}
 use Rattle.nim_meaning.specs.Here.{Here, gives_hooked, form_for}
 use Rattle.nim_meaning.specs.Waiting.{Wait, nodes_of, held_if, held_from}
 use Rattle.nim_meaning.specs.Shapes.{is_held as is_held_use, waits}
-use Rattle.nim_meaning.specs.Places.{made_by}
+use Rattle.nim_meaning.specs.Places.{kept_if}
 use Rattle.holders.specs.Sure.{Sure, Comes}
 use Rattle.holders.specs.Territory.{Owner, AllOwners, NoBaseOf}
 use Rattle.holders.specs.Running.{Region, IsOutside}
@@ -83,22 +83,22 @@ module _ (here : Here) (first places : ℕ) (os : List Owner) (e : Expr) (own_wa
       NoBaseOf (Waiting here.level (node_of e).number) (ms ++ os) →
       Sure deed (OutOf here.facts R ms os first places later old start (type_of e)) s.world →
       Comes (Has_value how) NoExit
-      (carry (deeds.◌>>=◌ deed (made_by (gives_hooked here.facts (type_of e)) (record { how = how; level = here.level; node = (node_of e).number }))) s)
+      (carry (deeds.◌>>=◌ deed (kept_if (gives_hooked here.facts (type_of e)) (record { how = how; level = here.level; node = (node_of e).number }))) s)
   row_valued how deed s mine off h = by (gives_hooked here.facts (type_of e)) refl h
     where
       node : ℕ
       node = (node_of e).number
 
       by : (b : Bool) → gives_hooked here.facts (type_of e) ≡ b → Sure deed (λ v after. Out b f R ms os first places later old start v after) s.world →
-          Comes (Has_value how) NoExit (carry (deeds.◌>>=◌ deed (made_by b (record { how = how; level = here.level; node = node }))) s)
+          Comes (Has_value how) NoExit (carry (deeds.◌>>=◌ deed (kept_if b (record { how = how; level = here.level; node = node }))) s)
       by true hooks h =
-          let made = deeds.◌>>=◌ deed (made_by true (record { how = how; level = here.level; node = node })) in
+          let made = deeds.◌>>=◌ deed (kept_if true (record { how = how; level = here.level; node = node })) in
           comes_carried (Has_value how) NoExit made s
           (sure_weaker made (Made how f node R ms os first places later old start) (Has_value how) s.world
           (made_row R ms os first places later old start f s.world how node deed mine off h)
           (λ v after m. made_valued how hooks m))
       by false unhooked h =
-          let given = deeds.◌>>=◌ deed (made_by false (record { how = how; level = here.level; node = node })) in
+          let given = deeds.◌>>=◌ deed (kept_if false (record { how = how; level = here.level; node = node })) in
           comes_carried (Has_value how) NoExit given s
           (sure_then deed (λ v. deeds.give v) (λ v after. Out false f R ms os first places later old start v after) (Has_value how) s.world h
           (λ v after q. is_bare (inl (sym (hooked_is here.facts (type_of e)) ∙ unhooked)) leaves (own_waits.plain how unhooked) q.0 q.1))

@@ -233,7 +233,7 @@ module _ (here : Here) (scope : scopes.Here) (limits : Limits) (root : (global :
   built_so node ty set operands how plain regular typed d ready =
       let q = and_parts (building_fits here.facts ty set (types_in operands)) (are_placed 0 operands) typed in
       taken_so here scope limits root first places os node ty (Building set) operands how (λ j. inl refl) d regular (all_write limits operands q.1) ready
-      (λ nodes later start world xs ms s b leaves st t.
+      (λ nodes later start world xs ms s b scene leaves st t.
       let R = at_nodes here.level (node.number ∷ operand_nodes operands) in
       let left = t.leaves nodes (waiting_all here.facts here.modes operands (λ j. Held) 0) leaves in
       row_valued here first places os (Apply node ty (Building set) operands) (apply_waits here node ty (Building set) operands (λ how. refl)) nodes t.later

@@ -85,15 +85,15 @@ module _ (r : Region) (gs : List Owner) (first places : ℕ) (nodes old : List �
   abbrev entered_world : World
   entered_world = with_frame world frame
 
-  came_back : {f : Form} {ms : List Owner} → Result here ms f → (last : World) → Stage r ms gs first places nodes old entered_world last →
-      CameBack gs f old world (result_of here.result here.level last) (down_to r.level last)
+  came_back : {f : Option Form} {ms : List Owner} → Result here ms f → (last : World) → Stage r ms gs first places nodes old entered_world last →
+      CameBack gs old world (result_of here.result here.level last) (down_to r.level last) f
   came_back (gives_none e) last s =
       without_value (returns r frame count below s.runs.territory s.runs.came s.runs.passes).moves (ap (λ (p : Option Declared). result_of p here.level last) e)
   came_back (gives_one place e) last s =
       let a = first_apart s.runs.territory in
       let f = form_of here.facts place.of in
       let came : (k : ℕ) → Member k a.others.blocks → Member k old ⊎ (Member k [] ⊎ (taken_in world ≤ k)) = λ k m. s.runs.came k (a.within k m) in
-      subst (λ v. CameBack gs f old world v (down_to r.level last))
+      subst (λ v. CameBack gs old world v (down_to r.level last) (Some f))
       (sym (ap (λ (p : Option Declared). result_of p here.level last) e ∙ loaded last (place_at here.level place.number) a.value a.base))
       (let back = returns r frame count below a.others came s.runs.passes in
       with_value (record {
@@ -110,11 +110,11 @@ module _ (r : Region) (gs : List Owner) (first places : ℕ) (nodes old : List �
 
   -- ---- the whole of it
 
-  pub call_comes : {f : Form} {ms ns : List Owner} (params : List Param) (body : Body) (work : ℕ) → ParamsEnd r here entered_world params ms ns →
+  pub call_comes : {f : Option Form} {ms ns : List Owner} (params : List Param) (body : Body) (work : ℕ) → ParamsEnd r here entered_world params ms ns →
       Result here ns f → (s : State) → s.world ≡ world →
       ((now : State) → now.world ≡ entered_world → Comes (λ u after. Stage r ms gs first places nodes old entered_world after)
       (λ way after. NotRaised way × Stage r ms gs first places nodes old entered_world after) (exec_all body.stmts here now)) →
-      Comes (λ v after. CameBack gs f old world v after) (λ way after. ⊥)
+      Comes (λ v after. CameBack gs old world v after f) (λ way after. ⊥)
       (costs work (change (λ w. with_frame w frame) >> at_exit (exec_all body.stmts here) (handed params (last_of body.stmts) here)) s)
   call_comes {f} {ms} {ns} params body work ends result s e body_so =
       comes_at_exit (exec_all body.stmts here) (handed params (last_of body.stmts) here) (λ u after. At ms after) (λ way after. NotRaised way × At ms after)
@@ -125,7 +125,7 @@ module _ (r : Region) (gs : List Owner) (first places : ℕ) (nodes old : List �
       At os now = Stage r os gs first places nodes old entered_world now
 
       P : Value → World → Type 0
-      P v after = CameBack gs f old world v after
+      P v after = CameBack gs old world v after f
 
       NotLeft : Outcome (Unit {0}) → Type 0
       NotLeft (On u) = Unit {0}
@@ -146,7 +146,7 @@ module _ (r : Region) (gs : List Owner) (first places : ℕ) (nodes old : List �
       full_result : (last : World) → At ns last → is_full (result_of here.result here.level last) ≡ true
       full_result last h = by result h
         where
-          by : {os : List Owner} {g : Form} → Result here os g → At os last → is_full (result_of here.result here.level last) ≡ true
+          by : {os : List Owner} {g : Option Form} → Result here os g → At os last → is_full (result_of here.result here.level last) ≡ true
           by (gives_none e) h = ap (λ (p : Option Declared). is_full (result_of p here.level last)) e
           by (gives_one place e) h =
               let a = first_apart h.runs.territory in

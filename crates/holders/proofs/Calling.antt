@@ -276,7 +276,7 @@ length_taken (suc n) [] le = absurd (omega (arith, le))
 length_taken (suc n) (x ∷ xs) le = ap suc (length_taken n xs (omega (arith, le)))
 
 -- what stands somewhere stands below the next level
-all_below : {world : World} {b : Base} {x : Value} (level : ℕ) → length world.frames ≡ level → IsBase world b x → IsBelow level b
+pub all_below : {world : World} {b : Base} {x : Value} (level : ℕ) → length world.frames ≡ level → IsBase world b x → IsBelow level b
 all_below {world} level e (at_place {level = l} frame q le g) = omega (arith, e, get_inside world.frames l frame q)
 all_below {world} level e (at_node {level = l} frame q g) = omega (arith, e, get_inside world.frames l frame q)
 all_below level e (in_hand q) = tt
@@ -284,7 +284,7 @@ all_below level e (in_row b q f) = tt
 all_below level e (in_text b q f) = tt
 all_below level e in_program = tt
 
-one_longer : {A : Type 0} (xs : List A) (x : A) → length (xs ++ x ∷ []) ≡ suc (length xs)
+pub one_longer : {A : Type 0} (xs : List A) (x : A) → length (xs ++ x ∷ []) ≡ suc (length xs)
 one_longer [] x = refl
 one_longer (y ∷ xs) x = ap suc (one_longer xs x)
 

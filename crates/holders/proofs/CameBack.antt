@@ -1,5 +1,5 @@
 -- What a call leaves of the cells that it worked on is brought to all others, and to the part that called.
-use Rattle.std.proofs.Common.{arith, ℕ, ◌<◌, ◌≤◌, inl, inr, ◌⊎◌, List, [], ◌++◌}
+use Rattle.std.proofs.Common.{arith, ℕ, ◌<◌, ◌≤◌, inl, inr, ◌⊎◌, List, [], ◌++◌, Option}
 use Rattle.nim_types.specs.Forms.{Form}
 use Rattle.nim_meaning.specs.Values.{Value}
 use Rattle.nim_meaning.specs.Marks.{Member}
@@ -44,9 +44,10 @@ moves_given given old old2 {world} into m = record {
   };
 }
 
-pub call_gives : {os ms : List Owner} {world : World} (t : Territory os world) (w : Works os ms t.blocks world) {f : Form} (given old2 : List ℕ) {v : Value}
+pub call_gives : {os ms : List Owner} {world : World} (t : Territory os world) (w : Works os ms t.blocks world) {f : Option Form}
+    (given old2 : List ℕ) {v : Value}
     {after : World} → Strange given t.blocks → ClearOf given os → ((k : ℕ) → Member k old2 → Member k given ⊎ Member k w.territory.blocks) →
-    CameBack ms f old2 world v after → CallGives os f given t.blocks world v after
+    CameBack ms old2 world v after f → CallGives os given t.blocks world v after f
 call_gives t w given old2 {after = after} strange clear into (without_value m e) =
     gives_nothing (w.back given after strange clear (moves_given given w.territory.blocks old2 into m)).moves e
 call_gives {os} {ms} {world} t w given old2 {after = after} strange clear into (with_value h) =

@@ -18,7 +18,7 @@ use Rattle.nim_meaning.specs.Ways.{At as Spot}
 use Rattle.nim_meaning.specs.Values.{Value, Fixed, Location}
 use Rattle.nim_meaning.specs.Marks.{Member, Distinct}
 use Rattle.nim_meaning.specs.State.{World, State, is_whole, text_of}
-use Rattle.nim_meaning.specs.Acts.{Does, branch, costs, looks, wrong, ◌>>=◌, with_trail, worked}
+use Rattle.nim_meaning.specs.Acts.{Exit, Does, branch, costs, looks, wrong, ◌>>=◌, with_trail, worked}
 use Rattle.nim_meaning.specs.Deeds.{carry}
 use Rattle.nim_meaning.specs.Here.{Here, gives_hooked, form_for}
 use Rattle.nim_meaning.specs.Waiting.{Wait, nodes_of, wait_if, waiting, waiting_at}
@@ -37,7 +37,7 @@ use Rattle.holders.proofs.Sure.{sure_weaker}
 use Rattle.holders.proofs.Guards.{has_whole}
 use Rattle.holders.proofs.PlainRows.{read_found, fetches}
 use Rattle.holders.proofs.Finding.{finds}
-use Rattle.holders.proofs.Coming.{comes_then, comes_weaker, comes_answered, comes_carried}
+use Rattle.holders.proofs.Coming.{comes_then, comes_weaker, comes_answered, comes_carried, comes_turned}
 use Rattle.holders.specs.Asked.{Limits, IfSimple, may_write}
 use Rattle.holders.specs.Evaluating.{value_nodes, path_nodes, operand_nodes, at_nodes, waits_inside, Leaves, is_bare, is_seen, is_held, is_waiting}
 use Rattle.holders.proofs.PartsInTurn.{begins_part, First, begins_next, stage_next, holding_next, leaves_next, stage_wider, first_in, waiting_in, path_in}
@@ -134,29 +134,29 @@ module _ (here : Here) (scope : scopes.Here) (limits : Limits) (root : (global :
   -- ---- by labels
 
   -- what a selector left, and that it is there
-  record Selector (ty : Option Ty) (ns nodes : List ℕ) (ws : List Wait) (old : List ℕ) (start : World) (x : Value) (now : World) : Type 0 where
-    own : List Owner
-    later : List ℕ
-    leaves : Leaves here.level nodes ws own later
-    stage : Stage (at_nodes here.level ns) own os first places later old start now
-    whole : gives_hooked here.facts ty ≡ true → is_whole now x ≡ true
+  pub record Selector (ty : Option Ty) (ns nodes : List ℕ) (ws : List Wait) (old : List ℕ) (start : World) (x : Value) (now : World) : Type 0 where
+    pub own : List Owner
+    pub later : List ℕ
+    pub leaves : Leaves here.level nodes ws own later
+    pub stage : Stage (at_nodes here.level ns) own os first places later old start now
+    pub whole : gives_hooked here.facts ty ≡ true → is_whole now x ≡ true
 
-  selecting_comes : (ty : Option Ty) (x : Value) (go : Value → Does Value) (P : Value → World → Type 0) (s : State) →
-      (gives_hooked here.facts ty ≡ true → is_whole s.world x ≡ true) → ((y : Value) (now : State) → now.world ≡ s.world → Comes P NoExit (go y now)) →
-      Comes P NoExit (selecting here ty x go s)
-  selecting_comes ty x go P s whole h = by (gives_hooked here.facts ty) refl
+  pub selecting_comes : {A : Type 0} (ty : Option Ty) (x : Value) (go : Value → Does A) (P : A → World → Type 0) (X : Exit → World → Type 0) (s : State) →
+      (gives_hooked here.facts ty ≡ true → is_whole s.world x ≡ true) → ((y : Value) (now : State) → now.world ≡ s.world → Comes P X (go y now)) →
+      Comes P X (selecting here ty x go s)
+  selecting_comes {A} ty x go P X s whole h = by (gives_hooked here.facts ty) refl
     where
-      text : Does Value
+      text : Does A
       text = costs (length (text_of s.world x)) (go (Fixed (text_of s.world x)))
 
       by : (c : Bool) → gives_hooked here.facts ty ≡ c →
-          Comes P NoExit (branch c (looks (λ world. branch (is_whole world x) (costs (length (text_of world x)) (go (Fixed (text_of world x)))) wrong))
+          Comes P X (branch c (looks (λ world. branch (is_whole world x) (costs (length (text_of world x)) (go (Fixed (text_of world x)))) wrong))
           (go x) s)
       by true hooks =
-          subst (λ c. Comes P NoExit (branch c text wrong s)) (sym (whole hooks)) (h (Fixed (text_of s.world x)) (worked (length (text_of s.world x)) s) refl)
+          subst (λ c. Comes P X (branch c text wrong s)) (sym (whole hooks)) (h (Fixed (text_of s.world x)) (worked (length (text_of s.world x)) s) refl)
       by false unhooked = h x s refl
 
-  value_selector : (e : Expr) → Distinct (value_nodes e) → {nodes old : List ℕ} {start : World} {x : Value} {now : World} →
+  pub value_selector : (e : Expr) → Distinct (value_nodes e) → {nodes old : List ℕ} {start : World} {x : Value} {now : World} →
       HasValue here first places os e Looked nodes old start x now →
       Selector (type_of e) (value_nodes e) nodes (waiting here.facts here.modes e Looked) old start x now
   value_selector e d h =
@@ -181,7 +181,7 @@ module _ (here : Here) (scope : scopes.Here) (limits : Limits) (root : (global :
       (selecting here selector x (λ y. at_node node.number points.Chooses (picked_value covered labels values y ty here)) s)
   picked_behind node labels ty covered values selector one ws simple enough typed placed d all inside nodes start b scene x s h =
       selecting_comes selector x (λ y. at_node node.number points.Chooses (picked_value covered labels values y ty here))
-      (Selected ty (one ++ two) nodes ws b.territory.blocks start) s h.whole
+      (Selected ty (one ++ two) nodes ws b.territory.blocks start) NoExit s h.whole
       (λ y now e. picks y now (subst (λ w. Stage (at_nodes here.level one) h.own os first places h.later b.territory.blocks start w) (sym e) h.stage))
     where
       two : List ℕ
@@ -221,14 +221,13 @@ module _ (here : Here) (scope : scopes.Here) (limits : Limits) (root : (global :
           }) (λ way last q. q)
 
   -- a selector at a path is read where it stands
-  path_selector : (path : Path) (rest : Value → Does Value) (P : Value → World → Type 0) → AimSo here scope limits root first places os path → (nodes : List ℕ)
+  pub path_selector : (path : Path) → AimSo here scope limits root first places os path → (nodes : List ℕ)
       (s : State) (b : From here scope limits root first places os (path_nodes path) nodes s.world) → Sees here scope limits root first places os s.world →
-      ((x : Value) (now : State) → Selector (type_at path) (path_nodes path) nodes (waiting_at here.facts here.modes path) b.territory.blocks s.world x
-      now.world →
-      Comes P NoExit (rest x now)) → Comes P NoExit ((aimed path here >>= (λ aim. find aim >>= (λ l. at_path path (carry (fetched l)) >>= rest))) s)
-  path_selector path rest P aim_so nodes s b scene rest_so =
-      comes_then (aimed path here) (λ aim. find aim >>= (λ l. at_path path (carry (fetched l)) >>= rest))
-      (HasAim here scope limits root first places os path (path_nodes path) ws nodes b.territory.blocks s.world) P NoExit s (aim_so nodes s b scene)
+      Comes (Selector (type_at path) (path_nodes path) nodes (waiting_at here.facts here.modes path) b.territory.blocks s.world) NoExit
+      ((aimed path here >>= (λ aim. find aim >>= (λ l. at_path path (carry (fetched l))))) s)
+  path_selector path aim_so nodes s b scene =
+      comes_then (aimed path here) (λ aim. find aim >>= (λ l. at_path path (carry (fetched l))))
+      (HasAim here scope limits root first places os path (path_nodes path) ws nodes b.territory.blocks s.world) Q NoExit s (aim_so nodes s b scene)
       (λ aim mid a. looked aim mid a)
     where
       ws : List Wait
@@ -242,16 +241,15 @@ module _ (here : Here) (scope : scopes.Here) (limits : Limits) (root : (global :
 
       looked : (aim : Aim) (mid : State) → HasAim here scope limits root first places os path (path_nodes path) ws nodes b.territory.blocks s.world aim
           mid.world →
-          Comes P NoExit ((find aim >>= (λ l. at_path path (carry (fetched l)) >>= rest)) mid)
+          Comes Q NoExit ((find aim >>= (λ l. at_path path (carry (fetched l)))) mid)
       looked aim mid a =
           let c = aim_here {ms = a.own} (scene_passes (path_nodes path) a.stage.runs.passes scene) a.aims in
           let Is : Location → World → Type 0 = λ l after. (after ≡ mid.world)
           × Found (a.own ++ os) mid.world (may_write limits path) c.position (steps_of aim) f l in
-          comes_then (find aim) (λ l. at_path path (carry (fetched l)) >>= rest) Is P NoExit mid
+          comes_then (find aim) (λ l. at_path path (carry (fetched l))) Is Q NoExit mid
           (comes_answered Is NoExit (find aim mid) (finds mid a.stage.runs.territory c.aims))
-          (λ l now p. comes_then (at_path path (carry (fetched l))) rest Q P NoExit now
-          (by (has_node path) l now (subst (λ w. Found (a.own ++ os) w (may_write limits path) c.position (steps_of aim) f l) (sym p.0) p.1)
-          (subst (λ w. Stage (at_nodes here.level (path_nodes path)) a.own os first places a.later b.territory.blocks s.world w) (sym p.0) a.stage)) rest_so)
+          (λ l now p. by (has_node path) l now (subst (λ w. Found (a.own ++ os) w (may_write limits path) c.position (steps_of aim) f l) (sym p.0) p.1)
+          (subst (λ w. Stage (at_nodes here.level (path_nodes path)) a.own os first places a.later b.territory.blocks s.world w) (sym p.0) a.stage))
         where
           got : (l : Location) (now : State) {n : ℕ} {may : Bool} → Found (a.own ++ os) now.world may n (steps_of aim) f l →
               Stage (at_nodes here.level (path_nodes path)) a.own os first places a.later b.territory.blocks s.world now.world →
@@ -314,10 +312,13 @@ module _ (here : Here) (scope : scopes.Here) (limits : Limits) (root : (global :
       comes_then (aimed path here >>= (λ aim. find aim >>= (λ l. at_path path (carry (fetched l)) >>= rest_of))) (λ v. handed_on here how node.number ty v)
       (Selected ty ns nodes ws b.territory.blocks s.world)
       (HasValue here first places os (Choose node ty (ByLabels labels) (ByPath path rest)) how nodes b.territory.blocks s.world) NoExit (worked 1 s)
-      (path_selector path rest_of (Selected ty ns nodes ws b.territory.blocks s.world) all.0 nodes (worked 1 s)
-      (begins_part ns one part (λ n m. in_first n one (operand_nodes rest) m)) scene
+      (comes_turned (aimed path here) find (λ l. at_path path (carry (fetched l))) rest_of (Selected ty ns nodes ws b.territory.blocks s.world) NoExit
+      (worked 1 s)
+      (comes_then (aimed path here >>= (λ aim. find aim >>= (λ l. at_path path (carry (fetched l))))) rest_of
+      (Selector (type_at path) one nodes ws b.territory.blocks s.world) (Selected ty ns nodes ws b.territory.blocks s.world) NoExit (worked 1 s)
+      (path_selector path all.0 nodes (worked 1 s) (begins_part ns one part (λ n m. in_first n one (operand_nodes rest) m)) scene)
       (λ x mid h. picked_behind node labels ty (is_covered (type_at path)) rest (type_at path) one ws simple (are_enough k ty labels)
       (and_parts (is_selected k && are_labels k labels) (values_fit here.facts ty (are_enough k ty labels) labels (types_in rest)) typed).1 placed d.1 all.1
-      (λ n m. path_in here.facts here.modes path n m) nodes s.world part scene x mid h))
+      (λ n m. path_in here.facts here.modes path n m) nodes s.world part scene x mid h)))
       (λ v now h. handed_so node ty (ByLabels labels) (ByPath path rest) how d nodes s.world b
       (λ n m. first_in here.facts here.modes (ByPath path rest) n m) v now h)

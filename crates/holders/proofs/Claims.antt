@@ -11,7 +11,7 @@ use Rattle.nim_program.specs.Program.{ByConditions, ByLabels, Expr, Apply, Read,
 use Rattle.nim_program.specs.Program.{Args, type_of, type_at, node_of, node_at}
 use Rattle.nim_program.specs.Uses.{use_of}
 use Rattle.nim_program.specs.Scopes as scopes
-use Rattle.nim_meaning.specs.Values.{Value, Made, at_base}
+use Rattle.nim_meaning.specs.Values.{Value}
 use Rattle.nim_meaning.specs.Marks.{Member, Distinct}
 use Rattle.nim_meaning.specs.State.{World}
 use Rattle.nim_meaning.specs.Here.{Here, level_of, gives_hooked, form_for}
@@ -20,13 +20,13 @@ use Rattle.nim_meaning.specs.Waiting.{Wait, nodes_of, wait_if, waiting, reads_ke
 use Rattle.nim_meaning.specs.Aims.{Aim, Waits_at}
 use Rattle.holders.specs.Owned.{Constant}
 use Rattle.holders.specs.Territory.{Owner}
-use Rattle.holders.specs.Finding.{PlaceOf, own_place, a_name_of, of_constant, AimsAt, at_root, at_constant, at_value, at_waiting, at_field, at_element}
+use Rattle.holders.specs.Finding.{PlaceOf, AimsAt, at_root, at_constant, at_value, at_waiting, at_field, at_element}
 use Rattle.holders.specs.Running.{Passes}
 use Rattle.holders.specs.Staging.{Stage}
 use Rattle.holders.specs.Groups.{without_node, waiting_cell}
-use Rattle.holders.proofs.Owning.{has_stays, from_full, plain_anywhere}
+use Rattle.holders.proofs.Owning.{from_full, plain_anywhere}
 use Rattle.holders.proofs.Working.{among_first, number_first}
-use Rattle.holders.proofs.Scenes.{place_first}
+use Rattle.holders.proofs.Scenes.{place_first, place_kept}
 use Rattle.holders.specs.Asked.{Limits, IfSimple, Asked, AskedAt}
 use Rattle.holders.specs.Evaluating.{value_nodes, path_nodes, operand_nodes, at_nodes, waits_inside, waits_itself, Scene, Leaves, is_bare, is_seen, is_held}
 use Rattle.holders.specs.Evaluating.{is_waiting, Bare}
@@ -36,7 +36,7 @@ use Rattle.holders.specs.Claimed.{HasValue}
 
 -- ---- the places in scope stand for the same afterwards
 
-not_above : (global : Bool) (here : Here) → (level_of global here < here.level) ⊎ (level_of global here ≡ here.level)
+pub not_above : (global : Bool) (here : Here) → (level_of global here < here.level) ⊎ (level_of global here ≡ here.level)
 not_above false here = inr refl
 not_above true here = by here.level
   where
@@ -49,6 +49,7 @@ pub scene_passes : {here : Here} {scope : scopes.Here} {limits : Limits} {root :
     Scene here scope limits root os now
 scene_passes {here} {os = os} ns {start = start} {now = now} p scene = record {
   place = λ global n ty named e. stays global n (scene.place global n ty named e);
+  two = scene.two;
 }
   where
     there : (global : Bool) → (level_of global here < here.level) ⊎ ((level_of global here ≡ here.level) × (false ≡ true → ⊥))
@@ -61,11 +62,7 @@ scene_passes {here} {os = os} ns {start = start} {now = now} p scene = record {
 
     stays : (global : Bool) (n : ℕ) {f : Form} {b : Bool} {m : ℕ} → PlaceOf os start (level_of global here) n f b m →
         PlaceOf os now (level_of global here) n f b m
-    stays global n (own_place i) = own_place i
-    stays global n (a_name_of {l = l} name i) = a_name_of (p.names (level_of global here) n l name (there global)) i
-    stays global n (of_constant {v = v} name h) =
-        of_constant (p.names (level_of global here) n (at_base (Made v)) name (there global))
-        (has_stays start now (λ k x m is. elim m [ ]) h)
+    stays global n place = place_kept (λ l name. p.names (level_of global here) n l name (there global)) place
 
 -- ---- among more cells
 

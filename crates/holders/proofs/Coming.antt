@@ -7,6 +7,7 @@ use Rattle.nim_meaning.specs.Acts.{with_trail, turn_of, loop, next, again, costs
 use Rattle.nim_meaning.specs.ActTree as points
 use Rattle.nim_meaning.specs.Deeds.{Deed, carry}
 use Rattle.holders.specs.Sure.{Sure, Answered, Comes}
+use Rattle.holders.specs.Called.{NotRaised, LeftBy}
 use Rattle.holders.proofs.SureRuns.{sure_runs}
 
 module _ {A : Type 0} (P : A → World → Type 0) (X : Exit → World → Type 0) where
@@ -39,6 +40,26 @@ comes_then {A} {B} act rest P Q X s h g = by (act s) h
     by (Over status live now) h = tt
     by (Going now) h = tt
     by (Wrong now) h = elim h [ ]
+
+-- in another order of the same things
+pub comes_turned : {A B C D : Type 0} (act : Does A) (f : A → Does B) (h : B → Does C) (g : C → Does D) (P : D → World → Type 0) (X : Exit → World → Type 0)
+    (s : State) → Comes P X (((act >>= (λ a. f a >>= h)) >>= g) s) → Comes P X ((act >>= (λ a. f a >>= (λ b. h b >>= g))) s)
+comes_turned {A} {B} act f h g P X s e = by (act s) e
+  where
+    inner : (r : Res State (Outcome B)) → Comes P X (then_do (then_do r (onward h)) (onward g)) → Comes P X (then_do r (onward (λ b. h b >>= g)))
+    inner (Got (On b) now) e = e
+    inner (Got (Out way) now) e = e
+    inner (Over status live now) e = e
+    inner (Going now) e = e
+    inner (Wrong now) e = e
+
+    by : (r : Res State (Outcome A)) → Comes P X (then_do (then_do r (onward (λ a. f a >>= h))) (onward g)) →
+        Comes P X (then_do r (onward (λ a. f a >>= (λ b. h b >>= g))))
+    by (Got (On a) now) e = inner (f a now) e
+    by (Got (Out way) now) e = e
+    by (Over status live now) e = e
+    by (Going now) e = e
+    by (Wrong now) e = e
 
 -- what looks at an exit
 pub comes_at_exit : {A B : Type 0} (act : Does A) (rest : Outcome A → Does B) (P : A → World → Type 0) (X : Exit → World → Type 0) (Q : B → World → Type 0)
@@ -107,15 +128,15 @@ comes_loop {Y} {Z} turn I P X y s each i = by (suc s.meter.units) y s i
 
 -- a body was gone through, by whichever way
 pub comes_again : {Y : Type 0} (body : Does (Unit {0})) (y : Y) (J : World → Type 0) (I : Y → World → Type 0) (s : State) →
-    ((now : State) → now.world ≡ s.world → Comes (λ u. J) (λ way. J) (body now)) → ((now : World) → J now → I y now) →
-    Comes (Turned I (λ (u : Unit {0}). J)) (λ way. J) (again body y s)
+    ((now : State) → now.world ≡ s.world → Comes (λ u. J) (LeftBy J) (body now)) → ((now : World) → J now → I y now) →
+    Comes (Turned I (λ (u : Unit {0}). J)) (LeftBy J) (again body y s)
 comes_again {Y} body y J I s h next_so =
-    comes_spending (costs 1 (at_exit body (next y))) (Turned I (λ (u : Unit {0}). J)) (λ way. J) s
-    (λ now e. comes_at_exit body (next y) (λ u. J) (λ way. J) (Turned I (λ (u : Unit {0}). J)) (λ way. J) _ (h _ e)
-    (λ u last j. next_so last.world j) (λ way last j. by way last j))
+    comes_spending (costs 1 (at_exit body (next y))) (Turned I (λ (u : Unit {0}). J)) (LeftBy J) s
+    (λ now e. comes_at_exit body (next y) (λ u. J) (LeftBy J) (Turned I (λ (u : Unit {0}). J)) (LeftBy J) _ (h _ e)
+    (λ u last j. next_so last.world j) (λ way last j. by way last j.0 j.1))
   where
-    by : (way : Exit) (last : State) → J last.world → Comes (Turned I (λ (u : Unit {0}). J)) (λ way. J) (next y (Out way) last)
-    by (Broke at) last j = j
-    by (Continued at) last j = next_so last.world j
-    by (Returned at) last j = j
-    by (Raised exception at) last j = j
+    by : (way : Exit) (last : State) → NotRaised way → J last.world → Comes (Turned I (λ (u : Unit {0}). J)) (LeftBy J) (next y (Out way) last)
+    by (Broke at) last ok j = j
+    by (Continued at) last ok j = next_so last.world j
+    by (Returned at) last ok j = (tt, j)
+    by (Raised exception at) last ok j = elim ok [ ]

@@ -27,7 +27,7 @@ use Rattle.holders.specs.Working.{number, Works}
 use Rattle.holders.specs.Ways.{Step, to_field, to_element, copies, Opens, an_object, an_array, a_block, Way, arrived, a_step, Chain, Goes}
 use Rattle.holders.specs.Ways.{goes_nowhere, goes_field, goes_element}
 use Rattle.holders.proofs.Owning.{same_or_later, first_empty, second_empty}
-use Rattle.holders.proofs.Guards.{sure_reads, read_at}
+use Rattle.holders.proofs.Guards.{sure_reads, read_at, IsWhole as HasNoGaps}
 use Rattle.holders.proofs.Ending.{part_is}
 use Rattle.holders.proofs.Copying.{reaches_deeper}
 use Rattle.holders.proofs.SureRuns.{sure_runs, answered_then}
@@ -35,6 +35,9 @@ use Rattle.holders.proofs.PathLemmas.{part_deeper}
 use Rattle.holders.proofs.Moving.{owns}
 use Rattle.holders.proofs.Separating.{separated}
 use Rattle.holders.proofs.Bases.{loaded}
+use Rattle.holders.specs.Finding.{AtCell, IsWhole}
+use Rattle.nim_meaning.specs.Acts.{Outcome, On, Out}
+use Rattle.arc_base.specs.BigStep.{Res, Got, Over, Going, Errs as Wrong}
 
 -- ---- numbers
 
@@ -233,6 +236,44 @@ module _ {os : List Owner} {world : World} where
       sure_reads (λ world v. branch (inside z (length_of v)) (deeds.give (item_of v m (unsigned_abs z))) (stop IndexOutOfBounds))
       (λ l after. (after ≡ world) × Found os world false root (steps ++ to_element ∷ []) g l) from tt h (item_inside m z v (items_read m item made from h refl))
 
+-- ---- all elements of what was found
+
+pub record ItemsThere (os : List Owner) (world : World) (may : Bool) (root : ℕ) (steps : List Step) (f g : Form) (l : Location) : Type 0 where
+  pub stands_in : Value
+  pub value : Value
+  pub extent : Extent
+  pub blocks : List ℕ
+  pub whole : HasNoGaps extent
+  pub from : From world l stands_in value
+  pub has : Has world extent f value blocks
+  pub items : (i : ℕ) → i < length_of value → Found os world may root (steps ++ to_element ∷ []) g (item_of value l i)
+
+pub items_there : {os : List Owner} {world : World} {may : Bool} {root : ℕ} {steps : List Step} {f g : Form} {l : Location} → Territory os world →
+    ItemForm f g → Found os world may root steps f l → ItemsThere os world may root steps f g l
+items_there {l = l} t item (in_cell c goes) =
+    let own = chain_owns t c in
+    record {
+      stands_in = own.stands_in;
+      value = own.value;
+      extent = Full;
+      blocks = own.mine;
+      whole = tt;
+      from = read_at own.cell.at own.cell.is;
+      has = own.cell.has;
+      items = λ i less. items_of t l item c goes i less;
+    }
+items_there t item (a_character j c e le) = elim item [ ]
+items_there {l = l} t item (to_be_read {u = u} {v = v} made from h) = record {
+  stands_in = u;
+  value = v;
+  extent = Constant;
+  blocks = [];
+  whole = tt;
+  from = from;
+  has = h;
+  items = λ i less. items_read l item made from h refl i less;
+}
+
 -- ---- roots
 
 itself : {os : List Owner} {may : Bool} {world : World} {o : Owner} (i : Among os o) → Found os world may (number i) [] o.form o.at
@@ -252,8 +293,8 @@ root_found {os} {may} {world} {f = f} t (own_place i) =
     subst (λ l. Found os world may (number i) [] f l) (sym (own_root (owns t i).cell.at.base)) (itself i)
 root_found {os} {may} {world} {f = f} t (a_name_of name i) =
     subst (λ l. Found os world may (number i) [] f l) (sym (name_root world name)) (itself i)
-root_found {os} {world = world} {f = f} {root = root} t (of_constant name h) =
-    subst (λ l. Found os world false root [] f l) (sym (name_root world name)) (to_be_read refl (record { base = in_program; there = here; is = refl }) h)
+root_found {os} {world = world} {f = f} {root = root} t (of_constant name made from h) =
+    subst (λ l. Found os world false root [] f l) (sym (name_root world name)) (to_be_read made from h)
 
 -- ---- paths
 
@@ -280,3 +321,99 @@ finds {os} s t (at_element {b = may} {root = root} {aim = aim} {z = z} {f = g} {
     (λ m now h. sure_runs (to_item m z) (λ m after. (after ≡ s.world) × Found os s.world may root (steps_of aim ++ to_element ∷ []) f m) now
     (subst (λ w. Sure (to_item m z) (λ m after. (after ≡ s.world) × Found os s.world may root (steps_of aim ++ to_element ∷ []) f m) w) (sym h.0)
     (item_found t m z item h.1)))
+
+-- ---- what is found is all of a cell
+
+cell_itself : {os : List Owner} {world : World} {o : Owner} (i : Among os o) → AtCell os world (number i) [] o.form o.at
+cell_itself {o = o} i = record { chain = record { from = o; at = i; path = []; way = arrived }; goes = goes_nowhere; is = refl }
+
+root_cell : {os : List Owner} {may : Bool} {world : World} {level n : ℕ} {f : Form} {root : ℕ} → Territory os world → PlaceOf os world level n f may root →
+    may ≡ true → AtCell os world root [] f (root_of (Standing level n) world)
+root_cell {os} {world = world} {f = f} t (own_place i) e =
+    subst (λ l. AtCell os world (number i) [] f l) (sym (own_root (owns t i).cell.at.base)) (cell_itself i)
+root_cell {os} {world = world} {f = f} t (a_name_of name i) e =
+    subst (λ l. AtCell os world (number i) [] f l) (sym (name_root world name)) (cell_itself i)
+root_cell t (of_constant name made from h) e = absurd (false≢true e)
+
+module _ {os : List Owner} {world : World} where
+  field_cell : {may : Bool} {root : ℕ} {steps : List Step} {fs : Forms} {f : Form} {i : ℕ} (m : Location) → PartForm fs i f →
+      Found os world may root steps (parts fs) m → may ≡ true → AtCell os world root (steps ++ to_field i ∷ []) f (deeper m i)
+  field_cell {i = i} m p (in_cell c g) e = record {
+    chain = record { from = c.from; at = c.at; path = c.path ++ i ∷ []; way = way_further c.way an_object p };
+    goes = goes_to_field i g;
+    is = refl;
+  }
+  field_cell m p (to_be_read made from h) e = absurd (false≢true e)
+
+  items_cell : {steps : List Step} {f g : Form} (t : Territory os world) (m : Location) → ItemForm f g → (f ≡ block → ⊥) →
+      (c : Chain os world (record { form = f; at = m })) → Goes steps c.path → (i : ℕ) → i < length_of (chain_owns t c).value →
+      AtCell os world (number c.at) (steps ++ to_element ∷ []) g (item_of (chain_owns t c).value m i)
+  items_cell {steps} {f} {g} t m item whole c goes i le =
+      by own.value item whole c goes own.cell.has (loaded world m own.stands_in own.cell.at.base ∙ own.cell.is) le
+    where
+      own : Owns os t.blocks (record { form = f; at = m }) world
+      own = chain_owns t c
+
+      by : {f g : Form} (v : Value) {bs : List ℕ} → ItemForm f g → (f ≡ block → ⊥) → (c : Chain os world (record { form = f; at = m })) → Goes steps c.path →
+          Has world Full f v bs → load world m ≡ v → i < length_of v → AtCell os world (number c.at) (steps ++ to_element ∷ []) g (item_of v m i)
+      by _ of_sequence whole c goes no_sequence e le = absurd (omega (arith, le))
+      by _ (of_sequence {f = f}) whole c goes (a_sequence {k = k} {all = all} there each) e le = record {
+        chain = record { from = c.from; at = c.at; path = c.path ++ i ∷ []; way = way_further c.way (a_block e) (copies_part (count all) i f le) };
+        goes = goes_to_element i goes;
+        is = refl;
+      }
+      by _ (of_array {n = n} {f = f}) whole c goes (a_row same each) e le = record {
+        chain = record { from = c.from; at = c.at; path = c.path ++ i ∷ []; way = way_further c.way an_array (copies_part n i f (omega (arith, same, le))) };
+        goes = goes_to_element i goes;
+        is = refl;
+      }
+      by v of_text whole c goes h e le = absurd (whole refl)
+
+  cell_inside : {root : ℕ} {steps : List Step} {g : Form} (m : Location) (z : ℤ) (v : Value) →
+      ((i : ℕ) → i < length_of v → AtCell os world root steps g (item_of v m i)) →
+      Sure (branch (inside z (length_of v)) (deeds.give (item_of v m (unsigned_abs z))) (stop IndexOutOfBounds))
+      (λ l after. AtCell os world root steps g l) world
+  cell_inside {root} {steps} {g} m z v cells = by (inside z (length_of v)) refl
+    where
+      by : (b : Bool) → inside z (length_of v) ≡ b → Sure (branch b (deeds.give (item_of v m (unsigned_abs z))) (stop IndexOutOfBounds))
+          (λ l after. AtCell os world root steps g l) world
+      by true e = cells (unsigned_abs z) (inside_less z (length_of v) e)
+      by false e = tt
+
+  item_cell : {may : Bool} {root : ℕ} {steps : List Step} {f g : Form} (t : Territory os world) (m : Location) (z : ℤ) → ItemForm f g → (f ≡ block → ⊥) →
+      Found os world may root steps f m → may ≡ true → Sure (to_item m z) (λ l after. AtCell os world root (steps ++ to_element ∷ []) g l) world
+  item_cell {steps = steps} {g = g} t m z item whole (in_cell c goes) e =
+      let own = chain_owns t c in
+      sure_reads (λ world v. branch (inside z (length_of v)) (deeds.give (item_of v m (unsigned_abs z))) (stop IndexOutOfBounds))
+      (λ l after. AtCell os world (number c.at) (steps ++ to_element ∷ []) g l) (read_at own.cell.at own.cell.is) tt own.cell.has
+      (cell_inside m z own.value (items_cell t m item whole c goes))
+  item_cell t m z item whole (a_character j c e le) q = elim item [ ]
+  item_cell t m z item whole (to_be_read made from h) e = absurd (false≢true e)
+
+pub finds_cell : {os : List Owner} (s : State) (t : Territory os s.world) {may : Bool} {aim : Aim} {f : Form} {root : ℕ}
+    (a : AimsAt os s.world may root aim f) →
+    may ≡ true → IsWhole aim a → Answered (λ m after. AtCell os s.world root (steps_of aim) f m) (find aim s)
+finds_cell {os} s t (at_root {root = root} {level = level} {n = n} {f = f} place) e whole =
+    sure_runs (rooted (Standing level n)) (λ m after. AtCell os s.world root [] f m) s (root_cell t place e)
+finds_cell s t (at_constant h) e whole = absurd (false≢true e)
+finds_cell s t (at_value h) e whole = absurd (false≢true e)
+finds_cell s t (at_waiting i) e whole = cell_itself i
+finds_cell {os} s t (at_field {b = may} {root = root} {aim = aim} {i = i} {fs = fs} {f = f} from p) e whole =
+    answered_then (find aim) (λ m. carry (to_part m i)) (λ m after. (after ≡ s.world) × Found os s.world may root (steps_of aim) (parts fs) m)
+    (λ m after. AtCell os s.world root (steps_of aim ++ to_field i ∷ []) f m) s (finds s t from)
+    (λ m now h. sure_runs (to_part m i) (λ m after. AtCell os s.world root (steps_of aim ++ to_field i ∷ []) f m) now (field_cell m p h.1 e))
+finds_cell {os} s t (at_element {b = may} {root = root} {aim = aim} {z = z} {f = g} {g = f} from item) e whole =
+    answered_then (find aim) (λ m. carry (to_item m z)) (λ m after. (after ≡ s.world) × Found os s.world may root (steps_of aim) g m)
+    (λ m after. AtCell os s.world root (steps_of aim ++ to_element ∷ []) f m) s (finds s t from)
+    (λ m now h. sure_runs (to_item m z) (λ m after. AtCell os s.world root (steps_of aim ++ to_element ∷ []) f m) now
+    (subst (λ w. Sure (to_item m z) (λ m after. AtCell os s.world root (steps_of aim ++ to_element ∷ []) f m) w) (sym h.0)
+    (item_cell t m z item whole h.1 e)))
+
+-- two things of one answer, the second where something holds
+pub answered_with : {A E : Type 0} (P Q : A → World → Type 0) (r : Res State (Outcome A)) → Answered P r → (E → Answered Q r) →
+    Answered (λ x after. P x after × (E → Q x after)) r
+answered_with P Q (Got (On x) s) h g = (h, g)
+answered_with P Q (Got (Out way) s) h g = elim h [ ]
+answered_with P Q (Over status live s) h g = tt
+answered_with P Q (Going s) h g = tt
+answered_with P Q (Wrong s) h g = elim h [ ]

@@ -16,6 +16,7 @@ use Rattle.nim_meaning.specs.State.{World}
 use Rattle.nim_meaning.specs.Aims.{Aim, PartOf, ItemOf}
 use Rattle.holders.specs.Territory.{Owner}
 use Rattle.holders.specs.Finding.{ItemForm, of_sequence as of_elements, of_array as of_row, of_text as of_characters, AimsAt, at_field, at_element}
+use Rattle.nim_program.specs.Kinds.{is_text}
 
 -- ---- what a type is
 
@@ -124,15 +125,41 @@ element_form {facts} (of_distinct {key = key} q h) e = no_elements (fact_of fact
 element_form of_ref e = not_message e
 element_form {facts} (of_exception {key = key}) e = no_elements (fact_of facts (exception key)) e
 
+-- what has elements and is no text
+abbrev is_block : Form → Bool
+is_block block = true
+is_block f = false
+
+no_block : {f : Form} → is_block f ≡ false → f ≡ block → ⊥
+no_block e q = false≢true (sym e ∙ ap is_block q)
+
+pub no_text_form : {facts : Facts} {ty t : Ty} {f : Form} → HasForm facts ty f → element_of (kind_of facts ty) ≡ Some t →
+    is_text (kind_of facts ty) ≡ false → f ≡ block → ⊥
+no_text_form of_int e n = not_message e
+no_text_form of_bool e n = not_message e
+no_text_form of_char e n = not_message e
+no_text_form of_text e n = absurd (false≢true (sym n))
+no_text_form (of_sequence q h) e n = no_block refl
+no_text_form (of_any_sequence q) e n = absurd (false≢true (sym q))
+no_text_form (of_array h) e n = no_block refl
+no_text_form (of_tuple h) e n = not_message e
+no_text_form of_parameter e n = not_message e
+no_text_form {facts} (of_enum {key = key}) e n = no_elements (fact_of facts (enum key)) e
+no_text_form {facts} (of_object {key = key} {arguments = arguments} q h) e n = no_elements (fact_of facts (object key arguments)) e
+no_text_form {facts} (of_distinct {key = key} q h) e n = no_elements (fact_of facts (distinct key)) e
+no_text_form of_ref e n = not_message e
+no_text_form {facts} (of_exception {key = key}) e n = no_elements (fact_of facts (exception key)) e
+
 -- ---- paths
 
-pub aim_field : {os : List Owner} {world : World} {b : Bool} {root : ℕ} {facts : Facts} {ty t : Ty} {f : Form} {aim : Aim} (i : ℕ) → HasForm facts ty f →
+abbrev pub aim_field : {os : List Owner} {world : World} {b : Bool} {root : ℕ} {facts : Facts} {ty t : Ty} {f : Form} {aim : Aim} (i : ℕ) → HasForm facts ty f →
     HasBlocksAlone f → is_declared_as ty (kind_of facts ty) ≡ true → is_held (kind_of facts ty) ≡ true → field_at (kind_of facts ty) i ≡ Some t →
     AimsAt os world b root aim f → AimsAt os world b root (PartOf aim i) (form_of facts t)
 aim_field {os} {world} {b} {root} {aim = aim} i h simple declared held e from =
     let field = field_form i h simple declared held e in
     at_field (subst (λ g. AimsAt os world b root aim g) field.is from) field.part
 
-pub aim_element : {os : List Owner} {world : World} {b : Bool} {root : ℕ} {facts : Facts} {ty t : Ty} {f : Form} {aim : Aim} {z : ℤ} → HasForm facts ty f →
+abbrev pub aim_element : {os : List Owner} {world : World} {b : Bool} {root : ℕ} {facts : Facts} {ty t : Ty} {f : Form} {aim : Aim} {z : ℤ} →
+    HasForm facts ty f →
     element_of (kind_of facts ty) ≡ Some t → AimsAt os world b root aim f → AimsAt os world b root (ItemOf aim z) (form_of facts t)
 aim_element h e from = at_element from (element_form h e)

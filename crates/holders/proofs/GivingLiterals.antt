@@ -34,7 +34,7 @@ use Rattle.holders.proofs.Sure.{sure_then, sure_weaker}
 use Rattle.holders.proofs.Framing.{stage_begins}
 use Rattle.holders.proofs.Rows.{copies_out, text_comes}
 use Rattle.holders.proofs.Reading.{waits_there}
-use Rattle.holders.proofs.Making.{row_so as made_row}
+use Rattle.holders.proofs.Making.{copy_so as made_row}
 use Rattle.holders.proofs.Staging.{stage_hands, no_given}
 use Rattle.holders.proofs.Coming.{comes_carried}
 use Rattle.holders.specs.Asked.{Limits}

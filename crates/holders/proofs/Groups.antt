@@ -5,7 +5,7 @@ use Rattle.std.proofs.lemmas.Option.{none-some}
 use Rattle.std.specs.Prelude.{nat_eq, if◌then◌else◌}
 use Rattle.nim_types.specs.Forms.{Form, form_of}
 use Rattle.nim_program.specs.Program.{Declared}
-use Rattle.nim_meaning.specs.Values.{Value, Holds, Base, Standing, Waiting, InBlock, at_base}
+use Rattle.nim_meaning.specs.Values.{Value, Holds, Base, Waiting, InBlock, at_base}
 use Rattle.nim_meaning.specs.Marks.{Member}
 use Rattle.nim_meaning.specs.State.{Frame, World, State, frame_in, temporary_in, temporary_at}
 use Rattle.nim_meaning.specs.ActTree as points
@@ -23,6 +23,7 @@ use Rattle.holders.specs.Becoming.{taken_in}
 use Rattle.holders.specs.Territory.{Owner, Cells, no_cells, a_cell, Territory, Among, first_owner, later_owner, NoBaseOf}
 use Rattle.holders.specs.Working.{without}
 use Rattle.holders.specs.Running.{Region, IsOutside}
+use Rattle.holders.specs.Called.{NotRaised, LeftBy}
 use Rattle.holders.specs.Staging.{Stage}
 use Rattle.holders.specs.Groups.{without_node, without_waits, Ends, no_waits, one_waits, none_waits, AllMine}
 use Rattle.holders.proofs.Sure.{sure_then}
@@ -31,10 +32,9 @@ use Rattle.holders.proofs.FrameChanges.{value_leaves}
 use Rattle.holders.proofs.Running.{no_less, passes_then, passes_apace, Apace, territory_apace}
 use Rattle.holders.proofs.Working.{works_front, among_first, all_at, all_without}
 use Rattle.holders.proofs.Calling.{first_apart, ends_alone, EndsAlone, ended_passes}
-use Rattle.holders.proofs.Staging.{stage_over, stage_lets_go}
 use Rattle.holders.proofs.Coming.{comes_carried, comes_then, comes_at_exit, comes_scope, comes_weaker}
 
-without_first : (gs : List Owner) {os : List Owner} {o : Owner} (i : Among os o) → without (among_first gs i) ≡ without i ++ gs
+pub without_first : (gs : List Owner) {os : List Owner} {o : Owner} (i : Among os o) → without (among_first gs i) ≡ without i ++ gs
 without_first gs first_owner = refl
 without_first gs (later_owner {p = p} i) = ap (λ (ps : List Owner). p ∷ ps) (without_first gs i)
 
@@ -197,53 +197,45 @@ module _ (r : Region) (gs : List Owner) (first places : ℕ) (old : List ℕ) (s
       (λ u now g. comes_carried (λ u after. Stage r ns gs first places (without_waits nodes (w ∷ ws)) old start after) X
       (temporary_ends w.form r.level w.node) _ (none_ends w.form w.node mine.0 (λ n m q. none n (without_waits_in nodes ws n m) q) g))
 
-  -- ---- the scope of a place
+-- ---- the scope of a place
 
-  -- what follows in its block, by whichever way it is left, and then the place is over
-  pub scope_left : (ms : List Owner) (nodes : List ℕ) (here : Here) (place : Declared) (last : ℕ) (rest : Does (Unit {0})) → here.level ≡ r.level →
-      r.places place.number ≡ true → (s : State) →
-      let own : Owner = record { form = form_of here.facts place.of; at = at_base (Standing r.level place.number) } in
-      Comes (λ u after. Stage r (own ∷ ms) gs first places nodes old start after) (λ way after. Stage r (own ∷ ms) gs first places nodes old start after)
-      (rest s) → Comes (λ u after. Stage r ms gs first places nodes old start after) (λ way after. Stage r ms gs first places nodes old start after)
-      (scoped here place last rest s)
-  scope_left ms nodes here place last rest level_is mine s h =
-      comes_at_exit rest after_all S (λ way. S tt) T (λ way. T tt) s h
-      (λ u now g. left (On u) now g) (λ way now g. left (Out way) now g)
-    where
-      own : Owner
-      own = record { form = form_of here.facts place.of; at = at_base (Standing r.level place.number) }
+-- What follows in its block, by whichever way it is left, and then the place is over: where it has hooks its value ends, else nobody looks at it.
+pub scope_left : (here : Here) (place : Declared) (last : ℕ) (rest : Does (Unit {0})) (S T : World → Type 0) →
+    ((now : World) → S now → Sure (place_ends (form_of here.facts place.of) here.level place.number) (λ u after. T after) now) →
+    ((now : World) → S now → T now) → (s : State) → Comes (λ u after. S after) (LeftBy S) (rest s) →
+    Comes (λ u after. T after) (LeftBy T) (scoped here place last rest s)
+scope_left here place last rest S T over lets_go s h =
+    comes_at_exit rest after_all (λ u after. S after) (LeftBy S) (λ u after. T after) (LeftBy T) s h
+    (λ u now g. left (On u) tt now g) (λ way now g. left (Out way) g.0 now g.1)
+  where
+    -- by no exception
+    Left : Outcome (Unit {0}) → Type 0
+    Left (On u) = Unit {0}
+    Left (Out way) = NotRaised way
 
-      S : Unit {0} → World → Type 0
-      S u after = Stage r (own ∷ ms) gs first places nodes old start after
+    after_all : Outcome (Unit {0}) → Does (Unit {0})
+    after_all flow = leaving_scope (is_hooked here.facts place.of) (points.Named place.number) (left_as flow) (ends here place (exit_of last flow))
+        >> as_before flow
 
-      T : Unit {0} → World → Type 0
-      T u after = Stage r ms gs first places nodes old start after
+    place_ends_so : (exit : ℕ) (now : State) → S now.world → Comes (λ u after. T after) (LeftBy T) (ends here place exit now)
+    place_ends_so exit now g = by (is_hooked here.facts place.of)
+      where
+        by : (b : Bool) → Comes (λ u after. T after) (LeftBy T)
+            (costs 1 (branch b (carry (place_ends (form_of here.facts place.of) here.level place.number)) (give tt)) now)
+        by true = comes_carried (λ u after. T after) (LeftBy T) (place_ends (form_of here.facts place.of) here.level place.number) _ (over now.world g)
+        by false = lets_go now.world g
 
-      after_all : Outcome (Unit {0}) → Does (Unit {0})
-      after_all flow = leaving_scope (is_hooked here.facts place.of) (points.Named place.number) (left_as flow) (ends here place (exit_of last flow))
-          >> as_before flow
+    as_it_was : (flow : Outcome (Unit {0})) → Left flow → (now : State) → T now.world → Comes (λ u after. T after) (LeftBy T) (as_before flow now)
+    as_it_was (On u) ok now g = g
+    as_it_was (Out way) ok now g = (ok, g)
 
-      place_ends_so : (exit : ℕ) (now : State) → S tt now.world → Comes T (λ way. T tt) (ends here place exit now)
-      place_ends_so exit now g = by (is_hooked here.facts place.of)
-        where
-          by : (b : Bool) → Comes T (λ way. T tt)
-              (costs 1 (branch b (carry (place_ends (form_of here.facts place.of) here.level place.number)) (give tt)) now)
-          by true = comes_carried T (λ way. T tt) (place_ends (form_of here.facts place.of) here.level place.number) _
-              (subst (λ l. Sure (place_ends (form_of here.facts place.of) l place.number) T now.world) (sym level_is)
-              (stage_over r gs first places old start place.number mine g))
-          by false = stage_lets_go r gs first places old start g
-
-      as_it_was : (flow : Outcome (Unit {0})) (now : State) → T tt now.world → Comes T (λ way. T tt) (as_before flow now)
-      as_it_was (On u) now g = g
-      as_it_was (Out way) now g = g
-
-      left : (flow : Outcome (Unit {0})) (now : State) → S tt now.world → Comes T (λ way. T tt) (after_all flow now)
-      left flow now g =
-          comes_then (leaving_scope (is_hooked here.facts place.of) (points.Named place.number) (left_as flow) (ends here place (exit_of last flow)))
-          (λ u. as_before flow) T T (λ way. T tt) now
-          (comes_scope (is_hooked here.facts place.of) (points.Named place.number) (left_as flow) (ends here place (exit_of last flow)) T (λ way. T tt) now
-          (λ later e. place_ends_so (exit_of last flow) later (subst (λ w. S tt w) (sym e) g)))
-          (λ u later g. as_it_was flow later g)
+    left : (flow : Outcome (Unit {0})) → Left flow → (now : State) → S now.world → Comes (λ u after. T after) (LeftBy T) (after_all flow now)
+    left flow ok now g =
+        comes_then (leaving_scope (is_hooked here.facts place.of) (points.Named place.number) (left_as flow) (ends here place (exit_of last flow)))
+        (λ u. as_before flow) (λ u after. T after) (λ u after. T after) (LeftBy T) now
+        (comes_scope (is_hooked here.facts place.of) (points.Named place.number) (left_as flow) (ends here place (exit_of last flow)) (λ u after. T after)
+        (LeftBy T) now (λ later e. place_ends_so (exit_of last flow) later (subst (λ w. S w) (sym e) g)))
+        (λ u later g. as_it_was flow ok later g)
 
 -- a part with the temporaries that end with it, by whichever way it is left
 pub ended_comes : {A : Type 0} (here : Here) (ws : List Wait) (part : Does A) (P Q : A → World → Type 0) (X Y : Exit → World → Type 0) (s : State) →

@@ -8,10 +8,11 @@ use Rattle.nim_meaning.specs.Heap.{Contents, Block, block_at}
 use Rattle.nim_meaning.specs.Values.{Value, Values, Nil, More, Base, InBlock, Location, count, nth, part, is_full, all_full}
 use Rattle.nim_meaning.specs.State.{World, load, is_so_in, has_as_many, has_item, is_live, is_whole, leads_from, is_there, is_seen, is_full_at}
 use Rattle.nim_meaning.specs.Deeds.{Stores, Frees, Refills, Deed, changed, does, sees, takes, sets, frees, refills, unless_gone}
+use Rattle.nim_meaning.specs.Places.{may_change, changes}
 use Rattle.holders.specs.Owned.{IsBase, at_place, at_node, in_hand, in_row, in_text, in_program, HasPart, whole, row_part, Reaches, here, in_part, a_character}
 use Rattle.holders.specs.Owned.{At, From, Extent, Gaps, Has, HasEach, none_more, one_more, HasAll, no_parts, a_part}
 use Rattle.holders.specs.Owned.{a_number, no_number, no_text, a_text, gone_text, constant_text, no_sequence, a_sequence, gone_sequence, constant_sequence}
-use Rattle.holders.specs.Owned.{a_row, gone_row, some_parts, gone_parts, of_wrapped}
+use Rattle.holders.specs.Owned.{a_row, gone_row, some_parts, gone_parts, of_wrapped, MayStore, place_may, node_may, hand_may, block_may}
 use Rattle.holders.specs.Sure.{Sure}
 use Rattle.holders.proofs.Bases.{block_position, loaded, same_or_not}
 
@@ -151,6 +152,17 @@ sure_sees go P at e fine has h = sure_reads go P (read_at at e) fine has h
 pub sure_sets : {world : World} {l : Location} {w : Value} (v : Value) (P : Unit {0} → World → Type 0) → At world l w →
     P tt (changed (Stores l v) world) → Sure (sets l v) P world
 sure_sets {world} {l} v P at h = subst (λ b. Sure (unless_gone b (does (Stores l v))) P world) (sym (at_is_there at)) h
+
+-- what is no constant may be changed
+may_changed : {b : Base} {path : List ℕ} → MayStore b path → may_change b ≡ true
+may_changed place_may = refl
+may_changed node_may = refl
+may_changed hand_may = refl
+may_changed block_may = refl
+
+pub sure_changes : {world : World} {l : Location} {w : Value} (v : Value) (P : Unit {0} → World → Type 0) → At world l w →
+    P tt (changed (Stores l v) world) → Sure (changes l v) P world
+sure_changes {world} {l} v P at h = subst (λ b. Sure (unless_gone b (sets l v)) P world) (sym (may_changed at.may)) (sure_sets v P at h)
 
 pub sure_frees : {world : World} {k : ℕ} {x : Value} (P : Unit {0} → World → Type 0) → IsBase world (InBlock k) x → P tt (changed (Frees k) world) →
     Sure (frees (Some k)) P world

@@ -1,5 +1,5 @@
 -- A statement that is an expression, in a body: the expression may work on the body's own cells, and nothing of it is left.
-use Rattle.std.proofs.Common.{◌≡◌, refl, ℕ, inl, inr, ◌⊎◌, Bool, true, List, [], ◌∷◌, ◌++◌}
+use Rattle.std.proofs.Common.{◌≡◌, refl, ◌∙◌, ℕ, suc, inl, inr, ◌⊎◌, Bool, true, List, [], ◌∷◌, ◌++◌, length}
 use Rattle.std.proofs.lemmas.Bool.{false≢true}
 use Rattle.nim_program.specs.declared.operation.Use.TheVariants.{Owned}
 use Rattle.nim_program.specs.Program.{Expr, Do, node_of}
@@ -51,10 +51,11 @@ module _ (here : Here) (scope : scopes.Here) (limits : Limits) (root : (global :
 
   pub do_comes : (value : Expr) → ValueSo here scope limits root first places (ks ++ gs) value Owned → Distinct (value_nodes value) →
       ((n : ℕ) → Member n (value_nodes value) → own_nodes n ≡ true) → ((n : ℕ) → Member n nodes → Member n (value_nodes value) → ⊥) →
-      AllOwners (λ o. IsOutside (at_nodes here.level (value_nodes value)) o.at.base) (ks ++ gs) → AreOwn r ks → (s : State) →
+      AllOwners (λ o. IsOutside (at_nodes here.level (value_nodes value)) o.at.base) (ks ++ gs) → AreOwn r ks → length start.frames ≡ suc here.level →
+      (s : State) →
       InBody r ks gs first places nodes old start s.world → Scene here scope limits root (ks ++ gs) s.world →
       Comes (λ u after. InBody r ks gs first places nodes old start after) NoExit (exec (Do value) here s)
-  do_comes value so d mine free outside own s body scene =
+  do_comes value so d mine free outside own deepest s body scene =
       comes_then (grouped here (node_of value).number (waits_of here value Owned) (eval value Owned here)) (λ v. give tt)
       (λ v after. InBody r ks gs first places nodes old start after)
       (λ u after. InBody r ks gs first places nodes old start after) NoExit s
@@ -77,6 +78,7 @@ module _ (here : Here) (scope : scopes.Here) (limits : Limits) (root : (global :
         active = body.stage.active;
         distinct = body.distinct;
         free = λ n m q. free n (body.came n m) q;
+        deepest = body.stage.runs.passes.count ∙ deepest;
       }
 
       over : (v : Value) (flow : points.Flow) (now : State) →

@@ -60,6 +60,13 @@ module _ (r : Region) (ms gs : List Owner) (first places : ℕ) (nodes old : Lis
   pub row_so : (f : Form) (now : World) (how : Use) (node : ℕ) (deed : Deed Value) → r.nodes node ≡ true → NoBaseOf (Waiting r.level node) (ms ++ gs) →
       Sure deed (Holding_so f) now → Sure (used_as how r.level node deed) (Made_so how f node) now
   row_so f now how node deed mine off h =
+      sure_then deed (kept (record { how = how; level = r.level; node = node })) (Holding_so f) (Made_so how f node) now h
+      (λ v after g. kept_so how node mine off g)
+
+  -- a copy of a literal
+  pub copy_so : (f : Form) (now : World) (how : Use) (node : ℕ) (deed : Deed Value) → r.nodes node ≡ true → NoBaseOf (Waiting r.level node) (ms ++ gs) →
+      Sure deed (Holding_so f) now → Sure (deeds.◌>>=◌ deed (made_by true (record { how = how; level = r.level; node = node }))) (Made_so how f node) now
+  copy_so f now how node deed mine off h =
       sure_then deed (made_by true (record { how = how; level = r.level; node = node })) (Holding_so f) (Made_so how f node) now h
       (λ v after g. made_so how node mine off g)
 

@@ -1,5 +1,5 @@
 -- The nodes at which values of an expression may wait are nodes of its text, in its order: so no two are the same.
-use Rattle.std.proofs.Common.{◌≡◌, refl, sym, subst, arith, ℕ, suc, ◌≤◌, inl, inr, ◌⊎◌, Bool, true, false, List, [], ◌∷◌, ◌++◌, Option, Some, None}
+use Rattle.std.proofs.Common.{◌≡◌, refl, sym, subst, ◌∙◌, arith, ℕ, suc, ◌≤◌, inl, inr, ◌⊎◌, Bool, true, false, List, [], ◌∷◌, ◌++◌, Option, Some, None}
 use Rattle.std.specs.Prelude.{◌&&◌, nat_le}
 use Rattle.std.proofs.lemmas.Bool.{false≢true, and_parts, leb-true}
 use Rattle.nim_program.specs.Program.{Literal, Expr, Apply, Read, Early, Choose, Path, Variable, Fresh, Field, Element, Deref, Args, NoArg, ByValue, ByPath}
@@ -13,15 +13,23 @@ use Rattle.nim_program.specs.Typed.{is_typed, is_typed_path, are_typed, act_fits
 use Rattle.nim_program.specs.Program.{types_in}
 use Rattle.nim_meaning.specs.Marks.{Member, Distinct}
 use Rattle.holders.specs.Evaluating.{value_nodes, path_nodes, operand_nodes}
+use Rattle.holders.specs.Numbered.{Rise}
 
 -- ---- numbers that stand in a list in the order of another one
 
-abbrev AreAmong : List ℕ → List ℕ → Type 0
+abbrev pub AreAmong : List ℕ → List ℕ → Type 0
 AreAmong [] ns = Unit {0}
 AreAmong (m ∷ ms) [] = ⊥
 AreAmong (m ∷ ms) (n ∷ ns) = ((m ≡ n) × AreAmong ms ns) ⊎ AreAmong (m ∷ ms) ns
 
-among_later : (ms xs ns : List ℕ) → AreAmong ms ns → AreAmong ms (xs ++ ns)
+among_in : (ms ns : List ℕ) → AreAmong ms ns → (n : ℕ) → Member n ms → Member n ns
+among_in [] ns h n m = elim m [ ]
+among_in (k ∷ ms) [] h n m = absurd h
+among_in (k ∷ ms) (l ∷ ns) (inl q) n (inl e) = inl (e ∙ q.0)
+among_in (k ∷ ms) (l ∷ ns) (inl q) n (inr m) = inr (among_in ms ns q.1 n m)
+among_in (k ∷ ms) (l ∷ ns) (inr q) n m = inr (among_in (k ∷ ms) ns q n m)
+
+pub among_later : (ms xs ns : List ℕ) → AreAmong ms ns → AreAmong ms (xs ++ ns)
 among_later [] xs ns h = tt
 among_later (m ∷ ms) [] ns h = h
 among_later (m ∷ ms) (x ∷ xs) ns h = inr (among_later (m ∷ ms) xs ns h)
@@ -32,16 +40,11 @@ among_both (m ∷ ms) [] ks ls h k = absurd h
 among_both (m ∷ ms) (n ∷ ns) ks ls (inl q) k = inl (q.0, among_both ms ns ks ls q.1 k)
 among_both (m ∷ ms) (n ∷ ns) ks ls (inr q) k = inr (among_both (m ∷ ms) ns ks ls q k)
 
--- each is greater than the one before
-abbrev pub Rise : ℕ → List ℕ → Type 0
-Rise from [] = Unit {0}
-Rise from (n ∷ ns) = (from ≤ n) × Rise (suc n) ns
-
 rise_less : (from less : ℕ) (ns : List ℕ) → less ≤ from → Rise from ns → Rise less ns
 rise_less from less [] le r = tt
 rise_less from less (n ∷ ns) le r = let h = r.0 in (omega (arith, h, le), r.1)
 
-rise_among : (from : ℕ) (ms ns : List ℕ) → Rise from ns → AreAmong ms ns → Rise from ms
+pub rise_among : (from : ℕ) (ms ns : List ℕ) → Rise from ns → AreAmong ms ns → Rise from ms
 rise_among from [] ns r h = tt
 rise_among from (m ∷ ms) [] r h = absurd h
 rise_among from (m ∷ ms) (n ∷ ns) r (inl q) =
@@ -62,7 +65,7 @@ pub rise_second : (from : ℕ) (ms ns : List ℕ) → Rise from (ms ++ ns) → R
 rise_second from [] ns r = r
 rise_second from (m ∷ ms) ns r = let h = r.0 in rise_less (suc m) from ns (omega (arith, h)) (rise_second (suc m) ms ns r.1)
 
-least : (from n : ℕ) (ns : List ℕ) → Rise from ns → Member n ns → from ≤ n
+pub least : (from n : ℕ) (ns : List ℕ) → Rise from ns → Member n ns → from ≤ n
 least from n [] r m = elim m [ ]
 least from n (k ∷ ns) r (inl e) = let h = r.0 in omega (arith, h, e)
 least from n (k ∷ ns) r (inr m) = let h = r.0 in let more = least (suc k) n ns r.1 m in omega (arith, h, more)
@@ -150,3 +153,20 @@ pub operands_distinct : (h : scopes.Here) (from : ℕ) (args : Args) → are_typ
     Distinct (operand_nodes args)
 operands_distinct h from args typed r =
     rise_distinct from (operand_nodes args) (rise_among from (operand_nodes args) (totals lists node_numbers args) r (operands_among h args typed))
+
+-- and they are nodes of its text
+pub value_members : (h : scopes.Here) (e : Expr) → is_typed h e ≡ true → (n : ℕ) → Member n (value_nodes e) → Member n (total lists node_numbers e)
+value_members h e typed n m = among_in (value_nodes e) (total lists node_numbers e) (value_among h e typed) n m
+
+pub path_members : (h : scopes.Here) (path : Path) → is_typed_path h path ≡ true → (n : ℕ) → Member n (path_nodes path) →
+    Member n (total_at lists node_numbers false path)
+path_members h path typed n m = among_in (path_nodes path) (total_at lists node_numbers false path) (path_among h false path typed) n m
+
+pub operand_members : (h : scopes.Here) (args : Args) → are_typed h args ≡ true → (n : ℕ) → Member n (operand_nodes args) →
+    Member n (totals lists node_numbers args)
+operand_members h args typed n m = among_in (operand_nodes args) (totals lists node_numbers args) (operands_among h args typed) n m
+
+pub path_distinct : (h : scopes.Here) (from : ℕ) (path : Path) → is_typed_path h path ≡ true → Rise from (total_at lists node_numbers false path) →
+    Distinct (path_nodes path)
+path_distinct h from path typed r =
+    rise_distinct from (path_nodes path) (rise_among from (path_nodes path) (total_at lists node_numbers false path) r (path_among h false path typed))

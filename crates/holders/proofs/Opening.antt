@@ -10,8 +10,9 @@ use Rattle.holders.specs.Owned.{HasEach, none_more, one_more, HasAll, no_parts, 
 use Rattle.holders.specs.Becoming.{taken_in, Strange}
 use Rattle.holders.specs.Beside.{PartWays, here_apart, further_on, OtherPart, other_base, other_way}
 use Rattle.holders.specs.Territory.{Owner, Cells, no_cells, a_cell, AllOwners, OtherThan, LieApart, ClearOf, Territory, RowAt, IsUnder, LeaveRow}
-use Rattle.holders.specs.Territory.{NoBaseOf, Alone, Moves, Among}
+use Rattle.holders.specs.Territory.{NoBaseOf, Moves, Among, StandsAt}
 use Rattle.holders.specs.Working.{Back, Works, without}
+use Rattle.holders.specs.Running.{Region, IsOutside, Runs}
 use Rattle.holders.specs.Ways.{copies, part_owners, in_block, Opens, an_object, an_array, a_block}
 use Rattle.holders.proofs.Bases.{whole_is, loaded}
 use Rattle.holders.proofs.PathLemmas.{has_deeper}
@@ -112,7 +113,10 @@ pub record Closed (o : Owner) (bs ks ds : List ℕ) (after : World) : Type 0 whe
 
 -- what holds where its parts may have become others, with those of other cells
 pub record Around (o : Owner) (kids os : List Owner) (bs ks cs given ds : List ℕ) (world after : World) : Type 0 where
-  pub alone : Alone (kids ++ os) (given ++ (ks ++ cs)) world after
+  pub part_stays : (v : Value) → StandsAt world o.at v → OtherThan o.at (kids ++ os) → Apart o.at.base (given ++ (ks ++ cs)) → StandsAt after o.at v
+  pub row_stays : (n : ℕ) → RowAt world o.at n → LeaveRow o.at (kids ++ os) → Apart o.at.base (given ++ (ks ++ cs)) → RowAt after o.at n
+  pub block_stays : (k n : ℕ) → RowAt world (row_of o.at k) n → LeaveRow (row_of o.at k) (kids ++ os) → Apart (InBlock k) (given ++ (ks ++ cs)) →
+      RowAt after (row_of o.at k) n
   pub other : OtherThan o.at os
   pub clear : ClearOf bs os
   pub both : (k : ℕ) → Member k bs → Member k cs → ⊥
@@ -136,19 +140,23 @@ pub record Opening (o : Owner) (kids : List Owner) (bs : List ℕ) (world : Worl
   pub given_clear : (given : List ℕ) → Strange given bs → Apart o.at.base given → ClearOf given kids
   pub close : (os : List Owner) (cs given ds : List ℕ) (after : World) → Around o kids os bs ks cs given ds world after → Closed o bs ks ds after
 
-all_two : (P Q R : Owner → Type 0) (os : List Owner) → ((o : Owner) → P o → Q o → R o) → AllOwners P os → AllOwners Q os → AllOwners R os
+none_clear : (os : List Owner) → ClearOf [] os
+none_clear [] = tt
+none_clear (o ∷ os) = (λ k e m. elim m [ ], none_clear os)
+
+pub all_two : (P Q R : Owner → Type 0) (os : List Owner) → ((o : Owner) → P o → Q o → R o) → AllOwners P os → AllOwners Q os → AllOwners R os
 all_two P Q R [] g a b = tt
 all_two P Q R (o ∷ os) g a b = (g o a.0 b.0, all_two P Q R os g a.1 b.1)
 
 module _ (o : Owner) (os : List Owner) (world : World) (w v : Value) (bs cs : List ℕ) (c : Cell o.form o.at w v bs world) (rest : Cells world os cs)
     (d : Distinct (bs ++ cs)) (others : LieApart (o ∷ os)) (clear : ClearOf (bs ++ cs) (o ∷ os)) (kids : List Owner) (op : Opening o kids bs world) where
-  kept_within : (k : ℕ) → Member k (op.ks ++ cs) → Member k (bs ++ cs)
+  pub kept_within : (k : ℕ) → Member k (op.ks ++ cs) → Member k (bs ++ cs)
   kept_within k m = either_block k op.ks cs (Member k (bs ++ cs)) m (λ q. in_first k bs cs (op.within k q)) (λ q. in_second k bs cs q)
 
-  not_both : (k : ℕ) → Member k bs → Member k cs → ⊥
+  pub not_both : (k : ℕ) → Member k bs → Member k cs → ⊥
   not_both k m n = distinct_apart k bs cs d m n
 
-  opened : Territory (kids ++ os) world
+  abbrev pub opened : Territory (kids ++ os) world
   opened = record {
     blocks = op.ks ++ cs;
     cells = cells_both kids os op.ks cs op.cells rest;
@@ -160,52 +168,45 @@ module _ (o : Owner) (os : List Owner) (world : World) (w v : Value) (bs cs : Li
         (clear_less (bs ++ cs) (op.ks ++ cs) os kept_within clear.1);
   }
 
-  closed_moves : (given : List ℕ) (after : World) → Strange given (bs ++ cs) → ClearOf given (o ∷ os) →
-      (m : Moves (kids ++ os) given (op.ks ++ cs) world after) → Back (o ∷ os) given (bs ++ cs) (op.ks ++ cs) m.territory.blocks world after
-  closed_moves given after strange far_given m = record {
-    moves = record {
-      territory = record {
-        blocks = cl.blocks ++ s.second;
-        cells = a_cell cl.cell s.others;
-        distinct = distinct_both cl.blocks s.second cl.cell.distinct (distinct_second s.first s.second split)
-            (λ k a b. lies_apart k b (cl.from k a));
-        others = others;
-        clear = cells_clear (o ∷ os) (bs ++ cs) (bs ++ cs) given (cl.blocks ++ s.second) (a_cell c rest) clear far_given came_all;
-      };
-      came = came_all;
-      grows = m.grows;
-      alone = record {
-        bases = λ b x h off far. m.alone.bases b x h
-            (all_both (λ p. b ≡ p.at.base → ⊥) kids os (op.no_base b off.0 (λ k e n. far k e (in_second k given (bs ++ cs) (in_first k bs cs n)))) off.1)
-            (λ k e n. far k e (wide_in k n));
-        parts = λ l x h other far. m.alone.parts l x h
-            (all_both (λ p. OtherPart p.at l) kids os (op.other l other.0 (λ k e n. far k e (in_second k given (bs ++ cs) (in_first k bs cs n)))) other.1)
-            (λ k e n. far k e (wide_in k n));
-        rows = λ l n h leave far. m.alone.rows l n h
-            (all_both (λ p. OtherPart p.at l ⊎ IsUnder p.at l) kids os
-            (op.leave l leave.0 (λ k e n. far k e (in_second k given (bs ++ cs) (in_first k bs cs n)))) leave.1)
-            (λ k e n. far k e (wide_in k n));
-        stays = m.alone.stays;
-      };
+  -- what is so of the cell again, where others may have changed
+  record Shut (given : List ℕ) (after : World) (inner : List ℕ) : Type 0 where
+    territory : Territory (o ∷ os) after
+    came : (k : ℕ) → Member k territory.blocks → Member k (bs ++ cs) ⊎ (Member k given ⊎ (taken_in world ≤ k))
+    into : (k : ℕ) → Member k territory.blocks → Member k inner ⊎ (Member k (bs ++ cs) × (Member k (op.ks ++ cs) → ⊥))
+    without : (k : ℕ) → Member k territory.blocks → Member k (op.ks ++ cs) → Member k inner
+
+  record StaysThere (given : List ℕ) (after : World) : Type 0 where
+    part : (v : Value) → StandsAt world o.at v → OtherThan o.at (kids ++ os) → Apart o.at.base (given ++ (op.ks ++ cs)) → StandsAt after o.at v
+    row : (n : ℕ) → RowAt world o.at n → LeaveRow o.at (kids ++ os) → Apart o.at.base (given ++ (op.ks ++ cs)) → RowAt after o.at n
+    block : (k n : ℕ) → RowAt world (row_of o.at k) n → LeaveRow (row_of o.at k) (kids ++ os) → Apart (InBlock k) (given ++ (op.ks ++ cs)) →
+        RowAt after (row_of o.at k) n
+
+  shut : (given : List ℕ) (after : World) → Strange given (bs ++ cs) → ClearOf given (o ∷ os) → (t : Territory (kids ++ os) after) →
+      ((k : ℕ) → Member k t.blocks → Member k (op.ks ++ cs) ⊎ (Member k given ⊎ (taken_in world ≤ k))) → StaysThere given after → Shut given after t.blocks
+  shut given after strange far_given t t_came stays = record {
+    territory = record {
+      blocks = cl.blocks ++ s.second;
+      cells = a_cell cl.cell s.others;
+      distinct = distinct_both cl.blocks s.second cl.cell.distinct (distinct_second s.first s.second split)
+          (λ k a b. lies_apart k b (cl.from k a));
+      others = others;
+      clear = cells_clear (o ∷ os) (bs ++ cs) (bs ++ cs) given (cl.blocks ++ s.second) (a_cell c rest) clear far_given came_all;
     };
-    into = λ k a. either_block k cl.blocks s.second (Member k m.territory.blocks ⊎ (Member k (bs ++ cs) × (Member k (op.ks ++ cs) → ⊥))) a
+    came = came_all;
+    into = λ k a. either_block k cl.blocks s.second (Member k t.blocks ⊎ (Member k (bs ++ cs) × (Member k (op.ks ++ cs) → ⊥))) a
         (λ q. kids_in k (cl.from k q)) (λ q. inl (subst (λ ds. Member k ds) (sym s.is) (in_second k s.first s.second q)));
     without = λ k a b. subst (λ ds. Member k ds) (sym s.is) (either_block k cl.blocks s.second (Member k (s.first ++ s.second)) a
         (λ q. still_there k b (cl.from k q)) (λ q. in_second k s.first s.second q));
   }
     where
-      s : CellsApart kids os m.territory.blocks after
-      s = cells_apart kids os m.territory.blocks m.territory.cells
-
-      wide_in : (k : ℕ) → Member k (given ++ (op.ks ++ cs)) → Member k (given ++ (bs ++ cs))
-      wide_in k n = either_block k given (op.ks ++ cs) (Member k (given ++ (bs ++ cs))) n (λ q. in_first k given (bs ++ cs) q)
-          (λ q. in_second k given (bs ++ cs) (kept_within k q))
+      s : CellsApart kids os t.blocks after
+      s = cells_apart kids os t.blocks t.cells
 
       split : Distinct (s.first ++ s.second)
-      split = subst (λ (ds : List ℕ). Distinct ds) s.is m.territory.distinct
+      split = subst (λ (ds : List ℕ). Distinct ds) s.is t.distinct
 
       came : (k : ℕ) → Member k (s.first ++ s.second) → Member k (op.ks ++ cs) ⊎ (Member k given ⊎ (taken_in world ≤ k))
-      came k n = m.came k (subst (λ ds. Member k ds) (sym s.is) n)
+      came k n = t_came k (subst (λ ds. Member k ds) (sym s.is) n)
 
       wide : (k : ℕ) → Member k (op.ks ++ cs) ⊎ (Member k given ⊎ (taken_in world ≤ k)) → Member k (bs ++ cs) ⊎ (Member k given ⊎ (taken_in world ≤ k))
       wide k (inl a) = inl (kept_within k a)
@@ -217,7 +218,9 @@ module _ (o : Owner) (os : List Owner) (world : World) (w v : Value) (bs cs : Li
 
       cl : Closed o bs op.ks s.first after
       cl = op.close os cs given s.first after (record {
-        alone = m.alone;
+        part_stays = stays.part;
+        row_stays = stays.row;
+        block_stays = stays.block;
         other = others.0;
         clear = clear_less (bs ++ cs) bs os (λ k n. in_first k bs cs n) clear.1;
         both = not_both;
@@ -230,7 +233,7 @@ module _ (o : Owner) (os : List Owner) (world : World) (w v : Value) (bs cs : Li
       })
 
       kids_in : (k : ℕ) → Member k s.first ⊎ (Member k bs × (Member k op.ks → ⊥)) →
-          Member k m.territory.blocks ⊎ (Member k (bs ++ cs) × (Member k (op.ks ++ cs) → ⊥))
+          Member k t.blocks ⊎ (Member k (bs ++ cs) × (Member k (op.ks ++ cs) → ⊥))
       kids_in k (inl q) = inl (subst (λ ds. Member k ds) (sym s.is) (in_first k s.first s.second q))
       kids_in k (inr q) = inr (in_first k bs cs q.0, λ z. either_block k op.ks cs ⊥ z (λ y. q.1 y) (λ y. not_both k q.0 y))
 
@@ -258,8 +261,73 @@ module _ (o : Owner) (os : List Owner) (world : World) (w v : Value) (bs cs : Li
       came_all k n = either_block k cl.blocks s.second (Member k (bs ++ cs) ⊎ (Member k given ⊎ (taken_in world ≤ k))) n (λ a. from_kids k (cl.from k a))
           (λ b. wide k (came k (in_second k s.first s.second b)))
 
+  closed_moves : (given : List ℕ) (after : World) → Strange given (bs ++ cs) → ClearOf given (o ∷ os) →
+      (m : Moves (kids ++ os) given (op.ks ++ cs) world after) → Back (o ∷ os) given (bs ++ cs) (op.ks ++ cs) m.territory.blocks world after
+  closed_moves given after strange far_given m =
+      let z = shut given after strange far_given m.territory m.came (record {
+        part = λ v h other far. m.alone.parts o.at v h other far;
+        row = λ n h leave far. m.alone.rows o.at n h leave far;
+        block = λ k n h leave far. m.alone.rows (row_of o.at k) n h leave far;
+      }) in
+      record {
+        moves = record {
+          territory = z.territory;
+          came = z.came;
+          grows = m.grows;
+          alone = record {
+            bases = λ b x h off far. m.alone.bases b x h
+                (all_both (λ p. b ≡ p.at.base → ⊥) kids os (op.no_base b off.0 (λ k e n. far k e (in_second k given (bs ++ cs) (in_first k bs cs n)))) off.1)
+                (λ k e n. far k e (wide_in k n));
+            parts = λ l x h other far. m.alone.parts l x h
+                (all_both (λ p. OtherPart p.at l) kids os (op.other l other.0 (λ k e n. far k e (in_second k given (bs ++ cs) (in_first k bs cs n)))) other.1)
+                (λ k e n. far k e (wide_in k n));
+            rows = λ l n h leave far. m.alone.rows l n h
+                (all_both (λ p. OtherPart p.at l ⊎ IsUnder p.at l) kids os
+                (op.leave l leave.0 (λ k e n. far k e (in_second k given (bs ++ cs) (in_first k bs cs n)))) leave.1)
+                (λ k e n. far k e (wide_in k n));
+            stays = m.alone.stays;
+          };
+        };
+        into = z.into;
+        without = z.without;
+      }
+    where
+      wide_in : (k : ℕ) → Member k (given ++ (op.ks ++ cs)) → Member k (given ++ (bs ++ cs))
+      wide_in k n = either_block k given (op.ks ++ cs) (Member k (given ++ (bs ++ cs))) n (λ q. in_first k given (bs ++ cs) q)
+          (λ q. in_second k given (bs ++ cs) (kept_within k q))
+
+  -- where a part of a body works on them meanwhile
+  pub closed_runs : (inner : Region) (after : World) → IsOutside inner o.at.base → Runs inner [] (kids ++ os) [] (op.ks ++ cs) world after →
+      Runs inner [] (o ∷ os) [] (bs ++ cs) world after
+  closed_runs inner after out r =
+      let z = shut [] after (λ k m n. elim m [ ]) (none_clear (o ∷ os)) r.territory r.came (record {
+        part = λ v h other far. r.passes.parts o.at v h out other far;
+        row = λ n h leave far. r.passes.rows o.at n h out leave far;
+        block = λ k n h leave far. r.passes.rows (row_of o.at k) n h tt leave far;
+      }) in
+      record {
+        territory = z.territory;
+        own = tt;
+        came = z.came;
+        passes = record {
+          bases = λ b x h there off far. r.passes.bases b x h there
+              (all_both (λ p. b ≡ p.at.base → ⊥) kids os (op.no_base b off.0 (λ k e n. far k e (in_first k bs cs n))) off.1)
+              (λ k e n. far k e (kept_within k n));
+          parts = λ l x h there other far. r.passes.parts l x h there
+              (all_both (λ p. OtherPart p.at l) kids os (op.other l other.0 (λ k e n. far k e (in_first k bs cs n))) other.1)
+              (λ k e n. far k e (kept_within k n));
+          rows = λ l n h there leave far. r.passes.rows l n h there
+              (all_both (λ p. OtherPart p.at l ⊎ IsUnder p.at l) kids os (op.leave l leave.0 (λ k e n. far k e (in_first k bs cs n))) leave.1)
+              (λ k e n. far k e (kept_within k n));
+          grows = r.passes.grows;
+          hand = r.passes.hand;
+          names = r.passes.names;
+          active = r.passes.active;
+          count = r.passes.count;
+        };
+      }
+
   pub works_opened : Works (o ∷ os) (kids ++ os) (bs ++ cs) world
-  unfolding opened
   works_opened = record {
     territory = opened;
     within = kept_within;
@@ -276,7 +344,7 @@ module _ (world : World) (fs : Forms) (f : Form) (l : Location) (w : Value) (all
       Around (record { form = f; at = l }) (part_owners fs l 0) os bs bs cs given ds world after →
       Closed (record { form = f; at = l }) bs bs ds after
   row_closed os cs given ds after a =
-      let r = a.alone.rows l (count all) (record { whole = w; base = c.at.base; part_there = c.at.part; all = all; is = c.is; count_is = refl })
+      let r = a.row_stays (count all) (record { whole = w; base = c.at.base; part_there = c.at.part; all = all; is = c.is; count_is = refl })
       (all_both (λ p. OtherPart p.at l ⊎ IsUnder p.at l) (part_owners fs l 0) os
       (all_parts (λ p. OtherPart p.at l ⊎ IsUnder p.at l) l fs 0
       (λ g j le. inr (record { base = refl; position = j; further = []; path = refl })))
@@ -335,7 +403,7 @@ module _ (world : World) (f : Form) (l : Location) (w : Value) (k : ℕ) (all : 
       Closed (record { form = elements f; at = l }) (k ∷ ks) ks ds after
   sequence_closed os cs given ds after a =
       let kids = part_owners (copies (count all) f) (row_of l k) 0 in
-      let r = a.alone.rows (row_of l k) (count all)
+      let r = a.block_stays k (count all)
       (record { whole = Parts all; base = there; part_there = whole; all = all; is = refl; count_is = refl })
       (all_both (λ p. OtherPart p.at (row_of l k) ⊎ IsUnder p.at (row_of l k)) kids os
       (all_parts (λ p. OtherPart p.at (row_of l k) ⊎ IsUnder p.at (row_of l k)) (row_of l k) (copies (count all) f) 0
@@ -344,7 +412,7 @@ module _ (world : World) (f : Form) (l : Location) (w : Value) (k : ℕ) (all : 
       (λ p q. inl (other_base (λ e. off_block p.at.base q (sym e)))) a.clear))
       (λ j e m. either_block j given (ks ++ cs) ⊥ m (λ g. a.strange j g (inl (sym (same_number k j e))))
       (λ q. either_block j ks cs ⊥ q (λ n. no_own j e n) (λ n. a.both k (inl refl) (subst (λ i. Member i cs) (sym (same_number k j e)) n)))) in
-      let s = a.alone.parts l (Handle (count all) (Some k)) (record { whole = w; at = c.at; is = c.is })
+      let s = a.part_stays (Handle (count all) (Some k)) (record { whole = w; at = c.at; is = c.is })
       (all_both (λ p. OtherPart p.at l) kids os
       (all_parts (λ p. OtherPart p.at l) (row_of l k) (copies (count all) f) 0 (λ g j le. other_base (off_block l.base c.apart))) a.other) a.far in
       let made : Has after Full (elements f) (Handle (count r.all) (Some k)) (k ∷ ds) =
@@ -433,7 +501,8 @@ block_has {world} {f} {n} {k} (a_sequence {k = j} {all = all} {bs = ks} there ea
       each = each;
     }
 
-opening_of : {world : World} {o : Owner} {fs : Forms} {from : Location} {w v : Value} {bs : List ℕ} → Opens world o fs from → Cell o.form o.at w v bs world →
+pub opening_of : {world : World} {o : Owner} {fs : Forms} {from : Location} {w v : Value} {bs : List ℕ} → Opens world o fs from →
+    Cell o.form o.at w v bs world →
     Opening o (part_owners fs from 0) bs world
 opening_of {world} {w = w} {v = v} {bs = bs} (an_object {fs = fs} {l = l}) c =
     let h = parts_have c.has in

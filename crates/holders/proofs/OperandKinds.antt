@@ -30,6 +30,7 @@ use Rattle.holders.proofs.Claims.{aims_first, none_is_one}
 use Rattle.holders.specs.Evaluating.{IsBare}
 use Rattle.holders.proofs.Constants.{hooked_is}
 use Rattle.nim_types.specs.Forms.{hooked}
+use Rattle.holders.specs.Finding.{IsWhole}
 
 -- ---- among more cells
 
@@ -47,6 +48,16 @@ aims_second ms {ks} {world} {b} {f = f} (at_waiting {level = level} {node = node
 aims_second ms (at_field a p) = at_field (aims_second ms a) p
 aims_second ms (at_element a p) = at_element (aims_second ms a) p
 
+pub whole_second : (ms : List Owner) {ks : List Owner} {world : World} {b : Bool} {n : ℕ} {aim : Aim} {f : Form} (a : AimsAt ks world b n aim f) →
+    IsWhole aim a → IsWhole aim (aims_second ms a)
+unfolding aims_second
+whole_second ms (at_root p) whole = tt
+whole_second ms (at_constant h) whole = tt
+whole_second ms (at_value h) whole = tt
+whole_second ms (at_waiting i) whole = tt
+whole_second ms (at_field a p) whole = tt
+whole_second ms (at_element a p) whole = whole
+
 pub found_second : (ms : List Owner) {ks : List Owner} {world : World} {b : Bool} {n : ℕ} {steps : List Step} {f : Form} {l : Location} →
     Found ks world b n steps f l → Found (ms ++ ks) world b (length ms + n) steps f l
 found_second ms {ks} {world} {b} {steps = steps} {f = f} {l = l} (in_cell c goes) =
@@ -60,13 +71,13 @@ found_second ms (to_be_read made from h) = to_be_read made from h
 module _ {here : Here} {scope : scopes.Here} {limits : Limits} {root : (global : Bool) → ℕ → ℕ} {os : List Owner} where
   pub aims_more : {ms : List Owner} (ks : List Owner) {path : Path} {f : Form} {aim : Aim} → Aims here scope limits root ms os path f aim →
       Aims here scope limits root (ms ++ ks) os path f aim
-  aims_more ks (at_place h steps) = at_place h steps
-  aims_more ks (at_made unwritten h) = at_made unwritten (λ world. aims_first ks (h world))
+  aims_more ks (at_place h steps fresh) = at_place h steps fresh
+  aims_more ks (at_made unwritten h fresh) = at_made unwritten (λ world. aims_first ks (h world)) fresh
 
   pub aims_behind : (ms : List Owner) {ks : List Owner} {path : Path} {f : Form} {aim : Aim} → Aims here scope limits root ks os path f aim →
       Aims here scope limits root (ms ++ ks) os path f aim
-  aims_behind ms (at_place h steps) = at_place h steps
-  aims_behind ms (at_made unwritten h) = at_made unwritten (λ world. aims_second ms (h world))
+  aims_behind ms (at_place h steps fresh) = at_place h steps fresh
+  aims_behind ms (at_made unwritten h fresh) = at_made unwritten (λ world. aims_second ms (h world)) fresh
 
   module _ (uses : (position : ℕ) → Use) where
     -- behind cells of what came before

@@ -157,16 +157,19 @@ module _ {os : List Owner} {world : World} (t : Territory os world) where
       (takes_value t c under) (λ u after m. m)
 
   -- a copy of what was found elsewhere, or of itself
-  pub assigns_copy : {may : Bool} {root : ℕ} {steps : List Step} {f : Form} {to from : Location} → hooked f ≡ true →
-      Chain os world (record { form = f; at = to }) →
-      Found os world may root steps f from → Sure (assigns f to (Place from)) (Done []) world
-  assigns_copy {f = f} {to = to} {from = from} is_hooked c (in_cell b goes) =
-      sure_then (assigned f to (Place from)) (λ u. give nothing) (λ u after. Moves os [] t.blocks world after) (Done []) world (copies_over t c b)
-      (λ u after m. m)
-  assigns_copy is_hooked c (a_character j b e le) = absurd (no_hook is_hooked)
+  pub copied_to : {may : Bool} {root : ℕ} {steps : List Step} {f : Form} {to from : Location} → hooked f ≡ true →
+      Chain os world (record { form = f; at = to }) → Found os world may root steps f from →
+      Sure (assigned f to (Place from)) (λ u after. Moves os [] t.blocks world after) world
+  copied_to is_hooked c (in_cell b goes) = copies_over t c b
+  copied_to is_hooked c (a_character j b e le) = absurd (no_hook is_hooked)
     where
       no_hook : false ≡ true → ⊥
       no_hook e = false≢true e
-  assigns_copy {f = f} {to = to} {from = from} is_hooked c (to_be_read made source h) =
-      sure_then (assigned f to (Place from)) (λ u. give nothing) (λ u after. Moves os [] t.blocks world after) (Done []) world
-      (constant_over t c made source h) (λ u after m. m)
+  copied_to is_hooked c (to_be_read made source h) = constant_over t c made source h
+
+  pub assigns_copy : {may : Bool} {root : ℕ} {steps : List Step} {f : Form} {to from : Location} → hooked f ≡ true →
+      Chain os world (record { form = f; at = to }) →
+      Found os world may root steps f from → Sure (assigns f to (Place from)) (Done []) world
+  assigns_copy {f = f} {to = to} {from = from} is_hooked c found =
+      sure_then (assigned f to (Place from)) (λ u. give nothing) (λ u after. Moves os [] t.blocks world after) (Done []) world (copied_to is_hooked c found)
+      (λ u after m. m)

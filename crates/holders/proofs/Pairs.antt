@@ -4,9 +4,9 @@ use Rattle.nim_types.specs.Forms.{Form, plain, reference, block, elements, row, 
 use Rattle.nim_meaning.specs.Values.{Value, nothing, part, put_part, Base, InBlock, Made, Location, deeper, At as Place}
 use Rattle.nim_meaning.specs.Marks.{Member, Distinct}
 use Rattle.nim_meaning.specs.State.{World, whole_at, store}
-use Rattle.nim_meaning.specs.Deeds.{takes, sets, give, ◌>>◌}
+use Rattle.nim_meaning.specs.Deeds.{takes, give, ◌>>◌}
 use Rattle.nim_meaning.specs.Lifted.{assigned, walk, assigning}
-use Rattle.nim_meaning.specs.Places.{exchanged}
+use Rattle.nim_meaning.specs.Places.{exchanged, changes}
 use Rattle.nim_meaning.specs.Table.{swapped}
 use Rattle.holders.specs.Owned.{IsBase, MayStore, place_may, node_may, hand_may, block_may, At, From, Full, Constant, Has, Apart, Cell, PartForm, first_part}
 use Rattle.holders.specs.Owned.{next_part}
@@ -18,7 +18,7 @@ use Rattle.holders.specs.Working.{number, Works}
 use Rattle.holders.specs.Ways.{copies, Opens, an_object, an_array, a_block, Way, arrived, a_step, Chain, ChainsPart}
 use Rattle.holders.proofs.Bases.{same_or_not}
 use Rattle.holders.proofs.Sure.{sure_then, sure_weaker}
-use Rattle.holders.proofs.Guards.{sure_takes, sure_sets, read_at}
+use Rattle.holders.proofs.Guards.{sure_takes, sure_changes, read_at}
 use Rattle.holders.proofs.Staying.{stays_then, stored_stays}
 use Rattle.holders.proofs.PathLemmas.{part_of_put, put_twice, has_put, ways_back}
 use Rattle.holders.proofs.Owning.{in_first, in_second, has_stays, from_full, distinct_apart}
@@ -310,14 +310,14 @@ module _ (f : Form) (l : Location) (w v : Value) (old : List ℕ) (world : World
       let R : Value → World → Type 0 = λ x after. (x ≡ v) × (after ≡ once_put) in
       sure_then (takes l (λ world v. exchanged l v)) (λ v. exchanged l v >> give nothing) R Q world
       (sure_takes (λ world v. exchanged l v) R (read_at c.at c.is) tt c.has
-      (sure_takes (λ world old. sets l v >> give old) R (read_at c.at c.is) tt c.has
-      (sure_then (sets l v) (λ u. give v) (λ u after. after ≡ once_put) R world (sure_sets v (λ u after. after ≡ once_put) c.at refl)
+      (sure_takes (λ world old. changes l v >> give old) R (read_at c.at c.is) tt c.has
+      (sure_then (changes l v) (λ u. give v) (λ u after. after ≡ once_put) R world (sure_changes v (λ u after. after ≡ once_put) c.at refl)
       (λ u after is. (refl, is)))))
       (λ x after r. subst (λ y. Sure (exchanged l y >> give nothing) Q after) (sym r.0) (subst (λ m. Sure (exchanged l v >> give nothing) Q m) (sym r.1)
       (sure_then (exchanged l v) (λ u. give nothing) (λ y last. last ≡ store once_put l v) Q once_put
-      (sure_takes (λ world old. sets l v >> give old) (λ y last. last ≡ store once_put l v) (read_at at_once (part_of_put v c.at.part)) tt has_once
-      (sure_then (sets l v) (λ u. give v) (λ u last. last ≡ store once_put l v) (λ y last. last ≡ store once_put l v) once_put
-      (sure_sets v (λ u last. last ≡ store once_put l v) at_once refl) (λ u last is. is)))
+      (sure_takes (λ world old. changes l v >> give old) (λ y last. last ≡ store once_put l v) (read_at at_once (part_of_put v c.at.part)) tt has_once
+      (sure_then (changes l v) (λ u. give v) (λ u last. last ≡ store once_put l v) (λ y last. last ≡ store once_put l v) once_put
+      (sure_changes v (λ u last. last ≡ store once_put l v) at_once refl) (λ u last is. is)))
       (λ y last is. subst (λ m. Becomes f l w [] old world m) (sym is) put_again))))
 
 -- two that lie apart
@@ -415,15 +415,15 @@ module _ (f : Form) (l r : Location) (blocks : List ℕ) (world : World)
       let R : Value → World → Type 0 = λ x after. (x ≡ two.x) × (after ≡ middle) in
       sure_then (takes l (λ world v. exchanged r v)) (λ v. exchanged l v >> give nothing) R Q world
       (sure_takes (λ world v. exchanged r v) R (read_at c.at c.is) tt c.has
-      (sure_takes (λ world old. sets r two.v >> give old) R (read_at d.at d.is) tt d.has
-      (sure_then (sets r two.v) (λ u. give two.x) (λ u after. after ≡ middle) R world (sure_sets two.v (λ u after. after ≡ middle) d.at refl)
+      (sure_takes (λ world old. changes r two.v >> give old) R (read_at d.at d.is) tt d.has
+      (sure_then (changes r two.v) (λ u. give two.x) (λ u after. after ≡ middle) R world (sure_changes two.v (λ u after. after ≡ middle) d.at refl)
       (λ u after is. (refl, is)))))
       (λ x after q. subst (λ y. Sure (exchanged l y >> give nothing) Q after) (sym q.0)
       (subst (λ m. Sure (exchanged l two.x >> give nothing) Q m) (sym q.1)
       (sure_then (exchanged l two.x) (λ u. give nothing) (λ y end. end ≡ last) Q middle
-      (sure_takes (λ world old. sets l two.x >> give old) (λ y end. end ≡ last) (read_at left_there.at left_there.is) tt (stay_first two.apart.n_old c.has)
-      (sure_then (sets l two.x) (λ u. give two.v) (λ u end. end ≡ last) (λ y end. end ≡ last) middle
-      (sure_sets two.x (λ u end. end ≡ last) left_there.at refl) (λ u end is. is)))
+      (sure_takes (λ world old. changes l two.x >> give old) (λ y end. end ≡ last) (read_at left_there.at left_there.is) tt (stay_first two.apart.n_old c.has)
+      (sure_then (changes l two.x) (λ u. give two.v) (λ u end. end ≡ last) (λ y end. end ≡ last) middle
+      (sure_changes two.x (λ u end. end ≡ last) left_there.at refl) (λ u end is. is)))
       (λ y end is. subst (λ m. Moves (record { form = f; at = l } ∷ record { form = f; at = r } ∷ []) [] blocks world m) (sym is) traded))))
 
 pub swaps : {os : List Owner} {world : World} {f : Form} {l r : Location} (t : Territory os world) (a : Chain os world (record { form = f; at = l }))

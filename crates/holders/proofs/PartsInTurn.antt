@@ -277,6 +277,7 @@ begins_part {level} {os = os} ns sub b within = record {
   active = b.active;
   distinct = b.distinct;
   free = λ n m q. b.free n m (within n q);
+  deepest = b.deepest;
 }
 
 -- the cells of a part stand outside of a part with other nodes
@@ -307,6 +308,7 @@ begins_next {level} {ns = ns} {two = two} {os = os} {nodes = nodes} {ws = ws} {m
   active = p.stage.active;
   distinct = p.leaves.distinct;
   free = λ n m q. free n q (p.leaves.came n m);
+  deepest = p.stage.runs.passes.count ∙ p.before.deepest;
 }
   where
     free : (n : ℕ) → Member n two → Member n nodes ⊎ Member n (nodes_of ws) → ⊥

@@ -2,7 +2,7 @@
 use Rattle.std.proofs.Common.{◌≡◌, refl, sym, subst, ◌∙◌, arith, ℕ, ◌+◌, ◌<◌, ◌≤◌, inl, inr, ◌⊎◌, true, List, [], ◌∷◌, ◌++◌}
 use Rattle.nim_types.specs.Forms.{Form, form_of}
 use Rattle.nim_program.specs.Program.{Declared}
-use Rattle.nim_meaning.specs.Values.{Holds, Base, Standing, InBlock, Location, at_base, vacant}
+use Rattle.nim_meaning.specs.Values.{Holds, Stands, Base, Standing, InBlock, Location, at_base, vacant}
 use Rattle.nim_meaning.specs.Marks.{Member}
 use Rattle.nim_meaning.specs.State.{World, State}
 use Rattle.nim_meaning.specs.Acts.{Exit}
@@ -26,7 +26,7 @@ use Rattle.holders.proofs.Copying.{Copied, copies}
 use Rattle.holders.proofs.Moving.{cells_below, cells_clear}
 use Rattle.holders.proofs.PlainRows.{none_clear}
 use Rattle.holders.proofs.FrameChanges.{place_opened}
-use Rattle.holders.proofs.Running.{Apace, territory_apace, with_cell, passes_apace, passes_then}
+use Rattle.holders.proofs.Running.{no_less, Apace, territory_apace, with_cell, passes_apace, passes_then}
 use Rattle.holders.proofs.Coming.{comes_carried}
 
 module _ (r : Region) (gs : List Owner) (first places : ℕ) (nodes old : List ℕ) (start : World) where
@@ -118,3 +118,37 @@ module _ (r : Region) (gs : List Owner) (first places : ℕ) (nodes old : List �
       λ u after. Stage r (record { form = f; at = at_base (Standing r.level place.number) } ∷ ms) gs first places nodes old start after in
       comes_carried Q X (place_copies f here.level place.number l) s
       (subst (λ i. Sure (place_copies f i place.number l) Q s.world) (sym level_is) (place_gets place.number h le less mine off source other))
+
+-- a place stands for a location
+pub stage_named : {r : Region} {gs ms : List Owner} {first places : ℕ} {nodes old : List ℕ} {start now : World} (n : ℕ) (l : Location)
+    (s : Stage r ms gs first places nodes old start now) → first ≤ n → n < first + places → r.places n ≡ true → NoBaseOf (Standing r.level n) (ms ++ gs) →
+    Stage r ms gs first places nodes old start (changed (Opens r.level n (Stands l)) now)
+stage_named {r} {gs} {ms} {first} {places} {nodes} {old} {start} {now} n l s le less mine off =
+    let filled = place_opened now r.level first places n nodes (Stands l) s.active le less in
+    let a : Apace (Standing r.level n) now (changed (Opens r.level n (Stands l)) now) =
+    record { bases = filled.elsewhere; heap = no_less (taken_in now); hand = refl } in
+    record {
+      runs = record {
+        territory = territory_apace a no_place off s.runs.territory;
+        own = s.runs.own;
+        came = s.runs.came;
+        passes = passes_then s.runs.passes s.runs.came (passes_apace r gs inside a
+            (λ i m to h out. filled.names i m to h (λ e q. another i m e q out)) (λ i f p ns below h. filled.active i f p ns h) filled.count);
+      };
+      active = filled.active r.level first places nodes s.active;
+    }
+  where
+    no_place : (k : ℕ) → InBlock k ≡ Standing r.level n → ⊥
+    no_place k e = subst is_block e tt
+      where
+        is_block : Base → Type 0
+        is_block (InBlock k) = Unit {0}
+        is_block b = ⊥
+
+    inside : IsOutside r (Standing r.level n) → ⊥
+    inside (inl below) = omega (arith, below)
+    inside (inr w) = w.1 mine
+
+    another : (i m : ℕ) → i ≡ r.level → m ≡ n → (i < r.level) ⊎ ((i ≡ r.level) × (r.places m ≡ true → ⊥)) → ⊥
+    another i m e q (inl below) = omega (arith, e, below)
+    another i m e q (inr w) = w.1 (subst (λ j. r.places j ≡ true) (sym q) mine)

@@ -18,9 +18,9 @@ use Rattle.nim_meaning.specs.Heap.{Characters}
 use Rattle.nim_meaning.specs.Texts.{are_seen, shown}
 use Rattle.nim_meaning.specs.Here.{gives_hooked, any_hooked, form_for}
 use Rattle.nim_meaning.specs.Deeds as deeds
-use Rattle.nim_meaning.specs.Deeds.{Deed, Gives, Ends, Errs, Works, Says, Looks, Changes, Takes, changed, with_block, give, looks, sets, takes, ◌>>=◌, ◌>>◌}
+use Rattle.nim_meaning.specs.Deeds.{Deed, Gives, Ends, Errs, Works, Says, Looks, Changes, Takes, changed, with_block, give, looks, takes, ◌>>=◌, ◌>>◌}
 use Rattle.nim_meaning.specs.Lifted.{assigned, assigns, resized}
-use Rattle.nim_meaning.specs.Places.{put, exchanged}
+use Rattle.nim_meaning.specs.Places.{put, exchanged, changes}
 use Rattle.nim_meaning.specs.Table.{does, operates, operate, outcome, updated, swapped, default_for, step_by, measured}
 use Rattle.nim_meaning.specs.OwnedRows.{counted, appended, shortened, length_to, line_into, is_text_form, text_to, sequence_to, element_of as element_form_of}
 use Rattle.holders.specs.Owned.{Full, Constant, Has, a_number, HasBlocksAlone}
@@ -51,7 +51,7 @@ use Rattle.holders.proofs.Trading.{places_trade}
 
 put_answer : (deed : Deed Value) (l : Location) (P : World → Type 0) (world : World) → Sure (deed >>= put l) (λ x after. P after) world →
     Sure (deed >>= put l) (λ x after. P after × (x ≡ nothing)) world
-put_answer (Gives x) l P world h = sure_answer (sets l x) nothing nothing P world h
+put_answer (Gives x) l P world h = sure_answer (changes l x) nothing nothing P world h
 put_answer (Ends status) l P world h = tt
 put_answer Errs l P world h = h
 put_answer (Works n deed) l P world h = put_answer deed l P world h
@@ -259,7 +259,7 @@ module _ (facts : Facts) (r : Region) (ms os : List Owner) (first places : ℕ) 
         ap₂ (λ m k. m || (k || false)) (hooked_is facts a ∙ bare) (hooked_is facts b ∙ (ap hooked same ∙ bare)) in
         operated facts r ms os first places nodes old start O.Assign None (a ∷ b ∷ []) (At l ∷ Given v ∷ []) (OutHere None) now (λ q. seen)
         (λ q. absurd (false≢true (sym none ∙ q)))
-        (λ q. moved_none (put l v) (sure_answer (sets l v) nothing nothing MovesHere now
+        (λ q. moved_none (put l v) (sure_answer (changes l v) nothing nothing MovesHere now
         (puts s.runs.territory bare found (subst (λ f. Has now Constant f v []) same (h now)))))
 
     pub assign_copy : (b : Option Ty) {m : ℕ} {ss : List Step} {from : Location} → is_of b a ≡ true → hooked (form_for facts a) ≡ true →
@@ -296,10 +296,10 @@ module _ (facts : Facts) (r : Region) (ms os : List Owner) (first places : ℕ) 
             let read = read_found s.runs.territory found in
             let x = default_for facts ty in
             out_bare facts r ms os first places nodes old start ty (exchanged l x) now (hooked_is facts ty ∙ (ap hooked same ∙ e))
-            (sure_takes (λ world v. sets l x >> give v) (λ v after. StageHere after × Bare (form_for facts ty) v) read.from tt read.has
-            (sure_weaker (sets l x >> give read.value) (λ v after. MovesHere after × (v ≡ read.value))
+            (sure_takes (λ world v. changes l x >> give v) (λ v after. StageHere after × Bare (form_for facts ty) v) read.from tt read.has
+            (sure_weaker (changes l x >> give read.value) (λ v after. MovesHere after × (v ≡ read.value))
             (λ v after. StageHere after × Bare (form_for facts ty) v) now
-            (sure_answer (sets l x) nothing read.value MovesHere now
+            (sure_answer (changes l x) nothing read.value MovesHere now
             (puts s.runs.territory e found (subst (λ f. Has now Constant f x []) same (from_full (blank_so ty simple)))))
             (λ v after m. (
               stage_moves r os first places old start s m.0,

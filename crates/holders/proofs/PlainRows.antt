@@ -10,8 +10,8 @@ use Rattle.nim_meaning.specs.Heap.{Contents, Characters, Block}
 use Rattle.nim_meaning.specs.Marks.{Distinct}
 use Rattle.nim_meaning.specs.State.{World, load, whole_at, stored, store, with_value_in, new_contents}
 use Rattle.nim_meaning.specs.Heap.{with_contents}
-use Rattle.nim_meaning.specs.Deeds.{Deed, Stores, costs, sets, give, does, unless_gone, ◌>>=◌}
-use Rattle.nim_meaning.specs.Places.{put, fetched}
+use Rattle.nim_meaning.specs.Deeds.{Deed, Stores, costs, give, does, unless_gone, ◌>>=◌}
+use Rattle.nim_meaning.specs.Places.{put, fetched, changes}
 use Rattle.nim_meaning.specs.Table.{updated}
 use Rattle.holders.specs.Owned.{IsBase, in_text, At, a_character as reaches_character, Full, Constant, Has, no_text, a_text, Apart, Cell}
 use Rattle.holders.specs.Sure.{Sure}
@@ -25,7 +25,7 @@ use Rattle.holders.proofs.Staying.{stored_stays}
 use Rattle.holders.proofs.PathLemmas.{put_same}
 use Rattle.holders.proofs.Copying.{stored_length, length_set}
 use Rattle.holders.proofs.Owning.{plain_anywhere, from_full}
-use Rattle.holders.proofs.Guards.{sure_takes, sure_sets, part_is_there, read_at}
+use Rattle.holders.proofs.Guards.{sure_takes, sure_changes, part_is_there, read_at}
 use Rattle.holders.proofs.Sinking.{is_put, put_elsewhere}
 use Rattle.holders.proofs.Finding.{character_has, chain_owns}
 
@@ -37,8 +37,8 @@ becomes_bare f l w old world x after = Becomes f l w [] old world after
 pub bare_put : (f : Form) (l : Location) (w v0 v : Value) (old bs : List ℕ) (world : World) → hooked f ≡ false → Cell f l w v0 old world →
     Has world Constant f v bs → Sure (put l v) (becomes_bare f l w old world) world
 bare_put f l w v0 v old bs world bare c h =
-    sure_then (sets l v) (λ u. give nothing) (λ u after. Becomes f l w [] old world after) (becomes_bare f l w old world) world
-    (sure_sets v (λ u after. Becomes f l w [] old world after) c.at (record {
+    sure_then (changes l v) (λ u. give nothing) (λ u after. Becomes f l w [] old world after) (becomes_bare f l w old world) world
+    (sure_changes v (λ u after. Becomes f l w [] old world after) c.at (record {
       now = v;
       blocks = [];
       has = plain_anywhere (store world l v) Full bare h;
@@ -76,7 +76,7 @@ character_stays m w v x bs world c j le = by v bs c.at c.is c.has c.distinct c.a
         ap (λ u. stored world (InBlock k) (put_part u (j ∷ []) x)) (whole_is world (InBlock k) (Fixed t) there) in
         let off : m.base ≡ InBlock k → ⊥ = λ q. apart k q (inl refl) in
         let base_is : IsBase (stored world (InBlock k) (Fixed new)) m.base w = stored_elsewhere world (Fixed new) off there at.base in
-        sure_then (sets item x) (λ u. give nothing) (λ u after. Becomes block m w [] (k ∷ []) world after × (load after m ≡ Handle n (Some k)))
+        sure_then (changes item x) (λ u. give nothing) (λ u after. Becomes block m w [] (k ∷ []) world after × (load after m ≡ Handle n (Some k)))
         (λ u after. Becomes block m w [] (k ∷ []) world after × (load after m ≡ Handle n (Some k))) world
         (subst (λ b. Sure (unless_gone b (does (Stores item x))) (λ u after. Becomes block m w [] (k ∷ []) world after × (load after m ≡ Handle n (Some k)))
         world) (sym here)

@@ -8,7 +8,7 @@ use Rattle.nim_program.specs.declared.operation.Use.{Use}
 use Rattle.nim_program.specs.declared.operation.Use.TheVariants.{Owned, Given, Held, Lent, Looked}
 use Rattle.nim_meaning.specs.ActTree as points
 use Rattle.nim_meaning.specs.Ways.{At as Spot}
-use Rattle.nim_meaning.specs.Values.{Value, Holds, Waiting, Location}
+use Rattle.nim_meaning.specs.Values.{Value, Holds, bytes, Waiting, Location}
 use Rattle.nim_meaning.specs.State.{World, State}
 use Rattle.nim_meaning.specs.Acts.{Exit, branch, with_trail}
 use Rattle.nim_meaning.specs.Deeds as deeds
@@ -71,9 +71,10 @@ module _ (r : Region) (ms gs : List Owner) (first places : ℕ) (nodes old : Lis
 
   held : {f : Form} {l : Location} {now : World} (node : ℕ) → r.nodes node ≡ true → NoBaseOf (Waiting r.level node) (ms ++ gs) →
       Stage r ms gs first places nodes old start now → Read f l now →
-      Sure (deeds.◌>>=◌ (copied f l) (λ v. deeds.◌>>◌ (deeds.does (Waits r.level node (Holds v))) (deeds.give v))) (Waits_so f node) now
+      Sure (deeds.◌>>=◌ (copied f l) (λ v. deeds.costs (bytes v) (deeds.◌>>◌ (deeds.does (Waits r.level node (Holds v))) (deeds.give v)))) (Waits_so f node) now
   held {f} {l} {now} node mine off s source =
-      sure_then (copied f l) (λ v. deeds.◌>>◌ (deeds.does (Waits r.level node (Holds v))) (deeds.give v)) (Holding_so f) (Waits_so f node) now
+      sure_then (copied f l) (λ v. deeds.costs (bytes v) (deeds.◌>>◌ (deeds.does (Waits r.level node (Holds v))) (deeds.give v))) (Holding_so f)
+      (Waits_so f node) now
       (copies s source) (λ v after h. waits_there node mine off h)
 
   -- by its use

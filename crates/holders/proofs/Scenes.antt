@@ -6,10 +6,10 @@ use Rattle.std.proofs.lemmas.Option.{none-some, same_Some}
 use Rattle.nim_types.specs.Types.{Ty, Facts}
 use Rattle.nim_types.specs.Forms.{Form, form_of}
 use Rattle.nim_program.specs.Scopes.{Placed, look}
-use Rattle.nim_meaning.specs.Values.{Standing, Made, Location, at_base}
+use Rattle.nim_meaning.specs.Values.{Value, Standing, Made, Location, at_base}
 use Rattle.nim_meaning.specs.Marks.{Member}
 use Rattle.nim_meaning.specs.State.{World}
-use Rattle.holders.specs.Owned.{IsName}
+use Rattle.holders.specs.Owned.{IsName, IsBase, in_program, From, here}
 use Rattle.holders.specs.Territory.{Owner, first_owner, later_owner}
 use Rattle.holders.specs.Finding.{PlaceOf, own_place, a_name_of, of_constant}
 use Rattle.holders.specs.Scenes.{Named, no_names, its_own, another_name, a_constant}
@@ -17,11 +17,11 @@ use Rattle.holders.proofs.Owning.{has_stays}
 use Rattle.holders.proofs.Working.{among_first, among_second, number_first, number_second}
 
 -- a place behind one cell more
-one_later : {os : List Owner} {o : Owner} {world : World} {level n : ℕ} {f : Form} {b : Bool} {root : ℕ} → PlaceOf os world level n f b root →
+pub one_later : {os : List Owner} {o : Owner} {world : World} {level n : ℕ} {f : Form} {b : Bool} {root : ℕ} → PlaceOf os world level n f b root →
     PlaceOf (o ∷ os) world level n f b (suc root)
 one_later (own_place i) = own_place (later_owner i)
 one_later (a_name_of name i) = a_name_of name (later_owner i)
-one_later (of_constant name h) = of_constant name h
+one_later (of_constant name made from h) = of_constant name made from h
 
 -- among others, before and behind
 pub place_first : (qs : List Owner) {os : List Owner} {world : World} {level n : ℕ} {f : Form} {b : Bool} {root : ℕ} → PlaceOf os world level n f b root →
@@ -30,7 +30,7 @@ place_first qs {os} {world} {level} {n} {f = f} {b = b} (own_place i) =
     subst (λ m. PlaceOf (os ++ qs) world level n f b m) (number_first qs i) (own_place (among_first qs i))
 place_first qs {os} {world} {level} {n} {f = f} {b = b} (a_name_of name i) =
     subst (λ m. PlaceOf (os ++ qs) world level n f b m) (number_first qs i) (a_name_of name (among_first qs i))
-place_first qs (of_constant name h) = of_constant name h
+place_first qs (of_constant name made from h) = of_constant name made from h
 
 pub place_second : (os : List Owner) {qs : List Owner} {world : World} {level n : ℕ} {f : Form} {b : Bool} {root : ℕ} → PlaceOf qs world level n f b root →
     PlaceOf (os ++ qs) world level n f b (length os + root)
@@ -38,7 +38,26 @@ place_second os {qs} {world} {level} {n} {f = f} {b = b} (own_place i) =
     subst (λ m. PlaceOf (os ++ qs) world level n f b m) (number_second os i) (own_place (among_second os i))
 place_second os {qs} {world} {level} {n} {f = f} {b = b} (a_name_of name i) =
     subst (λ m. PlaceOf (os ++ qs) world level n f b m) (number_second os i) (a_name_of name (among_second os i))
-place_second os (of_constant name h) = of_constant name h
+place_second os (of_constant name made from h) = of_constant name made from h
+
+-- what stands in the program stays as it is
+pub constant_stays : {world after : World} {l : Location} {u v constant : Value} → l.base ≡ Made constant → From world l u v → From after l u v
+constant_stays {world} {after} {l} {u} made from = record {
+  base = subst (λ b. IsBase after b u) (sym made) (again (subst (λ b. IsBase world b u) made from.base));
+  there = from.there;
+  is = from.is;
+}
+  where
+    again : {x : Value} → IsBase world (Made x) u → IsBase after (Made x) u
+    again in_program = in_program
+
+-- a place is the same where its names are
+pub place_kept : {os : List Owner} {world after : World} {level n : ℕ} {f : Form} {b : Bool} {m : ℕ} →
+    ((l : Location) → IsName world.frames level n l → IsName after.frames level n l) → PlaceOf os world level n f b m → PlaceOf os after level n f b m
+place_kept names (own_place i) = own_place i
+place_kept names (a_name_of {l = l} name i) = a_name_of (names l name) i
+place_kept {world = world} {after = after} names (of_constant {l = l} name made from h) =
+    of_constant (names l name) made (constant_stays made from) (has_stays world after (λ k x m is. elim m [ ]) h)
 
 -- ---- one that is looked up
 
@@ -82,7 +101,8 @@ module _ {facts : Facts} {lent : ℕ → Bool} {world : World} {level : ℕ} whe
           PlaceOf os world level n (form_of facts ty) (not (lent n)) (if b then 0 else position more n)
       by true is e rest = subst (λ t. PlaceOf os world level n (form_of facts t) (not (lent n)) 0) (same_Some p.of ty e)
           (subst (λ m. PlaceOf os world level m (form_of facts p.of) (not (lent m)) 0) (eqb-true p.number n is)
-          (subst (λ b. PlaceOf os world level p.number (form_of facts p.of) (not b) 0) (sym is_lent) (of_constant name h)))
+          (subst (λ b. PlaceOf os world level p.number (form_of facts p.of) (not b) 0) (sym is_lent)
+          (of_constant name refl (record { base = in_program; there = here; is = refl }) h)))
       by false is e rest = rest e
 
   -- different places that aren't lent have cells at different positions

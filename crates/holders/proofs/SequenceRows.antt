@@ -5,6 +5,7 @@ use Rattle.std.specs.Prelude.{◌*◌, nat_le}
 use Rattle.std.proofs.lemmas.Bool.{leb-true, leb-false}
 use Rattle.nim_types.specs.Forms.{Form, elements, size}
 use Rattle.nim_meaning.specs.Values.{Value, Handle, Parts, Values, Nil, More, nth, count, joined, first_of, repeated, blank, part, put_part, Base, InBlock}
+use Rattle.nim_meaning.specs.Values.{is_handle}
 use Rattle.nim_meaning.specs.Values.{Location, item_of}
 use Rattle.nim_meaning.specs.Values.{length_of, block_of, parts_of}
 use Rattle.nim_meaning.specs.Heap.{Elements}
@@ -12,6 +13,7 @@ use Rattle.nim_meaning.specs.Marks.{Member, Distinct}
 use Rattle.nim_meaning.specs.State.{World, load, whole_at, store, elements_of, contents_value, object_in}
 use Rattle.nim_meaning.specs.Acts.{branch}
 use Rattle.nim_meaning.specs.Deeds.{Deed, Gives, Ends, Errs, Works, Says, Looks, Changes, Takes, changed, with_block, frees, refills, sets, give, Refills}
+use Rattle.nim_meaning.specs.Deeds.{unless_gone}
 use Rattle.nim_meaning.specs.Deeds.{looks, takes}
 use Rattle.nim_meaning.specs.Deeds.{◌>>◌, ◌>>=◌}
 use Rattle.nim_meaning.specs.Lifted.{resized, has_place, fresh, each_element, ends_at, walk, ending}
@@ -66,16 +68,16 @@ pub sequence_joined : (f : Form) (ws : Values) (ds : List ℕ) (n : ℕ) (l : Lo
     Strange ds old → Apart l.base ds → n ≡ length_of v + count ws → Sure (resized n (n * size f) (Elements (joined (elements_of world v) ws)) l)
     (λ u after. Turns (λ j. held_in j ws) none (elements f) l w ds old world after) world
 sequence_joined f ws ds n l w v old world at e h d apart each dd strange far same =
-    sure_sees (λ world2 x. branch (has_place world2 (block_of x) (n * size f))
+    sure_sees (λ world2 x. unless_gone (is_handle x) (branch (has_place world2 (block_of x) (n * size f))
     (refills (block_of x) (Elements (joined (elements_of world v) ws)) >> sets l (Handle n (block_of x)))
-    (fresh n (n * size f) (Elements (joined (elements_of world v) ws)) >>= (λ new. sets l new >> frees (block_of x))))
+    (fresh n (n * size f) (Elements (joined (elements_of world v) ws)) >>= (λ new. sets l new >> frees (block_of x)))))
     (λ u after. Turns (λ j. held_in j ws) none (elements f) l w ds old world after) at e tt h (by v old e h d apart strange same)
   where
     by : (v : Value) (old : List ℕ) → part w l.path ≡ v → Has world Full (elements f) v old → Distinct old → Apart l.base old → Strange ds old →
         n ≡ length_of v + count ws →
-        Sure (branch (has_place world (block_of v) (n * size f))
+        Sure (unless_gone (is_handle v) (branch (has_place world (block_of v) (n * size f))
         (refills (block_of v) (Elements (joined (elements_of world v) ws)) >> sets l (Handle n (block_of v)))
-        (fresh n (n * size f) (Elements (joined (elements_of world v) ws)) >>= (λ new. sets l new >> frees (block_of v))))
+        (fresh n (n * size f) (Elements (joined (elements_of world v) ws)) >>= (λ new. sets l new >> frees (block_of v)))))
         (λ u after. Turns (λ j. held_in j ws) none (elements f) l w ds old world after) world
     by _ _ e no_sequence d apart strange same =
         resizes_empty (elements f) l w n (n * size f) (Elements ws) ds ds [] (λ j. held_in j ws) none world at

@@ -19,6 +19,7 @@ use Rattle.nim_meaning.specs.Steps.{at_node}
 use Rattle.nim_meaning.specs.Meaning.{while_turn, count_turn, each_turn, still, element_at, element_for, fill, scoped}
 use Rattle.holders.specs.Owned.{Full, Constant, Has}
 use Rattle.holders.specs.Sure.{Comes}
+use Rattle.holders.specs.Called.{LeftBy}
 use Rattle.holders.specs.Territory.{Owner, NoBaseOf}
 use Rattle.holders.specs.Handing.{UnderWay}
 use Rattle.holders.specs.Running.{Region}
@@ -60,50 +61,50 @@ fill_comes {r} {ms} {gs} {first} {places} {nodes} {old} {start} {f} {v} here n X
 
 -- As long as its test holds. What is so of the world stays so.
 pub while_comes : (node : ℕ) (test : Does Value) (body : Does (Unit {0})) (J : World → Type 0) →
-    ((now : State) → J now.world → Comes (λ x after. J after) (λ way after. J after) (test now)) →
-    ((now : State) → J now.world → Comes (λ u after. J after) (λ way after. J after) (body now)) → (s : State) → J s.world →
-    Comes (λ u after. J after) (λ way after. J after) (loop (while_turn node test body) tt s)
+    ((now : State) → J now.world → Comes (λ x after. J after) (LeftBy J) (test now)) →
+    ((now : State) → J now.world → Comes (λ u after. J after) (LeftBy J) (body now)) → (s : State) → J s.world →
+    Comes (λ u after. J after) (LeftBy J) (loop (while_turn node test body) tt s)
 while_comes node test body J tests bodies s j =
-    comes_loop (while_turn node test body) (λ u. J) (λ u. J) (λ way. J) tt s (λ u now i. one now i) j
+    comes_loop (while_turn node test body) (λ u. J) (λ u. J) (LeftBy J) tt s (λ u now i. one now i) j
   where
     chosen : (b : Bool) (now : State) → J now.world →
-        Comes (Turned (λ (u : Unit {0}). J) (λ (u : Unit {0}). J)) (λ way. J) (branch b (again body tt) no_more now)
+        Comes (Turned (λ (u : Unit {0}). J) (λ (u : Unit {0}). J)) (LeftBy J) (branch b (again body tt) no_more now)
     chosen true now i = comes_again body tt J (λ u. J) now (λ later e. bodies later (subst J (sym e) i)) (λ later k. k)
     chosen false now i = i
 
-    one : (now : State) → J now.world → Comes (Turned (λ (u : Unit {0}). J) (λ (u : Unit {0}). J)) (λ way. J) (while_turn node test body tt now)
+    one : (now : State) → J now.world → Comes (Turned (λ (u : Unit {0}). J) (λ (u : Unit {0}). J)) (LeftBy J) (while_turn node test body tt now)
     one now i =
         comes_then (at_node node points.Turns test) (λ x. at_node node points.Chooses (branch (is_true (number_of x)) (again body tt) no_more))
-        (λ x after. J after) (Turned (λ (u : Unit {0}). J) (λ (u : Unit {0}). J)) (λ way. J) now (tests (with_trail (Spot node points.Turns ∷ now.trail) now) i)
+        (λ x after. J after) (Turned (λ (u : Unit {0}). J) (λ (u : Unit {0}). J)) (LeftBy J) now (tests (with_trail (Spot node points.Turns ∷ now.trail) now) i)
         (λ x later k. chosen (is_true (number_of x)) (with_trail (Spot node points.Chooses ∷ later.trail) later) k)
 
 -- Over a range: a place is filled at each turn, and is over at its end.
 pub count_comes : (node : ℕ) (here : Here) (place : Declared) (last : ℕ) (body : Does (Unit {0})) (limit : ℤ) (J K : World → Type 0) →
     ((i : ℤ) (now : State) → J now.world → Comes (λ u after. K after) (λ way after. ⊥) (fill here place.number (Number i) now)) →
-    ((now : State) → K now.world → Comes (λ u after. J after) (λ way after. J after) (scoped here place last body now)) → (i : ℤ) (s : State) → J s.world →
-    Comes (λ u after. J after) (λ way after. J after) (loop (count_turn node here place last body limit) i s)
+    ((now : State) → K now.world → Comes (λ u after. J after) (LeftBy J) (scoped here place last body now)) → (i : ℤ) (s : State) → J s.world →
+    Comes (λ u after. J after) (LeftBy J) (loop (count_turn node here place last body limit) i s)
 count_comes node here place last body limit J K fills scopes i s j =
-    comes_loop (count_turn node here place last body limit) (λ i. J) (λ u. J) (λ way. J) i s (λ i now j. one i now j) j
+    comes_loop (count_turn node here place last body limit) (λ i. J) (λ u. J) (LeftBy J) i s (λ i now j. one i now j) j
   where
     filled : (i : ℤ) → Does (Unit {0})
     filled i = at_node node points.Fills (fill here place.number (Number i)) >> scoped here place last body
 
-    fills_so : (i : ℤ) (now : State) → J now.world → Comes (λ u after. K after) (λ way after. J after) (fill here place.number (Number i) now)
-    fills_so i now j = comes_weaker (λ u after. K after) (λ way after. ⊥) (λ u after. K after) (λ way after. J after)
+    fills_so : (i : ℤ) (now : State) → J now.world → Comes (λ u after. K after) (LeftBy J) (fill here place.number (Number i) now)
+    fills_so i now j = comes_weaker (λ u after. K after) (λ way after. ⊥) (λ u after. K after) (LeftBy J)
         (fill here place.number (Number i) now) (fills i now j) (λ u later k. k) (λ way later k. absurd k)
 
-    body_so : (i : ℤ) (now : State) → J now.world → Comes (λ u after. J after) (λ way after. J after) (filled i now)
+    body_so : (i : ℤ) (now : State) → J now.world → Comes (λ u after. J after) (LeftBy J) (filled i now)
     body_so i now j =
         comes_then (at_node node points.Fills (fill here place.number (Number i))) (λ u. scoped here place last body) (λ u after. K after) (λ u after. J after)
-        (λ way after. J after) now (fills_so i (with_trail (Spot node points.Fills ∷ now.trail) now) j) (λ u later k. scopes later k)
+        (LeftBy J) now (fills_so i (with_trail (Spot node points.Fills ∷ now.trail) now) j) (λ u later k. scopes later k)
 
     chosen : (b : Bool) (i : ℤ) (now : State) → J now.world →
-        Comes (Turned (λ (i : ℤ). J) (λ (u : Unit {0}). J)) (λ way. J) (branch b (again (filled i) (i +ℤ pos 1)) no_more now)
+        Comes (Turned (λ (i : ℤ). J) (λ (u : Unit {0}). J)) (LeftBy J) (branch b (again (filled i) (i +ℤ pos 1)) no_more now)
     chosen true i now j = comes_again (filled i) (i +ℤ pos 1) J (λ i. J) now (λ later e. body_so i later (subst J (sym e) j)) (λ later k. k)
     chosen false i now j = j
 
     one : (i : ℤ) (now : State) → J now.world →
-        Comes (Turned (λ (i : ℤ). J) (λ (u : Unit {0}). J)) (λ way. J) (count_turn node here place last body limit i now)
+        Comes (Turned (λ (i : ℤ). J) (λ (u : Unit {0}). J)) (LeftBy J) (count_turn node here place last body limit i now)
     one i now j =
         chosen (int_lt i limit) i (with_trail (Spot node points.Chooses ∷ (with_trail (Spot node points.Turns ∷ now.trail) now).trail)
         (with_trail (Spot node points.Turns ∷ now.trail) now)) j
@@ -112,26 +113,26 @@ count_comes node here place last body limit J K fills scopes i s j =
 -- element, V of a value that is read.
 pub each_comes : (node : ℕ) (here : Here) (place : Declared) (borrows : Bool) (last : ℕ) (body : Does (Unit {0})) (aim : Aim) (len : ℕ) (J K : World → Type 0)
     (L M N : Location → World → Type 0) (V : Value → World → Type 0) →
-    ((now : State) → J now.world → Comes L (λ way after. J after) (find aim now)) →
-    ((l : Location) (now : State) → L l now.world → Comes (λ u after. M l after) (λ way after. J after) (still l len now)) →
+    ((now : State) → J now.world → Comes L (LeftBy J) (find aim now)) →
+    ((l : Location) (now : State) → L l now.world → Comes (λ u after. M l after) (LeftBy J) (still l len now)) →
     (is_hooked here.facts place.of ≡ true → (i : ℕ) → nat_lt i len ≡ true → (l : Location) (now : State) → M l now.world →
-    Comes N (λ way after. J after) (carry (item_at l i) now)) →
+    Comes N (LeftBy J) (carry (item_at l i) now)) →
     (is_hooked here.facts place.of ≡ true → (item : Location) (now : State) → N item now.world →
-    Comes (λ u after. K after) (λ way after. J after) (element_for here place borrows item now)) →
+    Comes (λ u after. K after) (LeftBy J) (element_for here place borrows item now)) →
     (is_hooked here.facts place.of ≡ false → (i : ℕ) → nat_lt i len ≡ true → (l : Location) (now : State) → M l now.world →
-    Comes V (λ way after. J after) (element_at l i now)) →
+    Comes V (LeftBy J) (element_at l i now)) →
     (is_hooked here.facts place.of ≡ false → (v : Value) (now : State) → V v now.world →
-    Comes (λ u after. K after) (λ way after. J after) (fill here place.number v now)) →
-    ((now : State) → K now.world → Comes (λ u after. J after) (λ way after. J after) (scoped here place last body now)) → (i : ℕ) (s : State) → J s.world →
-    Comes (λ u after. J after) (λ way after. J after) (loop (each_turn node here place borrows last body aim len) i s)
+    Comes (λ u after. K after) (LeftBy J) (fill here place.number v now)) →
+    ((now : State) → K now.world → Comes (λ u after. J after) (LeftBy J) (scoped here place last body now)) → (i : ℕ) (s : State) → J s.world →
+    Comes (λ u after. J after) (LeftBy J) (loop (each_turn node here place borrows last body aim len) i s)
 each_comes node here place borrows last body aim len J K L M N V finds stays items fills reads sets scopes i s j =
-    comes_loop (each_turn node here place borrows last body aim len) (λ i. J) (λ u. J) (λ way. J) i s (λ i now j. one i now j) j
+    comes_loop (each_turn node here place borrows last body aim len) (λ i. J) (λ u. J) (LeftBy J) i s (λ i now j. one i now j) j
   where
     On_turn : Turn ℕ (Unit {0}) → World → Type 0
     On_turn = Turned (λ (i : ℕ). J) (λ (u : Unit {0}). J)
 
     Left : Exit → World → Type 0
-    Left way = J
+    Left = LeftBy J
 
     at_end : ℕ → Does (Turn ℕ (Unit {0}))
     at_end i = again (scoped here place last body) (suc i)

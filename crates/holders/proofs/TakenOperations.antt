@@ -31,7 +31,7 @@ use Rattle.holders.specs.Evaluating.{value_nodes, path_nodes, operand_nodes, at_
 use Rattle.holders.specs.Evaluating.{held_ready}
 use Rattle.holders.specs.Evaluating.{lent_ready, aim_ready, seen_ready, copy_ready, hand_ready, Settled, AllReady}
 use Rattle.holders.proofs.PartsInTurn.{begins_part, stage_wider, in_is}
-use Rattle.holders.specs.Claimed.{NoExit, From, HasValue, ValueSo, ReadySo}
+use Rattle.holders.specs.Claimed.{NoExit, From, Sees, HasValue, ValueSo, ReadySo}
 use Rattle.holders.proofs.Claims.{scene_passes}
 use Rattle.holders.proofs.OperandKinds.{Regular, AllRegular}
 use Rattle.holders.proofs.Settling.{settle_so}
@@ -106,7 +106,7 @@ module _ (here : Here) (scope : scopes.Here) (limits : Limits) (root : (global :
       Distinct (node.number ∷ operand_nodes operands) → AllRegular here.facts operands → AllWrite limits operands →
       ReadySo here scope limits root first places os (use_of here.modes act) operands 0 →
       ((nodes later : List ℕ) (start world : World) (xs : List Operand) (ms : List Owner) (s : State)
-      (b : From here scope limits root first places os (node.number ∷ operand_nodes operands) nodes start) →
+      (b : From here scope limits root first places os (node.number ∷ operand_nodes operands) nodes start) → Sees here scope limits root first places os start →
       Leaves here.level nodes (waiting_all here.facts here.modes operands (use_of here.modes act) 0) ms later →
       (st : Stage (at_nodes here.level (node.number ∷ operand_nodes operands)) ms os first places later b.territory.blocks start world) →
       AllTaken here scope limits root (use_of here.modes act) os first places (node.number ∷ operand_nodes operands) b.territory.blocks start lent
@@ -164,4 +164,4 @@ module _ (here : Here) (scope : scopes.Here) (limits : Limits) (root : (global :
           take_all here scope limits root uses os first places (node.number ∷ ns) b.territory.blocks s.world lent operands own later there wide
           (subst (λ w. Settled here scope limits root uses own os w empty operands 0 xs) (sym q.0) q.1) (own_distinct here operands regular d.1)
           (λ n m. inr (own_within here operands regular n m)) off write (carried here node.number act how ty operands xs) Q
-          (λ last t. rows nodes later s.world now.world xs own last b leaves wide t))
+          (λ last t. rows nodes later s.world now.world xs own last b scene leaves wide t))

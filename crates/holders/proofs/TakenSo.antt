@@ -145,7 +145,7 @@ module _ (here : Here) (scope : scopes.Here) (limits : Limits) (root : (global :
       ValueSo here scope limits root first places os (Apply node ty (Doing operation) operands) how
   one_so node ty operation operands how held d regular write ready row =
       taken_so here scope limits root first places os node ty (Doing operation) operands how (λ j. inl (held j)) d regular write ready
-      (λ nodes later start world xs ms s b leaves st t.
+      (λ nodes later start world xs ms s b scene leaves st t.
       let R = at_nodes here.level (node.number ∷ operand_nodes operands) in
       let left = t.leaves nodes (waiting_all here.facts here.modes operands (λ j. use_by operation) 0) leaves in
       row_valued here first places os (Apply node ty (Doing operation) operands) (apply_waits here node ty (Doing operation) operands (λ how. refl))

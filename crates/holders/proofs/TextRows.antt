@@ -2,11 +2,11 @@
 use Rattle.std.proofs.Common.{◌≡◌, refl, sym, ap, subst, ◌∙◌, arith, ℕ, zero, suc, ◌+◌, ◌-◌, inl, List, [], ◌∷◌, ◌++◌, length}
 use Rattle.std.specs.Prelude.{take, replicate}
 use Rattle.nim_types.specs.Forms.{block}
-use Rattle.nim_meaning.specs.Values.{Value, Handle, Fixed, part, Location, length_of, block_of, text_in}
+use Rattle.nim_meaning.specs.Values.{Value, Handle, Fixed, part, Location, length_of, block_of, text_in, is_handle}
 use Rattle.nim_meaning.specs.Heap.{Characters}
 use Rattle.nim_meaning.specs.State.{World, load, text_of, contents_value, object_in}
 use Rattle.nim_meaning.specs.Acts.{branch}
-use Rattle.nim_meaning.specs.Deeds.{frees, refills, sets, costs, ◌>>◌, ◌>>=◌}
+use Rattle.nim_meaning.specs.Deeds.{frees, refills, sets, costs, ◌>>◌, ◌>>=◌, unless_gone}
 use Rattle.nim_meaning.specs.Lifted.{resized, has_place, fresh}
 use Rattle.nim_meaning.specs.OwnedRows.{appended, text_to}
 use Rattle.holders.specs.Owned.{in_text, At, Full, Has, no_text, a_text, Apart}
@@ -33,13 +33,14 @@ text_filling n t old l world same = record {
 pub text_resized : (n : ℕ) (t : List ℕ) → length t ≡ n → (l : Location) (w v : Value) (old : List ℕ) (world : World) → At world l w → part w l.path ≡ v →
     Has world Full block v old → Apart l.base old → Sure (resized n n (Characters t) l) (λ u after. Turns none none block l w [] old world after) world
 text_resized n t same l w v old world at e h apart =
-    sure_sees (λ world v. branch (has_place world (block_of v) n) (refills (block_of v) (Characters t) >> sets l (Handle n (block_of v)))
-    (fresh n n (Characters t) >>= (λ new. sets l new >> frees (block_of v)))) (λ u after. Turns none none block l w [] old world after) at e tt h
+    sure_sees (λ world v. unless_gone (is_handle v) (branch (has_place world (block_of v) n)
+    (refills (block_of v) (Characters t) >> sets l (Handle n (block_of v)))
+    (fresh n n (Characters t) >>= (λ new. sets l new >> frees (block_of v))))) (λ u after. Turns none none block l w [] old world after) at e tt h
     (by v old e h apart)
   where
     by : (v : Value) (old : List ℕ) → part w l.path ≡ v → Has world Full block v old → Apart l.base old →
-        Sure (branch (has_place world (block_of v) n) (refills (block_of v) (Characters t) >> sets l (Handle n (block_of v)))
-        (fresh n n (Characters t) >>= (λ new. sets l new >> frees (block_of v)))) (λ u after. Turns none none block l w [] old world after) world
+        Sure (unless_gone (is_handle v) (branch (has_place world (block_of v) n) (refills (block_of v) (Characters t) >> sets l (Handle n (block_of v)))
+        (fresh n n (Characters t) >>= (λ new. sets l new >> frees (block_of v))))) (λ u after. Turns none none block l w [] old world after) world
     by _ _ e no_text apart =
         resizes_empty block l w n n (Characters t) [] [] [] none none world at (text_filling n t [] l world same) (λ z. z) (λ z. z) e (λ j. omega arith)
     by _ _ e (a_text {n = m} {k = k} {t = t0} q b) apart =

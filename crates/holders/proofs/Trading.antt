@@ -4,8 +4,8 @@ use Rattle.std.proofs.lemmas.Bool.{false≢true}
 use Rattle.nim_types.specs.Forms.{Form, plain, block}
 use Rattle.nim_meaning.specs.Values.{Value, Handle, InBlock, Location, nothing}
 use Rattle.nim_meaning.specs.State.{World, load}
-use Rattle.nim_meaning.specs.Deeds.{takes, sets, give, ◌>>◌}
-use Rattle.nim_meaning.specs.Places.{put, exchanged}
+use Rattle.nim_meaning.specs.Deeds.{takes, give, ◌>>◌}
+use Rattle.nim_meaning.specs.Places.{put, exchanged, changes}
 use Rattle.nim_meaning.specs.Table.{swapped}
 use Rattle.holders.specs.Owned.{Constant, Has, a_number, Cell}
 use Rattle.holders.specs.Sure.{Sure}
@@ -61,8 +61,8 @@ module _ {ps : List Owner} {world : World} (t : Territory ps world) {a b : ℕ} 
       let End : Value → World → Type 0 = λ u after. Moves ps [] t.blocks world after in
       sure_then (takes x (λ w v. exchanged y v)) (λ v. exchanged x v >> give nothing) Q End world
       (sure_takes (λ w v. exchanged y v) Q l.from tt l.has
-      (sure_takes (λ w old. sets y l.value >> give old) Q r.from tt r.has
-      (sure_answer (sets y l.value) nothing r.value P world (first l.value (number_anywhere l.has world)))))
+      (sure_takes (λ w old. changes y l.value >> give old) Q r.from tt r.has
+      (sure_answer (changes y l.value) nothing r.value P world (first l.value (number_anywhere l.has world)))))
       (λ v mid q. subst (λ z. Sure (exchanged x z >> give nothing) End mid) (sym q.1) (second r.value mid (number_anywhere r.has mid) q.0))
     where
       second : (v : Value) (mid : World) → Has mid Constant plain v [] → Moves ps [] t.blocks world mid × Found ps mid true a [] plain x →
@@ -71,9 +71,9 @@ module _ {ps : List Owner} {world : World} (t : Territory ps world) {a b : ℕ} 
           let there = read_found m.0.territory m.1 in
           let R : World → Type 0 = λ after. Moves ps [] m.0.territory.blocks mid after in
           sure_then (exchanged x v) (λ u. give nothing) (λ u after. R after) (λ u after. Moves ps [] t.blocks world after) mid
-          (sure_takes (λ w old. sets x v >> give old) (λ u after. R after) there.from tt there.has
-          (sure_weaker (sets x v >> give there.value) (λ u after. R after × (u ≡ there.value)) (λ u after. R after) mid
-          (sure_answer (sets x v) nothing there.value R mid (puts m.0.territory refl m.1 h)) (λ u after p. p.0)))
+          (sure_takes (λ w old. changes x v >> give old) (λ u after. R after) there.from tt there.has
+          (sure_weaker (changes x v >> give there.value) (λ u after. R after × (u ≡ there.value)) (λ u after. R after) mid
+          (sure_answer (changes x v) nothing there.value R mid (puts m.0.territory refl m.1 h)) (λ u after p. p.0)))
           (λ u after n. moves_then m.0 n)
 
 -- ---- in two cells

@@ -34,6 +34,8 @@ use Rattle.holders.specs.Asked.{Limits}
 use Rattle.holders.proofs.PartsInTurn.{without_node_in, without_node_distinct, without_node_gone}
 use Rattle.holders.specs.Evaluating.{IsWaiting, Leaves, Bare, root_at, path_steps}
 use Rattle.holders.specs.Evaluating.{IsBare}
+use Rattle.holders.specs.Finding.{AtCell}
+use Rattle.holders.specs.Asked.{is_character}
 
 -- ---- cells
 
@@ -110,6 +112,23 @@ module _ {world after : World} (b : Base) (block : (k : ℕ) → InBlock k ≡ b
       (number_second ks second.at ∙ ap (λ n. length ks + n) second.is)
       (a_character j (record { from = c.from; at = among_second ks second.at; path = c.path; way = way_kept t start from_off c.way }) (same ∙ e) le)
 
+  pub cell_kept : (ms ks os : List Owner) (r : ℕ) {n : ℕ} {steps : List Step} {f : Form} {l : Location} → Territory (ms ++ os) world → NoBaseOf b os →
+      AtCell (ms ++ os) world n steps f l → n ≡ length ms + r → AtCell (ks ++ os) after (length ks + r) steps f l
+  cell_kept ms ks os r t off a e =
+      let c = a.chain in
+      let second = among_split ms c.at r (a.is ∙ e) in
+      let start : Chain (ms ++ os) world c.from = record { from = c.from; at = c.at; path = []; way = arrived } in
+      record {
+        chain = record {
+          from = c.from;
+          at = among_second ks second.at;
+          path = c.path;
+          way = way_kept t start (λ q. all_at (λ o. b ≡ o.at.base → ⊥) off second.at (sym q)) c.way;
+        };
+        goes = a.goes;
+        is = number_second ks second.at ∙ ap (λ n. length ks + n) second.is;
+      }
+
 -- ---- operands, where one was taken up
 
 abbrev pub own_numbers : Here → Args → List ℕ
@@ -155,7 +174,9 @@ module _ (here : Here) (limits : Limits) (root : (global : Bool) → ℕ → ℕ
         is_text value ≡ false → Among ms (record { form = form_for here.facts (type_of value); at = at_base (Waiting here.level (node_of value).number) }) →
         Taken rest (suc i) xs given → Taken (ByValue value rest) i (At (at_base (Waiting here.level (node_of value).number)) ∷ xs) given
     place_taken : {path : Path} {rest : Args} {i : ℕ} {steps : List Step} {l : Location} {xs : List Operand} {given : List ℕ} →
-        Found (ms ++ os) world true (length ms + root_at root path) steps (form_for here.facts (type_at path)) l → steps ≡ path_steps path →
+        Found (ms ++ os) world true (length ms + root_at root path) steps (form_for here.facts (type_at path)) l →
+        (steps ≡ path_steps path) × (is_character here.facts path ≡ false →
+        AtCell (ms ++ os) world (length ms + root_at root path) steps (form_for here.facts (type_at path)) l) →
         Taken rest (suc i) xs given → Taken (ByPath path rest) i (At l ∷ xs) given
 
 -- values under way stay so

@@ -6,7 +6,7 @@ use Rattle.nim_program.specs.declared.expr.Node.{Node}
 use Rattle.nim_program.specs.declared.operation.Use.{Use}
 use Rattle.nim_program.specs.Program.{Calling, Literal, Expr, Apply, Path, Args}
 use Rattle.nim_program.specs.Uses.{use_of}
-use Rattle.nim_program.specs.Typed.{act_fits, is_typed, is_typed_path}
+use Rattle.nim_program.specs.Typed.{act_fits, is_typed, is_typed_path, are_typed}
 use Rattle.nim_program.specs.Kinds.{is_constant}
 use Rattle.nim_program.specs.Scopes as scopes
 use Rattle.nim_meaning.specs.Values.{literal_value}
@@ -30,7 +30,8 @@ module _ (here : Here) (scope : scopes.Here) (limits : Limits) (root : (global :
   abbrev pub CallsSo : Type 0
   CallsSo = (node : Node) (ty : Option Ty) (proc : ℕ) (types : List Ty) (operands : Args) (how : Use) → IfSimple here.facts ty →
       ActAsked here.facts limits OfCall (Calling proc types) operands → AllAsked here.facts limits OfCall operands → AllRegular here.facts operands →
-      act_fits (known_at here scope) ty (Calling proc types) operands ≡ true → Distinct (node.number ∷ operand_nodes operands) →
+      act_fits (known_at here scope) ty (Calling proc types) operands ≡ true → are_typed (known_at here scope) operands ≡ true →
+      Distinct (node.number ∷ operand_nodes operands) →
       ReadySo here (known_at here scope) limits root first places os (use_of here.modes (Calling proc types)) operands 0 →
       ValueSo here (known_at here scope) limits root first places os (Apply node ty (Calling proc types) operands) how
 
@@ -62,7 +63,7 @@ module _ (here : Here) (scope : scopes.Here) (limits : Limits) (root : (global :
   without_calls : Elsewhere here scope limits root first places os NoCalls
   without_calls =
       all_but_calls here scope limits root first places os NoCalls sorted
-      (λ node ty proc types operands how simple act asked regular typed d ready. absurd act.1.1.1)
+      (λ node ty proc types operands how simple act asked regular fit typed d ready. absurd act.1.1.1)
 
   pub value_comes : (e : Expr) (how : Use) → is_typed (known_at here scope) e ≡ true → Asked here.facts limits NoCalls e → Distinct (value_nodes e) →
       ValueSo here (known_at here scope) limits root first places os e how

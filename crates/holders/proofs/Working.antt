@@ -273,9 +273,9 @@ works_first os qs {world} t = record {
 -- ---- one of them in front
 
 -- the same blocks, in another order
-record Rearranged (bs cs : List ℕ) : Type 0 where
-  into : (k : ℕ) → Member k cs → Member k bs
-  distinct : Distinct bs → Distinct cs
+pub record Rearranged (bs cs : List ℕ) : Type 0 where
+  pub into : (k : ℕ) → Member k cs → Member k bs
+  pub distinct : Distinct bs → Distinct cs
 
 record Front (os : List Owner) (o : Owner) (rest : List Owner) (bs : List ℕ) (world : World) : Type 0 where
   blocks : List ℕ
@@ -317,12 +317,12 @@ cells_front {world} {o = o} (later_owner {p = p} {os = os} i) _ (a_cell {bs = bs
           order = arranged_then (behind bs r) (rearranged bs mine others);
         }
 
-record Return (os : List Owner) (bs : List ℕ) (world : World) : Type 0 where
-  blocks : List ℕ
-  cells : Cells world os blocks
-  order : Rearranged bs blocks
+pub record Return (os : List Owner) (bs : List ℕ) (world : World) : Type 0 where
+  pub blocks : List ℕ
+  pub cells : Cells world os blocks
+  pub order : Rearranged bs blocks
 
-cells_return : {world : World} {os : List Owner} {o : Owner} (i : Among os o) (bs : List ℕ) → Cells world (o ∷ without i) bs → Return os bs world
+pub cells_return : {world : World} {os : List Owner} {o : Owner} (i : Among os o) (bs : List ℕ) → Cells world (o ∷ without i) bs → Return os bs world
 cells_return first_owner bs c = record { blocks = bs; cells = c; order = record { into = λ k m. m; distinct = λ d. d } }
 cells_return (later_owner i) _ (a_cell {bs = mine} c (a_cell {bs = bp} {cs = others} cp more)) =
     let r = cells_return i (mine ++ others) (a_cell c more) in

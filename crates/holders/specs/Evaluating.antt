@@ -12,22 +12,22 @@ use Rattle.nim_program.specs.Uses.{use_of}
 use Rattle.nim_program.specs.Fitting.{is_in}
 use Rattle.nim_program.specs.Scopes as scopes
 use Rattle.nim_program.specs.Scopes.{Placed, type_in}
-use Rattle.nim_meaning.specs.Values.{Value, Waiting, Location, at_base, Operand, Given, At}
+use Rattle.nim_meaning.specs.Values.{Value, Waiting, Made, Location, at_base, Operand, Given, At}
 use Rattle.nim_meaning.specs.Marks.{Member, Distinct}
 use Rattle.nim_meaning.specs.State.{World}
 use Rattle.nim_meaning.specs.Here.{Here, level_of, form_for, gives_hooked}
 use Rattle.nim_meaning.specs.Waiting.{Wait, nodes_of, own_wait, waiting, waiting_at, waiting_all, waiting_first, reads_kept}
 use Rattle.nim_meaning.specs.Shapes.{is_read, is_text, waits, waits_from}
-use Rattle.nim_meaning.specs.Aims.{Aim, Ready, Evaluated, Aimed}
+use Rattle.nim_meaning.specs.Aims.{Aim, Root, Value_of, Waits_at, Ready, Evaluated, Aimed}
 use Rattle.holders.specs.Owned.{Constant, Has, IsBase, Active}
 use Rattle.holders.specs.Territory.{Owner, AllOwners, Territory, Among}
 use Rattle.holders.specs.Ways.{Step, to_field, to_element}
-use Rattle.holders.specs.Finding.{Found, PlaceOf, AimsAt, steps_of}
+use Rattle.holders.specs.Finding.{Found, PlaceOf, AimsAt, IsWhole, AtCell, steps_of}
 use Rattle.holders.specs.Running.{Region, IsOutside}
 use Rattle.holders.specs.Staging.{Stage, Holding}
 use Rattle.holders.specs.Groups.{Ends}
 use Rattle.holders.specs.Used.{WaitsThere}
-use Rattle.holders.specs.Asked.{Limits, may_write_at, may_write}
+use Rattle.holders.specs.Asked.{Limits, may_write_at, may_write, is_character}
 
 -- ---- nodes
 
@@ -74,10 +74,12 @@ module _ (facts : Facts) (modes : (proc position : ℕ) → Mode) where
 
 -- ---- places
 
--- the places that are in scope and are named, by the positions of their cells
+-- The places that are in scope and are named, by the positions of their cells. Other places that may be written have other cells.
 pub record Scene (here : Here) (scope : scopes.Here) (limits : Limits) (root : (global : Bool) → ℕ → ℕ) (os : List Owner) (world : World) : Type 0 where
   pub place : (global : Bool) (n : ℕ) (ty : Ty) → limits.seen global n ≡ true → type_in scope global n ≡ Some ty →
       PlaceOf os world (level_of global here) n (form_of here.facts ty) (may_write_at limits global n) (root global n)
+  pub two : (g h : Bool) (n m : ℕ) (ty other : Ty) → limits.seen g n ≡ true → limits.seen h m ≡ true → type_in scope g n ≡ Some ty →
+      type_in scope h m ≡ Some other → may_write_at limits g n ≡ true → may_write_at limits h m ≡ true → root g n ≡ root h m → (g ≡ h) × (n ≡ m)
 
 -- those of some places that are named
 abbrev pub seen_of : (seen : ℕ → Bool) → List Placed → List Placed
@@ -111,13 +113,14 @@ IsBare facts how value = (hooked (form_for facts (type_of value)) ≡ false) ⊎
 -- ---- before a part, and behind it
 
 module _ (level first places : ℕ) (ns : List ℕ) (os : List Owner) (nodes : List ℕ) where
-  -- its nodes are free, and the cells stand elsewhere
+  -- its nodes are free, the cells stand elsewhere, and no call from here is active
   pub record Begins (world : World) : Type 0 where
     pub territory : Territory os world
     pub outside : AllOwners (λ o. IsOutside (at_nodes level ns) o.at.base) os
     pub active : Active world.frames level first places nodes
     pub distinct : Distinct nodes
     pub free : (n : ℕ) → Member n nodes → Member n ns → ⊥
+    pub deepest : length world.frames ≡ suc level
 
 -- one of those that may wait
 pub record IsWaiting (level : ℕ) (ws : List Wait) (m : Owner) : Type 0 where
@@ -154,12 +157,26 @@ pub data Valued (how : Use) (f : Form) (node level first places : ℕ) (ns nodes
 
 -- ---- paths
 
+-- a path that is a fresh value leads to what it made
+abbrev pub IsFreshRoot : Aim → Type 0
+IsFreshRoot (Root (Made v)) = Unit {0}
+IsFreshRoot (Value_of v) = Unit {0}
+IsFreshRoot (Waits_at level node) = Unit {0}
+IsFreshRoot aim = ⊥
+
+abbrev pub IfFresh : Path → Type 0 → Type 0
+IfFresh (Fresh value) P = P
+IfFresh path P = Unit {0}
+
 -- from a place that is in scope, or from what the part made
 pub data Aims (here : Here) (scope : scopes.Here) (limits : Limits) (root : (global : Bool) → ℕ → ℕ) (ms os : List Owner) (path : Path) (f : Form)
     (aim : Aim) : Type 0 where
-  at_place : ((world : World) → Scene here scope limits root os world → AimsAt os world (may_write limits path) (root_at root path) aim f) →
-      steps_of aim ≡ path_steps path → Aims here scope limits root ms os path f aim
-  at_made : {n : ℕ} → may_write limits path ≡ false → ((world : World) → AimsAt ms world false n aim f) → Aims here scope limits root ms os path f aim
+  at_place : (h : (world : World) → Scene here scope limits root os world → AimsAt os world (may_write limits path) (root_at root path) aim f) →
+      (steps_of aim ≡ path_steps path)
+      × (is_character here.facts path ≡ false → (world : World) (sees : Scene here scope limits root os world) → IsWhole aim (h world sees)) →
+      IfFresh path ⊥ → Aims here scope limits root ms os path f aim
+  at_made : {n : ℕ} → may_write limits path ≡ false → ((world : World) → AimsAt ms world false n aim f) → IfFresh path (IsFreshRoot aim) →
+      Aims here scope limits root ms os path f aim
 
 pub record Aiming (here : Here) (scope : scopes.Here) (limits : Limits) (root : (global : Bool) → ℕ → ℕ) (path : Path) (ns : List ℕ) (ws : List Wait)
     (first places : ℕ) (nodes : List ℕ) (os : List Owner) (old : List ℕ) (start : World) (aim : Aim) (now : World) : Type 0 where
@@ -224,7 +241,8 @@ module _ (here : Here) (scope : scopes.Here) (limits : Limits) (root : (global :
         Settled h (ByValue value rest) i (At (at_base (Waiting here.level (node_of value).number)) ∷ xs)
     found : {h : Hand} {path : Path} {rest : Args} {i n : ℕ} {steps : List Step} {l : Location} {xs : List Operand} →
         Found (ms ++ os) now (may_write limits path) n steps (form_for here.facts (type_at path)) l →
-        ((may_write limits path ≡ true) → (n ≡ length ms + root_at root path) × (steps ≡ path_steps path)) → Settled h rest (suc i) xs →
+        ((may_write limits path ≡ true) → (n ≡ length ms + root_at root path) × (steps ≡ path_steps path)
+        × (is_character here.facts path ≡ false → AtCell (ms ++ os) now n steps (form_for here.facts (type_at path)) l)) → Settled h rest (suc i) xs →
         Settled h (ByPath path rest) i (At l ∷ xs)
     seen : {value : Expr} {i : ℕ} {v : Value} {bs : List ℕ} → uses i ≡ Looked → Has now Constant (of_value value) v bs →
         Settled empty (ByValue value NoArg) i (Given v ∷ [])

@@ -25,12 +25,13 @@ pub data ItemForm : Form → Form → Type 0 where
   of_array : {n : ℕ} {f : Form} → ItemForm (row n f) f
   of_text : ItemForm block plain
 
--- A place of a call, at a position: it has a cell of its own, or is another name for one, or for a constant.
+-- A place of a call, at a position: it has a cell of its own, or is another name for one, or for a constant or a part of one.
 pub data PlaceOf (os : List Owner) (world : World) (level n : ℕ) (f : Form) : (written : Bool) → (root : ℕ) → Type 0 where
   own_place : {b : Bool} (i : Among os (record { form = f; at = at_base (Standing level n) })) → PlaceOf os world level n f b (number i)
   a_name_of : {b : Bool} {l : Location} → IsName world.frames level n l → (i : Among os (record { form = f; at = l })) →
       PlaceOf os world level n f b (number i)
-  of_constant : {root : ℕ} {v : Value} → IsName world.frames level n (at_base (Made v)) → Has world Constant f v [] → PlaceOf os world level n f false root
+  of_constant : {root : ℕ} {l : Location} {u v constant : Value} → IsName world.frames level n l → l.base ≡ Made constant → From world l u v →
+      Has world Constant f v [] → PlaceOf os world level n f false root
 
 -- paths whose indexes are evaluated, by the forms of what they lead to
 pub data AimsAt (os : List Owner) (world : World) : (written : Bool) → (root : ℕ) → Aim → Form → Type 0 where
@@ -42,6 +43,17 @@ pub data AimsAt (os : List Owner) (world : World) : (written : Bool) → (root :
   at_field : {b : Bool} {root : ℕ} {aim : Aim} {i : ℕ} {fs : Forms} {f : Form} → AimsAt os world b root aim (parts fs) → PartForm fs i f →
       AimsAt os world b root (PartOf aim i) f
   at_element : {b : Bool} {root : ℕ} {aim : Aim} {z : _} {f g : Form} → AimsAt os world b root aim f → ItemForm f g → AimsAt os world b root (ItemOf aim z) g
+
+-- whose last step isn't one to a character of a text
+abbrev pub IsWhole : {os : List Owner} {world : World} {b : Bool} {root : ℕ} (aim : Aim) {f : Form} → AimsAt os world b root aim f → Type 0
+IsWhole (ItemOf aim z) (at_element {f = f} from item) = f ≡ block → ⊥
+IsWhole aim a = Unit {0}
+
+-- a cell at the end of a chain
+pub record AtCell (os : List Owner) (world : World) (root : ℕ) (steps : List Step) (f : Form) (l : Location) : Type 0 where
+  pub chain : Chain os world (record { form = f; at = l })
+  pub goes : Goes steps chain.path
+  pub is : number chain.at ≡ root
 
 -- the steps of a path
 abbrev pub steps_of : Aim → List Step

@@ -20,3 +20,6 @@ pub mod Used
 pub mod Asked
 pub mod Evaluating
 pub mod Claimed
+pub mod Procedures
+pub mod BodyParts
+pub mod Numbered

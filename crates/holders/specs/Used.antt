@@ -11,7 +11,7 @@ use Rattle.nim_meaning.specs.Deeds as deeds
 use Rattle.nim_meaning.specs.Deeds.{Deed}
 use Rattle.nim_meaning.specs.Here.{Here}
 use Rattle.nim_meaning.specs.Aims.{Aim, find}
-use Rattle.nim_meaning.specs.Places.{made_by}
+use Rattle.nim_meaning.specs.Places.{kept}
 use Rattle.nim_meaning.specs.Steps.{at_path, got}
 use Rattle.holders.specs.Owned.{Constant, Has, IsBase}
 use Rattle.holders.specs.Territory.{Owner}
@@ -64,4 +64,4 @@ Literal Held f node r ms gs first places nodes old start v now = WaitsThere f no
 
 -- what a node's row gives, with blocks
 abbrev pub used_as : Use → (level node : ℕ) → Deed Value → Deed Value
-used_as how level node deed = deeds.◌>>=◌ deed (made_by true (record { how = how; level = level; node = node }))
+used_as how level node deed = deeds.◌>>=◌ deed (kept (record { how = how; level = level; node = node }))

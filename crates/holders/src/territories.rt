@@ -1,7 +1,7 @@
 //! What operations and parts of bodies do with the cells that they may touch.
 
-ghost use Rattle.std.specs.Prelude.{◌≡◌, ◌≤◌, ◌<◌, ◌+◌, ℕ, ℤ, false, true, Bool, not};
-ghost use Rattle.std.specs.Prelude.{List, [], ◌∷◌, ◌++◌, ◌⊎◌, length, take, Some};
+ghost use Rattle.std.specs.Prelude.{◌≡◌, ◌≤◌, ◌<◌, ◌+◌, ℕ, ℤ, suc, false, true, Bool, not};
+ghost use Rattle.std.specs.Prelude.{List, [], ◌∷◌, ◌++◌, ◌⊎◌, length, take, Option, Some};
 ghost use Rattle.nim_types.specs.Types.{Ty, Facts};
 ghost use Rattle.nim_types.specs.Forms.{Form, plain, block, elements, hooked, Forms, form_of};
 ghost use Rattle.nim_types.specs.Forms.{HasForm};
@@ -243,17 +243,6 @@ pub fn parts_of_bodies()
         Stage r ms gs first places nodes old start s.world →
         Comes (λ u after. Stage r ns gs first places (without_waits nodes ws) old start after)
         (λ way after. ⊥) (all_end r.level flow ws s) }
-    ensures scope { (r : Region) (ms gs : List Owner) (first places : ℕ) (nodes old : List ℕ)
-        (start : World) (here : Here) (place : Declared) (last : ℕ) (rest : Does (Unit {0})) →
-        here.level ≡ r.level → r.places place.number ≡ true → (s : State) →
-        Comes (λ u after. Stage r (record { form = form_of here.facts place.of; at = at_base (Standing r.level place.number) } ∷ ms) gs first places nodes
-        old start after)
-        (λ way after. Stage r (record { form = form_of here.facts place.of; at = at_base (Standing r.level place.number) } ∷ ms) gs first places nodes
-        old start after)
-        (rest s) →
-        Comes (λ u after. Stage r ms gs first places nodes old start after)
-        (λ way after. Stage r ms gs first places nodes old start after)
-        (scoped here place last rest s) }
     ensures absorbed { (r inner : Region) (ms ks gs : List Owner) (first places : ℕ)
         (nodes old : List ℕ) (start now : World) → Wider r inner → AreOwn r ks →
         Stage inner ms (ks ++ gs) first places nodes old start now →
@@ -290,7 +279,8 @@ pub fn expressions()
         ((n : ℕ) → Member n (value_nodes value) → own_nodes n ≡ true) →
         ((n : ℕ) → Member n nodes → Member n (value_nodes value) → ⊥) →
         AllOwners (λ o. IsOutside (at_nodes here.level (value_nodes value)) o.at.base) (ks ++ gs) →
-        AreOwn (body_region here.level own_places own_nodes) ks → (s : State) →
+        AreOwn (body_region here.level own_places own_nodes) ks →
+        length start.frames ≡ suc here.level → (s : State) →
         InBody (body_region here.level own_places own_nodes) ks gs first places nodes old start
         s.world → Scene here scope limits root (ks ++ gs) s.world →
         Comes (λ u after. InBody (body_region here.level own_places own_nodes) ks gs first places nodes old start after)
@@ -312,7 +302,7 @@ pub fn entered()
 /// other values.
 pub fn calls_as_a_whole()
     ensures { (r : Region) (gs ms ns : List Owner) (first places : ℕ) (nodes old : List ℕ)
-        (here : Here) (f : Form) (globals : List Declared) (params : List Param) (body : Body)
+        (here : Here) (f : Option Form) (globals : List Declared) (params : List Param) (body : Body)
         (slots : List Slot) (s : State) → here.level ≡ r.level →
         length s.world.frames ≡ r.level → AllOwners (λ g. IsBelow r.level g.at.base) gs →
         ParamsEnd r here (with_frame s.world (frame_of here.facts body slots)) params ms ns →
@@ -321,7 +311,7 @@ pub fn calls_as_a_whole()
         Comes (λ u after. Stage r ms gs first places nodes old (with_frame s.world (frame_of here.facts body slots)) after)
         (λ way after. NotRaised way × Stage r ms gs first places nodes old (with_frame s.world (frame_of here.facts body slots)) after)
         (exec_all body.stmts here now)) →
-        Comes (λ v after. CameBack gs f old s.world v after) (λ way after. ⊥)
+        Comes (λ v after. CameBack gs old s.world v after f) (λ way after. ⊥)
         (entered_body globals params body slots here s) }
 {}
 
@@ -329,8 +319,8 @@ pub fn calls_as_a_whole()
 /// that were handed over to it.
 pub fn brought_back()
     ensures { (os ms : List Owner) (world : World) (t : Territory os world)
-        (w : Works os ms t.blocks world) (f : Form) (given old : List ℕ) (v : Value)
+        (w : Works os ms t.blocks world) (f : Option Form) (given old : List ℕ) (v : Value)
         (after : World) → Strange given t.blocks → ClearOf given os →
         ((k : ℕ) → Member k old → Member k given ⊎ Member k w.territory.blocks) →
-        CameBack ms f old world v after → CallGives os f given t.blocks world v after }
+        CameBack ms old world v after f → CallGives os given t.blocks world v after f }
 {}

@@ -193,7 +193,8 @@ module _ (table : List TypeDef) (z : Surroundings table) (live : Lives) (procs :
         (guarded table z live procs fresh h own c began joined e k (St b code) behind (λ deed. (deed >>= (λ u. frees (block_of r.value))) >>= rest) refl
         (is_there w l)
         (changes (Stores l Vacant)) w
-        (λ here. subst (λ done. Out e k behind done (St b code)) (sym (performs_then (frees (block_of r.value)) rest (store w l Vacant))) (done_now is_own here)))))))
+        (λ here. subst (λ done. Out e k behind done (St b code)) (sym (performs_then (frees (block_of r.value)) rest (store w l Vacant)))
+        (done_now is_own here)))))))
       where
         code : List WordInstr
         code = released of k

@@ -1,7 +1,7 @@
 -- The procedures of hooks are found by their numbers.
 use Rattle.std.proofs.Common.{◌≡◌, ◌≢◌, ℕ, zero, suc, ◌+◌, ◌≤◌, Bool, true, false, List, [], ◌∷◌, ◌++◌, Some, refl, sym, ap, subst, ◌∙◌, arith}
 use Rattle.std.specs.Prelude.{slice_get, if◌then◌else◌, ◌==◌, ◌||◌, ◌&&◌, not}
-use Rattle.std.proofs.lemmas.Bool.{false≢true, cond-true, cond-false, eq-eqb, ne_eqb, and_parts, and_from}
+use Rattle.std.proofs.lemmas.Bool.{false≢true, cond-true, cond-false, eq-eqb, ne_eqb, and_parts, and_from, le-leb}
 use Rattle.nim_types.specs.declared.types.TypeDef.{TypeDef}
 use Rattle.nim_types.specs.declared.types.TypeDef.TheVariants as D
 use Rattle.word_code.specs.declared.word.WordProc.{WordProc}
@@ -12,9 +12,10 @@ use Rattle.hook_lifting.specs.declared.lifted.Hook.{Hook}
 use Rattle.hook_lifting.specs.declared.lifted.Hook.TheVariants.{Copies, Assigns, Sinks, Ends}
 use Rattle.hook_lifting.specs.declared.lifted.Lifted.{Lifted}
 use Rattle.hook_lifting.specs.declared.lifted.Cut.{Cut}
-use Rattle.hook_lifting.specs.Lifted.{has_hooks, lines_of, all_hooks, each_from, hooks_of, of_entry, lifted, cut_if, cut_entry, cuts, cut_lines}
+use Rattle.hook_lifting.specs.Lifted.{has_hooks, is_lifted, is_shallow, lines_of, all_hooks, each_from, hooks_of, of_entry, lifted, cut_if, cut_entry, cuts}
+use Rattle.hook_lifting.specs.Lifted.{cut_lines}
 use Rattle.hook_code.specs.HookCode.{hook_index, hook_number, cut_number, hook_proc, cut_proc, hook_procs, cut_procs, procs_in}
-use Rattle.hook_code.specs.Kept.{IsAmong, AreThere, CutsAreThere}
+use Rattle.hook_code.specs.Kept.{IsAmong, AreThere, CutsAreThere, rank_in}
 use Rattle.hook_code.proofs.Known.{none_some, same_some}
 
 -- ---- among procedures
@@ -111,7 +112,7 @@ module _ (table : List TypeDef) (first : ℕ) where
   four_free n ty d away = (away Copies, (away Assigns, (away Sinks, (away Ends, tt))))
 
   entry_free : (n ty : ℕ) (d : TypeDef) → ((hook : Hook) → hook_number first hook ty ≢ n) → IsFree n (those ty d)
-  entry_free n ty d away = by (has_hooks table ty)
+  entry_free n ty d away = by (is_lifted table ty)
     where
       by : (b : Bool) → IsFree n (procs_of (if b then hooks_of table ty d all_hooks else []))
       by true = four_free n ty d away
@@ -152,19 +153,19 @@ module _ (table : List TypeDef) (first : ℕ) where
   abbrev IsFound : (hook : Hook) (ty : ℕ) → TypeDef → List WordProc → Type 0
   IsFound hook ty d procs = (others : List WordProc) × (from_proc (hook_number first hook ty) procs ≡ one ty d hook ∷ others)
 
-  found_from : (hook : Hook) (ds : List TypeDef) (ty j : ℕ) (d : TypeDef) → slice_get ds j ≡ Some d → has_hooks table (ty + j) ≡ true
+  found_from : (hook : Hook) (ds : List TypeDef) (ty j : ℕ) (d : TypeDef) → slice_get ds j ≡ Some d → is_lifted table (ty + j) ≡ true
       → IsFound hook (ty + j) d (from_entry ds ty)
   found_from hook [] ty j d at hooks = absurd (none_some at)
   found_from hook (e ∷ ds) ty zero d at hooks =
       let same : ty ≡ ty + 0 = omega arith in
-      let here : has_hooks table ty ≡ true = subst (λ t. has_hooks table t ≡ true) (sym same) hooks in
+      let here : is_lifted table ty ≡ true = subst (λ t. is_lifted table t ≡ true) (sym same) hooks in
       subst (λ t. IsFound hook t d (from_entry (e ∷ ds) ty)) same (subst (λ i. IsFound hook ty i (from_entry (e ∷ ds) ty)) (same_some e d at)
       (subst (λ ps. IsFound hook ty e ps) (sym (from_both e ds ty))
       (subst (λ b. IsFound hook ty e (procs_of (if b then hooks_of table ty e all_hooks else []) ++ from_entry ds (suc ty))) (sym here)
       (found_of hook ty e (from_entry ds (suc ty))))))
   found_from hook (e ∷ ds) ty (suc j) d at hooks =
       let same : suc ty + j ≡ ty + suc j = omega arith in
-      let later = found_from hook ds (suc ty) j d at (subst (λ t. has_hooks table t ≡ true) (sym same) hooks) in
+      let later = found_from hook ds (suc ty) j d at (subst (λ t. is_lifted table t ≡ true) (sym same) hooks) in
       subst (λ ps. IsFound hook (ty + suc j) d ps) (sym (from_both e ds ty)) (subst (λ t. IsFound hook t d (those ty e ++ from_entry ds (suc ty))) same (
         later.0,
         found_last (hook_number first hook (suc ty + j)) (those ty e) (from_entry ds (suc ty))
@@ -198,7 +199,7 @@ module _ (table : List TypeDef) (first : ℕ) where
   cut_free n ty (D.Distinct name place base) away = tt
   cut_free n ty (D.Ref name base) away = tt
   cut_free n ty (D.Exception name place parent) away = tt
-  cut_free n ty (D.Seq el) away = by (has_hooks table el)
+  cut_free n ty (D.Seq el) away = by (has_hooks table el && is_shallow table ty)
     where
       by : (b : Bool) → IsFree n (cut_procs table first (cut_if b ty el))
       by true = (away, tt)
@@ -214,18 +215,20 @@ module _ (table : List TypeDef) (first : ℕ) where
   abbrev IsCutFound : (ty el : ℕ) → List WordProc → Type 0
   IsCutFound ty el procs = (others : List WordProc) × (from_proc (cut_number first ty) procs ≡ cut_of ty el ∷ others)
 
-  cut_found : (ds : List TypeDef) (ty j el : ℕ) → slice_get ds j ≡ Some (D.Seq el) → has_hooks table el ≡ true → IsCutFound (ty + j) el (cuts_from ds ty)
+  cut_found : (ds : List TypeDef) (ty j el : ℕ) → slice_get ds j ≡ Some (D.Seq el) → (has_hooks table el && is_shallow table (ty + j)) ≡ true
+      → IsCutFound (ty + j) el (cuts_from ds ty)
   cut_found [] ty j el at hooks = absurd (none_some at)
   cut_found (e ∷ ds) ty zero el at hooks =
       let same : ty ≡ ty + 0 = omega arith in
       subst (λ t. IsCutFound t el (cuts_from (e ∷ ds) ty)) same
       (subst (λ i. IsCutFound ty el (cuts_from (i ∷ ds) ty)) (sym (same_some e (D.Seq el) at))
       (subst (λ ps. IsCutFound ty el ps) (sym (cuts_from_both (D.Seq el) ds ty))
-      (subst (λ b. IsCutFound ty el (cut_procs table first (cut_if b ty el) ++ cuts_from ds (suc ty))) (sym hooks)
+      (subst (λ b. IsCutFound ty el (cut_procs table first (cut_if b ty el) ++ cuts_from ds (suc ty)))
+      (sym (subst (λ t. (has_hooks table el && is_shallow table t) ≡ true) (sym same) hooks))
       (_, found_here (cut_of ty el) (cuts_from ds (suc ty))))))
   cut_found (e ∷ ds) ty (suc j) el at hooks =
       let same : suc ty + j ≡ ty + suc j = omega arith in
-      let later = cut_found ds (suc ty) j el at hooks in
+      let later = cut_found ds (suc ty) j el at (subst (λ t. (has_hooks table el && is_shallow table t) ≡ true) (sym same) hooks) in
       subst (λ ps. IsCutFound (ty + suc j) el ps) (sym (cuts_from_both e ds ty)) (subst (λ t. IsCutFound t el (cuts_of ty e ++ cuts_from ds (suc ty))) same (
         later.0,
         found_last (cut_number first (suc ty + j)) (cuts_of ty e) (cuts_from ds (suc ty))
@@ -234,17 +237,19 @@ module _ (table : List TypeDef) (first : ℕ) where
 
   -- ---- all of them
 
-  pub hook_found : (hook : Hook) (ty : ℕ) (d : TypeDef) → slice_get table ty ≡ Some d → has_hooks table ty ≡ true → IsFound hook ty d (procs_in table first)
+  pub hook_found : (hook : Hook) (ty : ℕ) (d : TypeDef) → slice_get table ty ≡ Some d → is_lifted table ty ≡ true → IsFound hook ty d (procs_in table first)
   hook_found hook ty d at hooks =
       let same : 0 + ty ≡ ty = omega arith in
       let f = subst (λ t. IsFound hook t d (from_entry table 0)) same
-      (found_from hook table 0 ty d at (subst (λ t. has_hooks table t ≡ true) (sym same) hooks)) in
+      (found_from hook table 0 ty d at (subst (λ t. is_lifted table t ≡ true) (sym same) hooks)) in
       (_, found_first (hook_number first hook ty) (procs_of (lifted table)) (cut_procs table first (cuts table)) (one ty d hook) f.0 f.1)
 
-  pub one_cut_found : (ty el : ℕ) → slice_get table ty ≡ Some (D.Seq el) → has_hooks table el ≡ true → IsCutFound ty el (procs_in table first)
+  pub one_cut_found : (ty el : ℕ) → slice_get table ty ≡ Some (D.Seq el) → (has_hooks table el && is_shallow table ty) ≡ true
+      → IsCutFound ty el (procs_in table first)
   one_cut_found ty el at hooks =
       let same : 0 + ty ≡ ty = omega arith in
-      let f = subst (λ t. IsCutFound t el (cuts_from table 0)) same (cut_found table 0 ty el at hooks) in (
+      let f = subst (λ t. IsCutFound t el (cuts_from table 0)) same
+      (cut_found table 0 ty el at (subst (λ t. (has_hooks table el && is_shallow table t) ≡ true) (sym same) hooks)) in (
         f.0,
         found_last (cut_number first ty) (procs_of (lifted table)) (cut_procs table first (cuts table))
             (hooks_free (cut_number first ty) table 0 (λ hook of le. no_cut first hook of ty)) ∙ f.1,
@@ -268,7 +273,11 @@ module _ (table : List TypeDef) (first : ℕ) where
         moved_found n ps e = found_moved shift n ps ∙ ap (λ qs. all_moved shift qs) e
 
     pub are_there : AreThere table first whole
-    are_there hook ty d at hooks = let f = hook_found hook ty d at hooks in among (one ty d hook) f.0 (omega arith) f.1
+    are_there hook ty d at hooks few =
+        let f = hook_found hook ty d at (and_from (has_hooks table ty) (is_shallow table ty) hooks (le-leb (rank_in table ty) 64 few)) in
+        among (one ty d hook) f.0 (omega arith) f.1
 
     pub cuts_there : CutsAreThere table first whole
-    cuts_there ty el at hooks = let f = one_cut_found ty el at hooks in among (cut_of ty el) f.0 (omega arith) f.1
+    cuts_there ty el at hooks few =
+        let f = one_cut_found ty el at (and_from (has_hooks table el) (is_shallow table ty) hooks (le-leb (rank_in table ty) 64 few)) in
+        among (cut_of ty el) f.0 (omega arith) f.1

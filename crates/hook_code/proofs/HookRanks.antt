@@ -1,7 +1,7 @@
 -- Hooks call each other in no circle: what a hook calls has a lower rank.
 use Rattle.std.proofs.Common.{◌≡◌, ℕ, suc, ◌+◌, ◌≤◌, Bool, true, false, List, [], ◌∷◌, ◌++◌, Some, refl, sym, subst, ◌∙◌, arith}
-use Rattle.std.specs.Prelude.{slice_get, if◌then◌else◌, ◌==◌, ◌-◌}
-use Rattle.std.proofs.lemmas.Bool.{false≢true}
+use Rattle.std.specs.Prelude.{slice_get, if◌then◌else◌, ◌==◌, ◌-◌, ◌&&◌}
+use Rattle.std.proofs.lemmas.Bool.{false≢true, and_parts}
 use Rattle.nim_types.specs.declared.types.TypeDef.{TypeDef}
 use Rattle.nim_types.specs.declared.types.TypeDef.TheVariants as D
 use Rattle.nim_types.specs.declared.types.TheConstants.{WORD_BYTES}
@@ -15,7 +15,7 @@ use Rattle.hook_lifting.specs.declared.lifted.Hook.{Hook}
 use Rattle.hook_lifting.specs.declared.lifted.Hook.TheVariants.{Copies, Assigns, Sinks, Ends}
 use Rattle.hook_lifting.specs.declared.lifted.LiftedLine.{LiftedLine}
 use Rattle.hook_lifting.specs.declared.lifted.LiftedLine.TheVariants as O
-use Rattle.hook_lifting.specs.Lifted.{has_hooks, is_routine, lines_of, all_hooks, hooks_of, cut_if, cut_lines}
+use Rattle.hook_lifting.specs.Lifted.{has_hooks, is_lifted, is_shallow, is_routine, lines_of, all_hooks, hooks_of, cut_if, cut_lines}
 use Rattle.hook_code.specs.HookCode.{hook_number, part_hook, bits, bytes_at, line_code, lines_code, body_code, hook_proc, hook_procs, cut_procs, procs_in}
 use Rattle.hook_code.specs.Kept.{IsOrdered, Ranks, chain_of}
 use Rattle.hook_code.proofs.Env.{Env, Fits, a_part, a_zero, a_test, a_turn, a_label, a_return, a_hook, a_base, a_load, a_count, a_number, an_element, a_member}
@@ -184,12 +184,13 @@ module _ (table : List TypeDef) (first : ℕ) (level : ℕ → ℕ) (base : ℕ)
   hooks_ranked [] ty behind = tt
   hooks_ranked (d ∷ ds) ty behind =
       subst (AreRanked rank) (sym (from_both table first d ds ty))
-      (ranked_both (those table first ty d) (from_entry table first ds (suc ty)) (by (has_hooks table ty) refl)
+      (ranked_both (those table first ty d) (from_entry table first ds (suc ty)) (by (is_lifted table ty) refl)
       (hooks_ranked ds (suc ty) (later d ds ty behind)))
     where
-      by : (b : Bool) → has_hooks table ty ≡ b → AreRanked rank (hook_procs table first (if b then hooks_of table ty d all_hooks else []))
-      by true is =
-          let at = here d ds ty behind in (
+      by : (b : Bool) → is_lifted table ty ≡ b → AreRanked rank (hook_procs table first (if b then hooks_of table ty d all_hooks else []))
+      by true lifted =
+          let at = here d ds ty behind in
+          let is = (and_parts (has_hooks table ty) (is_shallow table ty) lifted).0 in (
             (λ u. hook_ranked Copies ty d at is),
             (
               (λ u. hook_ranked Assigns ty d at is),
@@ -206,7 +207,7 @@ module _ (table : List TypeDef) (first : ℕ) (level : ℕ → ℕ) (base : ℕ)
       (cuts_ranked ds (suc ty) (later d ds ty behind)))
     where
       of_entry : (d : TypeDef) → slice_get table ty ≡ Some d → AreRanked rank (cuts_of table first ty d)
-      of_entry (D.Seq el) at = by (has_hooks table el)
+      of_entry (D.Seq el) at = by (has_hooks table el && is_shallow table ty)
         where
           by : (b : Bool) → AreRanked rank (cut_procs table first (cut_if b ty el))
           by true = ((λ u. cut_ranked ty el at), tt)

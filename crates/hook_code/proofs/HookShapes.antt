@@ -17,7 +17,8 @@ use Rattle.hook_lifting.specs.declared.lifted.Lifted.{Lifted}
 use Rattle.hook_lifting.specs.declared.lifted.Cut.{Cut}
 use Rattle.hook_lifting.specs.declared.lifted.LiftedLine.{LiftedLine}
 use Rattle.hook_lifting.specs.declared.lifted.LiftedLine.TheVariants as O
-use Rattle.hook_lifting.specs.Lifted.{has_hooks, is_needed, is_routine, part_lines, to_part, turn_lines, loop_lines, lines_of, all_hooks, hooks_of}
+use Rattle.hook_lifting.specs.Lifted.{has_hooks, is_lifted, is_shallow, is_needed, is_routine, part_lines, to_part, turn_lines, loop_lines, lines_of, all_hooks}
+use Rattle.hook_lifting.specs.Lifted.{hooks_of}
 use Rattle.hook_lifting.specs.Lifted.{lifted, cut_if, cuts, cut_lines, elements_end}
 use Rattle.hook_code.specs.declared.numbers.TheConstants.{HOOK_VARIABLES}
 use Rattle.hook_code.specs.HookCode.{hook_number, cut_number, part_hook, bits, bytes_at, line_code, lines_code, body_code, hook_proc, hook_procs, cut_procs}
@@ -156,14 +157,14 @@ module _ (table : List TypeDef) (first : ℕ) where
 
   -- what holds of four hooks, or of none
   entry_formed : (ty : ℕ) (d : TypeDef) → are_procs (those table first ty d) ≡ true
-  entry_formed ty d = by (has_hooks table ty)
+  entry_formed ty d = by (is_lifted table ty)
     where
       by : (b : Bool) → are_procs (hook_procs table first (if b then hooks_of table ty d all_hooks else [])) ≡ true
       by true = four_formed ty d
       by false = refl
 
   four_apart : (ty : ℕ) (d : TypeDef) (qs : List WordProc) → ((hook : Hook) → IsFree (hook_number first hook ty) qs) → AreApart (those table first ty d) qs
-  four_apart ty d qs free = by (has_hooks table ty)
+  four_apart ty d qs free = by (is_lifted table ty)
     where
       by : (b : Bool) → AreApart (hook_procs table first (if b then hooks_of table ty d all_hooks else [])) qs
       by true = (free Copies, (free Assigns, (free Sinks, (free Ends, tt))))
@@ -180,7 +181,7 @@ module _ (table : List TypeDef) (first : ℕ) where
       (entry_formed ty d) (hooks_formed ds (suc ty)))
 
   cut_entry_formed : (ty : ℕ) (d : TypeDef) → are_procs (cuts_of table first ty d) ≡ true
-  cut_entry_formed ty (D.Seq el) = by (has_hooks table el)
+  cut_entry_formed ty (D.Seq el) = by (has_hooks table el && is_shallow table ty)
     where
       by : (b : Bool) → are_procs (cut_procs table first (cut_if b ty el)) ≡ true
       by true = one_proc (cut_of table first ty el) [] (cut_named table first ty el) tt refl
@@ -199,7 +200,7 @@ module _ (table : List TypeDef) (first : ℕ) where
   cut_entry_formed ty (D.Exception name place parent) = refl
 
   cut_apart : (ty : ℕ) (d : TypeDef) (qs : List WordProc) → IsFree (cut_number first ty) qs → AreApart (cuts_of table first ty d) qs
-  cut_apart ty (D.Seq el) qs free = by (has_hooks table el)
+  cut_apart ty (D.Seq el) qs free = by (has_hooks table el && is_shallow table ty)
     where
       by : (b : Bool) → AreApart (cut_procs table first (cut_if b ty el)) qs
       by true = (free, tt)

@@ -1,6 +1,6 @@
 -- How much word code hooks are: so much for each type, and so much for each of its parts.
 use Rattle.std.proofs.Common.{◌≡◌, ℕ, suc, ◌+◌, ◌*◌, ◌≤◌, Bool, true, false, List, [], ◌∷◌, ◌++◌, length, None, ap, ◌∙◌, arith}
-use Rattle.std.specs.Prelude.{if◌then◌else◌, ◌==◌}
+use Rattle.std.specs.Prelude.{if◌then◌else◌, ◌==◌, ◌&&◌}
 use Rattle.nim_types.specs.declared.types.TypeDef.{TypeDef}
 use Rattle.nim_types.specs.declared.types.TypeDef.TheVariants as D
 use Rattle.nim_types.specs.declared.types.TheConstants.{WORD_BYTES}
@@ -13,9 +13,10 @@ use Rattle.hook_lifting.specs.declared.lifted.Hook.{Hook}
 use Rattle.hook_lifting.specs.declared.lifted.Hook.TheVariants.{Copies, Assigns, Sinks, Ends}
 use Rattle.hook_lifting.specs.declared.lifted.LiftedLine.{LiftedLine}
 use Rattle.hook_lifting.specs.declared.lifted.LiftedLine.TheVariants as O
-use Rattle.hook_lifting.specs.Lifted.{has_hooks, is_needed, part_lines, to_part, lines_of, all_hooks, hooks_of, cut_if, cut_lines, elements_end, loop_lines}
+use Rattle.hook_lifting.specs.Lifted.{has_hooks, is_lifted, is_shallow, is_needed, part_lines, to_part, lines_of, all_hooks, hooks_of, cut_if, cut_lines}
+use Rattle.hook_lifting.specs.Lifted.{elements_end, loop_lines}
 use Rattle.hook_code.specs.HookCode.{part_hook, bits, bytes_at, flat_code, line_code, lines_code, body_code, hook_procs, cut_procs, procs_in}
-use Rattle.hook_code.specs.Kept.{parts_count, parts_total}
+use Rattle.hook_code.specs.Kept.{parts_count, lifted_parts, sequence_count, sequences_count, hook_parts}
 use Rattle.hook_code.proofs.HookNumbers.{those, from_entry, from_both, cuts_of, cuts_from, cuts_from_both}
 
 -- ---- lines
@@ -132,19 +133,23 @@ module _ (table : List TypeDef) (first : ℕ) where
   weight_both [] qs = let e : word_weight qs ≡ 0 + word_weight qs = omega arith in e
   weight_both (p ∷ ps) qs = let e = weight_both ps qs in omega (arith, e)
 
-  entry_few : (ty : ℕ) (d : TypeDef) → word_weight (those table first ty d) ≤ 144 * parts_count d + 604
-  entry_few ty d = by (has_hooks table ty)
+  abbrev lifted_few : (ty : ℕ) → TypeDef → ℕ
+  lifted_few ty d = if is_lifted table ty then suc (parts_count d) else 0
+
+  entry_few : (ty : ℕ) (d : TypeDef) → word_weight (those table first ty d) ≤ 764 * lifted_few ty d
+  entry_few ty d = by (is_lifted table ty)
     where
-      by : (b : Bool) → word_weight (hook_procs table first (if b then hooks_of table ty d all_hooks else [])) ≤ 144 * parts_count d + 604
+      by : (b : Bool) → word_weight (hook_procs table first (if b then hooks_of table ty d all_hooks else []))
+          ≤ 764 * (if b then suc (parts_count d) else 0)
       by true =
           let c = proc_few table first ty Copies d in let a = proc_few table first ty Assigns d in let s = proc_few table first ty Sinks d in
           let e = proc_few table first ty Ends d in omega (arith, c, a, s, e)
       by false = omega arith
 
-  cut_few : (ty : ℕ) (d : TypeDef) → word_weight (cuts_of table first ty d) ≤ 160
-  cut_few ty (D.Seq el) = by (has_hooks table el)
+  cut_few : (ty : ℕ) (d : TypeDef) → word_weight (cuts_of table first ty d) ≤ 764 * sequence_count d
+  cut_few ty (D.Seq el) = by (has_hooks table el && is_shallow table ty)
     where
-      by : (b : Bool) → word_weight (cut_procs table first (cut_if b ty el)) ≤ 160
+      by : (b : Bool) → word_weight (cut_procs table first (cut_if b ty el)) ≤ 764
       by true = let l = lines_few table first ty (cut_lines el) in omega (arith, l)
       by false = omega arith
   cut_few ty D.Int = omega arith
@@ -160,19 +165,19 @@ module _ (table : List TypeDef) (first : ℕ) where
   cut_few ty (D.Ref name base) = omega arith
   cut_few ty (D.Exception name place parent) = omega arith
 
-  hooks_few : (ds : List TypeDef) (ty : ℕ) → word_weight (from_entry table first ds ty) ≤ 144 * parts_total ds + 604 * length ds
+  hooks_few : (ds : List TypeDef) (ty : ℕ) → word_weight (from_entry table first ds ty) ≤ 764 * lifted_parts table ds ty
   hooks_few [] ty = omega arith
   hooks_few (d ∷ ds) ty =
       let e = ap word_weight (from_both table first d ds ty) ∙ weight_both (those table first ty d) (from_entry table first ds (suc ty)) in
       let h = entry_few ty d in let r = hooks_few ds (suc ty) in omega (arith, e, h, r)
 
-  cuts_few : (ds : List TypeDef) (ty : ℕ) → word_weight (cuts_from table first ds ty) ≤ 160 * length ds
+  cuts_few : (ds : List TypeDef) (ty : ℕ) → word_weight (cuts_from table first ds ty) ≤ 764 * sequences_count ds
   cuts_few [] ty = omega arith
   cuts_few (d ∷ ds) ty =
       let e = ap word_weight (cuts_from_both table first d ds ty) ∙ weight_both (cuts_of table first ty d) (cuts_from table first ds (suc ty)) in
       let h = cut_few ty d in let r = cuts_few ds (suc ty) in omega (arith, e, h, r)
 
-  pub all_few : word_weight (procs_in table first) ≤ 144 * parts_total table + 764 * length table
+  pub all_few : word_weight (procs_in table first) ≤ 764 * hook_parts table
   all_few =
       let e = weight_both (from_entry table first table 0) (cuts_from table first table 0) in
       let h = hooks_few table 0 in let c = cuts_few table 0 in omega (arith, e, h, c)

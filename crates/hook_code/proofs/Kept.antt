@@ -24,7 +24,7 @@ use Rattle.hook_lifting.proofs.ForCallers.{least_walk}
 use Rattle.hook_code.specs.HookCode.{hook_number, proc_with, lines_code, body_code}
 use Rattle.hook_code.specs.Surroundings.{Surroundings}
 use Rattle.hook_code.specs.Promises.{Comes, AnyWord, IsMade, Routines, IsKept}
-use Rattle.hook_code.specs.Kept.{IsOrdered, AreThere, chain_of, pace_at}
+use Rattle.hook_code.specs.Kept.{IsOrdered, AreThere, chain_of, pace_at, rank_in}
 use Rattle.hook_code.proofs.HookRuns.{back_in, over_in, hook_comes}
 use Rattle.hook_code.proofs.Fitting.{Needs, labels_of, all_fit}
 use Rattle.hook_code.proofs.Needed.{part_chain, some_chain, needs_of}
@@ -102,11 +102,12 @@ module _ (table : List TypeDef) where
 
       -- one with lines, whose calls keep theirs
       pub by_lines : (chain pace : ℕ) → least_pace ≤ pace → (hook : Hook) (ty : ℕ) (d : TypeDef) → slice_get table ty ≡ Some d → has_hooks table ty ≡ true
-          → is_built (form_in (known_in table) ty) ≡ true → is_routine d hook ≡ false → Needs table ty hook d (λ other of. May_call chain pace other of)
+          → rank_in table ty ≤ 64 → is_built (form_in (known_in table) ty) ≡ true → is_routine d hook ≡ false →
+          Needs table ty hook d (λ other of. May_call chain pace other of)
           → Promised (suc chain) (pace + extra_of d + 1) hook ty
-      by_lines chain pace steep hook ty d typed hooks built runs needs low top h e w s to rest l from a b called leads_to leads_from fits =
+      by_lines chain pace steep hook ty d typed hooks few built runs needs low top h e w s to rest l from a b called leads_to leads_from fits =
           let whole = lines_of table hook ty d in
-          let found = there hook ty d typed hooks in
+          let found = there hook ty d typed hooks few in
           let p = found.2 ∙ ap (λ code. moved found.0 (proc_with (hook_number first hook ty) code) ∷ found.1)
           (body_is table first ty hook whole (lines_some hook ty d runs)) in
           let fitting = all_fit table ty (λ other of. May_call chain pace other of) hook d typed needs runs in
@@ -117,14 +118,18 @@ module _ (table : List TypeDef) where
 
       -- ---- all of them, by ranks
 
-      module _ (rank : ℕ → ℕ) (ordered : IsOrdered table rank)
-          (texts : (chain : ℕ) (hook : Hook) (ty : ℕ) → slice_get table ty ≡ Some D.Text → has_hooks table ty ≡ true → is_routine D.Text hook ≡ true
-          → Promised (suc chain) 32 hook ty) where
+      module _ (ordered : IsOrdered table (rank_in table))
+          (texts : (chain : ℕ) (hook : Hook) (ty : ℕ) → slice_get table ty ≡ Some D.Text → has_hooks table ty ≡ true → rank_in table ty ≤ 64
+          → is_routine D.Text hook ≡ true → Promised (suc chain) 32 hook ty) where
+        abbrev rank : ℕ → ℕ
+        rank ty = rank_in table ty
+
         abbrev Built : ℕ → Type 0
         Built ty = is_built (form_in (known_in table) ty) ≡ true
 
         abbrev All_below : ℕ → Type 0
-        All_below n = (hook : Hook) (ty : ℕ) (d : TypeDef) → slice_get table ty ≡ Some d → has_hooks table ty ≡ true → Built ty → chain_of hook (rank ty) ≤ n
+        All_below n = (hook : Hook) (ty : ℕ) (d : TypeDef) → slice_get table ty ≡ Some d → has_hooks table ty ≡ true → rank ty ≤ 64 → Built ty
+            → chain_of hook (rank ty) ≤ n
             → Promised n (pace_at hook (rank ty)) hook ty
 
         made_of : (hook : Hook) (p : ℕ) → is_needed hook (has_hooks table p) ≡ true → has_hooks table p ≡ false → IsMade table z live procs fresh hook
@@ -172,37 +177,37 @@ module _ (table : List TypeDef) where
         whole_pace : (hook : Hook) (ty : ℕ) (d : TypeDef) → inner_pace hook ty d + extra_of d + 1 ≤ pace_at hook (rank ty)
         whole_pace hook ty d = let s = ordered.some ty in let f = few_more d in let l = least_at hook (rank ty) in omega (arith, s, f, l)
 
-        needs : (n : ℕ) → All_below n → (ty : ℕ) (hook : Hook) (d : TypeDef) → slice_get table ty ≡ Some d → has_hooks table ty ≡ true → Built ty
-            → chain_of hook (rank ty) ≤ suc n → Needs table ty hook d (λ other of. May_call n (inner_pace hook ty d) other of)
-        needs n below ty hook d at hooks built le =
-            needs_of table rank ordered (λ other of. May_call n (inner_pace hook ty d) other of) ty hook d at hooks
+        needs : (n : ℕ) → All_below n → (ty : ℕ) (hook : Hook) (d : TypeDef) → slice_get table ty ≡ Some d → has_hooks table ty ≡ true → rank ty ≤ 64
+            → Built ty → chain_of hook (rank ty) ≤ suc n → Needs table ty hook d (λ other of. May_call n (inner_pace hook ty d) other of)
+        needs n below ty hook d at hooks few built le =
+            needs_of table (rank_in table) ordered (λ other of. May_call n (inner_pace hook ty d) other of) ty hook d at hooks
             (λ p e of at_of is less.
             inl (
               is,
               kept_longer hook p n n (inner_pace hook ty d) (pace_at hook (rank p)) (le_refl n)
                   (let s = part_pace hook (rank p) (rank ty) less in let f = few_more d in omega (arith, s, f))
-                  (below hook p e at_of is (ordered.built ty p d at of built) (part_chain n hook (rank p) (rank ty) less le)),
+                  (below hook p e at_of is (omega (arith, less, few)) (ordered.built ty p d at of built) (part_chain n hook (rank p) (rank ty) less le)),
             ))
             (λ other none less slower.
             inl (
               hooks,
               kept_longer other ty n n (inner_pace hook ty d) (pace_at other (rank ty)) (le_refl n) (omega (arith, none, slower))
-                  (below other ty d at hooks built (omega (arith, less, le))),
+                  (below other ty d at hooks few built (omega (arith, less, le))),
             ))
             (λ p none needed. inr (none, made_of hook p needed none))
 
         pub all_kept : (n : ℕ) → All_below n
-        all_kept zero hook ty d typed hooks built le = absurd (let s = some_chain hook (rank ty) in omega (arith, s, le))
-        all_kept (suc n) hook ty d typed hooks built le = by d typed (is_routine d hook) refl (all_kept n)
+        all_kept zero hook ty d typed hooks few built le = absurd (let s = some_chain hook (rank ty) in omega (arith, s, le))
+        all_kept (suc n) hook ty d typed hooks few built le = by d typed (is_routine d hook) refl (all_kept n)
           where
             by : (e : TypeDef) → slice_get table ty ≡ Some e → (routine : Bool) → is_routine e hook ≡ routine → All_below n
                 → Promised (suc n) (pace_at hook (rank ty)) hook ty
             by e at false is below =
                 kept_longer hook ty (suc n) (suc n) (pace_at hook (rank ty)) (inner_pace hook ty e + extra_of e + 1) (le_refl (suc n)) (whole_pace hook ty e)
-                (by_lines n (inner_pace hook ty e) (inner_steep hook ty e) hook ty e at hooks built is (needs n below ty hook e at hooks built le))
+                (by_lines n (inner_pace hook ty e) (inner_steep hook ty e) hook ty e at hooks few built is (needs n below ty hook e at hooks few built le))
             by D.Text at true is below =
                 kept_longer hook ty (suc n) (suc n) (pace_at hook (rank ty)) 32 (le_refl (suc n)) (let l = least_at hook (rank ty) in omega (arith, l))
-                (texts n hook ty at hooks is)
+                (texts n hook ty at hooks few is)
             by D.Int at true is below = absurd (false≢true is)
             by D.Bool at true is below = absurd (false≢true is)
             by D.Char at true is below = absurd (false≢true is)

@@ -1,7 +1,9 @@
 mod CallRuns
+mod CutRuns
 mod Env
 mod Fitting
 mod Follow
+pub mod ForCallers
 mod HookNumbers
 mod HookRankings
 mod HookRanks
@@ -14,4 +16,6 @@ mod LineRuns
 mod Lines
 mod Needed
 mod Ordered
+mod Promised
 mod Seen
+mod TextHooks

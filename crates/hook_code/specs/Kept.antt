@@ -13,10 +13,11 @@ use Rattle.word_code.specs.declared.routine.TheConstants.{COPY}
 use Rattle.heap_memory.specs.declared.numbers.TheConstants.{RELEASE, TEXT_COPY, SEQ_NEW}
 use Rattle.hook_lifting.specs.declared.lifted.Hook.{Hook}
 use Rattle.hook_lifting.specs.declared.lifted.Hook.TheVariants.{Copies, Assigns, Sinks, Ends}
+use Rattle.hook_lifting.specs.declared.procedures.TheConstants.{MOST_LEVELS}
 use Rattle.hook_lifting.specs.Weights.{is_built}
-use Rattle.hook_lifting.specs.Lifted.{has_hooks, lines_of, cut_lines}
+use Rattle.hook_lifting.specs.Lifted.{has_hooks, is_lifted, lines_of, cut_lines}
 use Rattle.hook_code.specs.declared.numbers.TheConstants.{HOOKS_EACH}
-use Rattle.hook_code.specs.HookCode.{hook_number, cut_number, hook_proc, cut_proc}
+use Rattle.hook_code.specs.HookCode.{bytes_at, hook_number, cut_number, hook_proc, cut_proc}
 
 -- a type is that of a part or of elements
 abbrev pub IsPartOf : TypeDef → (part : ℕ) → Type 0
@@ -51,15 +52,32 @@ rank_in table ty = levels (form_in (known_in table) ty)
 abbrev pub AreShort : List TypeDef → Type 0
 AreShort table = (ty n of : ℕ) → slice_get table ty ≡ Some (D.Array n of) → n < 2 ^ 32
 
+-- elements of sequences have sizes of 32 bits
+abbrev pub HaveSmallElements : List TypeDef → Type 0
+HaveSmallElements table = (ty of : ℕ) → slice_get table ty ≡ Some (D.Seq of) → bytes_at table of < 2 ^ 32
+
 -- how many parts tuples and objects have
 abbrev pub parts_count : TypeDef → ℕ
 parts_count (D.Tuple names parts) = length parts
 parts_count (D.Object name at of fields own parts) = length parts
 parts_count d = 0
 
-abbrev pub parts_total : List TypeDef → ℕ
-parts_total [] = 0
-parts_total (d ∷ ds) = parts_count d + parts_total ds
+-- how many hooks there may be, with those of parts, by each entry from one on whose hooks are lifted
+abbrev pub lifted_parts : List TypeDef → List TypeDef → (ty : ℕ) → ℕ
+lifted_parts table [] ty = 0
+lifted_parts table (d ∷ ds) ty = (if is_lifted table ty then suc (parts_count d) else 0) + lifted_parts table ds (suc ty)
+
+abbrev pub sequence_count : TypeDef → ℕ
+sequence_count (D.Seq of) = 1
+sequence_count d = 0
+
+abbrev pub sequences_count : List TypeDef → ℕ
+sequences_count [] = 0
+sequences_count (d ∷ ds) = sequence_count d + sequences_count ds
+
+-- by so many parts the hooks of a table weigh; there are none where no type has hooks
+abbrev pub hook_parts : List TypeDef → ℕ
+hook_parts table = lifted_parts table table 0 + sequences_count table
 
 -- how many calls of hooks stand in a chain from one on
 abbrev pub chain_of : Hook → (rank : ℕ) → ℕ
@@ -77,16 +95,16 @@ pace_at hook r = 33 + 3 * r
 abbrev pub IsAmong : WordProc → List WordProc → Type 0
 IsAmong p procs = (shift : ℕ) × (others : List WordProc) × (from_proc p.number procs ≡ moved shift p ∷ others)
 
--- the hooks of the table's types are among the procedures
+-- the hooks of the table's types that have no more levels are among the procedures
 abbrev pub AreThere : List TypeDef → (first : ℕ) → List WordProc → Type 0
 AreThere table first procs =
-    (hook : Hook) (ty : ℕ) (d : TypeDef) → slice_get table ty ≡ Some d → has_hooks table ty ≡ true
+    (hook : Hook) (ty : ℕ) (d : TypeDef) → slice_get table ty ≡ Some d → has_hooks table ty ≡ true → rank_in table ty ≤ MOST_LEVELS
     → IsAmong (hook_proc table first (record { ty = ty; hook = hook; lines = lines_of table hook ty d })) procs
 
 -- and so is what makes sequences shorter
 abbrev pub CutsAreThere : List TypeDef → (first : ℕ) → List WordProc → Type 0
 CutsAreThere table first procs =
-    (ty of : ℕ) → slice_get table ty ≡ Some (D.Seq of) → has_hooks table of ≡ true
+    (ty of : ℕ) → slice_get table ty ≡ Some (D.Seq of) → has_hooks table of ≡ true → rank_in table ty ≤ MOST_LEVELS
     → IsAmong (cut_proc table first (record { ty = ty; lines = cut_lines of })) procs
 
 -- Hooks have ranks above those of the routines that they call, by the levels of their types.

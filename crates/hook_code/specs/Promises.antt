@@ -163,7 +163,8 @@ module _ (table : List TypeDef) (z : Surroundings table) (live : Lives) (procs :
 
   abbrev pub Forgets : Type 0
   Forgets = (low top : ℕ) (h : Hand) (d : z.Blocks) (w : World) (m : Memory) (v : Value) (ty of n p k : ℕ) → z.Here low top h d w m
-      → slice_get table ty ≡ Some (D.Seq of) → IsFull v → z.IsHandle d ty v n p → Stays low top h d m (perform (looks (λ world. refills (block_of v) (Elements (first_of k (elements_of world v))))) w)
+      → slice_get table ty ≡ Some (D.Seq of) → IsFull v → z.IsHandle d ty v n p →
+      Stays low top h d m (perform (looks (λ world. refills (block_of v) (Elements (first_of k (elements_of world v))))) w)
 
   pub record Routines : Type 0 where
     pub forgets : Forgets

@@ -3,7 +3,7 @@ ghost use Rattle.std.specs.Prelude.{◌≡◌, ◌==◌, ◌++◌, IfOk, OnOk};
 ghost use Rattle.nim_program.specs.Sizes.{HaveForms};
 ghost use Rattle.hook_lifting.specs.Lifted.{has_hooks};
 ghost use Rattle.hook_code.specs.Emission.{Puts};
-ghost use Rattle.hook_code.specs.HookCode.{hook_index, number_at, hook_number, place, handle_got};
+ghost use Rattle.hook_code.specs.HookCode.{cut_number, hook_index, number_at, hook_number, place, handle_got};
 ghost use Rattle.hook_code.specs.HookCode.{handle_with};
 ghost use Rattle.hook_code.specs.HookCode.{handle_put, element_of, bits, plain_hook, hook_called};
 ghost use Rattle.hook_code.specs.HookCode.{taken, released, traded, turned, text_code};
@@ -55,6 +55,13 @@ pub fn hook_number(first: u32, hook: Hook, ty: TypeId) -> Result<u32, Memory>
     ensures { IfOk result (λ n. n ≡ hook_number first hook ty) }
 {
     number_at(first, ty, hook_index(hook))
+}
+
+/// The number of what makes a sequence shorter.
+pub fn cut_number(first: u32, ty: TypeId) -> Result<u32, Memory>
+    ensures { IfOk result (λ n. n ≡ cut_number first ty) }
+{
+    number_at(first, ty, 4)
 }
 
 // ---- handles

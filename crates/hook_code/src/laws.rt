@@ -1,5 +1,5 @@
 // The laws of hooks as word code.
-ghost use Rattle.std.specs.Prelude.{◌≡◌, ◌≤◌, ◌<◌, ◌+◌, ◌*◌, ◌++◌, ℕ, List, length, true};
+ghost use Rattle.std.specs.Prelude.{◌≡◌, ◌≤◌, ◌<◌, ◌*◌, ◌++◌, ℕ, List, true};
 ghost use Rattle.nim_types.specs.declared.types.TypeDef.{TypeDef as Entry};
 ghost use Rattle.nim_types.specs.Table.{IsTable};
 ghost use Rattle.nim_program.specs.Sizes.{HaveForms};
@@ -11,15 +11,18 @@ ghost use Rattle.word_code.specs.Joined.{IsFree, all_moved};
 ghost use Rattle.heap_memory.specs.declared.numbers.TheConstants.{RELEASE, TEXT_COPY, SEQ_NEW};
 ghost use Rattle.hook_code.specs.HookCode.{procs_in};
 ghost use Rattle.hook_code.specs.Kept.{IsOrdered, AreShort, Ranks, rank_in, hook_ranks};
-ghost use Rattle.hook_code.specs.Kept.{parts_total, AreThere, CutsAreThere};
+ghost use Rattle.hook_code.specs.Kept.{hook_parts, AreThere, CutsAreThere};
+ghost use Rattle.hook_code.specs.declared.numbers.TheConstants.{HOOK_WEIGHT};
 
 /// The procedures of all hooks of a table of types, with numbers from one on: they are well formed,
-/// none is a user's hook, and they weigh so much for each type and each part of a tuple or an object.
+/// none is a user's hook, and they weigh so much for each type with hooks and each part of it.
+/// (What they promise is said over what is around them: proofs/ForCallers, `hooks_kept`,
+/// `cuts_kept`.)
 pub fn hook_procedures()
     ensures formed { (table : List Entry) (first : ℕ) → are_procs (procs_in table first) ≡ true }
     ensures unhooked { (table : List Entry) (first : ℕ) → have_no_hooks (procs_in table first) ≡ true }
     ensures weight { (table : List Entry) (first : ℕ) →
-        word_weight (procs_in table first) ≤ 144 * parts_total table + 764 * length table }
+        word_weight (procs_in table first) ≤ HOOK_WEIGHT * hook_parts table }
     // Each is found by its number, behind procedures with other numbers, wherever their data begin.
     ensures there { (table : List Entry) (first shift : ℕ) (before after : List Procedure) →
         ((number : ℕ) → first ≤ number → IsFree number before) →

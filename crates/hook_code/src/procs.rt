@@ -93,21 +93,20 @@ fn push_cuts(
     Ok(())
 }
 
-/// The hooks of a table of types as procedures of word code, whose numbers begin with `first`. Each is
-/// called with two addresses, and does from one to the other what its lines do; the last ones, with an
-/// address and a number of elements. They call the routines of the heap. Each type has a form.
-pub fn hook_code(
+/// Adds the hooks of a table of types as procedures of word code, whose numbers begin with `first`.
+/// Each is called with two addresses, and does from one to the other what its lines do; the last ones,
+/// with an address and a number of elements. They call the routines of the heap. Each type has a form.
+pub fn put_hooks(
     alloc: Global,
+    all: &mut Items<WordProc>,
     types: &TypeTable,
     first: u32,
     hooks: &Hooks,
-) -> Result<Items<WordProc>, Memory>
+) -> Result<(), Memory>
     requires { HaveForms types.now }
-    ensures { IfOk result (λ procs. procs ≡ hook_procs types.now first hooks.now.of
-        ++ cut_procs types.now first hooks.now.cuts) }
+    ensures { OnOk result (all.new ≡ all.old ++ (hook_procs types.now first hooks.now.of
+        ++ cut_procs types.now first hooks.now.cuts)) }
 {
-    let mut all = Items::new(alloc);
-    push_hooks(alloc, &mut all, types, first, hooks.of.as_slice())?;
-    push_cuts(alloc, &mut all, types, first, hooks.cuts.as_slice())?;
-    Ok(all)
+    push_hooks(alloc, all, types, first, hooks.of.as_slice())?;
+    push_cuts(alloc, all, types, first, hooks.cuts.as_slice())
 }

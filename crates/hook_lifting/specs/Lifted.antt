@@ -1,6 +1,7 @@
 -- The lines of lifted hooks: each part once and in order.
-use Rattle.std.specs.Prelude.{ℕ, suc, Bool, true, false, if◌then◌else◌, List, [], ◌∷◌, ◌++◌, None}
+use Rattle.std.specs.Prelude.{◌≡◌, ℕ, suc, ◌<◌, nat_le, Bool, true, false, ◌&&◌, if◌then◌else◌, List, [], ◌∷◌, ◌++◌, length, slice_get, Option, Some, None}
 use Rattle.nim_types.specs.Table.{types_in, type_at, facts_in}
+use Rattle.nim_types.specs.Forms.{form_of, levels}
 use Rattle.nim_types.specs.declared.types.TypeDef.{TypeDef}
 use Rattle.nim_types.specs.declared.types.TypeDef.TheVariants as D
 use Rattle.nim_meaning.specs.Here.{is_hooked}
@@ -11,6 +12,7 @@ use Rattle.hook_lifting.specs.declared.lifted.Cut.{Cut}
 use Rattle.hook_lifting.specs.declared.lifted.Lifted.{Lifted}
 use Rattle.hook_lifting.specs.declared.lifted.LiftedLine.{LiftedLine}
 use Rattle.hook_lifting.specs.declared.lifted.LiftedLine.TheVariants as O
+use Rattle.hook_lifting.specs.declared.procedures.TheConstants.{MOST_LEVELS}
 
 -- the hooks, in their order
 abbrev pub all_hooks : List Hook
@@ -19,6 +21,22 @@ all_hooks = Copies ∷ Assigns ∷ Sinks ∷ Ends ∷ []
 -- whether a number is that of a type with hooks
 abbrev pub has_hooks : List TypeDef → (ty : ℕ) → Bool
 has_hooks table ty = is_hooked (facts_in table) (type_at (types_in table) ty)
+
+-- A type has no more levels than each type of a program's places. Others may be in a table, where nothing is of them.
+abbrev pub is_shallow : List TypeDef → (ty : ℕ) → Bool
+is_shallow table ty = nat_le (levels (form_of (facts_in table) (type_at (types_in table) ty))) MOST_LEVELS
+
+-- one whose hooks are lifted
+abbrev pub is_lifted : List TypeDef → (ty : ℕ) → Bool
+is_lifted table ty = has_hooks table ty && is_shallow table ty
+
+-- marks of types by their numbers say which are shallow
+abbrev pub mark_or : Option Bool → Bool
+mark_or (Some mark) = mark
+mark_or None = true
+
+abbrev pub AreMarked : List TypeDef → List Bool → Type 0
+AreMarked table marks = (ty : ℕ) → ty < length table → mark_or (slice_get marks ty) ≡ is_shallow table ty
 
 -- what has no hooks needs no end
 abbrev pub is_needed : Hook → (hooked : Bool) → Bool
@@ -130,21 +148,21 @@ module _ (table : List TypeDef) where
   abbrev pub lines_of : Hook → (ty : ℕ) → TypeDef → List LiftedLine
   lines_of hook ty d = if is_routine d hook then [] else entry_lines hook ty d (O.Plain (L.Return None) ∷ [])
 
-  -- ---- of all types of the table
+  -- ---- of all types of the table that are shallow
 
   abbrev pub hooks_of : (ty : ℕ) → TypeDef → List Hook → List Lifted
   hooks_of ty d [] = []
   hooks_of ty d (hook ∷ hooks) = record { ty = ty; hook = hook; lines = lines_of hook ty d } ∷ hooks_of ty d hooks
 
   abbrev pub of_entry : (ty : ℕ) → TypeDef → List Lifted
-  of_entry ty d = if has_hooks table ty then hooks_of ty d all_hooks else []
+  of_entry ty d = if is_lifted table ty then hooks_of ty d all_hooks else []
 
   abbrev pub lifted : List Lifted
   lifted = each_from of_entry table 0
 
   -- of sequences whose elements have hooks
   abbrev pub cut_entry : (ty : ℕ) → TypeDef → List Cut
-  cut_entry ty (D.Seq of) = cut_if (has_hooks table of) ty of
+  cut_entry ty (D.Seq of) = cut_if (has_hooks table of && is_shallow table ty) ty of
   cut_entry ty d = []
 
   abbrev pub cuts : List Cut

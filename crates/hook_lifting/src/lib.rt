@@ -6,8 +6,9 @@ mod laws;
 mod lifted;
 mod lines;
 mod procedures;
+mod shortening;
 
 pub use examples::lifted_examples;
 pub use laws::{cutting, lifting};
 pub use lifted::{Cut, Hook, Hooks, Lifted, LiftedLine};
-pub use procedures::lift;
+pub use procedures::{MOST_LEVELS, lift};

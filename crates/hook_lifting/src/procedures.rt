@@ -9,19 +9,41 @@ ghost use Rattle.hook_lifting.specs.Lifted.{has_hooks, is_needed, to_part, one_p
 ghost use Rattle.hook_lifting.specs.Lifted.{loop_lines, array_lines, assigning_lines, sinking_lines};
 ghost use Rattle.hook_lifting.specs.Lifted.{copying_lines, ending_lines, sequence_lines, text_lines};
 ghost use Rattle.hook_lifting.specs.Lifted.{entry_lines, is_routine, lines_of, all_hooks, hooks_of};
-ghost use Rattle.hook_lifting.specs.Lifted.{turn_lines, elements_end, of_entry, cutting_lines};
-ghost use Rattle.hook_lifting.specs.Lifted.{cut_lines, cut_if, cut_entry, cuts};
-ghost use Rattle.hook_lifting.specs.Lifted.{lifted};
+ghost use Rattle.hook_lifting.specs.Lifted.{turn_lines, elements_end, of_entry, cuts};
+ghost use Rattle.hook_lifting.specs.Lifted.{lifted, is_shallow, is_lifted, mark_or, AreMarked};
 
-use crate::lifted::{Cut, Hook, Hooks, Lifted, LiftedLine};
+use crate::lifted::{Hook, Hooks, Lifted, LiftedLine};
 use crate::lines::Lines;
+use crate::shortening::cuts_of_all;
 use arc_base::{Items, Memory};
 use flat_code::Line;
 use nim_types::{TypeDef, TypeId, TypeTable};
 use std::alloc::Global;
 
+/// Hooks are lifted of types of so many levels at most.
+pub const MOST_LEVELS: u32 = 64;
+
+// The mark of a type.
+fn mark_of(shallow: &[bool], ty: TypeId) -> bool
+    ensures { result ≡ mark_or (slice_get shallow.now ty) }
+{
+    match shallow.get(ty as usize) {
+        Some(mark) => *mark,
+        None => true,
+    }
+}
+
+// Whether a type has no more levels.
+pub(crate) fn is_shallow(types: &TypeTable, shallow: &[bool], ty: TypeId) -> bool
+    requires marked { AreMarked types.now shallow.now }
+    requires inside { ty < length types.now }
+    ensures { result ≡ is_shallow types.now ty }
+{
+    mark_of(shallow, ty)
+}
+
 // Whether a type has hooks.
-fn has_hooks(types: &TypeTable, ty: TypeId) -> bool
+pub(crate) fn has_hooks(types: &TypeTable, ty: TypeId) -> bool
     requires forms { HaveForms types.now }
     requires inside { ty < length types.now }
     ensures { result ≡ has_hooks types.now ty }
@@ -91,7 +113,13 @@ fn put_parts(lines: &mut Lines, types: &TypeTable, hook: Hook, parts: &[TypeId])
 }
 
 // The same for each element to which two lines lead.
-fn put_each(lines: &mut Lines, hook: Hook, of: TypeId, one: LiftedLine, other: LiftedLine)
+pub(crate) fn put_each(
+    lines: &mut Lines,
+    hook: Hook,
+    of: TypeId,
+    one: LiftedLine,
+    other: LiftedLine,
+)
     ensures { IsPut lines.old lines.new (turn_lines hook of one other) }
 {
     lines.put(LiftedLine::Plain(Line::Label { name: 1 }));
@@ -205,7 +233,7 @@ fn put_copying(lines: &mut Lines, ty: TypeId, of: TypeId)
 }
 
 // The location of the element with the number of a turn.
-fn element(to: u32, of: u32, at: u32) -> LiftedLine
+pub(crate) fn element(to: u32, of: u32, at: u32) -> LiftedLine
     ensures { result ≡ O.Element to of at 4 }
 {
     LiftedLine::Element {
@@ -360,124 +388,62 @@ fn add_hooks(
     add_hook(alloc, hooks, types, Hook::Ends, ty)
 }
 
-// Adds the hooks of a type, if it has any.
+// Whether a type has hooks, and no more levels.
+fn is_lifted(types: &TypeTable, shallow: &[bool], ty: TypeId) -> bool
+    requires forms { HaveForms types.now }
+    requires marked { AreMarked types.now shallow.now }
+    requires inside { ty < length types.now }
+    ensures { result ≡ is_lifted types.now ty }
+{
+    if !has_hooks(types, ty) {
+        return false;
+    }
+    is_shallow(types, shallow, ty)
+}
+
+// Adds the hooks of a type, if they are lifted.
 fn add_type(
     alloc: Global,
     hooks: &mut Items<Lifted>,
     types: &TypeTable,
+    shallow: &[bool],
     ty: TypeId,
 ) -> Result<(), Memory>
     requires forms { HaveForms types.now }
+    requires marked { AreMarked types.now shallow.now }
     requires inside { ty < length types.now }
     ensures { OnOk result ((entry : Entry) → slice_get types.now ty ≡ Some entry →
         hooks.new ≡ hooks.old ++ of_entry types.now ty entry) }
 {
-    if !has_hooks(types, ty) {
+    if !is_lifted(types, shallow, ty) {
         return Ok(());
     }
     add_hooks(alloc, hooks, types, ty)
 }
 
 // The hooks of all types.
-fn hooks_of_all(alloc: Global, types: &TypeTable) -> Result<Items<Lifted>, Memory>
+fn hooks_of_all(alloc: Global, types: &TypeTable, shallow: &[bool]) -> Result<Items<Lifted>, Memory>
     requires forms { HaveForms types.now }
+    requires marked { AreMarked types.now shallow.now }
     ensures { IfOk result (λ hooks. hooks ≡ lifted types.now) }
 {
     let mut of = Items::new(alloc);
     for ty in 0..types.count() {
-        add_type(alloc, &mut of, types, ty)?;
+        add_type(alloc, &mut of, types, shallow, ty)?;
     }
     Ok(of)
 }
 
-// A sequence keeps so many of its elements.
-fn put_cutting(lines: &mut Lines, of: TypeId)
-    ensures { IsPut lines.old lines.new (cutting_lines of) }
-{
-    lines.put(LiftedLine::Load { to: 6, at: 0 });
-    lines.put(LiftedLine::Shorten {
-        at: 0,
-        of: 6,
-        count: 8,
-    });
-    lines.put(LiftedLine::Count { to: 5, of: 6 });
-    lines.put(LiftedLine::Copy { to: 4, of: 8 });
-    lines.put(LiftedLine::Plain(Line::Beyond {
-        counter: 4,
-        last: 5,
-        inclusive: false,
-        to: 0,
-    }));
-    put_each(lines, Hook::Ends, of, element(2, 6, 0), element(3, 6, 0));
-    lines.put(LiftedLine::Forget { of: 6, count: 8 });
-}
-
-// The lines that make a sequence shorter.
-fn cut_lines(alloc: Global, of: TypeId) -> Result<Items<LiftedLine>, Memory>
-    ensures { IfOk result (λ lines. lines ≡ cut_lines of) }
-{
-    let mut lines = Lines::new(alloc);
-    put_cutting(&mut lines, of);
-    lines.put(LiftedLine::Plain(Line::Return { result: None }));
-    lines.finish()
-}
-
-// Adds what makes sequences of a type shorter, if it is one whose elements have hooks.
-fn add_cut(
-    alloc: Global,
-    cuts: &mut Items<Cut>,
-    types: &TypeTable,
-    ty: TypeId,
-) -> Result<(), Memory>
+/// The hooks of the types of a table that have at most `MOST_LEVELS` levels, as marks say: of each
+/// type with hooks, in order, all four; and of each sequence whose elements have hooks what makes it
+/// shorter. Each type has a form.
+pub fn lift(alloc: Global, types: &TypeTable, shallow: &[bool]) -> Result<Hooks, Memory>
     requires forms { HaveForms types.now }
-    requires inside { ty < length types.now }
-    ensures { OnOk result ((entry : Entry) → slice_get types.now ty ≡ Some entry →
-        cuts.new ≡ cuts.old ++ cut_entry types.now ty entry) }
-{
-    match types.get(ty) {
-        TypeDef::Seq(of) => add_cut_if(alloc, cuts, types, ty, *of),
-        _ => Ok(()),
-    }
-}
-
-fn add_cut_if(
-    alloc: Global,
-    cuts: &mut Items<Cut>,
-    types: &TypeTable,
-    ty: TypeId,
-    of: TypeId,
-) -> Result<(), Memory>
-    requires forms { HaveForms types.now }
-    requires inside { of < length types.now }
-    ensures { OnOk result (cuts.new ≡ cuts.old ++ cut_if (has_hooks types.now of) ty of) }
-{
-    if !has_hooks(types, of) {
-        return Ok(());
-    }
-    let lines = cut_lines(alloc, of)?;
-    cuts.push(Cut { ty, lines })
-}
-
-// What makes sequences shorter, of all types.
-fn cuts_of_all(alloc: Global, types: &TypeTable) -> Result<Items<Cut>, Memory>
-    requires forms { HaveForms types.now }
-    ensures { IfOk result (λ all. all ≡ cuts types.now) }
-{
-    let mut all = Items::new(alloc);
-    for ty in 0..types.count() {
-        add_cut(alloc, &mut all, types, ty)?;
-    }
-    Ok(all)
-}
-
-/// The hooks of the types of a table: of each type with hooks, in order, all four; and of each
-/// sequence whose elements have hooks what makes it shorter. Each type has a form.
-pub fn lift(alloc: Global, types: &TypeTable) -> Result<Hooks, Memory>
-    requires forms { HaveForms types.now }
+    requires marked { AreMarked types.now shallow.now }
     ensures { IfOk result (λ hooks. (hooks.of ≡ lifted types.now)
         × (hooks.cuts ≡ cuts types.now)) }
 {
-    let of = hooks_of_all(alloc, types)?;
-    let cuts = cuts_of_all(alloc, types)?;
+    let of = hooks_of_all(alloc, types, shallow)?;
+    let cuts = cuts_of_all(alloc, types, shallow)?;
     Ok(Hooks { of, cuts })
 }

@@ -29,7 +29,7 @@ use Rattle.expr_rules.specs.Overloads.{IsSettled, by_type, by_place}
 use Rattle.expr_rules.specs.Rules.{t_case_else}
 use Rattle.expr_rules.specs.Rules.{IsValue, v_value, AreValues, v_none, v_more, IsOperand, o_value}
 use Rattle.expr_rules.specs.Rules.{o_shown, o_open, o_type, o_input, AreOperands, o_none, o_more, AreConditions, c_none, c_more, ArePicks, k_none, k_more}
-use Rattle.lending_laws.specs.Apart.{ExprLends, ArgsLend}
+use Rattle.lending_laws.specs.Apart.{has_fields, ExprLends, ArgsLend}
 use Rattle.lending_laws.proofs.Sure.{Sure, s_ok, s_err, sure_ok, sure_if, never}
 use Rattle.lending_laws.proofs.Scopes.{EntriesSpared, KnownSpared, known_spared}
 use Rattle.lending_laws.proofs.ApartRules.{Unkept, Made, ValueLends, OperandLends, OperandUnkept, AllLend, ValuesLend, FieldLends}
@@ -99,19 +99,20 @@ module _ (kept : ℕ → Bool) where
   ValueOf env t v = ValueLends kept v × (has_writable_root env t ≡ true → Unkept kept (path_of v.expr))
 
   accepted_parts : (env : Env) (t : Term) (g : Asks) (e : Expr) → TermLends env t e → Sure (ValueOf env t) (accepted g (can_be_written env t e) e)
-  accepted_parts env t g e h = by_type (type_of e)
+  accepted_parts env t g e h = by_type (type_of e) refl
     where
       written : can_be_written env t e ≡ true → Unkept kept (path_of e)
       written w = h.1 (second_true (is_some (root_of (path_of e))) (has_writable_root env t) w)
 
-      by_test : (of : Ty) (b : Bool) → Sure (ValueOf env t) (accepted_by b (record { expr = e; of = of; writable = can_be_written env t e }))
-      by_test of true = s_ok ((h.0, written), h.1)
-      by_test of false = s_err
+      by_test : (of : Ty) → type_of e ≡ Some of → (b : Bool)
+          → Sure (ValueOf env t) (accepted_by b (record { expr = e; of = of; writable = can_be_written env t e }))
+      by_test of is true = s_ok ((h.0, written, λ k. subst (λ o. has_fields o ≡ true) (sym is) k), h.1)
+      by_test of is false = s_err
 
-      by_type : (of : Option Ty) → Sure (ValueOf env t)
+      by_type : (of : Option Ty) → type_of e ≡ of → Sure (ValueOf env t)
           (and_then (valued_by e of) (λ v. accepted_by (accepts g v.of) (record v { writable = can_be_written env t e })))
-      by_type (Some of) = by_test of (accepts g of)
-      by_type None = s_err
+      by_type (Some of) is = by_test of is (accepts g of)
+      by_type None is = s_err
 
   branch_parts : (b : Branching) (x : Expr) → ExprLends kept x → Sure (ExprLends kept) (branch_value b x)
   branch_parts b x h = by_test (agrees b (type_of x))
@@ -169,7 +170,7 @@ module _ (kept : ℕ → Bool) where
           by_itself e (by_call env n at (normal x) (o ∷ []) e ((operand_parts s h).0, tt) r)
       typed_parts {env} {want} {n} s (t_index {m = m} {k = k} {at = at} {v = v} {w = i} {e = e} h g r) =
           let a = value_parts s h in
-          let part = sure_ok (index_parts kept env n m k at v i a.0.0 (value_parts s g).0.0) r in
+          let part = sure_ok (index_parts kept env n m k at v i a.0 (value_parts s g).0.0) r in
           (part.0, λ w. part.1 (a.1 w))
       typed_parts {env} {want} {n} s (t_call {at = at} {x = x} {os = os} {e = y} e f h r) =
           by_itself y (by_call env n at (normal x) os y (operands_parts s h) r)
@@ -207,7 +208,7 @@ module _ (kept : ℕ → Bool) where
           → OperandLends kept o × (has_writable_root env t ≡ true → OperandUnkept kept o)
       operand_parts s (o_value f h i) = value_parts s h
       operand_parts {env} {d} {n} s (o_shown {w = w} {e = e} f h i g r) =
-          let made = sure_ok (dollar_parts env n w (value_parts s g).0) r in ((made.0, λ w. made.1), λ w. made.1)
+          let made = sure_ok (dollar_parts env n w (value_parts s g).0) r in ((made.0, λ w. made.1, λ is. cc), λ w. made.1)
       operand_parts s (o_open f) = (tt, λ w. tt)
       operand_parts s (o_type f h) = (tt, λ w. tt)
       operand_parts s (o_input f) = (tt, λ w. tt)

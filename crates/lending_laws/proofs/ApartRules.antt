@@ -14,7 +14,7 @@ use Rattle.nim_program.specs.declared.operation.Comparison.{Comparison}
 use Rattle.nim_program.specs.declared.program.Mode.{Mode}
 use Rattle.nim_program.specs.declared.program.Mode.TheVariants.{Plain, Sink, Var}
 use Rattle.nim_program.specs.Program as P
-use Rattle.nim_program.specs.Program.{Expr, Literal, Number, Path, Args}
+use Rattle.nim_program.specs.Program.{type_of, type_at, Expr, Literal, Number, Path, Args}
 use Rattle.nim_program.specs.Nodes.{two_values}
 use Rattle.expr_rules.specs.Env as env_of
 use Rattle.expr_rules.specs.Env.{Env, Known, Parameter, Procedure, callable, known_as}
@@ -34,7 +34,7 @@ use Rattle.expr_rules.specs.Builtins.{is_int, is_echo, is_default, with_value, o
 use Rattle.expr_rules.specs.Operators.{unary_of, unary_by, unary_rule, Meaning, does, stops_early, means_nothing, meaning_of}
 use Rattle.expr_rules.specs.Operators.{borrowed_name, borrowed_by, binary_by, other_settled, binary_rule}
 use Rattle.lending_laws.specs.Writing.{begins_at, lent_in, written_by, NoneBegins}
-use Rattle.lending_laws.specs.Apart.{ActLends, PartsFrom, PartWays, ExprLends, PathLends, ArgsLend}
+use Rattle.lending_laws.specs.Apart.{has_fields, ActLends, PartsFrom, PartWays, ExprLends, PathLends, ArgsLend}
 use Rattle.lending_laws.proofs.Sure.{Sure, s_ok, s_err, sure_then, sure_if, sure_any}
 use Rattle.lending_laws.proofs.Writable.{EachWritable, writes_sure, measures, RowFine, AllRowsFine, rows_fine}
 
@@ -90,9 +90,10 @@ module _ (kept : ℕ → Bool) where
   abbrev pub Made : Expr → Type 0
   Made e = ExprLends kept e × Unkept (path_of e)
 
-  -- what may be written of it
+  -- what may be written of it; and where its type has fields, that of its expression has them
   abbrev pub ValueLends : Valued → Type 0
-  ValueLends v = ExprLends kept v.expr × (v.writable ≡ true → Unkept (path_of v.expr))
+  ValueLends v =
+      ExprLends kept v.expr × (v.writable ≡ true → Unkept (path_of v.expr)) × (has_fields (Some v.of) ≡ true → has_fields (type_of v.expr) ≡ true)
 
   -- ---- operands
 
@@ -121,6 +122,12 @@ module _ (kept : ℕ → Bool) where
   path_parts (P.Early node ty short a b) h = h
   path_parts (P.Choose node ty chooser parts) h = h
 
+  path_fields : (e : Expr) → has_fields (type_of e) ≡ true → has_fields (type_at (path_of e)) ≡ true
+  path_fields (P.Read path) h = h
+  path_fields (P.Apply node ty act operands) h = h
+  path_fields (P.Early node ty short a b) h = h
+  path_fields (P.Choose node ty chooser parts) h = h
+
   pub exprs_part : (vs : List Valued) → ValuesLend vs → ArgsLend kept (exprs_of vs)
   exprs_part [] h = tt
   exprs_part (v ∷ vs) h = (h.0.0, exprs_part vs h.1)
@@ -136,7 +143,7 @@ module _ (kept : ℕ → Bool) where
 
   settled_parts : (ty : Ty) (o : Operand) → OperandLends o → IfLends (settled ty o)
   settled_parts ty (value w) h = only_parts (type.same ty w.of) w h
-  settled_parts (type.sequence t) (open_sequence at n) h = (((tt, tt), tt), λ w. refl)
+  settled_parts (type.sequence t) (open_sequence at n) h = (((tt, tt), tt), λ w. refl, λ is. cc)
   settled_parts ty (open_sequence at n) h = tt
   settled_parts ty (a_type t) h = tt
   settled_parts ty the_input h = tt
@@ -253,7 +260,7 @@ module _ (kept : ℕ → Bool) where
       by_name (Some x) = one_parts n at x _ _ (fitting_parts (callable (known_as env x)) (value v ∷ value w ∷ []) (h, (k, tt))) s_err
 
   other_parts : (ty : Ty) (p : Place) (m : ℕ) → Sure ValueLends (other_settled (open_as ty p m) p)
-  other_parts (type.sequence t) p m = s_ok (((tt, tt), tt), λ w. refl)
+  other_parts (type.sequence t) p m = s_ok (((tt, tt), tt), λ w. refl, λ is. cc)
   other_parts _ p m = s_err
 
   pub binary_parts : (env : Env) (n : ℕ) (at : Place) (op : BinaryOp) (o r : Operand) → OperandLends o → OperandLends r
@@ -442,12 +449,18 @@ module _ (kept : ℕ → Bool) where
   FieldLends o None = Unit {0}
   FieldLends o (Some e) = ExprLends kept e × (OperandUnkept o → Unkept (path_of e))
 
+  -- what has a field of a name
+  field_has : (env : Env) (x : List ℕ) (ty : Ty) (g : Found) → field_named env x ty ≡ Some g → has_fields (Some ty) ≡ true
+  field_has env x (type.object key given) g e = refl
+  field_has env x (type.tuple names ts) g e = refl
+  field_has env x _ g e = cc
+
   pub field_parts : (env : Env) (n : ℕ) (at : Place) (x : List ℕ) (o : Operand) → OperandLends o → FieldLends o (field_of env n at x o)
-  field_parts env n at x (value v) h = by_field (field_named env x v.of)
+  field_parts env n at x (value v) h = by_field (field_named env x v.of) refl
     where
-      by_field : (a : Option Found) → FieldLends (value v) (if_field n at v a)
-      by_field (Some g) = (path_parts v.expr h.0, λ u. u)
-      by_field None = tt
+      by_field : (a : Option Found) → field_named env x v.of ≡ a → FieldLends (value v) (if_field n at v a)
+      by_field (Some g) e = ((path_fields v.expr (h.2 (field_has env x v.of g e)), path_parts v.expr h.0), λ u. u)
+      by_field None e = tt
   field_parts env n at x (open_sequence p k) h = tt
   field_parts env n at x (a_type t) h = tt
   field_parts env n at x the_input h = tt
@@ -460,20 +473,22 @@ module _ (kept : ℕ → Bool) where
   element_parts facts n k at v i (Some t) h g = s_ok ((path_parts v.expr h, g), λ u. u)
   element_parts facts n k at v i None h g = s_err
 
-  part_parts : (n : ℕ) (at : Place) (v : Valued) (ts : Tys) (l : Literal) → Lends v.expr → Sure (PartLends v) (numbered_part n at v ts l)
-  part_parts n at v ts (Number (pos i)) h = by_type (nth_type i ts)
+  part_parts : (n : ℕ) (at : Place) (v : Valued) (ts : Tys) (l : Literal) → Lends v.expr → has_fields (type_of v.expr) ≡ true
+      → Sure (PartLends v) (numbered_part n at v ts l)
+  part_parts n at v ts (Number (pos i)) h f = by_type (nth_type i ts)
     where
       by_type : (t : Option Ty) → Sure (PartLends v) (read_part n at v i t)
-      by_type (Some t) = s_ok (path_parts v.expr h, λ u. u)
+      by_type (Some t) = s_ok ((path_fields v.expr f, path_parts v.expr h), λ u. u)
       by_type None = s_err
-  part_parts n at v ts _ h = s_err
+  part_parts n at v ts _ h f = s_err
 
-  indexed_parts : (env : Env) (n m k : ℕ) (at : Place) (v : Valued) (t : Ty) (i : Valued) → Lends v.expr → Lends i.expr
+  indexed_parts : (env : Env) (n m k : ℕ) (at : Place) (v : Valued) (t : Ty) (i : Valued) → t ≡ v.of → ValueLends v → Lends i.expr
       → Sure (TypedLends v) (indexed env n m k at v t i)
-  indexed_parts env n m k at v (type.tuple names ts) i h g =
-      sure_then (sure_then (sure_any (constant_at env.facts at i)) (λ l u. part_parts n at v ts l h)) (λ e f. s_ok f)
-  indexed_parts env n m k at v t i h g = element_parts env.facts n k at v i (element_type t) h g
+  indexed_parts env n m k at v (type.tuple names ts) i e h g =
+      sure_then (sure_then (sure_any (constant_at env.facts at i)) (λ l u. part_parts n at v ts l h.0
+      (h.2 (subst (λ ty. has_fields (Some ty) ≡ true) e refl)))) (λ x f. s_ok f)
+  indexed_parts env n m k at v t i e h g = element_parts env.facts n k at v i (element_type t) h.0 g
 
-  pub index_parts : (env : Env) (n m k : ℕ) (at : Place) (v i : Valued) → Lends v.expr → Lends i.expr
+  pub index_parts : (env : Env) (n m k : ℕ) (at : Place) (v i : Valued) → ValueLends v → Lends i.expr
       → Sure (TypedLends v) (index_rule env n m k at v i)
-  index_parts env n m k at v i h g = sure_if (is_int i.of) (indexed_parts env n m k at v v.of i h g) s_err
+  index_parts env n m k at v i h g = sure_if (is_int i.of) (indexed_parts env n m k at v v.of i refl h g) s_err

@@ -1,7 +1,10 @@
 -- What bodies lend is safe. Places that stand for places of the caller lie apart: no two arguments of a call are one place or part of the other, and
 -- none is a global that the procedure names, in its body or in that of what it calls, and so on. And what is lent to a body isn't written by it.
-use Rattle.std.specs.Prelude.{◌≡◌, ℕ, Bool, false, List, [], ◌∷◌, Option, Some, None}
-use Rattle.nim_program.specs.Program.{Act, Calling, Expr, Apply, Read, Early, Choose, Path, Variable, Fresh, Field, Element, Deref}
+-- Fields are those of objects and tuples: an exception has a message that is typed like a field, but no rule reads it.
+use Rattle.std.specs.Prelude.{◌≡◌, ℕ, Bool, true, false, List, [], ◌∷◌, Option, Some, None}
+use Rattle.nim_types.specs.Types as type
+use Rattle.nim_types.specs.Types.{Ty}
+use Rattle.nim_program.specs.Program.{Act, type_at, Calling, Expr, Apply, Read, Early, Choose, Path, Variable, Fresh, Field, Element, Deref}
 use Rattle.nim_program.specs.Program.{Args, NoArg, ByValue, ByPath, Stmt, Do, Idle, Give, Leave, Select, Loop, Raise, Try, Stmts, Empty, Then, Declare, Defer}
 use Rattle.nim_program.specs.Program.{Blocks, Otherwise, Block, Handlers, NoHandler, Handler, Param, Body, Proc, Program}
 use Rattle.expr_rules.specs.Paths.{overlap}
@@ -28,7 +31,13 @@ ArgsPartWays act operands = Unit {0}
 abbrev pub ActLends : (kept : ℕ → Bool) → Act → Args → Type 0
 ActLends kept act operands = ArgsPartWays act operands × NoneBegins kept (written_by act operands)
 
--- ---- all acts of a tree
+-- an object or a tuple: no exception
+abbrev pub has_fields : Option Ty → Bool
+has_fields (Some (type.object key given)) = true
+has_fields (Some (type.tuple names ts)) = true
+has_fields _ = false
+
+-- ---- all acts of a tree; a field is one of an object or a tuple
 
 abbrev mutual
   pub ExprLends : (kept : ℕ → Bool) → Expr → Type 0
@@ -40,7 +49,7 @@ abbrev mutual
   pub PathLends : (kept : ℕ → Bool) → Path → Type 0
   PathLends kept (Variable node ty place is_global) = Unit {0}
   PathLends kept (Fresh value) = ExprLends kept value
-  PathLends kept (Field node ty base field) = PathLends kept base
+  PathLends kept (Field node ty base field) = (has_fields (type_at base) ≡ true) × PathLends kept base
   PathLends kept (Element node ty base index constant) = PathLends kept base × ExprLends kept index
   PathLends kept (Deref ty base) = PathLends kept base
 

@@ -11,7 +11,8 @@ use expr_rules::calls_computed;
 
 /// In a program that the rules accept, no two places that are lent to one call are one, or part of
 /// one another, and none is a global that the procedure names, or what it calls. No body writes a
-/// parameter that is no `var` and no `sink`, nor the variable of a `for`, nor a part of these.
+/// parameter that is no `var` and no `sink`, nor the variable of a `for`, nor a part of these. Each
+/// field is one of an object or a tuple.
 pub fn lent_apart()
     ensures { (types : List Ty) (all : List Module) (program : Program) →
         IsProgram types all program → AreLentApart program }

@@ -33,12 +33,6 @@ mod Parts
 mod Tame
 mod TameParts
 mod Whole
-mod MildValues
-mod MildWorlds
-mod MildDeeds
-mod MildActs
-mod MildParts
-mod MildPrograms
 mod ActSites
 mod NoSites
 mod ProgramSites

@@ -10,8 +10,8 @@ use Rattle.nim_program.specs.Program.{Label, Literal, Expr, Args, Declared, Kind
 use Rattle.nim_program.specs.Folds.{by_constant}
 use Rattle.nim_program.specs.Uses.{use_of}
 use Rattle.nim_meaning.specs.Here.{is_hooked}
-use Rattle.nim_meaning.specs.LeftOut.{writes_literals}
 use Rattle.nim_meaning.specs.Runs.{is_written, is_plain_type, is_plain_value, is_plain_path, are_plain, is_plain_loop, is_plain_stmt, is_plain_block}
+use Rattle.nim_meaning.specs.Runs.{writes_literals}
 use Rattle.nim_meaning.specs.Runs.{are_plain_blocks}
 use Rattle.nim_meaning.specs.Runs.{is_plain_place, is_plain_body}
 use Rattle.nim_meaning.specs.ActsOf.{site_at}

@@ -14,7 +14,7 @@ use Rattle.nim_program.specs.declared.operation.Operation.TheVariants as O
 use Rattle.nim_program.specs.declared.operation.Use.TheVariants.{Lent}
 use Rattle.nim_program.specs.Ints.{Checked, Fine, Trapped, applied, applied_to, within}
 use Rattle.nim_program.specs.Program as T
-use Rattle.nim_program.specs.Program.{Doing, Building, Giving, Literal}
+use Rattle.nim_program.specs.Program.{Doing, Building, Giving, Calling, Literal}
 use Rattle.nim_meaning.specs.Values.{Value, Number, Parts, Handle, Fixed, Ref, Resource, Gone, Vacant, nothing, number_of, length_of, text_in, bytes, is_full}
 use Rattle.nim_meaning.specs.Values.{Location}
 use Rattle.nim_meaning.specs.Values.{Base, Standing, Waiting, InBlock, InHand, InException, Made, Operand, value, location, location_of, literal_value}
@@ -25,11 +25,12 @@ use Rattle.nim_meaning.specs.Texts.{value_text, text_at, texts_of, are_seen}
 use Rattle.nim_meaning.specs.ActTree.{Path, Operands, Operate}
 use Rattle.nim_meaning.specs.Here.{gives_hooked, any_hooked, form_for}
 use Rattle.nim_meaning.specs.Deeds.{Deed, Gives, Works, Changes, Stores, ◌>>=◌, ◌>>◌, give, branch, looks, unless_gone, sees, takes, sets, write}
-use Rattle.nim_meaning.specs.Places.{Destination, taken_by, text_for, made_by, fetched, put, exchanged}
+use Rattle.nim_meaning.specs.Places.{Destination, taken_by, text_for, made_by, kept_if, fetched, may_change, changes, put, exchanged}
 use Rattle.nim_meaning.specs.OwnedRows.{owned}
 use Rattle.nim_meaning.specs.Table.{outcome, default_for, limit_for, converted, measured, step_by, operate, does, constant_for, literal_bytes, acts}
 use Rattle.nim_meaning.specs.ActsOf.{path_of, act_by}
 use Rattle.nim_meaning.specs.Meaning.{row, got_by, handed_by}
+use Rattle.nim_meaning.specs.Steps.{kept_by}
 use Rattle.nim_meaning.specs.AtPoints.{Alike, Within, Writes, answers, ends_run, at_fault, works, says, looks_at_all, stores, At_none, At_first, At_any, DoneAs}
 use Rattle.nim_meaning.specs.AtPoints.{operates, looks_at, gives_to, writes_first, looks_at_blocks, never_goes_on, writes_there}
 use Rattle.nim_meaning.specs.AtPoints.{paths_among}
@@ -58,6 +59,17 @@ is_measure o = false
 within_made : (reads writes : Location → Type 0) (hook : Bool) (to : Destination) (v : Value) → hook ≡ false → Within Value reads writes (made_by hook to v)
 within_made reads writes true to v e = absurd (false≢true (sym e))
 within_made reads writes false to v e = answers
+
+within_kept : (reads writes : Location → Type 0) (hook : Bool) (to : Destination) (v : Value) → hook ≡ false → Within Value reads writes (kept_if hook to v)
+within_kept reads writes true to v e = absurd (false≢true (sym e))
+within_kept reads writes false to v e = answers
+
+within_kept_by : (reads writes : Location → Type 0) (act : T.Act) (hook : Bool) (to : Destination) (v : Value) → hook ≡ false →
+    Within Value reads writes (kept_by act hook to v)
+within_kept_by reads writes (Giving literal) hook to v e = within_made reads writes hook to v e
+within_kept_by reads writes (Doing operation) hook to v e = within_kept reads writes hook to v e
+within_kept_by reads writes (Building fields) hook to v e = within_kept reads writes hook to v e
+within_kept_by reads writes (Calling proc types) hook to v e = within_kept reads writes hook to v e
 
 -- ---- blocks are the same
 
@@ -133,17 +145,20 @@ module _ (reads writes : Location → Type 0) where
       looks_at_all {rest = λ world. unless_gone (is_there world l) (Changes (Stores l v) (Gives tt))}
       (λ a b h. ap (λ s. unless_gone s (Changes (Stores l v) (Gives tt))) (there_alike l a b h.0)) (λ world. guarded (is_there world l) (stores w answers))
 
+  within_changes : (l : Location) (v : Value) → writes l → W (changes l v)
+  within_changes l v w = guarded (may_change l.base) (within_sets l v w)
+
   within_put : (l : Location) (v : Value) → writes l → W (put l v)
-  within_put l v w = works (within_then {go = λ u. give nothing} (within_sets l v w) (λ u. answers {x = nothing}))
+  within_put l v w = works (within_then {go = λ u. give nothing} (within_changes l v w) (λ u. answers {x = nothing}))
 
   within_exchanged : (l : Location) (v : Value) → reads l → writes l → W (exchanged l v)
   within_exchanged l v r w =
-      works (within_takes l (λ old. sets l v >> give old) r (λ old. within_then {go = λ u. give old} (within_sets l v w) (λ u. answers {x = old})))
+      works (within_takes l (λ old. changes l v >> give old) r (λ old. within_then {go = λ u. give old} (within_changes l v w) (λ u. answers {x = old})))
 
   -- a row, and what becomes of its value
   pub within_row : (facts : Facts) (act : T.Act) (to : Destination) (ty : Option Ty) (of : List (Option Ty)) (xs : List Operand) →
       gives_hooked facts ty ≡ false → W (acts act facts ty of xs) → W (row facts act to ty of xs)
-  within_row facts act to ty of xs e w = within_then w (λ v. within_made reads writes _ to v e)
+  within_row facts act to ty of xs e w = within_then w (λ v. within_kept_by reads writes act _ to v e)
 
 -- the bits at a location are read there
 pub within_fetched : (location : Location) → Within Value (λ l. l ≡ location) At_none (fetched location)
@@ -162,7 +177,7 @@ within_got facts plan to site ty location e = taken_within _ (form_for facts ty)
 pub within_handed : (facts : Facts) (to : Destination) (ty : Option Ty) (v : Value) → gives_hooked facts ty ≡ false →
     Within Value At_none At_none (handed_by facts to ty v)
 within_handed facts to None v e = answers
-within_handed facts to (Some ty) v e = works (within_made At_none At_none _ to v e)
+within_handed facts to (Some ty) v e = works (within_kept At_none At_none _ to v e)
 
 -- ---- texts that are written
 
@@ -286,20 +301,25 @@ pub done_as : (facts : Facts) (to : Destination) (ty : Option Ty) (of : List (Op
     DoneAs (act_by operation operands on) (paths_in operands) (λ xs. row facts (Doing operation) to ty of xs)
 done_as facts to ty of O.Assign (T.ByPath path rest) on plain h e =
     gives_to (λ xs. subst (λ b. Writes Value (At_first xs) (by_types xs b O.Assign)) (sym (all_plain h))
-    (writes_first (writes_first (looks_at_blocks {rest = λ world. set xs (is_there world (location xs 0))}
-    (λ a b h. ap (set xs) (there_alike (location xs 0) a b h)) (λ world. if_there xs (is_there world (location xs 0)))))))
+    (writes_first (writes_first (if_place xs (may_change (location xs 0).base)))))
   where
     by_types : List Operand → Bool → Operation → Deed Value
     by_types xs b o =
         Works 1 (branch b (looks (λ world. unless_gone (are_seen world xs) (owned o facts ty of xs (does o facts ty of xs)))) (does o facts ty of xs))
-        >>= made_by (gives_hooked facts ty) to
+        >>= kept_if (gives_hooked facts ty) to
 
     set : List Operand → Bool → Deed Value
-    set xs b = (unless_gone b (Changes (Stores (location xs 0) (value xs 1)) (Gives (tt {0}))) >> give nothing) >>= made_by (gives_hooked facts ty) to
+    set xs b = (unless_gone b (Changes (Stores (location xs 0) (value xs 1)) (Gives (tt {0}))) >> give nothing) >>= kept_if (gives_hooked facts ty) to
 
     if_there : (xs : List Operand) (b : Bool) → Writes Value (At_first xs) (set xs b)
-    if_there xs true = writes_there refl (within_made At_none (At_first xs) (gives_hooked facts ty) to nothing plain)
+    if_there xs true = writes_there refl (within_kept At_none (At_first xs) (gives_hooked facts ty) to nothing plain)
     if_there xs false = never_goes_on
+
+    if_place : (xs : List Operand) (c : Bool) → Writes Value (At_first xs)
+        ((unless_gone c (sets (location xs 0) (value xs 1)) >> give nothing) >>= kept_if (gives_hooked facts ty) to)
+    if_place xs true = looks_at_blocks {rest = λ world. set xs (is_there world (location xs 0))}
+        (λ a b h. ap (set xs) (there_alike (location xs 0) a b h)) (λ world. if_there xs (is_there world (location xs 0)))
+    if_place xs false = never_goes_on
 
     all_plain : (any_hooked facts of ≡ false) ⊎ (O.Assign ≡ O.Echo) → (gives_hooked facts ty || any_hooked facts of) ≡ false
     all_plain (inl f) = ap₂ (λ a b. a || b) plain f

@@ -34,8 +34,7 @@ use Rattle.nim_meaning.specs.Aims.{Aim, Root as At_root, fresh_root, find, Ready
 use Rattle.nim_meaning.specs.Meaning.{selected, picked_value}
 use Rattle.nim_meaning.specs.Meaning.{ready_all}
 use Rattle.nim_meaning.specs.Meaning as M
-use Rattle.nim_meaning.specs.LeftOut.{writes_literals}
-use Rattle.nim_meaning.specs.Runs.{is_plain_type, is_written, is_plain_value, is_plain_path, are_plain}
+use Rattle.nim_meaning.specs.Runs.{is_plain_type, is_written, is_plain_value, is_plain_path, are_plain, writes_literals}
 use Rattle.nim_meaning.specs.AtPoints.{Answer, answer, A_value, An_aim, The_operands, begins, at_place, Leads, AllLead, none_leads, value_leads, path_leads}
 use Rattle.nim_meaning.specs.AtPoints.{Within, At_none}
 use Rattle.nim_meaning.specs.AtPoints.{reads, reads_alone, works_on as works_there, calls as calls_there, paths_among}

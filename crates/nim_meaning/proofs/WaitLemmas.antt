@@ -13,9 +13,8 @@ use Rattle.nim_program.specs.Folds.{by_constant}
 use Rattle.nim_program.specs.Uses.{use_of}
 use Rattle.nim_meaning.specs.Shapes.{is_held, selector_type}
 use Rattle.nim_meaning.specs.Here.{is_hooked, gives_hooked, any_hooked, form_for}
-use Rattle.nim_meaning.specs.LeftOut.{writes_literals}
 use Rattle.nim_meaning.specs.Waiting.{Wait, wait_if, own_wait, held_if, waiting, waiting_at, waiting_all, waiting_first, held_from}
-use Rattle.nim_meaning.specs.Runs.{is_plain_type, is_written, is_plain_value, is_plain_path, are_plain}
+use Rattle.nim_meaning.specs.Runs.{is_plain_type, is_written, is_plain_value, is_plain_path, are_plain, writes_literals}
 
 pub not_true : (b : Bool) → not b ≡ true → b ≡ false
 not_true true h = absurd (false≢true h)

@@ -1,57 +1,65 @@
--- Programs that are built whole. What comes with the heap is left out of them: texts but for literals that `echo` writes; sequences, refs and input;
--- all values that have anything to do when they are copied or destroyed. So are exceptions, what hooks do, and calls with types for type parameters.
--- Texts and sequences have a meaning already, and no code. Of refs, hooks and exceptions the meaning, which is total, says nothing (`from_heap`,
--- `from_exceptions`).
+-- Programs that are built whole. Left out of them are refs, exceptions, objects with hooks of their own, calls with types for type parameters, and
+-- what a ref or such an object is in: a value of that type, a place, an operand. So are `readLine`, a character of a text as a place, the text of a
+-- literal as a place, a constant of a type with texts or sequences in it, but for one text, and the message of an exception. Of these the meaning,
+-- which is total, says nothing (`from_heap`, `from_exceptions`).
 use Rattle.std.specs.Prelude.{◌≡◌, ℕ, Bool, true, false, not, ◌||◌, nat_lt, List, [], ◌∷◌, ◌++◌, map, Option, Some, None, option_map}
 use Rattle.arc_base.specs.declared.place.Place.{Place}
-use Rattle.nim_types.specs.Types.{Ty, Facts}
+use Rattle.nim_types.specs.Types as type
+use Rattle.nim_types.specs.Types.{Ty, Facts, text}
 use Rattle.nim_program.specs.declared.expr.Node.{Node}
 use Rattle.nim_program.specs.declared.operation.Operation.{Operation}
 use Rattle.nim_program.specs.declared.operation.Operation.TheVariants as O
-use Rattle.nim_program.specs.Program.{Act, Doing, Building, Giving, Calling, Characters, Expr, Apply, Read, Early, Choose, Path, Variable, Fresh, Field}
+use Rattle.nim_program.specs.Program.{Act, Doing, Building, Giving, Calling, Expr, Apply, Read, Early, Choose, Path, Variable, Fresh, Field}
 use Rattle.nim_program.specs.Program.{Element, Deref, Args, NoArg, ByValue, ByPath, Declared, Stmt, Do, Idle, Give, Leave, Select, Loop, Raise, Try}
 use Rattle.nim_program.specs.Program.{Stmts, Empty, Then, Declare, Defer, Blocks, Otherwise, Block, Param, Body, Proc, Program}
-use Rattle.nim_program.specs.Program.{types_in, node_at, node_in}
+use Rattle.nim_program.specs.Program.{types_in, node_of, node_at, node_in}
 use Rattle.nim_program.specs.Folds.{first_some, if_declared, loop_places}
-use Rattle.nim_meaning.specs.Here.{is_hooked, gives_hooked}
-pub use Rattle.nim_meaning.specs.Here.{any_hooked}
+use Rattle.nim_program.specs.Program.{Literal, Characters, type_at}
+use Rattle.nim_meaning.specs.Here.{gives_hooked}
+use Rattle.nim_meaning.specs.Shapes.{is_text}
+use Rattle.nim_meaning.specs.Unbuilt.{is_unbuilt, gives_unbuilt, any_unbuilt}
 
 -- ---- the table, by what is built
 
 -- of operands of such types
 abbrev pub is_built : Operation → Facts → List (Option Ty) → Bool
-is_built (O.Compare comparison) facts of = not (any_hooked facts of)
-is_built (O.Measure measure) facts of = not (any_hooked facts of)
-is_built O.Join facts of = false
-is_built O.Show facts of = false
-is_built O.Sequence facts of = false
-is_built O.NewSequence facts of = false
+is_built (O.Compare comparison) facts of = not (any_unbuilt facts of)
+is_built (O.Measure measure) facts of = not (any_unbuilt facts of)
 is_built O.IsNil facts of = false
 is_built O.ReadLine facts of = false
 is_built O.ReadLineInto facts of = false
-is_built O.Add facts of = false
-is_built O.Append facts of = false
-is_built O.SetLength facts of = false
-is_built O.Pop facts of = false
 is_built O.Destroy facts of = false
 is_built O.Blank facts of = false
 is_built _ facts of = true
 
-abbrev pub is_act_built : Act → Facts → List (Option Ty) → Bool
-is_act_built (Doing operation) facts of = is_built operation facts of
-is_act_built (Building fields) facts of = true
-is_act_built (Giving literal) facts of = true
-is_act_built (Calling proc []) facts of = true
-is_act_built (Calling proc (ty ∷ types)) facts of = false
+-- one text, or nothing in which texts or sequences could stand
+abbrev pub is_literal_built : Facts → Option Ty → Literal → Bool
+is_literal_built facts ty (Characters characters) = true
+is_literal_built facts ty literal = not (gives_hooked facts ty)
 
--- `echo` writes literals without a block for them
-abbrev pub writes_literals : Act → Bool
-writes_literals (Doing O.Echo) = true
-writes_literals _ = false
+-- the text of a literal is among the operands
+abbrev pub any_text : Args → Bool
+any_text NoArg = false
+any_text (ByValue value rest) = is_text value || any_text rest
+any_text (ByPath path rest) = any_text rest
 
-abbrev pub unless_literal : (written : Bool) → Expr → Option Node → Option Node
-unless_literal true (Apply node ty (Giving (Characters text)) operands) found = None
-unless_literal written value found = found
+-- a call is handed places: the text of a literal has none yet
+abbrev pub is_act_built : Act → Facts → Option Ty → Args → Bool
+is_act_built (Doing operation) facts ty operands = is_built operation facts (types_in operands)
+is_act_built (Building fields) facts ty operands = true
+is_act_built (Giving literal) facts ty operands = is_literal_built facts ty literal
+is_act_built (Calling proc []) facts ty operands = not (any_text operands)
+is_act_built (Calling proc (first ∷ types)) facts ty operands = false
+
+-- the characters of a text are no places yet
+abbrev pub is_text_type : Option Ty → Bool
+is_text_type (Some text) = true
+is_text_type base = false
+
+-- nor has an exception parts yet
+abbrev pub is_exception_type : Option Ty → Bool
+is_exception_type (Some (type.exception key)) = true
+is_exception_type base = false
 
 -- ---- nodes
 
@@ -72,51 +80,51 @@ earlier (Some node) None = Some node
 earlier (Some node) (Some other) = out_if (nat_lt node.number other.number) node or_then Some other
 
 -- what a choice or a loop goes by
-abbrev pub first_hooked : Facts → List (Option Ty) → Bool
-first_hooked facts [] = false
-first_hooked facts (ty ∷ of) = gives_hooked facts ty
+abbrev pub first_unbuilt : Facts → List (Option Ty) → Bool
+first_unbuilt facts [] = false
+first_unbuilt facts (ty ∷ of) = gives_unbuilt facts ty
 
-abbrev pub any_place_hooked : Facts → List Declared → Bool
-any_place_hooked facts [] = false
-any_place_hooked facts (place ∷ places) = is_hooked facts place.of || any_place_hooked facts places
+abbrev pub any_place_unbuilt : Facts → List Declared → Bool
+any_place_unbuilt facts [] = false
+any_place_unbuilt facts (place ∷ places) = is_unbuilt facts place.of || any_place_unbuilt facts places
 
 -- ---- the first node of a part that is left out; a node comes before its operands
 
 abbrev mutual
   pub left_out_in : Facts → Expr → Option Node
   left_out_in facts (Apply node ty act operands) =
-      out_if (gives_hooked facts ty || not (is_act_built act facts (types_in operands))) node
-      or_then left_out_in_args facts (writes_literals act) operands
+      out_if (gives_unbuilt facts ty || not (is_act_built act facts ty operands)) node
+      or_then left_out_in_args facts operands
   left_out_in facts (Read path) = left_out_in_path facts path
   left_out_in facts (Early node ty short left right) = left_out_in facts left or_then left_out_in facts right
   left_out_in facts (Choose node ty chooser parts) =
-      out_if (gives_hooked facts ty || first_hooked facts (types_in parts)) node or_then left_out_in_args facts false parts
+      out_if (gives_unbuilt facts ty || first_unbuilt facts (types_in parts)) node or_then left_out_in_args facts parts
 
   pub left_out_in_path : Facts → Path → Option Node
-  left_out_in_path facts (Variable node ty place global) = out_if (is_hooked facts ty) node
-  left_out_in_path facts (Fresh value) = left_out_in facts value
-  left_out_in_path facts (Field node ty base field) = out_if (is_hooked facts ty) node or_then left_out_in_path facts base
+  left_out_in_path facts (Variable node ty place global) = out_if (is_unbuilt facts ty) node
+  left_out_in_path facts (Fresh value) = out_if (is_text value) (node_of value) or_then left_out_in facts value
+  left_out_in_path facts (Field node ty base field) =
+      out_if (is_unbuilt facts ty || is_exception_type (type_at base)) node or_then left_out_in_path facts base
   left_out_in_path facts (Element node ty base index constant) =
-      out_if (is_hooked facts ty) node or_then left_out_in_path facts base or_then left_out_in facts index
+      out_if (is_unbuilt facts ty || is_text_type (type_at base)) node or_then left_out_in_path facts base or_then left_out_in facts index
   left_out_in_path facts (Deref ty base) = Some (node_at base)
 
-  pub left_out_in_args : Facts → (written : Bool) → Args → Option Node
-  left_out_in_args facts written NoArg = None
-  left_out_in_args facts written (ByValue value rest) =
-      unless_literal written value (left_out_in facts value) or_then left_out_in_args facts written rest
-  left_out_in_args facts written (ByPath path rest) = left_out_in_path facts path or_then left_out_in_args facts written rest
+  pub left_out_in_args : Facts → Args → Option Node
+  left_out_in_args facts NoArg = None
+  left_out_in_args facts (ByValue value rest) = left_out_in facts value or_then left_out_in_args facts rest
+  left_out_in_args facts (ByPath path rest) = left_out_in_path facts path or_then left_out_in_args facts rest
 
 abbrev mutual
   pub left_out_in_stmt : Facts → Stmt → Option Node
   left_out_in_stmt facts (Do value) = left_out_in facts value
-  left_out_in_stmt facts (Idle node parts) = left_out_in_args facts false parts
+  left_out_in_stmt facts (Idle node parts) = left_out_in_args facts parts
   left_out_in_stmt facts (Give node back value) = left_out_in facts value
-  left_out_in_stmt facts (Leave node leaving parts) = left_out_in_args facts false parts
+  left_out_in_stmt facts (Leave node leaving parts) = left_out_in_args facts parts
   left_out_in_stmt facts (Select node chooser tests blocks) =
-      out_if (first_hooked facts (types_in tests)) node or_then earlier (left_out_in_args facts false tests) (left_out_in_blocks facts blocks)
+      out_if (first_unbuilt facts (types_in tests)) node or_then earlier (left_out_in_args facts tests) (left_out_in_blocks facts blocks)
   left_out_in_stmt facts (Loop node kind head body) =
-      out_if (any_place_hooked facts (loop_places kind) || first_hooked facts (types_in head)) node
-      or_then left_out_in_args facts false head or_then left_out_in_block facts body
+      out_if (any_place_unbuilt facts (loop_places kind) || first_unbuilt facts (types_in head)) node
+      or_then left_out_in_args facts head or_then left_out_in_block facts body
   left_out_in_stmt facts (Raise node exception message) = Some node
   left_out_in_stmt facts (Try node body handlers last) = Some node
 
@@ -124,7 +132,7 @@ abbrev mutual
   left_out_in_block facts Empty = None
   left_out_in_block facts (Then first rest) = left_out_in_stmt facts first or_then left_out_in_block facts rest
   left_out_in_block facts (Declare node place cursor value rest) =
-      out_if (is_hooked facts place.of) node or_then left_out_in_args facts false value or_then left_out_in_block facts rest
+      out_if (is_unbuilt facts place.of) node or_then left_out_in_args facts value or_then left_out_in_block facts rest
   left_out_in_block facts (Defer node last rest) = Some node
 
   pub left_out_in_blocks : Facts → Blocks → Option Node
@@ -144,7 +152,7 @@ first_of (Defer node last rest) = node.number
 abbrev pub left_out_in_head : Facts → (number : ℕ) → List Declared → Option Node
 left_out_in_head facts number [] = None
 left_out_in_head facts number (place ∷ places) =
-    out_if (is_hooked facts place.of) (record { number = number; at = place.at }) or_then left_out_in_head facts number places
+    out_if (is_unbuilt facts place.of) (record { number = number; at = place.at }) or_then left_out_in_head facts number places
 
 abbrev pub left_out_in_body : Facts → List Param → Body → Option Node
 left_out_in_body facts params body =
@@ -166,5 +174,5 @@ first_left_out program =
     option_map (λ node. node.at) (earlier (left_out_in_procs program.facts program.procs) (left_out_in_body program.facts [] program.start))
 
 -- its whole meaning is built
-abbrev pub IsPlain : Program → Type 0
-IsPlain program = first_left_out program ≡ None
+abbrev pub IsBuilt : Program → Type 0
+IsBuilt program = first_left_out program ≡ None

@@ -27,6 +27,12 @@ LeftOutAt n program = first_left_out program ≡ Some (spot n)
 abbrev pub literal : ℕ → Expr
 literal n = Apply (at n) (Some text) (Giving (Characters (codes "a"))) NoArg
 
+abbrev pub pointer : Ty
+pointer = ref None int
+
+abbrev pub nil : ℕ → Expr
+nil n = Apply (at n) (Some pointer) (Giving NoObject) NoArg
+
 abbrev pub number : ℕ → Expr
 number n = Apply (at n) (Some int) (Giving (Number (pos n))) NoArg
 
@@ -78,71 +84,75 @@ proc params result stmts = record {
 abbrev pub with_proc : Proc → Program → Program
 with_proc found program = record program { procs = found ∷ [] }
 
--- ---- what comes with the heap
+-- ---- texts and sequences
 
--- a literal that is no operand of `echo`
-abbrev pub discarding : Program
-discarding = starting (Then (echo 1 (literal 2)) (alone (letting_go 3 (literal 4))))
-
--- one that is an operand of an operand
+-- a literal, and one that is shown
 abbrev pub showing : Program
 showing = starting (alone (echo 1 (operated 2 text O.Show (one (literal 3)))))
 
--- a comparison comes before its operands
-abbrev pub comparing : Program
-comparing = starting (alone (echo 1 (operated 2 bool (O.Compare Equal) (ByValue (literal 3) (one (literal 4))))))
+abbrev pub comparing_texts : Program
+comparing_texts = starting (alone (echo 1 (operated 2 bool (O.Compare Equal) (ByValue (literal 3) (one (literal 4))))))
 
--- and `case` before its selector
 abbrev pub case_of_text : Program
 case_of_text = starting (alone (Select (at 1) (ByLabels ((Exactly (codes "a") ∷ []) ∷ [])) (one (literal 2)) (Block Empty (Otherwise Empty))))
-
--- the first of a condition and a block, in order of text: if 2: discard "" elif "" == "": discard
-abbrev pub branching : Program
-branching = starting (alone (Select (at 1) ByConditions
-    (ByValue (number 2) (one (operated 5 bool (O.Compare Equal) (ByValue (literal 6) (one (literal 7))))))
-    (Block (alone (letting_go 3 (literal 4))) (Block Empty (Otherwise Empty)))))
-
--- a place is left out where it is declared
-abbrev pub declaring : Program
-declaring =
-    starting (Declare (at 1) (place 2 int) false NoArg (Declare (at 3) (place 4 (array 2 text)) false NoArg (alone (echo 5 (number 6)))))
-
--- an array without elements has nothing that is left out
-abbrev pub empty : Program
-empty = starting (Declare (at 1) (place 2 (array 0 text)) false NoArg (alone (echo 3 (number 4))))
-
--- the path that a `for` goes over, and its element
-abbrev pub going_over : Program
-going_over = starting (alone (Loop (at 1) (Each (place 2 int)) (one_path (global 3 (sequence int))) Empty))
-
-abbrev pub measuring : Program
-measuring = starting (alone (echo 1 (operated 2 int (O.Measure Len) (one_path (global 3 text)))))
-
-abbrev pub indexing : Program
-indexing = starting (alone (echo 1 (Read (Element (at 2) int (global 3 (sequence int)) (number 4) None))))
-
--- places of other operations are left out where they stand
-abbrev pub swapping : Program
-swapping = starting (alone (operate 1 O.Swap (ByPath (global 2 int) (one_path (global 3 text)))))
 
 abbrev pub adding : Program
 adding = starting (alone (operate 1 O.Append (ByPath (global 2 text) (one (literal 3)))))
 
+-- a line that is read into a text, and one that is a value
+abbrev pub reading_into : Program
+reading_into = starting (alone (letting_go 1 (operated 2 bool O.ReadLineInto (one_path (global 3 text)))))
+
 abbrev pub reading : Program
 reading = starting (alone (echo 1 (operated 2 text O.ReadLine NoArg)))
 
--- a call that gives a text
+-- ---- which node is the first
+
+abbrev pub discarding : Program
+discarding = starting (Then (echo 1 (literal 2)) (alone (letting_go 3 (nil 4))))
+
+-- a comparison comes before its operands
+abbrev pub comparing : Program
+comparing = starting (alone (echo 1 (operated 2 bool (O.Compare Equal) (ByValue (nil 3) (one (nil 4))))))
+
+-- the first of a condition and a block, in order of text: if 2: discard nil elif nil == nil: discard
+abbrev pub branching : Program
+branching = starting (alone (Select (at 1) ByConditions
+    (ByValue (number 2) (one (operated 5 bool (O.Compare Equal) (ByValue (nil 6) (one (nil 7))))))
+    (Block (alone (letting_go 3 (nil 4))) (Block Empty (Otherwise Empty)))))
+
+-- a place is left out where it is declared
+abbrev pub declaring : Program
+declaring =
+    starting (Declare (at 1) (place 2 int) false NoArg (Declare (at 3) (place 4 (array 2 pointer)) false NoArg (alone (echo 5 (number 6)))))
+
+-- an array of refs is left out, also where it has no elements
+abbrev pub empty : Program
+empty = starting (Declare (at 1) (place 2 (array 0 pointer)) false NoArg (alone (echo 3 (number 4))))
+
+-- the path that a `for` goes over, and its element
+abbrev pub going_over : Program
+going_over = starting (alone (Loop (at 1) (Each (place 2 int)) (one_path (global 3 (sequence pointer))) Empty))
+
+abbrev pub measuring : Program
+measuring = starting (alone (echo 1 (operated 2 int (O.Measure Len) (one_path (global 3 (sequence pointer))))))
+
+abbrev pub indexing : Program
+indexing = starting (alone (echo 1 (Read (Element (at 2) int (global 3 (sequence pointer)) (number 4) None))))
+
+-- places of other operations are left out where they stand
+abbrev pub swapping : Program
+swapping = starting (alone (operate 1 O.Swap (ByPath (global 2 int) (one_path (global 3 pointer)))))
+
+-- a call that gives a ref
 abbrev pub calling : Program
-calling = starting (alone (echo 1 (Apply (at 2) (Some text) (Calling 0 []) NoArg)))
+calling = starting (alone (echo 1 (Apply (at 2) (Some pointer) (Calling 0 []) NoArg)))
 
 -- and one with a type for a type parameter
 abbrev pub calling_with_types : Program
 calling_with_types = starting (alone (echo 1 (Apply (at 2) (Some int) (Calling 0 (int ∷ [])) NoArg)))
 
 -- ---- refs, exceptions and hooks
-
-abbrev pub pointer : Ty
-pointer = ref None int
 
 abbrev pub discarding_nil : Program
 discarding_nil = starting (alone (letting_go 1 (Apply (at 2) (Some pointer) (Giving NoObject) NoArg)))
@@ -171,20 +181,20 @@ destroying = starting (alone (operate 1 O.Destroy (one_path (global 2 int))))
 
 -- a cursor
 abbrev pub lending : Program
-lending = starting (Declare (at 1) (place 2 text) true (one (Read (global 3 text))) Empty)
+lending = starting (Declare (at 1) (place 2 pointer) true (one (Read (global 3 pointer))) Empty)
 
 -- ---- procedures
 
 -- one before the start code, and one behind its first node
 abbrev pub before_start : Program
-before_start = with_proc (proc [] None (alone (letting_go 1 (literal 2)))) (starting (alone (letting_go 3 (literal 4))))
+before_start = with_proc (proc [] None (alone (letting_go 1 (nil 2)))) (starting (alone (letting_go 3 (nil 4))))
 
 abbrev pub behind_start : Program
-behind_start = with_proc (proc [] None (alone (letting_go 3 (literal 4)))) (starting (alone (letting_go 1 (literal 2))))
+behind_start = with_proc (proc [] None (alone (letting_go 3 (nil 4)))) (starting (alone (letting_go 1 (nil 2))))
 
 -- a parameter, and a result
 abbrev pub taking : Program
-taking = with_proc (proc (plain (place 2 text) ∷ []) None (alone (letting_go 3 (literal 4)))) (starting (alone (letting_go 5 (literal 6))))
+taking = with_proc (proc (plain (place 2 pointer) ∷ []) None (alone (letting_go 3 (nil 4)))) (starting (alone (letting_go 5 (nil 6))))
 
 abbrev pub giving : Program
-giving = with_proc (proc (plain (place 2 int) ∷ []) (Some (place 3 text)) (alone (echo 4 (number 5)))) (starting Empty)
+giving = with_proc (proc (plain (place 2 int) ∷ []) (Some (place 3 pointer)) (alone (echo 4 (number 5)))) (starting Empty)

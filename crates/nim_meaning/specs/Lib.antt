@@ -18,6 +18,7 @@ pub mod Aims
 pub mod Steps
 pub mod Meaning
 pub mod Kept
+pub mod Unbuilt
 pub mod LeftOut
 pub mod ActsOf
 pub mod Runs

@@ -7,7 +7,8 @@ use Rattle.nim_meaning.specs.Values.{bytes}
 use Rattle.nim_meaning.specs.Values.{InHand, Waiting, Location, deeper, item_of, at_base, Slot, Holds, Stands, Lends, Operand, Given, At}
 use Rattle.nim_meaning.specs.Heap.{Contents, Characters, Elements, Block, class_for, block_at}
 use Rattle.nim_meaning.specs.State.{World, text_of, temporary_at}
-use Rattle.nim_meaning.specs.Deeds.{Deed, Takes, Leaves, Pushes, Pops, does, give, ◌>>=◌, ◌>>◌, branch, costs, looks, unless_gone, sees, takes, sets, frees, refills}
+use Rattle.nim_meaning.specs.Deeds.{Deed, Takes, Leaves, Pushes, Pops, does, give, ◌>>=◌, ◌>>◌, branch, costs, looks, unless_gone, sees, takes, sets, frees}
+use Rattle.nim_meaning.specs.Deeds.{refills}
 
 -- ---- part by part
 
@@ -71,9 +72,9 @@ has_place world (Some k) (suc n) = holds_class (block_at world.heap k) (class_fo
 -- The text or sequence at a location gets other contents, of so many elements and bytes: in its block, or in the smallest one that holds them, and then
 -- the present one is given back.
 abbrev pub resized : (length bytes : ℕ) → Contents → Location → Deed (Unit {0})
-resized n bytes contents location = sees location (λ world v. branch (has_place world (block_of v) bytes)
+resized n bytes contents location = sees location (λ world v. unless_gone (is_handle v) (branch (has_place world (block_of v) bytes)
     (refills (block_of v) contents >> sets location (Handle n (block_of v)))
-    (fresh n bytes contents >>= (λ new. sets location new >> frees (block_of v))))
+    (fresh n bytes contents >>= (λ new. sets location new >> frees (block_of v)))))
 
 -- ---- ends
 

@@ -8,13 +8,13 @@ use Rattle.nim_program.specs.declared.operation.Operation.TheVariants as O
 use Rattle.nim_program.specs.declared.operation.Comparison.{Comparison}
 use Rattle.nim_program.specs.Traps.{IndexOutOfBounds, OutOfRange}
 use Rattle.nim_program.specs.Ints.{compared, truth}
-use Rattle.nim_meaning.specs.Values.{Value, Number, Handle, Nil, More, nothing, first_of, joined, length_of, block_of, repeated, blank}
+use Rattle.nim_meaning.specs.Values.{Value, Number, Handle, Nil, More, nothing, first_of, joined, length_of, block_of, is_handle, repeated, blank}
 use Rattle.nim_meaning.specs.Values.{Location, item_of, Operand, operand, value, number, location, values_in}
 use Rattle.nim_meaning.specs.Heap.{Characters, Elements}
 use Rattle.nim_meaning.specs.State.{World, load, text_of, elements_of}
 use Rattle.nim_meaning.specs.Texts.{shown}
 use Rattle.nim_meaning.specs.Here.{form_for}
-use Rattle.nim_meaning.specs.Deeds.{Deed, Reads, does, give, ◌>>=◌, ◌>>◌, branch, costs, looks, takes, sets, refills, stop}
+use Rattle.nim_meaning.specs.Deeds.{Deed, Reads, does, give, ◌>>=◌, ◌>>◌, branch, costs, looks, unless_gone, sees, takes, sets, refills, stop}
 use Rattle.nim_meaning.specs.Lifted.{fresh, fresh_text, fresh_sequence, resized, each_element, ends_at, under_way, replaced, assigns}
 
 -- ---- types
@@ -126,9 +126,13 @@ abbrev pub line_read : List ℕ → Deed Value
 line_read input = costs (up_to_feed input) (does (Reads (up_to_feed input)) >> under_way (Handle 0 None) (each_appended (next_line input)))
 
 -- where no byte is left the place stays as it is
+abbrev pub line_or_none : Location → List ℕ → Deed Value
+line_or_none location [] = give (Number (truth false))
+line_or_none location (c ∷ cs) = line_read (c ∷ cs) >>= (λ v. replaced block location v >> give (Number (truth true)))
+
+-- a text that nobody owns can't be read into
 abbrev pub line_into : Location → List ℕ → Deed Value
-line_into location [] = give (Number (truth false))
-line_into location (c ∷ cs) = line_read (c ∷ cs) >>= (λ v. replaced block location v >> give (Number (truth true)))
+line_into location input = sees location (λ world v. unless_gone (is_handle v) (line_or_none location input))
 
 -- ---- rows
 

@@ -11,7 +11,7 @@ pub use Rattle.nim_meaning.specs.Values.{item_of}
 use Rattle.nim_meaning.specs.Values.{deeper, nowhere, through}
 use Rattle.nim_meaning.specs.State.{World, slot_at, temporary_at, load}
 use Rattle.nim_meaning.specs.Values.{Slot, Holds}
-use Rattle.nim_meaning.specs.Deeds.{Deed, Gives, Waits, does, give, ◌>>=◌, ◌>>◌, branch, costs, looks, sees, takes, sets, stop}
+use Rattle.nim_meaning.specs.Deeds.{Deed, Gives, Waits, does, give, ◌>>=◌, ◌>>◌, branch, costs, looks, unless_gone, sees, takes, sets, stop}
 use Rattle.nim_meaning.specs.Lifted.{fresh_text, copied}
 
 -- ---- paths
@@ -83,16 +83,16 @@ pub record Destination : Type 0 where
   pub level : ℕ
   pub node : ℕ
 
--- A value that is somebody's own is handed on, or waits for its operation or for the end of its statement.
+-- A value that is somebody's own is handed on, or waits for its operation or for the end of its statement: its bits are moved to where it waits.
 abbrev pub kept_for : Use → (level node : ℕ) → Value → Deed Value
 kept_for Owned level node v = give v
 kept_for Given level node v = give v
-kept_for how level node v = does (Waits level node (Holds v)) >> give v
+kept_for how level node v = costs (bytes v) (does (Waits level node (Holds v)) >> give v)
 
 abbrev pub kept : Destination → Value → Deed Value
 kept to v = kept_for to.how to.level to.node v
 
--- the value of a call, which is no literal
+-- a value that an operation gives, or a call: no literal
 abbrev pub kept_if : (hooked : Bool) → Destination → Value → Deed Value
 kept_if false to v = give v
 kept_if true to v = kept to v
@@ -113,16 +113,24 @@ text_for Lent to t = give (Fixed t)
 text_for Looked to t = give (Fixed t)
 text_for how to t = fresh_text t >>= kept to
 
--- the value that a node made, as its use asks
+-- the value of a literal, as its use asks
 abbrev pub made_by : (hooked : Bool) → Destination → Value → Deed Value
 made_by false to v = give v
 made_by true to (Fixed t) = text_for to.how to t
 made_by true to v = kept to v
 
+-- a constant is never changed
+abbrev pub may_change : Base → Bool
+may_change (Made v) = false
+may_change base = true
+
+abbrev pub changes : Location → Value → Deed (Unit {0})
+changes location v = unless_gone (may_change location.base) (sets location v)
+
 -- a value becomes that at a location, where one without hooks stood
 abbrev pub put : Location → Value → Deed Value
-put location v = costs (bytes v) (sets location v >> give nothing)
+put location v = costs (bytes v) (changes location v >> give nothing)
 
 -- the value at a location is taken, and another one put in its place
 abbrev pub exchanged : Location → Value → Deed Value
-exchanged location v = costs (bytes v) (takes location (λ world old. sets location v >> give old))
+exchanged location v = costs (bytes v) (takes location (λ world old. changes location v >> give old))

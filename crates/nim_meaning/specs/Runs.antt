@@ -3,7 +3,9 @@
 use Rattle.std.specs.Prelude.{◌≡◌, ℕ, Bool, true, false, not, ◌&&◌, ◌||◌, ◌⊎◌, List, [], ◌∷◌, ◌++◌, Option, Some, None}
 use Rattle.arc_base.specs.BigStep.{Res, Got, Over, Going, Errs}
 use Rattle.nim_types.specs.Types.{Ty}
-use Rattle.nim_program.specs.Program.{Giving, Characters, Expr, Apply, Read, Early, Choose, Path, Variable, Fresh, Field, Element, Deref, Args, NoArg}
+use Rattle.nim_program.specs.declared.operation.Operation.TheVariants as O
+use Rattle.nim_program.specs.Program.{Act, Doing, Giving, Characters, Expr, Apply, Read, Early, Choose, Path, Variable, Fresh, Field, Element, Deref, Args}
+use Rattle.nim_program.specs.Program.{NoArg}
 use Rattle.nim_program.specs.Program.{ByValue, ByPath, Declared, Kind, While, Count, Each, Stmt, Do, Idle, Give, Leave, Select, Loop, Raise, Try}
 use Rattle.nim_program.specs.Program.{Stmts, Empty, Then, Declare, Defer, Blocks, Otherwise, Block, Handlers, NoHandler, Handler, Param, Body, Proc, Program}
 use Rattle.nim_meaning.specs.ActTree as tree
@@ -12,7 +14,6 @@ use Rattle.nim_meaning.specs.Ways.{Point, Exits, Raises, Graph, Behind, Trail, f
 use Rattle.nim_meaning.specs.State.{State}
 use Rattle.nim_meaning.specs.Acts.{Exit, Broke, Continued, Returned, Raised, Outcome, On, Out as LeftBy}
 use Rattle.nim_meaning.specs.Here.{is_hooked}
-use Rattle.nim_meaning.specs.LeftOut.{writes_literals}
 use Rattle.nim_meaning.specs.ActsOf.{start_acts, procedure_acts}
 
 -- the points of a way, the last one first
@@ -52,6 +53,11 @@ GoesBy E p exits elsewhere before (Going s) = StopsBy E p elsewhere before s.tra
 GoesBy E p exits elsewhere before (Errs s) = StopsBy E p elsewhere before s.trail
 
 -- ---- what has no hooks
+
+-- `echo` writes literals without a block for them
+abbrev pub writes_literals : Act → Bool
+writes_literals (Doing O.Echo) = true
+writes_literals _ = false
 
 module _ (hooked : Ty → Bool) where
   abbrev pub is_plain_type : Option Ty → Bool

@@ -72,9 +72,16 @@ ended_value here value how act = ended here (waits_of here value how) act
 abbrev pub destination : Here → Use → (node : ℕ) → Destination
 destination here how node = record { how = how; level = here.level; node = node }
 
+-- what becomes of the value that an act gives: one of a literal is copied where it is somebody's own
+abbrev pub kept_by : Act → (hooked : Bool) → Destination → Value → Deed Value
+kept_by (Giving literal) hooked to v = made_by hooked to v
+kept_by (Doing operation) hooked to v = kept_if hooked to v
+kept_by (Building fields) hooked to v = kept_if hooked to v
+kept_by (Calling proc types) hooked to v = kept_if hooked to v
+
 -- a row of the table, and what becomes of the value that it gives
 abbrev pub row : Facts → Act → Destination → Option Ty → List (Option Ty) → List Operand → Deed Value
-row facts act to ty of xs = then_deed (acts act facts ty of xs) (made_by (gives_hooked facts ty) to)
+row facts act to ty of xs = then_deed (acts act facts ty of xs) (kept_by act (gives_hooked facts ty) to)
 
 -- an operation takes what it holds: from where it waited, it goes on by value
 abbrev pub taking_up : {A : Type 0} → Here → (nodes : List ℕ) → Does A → Does A
@@ -162,7 +169,7 @@ branch_value here value by = branch_by (gives_hooked here.facts (type_of value))
 -- the value of a branch is handed on, and that of the whole used
 abbrev pub handed_by : Facts → Destination → Option Ty → Value → Deed Value
 handed_by facts to None v = deeds.give v
-handed_by facts to (Some ty) v = then_deed (moved v) (made_by (gives_hooked facts (Some ty)) to)
+handed_by facts to (Some ty) v = then_deed (moved v) (kept_if (gives_hooked facts (Some ty)) to)
 
 abbrev pub handed_on : Here → Use → (node : ℕ) → Option Ty → Value → Does Value
 handed_on here how node ty v = carry (handed_by here.facts (destination here how node) ty v)

@@ -24,7 +24,7 @@ use Rattle.nim_program.specs.Program.{Stmts, Empty, Then, Declare, Otherwise, Bl
 use Rattle.nim_program.specs.Nodes.{one_path}
 use Rattle.nim_program.specs.Ints.{truth}
 use Rattle.nim_meaning.specs.Meaning.{meaning}
-use Rattle.nim_meaning.specs.LeftOut.{IsPlain}
+use Rattle.nim_meaning.specs.LeftOut.{IsBuilt}
 
 abbrev pub here : Place
 here = record { «module» = 0; line = 1; column = 1 }
@@ -254,7 +254,7 @@ sight_of seen = record { events = seen.events; phase = seen.phase }
 
 -- its whole meaning is built, and shows this under each plan
 pub record Sees (p : Program) (units : ℕ) (events : List Event) (phase : Phase) : Type 0 where
-  pub plain : IsPlain p
+  pub plain : IsBuilt p
   pub sees : (plan : Plan) (heap : ℕ) (input : List ℕ) → sight_of (meaning p plan heap input units) ≡ record { events = events; phase = phase }
 
 -- with so many units it comes to its end, and has written this
@@ -263,7 +263,7 @@ Prints p units written = Sees p units (writes Out written) (Ended 0 no_objects)
 
 -- the same, and its work is so much
 pub record Works (p : Program) (units : ℕ) (written : List ℕ) (work : ℕ) : Type 0 where
-  pub plain : IsPlain p
+  pub plain : IsBuilt p
   pub works : (plan : Plan) (heap : ℕ) (input : List ℕ) → meaning p plan heap input units ≡ seen (writes Out written) (Ended 0 no_objects) work
 
 abbrev pub Quits : Program → (units status : ℕ) → List ℕ → Type 0

@@ -18,7 +18,7 @@ ghost use Rattle.nim_meaning.specs.TextExamples.{leaving_scopes_turns, into_bloc
 ghost use Rattle.nim_meaning.specs.TextExamples.{lengths_turns, characters_turns};
 ghost use Rattle.nim_meaning.specs.TextExamples.{reading_lines_turns, constants_turns};
 ghost use Rattle.nim_meaning.specs.TextExamples.{branches_turns, nested_turns};
-ghost use Rattle.nim_meaning.specs.LeftOut.{IsPlain};
+ghost use Rattle.nim_meaning.specs.LeftOut.{IsBuilt};
 ghost use Rattle.nim_meaning.specs.ExitExamples as exits;
 ghost use Rattle.nim_meaning.specs.ExitExamples.{IsLeftBy};
 ghost use Rattle.nim_meaning.specs.LeftOutExamples as out;
@@ -136,19 +136,21 @@ pub fn call_examples()
 
 /// Where the first form stands whose meaning isn't built.
 pub fn left_out_examples()
+    ensures showing { IsBuilt out.showing }
+    ensures comparing_texts { IsBuilt out.comparing_texts }
+    ensures case_of_text { IsBuilt out.case_of_text }
+    ensures adding { IsBuilt out.adding }
+    ensures reading_into { LeftOutAt 2 out.reading_into }
+    ensures reading { LeftOutAt 2 out.reading }
     ensures discarding { LeftOutAt 4 out.discarding }
-    ensures showing { LeftOutAt 2 out.showing }
     ensures comparing { LeftOutAt 2 out.comparing }
-    ensures case_of_text { LeftOutAt 1 out.case_of_text }
     ensures branching { LeftOutAt 4 out.branching }
     ensures declaring { LeftOutAt 3 out.declaring }
-    ensures empty { IsPlain out.empty }
+    ensures empty { LeftOutAt 1 out.empty }
     ensures going_over { LeftOutAt 1 out.going_over }
     ensures measuring { LeftOutAt 2 out.measuring }
     ensures indexing { LeftOutAt 3 out.indexing }
     ensures swapping { LeftOutAt 3 out.swapping }
-    ensures adding { LeftOutAt 1 out.adding }
-    ensures reading { LeftOutAt 2 out.reading }
     ensures calling { LeftOutAt 2 out.calling }
     ensures calling_with_types { LeftOutAt 2 out.calling_with_types }
     ensures discarding_nil { LeftOutAt 2 out.discarding_nil }

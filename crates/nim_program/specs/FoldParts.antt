@@ -3,7 +3,8 @@ use Rattle.std.specs.Prelude.{Bool, true, false, [], ◌∷◌, Option, Some, No
 use Rattle.nim_program.specs.Program.{Expr, Apply, Read, Early, Choose, Path, Variable, Fresh, Field, Element, Deref, is_written, constant_in}
 use Rattle.nim_program.specs.Program.{Stmt, Do, Idle, Give, Leave, Select, Loop, Raise, Try, Stmts, Empty, Then, Declare, Defer}
 use Rattle.nim_program.specs.Folds.{Seen, Sum, Named, ToField, ToElement, ToObject, Acting, Stopping, Choosing, Leading, Stating}
-use Rattle.nim_program.specs.Folds.{Declaring, Looping, valued, stated, led, loop_places, looked_type, is_headed, if_constant, begun_by, total, total_at, totals}
+use Rattle.nim_program.specs.Folds.{Declaring, Looping, valued, stated, led, loop_places, looked_type, is_headed, if_constant, begun_by, total, total_at}
+use Rattle.nim_program.specs.Folds.{totals}
 
 -- ---- a part alone, none of one that is seen by its parts
 

@@ -9,7 +9,8 @@ use Rattle.nim_types.specs.Forms.{types_of}
 use Rattle.nim_types.specs.declared.types.TypeDef.{TypeDef}
 use Rattle.nim_types.specs.declared.types.TypeDef.TheVariants as D
 use Rattle.nim_types.specs.declared.types.FieldName.{FieldName}
-use Rattle.nim_types.specs.Table.{type_at, types_at, meant, types_in, and_field, fields_with, fields_fact, said_of, and_said, facts_over, facts_in, AllBelow, IsTable}
+use Rattle.nim_types.specs.Table.{type_at, types_at, meant, types_in, and_field, fields_with, fields_fact, said_of, and_said, facts_over, facts_in, AllBelow}
+use Rattle.nim_types.specs.Table.{IsTable}
 use Rattle.nim_types.specs.Entries.{meant_at, said_at, says, one_if, says_count}
 use Rattle.nim_types.proofs.Numbering.{count, at_entry, said_at as said_number}
 

@@ -5,7 +5,7 @@ use Rattle.std.specs.Prelude.{nat_lt, ◌||◌}
 use Rattle.nim_types.specs.Types.{Facts}
 use Rattle.nim_program.specs.declared.expr.Node.{Node}
 use Rattle.nim_program.specs.Program.{Expr, Declared, Stmt, Stmts, Then}
-use Rattle.nim_meaning.specs.Here.{is_hooked}
+use Rattle.nim_meaning.specs.Unbuilt.{is_unbuilt}
 use Rattle.nim_meaning.specs.LeftOut.{out_if, ◌or_then◌, left_out_in, left_out_in_stmt, left_out_in_block, left_out_in_head, earlier}
 use Rattle.program_limits.specs.Frames.{is_deep, deep_place}
 
@@ -36,7 +36,7 @@ pub head_append : (facts : Facts) (n : ℕ) (some more : List Declared) →
     left_out_in_head facts n (some ++ more) ≡ (left_out_in_head facts n some or_then left_out_in_head facts n more)
 head_append facts n [] more = refl
 head_append facts n (place ∷ places) more =
-    let first = out_if (is_hooked facts place.of) (record { number = n; at = place.at }) in
+    let first = out_if (is_unbuilt facts place.of) (record { number = n; at = place.at }) in
     ap (λ x. first or_then x) (head_append facts n places more) ∙ sym (or_assoc first (left_out_in_head facts n places) (left_out_in_head facts n more))
 
 pub deep_append : (facts : Facts) (n : ℕ) (some more : List Declared) →

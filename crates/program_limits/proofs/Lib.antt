@@ -9,4 +9,6 @@ mod Meets
 mod Distinct
 mod Globals
 mod TypeNames
+mod TextTypes
 pub mod ForCallers
+mod Levels

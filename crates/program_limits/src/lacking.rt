@@ -1,24 +1,26 @@
 // The first node of an expression that is left out of what is built.
-ghost use Rattle.std.specs.Prelude.{◌≡◌, ◌∷◌, ◌||◌, ℕ, false, List, Option, map, option_map};
+ghost use Rattle.std.specs.Prelude.{Some, ◌≡◌, ◌∷◌, ◌||◌, ℕ, false, List, Option, map, option_map};
 ghost use Rattle.nim_types.specs.Types.{Ty, Facts};
-ghost use Rattle.nim_types.specs.Table.{type_at};
-ghost use Rattle.nim_program.specs.Program.{Args, Doing, Calling, Chooser, Choose, NoArg, ByValue};
+ghost use Rattle.nim_types.specs.Table.{type_at, meant};
+ghost use Rattle.nim_program.specs.Program.{Args, Calling, Chooser, Choose, NoArg, ByValue};
 ghost use Rattle.nim_program.specs.Program.{types_in};
 ghost use Rattle.nim_program.specs.declared.expr.Node.{Node};
-ghost use Rattle.nim_program.specs.View.{expr_of, path_of, operands_of, operand_before};
+ghost use Rattle.nim_program.specs.View.{expr_of, path_of, operands_of, operand_before, literal_of};
 ghost use Rattle.nim_program.specs.View.{choices_of, picks_of, if_value, if_type};
-ghost use Rattle.nim_meaning.specs.Here.{gives_hooked};
+ghost use Rattle.nim_meaning.specs.Unbuilt.{any_unbuilt, gives_unbuilt};
 ghost use Rattle.nim_meaning.specs.LeftOut.{left_out_in, left_out_in_path, left_out_in_args};
-ghost use Rattle.nim_meaning.specs.LeftOut.{any_hooked, first_hooked, is_built, is_act_built};
-ghost use Rattle.nim_meaning.specs.LeftOut.{writes_literals};
-ghost use Rattle.nim_meaning.specs.LeftOut.{unless_literal, ◌or_then◌};
+ghost use Rattle.nim_meaning.specs.LeftOut.{first_unbuilt, is_built, is_act_built, is_text_type};
+ghost use Rattle.nim_meaning.specs.LeftOut.{is_exception_type};
+ghost use Rattle.nim_meaning.specs.LeftOut.{is_literal_built, any_text};
+ghost use Rattle.nim_meaning.specs.Shapes.{is_text as is_literal_text};
+ghost use Rattle.nim_meaning.specs.LeftOut.{◌or_then◌};
 ghost use Rattle.program_limits.specs.Known.{known_types, known_facts};
 
 use crate::known::Known;
-use crate::parts::{if_either, if_hooked, or_then, out_unless};
-use crate::types::gives_hooked;
+use crate::parts::{either, if_either, if_unbuilt, or_then, out_if, out_unless};
+use crate::types::{gives_unbuilt, is_hooked, is_unbuilt};
 use nim_program::{Choice, Expr, Literal, Node, Operand, Operation, Path, Pick};
-use nim_types::TypeId;
+use nim_types::{TypeDef, TypeId, entry, table_entries};
 
 // ---- the table of operations, by what is built
 
@@ -33,20 +35,20 @@ pub fn operand_type(operand: &Operand) -> Option<TypeId>
     }
 }
 
-fn operand_hooked(known: &Known, operand: &Operand) -> bool
-    ensures { (rest : Args) → any_hooked (known_facts known.now)
+fn operand_unbuilt(known: &Known, operand: &Operand) -> bool
+    ensures { (rest : Args) → any_unbuilt (known_facts known.now)
         (types_in (operand_before (known_types known.now) operand.now rest))
-        ≡ (result || any_hooked (known_facts known.now) (types_in rest)) }
+        ≡ (result || any_unbuilt (known_facts known.now) (types_in rest)) }
 {
-    gives_hooked(known, operand_type(operand))
+    gives_unbuilt(known, operand_type(operand))
 }
 
-fn any_hooked(known: &Known, operands: &Vec<Operand>) -> bool
-    ensures { result ≡ any_hooked (known_facts known.now)
+fn any_unbuilt(known: &Known, operands: &Vec<Operand>) -> bool
+    ensures { result ≡ any_unbuilt (known_facts known.now)
         (types_in (operands_of (known_types known.now) operands.now.items)) }
 {
     for operand in operands {
-        if operand_hooked(known, operand) {
+        if operand_unbuilt(known, operand) {
             return true;
         }
     }
@@ -58,21 +60,21 @@ fn is_built(known: &Known, operation: Operation, operands: &Vec<Operand>) -> boo
         (types_in (operands_of (known_types known.now) operands.now.items)) }
 {
     match operation {
-        Operation::Compare(_) | Operation::Measure(_) => !any_hooked(known, operands),
+        Operation::Compare(_) | Operation::Measure(_) => !any_unbuilt(known, operands),
+        Operation::IsNil
+        | Operation::ReadLine
+        | Operation::ReadLineInto
+        | Operation::Destroy
+        | Operation::Blank => false,
         Operation::Join
         | Operation::Show
         | Operation::Sequence
         | Operation::NewSequence
-        | Operation::IsNil
-        | Operation::ReadLine
-        | Operation::ReadLineInto
         | Operation::Add
         | Operation::Append
         | Operation::SetLength
         | Operation::Pop
-        | Operation::Destroy
-        | Operation::Blank => false,
-        Operation::Default
+        | Operation::Default
         | Operation::Unary(_)
         | Operation::Binary(_)
         | Operation::Convert
@@ -87,35 +89,114 @@ fn is_built(known: &Known, operation: Operation, operands: &Vec<Operand>) -> boo
     }
 }
 
-// A call has no types for type parameters.
-fn is_call_built(types: &[TypeId]) -> bool
-    ensures { (ts : List Ty) (proc : ℕ) (facts : Facts) (of : List (Option Ty)) →
-        result ≡ is_act_built (Calling proc (map (type_at ts) types.now)) facts of }
+// A call has no types for type parameters, and the text of a literal isn't handed over.
+fn is_call_built(known: &Known, types: &[TypeId], operands: &Vec<Operand>) -> bool
+    ensures { (proc : ℕ) (facts : Facts) (ty : Option Ty) → result
+        ≡ is_act_built (Calling proc (map (type_at (known_types known.now)) types.now)) facts ty
+        (operands_of (known_types known.now) operands.now.items) }
 {
-    types.is_empty()
+    if types.is_empty() {
+        return !any_text(known, operands);
+    }
+    false
 }
 
-fn writes_literals(operation: Operation) -> bool
-    ensures { result ≡ writes_literals (Doing operation) }
+// ---- texts, and exceptions
+
+fn means_exception(def: &TypeDef) -> bool
+    ensures { (ts : List Ty) → result ≡ is_exception_type (Some (meant ts def.now)) }
 {
-    match operation {
-        Operation::Echo => true,
-        _ => false,
+    matches!(def, TypeDef::Exception { .. })
+}
+
+fn is_exception(known: &Known, ty: TypeId) -> bool
+    ensures { result ≡ is_exception_type (Some (type_at (known_types known.now) ty)) }
+{
+    table_entries();
+    match entry(known.types, ty) {
+        Some(def) => means_exception(def),
+        None => false,
     }
 }
 
-fn unless_literal(written: bool, expr: &Expr, found: Option<Node>) -> Option<Node>
-    ensures { (ts : List Ty) → result ≡ unless_literal written (expr_of ts expr.now) found }
+fn gives_exception(known: &Known, ty: Option<TypeId>) -> bool
+    ensures { result ≡ is_exception_type (if_type (known_types known.now) ty) }
 {
-    if !written {
-        return found;
+    match ty {
+        None => false,
+        Some(ty) => is_exception(known, ty),
     }
-    match expr {
+}
+
+fn is_literal_text(known: &Known, value: &Expr) -> bool
+    ensures { result ≡ is_literal_text (expr_of (known_types known.now) value.now) }
+{
+    match value {
         Expr::Constant { value, .. } => match value {
-            Literal::Text(_) => None,
-            Literal::Ordinal(_) | Literal::Nil | Literal::Parts(_) | Literal::Elements(_) => found,
+            Literal::Text(_) => true,
+            Literal::Ordinal(_) | Literal::Nil | Literal::Parts(_) | Literal::Elements(_) => false,
         },
-        _ => found,
+        Expr::Apply { .. }
+        | Expr::Call { .. }
+        | Expr::Construct { .. }
+        | Expr::Read { .. }
+        | Expr::Early { .. }
+        | Expr::If { .. }
+        | Expr::Case { .. } => false,
+    }
+}
+
+fn operand_text(known: &Known, operand: &Operand) -> bool
+    ensures { (rest : Args) → any_text (operand_before (known_types known.now) operand.now rest)
+        ≡ (result || any_text rest) }
+{
+    match operand {
+        Operand::Value(value) => is_literal_text(known, value),
+        Operand::At(_) => false,
+    }
+}
+
+fn any_text(known: &Known, operands: &Vec<Operand>) -> bool
+    ensures { result ≡ any_text (operands_of (known_types known.now) operands.now.items) }
+{
+    for operand in operands {
+        if operand_text(known, operand) {
+            return true;
+        }
+    }
+    false
+}
+
+// One text, or nothing in which texts or sequences could stand.
+fn is_literal_built(known: &Known, ty: TypeId, literal: &Literal) -> bool
+    ensures { result ≡ is_literal_built (known_facts known.now)
+        (Some (type_at (known_types known.now) ty)) (literal_of literal.now) }
+{
+    match literal {
+        Literal::Text(_) => true,
+        Literal::Ordinal(_) | Literal::Nil | Literal::Parts(_) | Literal::Elements(_) => {
+            !is_hooked(known, ty)
+        }
+    }
+}
+
+// A number beyond the table counts as an int.
+fn is_text(known: &Known, ty: TypeId) -> bool
+    ensures { result ≡ is_text_type (Some (type_at (known_types known.now) ty)) }
+{
+    table_entries();
+    match entry(known.types, ty) {
+        Some(def) => matches!(def, TypeDef::Text),
+        None => false,
+    }
+}
+
+fn gives_text(known: &Known, ty: Option<TypeId>) -> bool
+    ensures { result ≡ is_text_type (if_type (known_types known.now) ty) }
+{
+    match ty {
+        None => false,
+        Some(ty) => is_text(known, ty),
     }
 }
 
@@ -135,10 +216,7 @@ pub fn of_expr(known: &Known, expr: &Expr) -> Option<Node>
             operands,
         } => {
             let here = out_unless(known, *ty, is_built(known, *operation, operands), *node);
-            or_then(
-                here,
-                of_operands(known, writes_literals(*operation), operands),
-            )
+            or_then(here, of_operands(known, operands))
         }
         Expr::Call {
             node,
@@ -147,19 +225,23 @@ pub fn of_expr(known: &Known, expr: &Expr) -> Option<Node>
             operands,
             ..
         } => {
-            let here = out_unless(known, *ty, is_call_built(types.as_slice()), *node);
-            or_then(here, of_operands(known, false, operands))
+            let here = out_unless(
+                known,
+                *ty,
+                is_call_built(known, types.as_slice(), operands),
+                *node,
+            );
+            or_then(here, of_operands(known, operands))
         }
         Expr::Construct {
             node,
             ty,
             operands,
             ..
-        } => or_then(
-            if_hooked(known, *ty, *node),
-            of_operands(known, false, operands),
-        ),
-        Expr::Constant { node, ty, .. } => if_hooked(known, *ty, *node),
+        } => or_then(if_unbuilt(known, *ty, *node), of_operands(known, operands)),
+        Expr::Constant { node, ty, value } => {
+            out_unless(known, Some(*ty), is_literal_built(known, *ty, value), *node)
+        }
         Expr::Read { path } => of_path(known, path),
         Expr::Early { left, right, .. } => {
             or_then(of_expr(known, &**left), of_expr(known, &**right))
@@ -198,7 +280,7 @@ fn of_choice(known: &Known, expr: &Expr) -> Option<Node>
         } => {
             let here = if_either(known, *ty, operand_type(&**selector), *node);
             let values = or_then(of_picks(known, branches), of_else(known, otherwise));
-            or_then(here, or_then(of_operand(known, false, &**selector), values))
+            or_then(here, or_then(of_operand(known, &**selector), values))
         }
         _ => None,
     }
@@ -211,10 +293,14 @@ pub fn of_path(known: &Known, path: &Path) -> Option<Node>
         ≡ left_out_in_path (known_facts known.now) (path_of (known_types known.now) path.now) }
 {
     match path {
-        Path::Variable { node, ty, .. } => if_hooked(known, *ty, *node),
-        Path::Fresh { value } => of_expr(known, &**value),
+        Path::Variable { node, ty, .. } => if_unbuilt(known, *ty, *node),
+        Path::Fresh { value } => {
+            let here = out_if(is_literal_text(known, &**value), value.node());
+            or_then(here, of_expr(known, &**value))
+        }
         Path::Field { node, ty, base, .. } => {
-            or_then(if_hooked(known, *ty, *node), of_path(known, &**base))
+            let left_out = either(is_unbuilt(known, *ty), gives_exception(known, base.ty()));
+            or_then(out_if(left_out, *node), of_path(known, &**base))
         }
         Path::Element {
             node,
@@ -224,33 +310,34 @@ pub fn of_path(known: &Known, path: &Path) -> Option<Node>
             ..
         } => {
             let inside = or_then(of_path(known, &**base), of_expr(known, &**index));
-            or_then(if_hooked(known, *ty, *node), inside)
+            let left_out = either(is_unbuilt(known, *ty), gives_text(known, base.ty()));
+            or_then(out_if(left_out, *node), inside)
         }
         Path::Deref { base, .. } => Some(base.node()),
     }
 }
 
-/// The first node of an operand that is left out; nothing in a literal that is `written`.
+/// The first node of an operand that is left out.
 #[cycle(lacking)]
-pub fn of_operand(known: &Known, written: bool, operand: &Operand) -> Option<Node>
-    ensures { (rest : Args) → left_out_in_args (known_facts known.now) written
+pub fn of_operand(known: &Known, operand: &Operand) -> Option<Node>
+    ensures { (rest : Args) → left_out_in_args (known_facts known.now)
         (operand_before (known_types known.now) operand.now rest)
-        ≡ (result or_then left_out_in_args (known_facts known.now) written rest) }
+        ≡ (result or_then left_out_in_args (known_facts known.now) rest) }
 {
     match operand {
-        Operand::Value(value) => unless_literal(written, value, of_expr(known, value)),
+        Operand::Value(value) => of_expr(known, value),
         Operand::At(path) => of_path(known, path),
     }
 }
 
-/// The first node of operands that is left out; nothing in a literal that is `written`.
+/// The first node of operands that is left out.
 #[cycle(lacking)]
-pub fn of_operands(known: &Known, written: bool, operands: &Vec<Operand>) -> Option<Node>
-    ensures { result ≡ left_out_in_args (known_facts known.now) written
+pub fn of_operands(known: &Known, operands: &Vec<Operand>) -> Option<Node>
+    ensures { result ≡ left_out_in_args (known_facts known.now)
         (operands_of (known_types known.now) operands.now.items) }
 {
     for operand in operands {
-        if let Some(node) = of_operand(known, written, operand) {
+        if let Some(node) = of_operand(known, operand) {
             return Some(node);
         }
     }
@@ -261,9 +348,9 @@ pub fn of_operands(known: &Known, written: bool, operands: &Vec<Operand>) -> Opt
 
 // The type of the first condition, or of the value where there is none.
 fn first_type(branches: &Vec<Choice>, otherwise: &Expr) -> Option<TypeId>
-    ensures { (facts : Facts) (ts : List Ty) → first_hooked facts
+    ensures { (facts : Facts) (ts : List Ty) → first_unbuilt facts
         (types_in (choices_of ts branches.now.items (ByValue (expr_of ts otherwise.now) NoArg)))
-        ≡ gives_hooked facts (if_type ts result) }
+        ≡ gives_unbuilt facts (if_type ts result) }
 {
     if branches.is_empty() {
         return otherwise.ty();
@@ -273,9 +360,9 @@ fn first_type(branches: &Vec<Choice>, otherwise: &Expr) -> Option<TypeId>
 
 #[cycle(lacking)]
 fn of_choices(known: &Known, choices: &Vec<Choice>) -> Option<Node>
-    ensures { (rest : Args) → left_out_in_args (known_facts known.now) false
+    ensures { (rest : Args) → left_out_in_args (known_facts known.now)
         (choices_of (known_types known.now) choices.now.items rest)
-        ≡ (result or_then left_out_in_args (known_facts known.now) false rest) }
+        ≡ (result or_then left_out_in_args (known_facts known.now) rest) }
 {
     for choice in choices {
         if let Some(node) = or_then(
@@ -290,9 +377,9 @@ fn of_choices(known: &Known, choices: &Vec<Choice>) -> Option<Node>
 
 #[cycle(lacking)]
 fn of_picks(known: &Known, picks: &Vec<Pick>) -> Option<Node>
-    ensures { (rest : Args) → left_out_in_args (known_facts known.now) false
+    ensures { (rest : Args) → left_out_in_args (known_facts known.now)
         (picks_of (known_types known.now) picks.now.items rest)
-        ≡ (result or_then left_out_in_args (known_facts known.now) false rest) }
+        ≡ (result or_then left_out_in_args (known_facts known.now) rest) }
 {
     for pick in picks {
         if let Some(node) = of_expr(known, &pick.value) {
@@ -304,7 +391,7 @@ fn of_picks(known: &Known, picks: &Vec<Pick>) -> Option<Node>
 
 #[cycle(lacking)]
 fn of_else(known: &Known, otherwise: &Option<Box<Expr>>) -> Option<Node>
-    ensures { result ≡ left_out_in_args (known_facts known.now) false
+    ensures { result ≡ left_out_in_args (known_facts known.now)
         (if_value (known_types known.now) (option_map (λ e. e.value) otherwise.now)) }
 {
     match otherwise {

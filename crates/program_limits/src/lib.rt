@@ -12,10 +12,12 @@ mod laws;
 mod limits;
 mod parts;
 mod plain;
+mod shallow;
 mod summary;
 mod texts;
 mod types;
 
 pub use laws::limit_examples;
 pub use limits::{left_out, within};
+pub use shallow::shallow_types;
 pub use summary::MOST_LEVELS;

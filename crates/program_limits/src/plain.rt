@@ -8,18 +8,18 @@ ghost use Rattle.nim_program.specs.Folds.{if_declared, loop_places};
 ghost use Rattle.nim_program.specs.View.{stmt_before, stmts_of, if_value, operands_of};
 ghost use Rattle.nim_program.specs.View.{branch_conditions, branch_blocks, case_blocks, kind_of};
 ghost use Rattle.nim_program.specs.View.{declared_of, param_of, body_of, proc_of, program_under};
-ghost use Rattle.nim_meaning.specs.Here.{is_hooked, gives_hooked};
+ghost use Rattle.nim_meaning.specs.Unbuilt.{is_unbuilt, gives_unbuilt};
 ghost use Rattle.nim_meaning.specs.LeftOut.{left_out_in_args, left_out_in_block};
 ghost use Rattle.nim_meaning.specs.LeftOut.{left_out_in_blocks, left_out_in_head};
 ghost use Rattle.nim_meaning.specs.LeftOut.{left_out_in_body, left_out_in_procs, first_of};
-ghost use Rattle.nim_meaning.specs.LeftOut.{any_place_hooked, first_hooked, first_left_out};
+ghost use Rattle.nim_meaning.specs.LeftOut.{any_place_unbuilt, first_unbuilt, first_left_out};
 ghost use Rattle.nim_meaning.specs.LeftOut.{earlier, out_if, ◌or_then◌};
 ghost use Rattle.program_limits.specs.Known.{known_types, known_facts};
 
 use crate::known::Known;
 use crate::lacking::{of_expr, of_operand, of_operands, operand_type};
-use crate::parts::{earlier, either, if_hooked, or_then, out_if};
-use crate::types::{gives_hooked, is_hooked};
+use crate::parts::{earlier, either, if_unbuilt, or_then, out_if};
+use crate::types::{gives_unbuilt, is_unbuilt};
 use arc_base::Place;
 use nim_program::{
     Body, Branch, CaseBranch, Expr, Kind, Node, Operand, Param, PlaceDecl, Proc, Program, Stmt,
@@ -28,7 +28,7 @@ use nim_program::{
 // ---- statements
 
 fn of_value(known: &Known, value: &Option<Expr>) -> Option<Node>
-    ensures { result ≡ left_out_in_args (known_facts known.now) false
+    ensures { result ≡ left_out_in_args (known_facts known.now)
         (if_value (known_types known.now) value.now) }
 {
     match value {
@@ -37,37 +37,37 @@ fn of_value(known: &Known, value: &Option<Expr>) -> Option<Node>
     }
 }
 
-// Whether the first condition has hooks.
-fn first_hooked(known: &Known, branches: &Vec<Branch>) -> bool
-    ensures { result ≡ first_hooked (known_facts known.now)
+// Whether the first condition has no code.
+fn first_unbuilt(known: &Known, branches: &Vec<Branch>) -> bool
+    ensures { result ≡ first_unbuilt (known_facts known.now)
         (trees.types_in (branch_conditions (known_types known.now) branches.now.items)) }
 {
     if branches.is_empty() {
         return false;
     }
-    gives_hooked(known, branches[0].condition.ty())
+    gives_unbuilt(known, branches[0].condition.ty())
 }
 
-// Whether the first part of a loop's head has hooks.
-fn head_hooked(known: &Known, head: &Vec<Operand>) -> bool
-    ensures { result ≡ first_hooked (known_facts known.now)
+// Whether the first part of a loop's head has no code.
+fn head_unbuilt(known: &Known, head: &Vec<Operand>) -> bool
+    ensures { result ≡ first_unbuilt (known_facts known.now)
         (trees.types_in (operands_of (known_types known.now) head.now.items)) }
 {
     if head.is_empty() {
         return false;
     }
-    gives_hooked(known, operand_type(&head[0]))
+    gives_unbuilt(known, operand_type(&head[0]))
 }
 
-// Whether the variable of a loop has hooks.
-fn variable_hooked(known: &Known, kind: &Kind) -> bool
-    ensures { result ≡ any_place_hooked (known_facts known.now)
+// Whether the variable of a loop has no code.
+fn variable_unbuilt(known: &Known, kind: &Kind) -> bool
+    ensures { result ≡ any_place_unbuilt (known_facts known.now)
         (loop_places (kind_of (known_types known.now) kind.now)) }
 {
     match kind {
         Kind::While => false,
-        Kind::Count { variable, .. } => is_hooked(known, variable.ty),
-        Kind::Each { variable } => is_hooked(known, variable.ty),
+        Kind::Count { variable, .. } => is_unbuilt(known, variable.ty),
+        Kind::Each { variable } => is_unbuilt(known, variable.ty),
     }
 }
 
@@ -79,21 +79,21 @@ fn of_stmt(known: &Known, stmt: &Stmt) -> Option<Node>
 {
     match stmt {
         Stmt::Do { value } => of_expr(known, value),
-        Stmt::Idle { parts, .. } => of_operands(known, false, parts),
+        Stmt::Idle { parts, .. } => of_operands(known, parts),
         Stmt::Give { value, .. } => of_expr(known, value),
-        Stmt::Leave { parts, .. } => of_operands(known, false, parts),
+        Stmt::Leave { parts, .. } => of_operands(known, parts),
         Stmt::Declare {
             node,
             place,
             value,
             ..
-        } => or_then(if_hooked(known, place.ty, *node), of_value(known, value)),
+        } => or_then(if_unbuilt(known, place.ty, *node), of_value(known, value)),
         Stmt::If {
             node,
             branches,
             otherwise,
         } => {
-            let here = out_if(first_hooked(known, branches), *node);
+            let here = out_if(first_unbuilt(known, branches), *node);
             let blocks = or_then(of_branches(known, branches), of_block(known, otherwise));
             or_then(here, earlier(of_conditions(known, branches), blocks))
         }
@@ -103,9 +103,9 @@ fn of_stmt(known: &Known, stmt: &Stmt) -> Option<Node>
             branches,
             otherwise,
         } => {
-            let here = out_if(gives_hooked(known, operand_type(selector)), *node);
+            let here = out_if(gives_unbuilt(known, operand_type(selector)), *node);
             let blocks = or_then(of_arms(known, branches), of_block(known, otherwise));
-            or_then(here, earlier(of_operand(known, false, selector), blocks))
+            or_then(here, earlier(of_operand(known, selector), blocks))
         }
         Stmt::Loop {
             node,
@@ -113,9 +113,9 @@ fn of_stmt(known: &Known, stmt: &Stmt) -> Option<Node>
             head,
             body,
         } => {
-            let hooked = either(variable_hooked(known, kind), head_hooked(known, head));
-            let here = out_if(hooked, *node);
-            let inside = or_then(of_operands(known, false, head), of_block(known, body));
+            let unbuilt = either(variable_unbuilt(known, kind), head_unbuilt(known, head));
+            let here = out_if(unbuilt, *node);
+            let inside = or_then(of_operands(known, head), of_block(known, body));
             or_then(here, inside)
         }
         Stmt::Raise { node, .. } | Stmt::Try { node, .. } | Stmt::Defer { node, .. } => {
@@ -138,7 +138,7 @@ fn of_block(known: &Known, block: &Vec<Stmt>) -> Option<Node>
 }
 
 fn of_conditions(known: &Known, branches: &Vec<Branch>) -> Option<Node>
-    ensures { result ≡ left_out_in_args (known_facts known.now) false
+    ensures { result ≡ left_out_in_args (known_facts known.now)
         (branch_conditions (known_types known.now) branches.now.items) }
 {
     for branch in branches {
@@ -191,7 +191,7 @@ pub fn first_number(block: &Vec<Stmt>) -> u32
 
 // A place of a head, which counts as the first node of the body.
 fn of_place(known: &Known, number: u32, place: &PlaceDecl) -> Option<Node>
-    ensures { result ≡ out_if (is_hooked (known_facts known.now)
+    ensures { result ≡ out_if (is_unbuilt (known_facts known.now)
         (type_at (known_types known.now) place.now.ty))
         (record { number = number; at = place.now.at }) }
 {
@@ -199,7 +199,7 @@ fn of_place(known: &Known, number: u32, place: &PlaceDecl) -> Option<Node>
         number,
         at: place.at,
     };
-    if_hooked(known, place.ty, node)
+    if_unbuilt(known, place.ty, node)
 }
 
 fn of_params(known: &Known, number: u32, params: &[Param]) -> Option<Node>
@@ -262,8 +262,8 @@ fn of_procs(known: &Known, procs: &Vec<Proc>) -> Option<Node>
     found
 }
 
-/// Where the first node in order of text stands whose meaning isn't built: what comes with the
-/// heap, exceptions and hooks. None where the whole meaning of the program is built.
+/// Where the first node in order of text stands whose meaning isn't built: refs,
+/// exceptions and hooks. None where the whole meaning of the program is built.
 pub fn first_left_out(known: &Known, program: &Program) -> Option<Place>
     ensures { result ≡ first_left_out
         (program_under (known_types known.now) (known_facts known.now) program.now) }

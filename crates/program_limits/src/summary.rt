@@ -1,4 +1,4 @@
-// What is known of the types of a table: whether values have hooks, and how many levels types have,
+// What is known of the types of a table: whether values have code, and how many levels types have,
 // as far as it matters.
 ghost use Rattle.std.specs.Prelude.{◌≡◌, ◌||◌, max, true, ℕ, List, slice_get, IfOk};
 ghost use Rattle.nim_types.specs.Forms.{Form, Forms, row, elements, wrapped, object_form};
@@ -16,10 +16,12 @@ use std::alloc::Global;
 /// How many levels a type may have.
 pub const MOST_LEVELS: u32 = 64;
 
-/// Whether values of a type have anything to do when they are copied or destroyed, and the levels of
-/// the type: one more than the most stands for all above.
+/// Whether a ref or an object with hooks of its own is in a type, so that its values have no code yet,
+/// whether its values have hooks at all, and the levels of the type: one more than the most stands for
+/// all above.
 #[derive(Clone, Copy)]
 pub struct Summary {
+    pub unbuilt: bool,
     pub hooked: bool,
     pub levels: u32,
 }
@@ -47,17 +49,22 @@ fn either(one: bool, other: bool) -> bool
 }
 
 // Of a type without parts.
-fn alone(hooked: bool) -> Summary
-    ensures { result ≡ record { hooked = hooked; levels = 1 } }
+fn alone(unbuilt: bool, hooked: bool) -> Summary
+    ensures { result ≡ record { unbuilt = unbuilt; hooked = hooked; levels = 1 } }
 {
-    Summary { hooked, levels: 1 }
+    Summary {
+        unbuilt,
+        hooked,
+        levels: 1,
+    }
 }
 
 // One level above some.
-fn above(hooked: bool, levels: u32) -> Summary
-    ensures { result ≡ specs.above hooked levels }
+fn above(unbuilt: bool, hooked: bool, levels: u32) -> Summary
+    ensures { result ≡ specs.above unbuilt hooked levels }
 {
     Summary {
+        unbuilt,
         hooked,
         levels: capped(u64::from(levels) + 1),
     }
@@ -67,15 +74,16 @@ fn row_of(count: u32, each: Summary) -> Summary
     ensures { (f : Form) → each ≡ summary_of f → result ≡ summary_of (row count f) }
 {
     if count == 0 {
-        return alone(false);
+        return alone(each.unbuilt, false);
     }
-    above(each.hooked, each.levels)
+    above(each.unbuilt, each.hooked, each.levels)
 }
 
 fn beside(one: Summary, others: Summary) -> Summary
     ensures { result ≡ with_more one others }
 {
     Summary {
+        unbuilt: either(one.unbuilt, others.unbuilt),
         hooked: either(one.hooked, others.hooked),
         levels: capped(u64::from(greater(one.levels, others.levels))),
     }
@@ -85,19 +93,21 @@ fn beside(one: Summary, others: Summary) -> Summary
 fn whole_of(own: bool, all: Summary) -> Summary
     ensures { (fs : Forms) → all ≡ summaries_of fs → result ≡ summary_of (object_form own fs) }
 {
-    above(either(own, all.hooked), all.levels)
+    let unbuilt = either(own, all.unbuilt);
+    let hooked = either(own, all.hooked);
+    above(unbuilt, hooked, all.levels)
 }
 
 fn wrapped_around(base: Summary) -> Summary
     ensures { (f : Form) → base ≡ summary_of f → result ≡ summary_of (wrapped f) }
 {
-    above(base.hooked, base.levels)
+    above(base.unbuilt, base.hooked, base.levels)
 }
 
 fn elements_of(each: Summary) -> Summary
     ensures { (f : Form) → each ≡ summary_of f → result ≡ summary_of (elements f) }
 {
-    above(true, each.levels)
+    above(each.unbuilt, true, each.levels)
 }
 
 /// Of a type that is listed; one beyond the list counts as an int.
@@ -106,7 +116,7 @@ pub fn look(known: &[Summary], ty: TypeId) -> Summary
 {
     match known.get(ty as usize) {
         Some(summary) => *summary,
-        None => alone(false),
+        None => alone(false, false),
     }
 }
 
@@ -117,6 +127,7 @@ fn look_all(known: &[Summary], bound: u32, ids: &[TypeId]) -> Summary
         result ≡ summaries_at n ds ids.now }
 {
     let mut all = Summary {
+        unbuilt: false,
         hooked: false,
         levels: 0,
     };
@@ -140,9 +151,9 @@ fn type_summary(
         result ≡ summary_at n types.now ty }
 {
     match entry(types, ty) {
-        None => alone(false),
+        None => alone(false, false),
         Some(def) => match def {
-            TypeDef::Text => alone(true),
+            TypeDef::Text => alone(false, true),
             TypeDef::Seq(of) => elements_of(look(before, *of)),
             TypeDef::Array { len, of } => row_of(*len, look(before, *of)),
             TypeDef::Tuple { parts, .. } => {
@@ -154,26 +165,26 @@ fn type_summary(
                 ..
             } => {
                 if first {
-                    return alone(false);
+                    return alone(false, false);
                 }
                 if !says(def) {
-                    return alone(false);
+                    return alone(false, false);
                 }
                 whole_of(*resource, look_all(last, types.count(), parts.as_slice()))
             }
             TypeDef::Distinct { base, .. } => {
                 if first {
-                    return alone(false);
+                    return alone(false, false);
                 }
                 wrapped_around(look(last, *base))
             }
-            TypeDef::Ref { .. } => alone(true),
-            TypeDef::Int => alone(false),
-            TypeDef::Bool => alone(false),
-            TypeDef::Char => alone(false),
-            TypeDef::Param(_) => alone(false),
-            TypeDef::Enum { .. } => alone(false),
-            TypeDef::Exception { .. } => alone(false),
+            TypeDef::Ref { .. } => alone(true, true),
+            TypeDef::Int => alone(false, false),
+            TypeDef::Bool => alone(false, false),
+            TypeDef::Char => alone(false, false),
+            TypeDef::Param(_) => alone(false, false),
+            TypeDef::Enum { .. } => alone(false, false),
+            TypeDef::Exception { .. } => alone(false, false),
         },
     }
 }
@@ -198,7 +209,7 @@ fn next_summaries(
 fn is_same(a: Summary, b: Summary) -> bool
     ensures { result ≡ true → a ≡ b }
 {
-    a.hooked == b.hooked && a.levels == b.levels
+    a.unbuilt == b.unbuilt && a.hooked == b.hooked && a.levels == b.levels
 }
 
 fn are_same(a: &[Summary], b: &[Summary]) -> bool

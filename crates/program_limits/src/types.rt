@@ -2,7 +2,8 @@
 ghost use Rattle.std.specs.Prelude.{◌≡◌};
 ghost use Rattle.nim_types.specs.Table.{type_at};
 ghost use Rattle.nim_program.specs.View.{if_type};
-ghost use Rattle.nim_meaning.specs.Here.{is_hooked, gives_hooked};
+ghost use Rattle.nim_meaning.specs.Here.{is_hooked};
+ghost use Rattle.nim_meaning.specs.Unbuilt.{is_unbuilt, gives_unbuilt};
 ghost use Rattle.program_limits.specs.Summaries.{summary_in};
 ghost use Rattle.program_limits.specs.Known.{known_types, known_facts};
 ghost use Rattle.program_limits.specs.Frames.{is_deep, gives_deep};
@@ -18,21 +19,28 @@ fn summary(known: &Known, ty: TypeId) -> Summary
     look(known.of.as_slice(), ty)
 }
 
+/// Whether values of the type have no code yet.
+pub fn is_unbuilt(known: &Known, ty: TypeId) -> bool
+    ensures { result ≡ is_unbuilt (known_facts known.now) (type_at (known_types known.now) ty) }
+{
+    summary(known, ty).unbuilt
+}
+
+/// Whether a value of the type has no code yet, where there is one.
+pub fn gives_unbuilt(known: &Known, ty: Option<TypeId>) -> bool
+    ensures { result ≡ gives_unbuilt (known_facts known.now) (if_type (known_types known.now) ty) }
+{
+    match ty {
+        None => false,
+        Some(ty) => is_unbuilt(known, ty),
+    }
+}
+
 /// Whether values of the type have hooks.
 pub fn is_hooked(known: &Known, ty: TypeId) -> bool
     ensures { result ≡ is_hooked (known_facts known.now) (type_at (known_types known.now) ty) }
 {
     summary(known, ty).hooked
-}
-
-/// Whether a value of the type has hooks, where there is one.
-pub fn gives_hooked(known: &Known, ty: Option<TypeId>) -> bool
-    ensures { result ≡ gives_hooked (known_facts known.now) (if_type (known_types known.now) ty) }
-{
-    match ty {
-        None => false,
-        Some(ty) => is_hooked(known, ty),
-    }
 }
 
 /// Whether the type has too many levels.

@@ -89,4 +89,6 @@ both_are law heap procs bytes is_heap are is =
       heap_ranked = heap_ranked;
       others_ranked = ranked_by routines others_call;
       chain = rank_most;
+      heap_calls = refl;
+      others_calls = refl;
     }))

@@ -29,7 +29,8 @@ use Rattle.heap_memory.specs.HandleRoutines.{MayHave, Ordering, orders_texts, Wr
 use Rattle.heap_memory.specs.HandleRoutines.{PutLeaves, puts}
 use Rattle.heap_memory.specs.HandleRoutines.{AppendingText, appended_text, appends_text, copies_text, ResizingText, resized_text, resizes_text}
 use Rattle.heap_memory.proofs.ForCallers.{is_there}
-use Rattle.refc_runtime.specs.HandleCode.{put_handle_lines, put_last_lines, append_behind_lines, text_append_lines, text_copy_lines, text_resize_lines, text_order_lines}
+use Rattle.refc_runtime.specs.HandleCode.{put_handle_lines, put_last_lines, append_behind_lines, text_append_lines, text_copy_lines, text_resize_lines}
+use Rattle.refc_runtime.specs.HandleCode.{text_order_lines}
 use Rattle.refc_runtime.specs.HandleCode.{handle_lines, text_write_lines}
 use Rattle.refc_runtime.proofs.Calls.{later, inside, enters, returns_awaiting, from_call}
 use Rattle.refc_runtime.proofs.Coming.{calling_state, comes_back, ends_behind}
@@ -274,7 +275,8 @@ module _ (law : MemoryLaw) (live : Lives) (procs : List WordProc) (n : ℕ) (num
                 let few0 = fills.few in
                 ends_behind live procs s to rest row u next 1 (ap (λ b. if b then None else Some 1) out) x.memory
                 (subst (λ b. PutLeaves b at q s.memory x.memory) (sym out)
-                (subst (λ y. AreBlocksKept at q.growth s.memory y) (sym same) (record { rest = ready.rest; heap = ready.heap }))) l (r.lines call) (omega (arith, few, few0)) before to_call
+                (subst (λ y. AreBlocksKept at q.growth s.memory y) (sym same) (record { rest = ready.rest; heap = ready.heap }))) l (r.lines call)
+                (omega (arith, few, few0)) before to_call
                 (writes Err (trap_line OutOfMemory)) (ap (λ b. if b then [] else writes Err (trap_line OutOfMemory)) out) stops1
 
             pub puts_comes : Comes live procs row u s to rest (row.ends u)
@@ -336,7 +338,8 @@ module _ (law : MemoryLaw) (live : Lives) (procs : List WordProc) (n : ℕ) (app
     abbrev q_is : Putting
     q_is = record { to = (putting u).to; length = a.growth.wanted; growth = a.growth; bytes = appended a }
 
-    module _ (l : ℕ) (few : l + 5 + ((appends (own_data_at + n)).lines a + (3 + 1)) ≤ lines u) (v : Vars) (v0 : v 0 ≡ Some (putting u).to) (v2 : v 2 ≡ Some more) (v3 : v 3 ≡ Some from_at) (v4 : v 4 ≡ Some grow.kept)
+    module _ (l : ℕ) (few : l + 5 + ((appends (own_data_at + n)).lines a + (3 + 1)) ≤ lines u) (v : Vars) (v0 : v 0 ≡ Some (putting u).to)
+        (v2 : v 2 ≡ Some more) (v3 : v 3 ≡ Some from_at) (v4 : v 4 ≡ Some grow.kept)
         (v5 : v 5 ≡ Some (place_of grow.present))
         (to_lines : Runs live procs l (calling_state live procs s to rest behind_row u next) (state_at bc m0 append_behind_lines v no_words))
       where
@@ -426,8 +429,10 @@ module _ (law : MemoryLaw) (live : Lives) (procs : List WordProc) (n : ℕ) (app
         let h = may.appending.growth.word in
         let most : more < 2 ^ 32 = omega (arith, w, h) in
         behind_comes law live procs n append_kept TEXT_APPEND AppendingText (λ y. y.to ∷ y.from ∷ []) (λ y m. (appends_text (own_data_at + n)).may y m)
-        appended_text (λ y. HANDLE_LINES + (appends (own_data_at + n)).lines y.appending) u u.appending refl s to rest calling.next p refl (λ does. may.has) s.memory 0
-        (at_once (own_data_at + n) u.appending.growth s.memory sized may.appending.growth.heap) may.appending 7 (omega arith) x2 calling.given.0 (got more most) (got from_at from_small) (got kept smalls.1) (got place smalls.0)
+        appended_text (λ y. HANDLE_LINES + (appends (own_data_at + n)).lines y.appending) u u.appending refl s to rest calling.next p refl (λ does. may.has)
+        s.memory 0
+        (at_once (own_data_at + n) u.appending.growth s.memory sized may.appending.growth.heap) may.appending 7 (omega arith) x2 calling.given.0 (got more most)
+        (got from_at from_small) (got kept smalls.1) (got place smalls.0)
         (then_runs live procs (enters live procs s to rest n TEXT_APPEND 2 6 text_append_lines others stands) (then_runs live procs
         (run_handle live procs c s.memory sized (handle_lines 4 5 0 append_behind_lines) x0 no_words u.from more from_at may.from 2 3 1
         calling.given.1.0 calling.given.1.0 refl)
@@ -453,7 +458,8 @@ module _ (law : MemoryLaw) (live : Lives) (procs : List WordProc) (n : ℕ) (app
         = subst (λ o. IsPresent u.appending.growth.stands u.appending.growth.kept o) may.none may.appending.growth.present in
         behind_comes law live procs n append_kept TEXT_COPY AppendingText (λ y. y.to ∷ y.from ∷ []) (λ y m. (copies_text (own_data_at + n)).may y m)
         appended_text (λ y. HANDLE_LINES + (appends (own_data_at + n)).lines y.appending) u u.appending refl s to rest calling.next p refl may.has s.memory 0
-        (at_once (own_data_at + n) u.appending.growth s.memory sized may.appending.growth.heap) may.appending 6 (omega arith) x3 calling.given.0 (got more most) (got from_at from_small) (ap Some (sym zero_kept))
+        (at_once (own_data_at + n) u.appending.growth s.memory sized may.appending.growth.heap) may.appending 6 (omega arith) x3 calling.given.0 (got more most)
+        (got from_at from_small) (ap Some (sym zero_kept))
         (ap (λ o. Some (place_of o)) (sym may.none))
         (then_runs live procs (enters live procs s to rest n TEXT_COPY 2 6 text_copy_lines others stands) (then_runs live procs
         (run_handle live procs c s.memory sized (Constant 4 0 ∷ Constant 5 0 ∷ append_behind_lines) x0 no_words u.from more from_at may.from 2 3 1

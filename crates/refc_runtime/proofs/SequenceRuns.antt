@@ -154,7 +154,8 @@ module _ (law : MemoryLaw) (live : Lives) (procs : List WordProc) (n : ℕ) (gro
     seq_add_comes =
         puts_comes law live procs n SEQ_ADD AddingElement (λ x. x.to ∷ x.size ∷ []) (λ x m. (adds_element (own_data_at + n)).may x m) element_added
         (λ x place. place + x.growth.kept) (λ x. HANDLE_LINES + (grows (own_data_at + n)).lines x.growth) u s to rest calling.next s.memory 0
-        (at_once (own_data_at + n) g s.memory sized may.growth.heap) ap_proc may.growth.unused may.growth.present (λ does. may.has) may.few (grows (own_data_at + n)) g v4 g3 calling.given.0 long_is 10
+        (at_once (own_data_at + n) g s.memory sized may.growth.heap) ap_proc may.growth.unused may.growth.present (λ does. may.has) may.few
+        (grows (own_data_at + n)) g v4 g3 calling.given.0 long_is 10
         ((grows (own_data_at + n)).lines g) 2
         (record {
           shown = refl;
@@ -234,7 +235,8 @@ module _ (live : Lives) (procs : List WordProc) (c : Within) (m : Memory) (k : L
         let t = most_times in
         let u : length * size ≤ most * size = mul-le-mul_right size less in
         let small : length * size < 2 ^ 32 = omega (arith, t, u) in
-        let past : holds test.Below most length ≡ false = false_from_ne_true (nat_lt most length) (λ e. absurd (let h = ltb-true most length e in omega (arith, h, less))) in
+        let past : holds test.Below most length ≡ false =
+        false_from_ne_true (nat_lt most length) (λ e. absurd (let h = ltb-true most length e in omega (arith, h, less))) in
         record {
           vars = put w3 6 (computed operation.Multiply length size);
           is = got_product length size small ∙ ap Some (sym (cond-true (nat_le length most) (length * size) (suc most_payload) (le-leb length most less)));
@@ -474,7 +476,8 @@ module _ (law : MemoryLaw) (live : Lives) (procs : List WordProc) (n : ℕ) (u :
     at_is : o4 5 ≡ Some (u.place + u.count * u.size)
     at_is = got_sum u.place (u.count * u.size) end_low
 
-    all_lines : Runs live procs 9 (calling_state live procs s to rest pops_element u calling.next) (goes_on s to (u.place + u.count * u.size) rest popped s.input)
+    all_lines : Runs live procs 9 (calling_state live procs s to rest pops_element u calling.next)
+        (goes_on s to (u.place + u.count * u.size) rest popped s.input)
     all_lines =
         then_runs live procs (enters live procs s to rest n SEQ_POP 2 6 seq_pop_lines others stands) (then_runs live procs
         (run_handle live procs oc s.memory sized (Sum 4 4 ONE_LESS ∷ j1) o0 no_words u.at (suc u.count) u.place may.handle 4 5 0 calling.given.0

@@ -1,5 +1,5 @@
--- The file of an image without hooks under a plan that has sites alone.
-use Rattle.std.proofs.Common.{◌≡◌, ℕ, ◌+◌, ◌*◌, ◌<◌, Bool, true, false, List, [], ◌∷◌, ◌++◌, length, ◌⊎◌, Result, Ok, Err, refl, sym, ap, ◌∙◌, subst, arith}
+-- The file of an image without hooks under a plan that has sites alone, and what its limits say.
+use Rattle.std.proofs.Common.{◌≡◌, ℕ, ◌+◌, ◌*◌, ◌<◌, Bool, true, false, List, [], ◌∷◌, ◌++◌, length, ◌⊎◌, Option, Some, None, Result, Ok, Err, refl, sym, ap, ◌∙◌, subst, arith}
 use Rattle.std.specs.Prelude.{◌≤◌, ◌^◌, nat_le, codes}
 use Rattle.std.specs.List.{AllByRecursion, flat_map}
 use Rattle.std.specs.List.Sorted.{IsStrictlySortedBy}
@@ -8,7 +8,8 @@ use Rattle.std.proofs.lemmas.Bool.{leb-true}
 use Rattle.std.proofs.lemmas.Cmp.{ranked}
 use Rattle.std.proofs.lemmas.List.{length-append}
 use Rattle.std.proofs.lemmas.List.Elements.{recursion_from_All}
-use Rattle.arc_base.specs.declared.place.Code.TheVariants.{TooLarge}
+use Rattle.arc_base.specs.declared.place.Place.{Place}
+use Rattle.arc_base.specs.declared.place.Code.TheVariants.{LeftOut, TooLarge}
 use Rattle.arc_base.specs.Refusal.{Refusal, and_then, refused}
 use Rattle.nim_plan.specs.declared.plan.Act.{Act}
 use Rattle.nim_plan.specs.declared.plan.Act.TheVariants.{Copy, Move, Final, Borrow}
@@ -21,8 +22,9 @@ use Rattle.rv32_isa.specs.Words.{word_bytes}
 use Rattle.rv32_isa.specs.declared.image.Image.{Image as RustImage}
 use Rattle.rv32_isa.specs.Image.{IsImage, image_of}
 use Rattle.elf32.specs.Elf.{File, IsFile, Ordered, act_number, counted, hook_words, site_words, sink_words, skip_words, words, description, note_of}
-use Rattle.program_limits.specs.Frames.{beginning}
-use Rattle.program_limits.specs.Limits.{unless_large, tree_limits}
+use Rattle.nim_meaning.specs.LeftOut.{first_left_out}
+use Rattle.program_limits.specs.Frames.{beginning, frame_limits}
+use Rattle.program_limits.specs.Limits.{unless_left_out, unless_large, data_limits, tree_limits}
 use Rattle.core_compiler.specs.Limits.{code_limits, note_bytes, note_limits, build_limits}
 
 pub record IsPlain (file : File) : Type 0 where
@@ -135,6 +137,18 @@ pub built_note : (plan : Plan) (code : ℕ) (program : Program) → build_limits
 built_note plan code program e =
     leb-true (note_bytes plan) 2097152
     (small_if (nat_le (note_bytes plan) 2097152) (last_of (tree_limits program) (code_limits code) (note_limits plan) e))
+
+-- ---- nothing of it is left out
+
+all_if : (found : Option Place) (small rest : Result (Unit {0}) Refusal) →
+    and_then (and_then (unless_left_out found) (λ built. small)) (λ within. rest) ≡ Ok tt → found ≡ None
+all_if None small rest e = refl
+all_if (Some at) small rest e = absurd (neither (refused LeftOut at) _ refl e)
+
+pub all_built : (plan : Plan) (code : ℕ) (program : Program) → build_limits plan code program ≡ Ok tt → first_left_out program ≡ None
+all_built plan code program e =
+    all_if (first_left_out program) (and_then (frame_limits program) (λ small. data_limits program))
+    (and_then (code_limits code) (λ few. note_limits plan)) e
 
 -- what the type of an image keeps
 pub image_is : (image : RustImage) → IsImage (image_of image)

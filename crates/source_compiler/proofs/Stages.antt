@@ -1,8 +1,9 @@
 -- What the stages of the compiler give one another.
-use Rattle.std.proofs.Common.{◌≡◌, ◌≢◌, ℕ, zero, suc, List, [], ◌∷◌, true, Result, Ok, Err, subst, arith}
+use Rattle.std.proofs.Common.{◌≡◌, ◌≢◌, refl, ℕ, zero, suc, List, [], ◌∷◌, true, None, Result, Ok, Err, subst, arith}
 use Rattle.std.specs.Prelude.{All, IfOk, IfErr}
 use Rattle.std.specs.List.{list_all}
 use Rattle.std.proofs.lemmas.Bool.{and_parts}
+use Rattle.arc_base.specs.Behaviour.{Sound}
 use Rattle.arc_base.specs.Stops.{OnRefusal}
 use Rattle.arc_base.specs.declared.place.Stop.{Stop}
 use Rattle.arc_base.specs.declared.place.Stop.TheVariants.{Refused, Memory}
@@ -13,21 +14,25 @@ use Rattle.indent_scanner.specs.Tokens.{IsRefused as IsRefusedByBytes}
 use Rattle.nim_tree.specs.Statements.{Statements}
 use Rattle.nim_types.specs.Types as type
 use Rattle.nim_types.specs.Types.{Ty, members, Facts}
-use Rattle.nim_types.specs.Table.{types_in}
+use Rattle.nim_types.specs.declared.types.TypeDef.{TypeDef}
+use Rattle.nim_types.specs.Table.{types_in, facts_in}
 use Rattle.nim_plan.specs.declared.plan.Plan.{Plan}
 use Rattle.nim_program.specs.declared.program.Program.{Program as RustProgram}
 use Rattle.nim_program.specs.Numbering.{is_numbered_program}
 use Rattle.nim_program.specs.Program.{Program}
 use Rattle.nim_program.specs.Typed.{IsTyped}
+use Rattle.nim_meaning.specs.LeftOut.{first_left_out}
+use Rattle.nim_meaning.specs.Meaning.{meaning}
 use Rattle.parse_stmts.specs.Parsed.{IsRefused}
 use Rattle.decl_rules.specs.Elaborated.{Module, elaborated}
 use Rattle.decl_rules.specs.Laws.{ProgramsComputed, ReasonsComputed}
 use Rattle.decl_rules.specs.ProgramRules.{IsProgram as AreTyped, p_program}
+use Rattle.lending_laws.specs.Apart.{AreLentApart}
 use Rattle.typing_laws.specs.Sound.{has_bytes, is_said, AreSound}
 use Rattle.typing_laws.specs.Trees.{StatementsRead, ModulesRead}
 use Rattle.typing_laws.specs.Programs.{IsWholeTable, NodesWithin}
 use Rattle.check_decls.specs.Modules.{program_in, types_or, IsWhole}
-use Rattle.core_compiler.specs.Compile.{MembersNamed}
+use Rattle.core_compiler.specs.Compile.{MembersNamed, IsSoundWhereBuilt}
 use Rattle.source_compiler.specs.Source.{main_module, IsTree, lone, unlisted, read_program, ReadsAlone, RefusesAlone, by_bytes, by_tokens, by_rules}
 use Rattle.source_compiler.specs.Source.{alone, Reads}
 use Rattle.source_compiler.specs.Limits.{Limits}
@@ -83,6 +88,22 @@ typing_typed law computed tree read (Ok p) said whole =
     law p (lone tree) ((computed (types_in p.types) (lone tree) (program_in p)).1 (said [])) (read, tt)
     (record { table = whole.table; forms = whole.forms; ints = whole.ints }) whole.nodes
 typing_typed law computed tree read (Err stop) said whole = (tt, tt)
+
+-- and never wrong
+abbrev pub LentLaw : Type 0
+LentLaw = (types : List Ty) (all : List Module) (program : Program) → AreTyped types all program → AreLentApart program
+
+abbrev pub NeverWrong : Type 0
+NeverWrong = (program : Program) (table : List TypeDef) → program.facts ≡ facts_in table → IsTyped program → is_numbered_program program ≡ true →
+    AreLentApart program → first_left_out program ≡ None → (plan : Plan) (heap : ℕ) (input : List ℕ) → Sound (meaning program plan heap input)
+
+pub typing_sound : TypedLaw → LentLaw → NeverWrong → ProgramsComputed → (tree : Statements) → StatementsRead tree → (result : Result RustProgram Stop) →
+    IsElaborated tree result → IfOk result (IsWhole (lone tree)) → IfOk result (λ p. (plan : Plan) → IsSoundWhereBuilt (program_in p) plan)
+typing_sound law lent wrong computed tree read (Ok p) said whole =
+    let is = (computed (types_in p.types) (lone tree) (program_in p)).1 (said []) in
+    let typed = typing_typed law computed tree read (Ok p) said whole in
+    λ plan built heap input. wrong (program_in p) p.types refl typed.0 typed.1 (lent (types_in p.types) (lone tree) (program_in p) is) built plan heap input
+typing_sound law lent wrong computed tree read (Err stop) said whole = tt
 
 -- ---- names of members
 

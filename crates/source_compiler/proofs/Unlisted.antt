@@ -1,8 +1,9 @@
 -- A program means the same without its list of types by number, has the same plan, and code of it is code of the other.
 use Rattle.std.proofs.Common.{◌≡◌, ℕ, zero, suc, List, [], ap, subst, refl}
 use Rattle.std.specs.Prelude.{slice_get}
-use Rattle.arc_base.specs.Behaviour.{Agrees}
+use Rattle.arc_base.specs.Behaviour.{Behaviour, Agrees, Sound}
 use Rattle.arc_base.specs.BigStep.{whole}
+use Rattle.arc_base.specs.Event.{Event}
 use Rattle.arc_base.specs.Pace.{PacedFrom}
 use Rattle.nim_plan.specs.declared.plan.Plan.{Plan}
 use Rattle.nim_program.specs.declared.program.TheConstants.{ACTIVE_CALLS}
@@ -42,6 +43,9 @@ module _ (p : Program) (plan : Plan) where
       costs (body_sum p.facts p.globals [] p.start) (at_exit (exec_all p.start.stmts (from_level p plan 0 more p.start)) reported)
       (at_first p heap input n))) (deeper ACTIVE_CALLS 1)
 
+  pub sound_same : (heap : ℕ) (input : List ℕ) → Sound (meaning p plan heap input) → Sound (meaning (unlisted p) plan heap input)
+  sound_same heap input = subst (λ (means : Behaviour Event). Sound means) (meaning_same heap input)
+
   abbrev code_same : {bytes : ℕ} → HasCode p plan bytes → HasCode (unlisted p) plan bytes
   code_same has = record {
     words = has.words;
@@ -51,6 +55,8 @@ module _ (p : Program) (plan : Plan) where
     agrees = λ fresh heap stack input can. subst (Agrees (word_meaning live_objects has.words fresh heap stack input)) (meaning_same heap input)
         (has.agrees fresh heap stack input can);
     size = has.size;
+    types = has.types;
+    facts = has.facts;
     bound = has.bound;
     data_most = has.data_most;
   }

@@ -4,13 +4,14 @@
 --       │                                       │
 --       └─────compile────> file ──machine──> behaviour that agrees
 use Rattle.std.specs.Prelude.{◌≡◌, ◌≤◌, ℕ, List, [], length, ⊤, Result, Ok, Err, IfErr}
-use Rattle.arc_base.specs.Behaviour.{Agrees}
+use Rattle.arc_base.specs.Behaviour.{Agrees, Sound}
 use Rattle.arc_base.specs.Pace.{PacedFrom}
 use Rattle.arc_base.specs.Refusal.{IsRefusal}
 use Rattle.arc_base.specs.declared.place.Place.{Place}
 use Rattle.arc_base.specs.declared.place.Code.{Code}
 use Rattle.arc_base.specs.declared.place.Stop.{Stop}
 use Rattle.arc_base.specs.declared.place.Stop.TheVariants as stop
+use Rattle.nim_plan.specs.declared.plan.Plan.{Plan}
 use Rattle.nim_program.specs.Program.{Program}
 use Rattle.nim_meaning.specs.Meaning.{meaning}
 use Rattle.plain_plan.specs.Plain.{plain_plan}
@@ -26,7 +27,8 @@ use Rattle.source_compiler.specs.Limits.{Limits, build_limits}
 
 -- THE HEADLINE. The modules are one typed program, which can be compiled. For every input and every number of steps the machine on the
 -- file's image agrees with the meaning of the program under the file's plan and this heap, in bytes; its work is in proportion, and where
--- the meaning ends the machine has ended in time. The image is that of code which does the same, with just the stack that its calls need.
+-- the meaning ends the machine has ended in time. No run of the program is wrong or at a fault, under this plan or another, whatever the heap.
+-- The image is that of code which does the same, with just the stack that its calls need.
 -- The file is one that can be written, its plan copies at each site of the program, and there are no hooks.
 pub record Compiled (modules : List Module) (heap : ℕ) (file : File) : Type 0 where
   pub program : Program
@@ -37,6 +39,7 @@ pub record Compiled (modules : List Module) (heap : ℕ) (file : File) : Type 0 
   pub agrees : (input : List ℕ) → Agrees (machine live_objects file.image input) (meaning program file.plan heap input)
   pub paced : (input : List ℕ) → PacedFrom IMAGE_PACE IMAGE_LATE (machine live_objects file.image input) (meaning program file.plan heap input)
   pub in_time : (input : List ℕ) → EndsInTime (machine live_objects file.image input) (meaning program file.plan heap input)
+  pub sound : (plan : Plan) (bytes : ℕ) (input : List ℕ) → Sound (meaning program plan bytes input)
   pub code : HasCode program file.plan (length file.image.code)
   pub made : file.image ≡ image_with heap code
   pub plan : file.plan ≡ plain_plan program

@@ -9,7 +9,8 @@ ghost use Rattle.nim_program.specs.Numbering.{is_numbered_program};
 ghost use Rattle.nim_program.specs.Typed.{IsTyped};
 ghost use Rattle.plain_plan.specs.Plain.{plain_plan, AreWords};
 ghost use Rattle.check_decls.specs.Modules.{program_in};
-ghost use Rattle.core_compiler.specs.Compile.{MembersNamed};
+ghost use Rattle.core_compiler.specs.Compile.{MembersNamed, IsSoundWhereBuilt};
+ghost use Rattle.nim_plan.specs.declared.plan.Plan.{Plan as RustPlan};
 ghost use Rattle.source_compiler.specs.Source.{Module, alone, read_program, ReadsAlone, RefusesAlone, Reads, Refuses};
 ghost use Rattle.source_compiler.specs.Limits.{Limits};
 ghost use Rattle.source_compiler.specs.Compile.{IsProgram, IsNoProgram, source_most, OnTooLong, OnRefused, IsOkOrMemory};
@@ -19,7 +20,9 @@ use arc_base::{Memory, Stop};
 use check_decls::elaborate;
 use decl_rules::{one_program, programs_computed};
 use formed_programs::table_forms;
+use holders::sound;
 use indent_scanner::{one_reading, scan};
+use lending_laws::lent_apart;
 use nim_plan::Plan;
 use nim_program::Program;
 use parse_stmts::parse;
@@ -41,6 +44,9 @@ fn read(alloc: Global, source: &[u8]) -> Result<Program, Stop>
     ensures numbered { IfOk result (λ program.
         is_numbered_program (program_in program) ≡ true) }
     ensures named { IfOk result (λ program. MembersNamed (program_in program).facts) }
+    // No run of it is wrong.
+    ensures sound { IfOk result (λ program.
+        (plan : RustPlan) → IsSoundWhereBuilt (program_in program) plan) }
     ensures refused { IfErr result (λ stop. OnRefusal stop (RefusesAlone source.now)) }
 {
     let tokens = scan(alloc, source, MAIN)?;
@@ -48,6 +54,8 @@ fn read(alloc: Global, source: &[u8]) -> Result<Program, Stop>
     programs_computed();
     typed_programs();
     types_sound();
+    lent_apart();
+    sound();
     elaborate(alloc, &[tree], &[MAIN])
 }
 
@@ -61,6 +69,9 @@ pub fn typed(alloc: Global, source: &[u8]) -> Result<Program, NotCompiled>
     ensures numbered { IfOk result (λ program.
         is_numbered_program (program_in program) ≡ true) }
     ensures named { IfOk result (λ program. MembersNamed (program_in program).facts) }
+    // No run of it is wrong.
+    ensures sound { IfOk result (λ program.
+        (plan : RustPlan) → IsSoundWhereBuilt (program_in program) plan) }
     ensures too_long { IfErr result (λ e. OnTooLong e (source_most < length source.now)) }
     ensures refused { IfErr result (λ e. OnRefused e (λ code at.
         (limits : Limits) (name : List ℕ) → IsNoProgram limits name source.now code at)) }

@@ -18,7 +18,7 @@ use Rattle.nim_program.specs.Program.{Expr, Path, Fresh, Args, NoArg, ByValue, B
 use Rattle.nim_program.specs.Folds.{by_constant}
 use Rattle.nim_program.specs.Ints.{Checked, Fine, Trapped, applied, applied_to, compared, truth, within}
 use Rattle.nim_program.specs.Kinds.{kind_of, for_some, is_constant}
-use Rattle.nim_program.specs.Fitting.{built, is_built, are_distinct, places_in}
+use Rattle.nim_program.specs.Fitting.{fits, built, is_built, are_distinct, places_in}
 use Rattle.nim_program.specs.Typed.{are_placed}
 use Rattle.nim_meaning.specs.Values as V
 use Rattle.nim_meaning.specs.Values.{Value, Operand, Given, At, Made, at_base, number, location, length_of, literal_value, literal_values, bytes}
@@ -31,7 +31,6 @@ use Rattle.nim_meaning.specs.Shapes.{is_given, is_held, is_lent, is_read, is_tex
 use Rattle.nim_meaning.specs.Waiting.{held_from, held_if}
 use Rattle.nim_meaning.specs.Table as T
 use Rattle.nim_meaning.specs.Table.{outcome, acts, does, limit_for}
-use Rattle.nim_meaning.specs.LeftOut as L
 use Rattle.nim_meaning.specs.Meaning.{eval, aimed, gets_copy, ready_all, source}
 use Rattle.nim_meaning.specs.Aims.{Aim, Root, Value_of, settle, find, Ready, Evaluated, Aimed, is_lent_own, operand_for, fresh_root}
 use Rattle.expr_rules.specs.Constants as C
@@ -43,7 +42,7 @@ use Rattle.typing_laws.specs.Given.{Gives, AlwaysGives}
 use Rattle.typing_laws.proofs.Tests.{never, ever}
 use Rattle.typing_laws.proofs.Measures.{come_one, limited_is}
 use Rattle.typing_laws.proofs.Giving.{given, after, branching, costing}
-use Rattle.typing_laws.proofs.Unhooked.{hooked_text}
+use Rattle.typing_laws.proofs.Unhooked.{hooked_text, no_joined, no_shown, no_listed}
 use Rattle.typing_laws.proofs.FieldValues.{object_is}
 
 -- ---- values and parts
@@ -357,26 +356,27 @@ module _ (run : Here) where
 
   -- an operation
   pub doing : (o : Operation) (ty : Option Ty) (of : List (Option Ty)) {operands : Args} {ls : Literals} (l : Literal) → Come run operands ls
-      → are_placed (places_in o) operands ≡ true → L.is_built o facts of ≡ true → if_computed (computing facts ty of o) (comes_to ls) ≡ comes_to l
+      → are_placed (places_in o) operands ≡ true → fits facts o ty of ≡ true → gives_hooked facts ty ≡ false →
+      if_computed (computing facts ty of o) (comes_to ls) ≡ comes_to l
       → Done (does o facts ty of (taken ls operands)) l
-  doing (O.Unary op) ty of {operands = operands} {ls = ls} l come p b e =
+  doing (O.Unary op) ty of {operands = operands} {ls = ls} l come p f u e =
       let r = single (unary_of op) l come p e in
       subst (λ xs. Done (does (O.Unary op) facts ty of xs) l) (sym r.is) (unary op r.one l r.comes)
-  doing (O.Binary op) ty of {operands = operands} {ls = ls} l come p b e =
+  doing (O.Binary op) ty of {operands = operands} {ls = ls} l come p f u e =
       let r = pair (binary_of op) l come p e in
       subst (λ xs. Done (does (O.Binary op) facts ty of xs) l) (sym r.is) (binary op r.left r.right l r.comes)
-  doing (O.Compare c) ty of {operands = operands} {ls = ls} l come p b e =
+  doing (O.Compare c) ty of {operands = operands} {ls = ls} l come p f u e =
       let r = pair (compare_of c) l come p e in
       subst (λ xs. Done (does (O.Compare c) facts ty of xs) l) (sym r.is) (compare c r.left r.right l r.no_text r.comes)
-  doing O.Convert ty of {operands = operands} {ls = ls} l come p b e =
+  doing O.Convert ty of {operands = operands} {ls = ls} l come p f u e =
       let r = single (converted facts ty) l come p e in
       subst (λ xs. Done (does O.Convert facts ty of xs) l) (sym r.is) (convert ty r.one l r.no_text r.comes)
-  doing (O.Measure m) ty of l come p b e = measuring m l come p e
-  doing O.Make ty of l come p b e = making l come p e
-  doing O.Join ty of l come p b e = never b
-  doing O.Show ty of l come p b e = never b
-  doing O.Sequence ty of l come p b e = never b
-  doing o ty of l come p b e = cc
+  doing (O.Measure m) ty of l come p f u e = measuring m l come p e
+  doing O.Make ty of l come p f u e = making l come p e
+  doing O.Join ty of l come p f u e = no_joined facts ty of f u
+  doing O.Show ty of l come p f u e = no_shown facts ty of f u
+  doing O.Sequence ty of l come p f u e = no_listed facts ty of f u
+  doing o ty of l come p f u e = cc
 
   -- a construction
   pub building : (sound : AreSound facts) (t : Ty) (given : List ℕ) {operands : Args} {ls : Literals} (l : Literal) → Come run operands ls

@@ -29,51 +29,43 @@ use Rattle.nim_meaning.specs.Acts as Acts
 use Rattle.nim_meaning.specs.Deeds as deeds
 use Rattle.nim_meaning.specs.Texts.{are_seen}
 use Rattle.nim_meaning.specs.Deeds.{Deed, carry, ◌>>=◌ as then_deed}
-use Rattle.nim_meaning.specs.Here.{Here, any_hooked, form_for, gives_hooked}
+use Rattle.nim_meaning.specs.Here.{Here, is_hooked, any_hooked, form_for, gives_hooked}
 use Rattle.nim_meaning.specs.OwnedRows.{owned}
 use Rattle.nim_meaning.specs.Waiting.{held_from}
 use Rattle.nim_meaning.specs.Table.{acts, constant_for, does, operates}
-use Rattle.nim_meaning.specs.LeftOut.{out_if, ◌or_then◌, is_act_built, writes_literals, left_out_in, left_out_in_path, left_out_in_args}
+use Rattle.nim_meaning.specs.Runs.{is_plain_type, is_plain_value, is_plain_path, are_plain, writes_literals}
 use Rattle.nim_meaning.specs.Meaning.{eval, destination, ready_all, carried, early, at_node, row, taking_up}
 use Rattle.nim_meaning.specs.Aims.{settle, Evaluated}
 use Rattle.nim_meaning.specs.Places.{made_by}
 use Rattle.nim_program.specs.Uses.{use_of}
 use Rattle.expr_rules.specs.Constants as C
-use Rattle.expr_rules.specs.Constants.{comes_to, traps, varies, alone}
+use Rattle.expr_rules.specs.Constants.{comes_to, traps, varies}
 use Rattle.expr_rules.specs.Constants.{if_computed, computing, with_values, act_value, short_of, unless_varies}
 use Rattle.expr_rules.specs.Constants.{value_in, values_in, value_at, object_of}
 use Rattle.typing_laws.specs.Sound.{AreSound, of_bool}
 use Rattle.typing_laws.specs.Given.{AlwaysGives}
-use Rattle.typing_laws.proofs.Tests.{never, ever, some_one, none_some}
+use Rattle.typing_laws.proofs.Tests.{never, some_one, none_some}
 use Rattle.typing_laws.proofs.SoundKinds.{plain_as}
 use Rattle.typing_laws.proofs.Measures.{come_one, one_comes, two_come, bool_by, limited_is}
 use Rattle.typing_laws.proofs.Constants as K
 use Rattle.typing_laws.proofs.Constants.{Closed, ClosedOne}
 use Rattle.typing_laws.proofs.Preserved.{preserved}
 use Rattle.typing_laws.proofs.Giving.{given, after, costing, passes, handed_over}
-use Rattle.typing_laws.proofs.Unhooked.{neither}
 use Rattle.typing_laws.proofs.ConstantRows.{Meant, Come, no_more, by_value, by_path, Done, is_characters, is_number, readies, taken, all_ready, settled}
 use Rattle.typing_laws.proofs.ConstantRows.{none_held, none_hooked}
 use Rattle.typing_laws.proofs.ConstantRows.{working, doing, building, literal}
 
--- ---- nothing is left out
+-- ---- what is plain
 
-found : {A : Type 0} (node : Node) → Some node ≡ None → A
-found node e = cc
+plain_type : (facts : Facts) (ty : Option Ty) → is_plain_type (is_hooked facts) ty ≡ true → gives_hooked facts ty ≡ false
+plain_type facts None h = refl
+plain_type facts (Some ty) h = not_true (is_hooked facts ty) h
+  where
+    not_true : (b : Bool) → not b ≡ true → b ≡ false
+    not_true false e = refl
+    not_true true e = never e
 
-not_out : (b : Bool) (node : Node) → out_if b node ≡ None → b ≡ false
-not_out false node e = refl
-not_out true node e = found node e
-
-neither_out : (a b : Option Node) → a or_then b ≡ None → (a ≡ None) × (b ≡ None)
-neither_out None b e = (refl, e)
-neither_out (Some node) b e = found node e
-
-holds : (b : Bool) → not b ≡ false → b ≡ true
-holds true e = refl
-holds false e = ever e
-
--- `echo` alone has operands that are left out, and gives no constant
+-- `echo` alone has operands that needn't be plain, and gives no constant
 silent : (facts : Facts) (ty : Option Ty) (of : List (Option Ty)) (act : Act) (all : C.Evaluated Literals) (l : Literal)
     → act_value facts ty of act all ≡ comes_to l → writes_literals act ≡ false
 silent facts ty of (Doing O.Echo) all l e = cc
@@ -131,28 +123,27 @@ module _ (run : Here) (around : Scope) (sound : AreSound run.facts) (closed : Cl
   meant node ty act operands ls l come u d is = record {
     value = λ how. row_gives node ty act operands ls l how come u
         (subst (λ (does : Does Value). AlwaysGives does (literal_value l)) (sym (is how))
-        (handed_over of_run ty (destination run how node.number) (acts act of_run ty (types_in operands) (taken ls operands)) (literal_value l) u d.gives));
+        (handed_over of_run act ty (destination run how node.number) (acts act of_run ty (types_in operands) (taken ls operands)) (literal_value l) u d.gives));
     plain = u;
     no_text = d.no_text;
   }
 
   applied_meant : (node : Node) (ty : Option Ty) (act : Act) (operands : Args) (l : Literal) → act_fits here ty act operands ≡ true
-      → gives_hooked of_run ty ≡ false → is_act_built act of_run (types_in operands) ≡ true
-      → ((ls : Literals) → values_in of_run operands ≡ comes_to ls → Come run operands ls)
+      → gives_hooked of_run ty ≡ false → ((ls : Literals) → values_in of_run operands ≡ comes_to ls → Come run operands ls)
       → act_value of_run ty (types_in operands) act (values_in of_run operands) ≡ comes_to l → Meant run (Apply node ty act operands) l
-  applied_meant node ty (Doing o) operands l f u b come e = by_go (values_in of_run operands) refl e
+  applied_meant node ty (Doing o) operands l f u come e = by_go (values_in of_run operands) refl e
     where
       by_go : (all : C.Evaluated Literals) → values_in of_run operands ≡ all
           → if_computed (computing of_run ty (types_in operands) o) all ≡ comes_to l → Meant run (Apply node ty (Doing o) operands) l
       by_go (comes_to ls) c e =
-          let p = (and_parts (fits of_run o ty (types_in operands)) _ f).1 in
+          let p = and_parts (fits of_run o ty (types_in operands)) _ f in
           meant node ty (Doing o) operands ls l (come ls c) u
           (working 1 (operates o of_run ty (types_in operands) (taken ls operands)) l
           (subst (λ b. Done (deeds.branch b (deeds.looks (λ world. deeds.unless_gone (are_seen world (taken ls operands))
           (owned o of_run ty (types_in operands) (taken ls operands) (does o of_run ty (types_in operands) (taken ls operands)))))
           (does o of_run ty (types_in operands) (taken ls operands))) l)
           (sym (ap (λ b. b || any_hooked of_run (types_in operands)) u ∙ none_hooked run (come ls c)))
-          (doing run o ty (types_in operands) l (come ls c) (and_parts (are_placed (places_in o) operands) _ p).0 b e))) (λ how. refl)
+          (doing run o ty (types_in operands) l (come ls c) (and_parts (are_placed (places_in o) operands) _ p.1).0 p.0 u e))) (λ how. refl)
       by_go traps c e = no_traps (computing of_run ty (types_in operands) o) e
         where
           no_traps : (go : Option (Literals → C.Evaluated Literal)) → if_computed go traps ≡ comes_to l → Meant run (Apply node ty (Doing o) operands) l
@@ -163,9 +154,9 @@ module _ (run : Here) (around : Scope) (sound : AreSound run.facts) (closed : Cl
           no_varies : (go : Option (Literals → C.Evaluated Literal)) → if_computed go varies ≡ comes_to l → Meant run (Apply node ty (Doing o) operands) l
           no_varies None e = cc
           no_varies (Some go) e = cc
-  applied_meant node None (Building given) operands l f u b come e =
+  applied_meant node None (Building given) operands l f u come e =
       never (and_parts (building_fits of_run None given (types_in operands)) (are_placed 0 operands) f).0
-  applied_meant node (Some t) (Building given) operands l f u b come e =
+  applied_meant node (Some t) (Building given) operands l f u come e =
       let p = and_parts (building_fits of_run (Some t) given (types_in operands)) (are_placed 0 operands) f in
       let k = built of_run (kind_of of_run t) in
       let q = and_parts (is_built k) (are_distinct given && are_fields k given (types_in operands)) p.0 in
@@ -173,11 +164,11 @@ module _ (run : Here) (around : Scope) (sound : AreSound run.facts) (closed : Cl
       meant node (Some t) (Building given) operands r.value l (come r.value r.comes) u
       (building run sound t given l (come r.value r.comes) p.1 q.0
       (and_parts (are_distinct given) (are_fields k given (types_in operands)) q.1).0 u r.is) (λ how. refl)
-  applied_meant node ty (Giving x) NoArg l f u b come e =
+  applied_meant node ty (Giving x) NoArg l f u come e =
       meant node ty (Giving x) NoArg NoLiteral l no_more u (literal run sound ty x l f u e) (λ how. refl)
-  applied_meant node ty (Giving x) (ByValue value rest) l f u b come e = never f
-  applied_meant node ty (Giving x) (ByPath path rest) l f u b come e = never f
-  applied_meant node ty (Calling proc types) operands l f u b come e = cc
+  applied_meant node ty (Giving x) (ByValue value rest) l f u come e = never f
+  applied_meant node ty (Giving x) (ByPath path rest) l f u come e = never f
+  applied_meant node ty (Calling proc types) operands l f u come e = cc
 
   -- ---- `and` and `or`
 
@@ -251,23 +242,22 @@ module _ (run : Here) (around : Scope) (sound : AreSound run.facts) (closed : Cl
   -- ---- the whole
 
   mutual
-    value_meant : (e : Expr) (l : Literal) → is_typed here e ≡ true → left_out_in of_run e ≡ None → value_in of_run e ≡ comes_to l → Meant run e l
+    value_meant : (e : Expr) (l : Literal) → is_typed here e ≡ true → is_plain_value (is_hooked of_run) e ≡ true → value_in of_run e ≡ comes_to l →
+        Meant run e l
     value_meant (P.Apply node ty act operands) l h n c =
         let p = and_parts (act_fits here ty act operands) (are_typed here operands) h in
-        let q = neither_out (out_if (gives_hooked of_run ty || not (is_act_built act of_run (types_in operands))) node)
-        (left_out_in_args of_run (writes_literals act) operands) n in
-        let r = neither (gives_hooked of_run ty) (not (is_act_built act of_run (types_in operands)))
-        (not_out (gives_hooked of_run ty || not (is_act_built act of_run (types_in operands))) node q.0) in
-        let w = subst (λ written. left_out_in_args of_run written operands ≡ None)
+        let q = and_parts (is_plain_type (is_hooked of_run) ty) (are_plain (is_hooked of_run) (writes_literals act) operands) n in
+        let w = subst (λ written. are_plain (is_hooked of_run) written operands ≡ true)
         (silent of_run ty (types_in operands) act (values_in of_run operands) l c) q.1 in
-        applied_meant node ty act operands l p.0 r.0 (holds (is_act_built act of_run (types_in operands)) r.1) (λ ls v. values_meant operands ls p.1 w v) c
+        applied_meant node ty act operands l p.0 (plain_type of_run ty q.0) (λ ls v. values_meant operands ls p.1 w v) c
     value_meant (P.Read path) l h n c = cc
     value_meant (P.Early node ty short a b) l h n c =
         let p = and_parts (early_fits of_run ty (type_of a) (type_of b)) (is_typed here a && is_typed here b) h in
         let q = and_parts (is_bool (kind_of of_run ty)) (is_of (type_of a) (Some ty) && is_of (type_of b) (Some ty)) p.0 in
         let r = and_parts (is_of (type_of a) (Some ty)) (is_of (type_of b) (Some ty)) q.1 in
         let u = and_parts (is_typed here a) (is_typed here b) p.1 in
-        let o = neither_out (left_out_in of_run a) (left_out_in of_run b) n in
+        let o = and_parts (is_plain_value (is_hooked of_run) a) (is_plain_value (is_hooked of_run) b)
+        (and_parts (not (is_hooked of_run ty)) _ n).1 in
         let is : ty ≡ type.bool = bool_by of_run sound ty q.0 in
         let at : type_of a ≡ Some type.bool = K.of_type of_run sound closed closed_one (type_of a) ty r.0 ∙ ap (λ t. Some t) is in
         let d = short_meant node short a b (value_in of_run a) (value_in of_run b) l
@@ -281,24 +271,24 @@ module _ (run : Here) (around : Scope) (sound : AreSound run.facts) (closed : Cl
         }
     value_meant (P.Choose node ty chooser parts) l h n c = cc
 
-    values_meant : (operands : Args) (ls : Literals) → are_typed here operands ≡ true → left_out_in_args of_run false operands ≡ None
+    values_meant : (operands : Args) (ls : Literals) → are_typed here operands ≡ true → are_plain (is_hooked of_run) false operands ≡ true
         → values_in of_run operands ≡ comes_to ls → Come run operands ls
     values_meant NoArg ls h n c = subst (λ ls. Come run NoArg ls) (come_one c) no_more
     values_meant (ByValue e rest) ls h n c =
         let p = and_parts (is_typed here e) (are_typed here rest) h in
-        let o = neither_out (left_out_in of_run e) (left_out_in_args of_run false rest) n in
+        let o = and_parts (is_plain_value (is_hooked of_run) e) (are_plain (is_hooked of_run) false rest) n in
         let q = two_come (λ l all. comes_to (ALiteral l all)) (value_in of_run e) (values_in of_run rest) ls c in
         subst (λ ls. Come run (ByValue e rest) ls) (come_one q.is)
         (by_value e q.left (value_meant e q.left p.0 o.0 q.left_comes) (values_meant rest q.right p.1 o.1 q.right_comes))
     values_meant (ByPath path rest) ls h n c =
         let p = and_parts (is_whole of_run path && is_typed_path here path) (are_typed here rest) h in
-        let o = neither_out (left_out_in_path of_run path) (left_out_in_args of_run false rest) n in
+        let o = and_parts (is_plain_path (is_hooked of_run) path) (are_plain (is_hooked of_run) false rest) n in
         let q = two_come (λ l all. comes_to (ALiteral l all)) (value_at of_run path) (values_in of_run rest) ls c in
         subst (λ ls. Come run (ByPath path rest) ls) (come_one q.is)
         (path_meant path rest q.left q.right (and_parts (is_whole of_run path) (is_typed_path here path) p.0).1 o.0 q.left_comes
         (values_meant rest q.right p.1 o.1 q.right_comes))
 
-    path_meant : (path : Path) (rest : Args) (l : Literal) (ls : Literals) → is_typed_path here path ≡ true → left_out_in_path of_run path ≡ None
+    path_meant : (path : Path) (rest : Args) (l : Literal) (ls : Literals) → is_typed_path here path ≡ true → is_plain_path (is_hooked of_run) path ≡ true
         → value_at of_run path ≡ comes_to l → Come run rest ls → Come run (ByPath path rest) (ALiteral l ls)
     path_meant (P.Variable node ty place global) rest l ls h n c more = cc
     path_meant (P.Fresh e) rest l ls h n c more =
@@ -312,12 +302,12 @@ module _ (run : Here) (around : Scope) (sound : AreSound run.facts) (closed : Cl
 
 -- where the meaning and the rules know the same of types
 pub constant_given : (closed : Closed) (closed_one : ClosedOne) (around : Scope) (run : Here) → run.facts ≡ around.facts → AreSound around.facts → (e : Expr)
-    (l : Literal) → is_typed around e ≡ true → left_out_in around.facts e ≡ None → value_in around.facts e ≡ comes_to l → (how : Use)
+    (l : Literal) → is_typed around e ≡ true → is_plain_value (is_hooked around.facts) e ≡ true → value_in around.facts e ≡ comes_to l → (how : Use)
     → AlwaysGives (eval e how run) (literal_value l)
 constant_given closed closed_one around run same sound e l h n c how =
     (value_meant run around (subst AreSound (sym same) sound) closed closed_one e l
     (subst (λ f. is_typed (record around { facts = f }) e ≡ true) (sym same) h)
-    (subst (λ f. left_out_in f e ≡ None) (sym same) n)
+    (subst (λ f. is_plain_value (is_hooked f) e ≡ true) (sym same) n)
     (subst (λ f. value_in f e ≡ comes_to l) (sym same) c)).value how
 
 -- a text that is only read, whether its type has hooks or not

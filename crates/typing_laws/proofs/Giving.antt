@@ -4,12 +4,14 @@ use Rattle.arc_base.specs.BigStep.{then_do}
 use Rattle.nim_types.specs.Types.{Ty, Facts}
 use Rattle.std.specs.Prelude.{Bool, ◌∷◌, Option}
 use Rattle.nim_meaning.specs.Ways.{Point}
+use Rattle.nim_program.specs.Program.{Act, Doing, Building, Giving, Calling}
 use Rattle.nim_meaning.specs.Values.{Value}
 use Rattle.nim_meaning.specs.Acts.{Does, give, onward, ◌>>=◌, branch, costs, worked, passing, with_trail}
 use Rattle.nim_meaning.specs.Deeds as deeds
 use Rattle.nim_meaning.specs.Deeds.{Deed, carry, ◌>>=◌ as then_deed}
 use Rattle.nim_meaning.specs.Here.{gives_hooked}
-use Rattle.nim_meaning.specs.Places.{Destination, made_by}
+use Rattle.nim_meaning.specs.Places.{Destination}
+use Rattle.nim_meaning.specs.Steps.{kept_by}
 use Rattle.typing_laws.specs.Given.{AlwaysGives}
 
 pub given : {A : Type 0} (x : A) → AlwaysGives (give x) x
@@ -37,6 +39,12 @@ pub passes : {A : Type 0} (p : Point) (act : Does A) (x : A) → AlwaysGives act
 passes p act x g s = g (with_trail (p ∷ s.trail) s)
 
 -- what a node made is handed over as it is, where it has no hooks
-pub handed_over : (facts : Facts) (ty : Option Ty) (to : Destination) (deed : Deed Value) (v : Value) → gives_hooked facts ty ≡ false
-    → AlwaysGives (carry (then_deed deed (λ x. deeds.give x))) v → AlwaysGives (carry (then_deed deed (made_by (gives_hooked facts ty) to))) v
-handed_over facts ty to deed v e g = subst (λ b. AlwaysGives (carry (then_deed deed (made_by b to))) v) (sym e) g
+pub handed_over : (facts : Facts) (act : Act) (ty : Option Ty) (to : Destination) (deed : Deed Value) (v : Value) → gives_hooked facts ty ≡ false
+    → AlwaysGives (carry (then_deed deed (λ x. deeds.give x))) v → AlwaysGives (carry (then_deed deed (kept_by act (gives_hooked facts ty) to))) v
+handed_over facts act ty to deed v e g = subst (λ b. AlwaysGives (carry (then_deed deed (kept_by act b to))) v) (sym e) (by act)
+  where
+    by : (x : Act) → AlwaysGives (carry (then_deed deed (kept_by x false to))) v
+    by (Giving literal) = g
+    by (Doing operation) = g
+    by (Building fields) = g
+    by (Calling proc types) = g

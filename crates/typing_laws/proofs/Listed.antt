@@ -236,7 +236,8 @@ module _ (ts : List Ty) (ints : is_among_types ts type.int ≡ true) where
         (operand_listed selector T.NoArg tt) (arms_listed branches (stmt_row ts otherwise) (stmts_listed otherwise))) h
     stmt_listed (S.Loop' node kind head p body) rest h =
         both_among ts _ _
-        (node_listed (place_types (loop_places (V.kind_of ts kind)) ++ []) _ (both_among ts (place_types (loop_places (V.kind_of ts kind))) [] (loop_listed kind) refl)
+        (node_listed (place_types (loop_places (V.kind_of ts kind)) ++ []) _
+        (both_among ts (place_types (loop_places (V.kind_of ts kind))) [] (loop_listed kind) refl)
         (both_among ts (totals lists own_types (operands_of ts head.items)) _ (totals_among ts _ (all_listed head.items)) (stmts_listed body))) h
     stmt_listed (S.Raise node exception message) rest h =
         both_among ts (totals lists own_types (if_value ts message)) _ (totals_among ts _ (value_listed message)) h

@@ -33,7 +33,7 @@ ghost use Rattle.nim_program.specs.Program.{Literal, Characters, Giving, Apply, 
 ghost use Rattle.nim_program.specs.Defaults.{default_literal};
 ghost use Rattle.nim_meaning.specs.Values.{Fixed, literal_value, default_of};
 ghost use Rattle.nim_meaning.specs.Here.{Here as Run, is_hooked};
-ghost use Rattle.nim_meaning.specs.LeftOut.{left_out_in};
+ghost use Rattle.nim_meaning.specs.Runs.{is_plain_value};
 ghost use Rattle.nim_meaning.specs.Meaning.{eval};
 ghost use Rattle.expr_rules.specs.Constants.{value_in, comes_to};
 ghost use Rattle.typing_laws.specs.Sound.{AreSound};
@@ -109,13 +109,14 @@ pub fn types_sound()
     statements_numbered();
 }
 
-/// A typed expression that is constant by the rules has its value in the meaning, in every state:
+/// A typed expression without hooks that is constant by the rules has its value in every state:
 /// it writes nothing and changes nothing. So has the literal of a text where it is only read: nobody
 /// owns it. And a place without hooks starts at the default of its type that the rules speak of.
 pub fn constant_values()
     ensures value { (around : Here) (run : Run) → run.facts ≡ around.facts →
         AreSound around.facts → (e : Expr) (l : Literal) → is_typed around e ≡ true →
-        left_out_in around.facts e ≡ None → value_in around.facts e ≡ comes_to l →
+        is_plain_value (is_hooked around.facts) e ≡ true →
+        value_in around.facts e ≡ comes_to l →
         (how : Use) → AlwaysGives (eval e how run) (literal_value l) }
     ensures text { (run : Run) (node : Node) (ty : Option Ty) (text : List ℕ) (how : Use) →
         (how ≡ Lent) ⊎ (how ≡ Looked) →

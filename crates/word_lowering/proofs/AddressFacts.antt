@@ -62,14 +62,14 @@ module _ (x : Basis) (g : Both) (line : BlockLine) (rest : List BlockLine) (y : 
     pub leads_to : Leads x.table x.blocks (all_sites x g line rest y) g.ground g.world g.call.site g.call.temps there address s
 
   -- what is in the variable of a place that has an address
-  record AddressIn (f : Name) (a : ℕ) : Type 0 where
-    variable_is : ℕ
-    home : (house g.call.site f).home ≡ Variable variable_is
-    spot : spot_of (house g.call.site f) ≡ Lies (Variable variable_is)
-    high_is : OWN_FROM ≤ variable_is
-    points : g.call.vars variable_is ≡ Some a
+  pub record AddressIn (f : Name) (a : ℕ) : Type 0 where
+    pub variable_is : ℕ
+    pub home : (house g.call.site f).home ≡ Variable variable_is
+    pub spot : spot_of (house g.call.site f) ≡ Lies (Variable variable_is)
+    pub high_is : OWN_FROM ≤ variable_is
+    pub points : g.call.vars variable_is ≡ Some a
 
-  address_in : (f : Name) (a : ℕ) → IsThere g.call.site f → holds_address (house g.call.site f) ≡ true
+  pub address_in : (f : Name) (a : ℕ) → IsThere g.call.site f → holds_address (house g.call.site f) ≡ true
       → g.call.vars (variable_of (house g.call.site f)) ≡ Some a → AddressIn f a
   address_in f a there address is = by (houses x.table x.blocks g.call.site f y.linked.0 there).where_is
     where
@@ -224,6 +224,7 @@ module _ (x : Basis) (g : Both) (line : BlockLine) (rest : List BlockLine) (y : 
                   offset = 0;
                   leads = (refl, look);
                   address = omega arith;
+                  lasting = r.lasting;
                   value = r.value;
                   has = r.has;
                 });
@@ -284,11 +285,10 @@ module _ (x : Basis) (g : Both) (line : BlockLine) (rest : List BlockLine) (y : 
   at_address t there n plain e many = at_homed t there n (homed_plain x g.call.site t y.linked.0 n plain) e many
 
   -- what may be written, where the line hands on its address
-  pub handed_at : (t : ℕ) (there : Where) → IsNamed g.call.site (of_location t) → IsPlain x g.call.site (of_location t)
-      → g.call.temps.places t ≡ Some there
+  pub handed_homed : (t : ℕ) (there : Where) → IsNamed g.call.site (of_location t) → IsHomed x g.call.site t → g.call.temps.places t ≡ Some there
       → is_standing (house g.call.site (of_location t)).kind ≡ true → is_among t (places_in (handed_by (block_plain line))) ≡ true
       → AtAddress (location here t) there (looked x.table g.call.site (of_location t))
-  handed_at t there n plain e standing handed = at_reached t there n (homed_plain x g.call.site t y.linked.0 n plain) e (record {
+  handed_homed t there n homed e standing handed = at_reached t there n homed e (record {
     place = λ p is there_is own look. y.linked.0.addressed p (is_addressed x.table x.blocks (body_of g) y.linked.0 t p n is among)
         (record { among = there_is.among; number = there_is.number; kind = there_is.kind }) own;
     value = λ u is there_is look. never (sym (y.linked.0.valued t u n is).1 ∙ standing);
@@ -296,6 +296,12 @@ module _ (x : Basis) (g : Both) (line : BlockLine) (rest : List BlockLine) (y : 
     where
       among : is_among t (handed_in (lines_of (body_of g))) ≡ true
       among = subst (λ l. is_among t (handed_in (map block_plain l)) ≡ true) (sym y.stands.whole) (handed_among t y.stands.before line rest handed)
+
+  pub handed_at : (t : ℕ) (there : Where) → IsNamed g.call.site (of_location t) → IsPlain x g.call.site (of_location t)
+      → g.call.temps.places t ≡ Some there
+      → is_standing (house g.call.site (of_location t)).kind ≡ true → is_among t (places_in (handed_by (block_plain line))) ≡ true
+      → AtAddress (location here t) there (looked x.table g.call.site (of_location t))
+  handed_at t there n plain e standing handed = handed_homed t there n (homed_plain x g.call.site t y.linked.0 n plain) e standing handed
 
   -- an array there
   pub read_row : (t : ℕ) (there : Where) → IsNamed g.call.site (of_location t) → IsHomed x g.call.site t

@@ -17,7 +17,7 @@ use Rattle.flat_code.specs.Shapes.{Shape, block, shape_of, has_shape}
 use Rattle.flat_code.specs.Fits.{Signature, value, location, any_place, may_write, fits, all_fit}
 use Rattle.word_lowering.specs.declared.homes.Alias.{Alias}
 use Rattle.word_lowering.specs.declared.homes.Alias.TheVariants as alias
-use Rattle.word_lowering.specs.Aliases.{value_to, location_to, text_in, texts_of, text_alias, alias_by, is_it, alias_in}
+use Rattle.word_lowering.specs.Aliases.{value_to, location_to, is_read, text_in, texts_of, text_alias, alias_by, is_it, alias_in}
 use Rattle.word_lowering.proofs.LineFits.{are_of}
 use Rattle.word_lowering.proofs.Options.{none_some, some_same}
 use Rattle.word_lowering.proofs.ShapeFacts.{never}
@@ -51,7 +51,7 @@ place_no_value p global t e = absurd cc
 same_place : (p q : ℕ) (a b : Bool) → alias.Place p a ≡ alias.Place q b → (p ≡ q) × (a ≡ b)
 same_place p q a b e = (cc, cc)
 
-same_value : (t u : ℕ) → alias.Value t ≡ alias.Value u → t ≡ u
+pub same_value : (t u : ℕ) → alias.Value t ≡ alias.Value u → t ≡ u
 same_value t u e = cc
 
 none_given : {A : Type 0} (t : ℕ) → None ≡ Some t → A
@@ -145,9 +145,15 @@ module _ (known : Known) (procs : List Signature) (globals places : List FlatPla
   entered_as t to u from waits same e h =
       let f : fits_here (L.Fresh t u waits) ≡ true =
       subst (λ z. fits_here (L.Fresh z u waits) ≡ true) same (subst (λ z. fits_here (L.Fresh to z waits) ≡ true) e h) in
-      let q = and_parts (is_of (location_at t) (value_at u)) (not (may_write known procs globals places t)) f in
+      let q = and_parts (is_of (location_at t) (value_at u)) _ f in
       let r = are_of (location_at t) (value_at u) q.0 in
-      record { ty = r.ty; location = r.is; value = r.is_other; read_only = not-true (may_write known procs globals places t) q.1 }
+      record {
+        ty = r.ty;
+        location = r.is;
+        value = r.is_other;
+        read_only = not-true (may_write known procs globals places t)
+            (and_parts (not (may_write known procs globals places t)) _ q.1).0;
+      }
 
   entered_by : (t u : ℕ) (line : Line) (behind : ℕ) → location_to line ≡ Some t → alias_by line behind ≡ alias.Value u → fits_here line ≡ true
       → Entered t u
@@ -199,11 +205,12 @@ module _ (known : Known) (procs : List Signature) (globals places : List FlatPla
             ∙ text_shape (shape_of known.facts (type_at known.types ty)) text shaped;
       }
 
-  pieces_written : (t to ty n : ℕ) (pieces : List Piece) → to ≡ t → is_of (value_at to) (Some (type_at known.types ty)) ≡ true
+  pieces_written : (read : Bool) (t to ty n : ℕ) (pieces : List Piece) → to ≡ t → is_of (value_at to) (Some (type_at known.types ty)) ≡ true
       → has_shape (value_of pieces) (shape_of known.facts (type_at known.types ty)) ≡ true
-      → (text_alias n (text_in pieces) ≡ alias.Own) ⊎ Written t (text_alias n (text_in pieces))
-  pieces_written t to ty n (P.Text text ∷ []) same typed shaped = inr (written_as t to ty n text same typed shaped)
-  pieces_written t to ty n pieces same typed shaped = inl refl
+      → (text_alias read n (text_in pieces) ≡ alias.Own) ⊎ Written t (text_alias read n (text_in pieces))
+  pieces_written false t to ty n (P.Text text ∷ []) same typed shaped = inl refl
+  pieces_written true t to ty n (P.Text text ∷ []) same typed shaped = inr (written_as t to ty n text same typed shaped)
+  pieces_written read t to ty n pieces same typed shaped = inl refl
 
   value_by : (t : ℕ) (line : Line) (n : ℕ) → value_to line ≡ Some t → fits_here line ≡ true
       → (alias_by line n ≡ alias.Own) ⊎ Written t (alias_by line n)
@@ -211,8 +218,9 @@ module _ (known : Known) (procs : List Signature) (globals places : List FlatPla
   value_by t (L.Fresh to from waits) n g h = none_given t g
   value_by t (L.Constant to how ty pieces) n g h =
       let shaped : Bool = has_shape (value_of pieces) (shape_of known.facts (type_at known.types ty)) in
-      let q = and_parts (are_one pieces 0 && shaped) (is_of (value_at to) (Some (type_at known.types ty))) h in
-      pieces_written t to ty n pieces (some_same to t g) q.1 (and_parts (are_one pieces 0) shaped q.0).1
+      let q = and_parts (are_one pieces 0 && shaped) _ h in
+      pieces_written (is_read how.how) t to ty n pieces (some_same to t g) (and_parts (is_of (value_at to) (Some (type_at known.types ty))) _ q.1).0
+      (and_parts (are_one pieces 0) shaped q.0).1
   value_by t line n g h = inl refl
 
   -- a temporary with a value is another name for a text alone

@@ -5,9 +5,9 @@ use Rattle.nim_meaning.specs.State.{World, load}
 use Rattle.nim_meaning.specs.Values.{Value, Operand, Given, location_of, value_of}
 use Rattle.flat_code.specs.declared.block.BlockLine.{BlockLine}
 use Rattle.flat_code.specs.declared.line.From.{From}
-use Rattle.flat_code.specs.Lines.{fetch, using_all}
+use Rattle.flat_code.specs.Lines.{fetch, using_all, using}
 use Rattle.flat_code.specs.Scene.{Temps, Did}
-use Rattle.word_lowering.proofs.Lines.{Basis, Settles, using_settles}
+use Rattle.word_lowering.proofs.Lines.{Basis, Settles, using_settles, Completes}
 use Rattle.word_lowering.proofs.Options.{none_some, some_same}
 use Rattle.word_lowering.proofs.Related.{Both}
 
@@ -33,3 +33,14 @@ module _ (x : Basis) (g : Both) (rest : List BlockLine) (temps : Temps) where
   using_all_settles (f ∷ from) go h =
       using_settles x g rest (fetch temps f) (λ z. using_all temps from (λ xs. go (z ∷ xs)))
       (λ z e. using_all_settles from (λ xs. go (z ∷ xs)) (λ xs all. h (z ∷ xs) (e, all)))
+
+  pub using_completes : {A : Type 0} (o : Option A) (go : A → Did) → ((a : A) → o ≡ Some a → Completes x g rest (go a)) → Completes x g rest (using o go)
+  using_completes None go h = λ before. tt
+  using_completes (Some a) go h = h a refl
+
+  pub using_all_completes : (from : List From) (go : List Operand → Did) → ((xs : List Operand) → Have temps from xs → Completes x g rest (go xs))
+      → Completes x g rest (using_all temps from go)
+  using_all_completes [] go h = h [] tt
+  using_all_completes (f ∷ from) go h =
+      using_completes (fetch temps f) (λ z. using_all temps from (λ xs. go (z ∷ xs)))
+      (λ z e. using_all_completes from (λ xs. go (z ∷ xs)) (λ xs all. h (z ∷ xs) (e, all)))

@@ -21,7 +21,7 @@ use Rattle.nim_types.specs.Table.{facts_in}
 use Rattle.nim_types.specs.Types.{Ty}
 use Rattle.nim_meaning.specs.Deeds.{costs, ◌>>=◌}
 use Rattle.nim_meaning.specs.Here.{gives_hooked}
-use Rattle.nim_meaning.specs.Places.{made_by}
+use Rattle.nim_meaning.specs.Places.{kept_if}
 use Rattle.nim_meaning.specs.Table.{does}
 use Rattle.flat_code.specs.Lines.{gives, using_all}
 use Rattle.flat_code.specs.Running.{scene_of}
@@ -91,7 +91,7 @@ module _ (x : Basis) (g : Both) (rest : List BlockLine) (to : ℕ) (operation : 
   -- what the line does where no type of it has hooks
   abbrev pub row_does : Did
   row_does = using_all g.call.temps from (λ xs. gives (scene_of (high x.table x.blocks (starts g apply_line rest))) to
-      (costs 1 (does operation (facts_in x.table) gets_type of_types xs) >>= made_by (gives_hooked (facts_in x.table) gets_type) (bound_for g how)))
+      (costs 1 (does operation (facts_in x.table) gets_type of_types xs) >>= kept_if (gives_hooked (facts_in x.table) gets_type) (bound_for g how)))
 
   abbrev pub RowHere : Type 0
   RowHere = PlainNames x g.call.site (of_value to ∷ names_from from) → (y : IsGood x (starts g apply_line rest)) →

@@ -1,5 +1,5 @@
 -- All that stays the same in the runs of a code that may be lowered, with a runtime.
-use Rattle.std.proofs.Common.{List, [], ◌∷◌, Bool, false, refl, sym, ◌≡◌, inr, ℕ, ◌+◌, ◌%◌, length, drop, length-append, length-drop, true, subst, arith}
+use Rattle.std.proofs.Common.{◌≤◌, List, [], ◌∷◌, Bool, false, refl, sym, ◌≡◌, inr, ℕ, ◌+◌, ◌%◌, length, drop, length-append, length-drop, true, subst, arith}
 use Rattle.arc_base.specs.Behaviour.{no_objects}
 use Rattle.rv32_isa.specs.Machine.{Lives}
 use Rattle.nim_types.specs.declared.types.TypeDef.{TypeDef}
@@ -15,6 +15,7 @@ use Rattle.word_code.specs.Runtime.{routines_at}
 use Rattle.heap_memory.specs.declared.numbers.TheConstants.{HEAP_DATA}
 use Rattle.word_code.proofs.ForCallers.{MemoryLaw}
 use Rattle.word_lowering.specs.Stored.{HaveForms}
+use Rattle.word_lowering.specs.LineCode.{all_labels}
 use Rattle.word_lowering.specs.Lowered.{lowered}
 use Rattle.word_lowering.specs.Lowers.{IsFitting, AreSilent}
 use Rattle.word_lowering.specs.MayLower.{may_lower}
@@ -22,6 +23,8 @@ use Rattle.word_lowering.specs.Runtimes.{Runtimes, with_runtimes}
 use Rattle.word_lowering.proofs.Related.{IsClosed, routines}
 use Rattle.word_lowering.proofs.Lines.{Basis}
 use Rattle.word_lowering.proofs.ProcCodes.{callee}
+use Rattle.word_lowering.proofs.HookProcs.{HookLaws, TableBounds}
+use Rattle.word_lowering.proofs.HooksThere.{hooks_there, cuts_there}
 use Rattle.word_lowering.proofs.NamedProcs.{all_apart}
 use Rattle.word_lowering.proofs.RoomBounds.{globals_inside, data_small, enums_may, sites_within}
 use Rattle.word_lowering.proofs.DataEnd.{globals_behind, globals_whole}
@@ -40,12 +43,13 @@ use Rattle.std.specs.Set.{is_member}
 use Rattle.std.proofs.lemmas.Bool.{true≢false}
 use Rattle.word_lowering.proofs.FirstMemory.{first_memory, routines_given, letter_first, handles_first}
 use Rattle.word_lowering.proofs.TypeDefaults.{type_default, type_blank}
-use Rattle.word_lowering.proofs.TypeRules.{type_compared, type_plain, type_unhooked, type_resource, type_built, type_built_object, type_fields}
+use Rattle.word_lowering.proofs.TypeRules.{type_compared, type_plain, type_unhooked, type_hooked, type_resource, type_built, type_built_object, type_fields}
 use Rattle.word_lowering.proofs.TypeRules.{type_object, type_converted, type_limit}
-use Rattle.word_lowering.proofs.TypeShapes.{type_part}
+use Rattle.word_lowering.proofs.TypeShapes.{type_part, type_shaped}
 use Rattle.word_code.specs.Words.{Fresh}
 
-module _ (table : List TypeDef) (blocks : Code BlockLine) (may : may_lower table blocks ≡ true) (runtime : Runtimes) where
+module _ (laws : HookLaws) (table : List TypeDef) (bounds : TableBounds table) (blocks : Code BlockLine) (may : may_lower table blocks ≡ true)
+    (runtime : Runtimes) where
   -- the data of routines that stays is beside all places
   pub closed : IsClosed table blocks (routines table blocks + SCRATCH_BYTES) (length (drop SCRATCH_BYTES runtime.others.statics))
   closed =
@@ -85,8 +89,8 @@ module _ (table : List TypeDef) (blocks : Code BlockLine) (may : may_lower table
           pieces small among
 
   abbrev pub basis_of : (live : Lives) → Fresh → ((m : Memory) → live (as_state m) ≡ no_objects) → IsTable table → HaveForms table
-      → IsFitting table blocks → AreSilent blocks.procs → (heap stack : ℕ) → MemoryLaw → Basis
-  basis_of live fresh none is_table have fitting silent heap stack law = record {
+      → IsFitting table blocks → all_labels blocks.procs ≤ 4294967295 → AreSilent blocks.procs → (heap stack : ℕ) → MemoryLaw → Basis
+  basis_of live fresh none is_table have fitting labels silent heap stack law = record {
     live = live;
     fresh = fresh;
     table = table;
@@ -100,6 +104,8 @@ module _ (table : List TypeDef) (blocks : Code BlockLine) (may : may_lower table
     compared = type_compared table is_table have;
     plains = type_plain table is_table have;
     unhooked = type_unhooked table is_table have;
+    hooks = type_hooked table is_table have;
+    shaped = type_shaped table is_table have;
     resources = type_resource table is_table have;
     fields = type_fields table is_table have;
     built_fields = type_built table is_table have;
@@ -109,11 +115,15 @@ module _ (table : List TypeDef) (blocks : Code BlockLine) (may : may_lower table
     conversions = type_converted table is_table have;
     limits = type_limit table is_table have;
     none = none;
-    callees = callee table blocks is_table have fitting may silent;
+    callees = callee table blocks is_table have fitting may labels silent;
     runtimes = runtime;
     kept = λ name. subst (λ a. IsKept live (with_runtimes runtime (lowered table blocks)).procs a runtime.others.statics (routine a name)) routines_are
-        (runtime.is_others.kept live (joined runtime.heap (lowered table blocks)) (all_apart table blocks may runtime).1 front_whole name);
+        (runtime.is_others.kept live (joined runtime.heap (lowered table blocks)) (all_apart laws table blocks may runtime).1 front_whole name);
     given = routines_given table blocks runtime heap stack runtime.is_others.data_least;
+    hooks_there = hooks_there laws table blocks runtime;
+    cuts_there = cuts_there laws table blocks runtime;
+    short = bounds.short;
+    elements_small = bounds.small;
     globals_inside = globals_inside table blocks;
     data_most = data_within table blocks may;
     given_closed = closed;

@@ -9,7 +9,7 @@ use Rattle.word_code.specs.Memory.{Memory}
 use Rattle.word_code.specs.RoutineTable.{Area, Separate, low, LowWords}
 use Rattle.word_code.specs.Words.{Vars, no_words, put}
 use Rattle.word_code.proofs.ForCallers.{Changed, Runs, at, got, then_runs, Within}
-use Rattle.word_lowering.specs.declared.homes.TheConstants.{FIRST, SECOND, THIRD}
+use Rattle.word_lowering.specs.declared.homes.TheConstants.{FIFTH, FIRST, SECOND, THIRD}
 use Rattle.word_lowering.specs.declared.homes.Home.{Home}
 use Rattle.word_lowering.specs.declared.homes.Housed.{Housed}
 use Rattle.word_lowering.specs.declared.spots.Spot.TheVariants.{Lies}
@@ -19,8 +19,8 @@ use Rattle.word_lowering.proofs.BlocksBorn.{later_same}
 use Rattle.word_lowering.proofs.Gets.{Changes, high_variable, memory_kept, heap_kept}
 use Rattle.word_lowering.proofs.Keeping.{somewhere, outside_still, points_there, spot_memory, to_home, call}
 use Rattle.word_lowering.proofs.Lines.{Basis, IsGood, all_procs, all_sites, data_there, reaches, starts}
-use Rattle.word_lowering.proofs.Moves.{IsHigh, address_runs, points_same, same_first, same_more, same_second, same_third, words_of, IsArea}
-use Rattle.word_lowering.proofs.OrdinalRuns.{AllSame}
+use Rattle.word_lowering.proofs.Moves.{IsBehind, address_runs, points_behind, same_first, same_more, same_second, same_third, words_of, IsArea}
+use Rattle.word_lowering.proofs.OrdinalRuns.{AllSame, put_other}
 use Rattle.word_lowering.proofs.Related.{Both, routines, store_of, store_with, within, MemoryGood}
 use Rattle.word_lowering.proofs.RoutineCalls.{awaiting, copy_called}
 use Rattle.word_lowering.proofs.Scenes.{IsItem, IsThere, Name, Points, StoredIn, address_of, asks_shape, house, is_fixed, looked}
@@ -43,6 +43,7 @@ module _ (x : Basis) (sites : List Site) (linked : Linked x.table x.blocks sites
     pub vars_then : Vars
     pub memory : Memory
     pub kept : AllSame vars vars_then
+    pub fifth : vars_then FIFTH ≡ vars FIFTH
     pub changed : Changed m memory a n
     pub same : LowWords m b memory a n
     pub steps : ℕ
@@ -50,7 +51,7 @@ module _ (x : Basis) (sites : List Site) (linked : Linked x.table x.blocks sites
     pub few : steps ≤ 10 + 2 * n
     pub runs : Runs x.live (all_procs x) steps (at c m lines vars words) (at (awaiting c FIRST) memory k vars_then no_words)
 
-  pub bytes_moved : (to from : Home) (a b n : ℕ) → IsHigh from → Points c.base vars to a → Points c.base vars from b → n % 4 ≡ 0 → 4 ≤ n
+  pub bytes_moved : (to from : Home) (a b n : ℕ) → IsBehind from → Points c.base vars to a → Points c.base vars from b → n % 4 ≡ 0 → 4 ≤ n
       → IsArea m a n → a + n < 2 ^ 32 → Readable x sites linked m b n → Separate a b n → BytesMoved (moved false n (Lies to) (Lies from) k) a b n
   bytes_moved to from a b n high points points_from whole some area near readable apart = by (words_of n whole some)
     where
@@ -66,7 +67,7 @@ module _ (x : Basis) (sites : List Site) (linked : Linked x.table x.blocks sites
           = address_runs x.law x.live (all_procs x) c from_first words m (address SECOND from ∷ k2) vars FIRST to a points in
           let r2 : Runs x.live (all_procs x) 1 (at c m (address SECOND from ∷ k2) v1 words) (at c m k2 v2 words)
           = address_runs x.law x.live (all_procs x) c from_first words m k2 v1 SECOND from b
-          (points_same x.law x.live (all_procs x) c from_first words vars v1 from b high (same_first vars a) points_from) in
+          (points_behind x.law x.live (all_procs x) c from_first words vars a from b high points_from) in
           let r3 = copy_called x.law x.live (all_procs x) (routines x.table x.blocks) x.runtimes.others.statics (reaches x) c k j m a b v2 words
           (got a (omega (arith, near))) (got b (omega (arith, near_from))) (omega (arith, near, is)) (omega (arith, near_from, is)) good.sized
           (data_there x sites m good) there_area here_area (subst (Separate a b) is apart) in
@@ -78,6 +79,9 @@ module _ (x : Basis) (sites : List Site) (linked : Linked x.table x.blocks sites
             memory = r3.memory;
             kept = same_more vars v1 w (same_first vars a) (same_more v1 v2 w (same_second v1 b)
                 (same_more v2 (put v2 THIRD (4 * suc j)) w (same_third v2 (4 * suc j)) (same_first (put v2 THIRD (4 * suc j)) r3.word)));
+            fifth = put_other (put v2 THIRD (4 * suc j)) FIRST r3.word FIFTH (λ e. absurd (omega (arith, e)))
+                ∙ put_other v2 THIRD (4 * suc j) FIFTH (λ e. absurd (omega (arith, e))) ∙ put_other v1 SECOND b FIFTH (λ e. absurd (omega (arith, e)))
+                ∙ put_other vars FIRST a FIFTH (λ e. absurd (omega (arith, e)));
             changed = subst (Changed m r3.memory a) (sym is) copy.changed;
             same = subst (LowWords m b r3.memory a) (sym is) copy.same;
             steps = 2 + (4 + r3.steps);
@@ -97,7 +101,7 @@ module _ (x : Basis) (g : Both) (line : BlockLine) (rest : List BlockLine) (y : 
 
   -- a range of memory that may be read, to which a home points
   pub record Bits (from : Home) (b n : ℕ) : Type 0 where
-    pub high : IsHigh from
+    pub high : IsBehind from
     pub points : Points g.call.site.base g.call.vars from b
     pub readable : Readable x sites y.linked g.memory b n
 

@@ -1,12 +1,11 @@
 -- Word code does what the block code does that it comes from, and is as its callers want it.
-use Rattle.std.proofs.Common.{◌≡◌, inl, inr, ℕ, suc, ◌+◌, ◌≤◌, List, [], ◌∷◌, map, Option, Some, None, true, false}
+use Rattle.std.proofs.Common.{◌≡◌, inl, inr, ℕ, suc, ◌+◌, ◌≤◌, List, [], ◌∷◌, map, Option, Some, None, true, false, ◌*◌}
 use Rattle.std.proofs.Common.{refl, sym}
 use Rattle.std.proofs.Common.{ap, ap₂, subst, arith}
 use Rattle.arc_base.specs.Event.{Event}
 use Rattle.arc_base.specs.Behaviour.{Behaviour, Agrees, Sound}
-use Rattle.arc_base.specs.Pace.{Paced}
 use Rattle.arc_base.specs.Stepping.{Next, behaviour}
-use Rattle.arc_base.proofs.ForCallers.{agrees_by_pairs, paced_by_pairs, steady, steps_one}
+use Rattle.arc_base.proofs.ForCallers.{agrees_by_pairs, paced_by_pairs, steady, steps_one, steps_none}
 use Rattle.rv32_isa.specs.Machine.{Lives}
 use Rattle.nim_types.specs.declared.types.TypeDef.{TypeDef}
 use Rattle.nim_types.specs.Table.{IsTable}
@@ -21,18 +20,22 @@ use Rattle.flat_code.proofs.ForCallers.{agrees_as, paced_as, sound_as, sound_wit
 use Rattle.word_code.specs.Words.{WordState, is_word_code, if_formed, word_meaning, word_by_units, start as word_start, Fresh, step_of}
 use Rattle.word_code.proofs.ForCallers.{MemoryLaw, Sized}
 use Rattle.word_code.specs.declared.word.WordCode.{WordCode}
-use Rattle.word_lowering.specs.declared.lowering.TheConstants.{WORD_PACE, MOST_HEAP}
+use Rattle.word_lowering.specs.declared.lowering.TheConstants.{WORD_PACE, MOST_HEAP, WORD_LATE}
 use Rattle.word_lowering.specs.Stored.{HaveForms}
 use Rattle.word_lowering.specs.Layouts.{is_empty}
-use Rattle.word_lowering.specs.Lowered.{lowered}
+use Rattle.word_lowering.specs.LineCode.{all_labels}
+use Rattle.word_lowering.specs.Lowered.{data_of, lowered}
 use Rattle.word_lowering.specs.MayLower.{may_lower}
 use Rattle.word_lowering.specs.Lowers.{HasNoObjects, IsFitting, AreSilent, IsLowered, Lowers, LowersWithRuntime}
 use Rattle.word_lowering.specs.Runtimes.{Runtimes, with_runtimes}
+use Rattle.word_lowering.proofs.HookProcs.{HookLaws, TableBounds}
 use Rattle.word_lowering.proofs.NamedProcs.{all_apart, is_formed}
-use Rattle.word_lowering.proofs.SmallProcs.{are_small, are_ranked, unhooked, own_room}
-use Rattle.word_lowering.proofs.CodeWeights.{weight_is}
-use Rattle.word_lowering.proofs.DataSizes.{data_whole, data_sized, data_within}
-use Rattle.word_lowering.proofs.RoomBounds.{enums_may, start_most}
+use Rattle.word_lowering.proofs.SmallProcs.{are_small, capped_rank, are_ranked, capped_short, unhooked, own_room}
+use Rattle.word_lowering.proofs.DataSizes.{data_whole, data_sized, data_within, defs_within}
+use Rattle.word_lowering.proofs.FirstWrites.{writing}
+use Rattle.word_lowering.proofs.TextBytes.{texts_built}
+use Rattle.rv32_isa.specs.Regions.{AreBytes}
+use Rattle.word_lowering.proofs.RoomBounds.{start_most}
 use Rattle.word_lowering.proofs.FirstMemory.{first_memory, whole_length, good_first, sized_first, start_room}
 use Rattle.word_lowering.proofs.Related.{Both, with_rest, MemoryGood, low}
 use Rattle.word_lowering.proofs.Bounded.{IsBounded, bounded_by_pairs}
@@ -40,12 +43,15 @@ use Rattle.word_lowering.proofs.StandsAlike.{stands_alike}
 use Rattle.word_lowering.proofs.Lines.{Basis, IsGood, Pair, going, pairs, lines_left, machine}
 use Rattle.word_lowering.proofs.BasisOf.{basis_of}
 use Rattle.word_lowering.proofs.Traps.{traps_stop, labels_lead, own_labels, argument_labels}
-use Rattle.word_lowering.proofs.FirstWrites.{writing}
-use Rattle.word_lowering.proofs.EachLine.{line_settles}
+use Rattle.word_lowering.proofs.EachLine.{line_completes}
+use Rattle.word_lowering.proofs.HookBasis.{hook_basis}
 use Rattle.word_lowering.proofs.StartState.{Begins, begins}
 use Rattle.word_lowering.proofs.Sites.{Site, next_base}
 use Rattle.rv32_isa.specs.Image.{stack_at}
 use Rattle.arc_base.specs.Simulation.{Does, AreOf, Steps}
+use Rattle.arc_base.specs.Pace.{PacedFrom}
+use Rattle.word_lowering.proofs.Late.{does_more, late_paced}
+use Rattle.word_lowering.proofs.CodeWeights.{weight_is}
 
 -- ---- code that is never at a fault
 
@@ -59,8 +65,10 @@ some_procs types (p ∷ ps) heap input ok = (p, ps, refl)
 -- ---- agreement
 
 module _ (live : Lives) (none : HasNoObjects live) (table : List TypeDef) (blocks : Code BlockLine) (is_table : IsTable table) (have : HaveForms table)
-    (may : may_lower table blocks ≡ true) (runtime : Runtimes) (law : MemoryLaw) (fresh : Fresh) (heap stack : ℕ) (input : List ℕ)
-    (most : heap ≤ MOST_HEAP) (fits : IsFitting table blocks) (silent : AreSilent blocks.procs) where
+    (may : may_lower table blocks ≡ true) (runtime : Runtimes) (law : MemoryLaw) (laws : HookLaws) (bounds : TableBounds table) (fresh : Fresh) (heap stack : ℕ)
+    (input : List ℕ)
+    (most : heap ≤ MOST_HEAP) (fits : IsFitting table blocks) (silent : AreSilent blocks.procs)
+    (letters : AreBytes (data_of table blocks.procs)) (labels : all_labels blocks.procs ≤ 4294967295) where
   abbrev code : WordCode
   code = with_runtimes runtime (lowered table blocks)
 
@@ -85,10 +93,11 @@ module _ (live : Lives) (none : HasNoObjects live) (table : List TypeDef) (block
 
   module _ (p : CodeProc BlockLine) (ps : List (CodeProc BlockLine)) (some : blocks.procs ≡ p ∷ ps) where
     abbrev x : Basis
-    x = basis_of table blocks may runtime live fresh none is_table have fits silent heap stack law
+    x = basis_of laws table bounds blocks may runtime live fresh none is_table have fits labels silent heap stack law
 
     sized : Sized first
-    sized = sized_first table blocks runtime heap stack most (start_most table blocks may runtime) (data_within table blocks may) runtime.is_others.data_most
+    sized = sized_first table blocks runtime heap stack most (start_most laws table blocks may runtime) (data_within table blocks may)
+        runtime.is_others.data_most
 
     memory : (sites : List Site) → next_base sites ≡ stack_at + start_room code → MemoryGood table blocks sites first first
     memory = good_first table blocks runtime heap stack sized
@@ -106,8 +115,9 @@ module _ (live : Lives) (none : HasNoObjects live) (table : List TypeDef) (block
             (high_step (going x (with_rest g lines)))
         by [] z = λ before. tt
         by (line ∷ rest) z =
-            line_settles x (labels_lead x) (traps_stop x) (own_labels x) (argument_labels x)
-            (writing x heap stack refl is_table have not_empty (data_within table blocks may) (enums_may table blocks may)) g rest line z
+            line_completes x (labels_lead x) (traps_stop x) (own_labels x) (argument_labels x)
+            (writing x heap stack refl is_table have not_empty (data_within table blocks may) (defs_within table blocks may)) (texts_built x letters)
+            (hook_basis x is_table have) g rest line z
 
     -- and a run that stands still
     follows : (y : Pair x) → Does (machine x) (AreOf (pairs x)) (lines_left x) WORD_PACE ((pairs x).low y) ((pairs x).high y) (high_step ((pairs x).high y))
@@ -122,10 +132,10 @@ module _ (live : Lives) (none : HasNoObjects live) (table : List TypeDef) (block
 
     module _ (units : Option ℕ) where
       abbrev first_lines : Begins table blocks runtime units heap stack input live
-      first_lines = begins table blocks runtime units heap stack input is_table have fits may p ps some memory live
+      first_lines = begins table blocks runtime units heap stack input laws is_table have fits may labels p ps some memory live
 
-      -- no line of word code comes before them
-      abbrev first_steps : (behind : ℕ) × Steps low_step 0 (low_first units) [] 0 (behind, low table blocks first_lines.both)
+      -- some of word code may come before them
+      abbrev first_steps : (behind : ℕ) × Steps low_step first_lines.before (low_first units) [] first_lines.before (behind, low table blocks first_lines.both)
       first_steps = first_lines.runs.by fresh 0
 
       abbrev first_pair : Pair x
@@ -137,22 +147,39 @@ module _ (live : Lives) (none : HasNoObjects live) (table : List TypeDef) (block
       abbrev Of : (Behaviour Event → Behaviour Event → Type 0) → Type 0
       Of P = Sound (behaviour high_step (high_first units)) → P (behaviour low_step (low_first units)) (behaviour high_step (high_first units))
 
+      -- at a pace at which that is no more than one work
+      follows_late : (y : Pair x) → Does (machine x) (AreOf (pairs x)) (lines_left x) (WORD_PACE * WORD_LATE) ((pairs x).low y) ((pairs x).high y)
+          (high_step ((pairs x).high y))
+      follows_late y =
+          does_more (machine x) (AreOf (pairs x)) (lines_left x) WORD_PACE (WORD_PACE * WORD_LATE) (omega arith) ((pairs x).low y) ((pairs x).high y)
+          (high_step ((pairs x).high y)) (follows y)
+
+      few_first : first_lines.before ≤ WORD_PACE * 32
+      few_first = let few = first_lines.few in omega (arith, few)
+
+      few_late : first_lines.before ≤ WORD_PACE * WORD_LATE
+      few_late = let few = first_lines.few in omega (arith, few)
+
       agrees_run : Of (λ a b. Agrees a b)
       agrees_run ok =
           subst (λ t. Agrees (behaviour low_step (low_first units)) (behaviour high_step t)) first_same
-          (agrees_by_pairs low_step high_step (pairs x) (lines_left x) WORD_PACE 0 follows (omega arith) (low_first units) first_pair 0 first_steps.1
+          (agrees_by_pairs low_step high_step (pairs x) (lines_left x) (WORD_PACE * WORD_LATE) first_lines.before follows_late few_late
+          (low_first units) first_pair first_lines.before first_steps.1
           (subst (λ t. Sound (behaviour high_step t)) (sym first_same) ok))
 
-      paced_run : Of (λ a b. Paced WORD_PACE a b)
+      paced_run : Of (λ a b. PacedFrom WORD_PACE WORD_LATE a b)
       paced_run ok =
-          subst (λ t. Paced WORD_PACE (behaviour low_step (low_first units)) (behaviour high_step t)) first_same
-          (paced_by_pairs low_step high_step (pairs x) (lines_left x) WORD_PACE 0 follows (omega arith) (low_first units) first_pair 0 first_steps.1
-          (subst (λ t. Sound (behaviour high_step t)) (sym first_same) ok))
+          subst (λ t. PacedFrom WORD_PACE WORD_LATE (behaviour low_step (low_first units)) (behaviour high_step t)) first_same
+          (late_paced low_step (low_first units) ((pairs x).low first_pair) first_lines.before first_lines.before WORD_PACE 32 first_steps.1 few_first
+          (behaviour high_step ((pairs x).high first_pair))
+          (paced_by_pairs low_step high_step (pairs x) (lines_left x) WORD_PACE 0 follows (omega arith) ((pairs x).low first_pair) first_pair 0
+          (steps_none low_step ((pairs x).low first_pair) 0) (subst (λ t. Sound (behaviour high_step t)) (sym first_same) ok)))
 
-      bounded_run : Of (λ a b. IsBounded WORD_PACE a b)
+      bounded_run : Of (λ a b. IsBounded WORD_PACE WORD_LATE a b)
       bounded_run ok =
-          subst (λ t. IsBounded WORD_PACE (behaviour low_step (low_first units)) (behaviour high_step t)) first_same
-          (bounded_by_pairs low_step high_step (pairs x) (lines_left x) WORD_PACE follows (low_first units) first_pair 0 first_steps.1
+          subst (λ t. IsBounded WORD_PACE WORD_LATE (behaviour low_step (low_first units)) (behaviour high_step t)) first_same
+          (bounded_by_pairs low_step high_step (pairs x) (lines_left x) WORD_PACE WORD_LATE first_lines.before follows few_late (low_first units)
+          first_pair first_lines.before first_steps.1
           (subst (λ t. Sound (behaviour high_step t)) (sym first_same) ok))
 
   -- the same of code that is well formed
@@ -164,7 +191,7 @@ module _ (live : Lives) (none : HasNoObjects live) (table : List TypeDef) (block
   if_formed_so units P h ok =
       let some = some_procs (known_in table) blocks.procs heap input ok in
       subst (λ b. P (if_formed b (behaviour low_step (low_first units))) (behaviour high_step (high_first units)))
-      (sym (is_formed table blocks may runtime)) (h some.0 some.1 some.2)
+      (sym (is_formed laws table blocks may runtime)) (h some.0 some.1 some.2)
 
   -- with as many units as there are it is the machine that doesn't count
   free : (n : ℕ) → behaviour high_step (high_first None) n ≡ block_meaning table blocks heap input n
@@ -184,12 +211,12 @@ module _ (live : Lives) (none : HasNoObjects live) (table : List TypeDef) (block
       (if_formed_so None (λ a b. Agrees a b) (λ p ps some. agrees_run p ps some None (sound_free ok)) ok)
 
   paced : Sound (block_meaning table blocks heap input)
-      → Paced WORD_PACE (word_meaning live code fresh heap stack input) (block_meaning table blocks heap input)
+      → PacedFrom WORD_PACE WORD_LATE (word_meaning live code fresh heap stack input) (block_meaning table blocks heap input)
   unfolding word_start
   paced ok =
-      paced_as WORD_PACE 1 (word_meaning live code fresh heap stack input) (behaviour high_step (high_first None))
+      paced_as WORD_PACE WORD_LATE (word_meaning live code fresh heap stack input) (behaviour high_step (high_first None))
       (block_meaning table blocks heap input) free
-      (if_formed_so None (λ a b. Paced WORD_PACE a b) (λ p ps some. paced_run p ps some None (sound_free ok)) ok)
+      (if_formed_so None (λ a b. PacedFrom WORD_PACE WORD_LATE a b) (λ p ps some. paced_run p ps some None (sound_free ok)) ok)
 
   -- where block code stands still
   still : (units : ℕ) → (lines : ℕ) × ((more : ℕ) → behaviour high_step (high_first (Some units)) (lines + more)
@@ -217,28 +244,29 @@ module _ (live : Lives) (none : HasNoObjects live) (table : List TypeDef) (block
 
   -- it does at most so many times the work of block code at some moment
   bounded_counted : (units : ℕ) → Sound (block_meaning table blocks heap input)
-      → IsBounded WORD_PACE (word_by_units live code fresh heap stack input units) (block_within table blocks units heap input)
+      → IsBounded WORD_PACE WORD_LATE (word_by_units live code fresh heap stack input units) (block_within table blocks units heap input)
   bounded_counted units ok =
-      if_formed_so (Some units) (λ a b. IsBounded WORD_PACE a b) (λ p ps some. bounded_run p ps some (Some units) (sound_counted units ok)) ok
+      if_formed_so (Some units) (λ a b. IsBounded WORD_PACE WORD_LATE a b) (λ p ps some. bounded_run p ps some (Some units) (sound_counted units ok)) ok
 
 -- ---- the whole
 
 module _ (table : List TypeDef) (blocks : Code BlockLine) (is_table : IsTable table) (have : HaveForms table) (may : may_lower table blocks ≡ true)
-    (law : MemoryLaw) where
+    (law : MemoryLaw) (laws : HookLaws) (bounds : TableBounds table) (letters : AreBytes (data_of table blocks.procs))
+    (labels : all_labels blocks.procs ≤ 4294967295) where
   lowers_with : (runtime : Runtimes) → Lowers table blocks (with_runtimes runtime (lowered table blocks))
   lowers_with runtime = record {
     agrees = λ live fresh heap stack input none most fits silent ok.
-        agrees live none table blocks is_table have may runtime law fresh heap stack input most fits silent ok;
+        agrees live none table blocks is_table have may runtime law laws bounds fresh heap stack input most fits silent letters labels ok;
     paced = λ live fresh heap stack input none most fits silent ok.
-        paced live none table blocks is_table have may runtime law fresh heap stack input most fits silent ok;
+        paced live none table blocks is_table have may runtime law laws bounds fresh heap stack input most fits silent letters labels ok;
     exact = λ live fresh heap stack input none most fits silent ok units.
-        exact_counted live none table blocks is_table have may runtime law fresh heap stack input most fits silent units ok;
+        exact_counted live none table blocks is_table have may runtime law laws bounds fresh heap stack input most fits silent letters labels units ok;
     bounded = λ live fresh heap stack input none most fits silent ok units.
-        bounded_counted live none table blocks is_table have may runtime law fresh heap stack input most fits silent units ok;
-    formed = is_formed table blocks may runtime;
-    rank = runtime.rank;
-    ranked = are_ranked table blocks runtime;
-    chain = runtime.chain;
+        bounded_counted live none table blocks is_table have may runtime law laws bounds fresh heap stack input most fits silent letters labels units ok;
+    formed = is_formed laws table blocks may runtime;
+    rank = capped_rank laws table blocks runtime is_table have bounds.short;
+    ranked = are_ranked laws table blocks runtime is_table have bounds.short;
+    chain = capped_short laws table blocks runtime is_table have bounds.short;
     small = are_small table blocks may runtime;
     whole = let l = whole_length table blocks runtime 0 0 in let own = data_whole table blocks in let w = runtime.is_others.whole in omega (arith, l, own, w);
     data_most =
@@ -246,21 +274,22 @@ module _ (table : List TypeDef) (blocks : Code BlockLine) (is_table : IsTable ta
         let own = data_within table blocks may in
         let few = runtime.is_others.data_most in
         omega (arith, l, own, few);
-    hooks = unhooked table blocks runtime;
+    hooks = unhooked laws table blocks runtime;
   }
 
   pub lowers : LowersWithRuntime table blocks (lowered table blocks)
   lowers = record {
-    apart = all_apart table blocks may;
+    apart = all_apart laws table blocks may;
     room = own_room table blocks;
     lowers = lowers_with;
-    weight = weight_is table blocks may;
+    weight = weight_is laws table blocks;
     whole = data_whole table blocks;
     data_size = data_sized table blocks;
   }
 
 -- of the code that is given
-pub lowers_given : (table : List TypeDef) (blocks : Code BlockLine) (words : WordCode) → IsTable table → HaveForms table → MemoryLaw
-    → IsLowered table blocks words → LowersWithRuntime table blocks words
-lowers_given table blocks words is_table have law given =
-    subst (LowersWithRuntime table blocks) (sym given.is) (lowers table blocks is_table have given.may law)
+pub lowers_given : (table : List TypeDef) (blocks : Code BlockLine) (words : WordCode) → IsTable table → HaveForms table → MemoryLaw → HookLaws
+    → TableBounds table → AreBytes (data_of table blocks.procs) → all_labels blocks.procs ≤ 4294967295 → IsLowered table blocks words →
+    LowersWithRuntime table blocks words
+lowers_given table blocks words is_table have law laws bounds letters labels given =
+    subst (LowersWithRuntime table blocks) (sym given.is) (lowers table blocks is_table have given.may law laws bounds letters labels)

@@ -1,11 +1,14 @@
 -- The procedures of block code are as the relation wants them: from tests that are true of it.
-use Rattle.std.proofs.Common.{◌≡◌, ◌⊎◌, inl, inr, ℕ, ◌+◌, ◌≤◌, ◌<◌, List, ◌++◌, map, [], not, ◌&&◌}
+use Rattle.std.proofs.Common.{◌≡◌, ◌⊎◌, inl, inr, ℕ, ◌+◌, ◌≤◌, ◌<◌, List, ◌∷◌, ◌++◌, length, map, [], not, ◌&&◌, if◌then◌else◌}
+use Rattle.std.proofs.lemmas.Bool.{and_parts, not-true}
 use Rattle.std.proofs.Common.{Some, None, Bool, true, false}
-use Rattle.std.proofs.Common.{refl, sym, ap, subst, ◌∙◌, arith}
+use Rattle.std.proofs.Common.{refl, sym, ap, ap₂, subst, ◌∙◌, arith}
 use Rattle.nim_types.specs.declared.types.TypeDef.{TypeDef}
-use Rattle.nim_types.specs.Types.{Ty}
-use Rattle.nim_types.specs.Table.{facts_in, IsTable}
+use Rattle.nim_types.specs.Types.{Ty, same}
+use Rattle.nim_types.specs.Table.{facts_in, type_at, types_in, IsTable}
+use Rattle.nim_types.proofs.ForCallers.{same_sound}
 use Rattle.flat_code.specs.declared.line.Line.{Line}
+use Rattle.flat_code.specs.declared.line.Line.TheVariants as L
 use Rattle.flat_code.specs.declared.place.PlaceKind.{PlaceKind}
 use Rattle.flat_code.specs.declared.place.PlaceKind.TheVariants as K
 use Rattle.flat_code.specs.declared.place.FlatPlace.{FlatPlace}
@@ -17,36 +20,90 @@ use Rattle.flat_code.specs.Shapes.{shape_of}
 use Rattle.flat_code.specs.Codes.{block_plain, block_label}
 use Rattle.flat_code.specs.Running.{from_label}
 use Rattle.flat_code.specs.Fits.{is_value, is_location, is_declared, is_global, is_own, is_standing, place_named, place_type, if_type_of, if_kind, result_at}
-use Rattle.flat_code.specs.Fits.{are_within, all_fit, params_at, results_at, follow}
+use Rattle.flat_code.specs.Fits.{are_within, all_fit, params_at, results_at, follow, type_by_kind}
 use Rattle.word_lowering.specs.declared.homes.Alias.{Alias}
 use Rattle.word_lowering.specs.declared.homes.Alias.TheVariants as alias
 use Rattle.word_lowering.specs.declared.homes.Housed.{Housed}
+use Rattle.word_lowering.specs.declared.homes.Waiter.{Waiter}
 use Rattle.word_lowering.specs.declared.homes.Free.{Free}
 use Rattle.word_lowering.specs.declared.homes.Layout.{Layout}
 use Rattle.word_lowering.specs.declared.texts.TheConstants.{FIXED_BYTES}
 use Rattle.word_lowering.specs.declared.may_lower.TheConstants.{MOST_ROOM}
-use Rattle.nim_types.specs.Forms.{hooked, form_of}
-use Rattle.word_lowering.specs.Stored.{HaveForms}
-use Rattle.word_lowering.specs.Aliases.{value_to, location_to, alias_in, alias_for, addressed, is_among, standing}
+use Rattle.word_lowering.specs.Stored.{HaveForms, is_hooked}
+use Rattle.word_lowering.specs.Aliases.{value_to, location_to, alias_by, alias_in, alias_for, addressed, homed, is_among, is_it, own_literal, own_where}
+use Rattle.word_lowering.specs.Aliases.{standing, texts_of}
+use Rattle.word_lowering.specs.WaitingCode.{waiter_at}
 use Rattle.word_lowering.specs.Layouts.{free_at, layout_of, housed, all_housed, behind_all, found, result_in, owns, address_by}
+use Rattle.word_lowering.specs.LineCode.{labels_in}
 use Rattle.word_lowering.specs.Lowered.{start_layout}
-use Rattle.word_lowering.specs.MayLower.{is_plain, is_text, all_plain, lines_may, labels_once, result_end, placed_end}
-use Rattle.word_lowering.proofs.AliasFits.{GivenBy, given_by, Rooted, rooted, entered, no_text_location, Written, value_name}
+use Rattle.word_lowering.specs.MayLower.{is_known, all_known, has_code, homed_by, is_as, is_value_as, leads_right, line_may, lines_may, labels_once, own_values}
+use Rattle.word_lowering.specs.MayLower.{result_end, placed_end}
+use Rattle.word_lowering.proofs.AllWaiters.{are_waiters}
+use Rattle.word_lowering.proofs.TypeShapes.{type_many}
+use Rattle.word_lowering.proofs.AliasFits.{GivenBy, given_by, Rooted, rooted, entered, Written, value_name}
 use Rattle.word_lowering.proofs.HomesApart.{all_apart, all_between}
 use Rattle.word_lowering.proofs.LabelsFirst.{first_one}
 use Rattle.word_lowering.proofs.LayoutBounds.{room_whole}
 use Rattle.word_lowering.proofs.Options.{none_some, some_same}
-use Rattle.word_lowering.proofs.PlaceFacts.{own_declared, global_is, declared_own, each_among, plain_among, all_aligned, comes, IsFound, place_unlent}
+use Rattle.word_lowering.proofs.PlaceFacts.{own_declared, global_is, declared_own, each_among, known_among, all_aligned, comes, IsFound, place_unlent}
 use Rattle.word_lowering.proofs.PlaceFacts.{IsMissing, find, found_there, numbers_within, one_found, ResultAt, result_cases, housing, kept_in_variable}
-use Rattle.word_lowering.proofs.PlaceFacts.{addressed_in_memory, global_home, place_numbers, place_unhooked, place_bare, place_shape_bytes, place_is_word}
+use Rattle.word_lowering.proofs.PlaceFacts.{addressed_in_memory, global_home, place_numbers, place_unhooked, place_built, place_many, place_shape_bytes}
+use Rattle.word_lowering.proofs.PlaceFacts.{place_is_word}
 use Rattle.word_lowering.proofs.PlaceFacts.{place_rows, place_parts}
-use Rattle.word_lowering.proofs.ShapeFacts.{never, of_numbers}
-use Rattle.word_lowering.proofs.Sites.{Body, room, type_of, looks, Among, There, InMemory, data_end, sigs, globals_of, HasTexts, IsHoused, IsGlobal, has_hooks}
-use Rattle.word_lowering.proofs.Sites.{ResultIs, place_among, IsTextual, IsBody}
+use Rattle.word_lowering.proofs.ShapeFacts.{never}
+use Rattle.word_lowering.proofs.Sites.{Body, room, type_of, Among, There, InMemory, data_end, sigs, globals_of, HasTexts, IsHoused, IsGlobal}
+use Rattle.word_lowering.proofs.Sites.{ResultIs, place_among, IsTextual, IsBody, IsKeptAt}
 use Rattle.word_code.specs.declared.word.TheConstants.{SPARE_ROOM}
-use Rattle.word_lowering.proofs.WaiterHomes.{nothing_waits, room_whole_behind, waiters_datum, waiters_grow}
-use Rattle.word_lowering.specs.WaitingCode.{waiter_at}
-use Rattle.word_lowering.specs.declared.homes.Waiter.{Waiter}
+use Rattle.word_lowering.proofs.StandingAliases.{own_or_literal, own_or_same, still_value}
+use Rattle.word_lowering.proofs.WaiterHomes.{room_whole_behind, waiters_datum, waiters_grow}
+use Rattle.word_lowering.proofs.WaiterFound.{MayWait, node_of, place_among_named, waiter_there, waits_temporary}
+use Rattle.word_lowering.proofs.WaiterTypes.{home_at, typed_at}
+use Rattle.flat_code.specs.Waits.{all_wait_right, if_waits, wait_once, waiting_as, waits_in}
+
+-- ---- what lines say of locations within values
+
+no_value : {A : Type 0} (t : ℕ) → alias.Own ≡ alias.Value t → A
+no_value t e = absurd cc
+
+place_no_value : {A : Type 0} (p : ℕ) (global : Bool) (t : ℕ) → alias.Place p global ≡ alias.Value t → A
+place_no_value p global t e = absurd cc
+
+node_no_value : {A : Type 0} (n t : ℕ) → alias.Node n ≡ alias.Value t → A
+node_no_value n t e = absurd cc
+
+same_value : (t u : ℕ) → alias.Value t ≡ alias.Value u → t ≡ u
+same_value t u e = cc
+
+module _ (table : List TypeDef) (hs : List Housed) (t u : ℕ) where
+  abbrev EntersPlain : Type 0
+  EntersPlain = is_hooked table (found is_value u hs).ty ≡ false
+
+  entered_by : (line : Line) (behind : ℕ) → is_it t (location_to line) ≡ true → alias_by line behind ≡ alias.Value u → leads_right table hs line ≡ true
+      → EntersPlain
+  entered_by (L.Root to place global) behind i e h = place_no_value place global u e
+  entered_by (L.Fresh to from None) behind i e h =
+      subst (λ k. is_hooked table (found is_value k hs).ty ≡ false) (same_value from u e) (not-true (is_hooked table (found is_value from hs).ty) h)
+  entered_by (L.Fresh to from (Some node)) behind i e h = node_no_value node u e
+  entered_by (L.Constant to how ty pieces) behind i e h = never i
+  entered_by line behind i e h = no_value u e
+
+  pub entered_plain : (stood : List ℕ) (lines : List Line) → lines_may table hs stood lines ≡ true → alias_in location_to t lines ≡ alias.Value u → EntersPlain
+  entered_plain stood [] may e = no_value u e
+  entered_plain stood (line ∷ rest) may e = by (is_it t (location_to line)) refl (entered_plain stood rest (and_parts _ _ may).1)
+    where
+      name : Alias
+      name = alias_by line (length (texts_of rest))
+
+      tested : leads_right table hs line ≡ true
+      tested =
+          let m = and_parts (is_value_as hs (value_to line) name) _ (and_parts (line_may table hs stood line (length (texts_of rest))) _ may).0 in
+          let n = and_parts (is_as is_location hs (location_to line) (own_where stood name)) _ m.1 in
+          let c = and_parts (has_code table line) _ n.1 in
+          (and_parts (own_values hs (homed_by line)) (leads_right table hs line) c.1).1
+
+      by : (b : Bool) → is_it t (location_to line) ≡ b → (alias_in location_to t rest ≡ alias.Value u → EntersPlain) → EntersPlain
+      by true i go = entered_by line (length (texts_of rest)) i (sym (ap (λ b. if b then name else alias_in location_to t rest) i) ∙ e) tested
+      by false i go = go (sym (ap (λ b. if b then name else alias_in location_to t rest) i) ∙ e)
 
 module _ (table : List TypeDef) (blocks : Code BlockLine) where
   -- what is tested of a procedure
@@ -54,9 +111,12 @@ module _ (table : List TypeDef) (blocks : Code BlockLine) where
     pub order : are_within proc.first (proc.first + proc.span) proc.places ≡ true
     pub first : follow proc.first (params_at proc.places ++ results_at proc.places) ≡ true
     pub fits : all_fit (known_in table) (sigs table blocks) (globals_of table blocks) proc.places (map block_plain proc.lines) ≡ true
-    pub plain : all_plain table (layout_of table start FIXED_BYTES proc).all ≡ true
-    pub may : lines_may table (layout_of table start FIXED_BYTES proc).all (map block_plain proc.lines) ≡ true
+    pub known : all_known table (layout_of table start FIXED_BYTES proc).all ≡ true
+    pub rightly : all_wait_right block_plain (known_in table) proc.places proc.lines ≡ true
+    pub alone : wait_once proc.places ≡ true
+    pub may : lines_may table (layout_of table start FIXED_BYTES proc).all (standing (map block_plain proc.lines)) (map block_plain proc.lines) ≡ true
     pub once : labels_once (map block_plain proc.lines) ≡ true
+    pub labels : labels_in (map block_plain proc.lines) ≤ 4294967295
     pub room : (layout_of table start FIXED_BYTES proc).free.byte ≤ MOST_ROOM
     pub handed : result_end (result_in (layout_of table start FIXED_BYTES proc).all) ≤ SPARE_ROOM
 
@@ -101,24 +161,22 @@ module _ (table : List TypeDef) (blocks : Code BlockLine) where
 
     -- ---- homes
 
-    plain_here : (h : Housed) → Among h all → is_plain table h.ty h.alias h.kind ≡ true
-    plain_here h i = plain_among table all h is.plain i
+    known_here : (h : Housed) → Among h all → is_known table h.ty h.kind ≡ true
+    known_here h i = known_among table all h is.known i
 
     one_housed : (f : Free) (p : FlatPlace) → Among (housed table start lines f p) all → (housed table start lines f p).alias ≡ alias.Own
         → IsHoused table blocks b (housed table start lines f p)
     one_housed f p a own =
         let h : Housed = housed table start lines f p in
-        let plain : is_plain table p.ty alias.Own p.kind ≡ true = subst (λ z. is_plain table p.ty z p.kind ≡ true) own (plain_here h a) in
-        let numbers = place_numbers table is_table have p.kind p.ty alias.Own refl plain in
         record {
           bytes = place_shape_bytes table is_table have p.kind p.ty;
-          word = place_is_word table is_table have p.kind p.ty numbers;
+          word = place_is_word table is_table have p.kind p.ty (place_built table is_table have p.kind p.ty (known_here h a));
           where_is = housing table start lines (room b) FIXED_BYTES (data_end table blocks) f p least most (omega arith) within (omega arith) ends own
               (each_among _ all h (all_between table start lines least proc.places) a own)
               (each_among _ all h (all_aligned table start lines least proc.places (record { byte = refl; datum = refl })) a own);
           kept = kept_in_variable table start lines f p own;
-          numbers = λ h. numbers;
-          unhooked = λ h. place_unhooked table is_table have p.kind p.ty alias.Own refl plain;
+          numbers = place_numbers table is_table have p.kind p.ty;
+          unhooked = place_unhooked table is_table have p.kind p.ty;
           unlent = λ h. place_unlent table p.kind p.ty (is_among p.number (standing lines)) h;
           rows = place_rows table is_table have p.kind p.ty;
           fields = place_parts table is_table have p.kind p.ty;
@@ -164,6 +222,46 @@ module _ (table : List TypeDef) (blocks : Code BlockLine) where
         by (inl r) = none_some r.place (sym e ∙ r.named)
         by (inr r) = r.none (found is_kind n all) t.among t.number t.kind
 
+    -- what waits of temporaries
+    typed_there : (node : ℕ) (ty : Ty) (w : Waiter) → waiting_as (known_in table) proc.places node ty ≡ true → waiter_at node b.own.waiters ≡ Some w
+        → (type_at (types_in table) w.ty ≡ ty) × (is_known table w.ty K.Temp ≡ true)
+    typed_there node ty w waits is_there =
+        let r = typed_at table start lines (λ p. same (place_type (known_in table) p) ty) least most proc.places node w is.alone waits is_there in
+        let p : FlatPlace = r.place in
+        let temp : p.kind ≡ K.Temp = waits_temporary table start lines proc.places p node is.alone r.among r.waits in
+        let h = home_at table start lines least proc.places p r.among in (
+          ap (type_at (types_in table)) r.type_is
+              ∙ (sym (ap (λ kind. type_by_kind kind (type_at (types_in table) p.ty)) temp)
+              ∙ same_sound (place_type (known_in table) p) ty r.holds_is),
+          ap₂ (λ ty kind. is_known table ty kind) (r.type_is ∙ sym h.type_is) (sym (h.kind ∙ temp)) ∙ known_here h.home h.among,
+        )
+
+    kept_there : (t node : ℕ) → waits_in (known_in table) proc.places t node ≡ true → There all is_value t → (found is_value t all).alias ≡ alias.Own
+        → is_hooked table (found is_value t all).ty ≡ true → IsKeptAt table blocks b (found is_value t all) node
+    kept_there t node waits there own hooks = by (by_name is_value t)
+      where
+        by : IsFound table start lines least proc.places is_value t ⊎ IsMissing table start lines least proc.places is_value t
+            → IsKeptAt table blocks b (found is_value t all) node
+        by (inr r) = absurd (r.none (found is_value t all) there.among there.number there.kind)
+        by (inl r) =
+            let given : r.place.waits ≡ Some node = node_of r.place.waits node (subst (λ o. if_waits node o ≡ true) r.named waits) in
+            let among = place_among_named table start lines proc.places t r.place r.named in
+            let kind : r.place.kind ≡ K.Temp = waits_temporary table start lines proc.places r.place node is.alone among given in
+            let may : MayWait table start lines r.place node = record {
+              kind = kind;
+              alias = sym (ap (λ (z : Housed). z.alias) r.is) ∙ own;
+              hooked = sym (ap (λ (z : Housed). is_hooked table z.ty) r.is) ∙ hooks;
+              waits = given;
+            } in
+            let w = waiter_there table start lines least most proc.places r.place node is.alone among may in
+            record {
+              waiter = w.0;
+              is = w.1;
+              type_is = w.2 ∙ sym (ap (λ (z : Housed). z.ty) r.is);
+              bytes = w.3 ∙ sym (ap (λ (z : Housed). z.bytes) r.is);
+              kind = ap (λ (z : Housed). z.kind) r.is ∙ kind;
+            }
+
     -- the kinds of a place are the same
     kind_same : (is : PlaceKind → Bool) → is K.Temp ≡ false → (n : ℕ)
         → if_kind is (place_named is_location proc.places n) ≡ is (found is_location n all).kind
@@ -183,16 +281,24 @@ module _ (table : List TypeDef) (blocks : Code BlockLine) where
         → (h.alias ≡ alias.Own) ⊎ (h.alias ≡ alias_in value_to h.number lines)
     temp_name h i v = by h.kind v (named_so h i)
       where
+        literal_name : (own_literal (homed lines) h.number (alias_in value_to h.number lines) ≡ alias.Own)
+            ⊎ (own_literal (homed lines) h.number (alias_in value_to h.number lines) ≡ alias_in value_to h.number lines)
+            → h.alias ≡ own_literal (homed lines) h.number (alias_in value_to h.number lines)
+            → (h.alias ≡ alias.Own) ⊎ (h.alias ≡ alias_in value_to h.number lines)
+        literal_name (inl own) e = inl (e ∙ own)
+        literal_name (inr same) e = inr (e ∙ same)
+
         by : (kind : PlaceKind) → is_value kind ≡ true → h.alias ≡ alias_for kind h.number lines
             → (h.alias ≡ alias.Own) ⊎ (h.alias ≡ alias_in value_to h.number lines)
-        by K.Temp v e = inr e
+        by K.Temp v e = literal_name (own_or_literal (homed lines) h.number (alias_in value_to h.number lines)) e
         by K.Counter v e = inl e
         by kind v e = never v
 
-    location_name : (h : Housed) → Among h all → is_location h.kind ≡ true → h.alias ≡ alias_in location_to h.number lines
+    location_name : (h : Housed) → Among h all → is_location h.kind ≡ true → h.alias ≡ own_where (standing lines) (alias_in location_to h.number lines)
     location_name h i l = by h.kind l (named_so h i)
       where
-        by : (kind : PlaceKind) → is_location kind ≡ true → h.alias ≡ alias_for kind h.number lines → h.alias ≡ alias_in location_to h.number lines
+        by : (kind : PlaceKind) → is_location kind ≡ true → h.alias ≡ alias_for kind h.number lines
+            → h.alias ≡ own_where (standing lines) (alias_in location_to h.number lines)
         by K.Location l e = e
         by K.Within l e = e
         by kind l e = never l
@@ -234,41 +340,18 @@ module _ (table : List TypeDef) (blocks : Code BlockLine) where
         ⊎ GivenBy (known_in table) (sigs table blocks) (globals_of table blocks) proc.places location_to t (found is_location t all).alias
     location_given t there =
         let h : Housed = found is_location t all in
-        let e : h.alias ≡ alias_in location_to t lines =
-        location_name h there.among there.kind ∙ ap (λ n. alias_in location_to n lines) there.number in
-        subst (λ a. (a ≡ alias.Own) ⊎ GivenBy (known_in table) (sigs table blocks) (globals_of table blocks) proc.places location_to t a) (sym e)
-        (given_by (known_in table) (sigs table blocks) (globals_of table blocks) proc.places location_to t lines is.fits)
-
-    -- for a text none is another name
-    no_text_at : (t : ℕ) → There all is_location t → is_text (found is_location t all).alias ≡ false
-    no_text_at t there = by (found is_location t all).alias refl (location_given t there)
+        let e : h.alias ≡ own_where (standing lines) (alias_in location_to t lines) =
+        location_name h there.among there.kind ∙ ap (λ n. own_where (standing lines) (alias_in location_to n lines)) there.number in
+        by h.alias e (own_or_same (standing lines) (alias_in location_to t lines))
       where
-        by : (a : Alias) → (found is_location t all).alias ≡ a → ((found is_location t all).alias ≡ alias.Own)
-            ⊎ GivenBy (known_in table) (sigs table blocks) (globals_of table blocks) proc.places location_to t (found is_location t all).alias
-            → is_text (found is_location t all).alias ≡ false
-        by alias.Own e g = ap is_text e
-        by (alias.Place p global) e g = ap is_text e
-        by (alias.Value u) e g = ap is_text e
-        by (alias.Node n) e g = ap is_text e
-        by (alias.Text behind bytes) e (inl own) = ap is_text own
-        by (alias.Text behind bytes) e (inr g) =
-            absurd (no_text_location (known_in table) (sigs table blocks) (globals_of table blocks) proc.places t behind bytes
-            (subst (GivenBy (known_in table) (sigs table blocks) (globals_of table blocks) proc.places location_to t) e g))
-
-    locations_are : (t : ℕ) → There all is_location t → of_numbers (looks table (found is_location t all)) ≡ true
-    locations_are t there =
-        place_numbers table is_table have (found is_location t all).kind (found is_location t all).ty (found is_location t all).alias
-        (no_text_at t there) (plain_here (found is_location t all) there.among)
-
-    locations_plain : (t : ℕ) → There all is_location t → hooked (form_of (facts_in table) (type_of table (found is_location t all))) ≡ false
-    locations_plain t there =
-        place_unhooked table is_table have (found is_location t all).kind (found is_location t all).ty (found is_location t all).alias
-        (no_text_at t there) (plain_here (found is_location t all) there.among)
-
-    locations_bare : (t : ℕ) → There all is_location t → has_hooks table (found is_location t all) ≡ false
-    locations_bare t there =
-        place_bare table is_table have (found is_location t all).kind (found is_location t all).ty (found is_location t all).alias
-        (no_text_at t there) (plain_here (found is_location t all) there.among)
+        by : (a : Alias) → a ≡ own_where (standing lines) (alias_in location_to t lines)
+            → (own_where (standing lines) (alias_in location_to t lines) ≡ alias.Own)
+            ⊎ (own_where (standing lines) (alias_in location_to t lines) ≡ alias_in location_to t lines)
+            → (a ≡ alias.Own) ⊎ GivenBy (known_in table) (sigs table blocks) (globals_of table blocks) proc.places location_to t a
+        by a e (inl own) = inl (e ∙ own)
+        by a e (inr same) =
+            subst (λ a. (a ≡ alias.Own) ⊎ GivenBy (known_in table) (sigs table blocks) (globals_of table blocks) proc.places location_to t a)
+            (sym (e ∙ same)) (given_by (known_in table) (sigs table blocks) (globals_of table blocks) proc.places location_to t lines is.fits)
 
     aliased_is : (t p : ℕ) (global : Bool) → There all is_location t → (found is_location t all).alias ≡ alias.Place p global
         → if_type_of (known_in table) (place_among table blocks b p global) ≡ Some (type_of table (found is_location t all))
@@ -372,12 +455,6 @@ module _ (table : List TypeDef) (blocks : Code BlockLine) where
         ap (from_label block_label name) whole
         ∙ first_one before after name there (subst (λ ls. labels_once (map block_plain ls) ≡ true) whole is.once) e
 
-    nothing : (body_at start proc literals number).own.waiters ≡ []
-    nothing = nothing_waits table start lines least most proc.places is.plain
-
-    none_there : (node : ℕ) (w : Waiter) → waiter_at node (body_at start proc literals number).own.waiters ≡ Some w → ⊥
-    none_there node w e = none_some w (sym (ap (waiter_at node) nothing) ∙ e)
-
     pub is_body : IsBody table blocks (body_at start proc literals number)
     is_body = record {
       named = named_is;
@@ -386,11 +463,18 @@ module _ (table : List TypeDef) (blocks : Code BlockLine) where
       named_so = named_so;
       values = values_are;
       places = places_are;
-      locations = λ t there h. locations_are t there;
-      plain_locations = λ t there h. locations_plain t there;
-      plain = λ h i own. place_bare table is_table have h.kind h.ty h.alias (ap is_text own) (plain_here h i);
-      plain_led = locations_bare;
-      built = λ h i own hooks. never (sym (place_bare table is_table have h.kind h.ty h.alias (ap is_text own) (plain_here h i)) ∙ hooks);
+      locations = λ t there. place_numbers table is_table have (found is_location t all).kind (found is_location t all).ty;
+      plain_locations = λ t there. place_unhooked table is_table have (found is_location t all).kind (found is_location t all).ty;
+      known = known_here;
+      handles = λ h i. place_built table is_table have h.kind h.ty (known_here h i);
+      words = λ h i. place_is_word table is_table have h.kind h.ty (place_built table is_table have h.kind h.ty (known_here h i));
+      entered = λ t u there e.
+          entered_plain table all t u (standing lines) lines is.may
+          (still_value (standing lines) (alias_in location_to t lines) u
+          (sym (location_name (found is_location t all) there.among there.kind
+          ∙ ap (λ n. own_where (standing lines) (alias_in location_to n lines)) there.number)
+          ∙ e));
+      built = λ h i hooks. (place_built table is_table have h.kind h.ty (known_here h i), place_many table is_table have h.kind h.ty hooks);
       aliased = aliased_is;
       valued = valued_is;
       standing = λ n h. sym (standing_same n) ∙ h;
@@ -403,14 +487,12 @@ module _ (table : List TypeDef) (blocks : Code BlockLine) where
       fits = is.fits;
       may = is.may;
       once = once_is;
+      labels = is.labels;
       result = result_by (result_cases table start lines least proc.places);
-      waiters = nothing;
-      waiting = record {
-        housed = λ node w e. absurd (none_there node w e);
-        variable = λ node w e. absurd (none_there node w e);
-        behind = λ node w e h i own. absurd (none_there node w e);
-        apart = λ n m w u ne e f. absurd (none_there n w e);
-      };
+      rightly = is.rightly;
+      kept_at = kept_there;
+      typed_at = typed_there;
+      waiting = are_waiters table blocks is_table have (λ ty h. type_many table is_table have ty h) start proc literals number;
       room_whole = room_whole_behind table start lines least most proc.places (room_whole table start lines least proc.places refl);
       room_most = is.room;
       handed = λ h at e home.

@@ -5,10 +5,11 @@ use Rattle.arc_base.specs.Behaviour.{Behaviour, Ended, Faulted, Wrong, Seen, IsO
 use Rattle.arc_base.specs.Stepping.{Next, Goes, Ends, Faults, Errs, seen, after, run, behaviour}
 use Rattle.arc_base.proofs.ForCallers.{steady}
 use Rattle.arc_base.specs.Simulation.{Steps, Does, Pairs, AreOf}
+use Rattle.word_lowering.proofs.WaitsRight.{right}
 
--- low's work is never more than so many times that of high and one more at some moment
-abbrev pub IsBounded : ℕ → Behaviour Event → Behaviour Event → Type 0
-IsBounded c low high = (n : ℕ) → (m : ℕ) × ((low n).work ≤ c * ((high m).work + 1))
+-- low's work is never more than so many times that of high and so much more at some moment
+abbrev pub IsBounded : (c late : ℕ) → Behaviour Event → Behaviour Event → Type 0
+IsBounded c late low high = (n : ℕ) → (m : ℕ) × ((low n).work ≤ c * ((high m).work + late))
 
 -- ---- work only grows
 
@@ -47,8 +48,8 @@ module _ {S : Type 0} (step : S → Next Event S) where
 
 -- ---- beside the other machine
 
-module _ {S T : Type 0} (low : S → Next Event S) (high : T → Next Event T) (R : S → T → Type 0) (rank : T → ℕ) (c : ℕ)
-    (does : (s : S) (t : T) → R s t → Does low R rank c s t (high t)) (start : S) where
+module _ {S T : Type 0} (low : S → Next Event S) (high : T → Next Event T) (R : S → T → Type 0) (rank : T → ℕ) (c late p : ℕ)
+    (does : (s : S) (t : T) → R s t → Does low R rank c s t (high t)) (few : p ≤ c * late) (start : S) where
   -- from the start low has come to a state in at least so many steps, with so much work at most
   record Came (least most : ℕ) (out : List Event) (s : S) : Type 0 where
     work : ℕ
@@ -73,31 +74,33 @@ module _ {S T : Type 0} (low : S → Next Event S) (high : T → Next Event T) (
 
   -- the work of low after k steps, of which so many are still to come
   abbrev Far : ℕ → Type 0
-  Far left = (s : S) (t : T) (l : ℕ) (out : List Event) (done : ℕ) → R s t → Came l (c * done) out s → SoundAt t out done → (k : ℕ) → k ≤ l + left
-      → (n : ℕ) × ((run low k start [] 0).work ≤ c * ((run high n t out done).work + 1))
+  Far left = (s : S) (t : T) (l : ℕ) (out : List Event) (done : ℕ) → R s t → Came l (c * done + p) out s → SoundAt t out done → (k : ℕ) → k ≤ l + left
+      → (n : ℕ) × ((run low k start [] 0).work ≤ c * ((run high n t out done).work + late))
 
   abbrev FarBelow : ℕ → ℕ → Type 0
-  FarBelow left r = (s : S) (t : T) (l : ℕ) (out : List Event) (done : ℕ) → rank t < r → R s t → Came l (c * done) out s → SoundAt t out done
-      → (k : ℕ) → k ≤ l + left → (n : ℕ) × ((run low k start [] 0).work ≤ c * ((run high n t out done).work + 1))
+  FarBelow left r = (s : S) (t : T) (l : ℕ) (out : List Event) (done : ℕ) → rank t < r → R s t → Came l (c * done + p) out s → SoundAt t out done
+      → (k : ℕ) → k ≤ l + left → (n : ℕ) × ((run low k start [] 0).work ≤ c * ((run high n t out done).work + late))
 
-  here : (s : S) (t : T) (l : ℕ) (out : List Event) (done : ℕ) → Came l (c * done) out s → (k : ℕ) → k ≤ l →
-      (run low k start [] 0).work ≤ c * (done + 1)
+  here : (s : S) (t : T) (l : ℕ) (out : List Event) (done : ℕ) → Came l (c * done + p) out s → (k : ℕ) → k ≤ l →
+      (run low k start [] 0).work ≤ c * (done + late)
   here s t l out done came k le =
       let b = came.by 0 in
       let h = works low k b.0 (omega (arith, le, b.1)) start [] 0 in
       let e = ap (λ (x : Seen Event). x.work) b.2 in
-      omega (arith, h, e, came.within)
+      omega (arith, h, e, came.within, few)
 
   far_step : (left r : ℕ) → Far left → FarBelow (suc left) r → (s : S) (t : T) (x : Next Event T) (l : ℕ) (out : List Event) (done : ℕ)
-      → rank t < suc r → Does low R rank c s t x → Came l (c * done) out s → SoundNext x out done → (k : ℕ) → k ≤ l + suc left
-      → (n : ℕ) × ((run low k start [] 0).work ≤ c * ((after x (run high n) out done).work + 1))
+      → rank t < suc r → Does low R rank c s t x → Came l (c * done + p) out s → SoundNext x out done → (k : ℕ) → k ≤ l + suc left
+      → (n : ℕ) × ((run low k start [] 0).work ≤ c * ((after x (run high n) out done).work + late))
   far_step left r all below s t (Goes es w u) l out done lt (v, least, steps, rel, inl some) came ok k le =
       all v u (l + least) (out ++ es) (done + w) rel
-      (came_most (l + least) (c * done + c * w) (c * (done + w)) v (out ++ es) (omega arith) (came_on l least (c * done) (c * w) s v out es came steps))
+      (came_most (l + least) (c * done + p + c * w) (c * (done + w) + p) v (out ++ es) (omega arith)
+      (came_on l least (c * done + p) (c * w) s v out es came steps))
       (record { no_fault = λ k. (ok k).0; right = λ k. (ok k).1 }) k (omega (arith, le, some))
   far_step left r all below s t (Goes es w u) l out done lt (v, least, steps, rel, inr less) came ok k le =
       below v u (l + least) (out ++ es) (done + w) (omega (arith, lt, less)) rel
-      (came_most (l + least) (c * done + c * w) (c * (done + w)) v (out ++ es) (omega arith) (came_on l least (c * done) (c * w) s v out es came steps))
+      (came_most (l + least) (c * done + p + c * w) (c * (done + w) + p) v (out ++ es) (omega arith)
+      (came_on l least (c * done + p) (c * w) s v out es came steps))
       (record { no_fault = λ k. (ok k).0; right = λ k. (ok k).1 }) k (omega (arith, le))
   far_step left r all below s t (Ends es w status live) l out done lt stops came ok k le =
       let b = came.by stops.by.0 in
@@ -105,7 +108,7 @@ module _ {S T : Type 0} (low : S → Next Event S) (high : T → Next Event T) (
       let over = (steady low start).stays b.0 (b.0 + k) (omega arith) (subst (λ (x : Seen Event). IsOver x.phase) (sym e) tt) in
       let i = works low k (b.0 + k) (omega arith) start [] 0 in
       let f = ap (λ (x : Seen Event). x.work) (over ∙ e) in
-      (0, omega (arith, i, f, came.within, stops.within))
+      (0, omega (arith, i, f, came.within, stops.within, few))
   far_step left r all below s t Faults l out done lt stops came ok k le = absurd ((ok 0).0 refl)
   far_step left r all below s t Errs l out done lt stops came ok k le = absurd ((ok 0).1 refl)
 
@@ -120,10 +123,11 @@ module _ {S T : Type 0} (low : S → Next Event S) (high : T → Next Event T) (
   far_all (suc left) s t l out done rel came ok k le =
       far_below left (far_all left) (suc (rank t)) s t l out done (omega arith) rel came ok k le
 
-  bounded_from : (s : S) (t : T) (l : ℕ) → R s t → Steps low l start [] 0 s → Sound (behaviour high t) → IsBounded c (behaviour low start) (behaviour high t)
+  bounded_from : (s : S) (t : T) (l : ℕ) → R s t → Steps low l start [] p s → Sound (behaviour high t) →
+      IsBounded c late (behaviour low start) (behaviour high t)
   bounded_from s t l rel x ok k = far_all k s t l [] 0 rel first ok k (omega arith)
     where
-      first : Came l (c * 0) [] s
+      first : Came l (c * 0 + p) [] s
       first = record {
         work = x.work;
         within = (let w = x.within in omega (arith, w));
@@ -131,12 +135,12 @@ module _ {S T : Type 0} (low : S → Next Event S) (high : T → Next Event T) (
       }
 
 -- of a relation that is given by its pairs
-module _ {S T G : Type 0} (low : S → Next Event S) (high : T → Next Event T) (R : Pairs G S T) (rank : T → ℕ) (c : ℕ)
-    (does : (g : G) → Does low (AreOf R) rank c (R.low g) (R.high g) (high (R.high g))) (start : S) (g : G) (l : ℕ)
-    (steps : Steps low l start [] 0 (R.low g)) (ok : Sound (behaviour high (R.high g))) where
+module _ {S T G : Type 0} (low : S → Next Event S) (high : T → Next Event T) (R : Pairs G S T) (rank : T → ℕ) (c late p : ℕ)
+    (does : (g : G) → Does low (AreOf R) rank c (R.low g) (R.high g) (high (R.high g))) (few : p ≤ c * late) (start : S) (g : G) (l : ℕ)
+    (steps : Steps low l start [] p (R.low g)) (ok : Sound (behaviour high (R.high g))) where
   each_does : (s : S) (t : T) → AreOf R s t → Does low (AreOf R) rank c s t (high t)
   each_does s t (h, is_low, is_high) =
       subst (λ u. Does low (AreOf R) rank c u t (high t)) is_low (subst (λ v. Does low (AreOf R) rank c (R.low h) v (high v)) is_high (does h))
 
-  pub bounded_by_pairs : IsBounded c (behaviour low start) (behaviour high (R.high g))
-  bounded_by_pairs = bounded_from low high (AreOf R) rank c each_does start (R.low g) (R.high g) l (g, refl, refl) steps ok
+  pub bounded_by_pairs : IsBounded c late (behaviour low start) (behaviour high (R.high g))
+  bounded_by_pairs = bounded_from low high (AreOf R) rank c late p each_does few start (R.low g) (R.high g) l (g, refl, refl) steps ok

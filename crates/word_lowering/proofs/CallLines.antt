@@ -39,7 +39,7 @@ use Rattle.word_lowering.proofs.CallBranches.{called_branches}
 use Rattle.word_lowering.proofs.CallLabels.{ArgumentLabels, Finds}
 use Rattle.word_lowering.proofs.Callees.{Callee}
 use Rattle.word_lowering.proofs.CheckRuns.{Checked, checked, refused}
-use Rattle.word_lowering.proofs.ControlLines.{FollowedHere, plain}
+use Rattle.word_lowering.proofs.ControlLines.{plain, SettlesHere}
 use Rattle.word_lowering.proofs.EnterLines.{entered_line}
 use Rattle.word_lowering.proofs.EnterRuns.{code_called}
 use Rattle.word_lowering.proofs.Gets.{good_with_temps}
@@ -89,7 +89,8 @@ without_type : (x : Basis) (ty : Option ℕ) → same_value None (if_type (known
 without_type x None h = refl
 without_type x (Some t) h = never h
 
-module _ (x : Basis) (labels : LabelsLead x) (traps : TrapsStop x) (own : ArgumentLabels x) (g : Both) (rest : List BlockLine) (to : ℕ) (how : UseAt)
+module _ (x : Basis) (labels : LabelsLead x) (traps : TrapsStop x) (own : ArgumentLabels x) (g : Both) (rest : List BlockLine) (to : ℕ)
+    (how : UseAt)
     (ty : Option ℕ) (proc : ℕ) (from : List From) (y : IsGood x (starts g (plain (L.Call to how ty proc from)) rest)) (calling : WordState)
     (spends : Runs x.live (all_procs x) 1 calling (at (within x.table x.blocks g) g.memory (call_code (around x.table x.blocks (body_of g))
     (label_before (map block_plain rest)) proc ty to from (code_behind x.table x.blocks (body_of g) rest)) g.call.vars g.words)) where
@@ -175,7 +176,8 @@ module _ (x : Basis) (labels : LabelsLead x) (traps : TrapsStop x) (own : Argume
 
   arguments : (xs : List Operand) → Have g.call.temps from xs → callee.body.own.runs ≡ true → Arguments xs
   arguments xs have runs = all_given x g line rest y callee label code_checked (params_in callee.body.own.all) fit.signature.takes from xs callee.params
-      fit.takes (params_apart callee.body.own.all callee.is.apart) (all_own (params_in callee.body.own.all) callee.homes) (λ h i. i) (λ t i. i) (finds runs)
+      fit.takes (params_apart callee.body.own.all callee.is.apart) (all_own (params_in callee.body.own.all) callee.homes) (λ h i. i) (λ t i. i) (λ t i. i)
+      (finds runs)
       have g.call.vars g.memory g.words y_same
 
   running_checking : (xs : List Operand) → callee.body.own.runs ≡ true → Arguments xs → Checking xs (code_called x g line rest y callee to)
@@ -303,7 +305,7 @@ module _ (x : Basis) (labels : LabelsLead x) (traps : TrapsStop x) (own : Argume
       (at (within x.table x.blocks g) a.memory_then code_checked a.vars_then a.words_then)
       = subst (λ z. Runs x.live (all_procs x) a.steps (at (within x.table x.blocks g) g.memory z g.call.vars g.words)
       (at (within x.table x.blocks g) a.memory_then code_checked a.vars_then a.words_then)) (sym (code_running runs)) a.runs in
-      entered_line x then line rest good callee (slots_for xs) a.gave left e to (answers b.vars) b.number l ls is
+      entered_line x then line rest good callee (slots_for xs) a.gave left e to (answers b.vars) refl b.number l ls is
       calling (1 + (a.steps + b.steps)) (suc (handed_bytes xs)) (omega (arith, few, few_more))
       (then_runs x.live (all_procs x) spends (then_runs x.live (all_procs x) here_runs b.runs))
 
@@ -331,8 +333,8 @@ module _ (x : Basis) (labels : LabelsLead x) (traps : TrapsStop x) (own : Argume
           (by_lines left e callee.body.proc.lines refl)
 
 pub call_line : (x : Basis) (labels : LabelsLead x) (traps : TrapsStop x) (own : ArgumentLabels x) (g : Both) (rest : List BlockLine) (to : ℕ) (how : UseAt)
-    (ty : Option ℕ) (proc : ℕ) (from : List From) → FollowedHere x labels g rest (L.Call to how ty proc from)
-call_line x labels traps own g rest to how ty proc from names y =
+    (ty : Option ℕ) (proc : ℕ) (from : List From) → SettlesHere x labels g rest (L.Call to how ty proc from)
+call_line x labels traps own g rest to how ty proc from y =
     let line = plain (L.Call to how ty proc from) in
     let start = low x.table x.blocks (starts g line rest) in
     using_all_settles x (starts g line rest) rest g.call.temps from (λ xs. Calls to proc (slots_for xs) (suc (handed_bytes xs)))

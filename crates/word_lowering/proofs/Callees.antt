@@ -1,5 +1,5 @@
 -- What a procedure is that may be called.
-use Rattle.std.proofs.Common.{◌≡◌, ℕ, ◌+◌, ◌≤◌, List, [], ◌∷◌, Some, None, true, false}
+use Rattle.std.proofs.Common.{◌≡◌, ℕ, ◌+◌, ◌≤◌, List, [], ◌∷◌, Some, None, true, false, length}
 use Rattle.std.specs.Prelude.{slice_get, not}
 use Rattle.nim_types.specs.declared.types.TypeDef.{TypeDef}
 use Rattle.flat_code.specs.declared.block.BlockLine.{BlockLine}
@@ -14,11 +14,13 @@ use Rattle.word_code.specs.Words.{from_proc}
 use Rattle.word_lowering.specs.declared.homes.Alias.TheVariants.{Own}
 use Rattle.word_lowering.specs.declared.homes.Home.TheVariants.{Placed}
 use Rattle.word_lowering.specs.declared.homes.Housed.{Housed}
-use Rattle.word_lowering.specs.Layouts.{is_empty, params_in}
+use Rattle.word_lowering.specs.Layouts.{is_empty, kept_in, params_in}
 use Rattle.word_lowering.specs.LineCode.{or_none, proc_number}
 use Rattle.word_lowering.specs.Lowered.{all_layouts, lowered, word_proc}
 use Rattle.word_lowering.proofs.Sites.{Body, around, Among, IsBody}
 use Rattle.word_lowering.proofs.FirstPlaces.{ParamsAre, Orderly}
+use Rattle.word_lowering.proofs.WaiterHomes.{AreFrom}
+use Rattle.word_lowering.specs.declared.homes.TheConstants.{OWN_FROM}
 
 pub record Callee (table : List TypeDef) (blocks : Code BlockLine) (proc : ℕ) (s : Signature) : Type 0 where
   pub body : Body
@@ -32,6 +34,9 @@ pub record Callee (table : List TypeDef) (blocks : Code BlockLine) (proc : ℕ) 
   pub homes : (h : Housed) → Among h (params_in body.own.all) → h.alias ≡ Own
   pub spare : (h : Housed) (at : ℕ) → Among h (params_in body.own.all) → h.home ≡ Placed at → at + h.bytes ≤ SPARE_ROOM
   pub orderly : Orderly table body s
+  -- variables of what waits are behind those that a caller hands on, and no more than places that may wait
+  pub waiters_from : AreFrom (OWN_FROM + kept_in (params_in body.own.all)) body.own.waiters
+  pub waiters_few : length body.own.waiters ≤ (proc_of (known_in table) body.proc).waits
   -- what has no lines takes nothing and gives nothing
   pub quiet : body.proc.lines ≡ [] → (s.takes ≡ []) × (s.gives ≡ None)
   -- and is no hook

@@ -8,14 +8,14 @@ use Rattle.flat_code.specs.declared.block.BlockLine.{BlockLine}
 use Rattle.flat_code.specs.Scene.{Temps, with_value, Returns as BlockReturns}
 use Rattle.flat_code.specs.Shapes.{has_shape}
 use Rattle.word_code.specs.Memory.{Memory}
-use Rattle.word_code.specs.Words.{Vars, no_words, put}
+use Rattle.word_code.specs.Words.{Vars, no_words, put, WordState}
 use Rattle.word_code.proofs.ForCallers.{Runs}
 use Rattle.word_lowering.specs.declared.homes.Home.TheVariants.{Variable}
 use Rattle.word_lowering.specs.declared.homes.TheConstants.{FIRST, LEFT, OWN_FROM}
 use Rattle.word_lowering.specs.Spots.{spot_of}
 use Rattle.word_lowering.proofs.HeapKept.{SameHeap}
 use Rattle.word_lowering.proofs.Keeping.{call, Edit, own_text, value_no_location, value_no_place, spot_held, beyond, value_no_waiting}
-use Rattle.word_lowering.proofs.Lines.{Basis, all_procs, starts, IsGood, Settles}
+use Rattle.word_lowering.proofs.Lines.{Basis, all_procs, starts, IsGood, Settles, IsQuiet, none_past}
 use Rattle.word_lowering.proofs.Moves.{single_word, same_first}
 use Rattle.word_lowering.proofs.Options.{some_same}
 use Rattle.word_lowering.proofs.OrdinalRuns.{put_other, put_here as put_same}
@@ -27,7 +27,7 @@ use Rattle.word_lowering.proofs.Sites.{Site}
 use Rattle.word_lowering.proofs.SitesApart.{variables_apart}
 use Rattle.word_lowering.proofs.ValueFacts.{value_plain}
 use Rattle.word_lowering.proofs.Items.{item_of}
-use Rattle.word_lowering.proofs.ShapeFacts.{of_numbers}
+use Rattle.word_lowering.proofs.ShapeFacts.{of_numbers, never}
 
 -- ---- temporaries of which one gets a value
 
@@ -57,15 +57,20 @@ module _ (x : Basis) (h : Both) (w : Waits) (ws : List Waits) (line : BlockLine)
   go = back x h w ws line rest y temps_then
 
   -- the caller comes there
-  pub settles_back : (work : ℕ) (vars : Vars) (m : Memory) (words : Vars) (awaits : ℕ) → IsGood x (go vars m words awaits) → (n : ℕ) → 0 < n
+  pub settles_back : IsQuiet x line → (work : ℕ) (vars : Vars) (m : Memory) (words : Vars) (awaits : ℕ) → IsGood x (go vars m words awaits) → (n : ℕ) → 0 < n
       → n ≤ 256 * work → Runs x.live (all_procs x) n (low x.table x.blocks (starts g line rest)) (low x.table x.blocks (go vars m words awaits))
       → Settles x (starts g line rest) rest (BlockReturns v work)
-  settles_back work vars m words awaits good n some few runs = λ before.
+  settles_back plain work vars m words awaits good n some few runs = λ before.
       let r = runs.by x.fresh before in (
         (r.0, low x.table x.blocks (go vars m words awaits)),
         n,
         record { work = r.1.work; within = omega (arith, r.1.within, few); by = r.1.by },
-        (inl (go vars m words awaits, good, r.0), refl, refl),
+        (
+          inl (go vars m words awaits, good, r.0),
+          ap (λ (u : WordState). (r.0, u)) (none_past x line rest plain (go vars m words awaits)),
+          refl,
+          λ waits. never (sym plain ∙ waits),
+        ),
         inl some,
       )
 
@@ -90,7 +95,7 @@ module _ (x : Basis) (h : Both) (w : Waits) (ws : List Waits) (line : BlockLine)
             (other t (record { among = there.among; number = there.number; kind = there.kind }));
         places = λ t away. refl;
         texts = λ t n k named e away. with_away w.call.temps w.to v t (other t named);
-        still = λ t u k. with_still w.call.temps w.to v t u k;
+        still = λ t u l k. with_still w.call.temps w.to v t u k;
         variables = λ f u there away home. same.others u (place_high x w.call.site y.linked.5.0 f u there home);
         left = same.left;
       })
@@ -116,7 +121,7 @@ module _ (x : Basis) (h : Both) (w : Waits) (ws : List Waits) (line : BlockLine)
         values = λ u is away. with_away w.call.temps w.to v u (other u away);
         places = λ u away. refl;
         texts = λ u n k named e away. with_away w.call.temps w.to v u (other u away);
-        still = λ u a e. with_still w.call.temps w.to v u a e;
+        still = λ u a l e. with_still w.call.temps w.to v u a e;
         variables = λ f u is away home. variables f u is (other_name f away) home;
         left = left;
       })

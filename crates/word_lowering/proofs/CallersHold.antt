@@ -126,9 +126,10 @@ module _ (x : Basis) (calls : List Call) (linked : Linked x.table x.blocks (map 
     worlds_then = record {
       slots = λ s n i there away. slot_then s n i;
       more = λ s n i there h. (h.0, slot_then s n i ∙ h.1);
-      roots = λ s n i there h. ap (through_slot (Standing s.level n)) (slot_then s n i);
+      roots = λ s n i there h k. ap (through_slot (Standing s.level n)) (slot_then s n i);
       waits = λ s node i away. ap (λ f. temporary_in (frame_in f).temporaries node) (frame_then s i);
       once = λ s i h. subst (λ f. AreOnce (frame_in f).temporaries) (sym (frame_then s i)) h;
+      hand = refl;
     }
 
     pub callers_hold : (k k' : Store) → Edit x.table x.blocks x.small sites linked lo (of_value 0) k.memory k'.memory → IsLater k.ground k'.ground

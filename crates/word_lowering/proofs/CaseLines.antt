@@ -217,7 +217,7 @@ module _ (x : Basis) (labels : LabelsLead x) (g : Both) (rest : List BlockLine) 
 
       goal : (p q : Bool) → int_lt high low ≡ p → int_eq low high ≡ q → Goal (number_of v)
       goal true q e f =
-          where_settles x g line rest y labels (branch (int_le low (number_of v)) (int_le (number_of v) high) false) name
+          where_settles x g line rest y labels refl (branch (int_le low (number_of v)) (int_le (number_of v) high) false) name
           (λ h. never (sym (none_is low high (number_of v) e) ∙ h))
           (λ h. silent_settles x g line rest y g.call.temps (same_temps x g line rest y) 1 (is_chosen true q e f))
       goal false true e f =
@@ -225,13 +225,13 @@ module _ (x : Basis) (labels : LabelsLead x) (g : Both) (rest : List BlockLine) 
           let is : (word (number_of v) == word low) ≡ (branch (int_le low (number_of v)) (int_le (number_of v) high) false)
           = equal_is (number_of v) low o.fits low_fits ∙ one_is low (number_of v)
           ∙ ap (λ h. branch (int_le low (number_of v)) (int_le (number_of v) h) false) same in
-          where_settles x g line rest y labels (branch (int_le low (number_of v)) (int_le (number_of v) high) false) name
+          where_settles x g line rest y labels refl (branch (int_le low (number_of v)) (int_le (number_of v) high) false) name
           (λ h there stands. subst (λ l. Here l there) (sym (is_chosen false true e f)) (one_leads (is ∙ h) there stands))
           (λ h. passes_settles x g line rest y g.call.temps (same_temps x g line rest y) 1 (omega arith)
           (subst (λ l. Here l k) (sym (is_chosen false true e f)) (one_passes (is ∙ h))))
       goal false false e f =
           let is = range_is low high (number_of v) low_fits high_fits o.fits e in
-          where_settles x g line rest y labels (branch (int_le low (number_of v)) (int_le (number_of v) high) false) name
+          where_settles x g line rest y labels refl (branch (int_le low (number_of v)) (int_le (number_of v) high) false) name
           (λ h there stands. subst (λ l. Here l there) (sym (is_chosen false false e f)) (range_leads e (is ∙ h) there stands))
           (λ h. passes_settles x g line rest y g.call.temps (same_temps x g line rest y) 1 (omega arith)
           (subst (λ l. Here l k) (sym (is_chosen false false e f)) (range_passes e (is ∙ h))))

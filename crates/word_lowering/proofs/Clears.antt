@@ -35,7 +35,7 @@ use Rattle.flat_code.specs.Lines.{gives}
 use Rattle.flat_code.specs.Running.{scene_of}
 use Rattle.flat_code.specs.declared.line.From.{From}
 use Rattle.nim_meaning.specs.Deeds.{costs, give, ◌>>=◌}
-use Rattle.nim_meaning.specs.Places.{made_by}
+use Rattle.nim_meaning.specs.Places.{kept_if}
 use Rattle.flat_code.specs.declared.line.UseAt.{UseAt}
 use Rattle.nim_types.specs.Types.{Ty}
 use Rattle.word_lowering.proofs.ApplyFits.{applies, RowHere}
@@ -188,7 +188,7 @@ module _ (x : Basis) (labels : LabelsLead x) (g : Both) (rest : List BlockLine) 
       let code : code_here x g line rest y ≡ clears (house g.call.site (of_value to)) (code_next x g line rest y)
       = starts_there (house g.call.site (of_value to)).bytes (house g.call.site (of_value to)) (code_next x g line rest y) (omega (arith, some, size)) in
       subst (λ b. Settles x (starts g line rest) rest (gives (scene_of (high x.table x.blocks (starts g line rest))) to
-      (costs 1 (costs (bytes v) (give v)) >>= made_by b (bound_for g how)))) (sym t.unhooked)
+      (costs 1 (costs (bytes v) (give v)) >>= kept_if b (bound_for g how)))) (sym t.unhooked)
       (value_settles x g line rest y to v (9 + bytes v) (1 + (bytes v + 0)) t.there t.here look
       (subst (λ l. Gets x g line rest y l (code_next x g line rest y) (of_value to) v (9 + bytes v)) (sym code)
       (gets_cleared x g line rest y (of_value to) t.there (value_plain (house g.call.site (of_value to)) t.there.kind) v t.here look

@@ -1,9 +1,8 @@
 -- Word code has no more lines than block code weighs.
 use Rattle.nim_program.specs.declared.expr.Label.TheVariants as C
-use Rattle.std.proofs.Common.{◌≡◌, ℕ, suc, ◌+◌, ◌*◌, ◌≤◌, List, [], ◌∷◌, length, map, Bool, true, false, not}
+use Rattle.std.proofs.Common.{◌≡◌, ℕ, suc, ◌+◌, ◌*◌, ◌≤◌, List, [], ◌∷◌, ◌++◌, length, map, Bool, true, false, not, ◌∙◌}
 use Rattle.std.proofs.Common.{Option, Some, None, length-append}
 use Rattle.std.proofs.Common.{refl, ap, subst, arith}
-use Rattle.std.proofs.lemmas.Bool.{and_parts}
 use Rattle.nim_types.specs.declared.types.TypeDef.{TypeDef}
 use Rattle.nim_types.specs.declared.types.TypeDef.TheVariants as D
 use Rattle.nim_program.specs.declared.operation.Measure.{Measure}
@@ -17,12 +16,12 @@ use Rattle.flat_code.specs.declared.code.CodeProc.{CodeProc}
 use Rattle.flat_code.specs.declared.line.From.{From}
 use Rattle.flat_code.specs.declared.line.Line.{Line}
 use Rattle.flat_code.specs.declared.line.Line.TheVariants as L
-use Rattle.flat_code.specs.Codes.{block_plain}
+use Rattle.flat_code.specs.Codes.{block_plain, waiting_in}
 use Rattle.flat_code.specs.Running.{last_of}
-use Rattle.flat_code.specs.Sizes.{weight_of, weight, summed, proc_weight, code_weight}
+use Rattle.flat_code.specs.Sizes.{owning_weight, weight_of, weight, summed, proc_weight, code_weight}
 use Rattle.word_code.specs.declared.word.WordInstr.{WordInstr}
 use Rattle.word_code.specs.declared.word.Test.TheVariants as test
-use Rattle.word_code.specs.declared.word.WordInstr.TheVariants.{Argument, Branch}
+use Rattle.word_code.specs.declared.word.WordInstr.TheVariants.{Argument, Branch, Label, Place}
 use Rattle.word_code.specs.declared.word.WordProc.{WordProc}
 use Rattle.word_code.specs.RoutineTable.{trap_number}
 use Rattle.word_code.specs.Sizes.{word_weight}
@@ -33,31 +32,45 @@ use Rattle.word_lowering.specs.declared.homes.Housed.{Housed}
 use Rattle.word_lowering.specs.declared.homes.Layout.{Layout}
 use Rattle.word_lowering.specs.declared.homes.Waiter.{Waiter}
 use Rattle.word_lowering.specs.declared.lowering.TheConstants.{START_WEIGHT}
+use Rattle.hook_code.specs.declared.numbers.TheConstants.{HOOK_WEIGHT}
+use Rattle.hook_code.specs.HookCode.{procs_in}
+use Rattle.hook_code.specs.Kept.{hook_parts}
+use Rattle.word_lowering.proofs.HookProcs.{HookLaws}
 use Rattle.word_lowering.specs.declared.spots.Spot.{Spot}
 use Rattle.word_lowering.specs.declared.spots.Spot.TheVariants.{Held, Lies}
 use Rattle.word_lowering.specs.declared.texts.TheConstants.{LINE_END_AT, FIXED_BYTES}
-use Rattle.word_lowering.specs.Aliases.{text_in}
-use Rattle.word_lowering.specs.Layouts.{is_empty, layouts, layout_of, params_in, result_in}
-use Rattle.word_lowering.specs.LineCode.{Around, no_layout, proc_number}
+use Rattle.word_lowering.specs.Aliases.{is_read}
+use Rattle.word_lowering.specs.Layouts.{is_empty, behind_all, layouts, layout_of, params_in, result_in, free_at, holds_address}
+use Rattle.word_lowering.specs.LineCode.{Around, no_layout, proc_number, first_hook, is_copied}
 use Rattle.word_lowering.specs.LineCode as lines
 use Rattle.word_lowering.specs.OwnedCode as owned
 use Rattle.word_lowering.specs.RoutineCode.{join_code}
 use Rattle.word_lowering.specs.Lowered as code
-use Rattle.word_lowering.specs.MayLower.{proc_may, procs_may, may_lower}
 use Rattle.word_lowering.specs.Operations.{word, trap_label}
 use Rattle.word_lowering.specs.Spots.{spot_of, shifted, moved, cleared}
-use Rattle.word_lowering.specs.Stored.{part_at, entry_at, base_at, limit_at}
+use Rattle.word_lowering.specs.Stored.{part_at, entry_at, base_at, limit_at, is_hooked}
 use Rattle.word_lowering.specs.Texts.{texts_in}
-use Rattle.word_lowering.specs.WaitingCode.{none_code}
+use Rattle.word_lowering.specs.WaitingCode.{gives_hooked, kept_if, none_code, leaves_code, waiter_at, waiting_house, waits_code}
 use Rattle.word_lowering.proofs.PieceWeights.{moved_weighs, cleared_weighs, handed_weighs, binary_weighs, unary_weighs, compare_weighs, fits_weighs}
-use Rattle.word_lowering.proofs.PieceWeights.{turn_weighs, beyond_weighs, constant_weighs, part_weighs, element_weighs, word_argument_weighs}
+use Rattle.word_lowering.proofs.PieceWeights.{turn_weighs, beyond_weighs, part_weighs, element_weighs, word_argument_weighs}
 use Rattle.word_lowering.proofs.PieceWeights.{told_by_weighs, back_weighs, parts_weigh, moves_weigh, clears_weigh, passes_weigh, starts_weigh}
 use Rattle.word_lowering.proofs.PieceWeights.{converted_weighs, update_weighs, quit_weighs, swap_weighs}
-use Rattle.word_lowering.proofs.KeptCode.{kept_quiet, owning_quiet}
 use Rattle.word_lowering.proofs.OwnedWeights.{add_weighs, append_weighs, compare_text_weighs, element_read_weighs, enough_weighs, join_weighs, measure_weighs}
 use Rattle.word_lowering.proofs.OwnedWeights.{new_weighs, owned_element_weighs, owned_item_weighs, pop_weighs, read_weighs, sequence_weighs, shown_weighs}
-use Rattle.word_lowering.proofs.OwnedWeights.{sized_weighs}
-use Rattle.word_lowering.proofs.WaiterHomes.{none_waits}
+use Rattle.word_lowering.proofs.OwnedWeights.{constant_weighs, sized_weighs, text_fits_weighs}
+use Rattle.word_lowering.proofs.WaiterHomes.{waiters_few}
+use Rattle.word_lowering.specs.declared.homes.Alias.{Alias}
+use Rattle.word_lowering.specs.declared.homes.Alias.TheVariants as alias
+use Rattle.hook_lifting.specs.declared.lifted.Hook.{Hook}
+use Rattle.hook_lifting.specs.declared.lifted.Hook.TheVariants.{Copies, Ends}
+use Rattle.flat_code.specs.declared.line.Owning.TheVariants as W
+use Rattle.flat_code.specs.declared.line.From.TheVariants as F
+use Rattle.nim_meaning.specs.Shapes.{waits}
+use Rattle.flat_code.specs.declared.line.Owning.{Owning}
+use Rattle.word_lowering.specs.Lowers.{all_waiting}
+use Rattle.flat_code.specs.Waits.{constant_waits}
+use Rattle.nim_meaning.specs.Waiting.{reads_kept}
+use Rattle.std.specs.Prelude.{◌&&◌}
 
 module _ (x : Around) where
   written_weighs : (def : Option TypeDef) (ty : ℕ) (from : Housed) (k : List WordInstr) → length (lines.written_code x def ty from k) ≤ 12 + length k
@@ -244,66 +257,155 @@ module _ (x : Around) where
   operands_length [] = refl
   operands_length (f ∷ from) = ap suc (operands_length from)
 
-  line_weighs : x.own.waiters ≡ [] → (line : Line) (label : ℕ) (k : List WordInstr) → length (lines.line_code x line label k) ≤ weight line + length k
-  line_weighs quiet (L.Apply to operation how ty of from) label k =
-      subst (λ n. length (lines.line_code x (L.Apply to operation how ty of from) label k) ≤ weight_of operation n + length k) (operands_length from)
-      (row_weighs operation label ty of (lines.value x to) (lines.operands x from) k)
-  line_weighs quiet (L.Construct to how ty fields from) label k =
+  root_weighs : (a : Alias) (to : ℕ) (home : Home) (k : List WordInstr) → length (lines.root_code a to home k) ≤ 1 + length k
+  root_weighs alias.Own to home k = omega arith
+  root_weighs (alias.Place p global) to home k = omega arith
+  root_weighs (alias.Value t) to home k = omega arith
+  root_weighs (alias.Node n) to home k = omega arith
+  root_weighs (alias.Text behind size) to home k = omega arith
+
+  -- ---- hooks, and what waits
+  hook_weighs : (hook : Hook) (ty : ℕ) (to from : Home) (k : List WordInstr) → length (lines.hook_code x hook ty to from k) ≤ 5 + length k
+  hook_weighs hook ty to from k = omega arith
+
+  got_weighs : (hooks : Bool) (ty : Option ℕ) (to from : Housed) (k : List WordInstr) → length (lines.got_code x hooks ty to from k) ≤ 7 + length k
+  got_weighs true (Some ty) to from k = let h = hook_weighs Copies ty to.home from.home k in omega (arith, h)
+  got_weighs true None to from k = moves_weigh to from k
+  got_weighs false ty to from k = moves_weigh to from k
+
+  assigned_weighs : (hooks : Bool) (row : List WordInstr → List WordInstr) (ty : Option ℕ) (from : List From) (k : List WordInstr)
+      → length (row k) ≤ 7 + length k → length (lines.assigned_code x hooks row ty from k) ≤ 7 + length k
+  assigned_weighs true row (Some ty) from k h = omega arith
+  assigned_weighs true row None from k h = h
+  assigned_weighs false row ty from k h = h
+
+  applied_weighs : (operation : Operation) (label to : ℕ) (ty : Option ℕ) (of : List (Option ℕ)) (from : List From) (k : List WordInstr)
+      → length (lines.applied_code x operation label to ty of from k) ≤ weight_of operation (length (lines.operands x from)) + length k
+  applied_weighs O.Assign label to ty of from k =
+      assigned_weighs (gives_hooked x.table (owned.type_of of 0)) (lines.row_code x O.Assign label ty of (lines.value x to) (lines.operands x from))
+      (owned.type_of of 0) from k (row_weighs O.Assign label ty of (lines.value x to) (lines.operands x from) k)
+  applied_weighs operation label to ty of from k = row_weighs operation label ty of (lines.value x to) (lines.operands x from) k
+
+  waits_weigh : (o : Option Waiter) (from : Housed) (k : List WordInstr) → length (waits_code o from k) ≤ 8 + length k
+  waits_weigh None from k = omega arith
+  waits_weigh (Some w) from k = let h = moves_weigh (waiting_house w) from (Place w.variable w.at ∷ k) in omega (arith, h)
+
+  leaves_weigh : (o : Option Waiter) (k : List WordInstr) → length (leaves_code o k) ≤ 1 + length k
+  leaves_weigh None k = omega arith
+  leaves_weigh (Some w) k = omega arith
+
+  ends_weigh : (stands : Bool) (ty : ℕ) (home : Home) (k : List WordInstr) → length (lines.ends_code x stands ty home k) ≤ 5 + length k
+  ends_weigh true ty home k = omega arith
+  ends_weigh false ty home k = hook_weighs Ends ty home home k
+
+  waiter_ends_weigh : (label ty : ℕ) (o : Option Waiter) (k : List WordInstr) → length (lines.waiter_ends_code x label ty o k) ≤ 9 + length k
+  waiter_ends_weigh label ty None k = omega arith
+  waiter_ends_weigh label ty (Some w) k =
+      let h = hook_weighs Ends ty (Placed w.at) (Placed w.at) (Label label ∷ leaves_code (Some w) k) in omega (arith, h)
+
+  owning_weighs : (what : Owning) (from : List From) (label : ℕ) (k : List WordInstr)
+      → length (lines.owning_code x what from label k) ≤ owning_weight what + length k
+  owning_weighs (W.TakenUp node) from label k = leaves_weigh (waiter_at node x.own.waiters) k
+  owning_weighs (W.Waits node) [] label k = omega arith
+  owning_weighs (W.Waits node) (F.Value t ∷ []) label k = waits_weigh (waiter_at node x.own.waiters) (lines.value x t) k
+  owning_weighs (W.Waits node) (F.Value t ∷ f ∷ from) label k = omega arith
+  owning_weighs (W.Waits node) (F.Place t ∷ from) label k = omega arith
+  owning_weighs (W.TemporaryEnds node ty) from label k = waiter_ends_weigh label ty (waiter_at node x.own.waiters) k
+  owning_weighs (W.PlaceEnds place ty) from label k = ends_weigh (holds_address (lines.declared x place)) ty (lines.declared x place).home k
+  owning_weighs (W.PlaceCopies place ty) from label k = omega arith
+  owning_weighs (W.ResultGets place ty) from label k = omega arith
+  owning_weighs (W.PlaceStands p) [] label k = omega arith
+  owning_weighs (W.PlaceStands p) (F.Value t ∷ from) label k = omega arith
+  owning_weighs (W.PlaceStands p) (F.Place t ∷ []) label k = omega arith
+  owning_weighs (W.PlaceStands p) (F.Place t ∷ f ∷ from) label k = omega arith
+
+  -- what stands behind a line whose value may wait
+  abbrev kept_most : Line → ℕ
+  kept_most (L.Apply to operation how ty of from) = 8
+  kept_most (L.Construct to how ty fields from) = 8
+  kept_most (L.Constant to how ty pieces) = 8
+  kept_most (L.Get to from how ty) = 8
+  kept_most (L.Pass to from how ty) = 8
+  kept_most line = 0
+
+  kept_weighs : (b : Bool) (node to : ℕ) (k : List WordInstr) → length (kept_if x.table x.own.waiters (lines.value x) b node to k) ≤ 8 + length k
+  kept_weighs true node to k = waits_weigh (waiter_at node x.own.waiters) (lines.value x to) k
+  kept_weighs false node to k = omega arith
+
+  behind_weighs : (line : Line) (k : List WordInstr) → length (lines.behind_line x line k) ≤ kept_most line + length k
+  behind_weighs (L.Apply to operation how ty of from) k = kept_weighs (gives_hooked x.table ty && waits how.how) how.node to k
+  behind_weighs (L.Construct to how ty fields from) k = kept_weighs (is_hooked x.table ty && waits how.how) how.node to k
+  behind_weighs (L.Constant to how ty pieces) k = kept_weighs (is_hooked x.table ty && constant_waits pieces how.how) how.node to k
+  behind_weighs (L.Get to from how ty) k = kept_weighs (gives_hooked x.table ty && reads_kept how.how) how.node to k
+  behind_weighs (L.Pass to from how ty) k = kept_weighs (gives_hooked x.table ty && waits how.how) how.node to k
+  behind_weighs line k = omega arith
+
+  line_weighs : (line : Line) (label : ℕ) (k : List WordInstr) → length (lines.line_code x line label k) + kept_most line ≤ weight line + length k
+  line_weighs (L.Apply to operation how ty of from) label k =
+      let h = subst (λ n. length (lines.applied_code x operation label to ty of from k) ≤ weight_of operation n + length k) (operands_length from)
+      (applied_weighs operation label to ty of from k) in
+      omega (arith, h)
+  line_weighs (L.Construct to how ty fields from) label k =
       let h = clears_weigh (lines.value x to) (lines.fields_code x (lines.value x to).home ty fields (lines.operands x from) k) in
       let i = fields_weigh (lines.value x to).home ty fields (lines.operands x from) k in
       let n = operands_length from in
       omega (arith, h, i, n)
-  line_weighs quiet (L.Constant to how ty pieces) label k = constant_weighs (text_in pieces) (lines.value x to) pieces k
-  line_weighs quiet (L.Call to how ty proc from) label k =
+  line_weighs (L.Constant to how ty pieces) label k =
+      let h = constant_weighs x (is_read how.how) pieces (lines.value x to) k in omega (arith, h)
+  line_weighs (L.Call to how ty proc from) label k =
       let h = called_weighs (lines.layout_at x proc).runs label proc ty to (lines.operands x from) k in
       let n = operands_length from in
       omega (arith, h, n)
-  line_weighs quiet (L.Get to from how ty) label k = moves_weigh (lines.value x to) (lines.location x from) k
-  line_weighs quiet (L.Look to from) label k = moves_weigh (lines.value x to) (lines.location x from) k
-  line_weighs quiet (L.Root to p global) label k = omega arith
-  line_weighs quiet (L.Fresh to from waits) label k = omega arith
-  line_weighs quiet (L.Standing to ty pieces) label k = omega arith
-  line_weighs quiet (L.Part to from field) label k = part_weighs (lines.led x to) (lines.location x from).home _ k
-  line_weighs quiet (L.Item to from index) label k = item_at_weighs (owned.has_handle (lines.entry_from x from)) to from index k
-  line_weighs quiet (L.Object to from) label k = omega arith
-  line_weighs quiet (L.Pass to from how ty) label k = passes_weigh (lines.value x from).bytes (lines.value x to) (lines.value x from) k
-  line_weighs quiet (L.Truth to holds) label k = omega arith
-  line_weighs quiet (L.Fill p from) label k = moves_weigh (lines.own_place x p) (lines.value x from) k
-  line_weighs quiet (L.Blank p ty) label k = clears_weigh (lines.own_place x p) k
-  line_weighs quiet (L.Give p from) label k = moves_weigh (lines.own_place x p) (lines.value x from) k
-  line_weighs quiet (L.Zero to) label k = omega arith
-  line_weighs quiet (L.Length to from) label k = length_weighs (owned.has_handle (lines.entry_from x from)) (lines.held x to) (lines.location x from) k
-  line_weighs quiet (L.Still from len) label k =
+  line_weighs (L.Get to from how ty) label k =
+      let h = got_weighs (gives_hooked x.table ty && is_copied how.how) ty (lines.value x to) (lines.location x from) k in omega (arith, h)
+  line_weighs (L.Look to from) label k = let h = moves_weigh (lines.value x to) (lines.location x from) k in omega (arith, h)
+  line_weighs (L.Root to p global) label k = let h = root_weighs (lines.own_alias x to) (lines.led x to) (lines.place x p global).home k in omega (arith, h)
+  line_weighs (L.Fresh to from waits) label k = omega arith
+  line_weighs (L.Standing to ty pieces) label k = omega arith
+  line_weighs (L.Part to from field) label k =
+      let h = part_weighs (lines.led x to) (lines.location x from).home (part_at x.table (lines.location x from).ty field) k in omega (arith, h)
+  line_weighs (L.Item to from index) label k = let h = item_at_weighs (owned.has_handle (lines.entry_from x from)) to from index k in omega (arith, h)
+  line_weighs (L.Object to from) label k = omega arith
+  line_weighs (L.Pass to from how ty) label k =
+      let h = passes_weigh (lines.value x from).bytes (lines.value x to) (lines.value x from) k in omega (arith, h)
+  line_weighs (L.Truth to holds) label k = omega arith
+  line_weighs (L.Fill p from) label k = let h = moves_weigh (lines.own_place x p) (lines.value x from) k in omega (arith, h)
+  line_weighs (L.Blank p ty) label k = let h = clears_weigh (lines.own_place x p) k in omega (arith, h)
+  line_weighs (L.Give p from) label k = let h = moves_weigh (lines.own_place x p) (lines.value x from) k in omega (arith, h)
+  line_weighs (L.Zero to) label k = omega arith
+  line_weighs (L.Length to from) label k = let h =
+      length_weighs (owned.has_handle (lines.entry_from x from)) (lines.held x to) (lines.location x from) k in omega (arith, h)
+  line_weighs (L.Still from len) label k =
       let checked : List WordInstr = Branch test.Unequal (lines.held x len) FIRST (trap_label LengthChanged) ∷ k in
       let h = length_weighs (owned.has_handle (lines.entry_from x from)) FIRST (lines.location x from) checked in
       omega (arith, h)
-  line_weighs quiet (L.Element to from index) label k = element_at_weighs (owned.has_handle (lines.entry_from x from)) from index (lines.value x to) k
-  line_weighs quiet (L.Beyond counter last inclusive to) label k =
+  line_weighs (L.Element to from index) label k = let h =
+      element_at_weighs (owned.has_handle (lines.entry_from x from)) from index (lines.value x to) k in omega (arith, h)
+  line_weighs (L.Beyond counter last inclusive to) label k =
       let h = beyond_weighs inclusive (lines.held x counter) (lines.held x last) (lines.own_label to) k in omega (arith, h)
-  line_weighs quiet (L.Next counter last) label k = omega arith
-  line_weighs quiet (L.Label name) label k = omega arith
-  line_weighs quiet (L.Jump to) label k = omega arith
-  line_weighs quiet (L.Unless from to) label k = omega arith
-  line_weighs quiet (L.Fits from (C.Ordinals low high) to) label k = fits_weighs (lines.held x from) (lines.own_label to) low high k
-  line_weighs quiet (L.Fits from (C.Text text) to) label k = omega arith
-  line_weighs quiet (L.Own what from) label k =
-      let e = ap length (owning_quiet x what from k quiet) in omega (arith, e)
-  line_weighs quiet L.Enter label k = omega arith
-  line_weighs quiet (L.Turn to) label k = omega arith
-  line_weighs quiet (L.TurnIf from to) label k = omega arith
-  line_weighs quiet (L.CountTurn counter last inclusive to) label k =
+  line_weighs (L.Next counter last) label k = omega arith
+  line_weighs (L.Label name) label k = omega arith
+  line_weighs (L.Jump to) label k = omega arith
+  line_weighs (L.Unless from to) label k = omega arith
+  line_weighs (L.Fits from (C.Ordinals low high) to) label k = let h = fits_weighs (lines.held x from) (lines.own_label to) low high k in omega (arith, h)
+  line_weighs (L.Fits from (C.Text text) to) label k = let h = text_fits_weighs x text (lines.value x from) (lines.own_label to) k in omega (arith, h)
+  line_weighs (L.Own what from) label k = let h = owning_weighs what from label k in omega (arith, h)
+  line_weighs L.Enter label k = omega arith
+  line_weighs (L.Turn to) label k = omega arith
+  line_weighs (L.TurnIf from to) label k = omega arith
+  line_weighs (L.CountTurn counter last inclusive to) label k =
       let h = turn_weighs label (lines.held x counter) (lines.held x last) inclusive (lines.own_label to) k in omega (arith, h)
-  line_weighs quiet (L.Return result) label k = return_weighs x.setting.start result k
+  line_weighs (L.Return result) label k = let h = return_weighs x.setting.start result k in omega (arith, h)
 
-  lines_weigh : x.own.waiters ≡ [] → (all : List Line) (k : List WordInstr) → length (lines.lines_code x all k) ≤ summed weight all + length k
-  lines_weigh quiet [] k = omega arith
-  lines_weigh quiet (line ∷ rest) k =
+  lines_weigh : (all : List Line) (k : List WordInstr) → length (lines.lines_code x all k) ≤ summed weight all + length k
+  lines_weigh [] k = omega arith
+  lines_weigh (line ∷ rest) k =
       let next : List WordInstr = lines.lines_code x rest k in
       let behind : List WordInstr = lines.behind_line x line next in
-      let e = ap length (kept_quiet x.table x.own.waiters (lines.value x) line next quiet) in
-      let h : length (lines.line_code x line (lines.label_before rest) behind) ≤ weight line + length behind
-      = line_weighs quiet line (lines.label_before rest) behind in
-      let i : length next ≤ summed weight rest + length k = lines_weigh quiet rest k in
+      let e : length behind ≤ kept_most line + length next = behind_weighs line next in
+      let h : length (lines.line_code x line (lines.label_before rest) behind) + kept_most line ≤ weight line + length behind
+      = line_weighs line (lines.label_before rest) behind in
+      let i : length next ≤ summed weight rest + length k = lines_weigh rest k in
       omega (arith, e, h, i)
 
 -- ---- a procedure
@@ -334,24 +436,48 @@ last_weighs all =
     let m : length (code.last_code all) ≤ 2 + length e = end_weighs all Overflow e in
     omega (arith, f, g, h, i, j, m)
 
-none_length : (ws : List Waiter) (k : List WordInstr) → ws ≡ [] → length (none_code ws k) ≡ length k
-none_length ws k e = ap (λ us. length (none_code us k)) e
+none_length : (ws : List Waiter) (k : List WordInstr) → length (none_code ws k) ≡ length ws + length k
+none_length [] k = omega arith
+none_length (w ∷ ws) k = let h = none_length ws k in omega (arith, h)
 
-code_weighs : (x : Around) (all : List Line) → x.own.waiters ≡ [] → length (code.code_of x all) ≤ 17 + summed weight all
-code_weighs x all quiet =
+-- what says so leads nowhere
+none_branches : (label : ℕ) (ws : List Waiter) (k : List WordInstr) → code.any_branches label (none_code ws k) ≡ code.any_branches label k
+none_branches label [] k = refl
+none_branches label (w ∷ ws) k = none_branches label ws k
+
+end_same : (a b : List WordInstr) (trap : Trap) (k : List WordInstr)
+    → code.any_branches (trap_label trap) a ≡ code.any_branches (trap_label trap) b → code.trap_end a trap k ≡ code.trap_end b trap k
+end_same a b trap k e = ap (λ leads. code.trap_code leads (trap_label trap) (trap_number trap) k) e
+
+last_same : (a b : List WordInstr) → ((label : ℕ) → code.any_branches label a ≡ code.any_branches label b) → code.last_code a ≡ code.last_code b
+last_same a b same =
+    let s1 = end_same a b CallDepth [] (same (trap_label CallDepth)) in
+    let s2 = ap (code.trap_end a LengthChanged) s1 ∙ end_same a b LengthChanged (code.trap_end b CallDepth []) (same (trap_label LengthChanged)) in
+    let k2 : List WordInstr = code.trap_end b LengthChanged (code.trap_end b CallDepth []) in
+    let s3 = ap (code.trap_end a OutOfRange) s2 ∙ end_same a b OutOfRange k2 (same (trap_label OutOfRange)) in
+    let k3 : List WordInstr = code.trap_end b OutOfRange k2 in
+    let s4 = ap (code.trap_end a IndexOutOfBounds) s3 ∙ end_same a b IndexOutOfBounds k3 (same (trap_label IndexOutOfBounds)) in
+    let k4 : List WordInstr = code.trap_end b IndexOutOfBounds k3 in
+    let s5 = ap (code.trap_end a DivisionByZero) s4 ∙ end_same a b DivisionByZero k4 (same (trap_label DivisionByZero)) in
+    let k5 : List WordInstr = code.trap_end b DivisionByZero k4 in
+    ap (code.trap_end a Overflow) s5 ∙ end_same a b Overflow k5 (same (trap_label Overflow))
+
+code_weighs : (x : Around) (all : List Line) → length (code.code_of x all) ≤ 17 + summed weight all + length x.own.waiters
+code_weighs x all =
     let body : List WordInstr = lines.lines_code x all [] in
-    let waiting : List WordInstr = none_code x.own.waiters body in
-    let front : List WordInstr = code.result_cleared (result_in x.own.all) waiting in
+    let cleared : List WordInstr = code.result_cleared (result_in x.own.all) body in
+    let front : List WordInstr = none_code x.own.waiters cleared in
     let f : length (code.last_code front) ≤ 12 = last_weighs front in
-    let g : length body ≤ summed weight all + 0 = lines_weigh x quiet all [] in
-    let n : length waiting ≡ length body = none_length x.own.waiters body quiet in
-    let h : length front ≤ 5 + length waiting = cleared_first (result_in x.own.all) waiting in
+    let g : length body ≤ summed weight all + 0 = lines_weigh x all [] in
+    let n : length front ≡ length x.own.waiters + length cleared = none_length x.own.waiters cleared in
+    let h : length cleared ≤ 5 + length body = cleared_first (result_in x.own.all) body in
     let i = length-append front (code.last_code front) in
     omega (arith, f, g, n, h, i)
 
 -- a procedure with lines, and any one
-proc_weighs : (x : Around) (line : Line) (all : List Line) → x.own.waiters ≡ [] → suc (length (code.code_of x (line ∷ all))) ≤ proc_weight (line ∷ all)
-proc_weighs x line all quiet = let h = code_weighs x (line ∷ all) quiet in omega (arith, h)
+proc_weighs : (x : Around) (line : Line) (all : List Line)
+    → suc (length (code.code_of x (line ∷ all))) ≤ proc_weight (line ∷ all) + length x.own.waiters
+proc_weighs x line all = let h = code_weighs x (line ∷ all) in omega (arith, h)
 
 -- one without lines leads nowhere
 none_weighs : (result : Option Housed) → length (code.and_last (code.result_cleared result [])) ≤ 5
@@ -367,58 +493,71 @@ none_weighs (Some r) = by r.is_word (spot_of r)
     by false (Lies (Placed at)) = omega arith
     by false (Lies (Static at)) = omega arith
 
-any_weighs : (x : Around) (all : List Line) → x.own.waiters ≡ [] → suc (length (code.code_of x all)) ≤ proc_weight all + 6
-any_weighs x [] quiet =
-    let h = none_weighs (result_in x.own.all) in
-    let e = ap (λ ws. length (code.and_last (code.result_cleared (result_in x.own.all) (none_code ws [])))) quiet in
-    omega (arith, h, e)
-any_weighs x (line ∷ all) quiet = let h = proc_weighs x line all quiet in omega (arith, h)
+any_weighs : (x : Around) (all : List Line) → suc (length (code.code_of x all)) ≤ proc_weight all + 6 + length x.own.waiters
+any_weighs x [] =
+    let cleared : List WordInstr = code.result_cleared (result_in x.own.all) [] in
+    let front : List WordInstr = none_code x.own.waiters cleared in
+    let h : length (code.and_last cleared) ≤ 5 = none_weighs (result_in x.own.all) in
+    let e = ap length (last_same front cleared (λ label. none_branches label x.own.waiters cleared)) in
+    let n = none_length x.own.waiters cleared in
+    let i = length-append front (code.last_code front) in
+    let j = length-append cleared (code.last_code cleared) in
+    omega (arith, h, e, n, i, j)
+any_weighs x (line ∷ all) = let h = proc_weighs x line all in omega (arith, h)
 
 -- ---- all of them
 
-if_weighs : (x : Around) (procs : List WordProc) (lines : List BlockLine) (p : WordProc) → x.own.waiters ≡ []
-    → p.lines ≡ code.code_of x (map block_plain lines)
-    → word_weight (code.if_runs (not (is_empty lines)) p procs) ≤ proc_weight (map block_plain lines) + word_weight procs
-if_weighs x procs [] p quiet e = omega arith
-if_weighs x procs (line ∷ lines) p quiet e =
+if_weighs : (x : Around) (procs : List WordProc) (lines : List BlockLine) (p : WordProc) → p.lines ≡ code.code_of x (map block_plain lines)
+    → word_weight (code.if_runs (not (is_empty lines)) p procs) ≤ proc_weight (map block_plain lines) + length x.own.waiters + word_weight procs
+if_weighs x procs [] p e = omega arith
+if_weighs x procs (line ∷ lines) p e =
     let f = ap length e in
-    let h = proc_weighs x (block_plain line) (map block_plain lines) quiet in
+    let h = proc_weighs x (block_plain line) (map block_plain lines) in
     omega (arith, f, h)
 
 module _ (table : List TypeDef) (datum : ℕ) where
+  few_wait : (start : Bool) (p : CodeProc BlockLine) → length (layout_of table start datum p).waiters ≤ waiting_in p.places
+  few_wait start p =
+      waiters_few table start (map block_plain p.lines) (free_at datum) (behind_all table start (map block_plain p.lines) (free_at datum) p.places) p.places
+
   procs_weigh : (x : Around) (index : ℕ) (none p : CodeProc BlockLine) (ps : List (CodeProc BlockLine))
-      → procs_may table (layouts table datum (p ∷ ps)) (p ∷ ps) ≡ true
       → word_weight (code.word_procs x index (layouts table datum (p ∷ ps)) (p ∷ ps)) + proc_weight (map block_plain (last_of none (p ∷ ps)).lines)
-      ≤ code_weight block_plain (p ∷ ps)
-  procs_weigh x index none p [] may = omega arith
-  procs_weigh x index none p (q ∷ ps) may =
-      let own : Layout = layout_of table false datum p in
-      let both = and_parts (proc_may table own p) (procs_may table (layouts table datum (q ∷ ps)) (q ∷ ps)) may in
+      + waiting_in (last_of none (p ∷ ps)).places ≤ code_weight block_plain (p ∷ ps) + all_waiting (p ∷ ps)
+  procs_weigh x index none p [] = omega arith
+  procs_weigh x index none p (q ∷ ps) =
       let y : Around = code.with_own x (layout_of table false datum p) (length (texts_in (q ∷ ps))) in
       let rest : List WordProc = code.word_procs x (suc index) (layouts table datum (q ∷ ps)) (q ∷ ps) in
-      let h = if_weighs y rest p.lines (code.word_proc y (proc_number index) p) (none_waits table false datum p both.0) refl in
-      let i = procs_weigh x (suc index) p q ps both.1 in
-      omega (arith, h, i)
+      let h = if_weighs y rest p.lines (code.word_proc y (proc_number index) p) refl in
+      let few = few_wait false p in
+      let i = procs_weigh x (suc index) p q ps in
+      omega (arith, h, few, i)
 
   -- the start code is the last one
-  last_quiet : (none : Layout) (procs : List (CodeProc BlockLine)) → none.waiters ≡ [] → procs_may table (layouts table datum procs) procs ≡ true
-      → (last_of none (layouts table datum procs)).waiters ≡ []
-  last_quiet none [] quiet may = quiet
-  last_quiet none (p ∷ ps) quiet may =
-      let own : Layout = layout_of table (is_empty ps) datum p in
-      let both = and_parts (proc_may table own p) (procs_may table (layouts table datum ps) ps) may in
-      last_quiet own ps (none_waits table (is_empty ps) datum p both.0) both.1
+  last_few : (none : Layout) (other p : CodeProc BlockLine) (ps : List (CodeProc BlockLine))
+      → length (last_of none (layouts table datum (p ∷ ps))).waiters ≤ waiting_in (last_of other (p ∷ ps)).places
+  last_few none other p [] = few_wait true p
+  last_few none other p (q ∷ ps) = last_few (layout_of table false datum p) p q ps
 
-weight_by : (table : List TypeDef) (procs : List (CodeProc BlockLine)) → procs_may table (code.all_layouts table procs) procs ≡ true
-    → word_weight (code.lowered_procs (code.start_around table procs) procs) ≤ code_weight block_plain procs + 6
-weight_by table [] may = let h = any_weighs (code.start_around table []) [] refl in omega (arith, h)
-weight_by table (p ∷ ps) may =
+weight_by : (table : List TypeDef) (procs : List (CodeProc BlockLine))
+    → word_weight (code.lowered_procs (code.start_around table procs) procs) ≤ code_weight block_plain procs + all_waiting procs + 6
+weight_by table [] = let h = any_weighs (code.start_around table []) [] in omega (arith, h)
+weight_by table (p ∷ ps) =
     let x : Around = code.start_around table (p ∷ ps) in
-    let quiet = last_quiet table FIXED_BYTES no_layout (p ∷ ps) refl may in
-    let h = any_weighs x (map block_plain (last_of code.no_proc (p ∷ ps)).lines) quiet in
-    let i = procs_weigh table FIXED_BYTES x 0 code.no_proc p ps may in
-    omega (arith, h, i)
+    let few = last_few table FIXED_BYTES no_layout code.no_proc p ps in
+    let h = any_weighs x (map block_plain (last_of code.no_proc (p ∷ ps)).lines) in
+    let i = procs_weigh table FIXED_BYTES x 0 code.no_proc p ps in
+    omega (arith, few, h, i)
 
-pub weight_is : (table : List TypeDef) (blocks : Code BlockLine) → may_lower table blocks ≡ true
-    → word_weight (code.lowered table blocks).procs ≤ code_weight block_plain blocks.procs + START_WEIGHT
-weight_is table blocks may = weight_by table blocks.procs (and_parts (procs_may table (code.all_layouts table blocks.procs) blocks.procs) _ may).0
+weight_both : (procs others : List WordProc) → word_weight (procs ++ others) ≡ word_weight procs + word_weight others
+weight_both [] others = let e : word_weight others ≡ 0 + word_weight others = omega arith in e
+weight_both (p ∷ procs) others = let e = weight_both procs others in omega (arith, e)
+
+pub weight_is : (laws : HookLaws) (table : List TypeDef) (blocks : Code BlockLine)
+    → word_weight (code.lowered table blocks).procs
+    ≤ code_weight block_plain blocks.procs + all_waiting blocks.procs + START_WEIGHT + HOOK_WEIGHT * hook_parts table
+weight_is laws table blocks =
+    let x : Around = code.start_around table blocks.procs in
+    let both = weight_both (code.lowered_procs x blocks.procs) (procs_in table (first_hook blocks.procs)) in
+    let own = weight_by table blocks.procs in
+    let hooks = laws.weight table (first_hook blocks.procs) in
+    omega (arith, both, own, hooks)

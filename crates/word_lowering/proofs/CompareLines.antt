@@ -1,7 +1,7 @@
 -- Comparisons and conversions are followed.
-use Rattle.std.proofs.Common.{append-nil, length, ◌≡◌, ℕ, ◌+◌, List, [], ◌∷◌, Option, Some, None, Bool, true, false, ℤ, refl, sym, ap, subst, ◌∙◌, arith}
+use Rattle.std.proofs.Common.{append-nil, length, ◌≡◌, ℕ, ◌+◌, List, [], ◌∷◌, Option, Some, None, Bool, true, false, ℤ, refl, sym, ap, subst, ◌∙◌, arith, map}
 use Rattle.std.proofs.Common.{inl, inr, ◌⊎◌}
-use Rattle.std.specs.Prelude.{◌&&◌, ◌||◌, not, option_map, if◌then◌else◌}
+use Rattle.std.specs.Prelude.{◌&&◌, ◌||◌, option_map, if◌then◌else◌}
 use Rattle.std.proofs.lemmas.Bool.{and_parts, and_from}
 use Rattle.nim_program.specs.declared.operation.Comparison.{Comparison}
 use Rattle.nim_program.specs.declared.operation.Operation.TheVariants as O
@@ -14,14 +14,15 @@ use Rattle.flat_code.specs.declared.block.BlockLine.{BlockLine}
 use Rattle.flat_code.specs.declared.line.From.{From}
 use Rattle.flat_code.specs.declared.line.From.TheVariants as F
 use Rattle.flat_code.specs.declared.line.Line.TheVariants as L
-use Rattle.word_lowering.specs.MayLower.{any_hooked, is_hooked}
+use Rattle.word_lowering.specs.Stored.{is_hooked}
+use Rattle.nim_types.specs.Forms.{form_of, hooked}
 use Rattle.flat_code.specs.Lines.{gives, using}
 use Rattle.flat_code.specs.Running.{scene_of}
 use Rattle.flat_code.specs.Scene.{Did, Passes}
 use Rattle.flat_code.specs.Shapes.{has_shape, number, shape_of}
 use Rattle.nim_meaning.specs.Deeds.{costs, give, ◌>>=◌, Finishes}
-use Rattle.nim_meaning.specs.Here.{gives_hooked}
-use Rattle.nim_meaning.specs.Places.{made_by}
+use Rattle.nim_meaning.specs.Here.{any_hooked, gives_hooked}
+use Rattle.nim_meaning.specs.Places.{kept_if}
 use Rattle.nim_program.specs.View.{if_type}
 use Rattle.flat_code.specs.declared.line.UseAt.{UseAt}
 use Rattle.word_lowering.proofs.ApplyFits.{applies, RowHere}
@@ -34,8 +35,8 @@ use Rattle.word_lowering.proofs.OrdinalChecks.{compare_given, narrow_checks}
 use Rattle.word_lowering.proofs.Related.{Both, body_of, high, within}
 use Rattle.word_lowering.proofs.Sites.{around}
 use Rattle.word_lowering.proofs.Settling.{LabelsLead, code_next, gives_settles, TrapsStop, code_here, code_of_line, trap_settles}
-use Rattle.word_lowering.proofs.ShapeFacts.{never}
-use Rattle.word_lowering.proofs.Targets.{plain_operands, target, Target}
+use Rattle.word_lowering.proofs.ShapeFacts.{never, of_numbers}
+use Rattle.word_lowering.proofs.Targets.{target, Target}
 use Rattle.arc_base.specs.Event.{Event, writes}
 use Rattle.arc_base.specs.declared.outside.Stream.TheVariants.{Err}
 use Rattle.nim_meaning.specs.Acts.{line_of}
@@ -53,17 +54,18 @@ use Rattle.word_lowering.specs.Operations.{trap_label, word}
 
 -- ---- operands without hooks
 
-first_plain : (b c : Bool) → not (b || c) ≡ true → b ≡ false
-first_plain true c h = never h
-first_plain false c h = refl
+first_none : (b c : Bool) → (b || c) ≡ false → (b ≡ false) × (c ≡ false)
+first_none true c h = never (sym h)
+first_none false c h = (refl, h)
 
 module _ (x : Basis) (labels : LabelsLead x) (g : Both) (rest : List BlockLine) (to : ℕ) (how : UseAt) (ty : Option ℕ) where
   module _ (comparison : Comparison) (a : ℕ) (b : Option ℕ) (left right : ℕ) where
     abbrev comparing : BlockLine
     comparing = plain (L.Apply to (O.Compare comparison) how ty (Some a ∷ b ∷ []) (F.Value left ∷ F.Value right ∷ []))
 
-    pub compare_values : RowHere x g rest to (O.Compare comparison) how ty (Some a ∷ b ∷ []) (F.Value left ∷ F.Value right ∷ [])
-    compare_values names y =
+    pub compare_values : any_hooked (facts_in x.table) (Some (type_at (known x).types a) ∷ if_type (known x).types b ∷ []) ≡ false
+        → RowHere x g rest to (O.Compare comparison) how ty (Some a ∷ b ∷ []) (F.Value left ∷ F.Value right ∷ [])
+    compare_values none names y =
         let u : Ty = type_at (known x).types a in
         let f = applies x g rest to (O.Compare comparison) how ty (Some a ∷ b ∷ []) (F.Value left ∷ F.Value right ∷ []) names y in
         let r = and_parts (is_bool (kind_if (facts_in x.table) (if_type (known x).types ty)))
@@ -76,7 +78,7 @@ module _ (x : Basis) (labels : LabelsLead x) (g : Both) (rest : List BlockLine) 
         let left_typed : value_type x g comparing rest y left ≡ Some u = same_type (value_type x g comparing rest y left) (Some u) p.0 in
         let right_typed : value_type x g comparing rest y right ≡ Some u
         = same_type (value_type x g comparing rest y right) (if_type (known x).types b) s.0 ∙ (n.is_other ∙ sym n.is) in
-        let hooks = first_plain (is_hooked x.table a) (any_hooked x.table (b ∷ [])) (plain_operands x g comparing rest y) in
+        let hooks = x.hooks a ∙ (first_none (hooked (form_of (facts_in x.table) u)) (any_hooked (facts_in x.table) (if_type (known x).types b ∷ [])) none).0 in
         let shape = x.compared a comparison q.1 hooks in
         let k = some_kind (facts_in x.table) (if_type (known x).types ty) is_bool refl r.0 in
         let typed = value_type_by (value_type x g comparing rest y to) (if_type (known x).types ty) k.0 f.given k.1 in
@@ -84,7 +86,7 @@ module _ (x : Basis) (labels : LabelsLead x) (g : Both) (rest : List BlockLine) 
         let bool = bool_shape (facts_in x.table) k.0 k.2 in
         let gives_it : Value → Value → Did = λ v w. gives (scene_of (high x.table x.blocks (starts g comparing rest))) to
         (costs 1 (costs (bytes v) (give (Number (truth (compared comparison (number_of v) (number_of w))))))
-        >>= made_by (gives_hooked (facts_in x.table) (if_type (known x).types ty)) (bound_for g how)) in
+        >>= kept_if (gives_hooked (facts_in x.table) (if_type (known x).types ty)) (bound_for g how)) in
         mapped_settles x (starts g comparing rest) rest (g.call.temps.values left) Given
         (λ z. using (option_map Given (g.call.temps.values right)) (λ o. gives_it (value_of z) (value_of o)))
         (λ v e. mapped_settles x (starts g comparing rest) rest (g.call.temps.values right) Given (λ o. gives_it v (value_of o))
@@ -94,7 +96,7 @@ module _ (x : Basis) (labels : LabelsLead x) (g : Both) (rest : List BlockLine) 
         let answer : ℤ = truth (compared comparison (number_of v) (number_of w)) in
         let got_it = getting x g comparing rest y to k.0 (Some 2) answer t bool (truth_shaped (compared comparison (number_of v) (number_of w))) in
         subst (λ c. Settles x (starts g comparing rest) rest (gives (scene_of (high x.table x.blocks (starts g comparing rest))) to
-        (costs 1 (costs (bytes v) (give (Number answer))) >>= made_by c (bound_for g how)))) (sym (ap (gives_hooked (facts_in x.table)) k.1 ∙ t.unhooked))
+        (costs 1 (costs (bytes v) (give (Number answer))) >>= kept_if c (bound_for g how)))) (sym (ap (gives_hooked (facts_in x.table)) k.1 ∙ t.unhooked))
         (gives_settles x g comparing rest y to answer (1 + (bytes v + 0)) (omega arith) got_it
         (subst (λ c. IsGiven x.live (all_procs x) (within x.table x.blocks g) g.memory g.words
         (compared_code (around x.table x.blocks (body_of g)) c comparison (variable x g comparing rest y to) (Some a ∷ b ∷ [])
@@ -105,24 +107,25 @@ module _ (x : Basis) (labels : LabelsLead x) (g : Both) (rest : List BlockLine) 
         (variable x g comparing rest y left) (high_target x g comparing rest y to answer got_it) o.high (number_of v) o.fits o.word_is
         (code_next x g comparing rest y) (variable x g comparing rest y right) i.high (number_of w) i.fits i.word_is comparison)))))
 
-  pub compare_line : (comparison : Comparison) (of : List (Option ℕ)) (from : List From)
+  pub compare_line : (comparison : Comparison) (of : List (Option ℕ)) (from : List From) →
+      any_hooked (facts_in x.table) (map (if_type (known x).types) of) ≡ false
       → RowHere x g rest to (O.Compare comparison) how ty of from
-  compare_line c (Some a ∷ b ∷ []) (F.Value left ∷ F.Value right ∷ []) names y = compare_values c a b left right names y
-  compare_line c [] from names y = never (applies x g rest to (O.Compare c) how ty [] from names y).row
-  compare_line c (a ∷ []) from names y = never (applies x g rest to (O.Compare c) how ty (a ∷ []) from names y).row
-  compare_line c (a ∷ b ∷ d ∷ of) from names y = never (applies x g rest to (O.Compare c) how ty (a ∷ b ∷ d ∷ of) from names y).row
-  compare_line c (None ∷ b ∷ []) from names y =
+  compare_line c (Some a ∷ b ∷ []) (F.Value left ∷ F.Value right ∷ []) none names y = compare_values c a b left right none names y
+  compare_line c [] from none names y = never (applies x g rest to (O.Compare c) how ty [] from names y).row
+  compare_line c (a ∷ []) from none names y = never (applies x g rest to (O.Compare c) how ty (a ∷ []) from names y).row
+  compare_line c (a ∷ b ∷ d ∷ of) from none names y = never (applies x g rest to (O.Compare c) how ty (a ∷ b ∷ d ∷ of) from names y).row
+  compare_line c (None ∷ b ∷ []) from none names y =
       never (and_parts (is_bool (kind_if (facts_in x.table) (if_type (known x).types ty))) false
       (applies x g rest to (O.Compare c) how ty (None ∷ b ∷ []) from names y).row).1
-  compare_line c (Some a ∷ b ∷ []) [] names y = never (applies x g rest to (O.Compare c) how ty (Some a ∷ b ∷ []) [] names y).typed
-  compare_line c (Some a ∷ b ∷ []) (F.Place t ∷ others) names y =
+  compare_line c (Some a ∷ b ∷ []) [] none names y = never (applies x g rest to (O.Compare c) how ty (Some a ∷ b ∷ []) [] names y).typed
+  compare_line c (Some a ∷ b ∷ []) (F.Place t ∷ others) none names y =
       never (applies x g rest to (O.Compare c) how ty (Some a ∷ b ∷ []) (F.Place t ∷ others) names y).placed
-  compare_line c (Some a ∷ b ∷ []) (F.Value left ∷ []) names y =
+  compare_line c (Some a ∷ b ∷ []) (F.Value left ∷ []) none names y =
       never (and_parts (same_value (value_type_in x g left) (Some (type_at (known x).types a))) false
       (applies x g rest to (O.Compare c) how ty (Some a ∷ b ∷ []) (F.Value left ∷ []) names y).typed).1
-  compare_line c (Some a ∷ b ∷ []) (F.Value left ∷ F.Place t ∷ others) names y =
+  compare_line c (Some a ∷ b ∷ []) (F.Value left ∷ F.Place t ∷ others) none names y =
       never (applies x g rest to (O.Compare c) how ty (Some a ∷ b ∷ []) (F.Value left ∷ F.Place t ∷ others) names y).placed
-  compare_line c (Some a ∷ b ∷ []) (F.Value left ∷ F.Value right ∷ other ∷ others) names y =
+  compare_line c (Some a ∷ b ∷ []) (F.Value left ∷ F.Value right ∷ other ∷ others) none names y =
       never (and_parts (same_value (value_type_in x g right) (if_type (known x).types b)) false
       (and_parts (same_value (value_type_in x g left) (Some (type_at (known x).types a)))
       (same_value (value_type_in x g right) (if_type (known x).types b) && false)
@@ -131,7 +134,7 @@ module _ (x : Basis) (labels : LabelsLead x) (g : Both) (rest : List BlockLine) 
 -- ---- conversions
 
 module _ (x : Basis) (traps : TrapsStop x) (labels : LabelsLead x) (g : Both) (rest : List BlockLine) (to : ℕ) (how : UseAt) where
-  module _ (ty a from : ℕ) where
+  module _ (ty a from : ℕ) (unhooked : is_hooked x.table a ≡ false) where
     abbrev converting : BlockLine
     converting = plain (L.Apply to O.Convert how (Some ty) (Some a ∷ []) (F.Value from ∷ []))
 
@@ -146,7 +149,7 @@ module _ (x : Basis) (traps : TrapsStop x) (labels : LabelsLead x) (g : Both) (r
         (from_typed : value_type x g converting rest y from ≡ Some from_type) (v : Value) (e : g.call.temps.values from ≡ Some v) where
       abbrev Converts : Option ℕ → Type 0
       Converts o = Settles x (starts g converting rest) rest (gives (scene_of (high x.table x.blocks (starts g converting rest))) to
-          (costs 1 (converted o v >>= moved) >>= made_by (gives_hooked (facts_in x.table) (Some to_type)) (bound_for g how)))
+          (costs 1 (converted o v >>= moved) >>= kept_if (gives_hooked (facts_in x.table) (Some to_type)) (bound_for g how)))
 
       t : Target x g converting rest y to to_type
       t = target x g converting rest y to to_type refl refl typed names.0
@@ -162,10 +165,10 @@ module _ (x : Basis) (traps : TrapsStop x) (labels : LabelsLead x) (g : Both) (r
           → ((u : Value) → has_shape u (shape_of (facts_in x.table) from_type) ≡ true → has_shape u (shape_of (facts_in x.table) to_type) ≡ true)
           → Converts None
       same_shape none as_other =
-          let numbers = x.plains a (first_plain (is_hooked x.table a) (any_hooked x.table []) (plain_operands x g converting rest y)) in
+          let numbers = x.plains a unhooked in
           let r = value_read x g converting rest y from v from_type from_typed numbers e in
           subst (λ b. Settles x (starts g converting rest) rest (gives (scene_of (high x.table x.blocks (starts g converting rest))) to
-          (costs 1 (moved v) >>= made_by b (bound_for g how)))) (sym t.unhooked)
+          (costs 1 (moved v) >>= kept_if b (bound_for g how)))) (sym t.unhooked)
           (moved_value x g converting rest y to to_type v t (as_other v r.1) (house g.call.site (of_value from)) true r.0.read (code_is None none)
           (1 + (bytes v + 0)) (omega arith))
 
@@ -196,7 +199,7 @@ module _ (x : Basis) (traps : TrapsStop x) (labels : LabelsLead x) (g : Both) (r
             → Checks x.live (all_procs x) (within x.table x.blocks g) g.memory g.words (code_here x g converting rest y) g.call.vars
             (variable x g converting rest y to) (code_next x g converting rest y) (if b then Fine (number_of v) else Trapped OutOfRange)
             → Settles x (starts g converting rest) rest (gives (scene_of (high x.table x.blocks (starts g converting rest))) to
-            (costs 1 (outcome (if b then Fine (number_of v) else Trapped OutOfRange) >>= moved) >>= made_by false (bound_for g how)))
+            (costs 1 (outcome (if b then Fine (number_of v) else Trapped OutOfRange) >>= moved) >>= kept_if false (bound_for g how)))
         narrowed true h c =
             gives_settles x g converting rest y to (number_of v) (1 + (4 + 0)) (omega arith)
             (getting x g converting rest y to to_type (Some values) (number_of v) t shape (and_from (is_int_number (number_of v)) (inside (number_of v) values)
@@ -210,13 +213,13 @@ module _ (x : Basis) (traps : TrapsStop x) (labels : LabelsLead x) (g : Both) (r
 
             twice : Passes (Finishes es (1 + length (line_of (trap_text OutOfRange))) 1 g.world)
                 ≡ gives (scene_of (high x.table x.blocks (starts g converting rest))) to
-                (costs 1 (outcome (Trapped OutOfRange) >>= moved) >>= made_by false (bound_for g how))
+                (costs 1 (outcome (Trapped OutOfRange) >>= moved) >>= kept_if false (bound_for g how))
             twice = ap (λ l. Passes (Finishes l (1 + length (line_of (trap_text OutOfRange))) 1 g.world)) (sym (append-nil es))
 
         one_of : Converts (Some values)
         one_of =
             subst (λ b. Settles x (starts g converting rest) rest (gives (scene_of (high x.table x.blocks (starts g converting rest))) to
-            (costs 1 (outcome result >>= moved) >>= made_by b (bound_for g how)))) (sym t.unhooked) (narrowed (inside (number_of v) values) refl checks)
+            (costs 1 (outcome result >>= moved) >>= kept_if b (bound_for g how)))) (sym t.unhooked) (narrowed (inside (number_of v) values) refl checks)
 
     pub convert_value : RowHere x g rest to O.Convert how (Some ty) (Some a ∷ []) (F.Value from ∷ [])
     convert_value names y =
@@ -226,7 +229,7 @@ module _ (x : Basis) (traps : TrapsStop x) (labels : LabelsLead x) (g : Both) (r
         let typed = value_type_by (value_type x g converting rest y to) (Some to_type) to_type f.given refl in
         mapped_settles x (starts g converting rest) rest (g.call.temps.values from) Given
         (λ z. gives (scene_of (high x.table x.blocks (starts g converting rest))) to
-        (costs 1 (converted (limit_of (facts_in x.table) to_type) (value_of z) >>= moved) >>= made_by (gives_hooked (facts_in x.table) (Some to_type))
+        (costs 1 (converted (limit_of (facts_in x.table) to_type) (value_of z) >>= moved) >>= kept_if (gives_hooked (facts_in x.table) (Some to_type))
         (bound_for g how)))
         (λ z e. by names y typed from_typed z e (x.conversions ty a f.row))
       where
@@ -234,7 +237,9 @@ module _ (x : Basis) (traps : TrapsStop x) (labels : LabelsLead x) (g : Both) (r
             (typed : value_type x g converting rest y to ≡ Some to_type)
             (from_typed : value_type x g converting rest y from ≡ Some from_type) (v : Value) (e : g.call.temps.values from ≡ Some v)
             → ((limit_of (facts_in x.table) to_type ≡ None)
-            × ((u : Value) → has_shape u (shape_of (facts_in x.table) from_type) ≡ true → has_shape u (shape_of (facts_in x.table) to_type) ≡ true))
+            × ((u : Value) → has_shape u (shape_of (facts_in x.table) from_type) ≡ true → has_shape u (shape_of (facts_in x.table) to_type) ≡ true)
+            × ((shape_of (facts_in x.table) from_type ≡ shape_of (facts_in x.table) to_type)
+            ⊎ ((of_numbers (shape_of (facts_in x.table) from_type) ≡ true) × (of_numbers (shape_of (facts_in x.table) to_type) ≡ true))))
             ⊎ ((values : ℕ) × (other : Option ℕ) × (limit_of (facts_in x.table) to_type ≡ Some values)
             × (shape_of (facts_in x.table) to_type ≡ number (Some values)) × (shape_of (facts_in x.table) from_type ≡ number other))
             → Converts names y typed from_typed v e (limit_of (facts_in x.table) to_type)
@@ -243,15 +248,17 @@ module _ (x : Basis) (traps : TrapsStop x) (labels : LabelsLead x) (g : Both) (r
         by names y typed from_typed v e (inr h) =
             subst (λ l. Converts names y typed from_typed v e l) (sym h.2) (one_of names y typed from_typed v e h.0 h.1 h.2 h.3 h.4)
 
-  pub convert_line : (ty : Option ℕ) (of : List (Option ℕ)) (from : List From) → RowHere x g rest to O.Convert how ty of from
-  convert_line (Some ty) (Some a ∷ []) (F.Value from ∷ []) names y = convert_value ty a from names y
-  convert_line ty [] from names y = never (applies x g rest to O.Convert how ty [] from names y).row
-  convert_line ty (a ∷ b ∷ of) from names y = never (applies x g rest to O.Convert how ty (a ∷ b ∷ of) from names y).row
-  convert_line None (a ∷ []) from names y = never (applies x g rest to O.Convert how None (a ∷ []) from names y).row
-  convert_line (Some ty) (None ∷ []) from names y = never (applies x g rest to O.Convert how (Some ty) (None ∷ []) from names y).row
-  convert_line (Some ty) (Some a ∷ []) [] names y = never (applies x g rest to O.Convert how (Some ty) (Some a ∷ []) [] names y).typed
-  convert_line (Some ty) (Some a ∷ []) (F.Place t ∷ others) names y =
+  pub convert_line : (ty : Option ℕ) (of : List (Option ℕ)) (from : List From) → any_hooked (facts_in x.table) (map (if_type (known x).types) of) ≡ false
+      → RowHere x g rest to O.Convert how ty of from
+  convert_line (Some ty) (Some a ∷ []) (F.Value from ∷ []) none names y =
+      convert_value ty a from (x.hooks a ∙ (first_none (hooked (form_of (facts_in x.table) (type_at (known x).types a))) false none).0) names y
+  convert_line ty [] from none names y = never (applies x g rest to O.Convert how ty [] from names y).row
+  convert_line ty (a ∷ b ∷ of) from none names y = never (applies x g rest to O.Convert how ty (a ∷ b ∷ of) from names y).row
+  convert_line None (a ∷ []) from none names y = never (applies x g rest to O.Convert how None (a ∷ []) from names y).row
+  convert_line (Some ty) (None ∷ []) from none names y = never (applies x g rest to O.Convert how (Some ty) (None ∷ []) from names y).row
+  convert_line (Some ty) (Some a ∷ []) [] none names y = never (applies x g rest to O.Convert how (Some ty) (Some a ∷ []) [] names y).typed
+  convert_line (Some ty) (Some a ∷ []) (F.Place t ∷ others) none names y =
       never (applies x g rest to O.Convert how (Some ty) (Some a ∷ []) (F.Place t ∷ others) names y).placed
-  convert_line (Some ty) (Some a ∷ []) (F.Value from ∷ other ∷ others) names y =
+  convert_line (Some ty) (Some a ∷ []) (F.Value from ∷ other ∷ others) none names y =
       never (and_parts (same_value (value_type_in x g from) (Some (type_at (known x).types a))) false
       (applies x g rest to O.Convert how (Some ty) (Some a ∷ []) (F.Value from ∷ other ∷ others) names y).typed).1

@@ -1,5 +1,6 @@
 -- Constants that are built: zeros, and then the words that are no zeros. What the line does is followed.
-use Rattle.std.proofs.Common.{◌≡◌, inl, inr, ℕ, zero, suc, ◌+◌, ◌*◌, ◌%◌, ◌^◌, ◌<◌, ◌≤◌, List, [], ◌∷◌}
+use Rattle.std.proofs.Common.{Bool, ◌≡◌, inl, inr, ℕ, zero, suc, ◌+◌, ◌*◌, ◌%◌, ◌^◌, ◌<◌, ◌≤◌, List, [], ◌∷◌}
+use Rattle.word_lowering.proofs.Options.{none_some}
 use Rattle.std.proofs.Common.{Some, None, Ok, ℤ, true, false, refl, sym, pos}
 use Rattle.std.proofs.Common.{ap, ap₂, subst, ◌∙◌, arith}
 use Rattle.std.proofs.lemmas.Bool.{and_parts}
@@ -32,21 +33,22 @@ use Rattle.word_lowering.specs.declared.homes.TheConstants.{FIRST, SECOND}
 use Rattle.word_lowering.specs.declared.homes.Home.{Home}
 use Rattle.word_lowering.specs.declared.homes.Housed.{Housed}
 use Rattle.word_lowering.specs.declared.spots.Spot.TheVariants.{Lies}
-use Rattle.word_lowering.specs.Aliases.{text_in, text_alias}
+use Rattle.word_lowering.specs.Aliases.{is_read, text_in, text_alias}
 use Rattle.word_lowering.specs.Layouts.{holds_address}
 use Rattle.word_lowering.specs.Spots.{spot_of, shifted, cleared}
 use Rattle.word_lowering.specs.Operations.{word}
-use Rattle.word_lowering.specs.LineCode.{unless_zero, pieces_code, first_word, constant_at, constant_by}
+use Rattle.word_lowering.specs.declared.homes.Alias.TheVariants as alias
+use Rattle.word_lowering.specs.LineCode.{Around, unless_zero, pieces_code, first_word, constant_at, constant_by}
 use Rattle.word_lowering.proofs.AddressFacts.{in_memory}
 use Rattle.word_lowering.proofs.InMemory.{AreAt, AreZero, OfNumbers, all_carried, bytes_some, or_word_is}
 use Rattle.word_lowering.proofs.RoutineCalls.{awaiting}
 use Rattle.word_lowering.proofs.OrdinalRuns.{put_here as var_here, but_one}
 use Rattle.word_lowering.proofs.Arithmetic.{word_small}
 use Rattle.word_lowering.proofs.Clears.{zeros_by}
-use Rattle.word_lowering.proofs.ConstantWords.{number_constant, text_constant}
+use Rattle.word_lowering.proofs.ConstantWords.{number_constant}
 use Rattle.word_lowering.proofs.Moves.{ToVariable, address_runs, all_same, is_single, same_first, same_more, same_second}
 use Rattle.word_lowering.proofs.LineFits.{are_of, number_fits, single_is}
-use Rattle.word_lowering.proofs.Sites.{InMemory}
+use Rattle.word_lowering.proofs.Sites.{InMemory, around}
 use Rattle.word_lowering.proofs.Scenes.{address_of, Points, of_value, house, IsThere, looked}
 use Rattle.word_lowering.proofs.Keeping.{spot_memory, points_there}
 use Rattle.word_lowering.proofs.Related.{Both, body_of, high, within}
@@ -332,22 +334,31 @@ module _ (x : Basis) (labels : LabelsLead x) (g : Both) (rest : List BlockLine) 
       let to_type : Ty = type_at (known x).types ty in
       let v : Value = value_of pieces in
       let one_shaped = has_shape v (shape_of (facts_in x.table) to_type) in
-      let f = and_parts (are_one pieces 0 && one_shaped) (is_of (value_type x g line rest y to) (Some to_type))
+      let f = and_parts (are_one pieces 0 && one_shaped) _
       (fits_here x.table x.blocks (body_of g) line rest y.stands) in
       let p = and_parts (are_one pieces 0) one_shaped f.0 in
-      let u = are_of (value_type x g line rest y to) (Some to_type) f.1 in
-      let t = target x g line rest y to to_type refl (ap (text_alias (texts_behind x g line rest y)) no_text) (u.is ∙ sym u.is_other) names.0 in
+      let u = are_of (value_type x g line rest y to) (Some to_type) (and_parts (is_of (value_type x g line rest y to) (Some to_type)) _ f.1).0 in
+      let t = target x g line rest y to to_type refl (no_alias (is_read how.how) (texts_behind x g line rest y)) (u.is ∙ sym u.is_other) names.0 in
       subst (λ b. Settles x (starts g line rest) rest (gives (scene_of (high x.table x.blocks (starts g line rest))) to
       (costs 1 (constant_for b (form_of (facts_in x.table) to_type) (pieces_bytes pieces) v) >>= made_by b (bound_for g how)))) (sym t.unhooked)
       (subst (λ n. Settles x (starts g line rest) rest (Passes (Answers [] (1 + (n + 0)) (with_value to g.call.temps v) g.world))) (sym long)
       (built_settles x g line rest y to t.there pieces v (words_are pieces p.0) (values_of_numbers v (shape_of (facts_in x.table) to_type) t.numbers p.1)
       (ap of_numbers t.look ∙ t.numbers) (subst (λ s. has_shape v s ≡ true) (sym t.look) p.1)
-      (ap (λ o. constant_by o (house g.call.site (of_value to)) pieces (code_next x g line rest y)) no_text)))
-
-  pub constant_line : (pieces : List Piece) → FollowedHere x labels g rest (L.Constant to how ty pieces)
-  constant_line pieces = by (pieces_are pieces)
+      (code_is (is_read how.how) (around x.table x.blocks (body_of g)) (house g.call.site (of_value to)) (code_next x g line rest y))))
     where
-      by : {pieces : List Piece} → PiecesAre pieces → FollowedHere x labels g rest (L.Constant to how ty pieces)
-      by (one_number z) = number_constant x labels g rest to how ty z
-      by (one_text text) = text_constant x labels g rest to how ty text
-      by (built {pieces} no_text long) = built_constant pieces no_text long
+      no_alias : (read : Bool) (n : ℕ) → text_alias read n (text_in pieces) ≡ alias.Own
+      no_alias read n = ap (text_alias read n) no_text
+
+      code_is : (read : Bool) (a : Around) (h : Housed) (k : List WordInstr)
+          → constant_by a read (text_in pieces) h pieces k ≡ constant_at h (spot_of h) pieces k
+      code_is false a h k = ap (λ o. constant_by a false o h pieces k) no_text
+      code_is true a h k = ap (λ o. constant_by a true o h pieces k) no_text
+
+  -- one that is no text
+  pub constant_line : (pieces : List Piece) → text_in pieces ≡ None → FollowedHere x labels g rest (L.Constant to how ty pieces)
+  constant_line pieces other = by (pieces_are pieces) other
+    where
+      by : {pieces : List Piece} → PiecesAre pieces → text_in pieces ≡ None → FollowedHere x labels g rest (L.Constant to how ty pieces)
+      by (one_number z) other = number_constant x labels g rest to how ty z
+      by (one_text text) other = absurd (none_some text (sym other))
+      by (built {pieces} no_text long) other = built_constant pieces no_text long

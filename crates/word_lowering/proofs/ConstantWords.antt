@@ -17,15 +17,16 @@ use Rattle.flat_code.specs.Shapes.{Shape, number, reference, block, elements, ro
 use Rattle.word_code.specs.declared.word.WordInstr.TheVariants.{Constant}
 use Rattle.word_lowering.specs.declared.homes.Alias.{Alias}
 use Rattle.word_lowering.specs.declared.homes.Alias.TheVariants as alias
-use Rattle.word_lowering.specs.Aliases.{texts_of, text_of}
+use Rattle.word_lowering.specs.Aliases.{is_read, text_alias, texts_of, text_of}
 use Rattle.word_lowering.proofs.HeapKept.{heap_same}
 use Rattle.word_lowering.proofs.Keeping.{nowhere, own_text, Kept, New, call, value_no_location, value_no_place, worlds_same, value_no_waiting}
 use Rattle.word_lowering.specs.MayLower.{same_alias}
 use Rattle.word_lowering.specs.Operations.{word}
-use Rattle.word_lowering.specs.LineCode.{constant_at}
+use Rattle.word_lowering.specs.LineCode.{constant_at, constant_by}
+use Rattle.word_lowering.specs.OwnedCode.{lent_text_code}
 use Rattle.flat_code.specs.Lines.{gives}
 use Rattle.flat_code.specs.Running.{scene_of}
-use Rattle.nim_meaning.specs.Deeds.{costs, give, ◌>>=◌, Answers}
+use Rattle.nim_meaning.specs.Deeds.{costs, ◌>>=◌, Answers}
 use Rattle.nim_meaning.specs.Places.{made_by}
 use Rattle.nim_program.specs.Kinds.{is_of}
 use Rattle.nim_program.specs.declared.operation.Use.{Use}
@@ -41,14 +42,14 @@ use Rattle.word_lowering.proofs.Related.{Both, body_of, high, within, store_of}
 use Rattle.word_lowering.proofs.Scenes.{house, of_value, IsLiteral, number_in}
 use Rattle.word_lowering.proofs.Settling.{LabelsLead, code_here, code_next, gives_settles}
 use Rattle.word_lowering.proofs.ShapeFacts.{never}
-use Rattle.word_lowering.proofs.Targets.{target, value_alias, plain_operands}
+use Rattle.word_lowering.proofs.Sites.{around}
+use Rattle.word_code.proofs.ForCallers.{at}
+use Rattle.word_lowering.proofs.Targets.{target, value_alias}
 use Rattle.word_lowering.proofs.ValueFacts.{put_here, in_word, put_away, put_still}
 use Rattle.flat_code.specs.Codes.{block_plain}
 use Rattle.flat_code.specs.Scene.{Passes, Temps, with_value}
-use Rattle.nim_meaning.specs.Here.{gives_hooked}
 use Rattle.nim_meaning.specs.Table.{constant_for}
 use Rattle.nim_types.specs.Forms.{form_of}
-use Rattle.nim_meaning.specs.Shapes.{is_lent}
 use Rattle.nim_program.specs.declared.operation.Use.TheVariants as uses
 
 -- ---- texts of lines
@@ -66,18 +67,18 @@ text_whole (p ∷ before) line rest =
       ap (λ l. l ++ last) h.1 ∙ (append_assoc texts (own ++ h.0) last ∙ ap (λ l. texts ++ l) (append_assoc own h.0 last)),
     )
 
--- and it is one of all
-text_among : (to : ℕ) (how : UseAt) (ty : ℕ) (text : List ℕ) (before rest : List BlockLine) →
-    is_member same_text (lines_texts (map block_plain (before ++ plain (L.Constant to how ty (P.Text text ∷ [])) ∷ rest))) text ≡ true
-text_among to how ty text [] rest =
-    ap (λ b. b || is_member same_text (lines_texts (map block_plain rest)) text) (nat_list_eq_equiv.refl text)
-text_among to how ty text (p ∷ before) rest =
-    has_behind text (line_texts (block_plain p)) (lines_texts (map block_plain (before ++ plain (L.Constant to how ty (P.Text text ∷ [])) ∷ rest)))
-    (text_among to how ty text before rest)
+-- the one text of a line is among all
+pub text_among : (line : BlockLine) (text : List ℕ) → line_texts (block_plain line) ≡ text ∷ [] → (before rest : List BlockLine)
+    → is_member same_text (lines_texts (map block_plain (before ++ line ∷ rest))) text ≡ true
+text_among line text one [] rest =
+    ap (λ l. is_member same_text (l ++ lines_texts (map block_plain rest)) text) one
+    ∙ ap (λ b. b || is_member same_text (lines_texts (map block_plain rest)) text) (nat_list_eq_equiv.refl text)
+text_among line text one (p ∷ before) rest =
+    has_behind text (line_texts (block_plain p)) (lines_texts (map block_plain (before ++ line ∷ rest))) (text_among line text one before rest)
 
-abbrev text_place : Alias → ℕ
-text_place (alias.Text n size) = n
-text_place other = 0
+abbrev text_behind : Alias → ℕ
+text_behind (alias.Text n size) = n
+text_behind other = 0
 
 abbrev text_size : Alias → ℕ
 text_size (alias.Text n size) = size
@@ -92,6 +93,14 @@ text_alias_is (alias.Place p false) n size h = never h
 text_alias_is (alias.Text m other) n size h =
     let s = and_parts (nat_eq m n) (nat_eq other size) h in
     ap (λ k. alias.Text k other) (eqb-true m n s.0) ∙ ap (λ k. alias.Text n k) (eqb-true other size s.1)
+
+text_or_own : (a : Alias) (n size : ℕ) → (same_alias a alias.Own || same_alias a (alias.Text n size)) ≡ true → (a ≡ alias.Own) ⊎ (a ≡ alias.Text n size)
+text_or_own alias.Own n size h = inl refl
+text_or_own (alias.Value t) n size h = never h
+text_or_own (alias.Node m) n size h = never h
+text_or_own (alias.Place p true) n size h = never h
+text_or_own (alias.Place p false) n size h = never h
+text_or_own (alias.Text m other) n size h = inr (text_alias_is (alias.Text m other) n size h)
 
 number_of_shape : (z : ℤ) (s : Shape) → has_shape (Number z) s ≡ true → (values : Option ℕ) × (s ≡ number values)
 number_of_shape z (number values) h = (values, refl)
@@ -111,9 +120,9 @@ module _ (x : Basis) (labels : LabelsLead x) (g : Both) (rest : List BlockLine) 
   pub number_constant : (z : ℤ) → FollowedHere x labels g rest (L.Constant to how ty (P.Ordinal z ∷ []))
   number_constant z names y =
       let line = plain (L.Constant to how ty (P.Ordinal z ∷ [])) in
-      let f = and_parts (has_shape (Number z) (shape_of (facts_in x.table) to_type)) (is_of (value_type x g line rest y to) (Some to_type))
+      let f = and_parts (has_shape (Number z) (shape_of (facts_in x.table) to_type)) _
       (fits_here x.table x.blocks (body_of g) line rest y.stands) in
-      let v = are_of (value_type x g line rest y to) (Some to_type) f.1 in
+      let v = are_of (value_type x g line rest y to) (Some to_type) (and_parts (is_of (value_type x g line rest y to) (Some to_type)) _ f.1).0 in
       let t = target x g line rest y to to_type refl refl (v.is ∙ sym v.is_other) names.0 in
       let s = number_of_shape z (shape_of (facts_in x.table) to_type) f.0 in
       let n = getting x g line rest y to to_type s.0 z t s.1 (subst (λ k. has_shape (Number z) k ≡ true) s.1 f.0) in
@@ -136,13 +145,11 @@ module _ (x : Basis) (labels : LabelsLead x) (g : Both) (rest : List BlockLine) 
     abbrev text_temps : Temps
     text_temps = with_value to g.call.temps (Fixed text)
 
-    module _ (y : IsGood x (starts g naming rest)) where
+    -- one that is only read is nobody's, and stays where it stands
+    module _ (y : IsGood x (starts g naming rest)) (read : is_read how.how ≡ true)
+        (named_text : (house g.call.site (of_value to)).alias ≡ alias.Text (length (texts_of (map block_plain rest))) (length text)) where
       abbrev behind_here : ℕ
       behind_here = length (texts_of (map block_plain rest))
-
-      named_text : (house g.call.site (of_value to)).alias ≡ alias.Text behind_here (length text)
-      named_text = text_alias_is (house g.call.site (of_value to)).alias behind_here (length text)
-          (value_alias x g naming rest y to (alias.Text behind_here (length text)) refl refl)
 
       literal : IsLiteral (body_of g) behind_here (length text) (Fixed text)
       literal =
@@ -156,7 +163,7 @@ module _ (x : Basis) (labels : LabelsLead x) (g : Both) (rest : List BlockLine) 
             whole = ap (λ l. texts_of (map block_plain l)) y.stands.whole ∙ w.1;
             at = refl;
             among = ap (λ l. is_member same_text (lines_texts (map block_plain l)) text) y.stands.whole
-                ∙ text_among to how ty text y.stands.before rest;
+                ∙ text_among naming text refl y.stands.before rest;
           }
 
       different : (u : ℕ) → (g.call.site.level ≢ g.call.site.level) ⊎ (of_value u ≢ of_value to) → u ≢ to
@@ -169,7 +176,7 @@ module _ (x : Basis) (labels : LabelsLead x) (g : Both) (rest : List BlockLine) 
         values = λ u i away. put_away x g naming rest y to (Fixed text) u (different u away);
         places = λ u away. refl;
         texts = λ u n k i e away. put_away x g naming rest y to (Fixed text) u (different u away);
-        still = λ u w h. put_still x g naming rest y to (Fixed text) u w h;
+        still = λ u w l h. put_still x g naming rest y to (Fixed text) u w h;
         variables = λ f u i away home. refl;
         left = refl;
       }
@@ -191,7 +198,7 @@ module _ (x : Basis) (labels : LabelsLead x) (g : Both) (rest : List BlockLine) 
               = sym a ∙ (ap (λ v. (house g.call.site (of_value v)).alias) e ∙ named_text) in
               let value_is = put_here x g naming rest y to (Fixed text) w (subst (λ v. text_temps.values v ≡ Some w) e h) in
               subst (λ v. IsLiteral (body_of g) n k v) value_is
-              (subst (λ m. IsLiteral (body_of g) m k (Fixed text)) (sym (ap text_place same))
+              (subst (λ m. IsLiteral (body_of g) m k (Fixed text)) (sym (ap text_behind same))
               (subst (λ m. IsLiteral (body_of g) behind_here m (Fixed text)) (sym (ap text_size same)) literal))
 
       good_text : IsGood x (changed g rest text_temps g.call.vars g.memory g.words g.awaits g.world)
@@ -202,14 +209,34 @@ module _ (x : Basis) (labels : LabelsLead x) (g : Both) (rest : List BlockLine) 
           kept_text (λ e. new_text) (λ c from i e. absurd (waits_below x g naming rest y c i e)) y.frames y.levels
           (stands_next x.table x.blocks (body_of g) naming rest y.stands)
 
-    pub text_constant : FollowedHere x labels g rest (L.Constant to how ty (P.Text text ∷ []))
-    text_constant names y =
-        subst (λ d. Settles x (starts g naming rest) rest d)
-        (made_text (gives_hooked (facts_in x.table) (Some to_type)) how.how (plain_operands x g naming rest y))
-        (stays_on x (starts g naming rest) (changed g rest text_temps g.call.vars g.memory g.words g.awaits g.world) rest (good_text y)
-        1 text_temps g.world refl refl (omega arith))
+      -- whatever is made of it
+      pub text_named : Settles x (starts g naming rest) rest (Passes (Answers [] 1 text_temps g.world))
+      text_named =
+          stays_on x (starts g naming rest) (changed g rest text_temps g.call.vars g.memory g.words g.awaits g.world) rest good_text 1 text_temps g.world
+          (sym (ap (λ b. at (within x.table x.blocks g) g.memory
+          (constant_by (around x.table x.blocks (body_of g)) b (Some text) (house g.call.site (of_value to)) (P.Text text ∷ []) (code_next x g naming rest y))
+          g.call.vars g.words) read
+          ∙ ap (λ a. at (within x.table x.blocks g) g.memory
+          (lent_text_code (around x.table x.blocks (body_of g)) a (house g.call.site (of_value to)).home text (code_next x g naming rest y))
+          g.call.vars g.words) named_text)) refl (omega arith)
+
+    -- it has that other name, or a home
+    pub named_or_own : (y : IsGood x (starts g naming rest)) → is_read how.how ≡ true → ((house g.call.site (of_value to)).alias ≡ alias.Own)
+        ⊎ ((house g.call.site (of_value to)).alias ≡ alias.Text (length (texts_of (map block_plain rest))) (length text))
+    named_or_own y read =
+        text_or_own (house g.call.site (of_value to)).alias (length (texts_of (map block_plain rest))) (length text)
+        (value_alias x g naming rest y to (alias.Text (length (texts_of (map block_plain rest))) (length text)) refl
+        (ap (λ b. text_alias b (length (texts_of (map block_plain rest))) (Some text)) read))
+
+    -- as a line says it
+    pub read_text : (y : IsGood x (starts g naming rest)) → is_read how.how ≡ true
+        → Settles x (starts g naming rest) rest (Passes (Answers [] 1 text_temps g.world)) → (hooked : Bool)
+        → Settles x (starts g naming rest) rest (gives (scene_of (high x.table x.blocks (starts g naming rest))) to
+        (costs 1 (constant_for hooked (form_of (facts_in x.table) to_type) 0 (Fixed text)) >>= made_by hooked (bound_for g how)))
+    read_text y read settles hooked =
+        subst (λ d. Settles x (starts g naming rest) rest d) (made_text hooked how.how read) settles
       where
-        made_text : (b : Bool) (use_here : Use) → is_lent use_here ≡ true → Passes (Answers [] 1 text_temps g.world)
+        made_text : (b : Bool) (use_here : Use) → is_read use_here ≡ true → Passes (Answers [] 1 text_temps g.world)
             ≡ gives (scene_of (high x.table x.blocks (starts g naming rest))) to
             (costs 1 (constant_for b (form_of (facts_in x.table) to_type) 0 (Fixed text))
             >>= made_by b (record { how = use_here; level = g.call.site.level; node = how.node }))
@@ -218,4 +245,4 @@ module _ (x : Basis) (labels : LabelsLead x) (g : Both) (rest : List BlockLine) 
         made_text true uses.Owned h = never h
         made_text true uses.Given h = never h
         made_text true uses.Held h = never h
-        made_text true uses.Looked h = never h
+        made_text true uses.Looked h = refl

@@ -15,7 +15,7 @@ use Rattle.nim_meaning.specs.Values.{Value, Values, Nil, More, bytes, default_of
 use Rattle.nim_meaning.specs.Table.{with_fields}
 use Rattle.nim_meaning.specs.Deeds.{Answers, costs, give, ◌>>=◌}
 use Rattle.nim_meaning.specs.Here.{gives_hooked}
-use Rattle.nim_meaning.specs.Places.{made_by}
+use Rattle.nim_meaning.specs.Places.{kept_if}
 use Rattle.flat_code.specs.declared.block.BlockLine.{BlockLine}
 use Rattle.flat_code.specs.declared.line.From.{From}
 use Rattle.flat_code.specs.declared.line.From.TheVariants as F
@@ -383,9 +383,9 @@ module _ (x : Basis) (labels : LabelsLead x) (g : Both) (rest : List BlockLine) 
       using_all_settles x (starts g building rest) rest g.call.temps from
       (λ xs. gives (scene_of (high x.table x.blocks (starts g building rest))) to
       (costs 1 (costs (bytes start_value) (give (with_fields start_value names (values_in xs))))
-      >>= made_by (gives_hooked (facts_in x.table) (Some to_type)) (bound_for g how)))
+      >>= kept_if (gives_hooked (facts_in x.table) (Some to_type)) (bound_for g how)))
       (λ xs has. subst (λ b. Settles x (starts g building rest) rest (gives (scene_of (high x.table x.blocks (starts g building rest))) to
-      (costs 1 (costs (bytes start_value) (give (with_fields start_value names (values_in xs)))) >>= made_by b (bound_for g how)))) (sym t.unhooked)
+      (costs 1 (costs (bytes start_value) (give (with_fields start_value names (values_in xs)))) >>= kept_if b (bound_for g how)))) (sym t.unhooked)
       (constructed x g building rest y to o.0 look ty t.there inside numbers size (λ i s e. x.parts_at ty o.0 i s o.1 e) names from
       (values_in xs)
       (fields_come x g building rest y to o.0 look to_kind o.2 numbers names from xs (subst (λ k. are_fields k names all_taken ≡ true) same r.1) p.1 has)

@@ -35,6 +35,7 @@ use Rattle.word_lowering.proofs.Sites.{word_of}
 use Rattle.word_lowering.proofs.Scenes.{of_value, house}
 use Rattle.word_lowering.proofs.Related.{Both, body_of, with_units, within, high, low, code_behind, store_of}
 use Rattle.word_lowering.proofs.Lines.{Basis, all_procs, all_sites, changed, fits_here, goes_from, good_same, good_units, starts, stands_next, IsGood, known}
+use Rattle.word_lowering.proofs.Lines.{IsQuiet}
 use Rattle.word_lowering.proofs.Lines.{lower}
 use Rattle.word_lowering.proofs.Lines.{Settles, spends_settles, using_settles}
 use Rattle.word_lowering.proofs.LineFits.{some_kind, int_shape, bool_shape, ordinal_shape}
@@ -83,13 +84,13 @@ module _ (x : Basis) (g : Both) (line : BlockLine) (rest : List BlockLine) (y : 
 
   -- ---- what holds, or doesn't
 
-  pub where_settles : LabelsLead x → (holds : Bool) (name : ℕ)
+  pub where_settles : LabelsLead x → IsQuiet x line → (holds : Bool) (name : ℕ)
       → (holds ≡ true → (there : List WordInstr) → from_label (own_label name) (word_of x.table x.blocks (body_of g)).lines ≡ Some there
       → Comes x g line rest y there)
       → (holds ≡ false → Settles x (starts g line rest) rest (Passes (Answers [] 1 g.call.temps g.world)))
       → Settles x (starts g line rest) rest (leaps_where (scene_of (high x.table x.blocks (starts g line rest))) 1 holds name)
-  where_settles labels true name h k = leaps_settles x g line rest y labels name (h refl)
-  where_settles labels false name h k = k refl
+  where_settles labels plain true name h k = leaps_settles x g line rest y labels plain name (h refl)
+  where_settles labels plain false name h k = k refl
 
   pub turn_settles : (holds : Bool) (name : ℕ) → (holds ≡ true → Settles x (starts g line rest) rest (Turns g.call.temps name))
       → (holds ≡ false → Settles x (starts g line rest) rest (Passes (Answers [] 1 g.call.temps g.world)))
@@ -148,7 +149,7 @@ module _ (x : Basis) (labels : LabelsLead x) (g : Both) (rest : List BlockLine) 
   }
 
   pub jump_line : (name : ℕ) → FollowedHere (L.Jump name)
-  jump_line name names y = leaps_settles x g (plain (L.Jump name)) rest y labels name (λ there stands. jump_led there name stands)
+  jump_line name names y = leaps_settles x g (plain (L.Jump name)) rest y labels refl name (λ there stands. jump_led there name stands)
 
   -- the jump behind a unit that was spent
   jumps : (k : List WordInstr) (vars : Vars) (units : Option ℕ) (there : List WordInstr) (name : ℕ)
@@ -163,7 +164,7 @@ module _ (x : Basis) (labels : LabelsLead x) (g : Both) (rest : List BlockLine) 
   pub turn_line : (name : ℕ) → FollowedHere (L.Turn name)
   turn_line name names y =
       let line = plain (L.Turn name) in
-      turns_settles x g line rest y labels name Spend (Jump (own_label name) ∷ k) g.call.vars refl 0 (omega arith) (all_same g.call.vars)
+      turns_settles x g line rest y labels refl name Spend (Jump (own_label name) ∷ k) g.call.vars refl 0 (omega arith) (all_same g.call.vars)
       (none (lower x) (low x.table x.blocks (starts g line rest))) (λ units there stands. jumps k g.call.vars units there name stands)
 
   -- ---- by a bool
@@ -226,7 +227,7 @@ module _ (x : Basis) (labels : LabelsLead x) (g : Both) (rest : List BlockLine) 
       let o = bool_read x g line rest y from v (fits_here x.table x.blocks (body_of g) line rest y.stands) e in
       let is : holds test.Equal (word (number_of v)) 0 ≡ not (is_true (number_of v))
       = zero_is from v o ∙ sym (twice_not (int_eq (number_of v) (pos 0))) in
-      where_settles x g line rest y labels (not (is_true (number_of v))) name
+      where_settles x g line rest y labels refl (not (is_true (number_of v))) name
       (λ h there stands. bool_leads from v o test.Equal name there (is ∙ h) stands)
       (λ h. passes_settles x g line rest y g.call.temps same 1 (omega arith) (bool_passes from v o test.Equal name (is ∙ h))))
 
@@ -250,7 +251,7 @@ module _ (x : Basis) (labels : LabelsLead x) (g : Both) (rest : List BlockLine) 
 
       turns_on : is_true (number_of v) ≡ true → Settles x (starts g turn_if rest) rest (Turns g.call.temps name)
       turns_on h =
-          turns_settles x g turn_if rest y labels name (SpendIf test.Unequal at_variable FIRST) behind vars
+          turns_settles x g turn_if rest y labels refl name (SpendIf test.Unequal at_variable FIRST) behind vars
           (spends_if x.live (all_procs x) (within x.table x.blocks g) g.memory behind vars g.words test.Unequal at_variable FIRST (reads from v o) refl
           true (is ∙ h)) 1 (omega arith) (same_put g.call.vars FIRST 0 (omega arith) (omega arith))
           (run_constant x.live (all_procs x) (within x.table x.blocks g) g.memory (SpendIf test.Unequal at_variable FIRST ∷ behind) g.call.vars g.words

@@ -194,3 +194,10 @@ pub data_within : (table : List TypeDef) (blocks : Code BlockLine) → may_lower
 data_within table blocks may = leb-true _ MOST_DATA
     (and_parts (nat_le (length (data_of table blocks.procs)) MOST_DATA) (defs_may table && labels_may blocks.procs)
     (and_parts (procs_may table _ blocks.procs) _ may).1).0
+
+-- its types are as they may be
+pub defs_within : (table : List TypeDef) (blocks : Code BlockLine) → may_lower table blocks ≡ true → defs_may table ≡ true
+defs_within table blocks may =
+    (and_parts (defs_may table) (labels_may blocks.procs)
+    (and_parts (nat_le (length (data_of table blocks.procs)) MOST_DATA) (defs_may table && labels_may blocks.procs)
+    (and_parts (procs_may table _ blocks.procs) _ may).1).1).0

@@ -23,7 +23,7 @@ use Rattle.word_lowering.proofs.Related.{low, Both, body_of, high, within}
 use Rattle.flat_code.specs.Fits.{is_value}
 use Rattle.flat_code.specs.Lines.{gives}
 use Rattle.flat_code.specs.Running.{scene_of}
-use Rattle.nim_meaning.specs.Places.{made_by}
+use Rattle.nim_meaning.specs.Places.{kept_if}
 use Rattle.nim_program.specs.Kinds.{is_int, kind_if, same_value}
 use Rattle.nim_program.specs.View.{if_type}
 use Rattle.flat_code.specs.declared.line.UseAt.{UseAt}
@@ -72,7 +72,7 @@ module _ (x : Basis) (labels : LabelsLead x) (g : Both) (rest : List BlockLine) 
       = subst (λ o. is_int (kind_if (facts_in x.table) o) ≡ true) (sym v) f.row in
       mapped_settles x (starts g line rest) rest (g.call.temps.values status) Given
       (λ z. gives (scene_of (high x.table x.blocks (starts g line rest))) to
-      (costs 1 (end (low_byte (number_of (value_of z)))) >>= made_by false (bound_for g how)))
+      (costs 1 (end (low_byte (number_of (value_of z)))) >>= kept_if false (bound_for g how)))
       (λ v e. let o = int_read x g line rest y status v k e in
       let s = exits x g (code_next x g line rest y) g.call.vars (variable x g line rest y status) (word (number_of v)) o.word_is in
       subst (λ n. AlwaysStops (lower x) (low x.table x.blocks (starts g line rest)) [] 256 n no_objects) (exit_status (number_of v) o.fits)

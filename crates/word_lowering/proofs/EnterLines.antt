@@ -1,5 +1,6 @@
 -- A procedure with lines is entered, behind the check that it isn't one call too many: both states belong together then.
-use Rattle.std.proofs.Common.{◌≡◌, inl, ℕ, suc, ◌+◌, ◌*◌, ◌^◌, ◌<◌, ◌≤◌, List, [], ◌∷◌, ◌++◌, Option, Some, None, true, Ok}
+use Rattle.std.proofs.Common.{◌≡◌, inl, ℕ, suc, ◌+◌, ◌*◌, ◌^◌, ◌<◌, ◌≤◌, List, [], ◌∷◌, ◌++◌, Option, Some, None, true, Ok, length}
+use Rattle.word_lowering.proofs.ShapeFacts.{never}
 use Rattle.std.proofs.Common.{refl, sym, ap, subst, ◌∙◌, arith}
 use Rattle.std.specs.Prelude.{nat_lt, not}
 use Rattle.std.proofs.lemmas.Bool.{cond-true, lt-ltb}
@@ -14,17 +15,16 @@ use Rattle.flat_code.specs.Running.{entered, begin_work}
 use Rattle.word_code.specs.declared.word.WordInstr.{WordInstr}
 use Rattle.word_code.specs.declared.word.WordProc.{WordProc}
 use Rattle.word_code.specs.Words.{Vars, WordState, no_words, put, params_of}
-use Rattle.word_code.proofs.ForCallers.{Runs, Within, at}
+use Rattle.word_code.proofs.ForCallers.{Runs, Within, at, then_runs}
 use Rattle.word_lowering.specs.declared.homes.TheConstants.{LEFT, FIRST, OWN_FROM}
 use Rattle.word_lowering.specs.Layouts.{params_in, result_in, is_empty, kept_in}
 use Rattle.word_lowering.specs.Lowered.{result_cleared}
-use Rattle.word_lowering.specs.WaitingCode.{none_code}
 use Rattle.word_lowering.proofs.HeapKept.{SameHeap}
 use Rattle.word_lowering.proofs.Callees.{Callee}
 use Rattle.word_lowering.proofs.EnterRuns.{code_called, within_then, enters, memory_then}
 use Rattle.word_lowering.proofs.FirstPlaces.{Gave, gave_still}
 use Rattle.word_lowering.proofs.LabelsHere.{code_is}
-use Rattle.word_lowering.proofs.Lines.{Basis, FollowsFrom, all_procs, IsGood, known, starts, machine}
+use Rattle.word_lowering.proofs.Lines.{Basis, FollowsFrom, all_procs, IsGood, known, starts, machine, IsQuiet, none_past}
 use Rattle.word_lowering.proofs.NewCalls.{VarsThen, sites_then, linked_then}
 use Rattle.word_lowering.proofs.NewStates.{ended, ready, world_then}
 use Rattle.word_lowering.proofs.OrdinalRuns.{put_here, put_other}
@@ -35,6 +35,8 @@ use Rattle.arc_base.proofs.ForCallers.{steps_on}
 use Rattle.word_code.specs.Memory.{Memory, number_at}
 use Rattle.word_lowering.proofs.CallPlaces.{Grown, places_come, still_read, good_come, heap_still}
 use Rattle.rv32_isa.specs.declared.micro_op.Size.TheVariants.{Word}
+use Rattle.word_lowering.specs.declared.homes.Waiter.{Waiter}
+use Rattle.word_lowering.proofs.WaitingRuns.{none_runs, zeroed, zeroed_below, zeroed_is}
 
 -- nothing more is seen
 no_more : (hook : Option HookOf) → seen_call hook ++ [] ≡ seen_call hook
@@ -68,6 +70,19 @@ module _ (x : Basis) (g : Both) (line : BlockLine) (rest : List BlockLine) (y : 
       cond-true (nat_lt v limit) (put g.words LEFT left v) None (lt-ltb v limit high)
       ∙ put_other g.words LEFT left v (λ h. absurd (omega (arith, h, low)))
 
+  -- its waiters' variables are behind those
+  abbrev waiters : List Waiter
+  waiters = c.body.own.waiters
+
+  abbrev begun_vars : Vars
+  begun_vars = zeroed waiters handed_on
+
+  begun_left : begun_vars LEFT ≡ Some left
+  begun_left = zeroed_below waiters handed_on limit LEFT c.waiters_from (omega arith) ∙ handed_left
+
+  begun_param : (v : ℕ) → OWN_FROM ≤ v → v < limit → begun_vars v ≡ g.words v
+  begun_param v low high = zeroed_below waiters handed_on limit v c.waiters_from high ∙ handed_param v low high
+
   abbrev here : Within
   here = within_then x g line rest y c to
 
@@ -100,43 +115,49 @@ module _ (x : Basis) (g : Both) (line : BlockLine) (rest : List BlockLine) (y : 
     still_then a w h r = still_read g.memory memory (room c.body) comes a w (let p = y.memory.places in omega (arith, h, p)) r
 
   -- from wherever some lines come to what is behind the check
-  pub entered_line : g.call.vars FIRST ≡ Some left → (l : BlockLine) (ls : List BlockLine) → c.body.proc.lines ≡ l ∷ ls
+  pub entered_line : IsQuiet x line → g.call.vars FIRST ≡ Some left → (l : BlockLine) (ls : List BlockLine) → c.body.proc.lines ≡ l ∷ ls
       → (t : WordState) (before work : ℕ) → before + 10 ≤ 256 * work
       → Runs x.live (all_procs x) before t (at (within x.table x.blocks g) g.memory (code_called x g line rest y c to) g.call.vars g.words)
       → FollowsFrom x t (starts g line rest)
       (entered (high x.table x.blocks (starts g line rest)) rest to slots work left (proc_of (known x) c.body.proc) (l ∷ ls))
-  entered_line number l ls is t before work few_before runs_before done =
+  entered_line plain number l ls is t before work few_before runs_before done =
       let runs : c.body.own.runs ≡ true = c.runs ∙ ap (λ q. not (is_empty q)) is in
       let r1 = runs_before.by x.fresh done in
       let n = enters x g line rest y c to left e number runs r1.0 in
       let m : Memory = memory_then x g line rest y c to n.bytes in
       let gave_m = gave_then n.bytes in
-      let vars_m : VarsThen x g line rest y c m slots gave_m left e handed_on = record { left_is = handed_left; handed = handed_param } in
-      let r = ready x g line rest y c m slots gave_m left e to answers (good_then n.bytes) (heap_there n.bytes) (still_then n.bytes) handed_on vars_m k l
+      let vars_m : VarsThen x g line rest y c m slots gave_m left e begun_vars
+      = record { left_is = begun_left; handed = begun_param; zeros = zeroed_is waiters handed_on } in
+      let r = ready x g line rest y c m slots gave_m left e to answers (good_then n.bytes) (heap_there n.bytes) (still_then n.bytes) begun_vars vars_m k l
       ls is in
-      let lines = code_is (around x.table x.blocks c.body) (lines_of c.body)
-      ∙ ap (λ ws. result_cleared (result_in c.body.own.all) (none_code ws k)) c.is.waiters in
-      let ready_runs : Runs x.live (all_procs x) r.steps (at here m (word_of x.table x.blocks c.body).lines handed_on no_words)
+      let lines = code_is (around x.table x.blocks c.body) (lines_of c.body) in
+      let first : ℕ = length waiters in
+      let ready_runs : Runs x.live (all_procs x) (first + r.steps) (at here m (word_of x.table x.blocks c.body).lines handed_on no_words)
       (at (awaiting here r.awaits) r.memory k r.vars_then r.words)
-      = subst (λ z. Runs x.live (all_procs x) r.steps (at here m z handed_on no_words) (at (awaiting here r.awaits) r.memory k r.vars_then r.words))
-      (sym lines) r.runs in
+      = subst (λ z. Runs x.live (all_procs x) (first + r.steps) (at here m z handed_on no_words)
+      (at (awaiting here r.awaits) r.memory k r.vars_then r.words))
+      (sym lines)
+      (then_runs x.live (all_procs x)
+      (none_runs x.live (all_procs x) here m (result_cleared (result_in c.body.own.all) k) no_words waiters handed_on) r.runs) in
       let r3 = ready_runs.by x.fresh n.behind in
       let last : ℕ × WordState = (r3.0, at (awaiting here r.awaits) r.memory k r.vars_then r.words) in
       let called : WordState = at (within x.table x.blocks g) g.memory (code_called x g line rest y c to) g.call.vars g.words in
       let first_line : WordState = at here m (word_of x.table x.blocks c.body).lines handed_on no_words in
-      let r2 = steps_on (machine x) before (2 + r.steps) before (2 + r.steps) (done, t) (r1.0, called) last [] (seen_call c.body.proc.hook ++ []) r1.1
-      (steps_on (machine x) 2 r.steps 2 r.steps (r1.0, called) (n.behind, first_line) last (seen_call c.body.proc.hook) [] n.steps r3.1) in
+      let after : ℕ = first + r.steps in
+      let r2 = steps_on (machine x) before (2 + after) before (2 + after) (done, t) (r1.0, called) last [] (seen_call c.body.proc.hook ++ []) r1.1
+      (steps_on (machine x) 2 after 2 after (r1.0, called) (n.behind, first_line) last (seen_call c.body.proc.hook) [] n.steps r3.1) in
       let less = r.few in
-      let world = world_then x g line rest y c m slots gave_m left e to answers (good_then n.bytes) (heap_there n.bytes) (still_then n.bytes) handed_on
+      let waiting = c.waiters_few in
+      let world = world_then x g line rest y c m slots gave_m left e to answers (good_then n.bytes) (heap_there n.bytes) (still_then n.bytes) begun_vars
       vars_m in
-      let then : Both = ended x g line rest y c m slots gave_m left e to answers (good_then n.bytes) (heap_there n.bytes) (still_then n.bytes) handed_on
+      let then : Both = ended x g line rest y c m slots gave_m left e to answers (good_then n.bytes) (heap_there n.bytes) (still_then n.bytes) begun_vars
       vars_m world
       r.vars_then r.memory r.words r.awaits in (
         last,
-        before + (2 + r.steps),
-        subst (λ es. Steps (machine x) (before + (2 + r.steps)) (done, t) es (256 * (work + begin_work (proc_of (known x) c.body.proc))) last)
+        before + (2 + after),
+        subst (λ es. Steps (machine x) (before + (2 + after)) (done, t) es (256 * (work + begin_work (proc_of (known x) c.body.proc))) last)
             (no_more c.body.proc.hook)
-            (record { work = r2.work; within = (let w = r2.within in omega (arith, w, less, few_before)); by = r2.by }),
-        (inl (then, r.good, r3.0), refl, refl),
+            (record { work = r2.work; within = (let w = r2.within in omega (arith, w, less, few_before, waiting)); by = r2.by }),
+        (inl (then, r.good, r3.0), ap (λ (u : WordState). (r3.0, u)) (none_past x line rest plain then), refl, λ waits. never (sym plain ∙ waits)),
         inl (omega arith),
       )

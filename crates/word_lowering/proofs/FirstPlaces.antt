@@ -31,9 +31,9 @@ use Rattle.word_lowering.proofs.BlocksBorn.{later_same}
 use Rattle.word_lowering.proofs.StoredLater.{stored_small}
 
 module _ (table : List TypeDef) where
-  -- parameters as a signature has them
+  -- parameters as a signature has them: one that holds an address and isn't written is lent
   abbrev pub IsParam : Housed → Taken → Type 0
-  IsParam h p = (p.by_location ≡ holds_address h) × (p.written ≡ holds_address h) × (p.of ≡ type_of table h)
+  IsParam h p = (p.by_location ≡ holds_address h) × (p.written ≡ false → holds_address h ≡ true → h.lent ≡ true) × (p.of ≡ type_of table h)
 
   abbrev pub ParamsAre : List Housed → List Taken → Type 0
   ParamsAre [] [] = Unit {0}
@@ -99,7 +99,7 @@ module _ (table : List TypeDef) where
       pub home : h.home ≡ Variable variable
       pub address : ℕ
       pub given : words variable ≡ Some address
-      pub owned : h.lent ≡ false → IsOwned location.base
+      pub owned : IsOwned location.base
       pub leads : LeadsHere table blocks sites ground w location address (looks table h)
 
     abbrev pub GaveSlot : Slot → Housed → Type 0

@@ -14,10 +14,11 @@ use Rattle.word_lowering.specs.MayLower.{defs_may}
 use Rattle.word_lowering.specs.Stored.{HaveForms}
 use Rattle.word_lowering.specs.Runtimes.{with_runtimes}
 use Rattle.word_lowering.proofs.DataEnd.{globals_behind, globals_whole}
-use Rattle.word_lowering.proofs.FirstLiterals.{literal_there}
+use Rattle.word_lowering.proofs.FirstLiterals.{literal_there, text_there, text_fixed}
 use Rattle.word_lowering.proofs.FirstMemory.{drop_past, first_memory, own}
 use Rattle.word_lowering.proofs.FirstNames.{take_front}
 use Rattle.word_lowering.proofs.FirstTexts.{line_end_there, names_there}
+use Rattle.word_lowering.proofs.JoinedTypes.{type_compared_text, type_joined}
 use Rattle.word_lowering.proofs.Lines.{Basis}
 use Rattle.word_lowering.proofs.Sites.{Body, IsBody, around, lines_of}
 use Rattle.word_lowering.proofs.TextLines.{TextAt}
@@ -51,7 +52,14 @@ module _ (x : Basis) (heap stack : ℕ) (is : x.first ≡ first_memory (with_run
       record {
         least = least;
         names = names_there x heap stack is least whole most may;
-        literals = record { line_end = line_end_there x heap stack is least whole most; literal = literal };
+        literals = record {
+          line_end = line_end_there x heap stack is least whole most;
+          laid = λ b body text among. text_there x heap stack is least whole most text (body.texts.among text among);
+          fixed = λ b body text among are. text_fixed x heap stack is least whole most text (body.texts.among text among) are;
+          literal = literal;
+        };
         looks = type_looks x.table table have;
         texts = type_text x.table table;
+        joined = type_joined x.table table;
+        compared = type_compared_text x.table table have;
       }

@@ -2,4 +2,3 @@
 
 pub use Rattle.word_lowering.proofs.CallRooms.{small_found}
 pub use Rattle.word_lowering.proofs.DataSizes.{data_sized}
-pub use Rattle.word_lowering.proofs.WaiterHomes.{nothing_behind}

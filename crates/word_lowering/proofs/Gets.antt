@@ -23,7 +23,8 @@ use Rattle.word_lowering.proofs.RoutineCalls.{awaiting}
 use Rattle.word_lowering.proofs.Moves.{is_single, ToVariable, ToMemory}
 use Rattle.word_lowering.proofs.Frames.{IsFrame, frame_kept, slot_here, slot_elsewhere, length_set}
 use Rattle.word_lowering.proofs.Sites.{room, Housing, in_variable, by_address, in_places, in_data, InMemory, Site, AmongSites, data_end, Linked, next_base}
-use Rattle.word_lowering.proofs.Scenes.{address_of, Name, of_value, of_place, At, house, IsThere, looked, IsItem, IsFilled, Filled, IsNamed, Call, site_of}
+use Rattle.word_lowering.proofs.Scenes.{IsLasting, address_of, Name, of_value, of_place, At, house, IsThere, looked, IsItem, IsFilled, Filled, IsNamed, Call}
+use Rattle.word_lowering.proofs.Scenes.{site_of}
 use Rattle.word_lowering.proofs.SitesApart.{IsPlace, houses, site_at, one_level, variables_apart, variable_high, home_variable}
 use Rattle.word_lowering.proofs.Keeping.{number_cases, spot_held, spot_memory, points_there, to_memory, value_no_location, value_no_place, outside_still}
 use Rattle.word_lowering.proofs.Keeping.{location_no_place, call, Edit, nowhere, somewhere, Worlds, worlds_same, Kept, New, same_numbers, away_cases}
@@ -256,7 +257,7 @@ module _ (x : Basis) (g : Both) (line : BlockLine) (rest : List BlockLine) (y : 
     values = λ u there away. put_away x g line rest y t v u (different x g line rest y t u away);
     places = λ u away. refl;
     texts = λ u n k i text away. put_away x g line rest y t v u (different x g line rest y t u away);
-    still = λ u w h. put_still x g line rest y t v u w h;
+    still = λ u w l h. put_still x g line rest y t v u w h;
     variables = λ h u there away home. others h u there (apart h away) home;
     left = left;
   }
@@ -324,17 +325,17 @@ module _ (x : Basis) (g : Both) (line : BlockLine) (rest : List BlockLine) (y : 
   pub record SameTemps (temps : Temps) : Type 0 where
     pub values : (t : ℕ) → IsNamed site (of_value t) → temps.values t ≡ g.call.temps.values t
     pub places : (t : ℕ) → temps.places t ≡ g.call.temps.places t
-    pub still : (t : ℕ) (v : Value) → g.call.temps.values t ≡ Some v → (u : Value) × (temps.values t ≡ Some u)
+    pub still : (t : ℕ) (v : Value) → IsLasting x.table site t → g.call.temps.values t ≡ Some v → (u : Value) × (temps.values t ≡ Some u)
 
   pub same_temps : SameTemps g.call.temps
-  same_temps = record { values = λ t i. refl; places = λ t. refl; still = λ t v h. (v, h) }
+  same_temps = record { values = λ t i. refl; places = λ t. refl; still = λ t v l h. (v, h) }
 
   -- one without a place gets something
   pub nothing_temps : (to : ℕ) (v : Value) → (IsNamed site (of_value to) → ⊥) → SameTemps (with_value to g.call.temps v)
   nothing_temps to v unnamed = record {
     values = λ t i. put_away x g line rest y to v t (λ e. unnamed (subst (λ u. IsNamed site (of_value u)) e i));
     places = λ t. refl;
-    still = λ t u h. put_still x g line rest y to v t u h;
+    still = λ t u l h. put_still x g line rest y to v t u h;
   }
 
   pub kept_temps : (lo : Site) (e : Name) (temps : Temps) (vars : Vars) → SameTemps temps
@@ -345,7 +346,7 @@ module _ (x : Basis) (g : Both) (line : BlockLine) (rest : List BlockLine) (y : 
     values = λ u there away. same.values u (record { among = there.among; number = there.number; kind = there.kind });
     places = λ u away. same.places u;
     texts = λ u n k i text away. same.values u i;
-    still = λ u w h. same.still u w h;
+    still = λ u w l h. same.still u w l h;
     variables = λ h u there away home. others h u there away home;
     left = left;
   }
@@ -409,10 +410,11 @@ module _ (x : Basis) (g : Both) (line : BlockLine) (rest : List BlockLine) (y : 
       slots = elsewhere_is;
       more = λ s m i other h. more s m i other h (away_cases x.table x.blocks x.small (all_sites x g line rest y) y.linked g.call.site (of_place n) s
           (of_place m));
-      roots = λ s m i other h. roots s m i other h
+      roots = λ s m i other h k. roots s m i other h
           (away_cases x.table x.blocks x.small (all_sites x g line rest y) y.linked g.call.site (of_place n) s (of_place m));
       waits = λ s node i a. waits_alike g.world filled_world (slot_alike g.world g.call.site.level n (Some (Holds v))) s.level node;
       once = λ s i h. once_alike g.world filled_world (slot_alike g.world g.call.site.level n (Some (Holds v))) s.level h;
+      hand = refl;
     }
       where
         more : (s : Site) (m : ℕ) → AmongSites s (all_sites x g line rest y) → IsThere s (of_place m) → Filled g.world s.level m

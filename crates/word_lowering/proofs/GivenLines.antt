@@ -1,13 +1,13 @@
 -- An argument of a call is given to its parameter: what is true then.
 use Rattle.std.proofs.Common.{◌≡◌, inl, inr, ℕ, suc, ◌+◌, ◌*◌, ◌%◌, ◌^◌, ◌<◌, ◌≤◌, List, [], ◌∷◌, map, Some, true, false}
-use Rattle.std.proofs.lemmas.Bool.{cases_Bool, true≢false}
+use Rattle.std.proofs.lemmas.Bool.{cases_Bool}
 use Rattle.std.proofs.Common.{refl, sym, ap, ap₂, subst, ◌∙◌, arith, ◌⊎◌}
 use Rattle.nim_meaning.specs.Values.{Value, bytes, Location, Slot, Holds, Stands}
 use Rattle.flat_code.specs.declared.block.BlockLine.{BlockLine}
 use Rattle.flat_code.specs.Codes.{block_plain}
 use Rattle.flat_code.specs.Fits.{Signature, is_value, is_location, is_standing, if_kind, place_named}
 use Rattle.flat_code.specs.Scene.{Where, location_at, Located}
-use Rattle.flat_code.specs.Shapes.{Shape, has_shape, shape_of}
+use Rattle.flat_code.specs.Shapes.{Shape, number, has_shape, shape_of}
 use Rattle.word_code.specs.declared.word.TheConstants.{SPARE_ROOM}
 use Rattle.word_code.specs.declared.word.WordInstr.{WordInstr}
 use Rattle.word_code.specs.declared.word.WordInstr.TheVariants.{Argument, Place}
@@ -23,7 +23,7 @@ use Rattle.word_lowering.specs.Aliases.{handed_by, places_in, is_among}
 use Rattle.word_lowering.specs.Layouts.{params_in, holds_address}
 use Rattle.word_lowering.specs.LineCode.{Around, argument_code, word_argument, location}
 use Rattle.word_lowering.proofs.HeapKept.{SameHeap, heap_same}
-use Rattle.word_lowering.proofs.AddressFacts.{AtAddress, handed_at, at_homed, high_in_memory, in_memory}
+use Rattle.word_lowering.proofs.AddressFacts.{AtAddress, at_homed, high_in_memory, in_memory, handed_homed}
 use Rattle.word_lowering.proofs.Arguments.{Gives, to_variable, to_place}
 use Rattle.word_lowering.proofs.Callees.{Callee}
 use Rattle.word_lowering.proofs.FirstPlaces.{GivenAt, GaveSlot}
@@ -36,10 +36,10 @@ use Rattle.word_lowering.proofs.Lines.{Basis, IsGood, all_procs, all_sites, chan
 use Rattle.word_lowering.proofs.MovedLines.{value_read}
 use Rattle.word_lowering.proofs.Moves.{is_single, single_word, all_same, same_first, address_runs, single_small}
 use Rattle.word_lowering.proofs.OrdinalRuns.{put_here as put_same, AllSame}
-use Rattle.word_lowering.proofs.OutPlaces.{unlent_plain, written_at, written_stands}
+use Rattle.word_lowering.proofs.OutPlaces.{written_at, written_stands}
 use Rattle.word_lowering.proofs.ReadFacts.{ValueRead, item_read, here_near}
 use Rattle.word_lowering.proofs.Related.{Both, body_of, called_by, within, MemoryGood, store_of, store_with}
-use Rattle.word_lowering.proofs.Scenes.{At, Call, site_of, of_value, of_location, house, looked, Leads, Points, LeadsHere, IsOwned}
+use Rattle.word_lowering.proofs.Scenes.{At, Call, site_of, of_value, of_location, house, looked, Leads, Points, LeadsHere, IsOwned, is_owned}
 use Rattle.word_lowering.proofs.ShapeFacts.{never, bytes_is, values_of_numbers, of_numbers, shape_bytes}
 use Rattle.word_lowering.proofs.Scenes.{IsThere, StoredIn, address_of, is_fixed}
 use Rattle.word_lowering.proofs.Sites.{room, looks, type_of, Among, AmongSites, Housing, in_variable, by_address, in_places, in_data, Site, IsHoused, has_hooks}
@@ -47,7 +47,7 @@ use Rattle.word_lowering.proofs.Sites.{is_one_word}
 use Rattle.word_lowering.proofs.Sites.{around, data_end, is_one_word, word_of}
 use Rattle.word_lowering.proofs.SitesApart.{houses, site_at}
 use Rattle.word_lowering.proofs.Targets.{Pointed, pointed}
-use Rattle.word_lowering.proofs.ValueFacts.{InWord, has_type, in_word, type_in, value_plain, IsPlain, IsHomed}
+use Rattle.word_lowering.proofs.ValueFacts.{InWord, has_type, in_word, type_in, value_plain, IsHomed}
 use Rattle.word_lowering.specs.Spots.{copied_here, handed}
 use Rattle.word_lowering.proofs.BitMoves.{low_carried}
 use Rattle.word_lowering.proofs.BlocksBorn.{later_same}
@@ -56,6 +56,11 @@ use Rattle.word_lowering.proofs.NumbersStored.{at_numbers}
 use Rattle.word_lowering.proofs.Sources.{lying_all}
 use Rattle.word_lowering.proofs.StoredLater.{shape_some, shape_whole, stored_small}
 use Rattle.nim_types.specs.Table.{facts_in}
+
+-- what has blocks is no word
+pub no_word : (s : Shape) → of_numbers s ≡ false → is_one_word s ≡ false
+no_word (number values) h = never (sym h)
+no_word s h = refl
 
 module _ (x : Basis) (g : Both) (line : BlockLine) (rest : List BlockLine) (y : IsGood x (starts g line rest)) where
   abbrev sites : List Site
@@ -87,7 +92,7 @@ module _ (x : Basis) (g : Both) (line : BlockLine) (rest : List BlockLine) (y : 
         values = λ t i a. refl;
         places = λ t a. refl;
         texts = λ t n k i e a. refl;
-        still = λ t v h. (v, h);
+        still = λ t v l h. (v, h);
         variables = λ f u there a home. same.others u (high_variable x g line rest y f u there home);
         left = same.left;
       }
@@ -241,7 +246,7 @@ module _ (x : Basis) (g : Both) (line : BlockLine) (rest : List BlockLine) (y : 
       ArguedBits = Argued (argument_code here label h.home given_house k) k (Holds v) h (16 * bytes v)
 
       param_many : is_one_word (looks x.table h) ≡ false
-      param_many = (c.is.built h (c.among h among) (c.homes h among) hooks).1
+      param_many = (c.is.built h (c.among h among) hooks).1
 
       param_look : looked x.table g.call.site (of_value t) ≡ looks x.table h
       param_look = ap (shape_of (facts_in x.table)) (has_type x g.call.site (of_value t) (type_of x.table h) y.linked.0 typed).typed
@@ -368,9 +373,9 @@ module _ (x : Basis) (g : Both) (line : BlockLine) (rest : List BlockLine) (y : 
     told u a (Static n) small points = told_behind u a (Static n) small _
         (address_runs x.law x.live (all_procs x) (within x.table x.blocks g) refl g.words g.memory (Argument u FIRST ∷ k) g.call.vars FIRST (Static n) a points)
 
-    -- to a parameter that stands for a location: it is of something that is owned, where the parameter isn't lent
+    -- to a parameter that stands for a location, of something that is owned
     module _ (t : ℕ) (there : Where) (address : holds_address h ≡ true) (typed : type_in x is_location (body_of g) t ≡ Some (type_of x.table h))
-        (l : Location) (l_is : there ≡ Located l) (owned : h.lent ≡ false → IsOwned l.base)
+        (l : Location) (l_is : there ≡ Located l) (owned : IsOwned l.base)
         (reached : AtAddress x g line rest y (location here t) there (looked x.table g.call.site (of_location t))) where
       abbrev ArguedLocation : Location → Type 0
       ArguedLocation l = Argued (argument_code here label h.home (location here t) k) k (Stands l) h 64
@@ -427,7 +432,7 @@ module _ (x : Basis) (g : Both) (line : BlockLine) (rest : List BlockLine) (y : 
           by (in_data n home plain whole low within start) = never (sym plain ∙ address)
 
     -- what may be written
-    module _ (t : ℕ) (there : Where) (plain_name : IsPlain x g.call.site (of_location t)) (e : g.call.temps.places t ≡ Some there)
+    module _ (t : ℕ) (there : Where) (homed : IsHomed x g.call.site t) (e : g.call.temps.places t ≡ Some there)
         (address : holds_address h ≡ true) (typed : type_in x is_location (body_of g) t ≡ Some (type_of x.table h))
         (may : if_kind is_standing (place_named is_location (body_of g).proc.places t) ≡ true)
         (handed : is_among t (places_in (handed_by (block_plain line))) ≡ true) where
@@ -435,16 +440,21 @@ module _ (x : Basis) (g : Both) (line : BlockLine) (rest : List BlockLine) (y : 
       location_argument =
           let named = (pointed x g line rest y t (type_of x.table h) typed).named in
           let standing = y.linked.0.standing t may in
-          let w = written_at x g line rest y t there named (unlent_plain x g line rest y t named plain_name) standing e in
-          located_argument t there address typed w.location_is w.is (λ own. written_stands x g line rest y w.written)
-          (handed_at x g line rest y t there named plain_name e standing handed)
+          let w = written_at x g line rest y t there named standing e in
+          located_argument t there address typed w.location_is w.is (written_stands x g line rest y w.written)
+          (handed_homed x g line rest y t there named homed e standing handed)
 
-    -- what is lent and no word
-    module _ (t : ℕ) (there : Where) (homed : IsHomed x g.call.site t) (e : g.call.temps.places t ≡ Some there) (lent : h.lent ≡ true)
+    -- what is lent
+    module _ (t : ℕ) (there : Where) (homed : IsHomed x g.call.site t) (e : g.call.temps.places t ≡ Some there)
         (address : holds_address h ≡ true) (typed : type_in x is_location (body_of g) t ≡ Some (type_of x.table h))
-        (many : is_one_word (looks x.table h) ≡ false) (l : Location) (l_is : there ≡ Located l) where
+        (blocks_in : of_numbers (looks x.table h) ≡ false) (l : Location) (l_is : there ≡ Located l) where
       pub lent_argument : Argued (argument_code here label h.home (location here t) k) k (Stands (location_at g.call.temps there)) h 64
       lent_argument =
           let p = pointed x g line rest y t (type_of x.table h) typed in
-          located_argument t there address typed l l_is (λ own. absurd (true≢false (sym lent ∙ own)))
-          (at_homed x g line rest y t there p.named homed e (ap is_one_word p.look ∙ many))
+          let q = at_homed x g line rest y t there p.named homed e (ap is_one_word p.look ∙ no_word (looks x.table h) blocks_in) in
+          let leads : LeadsHere x.table x.blocks sites g.ground g.world l q.address (looked x.table g.call.site (of_location t))
+          = subst (λ z. Leads x.table x.blocks sites g.ground g.world g.call.site g.call.temps z q.address (looked x.table g.call.site (of_location t))) l_is
+          q.leads_to in
+          located_argument t there address typed l l_is
+          (is_owned x.table x.blocks sites g.ground g.world l q.address (looked x.table g.call.site (of_location t)) (ap of_numbers p.look ∙ blocks_in) leads)
+          q

@@ -1,11 +1,10 @@
 -- What a location leads to, in homes: a place that has a value of its own, or the value of a temporary; or in a block.
 use Rattle.std.proofs.Common.{◌≡◌, ◌⊎◌, inl, inr, ℕ, List, [], ◌∷◌, map, Some, None, true, false, refl, sym, subst, ◌∙◌, Option, ◌+◌, ap}
-use Rattle.word_lowering.proofs.ShapePaths.{PathTo}
 use Rattle.std.proofs.lemmas.Bool.{cases_Bool}
 use Rattle.nim_meaning.specs.Values.{Value, Standing, Made, Location, Holds, Vacant, part, Waiting, Stands, Lends, Slot}
 use Rattle.nim_meaning.specs.State.{slot_at, temporary_at, awaited, whole_at, is_whole, load}
 use Rattle.flat_code.specs.Scene.{Temps}
-use Rattle.flat_code.specs.Shapes.{Shape}
+use Rattle.flat_code.specs.Shapes.{Shape, has_shape}
 use Rattle.word_code.specs.Words.{Vars}
 use Rattle.word_lowering.specs.declared.texts.TheConstants.{FIXED_BYTES}
 use Rattle.word_lowering.specs.Layouts.{holds_address, owns}
@@ -15,8 +14,8 @@ use Rattle.word_lowering.proofs.Keeping.{AmongCalls, declared_address, waiting_i
 use Rattle.word_lowering.proofs.Lines.{Basis, IsGood}
 use Rattle.word_lowering.proofs.Related.{Both, calls_of, sites_of, store_of}
 use Rattle.word_lowering.proofs.Scenes.{is_fixed, address_of, of_value, of_place, Call, site_of, house, Filled, IsThere, looked, IsItem, FromOwned, FromPlace}
-use Rattle.word_lowering.proofs.Scenes.{FromValue, of_waiting, SaysAt, Says, FromWaiting}
-use Rattle.word_lowering.proofs.ShapeFacts.{never}
+use Rattle.word_lowering.proofs.Scenes.{FromValue, of_waiting, SaysAt, Says, FromWaiting, FromWaits, LeadsHere, IsOwned}
+use Rattle.word_lowering.proofs.ShapeFacts.{never, of_numbers}
 use Rattle.word_lowering.proofs.Sites.{room, Housing, in_variable, by_address, in_places, in_data, InMemory, Site, AmongSites, data_end, Linked}
 use Rattle.word_lowering.proofs.SitesApart.{houses, site_at}
 
@@ -123,32 +122,110 @@ module _ (x : Basis) (g : Both) (y : IsGood x g) where
       at (Some (Stands other)) s h = absurd s
       at (Some (Lends v from seen)) s h = absurd s
 
-  pub waiting_home : (l : Location) (a : ℕ) (t : Shape) → FromWaiting x.table (sites_of g) l a t → is_whole g.world (load g.world l) ≡ true → IsInHome l a t
-  waiting_home l a t f whole = let c = call_of (calls_of g) f.site f.among in by c.0 c.1 c.2
+  pub waits_there : (l : Location) (a : ℕ) (t : Shape) → FromWaiting x.table (sites_of g) l a t → is_whole g.world (load g.world l) ≡ true
+      → FromWaits x.table (sites_of g) g.world l a t
+  waits_there l a t f whole = let c = call_of (calls_of g) f.site f.among in by c.0 c.1 c.2
     where
-      by : (c : Call) → AmongCalls c (calls_of g) → c.site ≡ f.site → IsInHome l a t
+      by : (c : Call) → AmongCalls c (calls_of g) → c.site ≡ f.site → FromWaits x.table (sites_of g) g.world l a t
       by c k e =
           let here : IsThere c.site (of_waiting f.node) = subst (λ (z : Site). IsThere z (of_waiting f.node)) (sym e) f.there in
           let based : l.base ≡ Waiting c.site.level f.node = f.base ∙ ap (λ (z : Site). Waiting z.level f.node) (sym e) in
           let v = waiting_value c k f.node here l.path
           (subst (λ b. is_whole g.world (part (whole_at g.world b) l.path) ≡ true) based whole) in
-          record {
-            home = home_at x g c (of_waiting f.node) v.0;
+          record { from = f; value = v.0; has = subst (λ (z : Site). temporary_at g.world z.level f.node ≡ Some (Holds v.0)) e v.1 }
+
+  -- where nothing waits
+  pub record FromGone (l : Location) (a : ℕ) (t : Shape) : Type 0 where
+    pub from : FromWaiting x.table (sites_of g) l a t
+    pub none : temporary_at g.world from.site.level from.node ≡ None
+
+  waits_or_gone : (l : Location) (a : ℕ) (t : Shape) → FromWaiting x.table (sites_of g) l a t → FromWaits x.table (sites_of g) g.world l a t ⊎ FromGone l a t
+  waits_or_gone l a t f = let c = call_of (calls_of g) f.site f.among in by c.0 c.1 c.2
+    where
+      by : (c : Call) → AmongCalls c (calls_of g) → c.site ≡ f.site → FromWaits x.table (sites_of g) g.world l a t ⊎ FromGone l a t
+      by c k e = at (temporary_at g.world c.site.level f.node) (ap (λ (z : Site). temporary_at g.world z.level f.node) (sym e)) says
+        where
+          here : IsThere c.site (of_waiting f.node)
+          here = subst (λ (z : Site). IsThere z (of_waiting f.node)) (sym e) f.there
+
+          says : Says (temporary_at g.world c.site.level f.node) (c.vars here.among.0.variable) (c.site.base + here.among.0.at)
+          says = subst (λ o. SaysAt o (temporary_at g.world c.site.level f.node) c.site.base c.vars) here.among.1
+              ((held_of x (store_of g) g.world (calls_of g) c y.hold k).1.waits f.node)
+
+          at : (o : Option Slot) → temporary_at g.world f.site.level f.node ≡ o → Says o (c.vars here.among.0.variable) (c.site.base + here.among.0.at)
+              → FromWaits x.table (sites_of g) g.world l a t ⊎ FromGone l a t
+          at None is s = inr (record { from = f; none = is })
+          at (Some (Holds v)) is s = inl (record { from = f; value = v; has = is })
+          at (Some (Stands other)) is s = absurd s
+          at (Some (Lends v from seen)) is s = absurd s
+
+  abbrev pub waiting_home_of : Site → (node : ℕ) → Home
+  waiting_home_of s node = record {
+    base = Waiting s.level node;
+    at = address_of s.base (house s (of_waiting node)).home;
+    shape = looked x.table s (of_waiting node);
+  }
+
+  pub record WaitingHome (s : Site) (node : ℕ) (v : Value) : Type 0 where
+    pub shaped : of_numbers (looked x.table s (of_waiting node)) ≡ true → has_shape v (looked x.table s (of_waiting node)) ≡ true
+    pub among : HomeOf x g (waiting_home_of s node)
+
+  pub home_waiting : (s : Site) (node : ℕ) (v : Value) → AmongSites s (sites_of g) → IsThere s (of_waiting node)
+      → temporary_at g.world s.level node ≡ Some (Holds v) → WaitingHome s node v
+  home_waiting s node v i there has = let c = call_of (calls_of g) s i in by c.0 c.1 c.2
+    where
+      by : (c : Call) → AmongCalls c (calls_of g) → c.site ≡ s → WaitingHome s node v
+      by c k e =
+          let here : IsThere c.site (of_waiting node) = subst (λ (z : Site). IsThere z (of_waiting node)) (sym e) there in
+          let is : temporary_at g.world c.site.level node ≡ Some (Holds v) = ap (λ (z : Site). temporary_at g.world z.level node) e ∙ has in
+          let item = (held_of x (store_of g) g.world (calls_of g) c y.hold k).1.items (of_waiting node) v here is in
+          subst (λ (z : Site). WaitingHome z node v) e (record {
+            shaped = item.shaped;
             among = record {
               call = c;
               among = k;
-              name = of_waiting f.node;
+              name = of_waiting node;
               there = here;
-              inside = waiting_inside c.site f.node here;
-              value = v.0;
-              has = v.1;
+              inside = waiting_inside c.site node here;
+              value = v;
+              has = is;
               is = refl;
             };
-            base = based;
-            offset = f.offset;
-            way = subst (λ (z : Site). PathTo (looked x.table z (of_waiting f.node)) l.path f.offset t) (sym e) f.path;
-            address = f.address ∙ ap (λ (z : Site). address_of z.base (house z (of_waiting f.node)).home + f.offset) (sym e);
-          }
+          })
+
+  pub waits_home : (l : Location) (a : ℕ) (t : Shape) → FromWaits x.table (sites_of g) g.world l a t → IsInHome l a t
+  waits_home l a t f = record {
+    home = waiting_home_of f.from.site f.from.node;
+    among = (home_waiting f.from.site f.from.node f.value f.from.among f.from.there f.has).among;
+    base = f.from.base;
+    offset = f.from.offset;
+    way = f.from.path;
+    address = f.from.address;
+  }
+
+  pub waiting_home : (l : Location) (a : ℕ) (t : Shape) → FromWaiting x.table (sites_of g) l a t → is_whole g.world (load g.world l) ≡ true → IsInHome l a t
+  waiting_home l a t f whole = waits_home l a t (waits_there l a t f whole)
+
+  -- ---- what is owned
+
+  -- where something is seen
+  pub owned_seen : (l : Location) (a : ℕ) (t : Shape) → IsOwned l.base → LeadsHere x.table x.blocks (sites_of g) g.ground g.world l a t
+      → is_whole g.world (load g.world l) ≡ true → FromOwned x.table (sites_of g) g.ground g.world l a t
+  owned_seen l a t is (inl f) whole = inl f
+  owned_seen l a t is (inr (inl f)) whole = absurd (subst IsOwned f.base is)
+  owned_seen l a t is (inr (inr (inl f))) whole = inr (inl f)
+  owned_seen l a t is (inr (inr (inr f))) whole = inr (inr (waits_there l a t f whole))
+
+  pub owned_or_gone : (l : Location) (a : ℕ) (t : Shape) → IsOwned l.base → LeadsHere x.table x.blocks (sites_of g) g.ground g.world l a t
+      → FromOwned x.table (sites_of g) g.ground g.world l a t ⊎ FromGone l a t
+  owned_or_gone l a t is (inl f) = inl (inl f)
+  owned_or_gone l a t is (inr (inl f)) = absurd (subst IsOwned f.base is)
+  owned_or_gone l a t is (inr (inr (inl f))) = inl (inr (inl f))
+  owned_or_gone l a t is (inr (inr (inr f))) = by (waits_or_gone l a t f)
+    where
+      by : FromWaits x.table (sites_of g) g.world l a t ⊎ FromGone l a t → FromOwned x.table (sites_of g) g.ground g.world l a t ⊎ FromGone l a t
+      by (inl w) = inl (inr (inr w))
+      by (inr n) = inr n
 
   pub value_home : (c : Call) → AmongCalls c (calls_of g) → (temp : ℕ) (path : List ℕ) (a : ℕ) (t : Shape)
       → (f : FromValue x.table c.site c.temps temp path a t) → IsInHome (record { base = Made f.value; path = path; through = None }) a t
@@ -165,4 +242,5 @@ module _ (x : Basis) (g : Both) (y : IsGood x g) where
   abbrev pub owned_to : (l : Location) (a : ℕ) (t : Shape) → FromOwned x.table (sites_of g) g.ground g.world l a t
       → LeadsTo (is_fixed g.ground) (HomeOf x g) (homes_apart x g y) g.ground.blocks l a t
   owned_to l a t (inl f) = inl (place_home l a t f)
-  owned_to l a t (inr f) = inr (record { block = f.block; base = f.base; leads = f.leads })
+  owned_to l a t (inr (inl f)) = inr (record { block = f.block; base = f.base; leads = f.leads })
+  owned_to l a t (inr (inr f)) = inl (waits_home l a t f)

@@ -1,6 +1,6 @@
 -- What is good before a line that changes blocks is good behind it: memory is other than it was in the heap, in its data, and in a range of one place.
-use Rattle.std.proofs.Common.{◌≡◌, ◌⊎◌, inl, inr, ℕ, suc, ◌+◌, ◌-◌, ◌%◌, List, [], ◌∷◌, length, map, Some, true, false}
-use Rattle.std.proofs.Common.{refl, sym, ap, subst, ◌∙◌, arith}
+use Rattle.std.proofs.Common.{◌≡◌, ◌⊎◌, inl, inr, ℕ, suc, ◌+◌, ◌%◌, List, [], ◌∷◌, length, map, Some, true, false, refl, sym, ap, subst, ◌∙◌, arith}
+use Rattle.word_lowering.proofs.ResizedWorlds.{stack_of, frames_of, hand_of}
 use Rattle.std.specs.Prelude.{slice_get, ◌==◌, ◌&&◌}
 use Rattle.rv32_isa.specs.declared.micro_op.Size.TheVariants.{Word}
 use Rattle.rv32_isa.specs.Image.{heap_at, stack_at}
@@ -9,7 +9,7 @@ use Rattle.nim_meaning.specs.Places.{through_slot}
 use Rattle.nim_meaning.specs.State.{World, slot_of, frame_in, slot_at, held}
 use Rattle.flat_code.specs.declared.block.BlockLine.{BlockLine}
 use Rattle.flat_code.specs.Scene.{with_value, Temps}
-use Rattle.flat_code.specs.Shapes.{has_shape}
+use Rattle.flat_code.specs.Shapes.{has_shape, number}
 use Rattle.word_code.specs.Memory.{KeepsShape, Memory, as_state, bytes_at, number_at, own_data_at}
 use Rattle.word_code.specs.RoutineTable.{Beside}
 use Rattle.word_code.specs.Words.{Vars}
@@ -28,7 +28,8 @@ use Rattle.word_lowering.proofs.OrdinalRuns.{AllSame}
 use Rattle.word_lowering.proofs.Related.{Both, called_by, StandAt, MemoryGood, IsText, IsClosed, AllFrames, body_of}
 use Rattle.word_lowering.proofs.RoutineMemory.{same_word}
 use Rattle.word_lowering.proofs.OpenCells.{cell_by}
-use Rattle.word_lowering.proofs.Scenes.{Ground, Store, is_fixed, address_of, Name, of_value, of_place, Call, site_of, house, looked, IsThere, IsItem, IsFilled}
+use Rattle.word_lowering.proofs.Scenes.{Ground, Store, is_fixed, address_of, Name, of_value, of_place, Call, site_of, house, looked, IsThere, IsItem}
+use Rattle.word_lowering.proofs.Scenes.{IsFilled}
 use Rattle.word_lowering.proofs.ShapeFacts.{never, of_numbers}
 use Rattle.word_lowering.proofs.Sites.{Site, AmongSites, InMemory}
 use Rattle.word_lowering.proofs.SitesApart.{IsPlace, site_at, one_level}
@@ -93,31 +94,32 @@ module _ (x : Basis) (g : Both) (line : BlockLine) (rest : List BlockLine) (y : 
     pub left_aside : (lo : Site) (e : Name) → to ≡ 0 → n ≡ 0 → Edit x.table x.blocks x.small sites y.linked lo e g.memory other
     left_aside lo e start none = aside (λ a place. word_there a place (inr (omega (arith, start, none))))
 
-  -- ---- worlds with the same frames
+  -- ---- worlds with the same frames, and the same under way
 
-  module _ (before w : World) (same : w.frames ≡ before.frames) where
+  module _ (before w : World) (same : stack_of w ≡ stack_of before) where
     slots_same : (level place : ℕ) → slot_at w level place ≡ slot_at before level place
-    slots_same level place = ap (λ frames. slot_of (frame_in (slice_get frames level)) place) same
+    slots_same level place = ap (λ frames. slot_of (frame_in (slice_get frames level)) place) (frames_of w before same)
 
     waits_same : WaitAlike before w
-    waits_same level = ap (λ frames. (frame_in (slice_get frames level)).temporaries) same
+    waits_same level = ap (λ frames. (frame_in (slice_get frames level)).temporaries) (frames_of w before same)
 
     pub worlds_on : (lo : Site) (e : Name) → Worlds x.table x.blocks x.small sites y.linked lo e g.world before
         → Worlds x.table x.blocks x.small sites y.linked lo e g.world w
     worlds_on lo e worlds = record {
       slots = λ s n i there away. slots_same s.level n ∙ worlds.slots s n i there away;
       more = λ s n i there h. let k = worlds.more s n i there h in (k.0, slots_same s.level n ∙ k.1);
-      roots = λ s n i there h. ap (through_slot (Standing s.level n)) (slots_same s.level n) ∙ worlds.roots s n i there h;
+      roots = λ s n i there h k. ap (through_slot (Standing s.level n)) (slots_same s.level n) ∙ worlds.roots s n i there h k;
       waits = λ s node i away. waits_alike before w waits_same s.level node ∙ worlds.waits s node i away;
       once = λ s i h. once_alike before w waits_same s.level (worlds.once s i h);
+      hand = hand_of w before same ∙ worlds.hand;
     }
 
-    frames_then : (some : List Site) → AllFrames x.table x.blocks before some → AllFrames x.table x.blocks w some
+    pub frames_then : (some : List Site) → AllFrames x.table x.blocks before some → AllFrames x.table x.blocks w some
     frames_then [] f = tt
     frames_then (s ∷ some) f = (
       record {
         frame = f.0.frame;
-        there = ap (λ frames. slice_get frames s.level) same ∙ f.0.there;
+        there = ap (λ frames. slice_get frames s.level) (frames_of w before same) ∙ f.0.there;
         begins = f.0.begins;
         slots = f.0.slots;
       },
@@ -134,7 +136,7 @@ module _ (x : Basis) (g : Both) (line : BlockLine) (rest : List BlockLine) (y : 
       (other : Memory) (n : ℕ) (l : IsLeftBeside other (address_of g.call.site.base (house g.call.site (of_value t)).home) n)
       (lying : Lying x sites y.linked (address_of g.call.site.base (house g.call.site (of_value t)).home) n)
       (is_site : lying.site ≡ g.call.site) (is_name : lying.name ≡ of_value t)
-      (w : World) (same : w.frames ≡ g.world.frames) (has : HasHeap (is_fixed (later_ground_of later)) later w.heap other)
+      (w : World) (same : stack_of w ≡ stack_of g.world) (has : HasHeap (is_fixed (later_ground_of later)) later w.heap other)
       (stored : Stored (is_fixed (later_ground_of later)) later other (address_of g.call.site.base (house g.call.site (of_value t)).home)
       (looked x.table g.call.site (of_value t)) v) where
     abbrev at : ℕ
@@ -176,13 +178,13 @@ module _ (x : Basis) (g : Both) (line : BlockLine) (rest : List BlockLine) (y : 
         (worlds_on g.world w same g.call.site (of_value t) (worlds_same x.table x.blocks x.small sites y.linked g.call.site (of_value t) g.world))
         (kept_value x g line rest y t v vars (λ h u i ne home. kept.others u (high_variable x g line rest y h u i home)) kept.left)
         (λ e. new_then vars) (λ c from i e. absurd (waits_below x g line rest y c i e))
-        (frames_then g.world w same sites y.frames) (ap length same ∙ y.levels)
+        (frames_then g.world w same sites y.frames) (ap length (frames_of w g.world same) ∙ y.levels)
         (stands_next x.table x.blocks (body_of g) line rest y.stands)
 
   -- ---- blocks change alone
 
   pub good_aside : (after : List BlockLine) → StandAt x.table x.blocks (body_of g) after → (later : Blocks) → AreLater g.ground.blocks later
-      → (other : Memory) → IsLeftBeside other 0 0 → (w : World) → w.frames ≡ g.world.frames → HasHeap (is_fixed (later_ground_of later)) later w.heap other
+      → (other : Memory) → IsLeftBeside other 0 0 → (w : World) → stack_of w ≡ stack_of g.world → HasHeap (is_fixed (later_ground_of later)) later w.heap other
       → (temps : Temps) → SameTemps x g line rest y temps → (vars words : Vars) (awaits : ℕ) → AllSame g.call.vars vars
       → IsGood x (changed_later g after temps vars other words awaits w (later_ground_of later) w.input)
   good_aside after stand later ahead other l w same has temps same_temps vars words awaits kept =
@@ -191,7 +193,8 @@ module _ (x : Basis) (g : Both) (line : BlockLine) (rest : List BlockLine) (y : 
       (worlds_on g.world w same above (of_value 0) (worlds_same x.table x.blocks x.small sites y.linked above (of_value 0) g.world))
       (kept_temps x g line rest y above (of_value 0) temps vars same_temps (λ h u i away home. kept.others u (high_variable x g line rest y h u i home))
       kept.left)
-      (λ e. absurd (omega (arith, e))) (λ c from i e. absurd (too_high c i e)) (frames_then g.world w same sites y.frames) (ap length same ∙ y.levels) stand
+      (λ e. absurd (omega (arith, e))) (λ c from i e. absurd (too_high c i e)) (frames_then g.world w same sites y.frames)
+      (ap length (frames_of w g.world same) ∙ y.levels) stand
     where
       -- the place of no call
       above : Site
@@ -202,12 +205,6 @@ module _ (x : Basis) (g : Both) (line : BlockLine) (rest : List BlockLine) (y : 
           let z = site_at x.table x.blocks (map site_of (map called_by g.waiting)) c.site y.linked.5 (among_sites (map called_by g.waiting) c i) in
           let l = z.level in let m = y.linked.2 in omega (arith, l, m, e)
 
-  pub good_row_aside : (later : Blocks) → AreLater g.ground.blocks later → (other : Memory) → IsLeftBeside other 0 0 → (w : World)
-      → w.frames ≡ g.world.frames → HasHeap (is_fixed (later_ground_of later)) later w.heap other
-      → (temps : Temps) → SameTemps x g line rest y temps → (vars words : Vars) (awaits : ℕ) → AllSame g.call.vars vars
-      → IsGood x (changed_later g rest temps vars other words awaits w (later_ground_of later) w.input)
-  good_row_aside = good_aside rest (stands_next x.table x.blocks (body_of g) line rest y.stands)
-
   -- ---- a place gets another value
 
   module _ (lo : Site) (among : AmongSites lo sites) (number : ℕ) (there : IsThere lo (of_place number)) (old : Value)
@@ -216,7 +213,7 @@ module _ (x : Basis) (g : Both) (line : BlockLine) (rest : List BlockLine) (y : 
       (shaped : of_numbers (looked x.table lo (of_place number)) ≡ true → has_shape new (looked x.table lo (of_place number)) ≡ true)
       (later : Blocks) (ahead : AreLater g.ground.blocks later) (other : Memory) (to n : ℕ) (l : IsLeftBeside other to n)
       (lying : Lying x sites y.linked to n) (is_site : lying.site ≡ lo) (is_name : lying.name ≡ of_place number)
-      (w : World) (same : w.frames ≡ (put_world x g line rest y lo among number there old slot new).frames)
+      (w : World) (same : stack_of w ≡ stack_of (put_world x g line rest y lo among number there old slot new))
       (has : HasHeap (is_fixed (later_ground_of later)) later w.heap other)
       (stored : Stored (is_fixed (later_ground_of later)) later other (address_of lo.base (house lo (of_place number)).home)
       (looked x.table lo (of_place number)) new) where
@@ -271,8 +268,4 @@ module _ (x : Basis) (g : Both) (line : BlockLine) (rest : List BlockLine) (y : 
         (λ e. new_place (call g.call.site temps vars) sites (inl refl) e)
         (λ c from i e. new_place c from (inr (among_sites (map called_by g.waiting) c i)) e)
         (frames_then world_put w same sites (put_frames x g line rest y lo among number there old slot new))
-        (ap length same ∙ put_levels x g line rest y lo among number there old slot new) stand
-
-    pub good_row_place : (temps : Temps) → SameTemps x g line rest y temps → (vars words : Vars) (awaits : ℕ) → AllSame g.call.vars vars
-        → IsGood x (changed_later g rest temps vars other words awaits w (later_ground_of later) w.input)
-    good_row_place = good_place_put rest (stands_next x.table x.blocks (body_of g) line rest y.stands)
+        (ap length (frames_of w world_put same) ∙ put_levels x g line rest y lo among number there old slot new) stand

@@ -13,11 +13,12 @@ use Rattle.flat_code.specs.Codes.{block_plain}
 use Rattle.flat_code.specs.Fits.{is_location}
 use Rattle.word_lowering.specs.declared.homes.Alias.{Alias}
 use Rattle.word_lowering.specs.declared.homes.Alias.TheVariants as alias
-use Rattle.word_lowering.specs.Aliases.{alias_by, alias_in, alias_for, location_to, is_it, texts_of, handed_by, places_in, handed_in, is_among}
-use Rattle.word_lowering.specs.Aliases.{addressed_by, and_some, addressed_in, addressed}
+use Rattle.word_lowering.specs.Aliases.{alias_by, alias_in, alias_for, location_to, is_it, texts_of, handed_by, places_in, handed_in, is_among, own_where}
+use Rattle.word_lowering.specs.Aliases.{addressed_by, and_some, addressed_in, addressed, standing}
 use Rattle.word_lowering.specs.Layouts.{found}
 use Rattle.word_lowering.proofs.ShapeFacts.{never}
 use Rattle.word_lowering.proofs.Sites.{Body, lines_of, There, IsBody}
+use Rattle.word_lowering.proofs.StandingAliases.{still_named, unstood}
 
 -- ---- numbers among others
 
@@ -115,16 +116,27 @@ alias_addressed handed t p (line ∷ rest) e h = by (is_it t (location_to line))
         and_among p line handed (addressed_in handed rest)
         (more (sym (cond-false (is_it t (location_to line)) (alias_by line (length (texts_of rest))) (alias_in location_to t rest) it) ∙ e))
 
-location_alias : (k : PlaceKind) (n : ℕ) (lines : List Line) → is_location k ≡ true → alias_for k n lines ≡ alias_in location_to n lines
+location_alias : (k : PlaceKind) (n : ℕ) (lines : List Line) → is_location k ≡ true
+    → alias_for k n lines ≡ own_where (standing lines) (alias_in location_to n lines)
 location_alias K.Location n lines h = refl
 location_alias K.Within n lines h = refl
 location_alias k n lines h = never h
 
 module _ (table : List TypeDef) (blocks : Code BlockLine) (b : Body) (is : IsBody table blocks b) where
+  located : (t : ℕ) → There b.own.all is_location t
+      → (found is_location t b.own.all).alias ≡ own_where (standing (lines_of b)) (alias_in location_to t (lines_of b))
+  located t there =
+      is.named_so (found is_location t b.own.all) there.among
+      ∙ location_alias (found is_location t b.own.all).kind (found is_location t b.own.all).number (lines_of b) there.kind
+      ∙ ap (λ n. own_where (standing (lines_of b)) (alias_in location_to n (lines_of b))) there.number
+
   pub is_addressed : (t p : ℕ) → There b.own.all is_location t → (found is_location t b.own.all).alias ≡ alias.Place p false
       → is_among t (handed_in (lines_of b)) ≡ true → is_among p (addressed (lines_of b)) ≡ true
   is_addressed t p there e h =
       alias_addressed (handed_in (lines_of b)) t p (lines_of b)
-      (sym (is.named_so (found is_location t b.own.all) there.among
-      ∙ location_alias (found is_location t b.own.all).kind (found is_location t b.own.all).number (lines_of b) there.kind
-      ∙ ap (λ n. alias_in location_to n (lines_of b)) there.number) ∙ e) h
+      (still_named (standing (lines_of b)) (alias_in location_to t (lines_of b)) p false (sym (located t there) ∙ e)) h
+
+  -- one that isn't among those to which lines give locations
+  pub is_steady : (t p : ℕ) → There b.own.all is_location t → (found is_location t b.own.all).alias ≡ alias.Place p false
+      → is_among p (standing (lines_of b)) ≡ false
+  is_steady t p there e = unstood (standing (lines_of b)) (alias_in location_to t (lines_of b)) p (sym (located t there) ∙ e)

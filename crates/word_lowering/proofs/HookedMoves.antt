@@ -1,5 +1,5 @@
 -- Lines that move a value by its bits, whatever it has: what is looked at, what declared places get, and what these start at. It is no word.
-use Rattle.std.proofs.Common.{◌≡◌, inl, ℕ, ◌+◌, ◌*◌, ◌%◌, ◌≤◌, List, [], ◌∷◌, length, map, Option, Some, None, Bool, true, false, refl, sym, ap}
+use Rattle.std.proofs.Common.{◌≡◌, inl, ℕ, ◌+◌, ◌*◌, ◌%◌, ◌≤◌, List, [], length, map, Option, Some, None, Bool, true, false, refl, sym, ap}
 use Rattle.std.proofs.Common.{subst, ◌∙◌, ◌⊎◌, inr}
 use Rattle.std.proofs.Common.{arith}
 use Rattle.std.proofs.lemmas.Bool.{and_parts, cases_Bool}
@@ -30,7 +30,9 @@ use Rattle.word_code.specs.RoutineTable.{Separate, ZeroWords}
 use Rattle.word_code.specs.declared.word.WordInstr.{WordInstr}
 use Rattle.word_lowering.specs.Aliases.{alias_by, texts_of, value_to}
 use Rattle.word_lowering.specs.Layouts.{found, holds_address, owns}
-use Rattle.word_lowering.specs.LineCode.{location}
+use Rattle.word_lowering.specs.LineCode.{is_copied, location}
+use Rattle.word_lowering.specs.WaitingCode.{gives_hooked as code_hooked}
+use Rattle.word_lowering.proofs.HookFree.{got_looked}
 use Rattle.word_lowering.specs.Spots.{moves, clears}
 use Rattle.word_lowering.specs.declared.homes.Alias.TheVariants as alias
 use Rattle.word_lowering.specs.declared.homes.Housed.{Housed}
@@ -52,7 +54,7 @@ use Rattle.word_lowering.proofs.Sites.{Among, InMemory, around, has_hooks, is_on
 use Rattle.word_lowering.proofs.SitesApart.{houses}
 use Rattle.word_lowering.proofs.Sources.{lying_all}
 use Rattle.word_lowering.proofs.StoredLater.{shape_some, shape_whole}
-use Rattle.word_lowering.proofs.Targets.{own_alias, pointed, value_alias}
+use Rattle.word_lowering.proofs.Targets.{own_either, pointed, value_alias}
 use Rattle.word_lowering.proofs.ValueFacts.{IsHomed, has_type, look_of, place_there, type_in, value_plain, with_home}
 use Rattle.word_lowering.proofs.BitClears.{bits_cleared}
 use Rattle.word_lowering.proofs.BlankShapes.{blank_in, of_handles, zeros_stored}
@@ -148,7 +150,7 @@ module _ (x : Basis) (g : Both) (line : BlockLine) (rest : List BlockLine) (y : 
   bits_target to ty is own typed many =
       let n = has_type x g.call.site (of_value to) ty y.linked.0 typed in
       let there : IsThere g.call.site (of_value to)
-      = with_home x n.named (own_alias (house g.call.site (of_value to)).alias (value_alias x g line rest y to alias.Own is own)) tt in
+      = with_home x n.named (own_either (house g.call.site (of_value to)).alias (value_alias x g line rest y to alias.Own is own)) tt in
       let look = look_of x g.call.site (of_value to) ty n in
       let plain_is = value_plain (house g.call.site (of_value to)) there.kind in
       record {
@@ -328,7 +330,9 @@ module _ (x : Basis) (g : Both) (rest : List BlockLine) where
         (taken_by (gives_hooked (facts_in x.table) (if_type (known x).types ty)) (form_for (facts_in x.table) (if_type (known x).types ty))
         (bound_for g how) None (location_at g.call.temps there)))
         (λ there e. looked_bits x g line rest y to f.ty (if_type (known x).types ty) how None from there is homed
-        (bits_target x g line rest y to f.ty refl refl f.is word) word f.is_other e refl)
+        (bits_target x g line rest y to f.ty refl refl f.is word) word f.is_other e
+        (got_looked (around x.table x.blocks (body_of g)) (code_hooked x.table ty) (is_copied how.how) ty (house g.call.site (of_value to))
+        (location (around x.table x.blocks (body_of g)) from) (code_next x g line rest y) (ap is_copied is)))
 
     pub take_bits : (how : UseAt) (act : Option Act) (ty : Option ℕ) → how.how ≡ Looked
         → BitsHere (block_line.Plain (owned_line.Take to from how act ty))
@@ -344,7 +348,9 @@ module _ (x : Basis) (g : Both) (rest : List BlockLine) where
         (taken_by (gives_hooked (facts_in x.table) (if_type (known x).types ty)) (form_for (facts_in x.table) (if_type (known x).types ty))
         (bound_for g how) act (location_at g.call.temps there)))
         (λ there e. looked_bits x g line rest y to f.ty (if_type (known x).types ty) how act from there is homed
-        (bits_target x g line rest y to f.ty refl refl f.is word) word f.is_other e refl)
+        (bits_target x g line rest y to f.ty refl refl f.is word) word f.is_other e
+        (got_looked (around x.table x.blocks (body_of g)) (code_hooked x.table ty) (is_copied how.how) ty (house g.call.site (of_value to))
+        (location (around x.table x.blocks (body_of g)) from) (code_next x g line rest y) (ap is_copied is)))
 
   pub blank_bits : (n ty : ℕ) → is_one_word (shape_of (facts_in x.table) (type_at (known x).types ty)) ≡ false
       → of_handles (shape_of (facts_in x.table) (type_at (known x).types ty)) ≡ true → (house g.call.site (of_place n)).lent ≡ false
@@ -372,7 +378,7 @@ module _ (x : Basis) (g : Both) (rest : List BlockLine) where
           let f = are_of (type_in x is_own (body_of g) n) (Some of) (fits_here x.table x.blocks (body_of g) line rest y.stands) in
           let same : of ≡ f.ty = some_same of f.ty f.is_other in
           let o = own_there x g line rest y n of (f.is ∙ ap Some (sym same)) in
-          let built = y.linked.0.built (house g.call.site (of_place n)) o.there.among o.there.own hooks in
+          let built = y.linked.0.built (house g.call.site (of_place n)) o.there.among hooks in
           blank_bits n ty (sym (ap is_one_word o.look) ∙ built.1) (sym (ap of_handles o.look) ∙ built.0) (unlent o.there hooks) y
 
   module _ (n from : ℕ) (many : NoWord from) (there_is : IsThere g.call.site (of_value from)) (unlent : (house g.call.site (of_place n)).lent ≡ false)

@@ -18,6 +18,7 @@ use Rattle.word_lowering.proofs.Keeping.{from_home, points_there, spot_memory}
 use Rattle.word_lowering.proofs.Lines.{Basis, IsGood, all_sites, starts}
 use Rattle.word_lowering.proofs.Located.{led_stored}
 use Rattle.word_lowering.proofs.LocationHouses.{homed_house}
+use Rattle.word_lowering.proofs.Moves.{high_behind}
 use Rattle.word_lowering.proofs.Related.{Both, body_of, store_of}
 use Rattle.word_lowering.proofs.Scenes.{IsNamed, IsThere, StoredIn, address_of, house, is_fixed, looked, of_location, of_value}
 use Rattle.word_lowering.proofs.ShapeFacts.{shape_bytes}
@@ -63,7 +64,7 @@ module _ (x : Basis) (g : Both) (line : BlockLine) (rest : List BlockLine) (y : 
         size = sym h.bytes;
         address = address;
         bits = record {
-          high = high_in_memory home inside;
+          high = high_behind home (high_in_memory home inside);
           points = points_there g.call.site.base g.call.vars home inside;
           readable = lying_readable x (all_sites x g line rest y) y.linked g.memory address (shape_bytes s) y.memory
               (lying_all x (all_sites x g line rest y) y.linked g.call.site (of_value t) (shape_bytes s) (inl refl) there inside (sym h.bytes));
@@ -89,7 +90,7 @@ module _ (x : Basis) (g : Both) (line : BlockLine) (rest : List BlockLine) (y : 
         word = sym h.housed.word ∙ (ap is_one_word look ∙ many);
         size = sym h.housed.bytes ∙ ap shape_bytes look;
         address = a.address;
-        bits = record { high = a.high_is; points = a.points; readable = r.readable };
+        bits = record { high = high_behind a.home a.high_is; points = a.points; readable = r.readable };
         stored = r.stored;
         shaped = r.shaped;
       }

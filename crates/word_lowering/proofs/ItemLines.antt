@@ -67,7 +67,6 @@ use Rattle.word_lowering.proofs.Targets.{location_alias, own_alias, pointed}
 use Rattle.word_lowering.proofs.ValueFacts.{Operand, homed_plain, location_of_numbers, type_in, with_home, IsHomed}
 use Rattle.word_lowering.specs.Stored.{count_in, element_bytes, entry_at}
 use Rattle.word_lowering.proofs.HookedMoves.{BitsHere}
-use Rattle.word_lowering.proofs.OutPlaces.{IsUnlent, unlent_plain}
 
 -- a value of an array leads on as any whole does
 pub item_deeper : (v : Value) (n : ℕ) (s : Shape) (l : Location) (i : ℕ) → has_shape v (row n s) ≡ true → item_of v l i ≡ deeper l i
@@ -136,7 +135,7 @@ module _ (x : Basis) (traps : TrapsStop x) (labels : LabelsLead x) (g : Both) (r
     behind_given d (Static n) a o v same first least up points near = pointed_given d (Static n) a o v first least points near
 
     module _ (there : Where) (e : g.call.temps.places from ≡ Some there) (named_from : IsNamed g.call.site (of_location from))
-        (homed_from : IsHomed x g.call.site from) (unlent_from : IsUnlent g.call.site from)
+        (homed_from : IsHomed x g.call.site from)
         (there_to : IsThere g.call.site (of_location to)) (count : ℕ)
         (look : looked x.table g.call.site (of_location from) ≡ row count (looked x.table g.call.site (of_location to)))
         (as_base : is_standing (house g.call.site (of_location to)).kind ≡ true → is_standing (house g.call.site (of_location from)).kind ≡ true)
@@ -266,7 +265,7 @@ module _ (x : Basis) (traps : TrapsStop x) (labels : LabelsLead x) (g : Both) (r
           let some = shape_some (looked x.table g.call.site (of_location to)) in
           let small : at_is.address + i * each < 2 ^ 32 = (let n = near in omega (arith, n, inner, some)) in
           leads_settles x g item_here rest y to (deeper_in g.call.temps there i) (at_is.address + i * each) 1 (omega arith) there_to
-          (part_standing x g item_here rest y to from i there named_from unlent_from e as_base)
+          (part_standing x g item_here rest y to from i there named_from e as_base)
           (leads_on x (all_sites x g item_here rest y) g.call.site g.ground g.world g.call.temps (with_place to g.call.temps (deeper_in g.call.temps there i))
           (λ t v h. h) there at_is.address (i * each)
           (looked x.table g.call.site (of_location from)) (looked x.table g.call.site (of_location to)) i step at_is.leads_to)
@@ -284,16 +283,15 @@ module _ (x : Basis) (traps : TrapsStop x) (labels : LabelsLead x) (g : Both) (r
 
   -- of an array, whatever it has
   item_with : (IsNamed g.call.site (of_location from) → IsHomed x g.call.site from)
-      → ((y : IsGood x (starts g item_here rest)) → IsNamed g.call.site (of_location from) → IsUnlent g.call.site from)
       → (IsNamed g.call.site (of_location from) → no_handle (looked x.table g.call.site (of_location from)) ≡ true) → BitsHere x g rest item_here
-  item_with homed unlent row_like y =
+  item_with homed row_like y =
       let from_kind : TypeKind = kind_if (facts_in x.table) (type_in x is_location (body_of g) from) in
       let to_may : Bool = if_kind is_standing (place_named is_location (body_of g).proc.places to) in
       let from_may : Bool = if_kind is_standing (place_named is_location (body_of g).proc.places from) in
       let f = and_parts (is_of (type_in x is_location (body_of g) to) (element_of from_kind))
-      (is_int (kind_at x g item_here rest y index) && same_bool to_may from_may)
+      _
       (fits_here x.table x.blocks (body_of g) item_here rest y.stands) in
-      let r = and_parts (is_int (kind_at x g item_here rest y index)) (same_bool to_may from_may) f.1 in
+      let r = and_parts (is_int (kind_at x g item_here rest y index)) _ f.1 in
       let v = are_of (type_in x is_location (body_of g) to) (element_of from_kind) f.0 in
       let s = some_kind (facts_in x.table) (type_in x is_location (body_of g) from) (λ k. is_of (Some v.ty) (element_of k)) refl
       (subst (λ o. is_of o (element_of from_kind) ≡ true) v.is f.0) in
@@ -309,19 +307,19 @@ module _ (x : Basis) (traps : TrapsStop x) (labels : LabelsLead x) (g : Both) (r
       (to_item (location_at g.call.temps there) z)))
       (λ there e. using_settles x (starts g item_here rest) rest (g.call.temps.values index)
       (λ w. leads (scene_of (high x.table x.blocks (starts g item_here rest))) to there (to_item (location_at g.call.temps there) (number_of w)))
-      (λ w h. by y there e p.named (homed p.named) (unlent y p.named) there_to shape.0 look
-      (λ st. y.linked.0.standing from (same_bool_true to_may from_may r.1 (y.linked.0.may_be_standing to st))) w
+      (λ w h. by y there e p.named (homed p.named) there_to shape.0 look
+      (λ st. y.linked.0.standing from (same_bool_true to_may from_may (and_parts (same_bool to_may from_may) _ r.1).0 (y.linked.0.may_be_standing to st))) w
       (int_read x g item_here rest y index w r.0 h)))
     where
       by : (y : IsGood x (starts g item_here rest)) (there : Where) (e : g.call.temps.places from ≡ Some there)
           (named_from : IsNamed g.call.site (of_location from)) (homed_from : IsHomed x g.call.site from)
-          (unlent_from : IsUnlent g.call.site from) (there_to : IsThere g.call.site (of_location to)) (count : ℕ)
+          (there_to : IsThere g.call.site (of_location to)) (count : ℕ)
           (look : looked x.table g.call.site (of_location from) ≡ row count (looked x.table g.call.site (of_location to)))
           (as_base : is_standing (house g.call.site (of_location to)).kind ≡ true → is_standing (house g.call.site (of_location from)).kind ≡ true)
           (w : Value) (o : Operand x g.call index w)
           → Settles x (starts g item_here rest) rest
           (leads (scene_of (high x.table x.blocks (starts g item_here rest))) to there (to_item (location_at g.call.temps there) (number_of w)))
-      by y there e named_from homed_from unlent_from there_to count look as_base w o =
+      by y there e named_from homed_from there_to count look as_base w o =
           let v : Value = load g.world (location_at g.call.temps there) in
           where_there x (starts g item_here rest) rest (is_seen g.world (location_at g.call.temps there))
           (λ b. leads (scene_of (high x.table x.blocks (starts g item_here rest))) to there
@@ -336,13 +334,13 @@ module _ (x : Basis) (traps : TrapsStop x) (labels : LabelsLead x) (g : Both) (r
           (give (item_of v (location_at g.call.temps there) (unsigned_abs (number_of w)))) (stop IndexOutOfBounds))))) (sym long)
           (subst (λ l. Settles x (starts g item_here rest) rest (leads (scene_of (high x.table x.blocks (starts g item_here rest))) to there
           (costs 1 (deeds.branch (inside (number_of w) count) (give l) (stop IndexOutOfBounds))))) (sym deep)
-          (item_by y there e named_from homed_from unlent_from there_to count look as_base w o (inside (number_of w) count) refl)))
+          (item_by y there e named_from homed_from there_to count look as_base w o (inside (number_of w) count) refl)))
 
   pub item_line : FollowedHere x labels g rest (L.Item to from index)
   item_line names y =
-      item_with (λ n. homed_plain x g.call.site from y.linked.0 n names.1.0) (λ y n. unlent_plain x g item_here rest y from n names.1.0)
+      item_with (λ n. homed_plain x g.call.site from y.linked.0 n names.1.0)
       (λ n. numbers_no_handle (looked x.table g.call.site (of_location from)) (location_of_numbers x g.call.site from y.linked.0 n names.1.0)) y
 
-  pub item_bits : IsHomed x g.call.site from → IsUnlent g.call.site from → no_handle (looked x.table g.call.site (of_location from)) ≡ true →
+  pub item_bits : IsHomed x g.call.site from → no_handle (looked x.table g.call.site (of_location from)) ≡ true →
       BitsHere x g rest item_here
-  item_bits homed unlent row_like y = item_with (λ n. homed) (λ y n. unlent) (λ n. row_like) y
+  item_bits homed row_like y = item_with (λ n. homed) (λ n. row_like) y

@@ -65,7 +65,7 @@ moved_again n k (p ∷ procs) =
     let e : n + (k + p.data_from) ≡ n + k + p.data_from = omega arith in
     ap₂ (λ d ps. record p { data_from = d } ∷ ps) e (moved_again n k procs)
 
-moved_both : (n : ℕ) (procs others : List WordProc) → all_moved n (procs ++ others) ≡ all_moved n procs ++ all_moved n others
+pub moved_both : (n : ℕ) (procs others : List WordProc) → all_moved n (procs ++ others) ≡ all_moved n procs ++ all_moved n others
 moved_both n [] others = refl
 moved_both n (p ∷ procs) others = ap (λ ps. moved n p ∷ ps) (moved_both n procs others)
 

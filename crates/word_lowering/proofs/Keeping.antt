@@ -39,8 +39,9 @@ use Rattle.word_lowering.proofs.Blocks.{Stored}
 use Rattle.word_lowering.proofs.BlocksBorn.{later_same}
 use Rattle.word_lowering.proofs.StoredLater.{stored_kept}
 use Rattle.word_lowering.proofs.Sites.{room, Housing, in_variable, by_address, in_places, in_data, InMemory, Site, next_base, AmongSites, data_end, Linked}
-use Rattle.word_lowering.proofs.Scenes.{address_of, Points, At, Name, of_value, of_location, of_place, of_waiting, number_in, Call, house, Filled, HasValue}
-use Rattle.word_lowering.proofs.Scenes.{variable_at, HasVariable, Says, SaysAt, IsAtNode}
+use Rattle.word_lowering.proofs.Scenes.{IsLasting, address_of, Points, At, Name, of_value, of_location, of_place, of_waiting, number_in, Call, house, Filled}
+use Rattle.word_lowering.proofs.Scenes.{HasValue}
+use Rattle.word_lowering.proofs.Scenes.{variable_at, HasVariable, Says, SaysAt, IsAtNode, IsSteady}
 use Rattle.word_lowering.proofs.Scenes.{IsThere, IsNamed, IsLiteral, looked, IsItem, FromBlock, FromPlace, Leads, IsLedBy, IsLed}
 use Rattle.word_lowering.proofs.Scenes.{IsFilled, Holding}
 use Rattle.word_lowering.proofs.Scenes.{site_of, AllHold, Ground, Store, is_fixed, StoredIn, IsLater, AtHome}
@@ -287,18 +288,20 @@ module _ (table : List TypeDef) (blocks : Code BlockLine) (small : data_end tabl
     pub slots : (s : Site) (n : ℕ) → AmongSites s sites → IsThere s (of_place n) → Away s (of_place n) → slot_at w' s.level n ≡ slot_at w s.level n
     pub more : (s : Site) (n : ℕ) → AmongSites s sites → IsThere s (of_place n) → Filled w s.level n → Filled w' s.level n
     -- where a path begins that goes from a place
-    pub roots : (s : Site) (n : ℕ) → AmongSites s sites → IsThere s (of_place n) → Filled w s.level n
+    pub roots : (s : Site) (n : ℕ) → AmongSites s sites → IsThere s (of_place n) → Filled w s.level n → IsSteady s n
         → root_of (Standing s.level n) w' ≡ root_of (Standing s.level n) w
     pub waits : (s : Site) (node : ℕ) → AmongSites s sites → Away s (of_waiting node) → temporary_at w' s.level node ≡ temporary_at w s.level node
     pub once : (s : Site) → AmongSites s sites → AreOnce (frame_at w s.level).temporaries → AreOnce (frame_at w' s.level).temporaries
+    pub hand : w'.hand ≡ w.hand
 
   pub worlds_same : (w : World) → Worlds w w
   worlds_same w = record {
     slots = λ s n i x a. refl;
     more = λ s n i x h. h;
-    roots = λ s n i x h. refl;
+    roots = λ s n i x h k. refl;
     waits = λ s node i a. refl;
     once = λ s i h. h;
+    hand = refl;
   }
 
   -- temporaries and variables of a call, of which at most that place's differs
@@ -307,7 +310,7 @@ module _ (table : List TypeDef) (blocks : Code BlockLine) (small : data_end tabl
     pub places : (t : ℕ) → Away s (of_location t) → temps'.places t ≡ temps.places t
     pub texts : (t behind bytes : ℕ) → IsNamed s (of_value t) → (house s (of_value t)).alias ≡ alias.Text behind bytes → Away s (of_value t)
         → temps'.values t ≡ temps.values t
-    pub still : (t : ℕ) (x : Value) → temps.values t ≡ Some x → (y : Value) × (temps'.values t ≡ Some y)
+    pub still : (t : ℕ) (x : Value) → IsLasting table s t → temps.values t ≡ Some x → (y : Value) × (temps'.values t ≡ Some y)
     pub variables : (f : Name) (u : ℕ) → IsThere s f → Away s f → HasVariable s f u → vars' u ≡ vars u
     pub left : vars' LEFT ≡ vars LEFT
 
@@ -316,7 +319,7 @@ module _ (table : List TypeDef) (blocks : Code BlockLine) (small : data_end tabl
     values = λ t i a. refl;
     places = λ t a. refl;
     texts = λ t n k i e a. refl;
-    still = λ t x h. (x, h);
+    still = λ t x l h. (x, h);
     variables = λ f u x a is. refl;
     left = refl;
   }
@@ -435,13 +438,14 @@ module _ (table : List TypeDef) (blocks : Code BlockLine) (small : data_end tabl
     leads_kept from up s temps temps' vars vars' kept (Located location) a t (inr (inr (inl x))) = inr (inr (inl (block_kept location a t x)))
     leads_kept from up s temps temps' vars vars' kept (Located location) a t (inr (inr (inr x))) = inr (inr (inr x))
     leads_kept from up s temps temps' vars vars' kept (Within temp path) a t x =
-        let y = kept.still temp x.value x.has in
+        let y = kept.still temp x.value x.lasting x.has in
         record {
           there = x.there;
           home = x.home;
           offset = x.offset;
           leads = x.leads;
           address = x.address;
+          lasting = x.lasting;
           value = y.0;
           has = y.1;
         }
@@ -481,10 +485,12 @@ module _ (table : List TypeDef) (blocks : Code BlockLine) (small : data_end tabl
           among = x.among;
           level = x.level;
           is_there = x.is_there;
+          steady = x.steady;
           filled = worlds.more x.site p (up x.site x.among) x.is_there x.filled;
-          is = x.is ∙ ap Located (sym (worlds.roots x.site p (up x.site x.among) x.is_there x.filled));
+          is = x.is ∙ ap Located (sym (worlds.roots x.site p (up x.site x.among) x.is_there x.filled x.steady));
         }
-        by (alias.Value u) e x = let y = kept.still u x.value x.has in record { is = x.is; value = y.0; has = y.1 }
+        by (alias.Value u) e x =
+            let y = kept.still u x.value x.lasting x.has in record { is = x.is; lasting = x.lasting; value = y.0; has = y.1 }
         by (alias.Node n) e x = x
         by (alias.Text behind size) e x = absurd x
 

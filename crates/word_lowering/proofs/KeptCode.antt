@@ -13,19 +13,26 @@ use Rattle.flat_code.specs.declared.line.Owning.TheVariants as W
 use Rattle.flat_code.specs.Waits.{constant_waits}
 use Rattle.word_code.specs.declared.word.WordInstr.{WordInstr}
 use Rattle.word_code.specs.declared.word.WordInstr.TheVariants.{Place}
+use Rattle.hook_lifting.specs.declared.lifted.Hook.TheVariants.{Copies}
 use Rattle.word_lowering.specs.declared.homes.TheConstants.{OWN_FROM}
 use Rattle.word_lowering.specs.declared.homes.Housed.{Housed}
 use Rattle.word_lowering.specs.declared.homes.Waiter.{Waiter}
 use Rattle.word_lowering.specs.LineCode as code
-use Rattle.word_lowering.specs.LineCode.{Around}
-use Rattle.word_lowering.specs.Spots.{moves, spot_of}
+use Rattle.word_lowering.specs.LineCode.{Around, variable_of}
+use Rattle.word_lowering.specs.Spots.{moves, spot_of, address}
 use Rattle.word_lowering.specs.Stored.{is_hooked}
+use Rattle.word_lowering.specs.Layouts.{holds_address}
 use Rattle.word_lowering.specs.WaitingCode.{waiter_at, waiting_house, waits_code, leaves_code, gives_hooked, kept_if, kept_code}
+use Rattle.word_lowering.proofs.CalledHooks.{ends_front, ends_named, hook_front, hook_named, waiter_ends_front, waiter_ends_named}
 use Rattle.word_lowering.proofs.Fronts.{IsFront, front_none, front_on, moved_front}
 use Rattle.word_lowering.proofs.LayoutBounds.{IsBelow}
 use Rattle.word_lowering.proofs.NamedCode.{AllNamed}
 use Rattle.word_lowering.proofs.NamedCode as named
 use Rattle.word_lowering.proofs.WaiterHomes.{AreBelow}
+use Rattle.word_lowering.specs.declared.homes.Alias.{Alias}
+use Rattle.word_lowering.specs.declared.homes.Home.{Home}
+use Rattle.word_lowering.specs.declared.homes.Alias.TheVariants as alias
+use Rattle.word_lowering.specs.declared.homes.Home.TheVariants.{Variable, Placed, Static}
 
 -- ---- where nothing may wait
 
@@ -46,10 +53,34 @@ pub kept_quiet : (table : List TypeDef) (ws : List Waiter) (value : ℕ → Hous
     → kept_code table ws value line k ≡ k
 kept_quiet table ws value line k e = ap (λ us. kept_code table us value line k) e ∙ kept_none table value line k
 
-pub owning_quiet : (x : Around) (what : Owning) (from : List From) (k : List WordInstr) → x.own.waiters ≡ [] → code.owning_code x what from k ≡ k
-owning_quiet x (W.TakenUp node) from k e = ap (λ us. leaves_code (waiter_at node us) k) e
-owning_quiet x (W.Waits node) (F.Value t ∷ []) k e = ap (λ us. waits_code (waiter_at node us) (code.value x t) k) e
-owning_quiet x what from k e = refl
+-- ---- which lines
+
+-- whether a line's value waits, by its types and its use
+abbrev pub value_waits : List TypeDef → Line → Bool
+value_waits table (L.Apply to operation how ty of from) = gives_hooked table ty && waits how.how
+value_waits table (L.Construct to how ty fields from) = is_hooked table ty && waits how.how
+value_waits table (L.Constant to how ty pieces) = is_hooked table ty && constant_waits pieces how.how
+value_waits table (L.Get to from how ty) = gives_hooked table ty && reads_kept how.how
+value_waits table (L.Pass to from how ty) = gives_hooked table ty && waits how.how
+value_waits table line = false
+
+module _ (table : List TypeDef) (ws : List Waiter) (value : ℕ → Housed) where
+  if_not : (kept : Bool) (node to : ℕ) (k : List WordInstr) → kept ≡ false → kept_if table ws value kept node to k ≡ k
+  if_not kept node to k e = ap (λ b. kept_if table ws value b node to k) e
+
+  -- where it doesn't, no code stands behind it
+  pub none_kept : (line : Line) (k : List WordInstr) → value_waits table line ≡ false → kept_code table ws value line k ≡ k
+  none_kept (L.Apply to operation how ty of from) k e = if_not (gives_hooked table ty && waits how.how) how.node to k e
+  none_kept (L.Construct to how ty fields from) k e = if_not (is_hooked table ty && waits how.how) how.node to k e
+  none_kept (L.Constant to how ty pieces) k e = if_not (is_hooked table ty && constant_waits pieces how.how) how.node to k e
+  none_kept (L.Get to from how ty) k e = if_not (gives_hooked table ty && reads_kept how.how) how.node to k e
+  none_kept (L.Pass to from how ty) k e = if_not (gives_hooked table ty && waits how.how) how.node to k e
+  none_kept line k e = refl
+
+  -- where it does, it is copied: said of each form alone, since each has its node and its temporary
+  pub is_kept : (kept : Bool) (node to : ℕ) (k : List WordInstr) → kept ≡ true
+      → kept_if table ws value kept node to k ≡ waits_code (waiter_at node ws) (value to) k
+  is_kept kept node to k e = ap (λ b. kept_if table ws value b node to k) e
 
 -- ---- before what follows
 
@@ -80,10 +111,29 @@ module _ (own many : ℕ) where
   pub behind_front : (x : Around) (line : Line) → IsFront own many (code.behind_line x line)
   behind_front x line = kept_front x.table x.own.waiters (code.value x) line
 
-  pub owning_front : (x : Around) (what : Owning) (from : List From) → IsFront own many (code.owning_code x what from)
-  owning_front x (W.TakenUp node) from = leaves_front (waiter_at node x.own.waiters)
-  owning_front x (W.Waits node) (F.Value t ∷ []) = waits_front (waiter_at node x.own.waiters) (code.value x t)
-  owning_front x what from = front_none own many
+  address_front : (to : ℕ) (home : Home) → IsFront own many (λ k. address to home ∷ k)
+  address_front to (Variable v) = record { is = λ k. refl; fine = tt }
+  address_front to (Placed at) = record { is = λ k. refl; fine = tt }
+  address_front to (Static at) = record { is = λ k. refl; fine = tt }
+
+  pub root_front : (a : Alias) (to : ℕ) (home : Home) → IsFront own many (code.root_code a to home)
+  root_front alias.Own to home = address_front to home
+  root_front (alias.Place p global) to home = front_none own many
+  root_front (alias.Value t) to home = front_none own many
+  root_front (alias.Node n) to home = front_none own many
+  root_front (alias.Text behind size) to home = front_none own many
+
+  pub owning_front : (x : Around) → 7 < own → (what : Owning) (from : List From) → IsFront own many (code.owning_code x what from own)
+  owning_front x high (W.TakenUp node) from = leaves_front (waiter_at node x.own.waiters)
+  owning_front x high (W.Waits node) (F.Value t ∷ []) = waits_front (waiter_at node x.own.waiters) (code.value x t)
+  owning_front x high (W.TemporaryEnds node ty) from = waiter_ends_front own many x high ty (waiter_at node x.own.waiters)
+  owning_front x high (W.PlaceEnds place ty) from = ends_front own many x (holds_address (code.declared x place)) ty (code.declared x place).home
+  owning_front x high (W.PlaceCopies place ty) from =
+      hook_front own many x Copies ty (code.declared x place).home (code.operand_at (code.operands x from) 0).home
+  owning_front x high (W.ResultGets place ty) from =
+      hook_front own many x (code.taking from 0) ty (code.declared x place).home (code.operand_at (code.operands x from) 0).home
+  owning_front x high (W.PlaceStands p) (F.Place t ∷ []) = address_front (code.variable_of (code.place x p false)) (code.location x t).home
+  owning_front x high what from = front_none own many
 
 -- ---- variables of the procedure
 
@@ -111,6 +161,14 @@ module _ (vars : ℕ) (many : OWN_FROM ≤ vars) where
   leaves_named None v rest = rest
   leaves_named (Some w) v rest = named.constant vars many v rest
 
+  pub root_named : (a : Alias) (to : ℕ) (home : Home) {k : List WordInstr} → to < vars → IsBelow vars home → AllNamed vars k
+      → AllNamed vars (code.root_code a to home k)
+  root_named alias.Own to home t h rest = named.address vars many to home t h rest
+  root_named (alias.Place p global) to home t h rest = rest
+  root_named (alias.Value u) to home t h rest = rest
+  root_named (alias.Node n) to home t h rest = rest
+  root_named (alias.Text behind size) to home t h rest = rest
+
   module _ (x : Around) (below : AreBelow vars x.own.waiters) (values : (t : ℕ) → IsBelow vars (code.value x t).home) where
     at_named : (node to : ℕ) {k : List WordInstr} → AllNamed vars k → AllNamed vars (waits_code (waiter_at node x.own.waiters) (code.value x to) k)
     at_named node to rest =
@@ -129,7 +187,25 @@ module _ (vars : ℕ) (many : OWN_FROM ≤ vars) where
     past_named (L.Pass to from how ty) rest = if_named (gives_hooked x.table ty && waits how.how) how.node to rest
     past_named line rest = rest
 
-    pub owning_named : (what : Owning) (from : List From) {k : List WordInstr} → AllNamed vars k → AllNamed vars (code.owning_code x what from k)
-    owning_named (W.TakenUp node) from rest = leaves_named (waiter_at node x.own.waiters) (found_below vars node x.own.waiters below) rest
-    owning_named (W.Waits node) (F.Value t ∷ []) rest = at_named node t rest
-    owning_named what from rest = rest
+    pub owning_named : ((p : ℕ) → IsBelow vars (code.declared x p).home) → ((p : ℕ) → variable_of (code.place x p false) < vars)
+        → ((t : ℕ) → IsBelow vars (code.location x t).home) → (what : Owning) (from : List From)
+        → IsBelow vars (code.operand_at (code.operands x from) 0).home → (label : ℕ) {k : List WordInstr} → AllNamed vars k
+        → AllNamed vars (code.owning_code x what from label k)
+    owning_named places variables locations (W.TakenUp node) from first label rest =
+        leaves_named (waiter_at node x.own.waiters) (found_below vars node x.own.waiters below) rest
+    owning_named places variables locations (W.Waits node) (F.Value t ∷ []) first label rest = at_named node t rest
+    owning_named places variables locations (W.TemporaryEnds node ty) from first label {k} rest =
+        by (waiter_at node x.own.waiters) (found_below vars node x.own.waiters below)
+      where
+        by : (o : Option Waiter) → VariableBelow vars o → AllNamed vars (code.waiter_ends_code x label ty o k)
+        by None v = rest
+        by (Some w) v = waiter_ends_named vars many x label ty w v rest
+    owning_named places variables locations (W.PlaceEnds place ty) from first label rest =
+        ends_named vars many x (holds_address (code.declared x place)) ty (code.declared x place).home (places place) rest
+    owning_named places variables locations (W.PlaceCopies place ty) from first label rest =
+        hook_named vars many x Copies ty (code.declared x place).home (code.operand_at (code.operands x from) 0).home (places place) first rest
+    owning_named places variables locations (W.ResultGets place ty) from first label rest =
+        hook_named vars many x (code.taking from 0) ty (code.declared x place).home (code.operand_at (code.operands x from) 0).home (places place) first rest
+    owning_named places variables locations (W.PlaceStands p) (F.Place t ∷ []) first label rest =
+        named.address vars many (variable_of (code.place x p false)) (code.location x t).home (variables p) (locations t) rest
+    owning_named places variables locations what from first label rest = rest

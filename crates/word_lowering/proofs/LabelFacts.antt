@@ -140,7 +140,7 @@ label_found x k name (line ∷ rest) = by line (kind_of line) (label_found x k n
         ∙ ap (λ o. code_from x k (code.own_label name) (if is_name name o then Some (line ∷ rest) else line_from label_in name rest)) (sym f)
 
 -- labels of the lines behind are lower
-labels_more : (before : List Line) (line : Line) (rest : List Line)
+pub labels_more : (before : List Line) (line : Line) (rest : List Line)
     → suc (length (arguments_of line)) + labels_in rest ≤ labels_in (before ++ line ∷ rest)
 labels_more [] line rest = omega arith
 labels_more (first ∷ before) line rest = let l = labels_more before line rest in omega (arith, l)

@@ -1,5 +1,5 @@
 -- Where the labels of a procedure lead, from a line of it.
-use Rattle.std.proofs.Common.{◌≡◌, ℕ, suc, ◌+◌, ◌*◌, ◌<◌, ◌≤◌, List, [], ◌∷◌, ◌++◌, length, map, Option, Some, None, Bool, true, false}
+use Rattle.std.proofs.Common.{◌≡◌, ℕ, suc, ◌+◌, ◌*◌, ◌<◌, ◌≤◌, List, [], ◌∷◌, ◌++◌, length, map, Option, Some, None, Bool, true, false, ◌^◌}
 use Rattle.std.proofs.Common.{refl, sym, ap, subst, ◌∙◌, arith, append_assoc}
 use Rattle.std.specs.Prelude.{if◌then◌else◌}
 use Rattle.std.proofs.lemmas.Bool.{and_parts}
@@ -19,18 +19,18 @@ use Rattle.word_lowering.specs.Layouts.{result_in}
 use Rattle.word_lowering.specs.Spots.{spot_of}
 use Rattle.word_code.specs.declared.word.WordInstr.TheVariants.{Constant}
 use Rattle.word_lowering.specs.LineCode as code
-use Rattle.word_lowering.specs.LineCode.{Around, arguments_of, label_before}
+use Rattle.word_lowering.specs.LineCode.{Around, arguments_of, label_before, labels_in}
 use Rattle.word_lowering.specs.Lowered.{result_cleared, begin_code, code_of, last_code, any_branches}
 use Rattle.word_lowering.specs.WaitingCode.{none_code}
 use Rattle.word_lowering.specs.declared.homes.Layout.{Layout}
 use Rattle.word_lowering.specs.declared.homes.Waiter.{Waiter}
 use Rattle.word_lowering.proofs.Options.{none_some, some_same}
 use Rattle.word_lowering.proofs.Fronts.{IsFront, front_none, front_more, front_on, cleared_front}
-use Rattle.word_lowering.proofs.LabelFacts.{front_quiet, lines_append, code_from, label_found, own_found, trap_found, any_behind, any_among}
+use Rattle.word_lowering.proofs.LabelFacts.{front_quiet, lines_append, code_from, label_found, labels_more, own_found, trap_found, any_behind, any_among}
 use Rattle.word_lowering.proofs.Sites.{Body, lines_of, around, word_of, IsBody, sigs, globals_of}
 use Rattle.word_lowering.proofs.Related.{code_last, code_behind, StandAt}
 
--- ---- all lines of a procedure: first its result is cleared, and nothing waits
+-- ---- all lines of a procedure: first nothing waits, and its result is cleared
 
 result_front : (own : ℕ) (r : Option Housed) → IsFront own 0 (result_cleared r)
 result_front own None = front_none own 0
@@ -41,7 +41,7 @@ none_front own [] = front_none own 0
 none_front own (w ∷ ws) = front_more own 0 (Constant w.variable 0) (none_code ws) refl (none_front own ws)
 
 begin_front : (own : ℕ) (l : Layout) → IsFront own 0 (begin_code l)
-begin_front own l = front_on own 0 (result_cleared (result_in l.all)) (none_code l.waiters) (result_front own (result_in l.all)) (none_front own l.waiters)
+begin_front own l = front_on own 0 (none_code l.waiters) (result_cleared (result_in l.all)) (none_front own l.waiters) (result_front own (result_in l.all))
 
 module _ (x : Around) (lines : List Line) where
   -- without what stands at the end
@@ -94,6 +94,15 @@ module _ (table : List TypeDef) (blocks : Code BlockLine) (b : Body) where
   split : (line : BlockLine) (rest : List BlockLine) (s : StandAt table blocks b (line ∷ rest))
       → lines_of b ≡ map block_plain s.before ++ block_plain line ∷ map block_plain rest
   split line rest s = ap (map block_plain) s.whole ∙ map_append s.before (line ∷ rest)
+
+  -- a line has fewer operands than the procedure has labels
+  pub few_operands : (line : BlockLine) (rest : List BlockLine) → IsBody table blocks b → StandAt table blocks b (line ∷ rest)
+      → length (arguments_of (block_plain line)) < 2 ^ 32
+  few_operands line rest is s =
+      let most = is.labels in
+      let all = ap labels_in (split line rest s) in
+      let own = labels_more (map block_plain s.before) (block_plain line) (map block_plain rest) in
+      omega (arith, most, all, own)
 
   -- a label of the line's own
   pub own_label_at : (i : ℕ) (line : BlockLine) (rest : List BlockLine) → StandAt table blocks b (line ∷ rest) → i ≤ length (arguments_of (block_plain line))

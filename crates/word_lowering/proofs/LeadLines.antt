@@ -1,16 +1,14 @@
 -- Lines that make a temporary another name for a place or a value, and what gives it an address.
-use Rattle.std.proofs.Common.{◌≡◌, ◌≢◌, ◌⊎◌, inl, inr, ℕ, List, [], map, Option, Some, None, Bool, true, false, refl, sym, ap, subst, ◌∙◌, arith}
+use Rattle.std.proofs.Common.{◌≡◌, ◌≢◌, ◌⊎◌, inl, inr, ℕ, List, [], Some, None, Bool, true, false, refl, sym, ap, subst, ◌∙◌, arith}
 use Rattle.std.specs.Prelude.{nat_eq}
 use Rattle.std.proofs.lemmas.Bool.{eqb-true, and_parts, cond-true, cond-false, eq-eqb, ne_eqb}
-use Rattle.nim_meaning.specs.Values.{Standing, Slot, at_base, Waiting}
-use Rattle.nim_meaning.specs.State.{slot_at}
-use Rattle.nim_meaning.specs.Places.{place_at, root_of, rooted, made}
+use Rattle.nim_meaning.specs.Values.{at_base, Waiting}
+use Rattle.nim_meaning.specs.Places.{made}
 use Rattle.flat_code.specs.declared.block.BlockLine.{BlockLine}
 use Rattle.flat_code.specs.declared.line.Line.TheVariants as L
-use Rattle.flat_code.specs.Fits as fit
-use Rattle.flat_code.specs.Fits.{is_location, place_type, is_standing}
-use Rattle.flat_code.specs.Scene.{Where, Located, Within, with_place, Fails, Passes, Temps}
-use Rattle.flat_code.specs.Lines.{leads, level_at, is_there}
+use Rattle.flat_code.specs.Fits.{is_standing}
+use Rattle.flat_code.specs.Scene.{Where, Located, Within, with_place, Passes, Temps}
+use Rattle.flat_code.specs.Lines.{leads, is_there}
 use Rattle.word_code.specs.Words.{Vars}
 use Rattle.word_lowering.specs.declared.homes.Alias.{Alias}
 use Rattle.word_lowering.specs.declared.homes.Alias.TheVariants as alias
@@ -18,28 +16,23 @@ use Rattle.word_lowering.specs.declared.homes.TheConstants.{LEFT}
 use Rattle.word_lowering.specs.MayLower.{same_alias}
 use Rattle.flat_code.specs.Running.{scene_of}
 use Rattle.nim_meaning.specs.Deeds.{Answers, give}
-use Rattle.nim_program.specs.Kinds.{is_of}
-use Rattle.nim_types.specs.Types.{Ty}
 use Rattle.word_code.proofs.ForCallers.{at, none}
 use Rattle.word_lowering.proofs.HeapKept.{heap_same}
 use Rattle.word_lowering.proofs.ControlLines.{FollowedHere, SettlesHere, plain}
 use Rattle.word_lowering.proofs.Keeping.{nowhere, Kept, New, call, location_no_place, value_no_location, worlds_same, location_no_waiting}
-use Rattle.word_lowering.proofs.LineFits.{are_of}
-use Rattle.word_lowering.proofs.Lines.{Basis, IsGood, Settles, all_sites, branch_settles, changed, fits_here, good_changed, known, stands_next, starts}
+use Rattle.word_lowering.proofs.Lines.{Basis, IsGood, Settles, all_sites, changed, good_changed, stands_next, starts}
 use Rattle.word_lowering.proofs.Lines.{stays_on, using_settles, waits_below}
 use Rattle.word_lowering.proofs.Options.{some_same}
-use Rattle.word_lowering.proofs.ReadFacts.{start_site}
-use Rattle.word_lowering.proofs.Related.{Both, StandAt, body_of, called_by, high, within, store_of}
-use Rattle.word_lowering.proofs.Scenes.{Filled, IsLed, IsLedBy, IsThere, Name, house, number_in, of_location, of_place, site_of, HasVariable, of_waiting}
+use Rattle.word_lowering.proofs.Related.{Both, StandAt, body_of, high, within, store_of}
+use Rattle.word_lowering.proofs.Scenes.{IsLed, IsLedBy, IsThere, Name, house, number_in, of_location, HasVariable, of_waiting}
 use Rattle.word_lowering.proofs.Settling.{LabelsLead, code_here, code_next}
 use Rattle.word_lowering.proofs.ShapeFacts.{never}
-use Rattle.word_lowering.proofs.Sites.{AmongSites, Site, globals_of, sigs, type_of}
-use Rattle.word_lowering.proofs.Targets.{location_alias}
-use Rattle.word_lowering.proofs.ValueFacts.{has_type, place_there, type_in}
+use Rattle.word_lowering.proofs.Sites.{Site, type_of}
+use Rattle.word_lowering.proofs.Targets.{leads_here, lasting, location_alias}
 
 -- ---- names that are alike
 
-place_alias : (a : Alias) (p : ℕ) (global : Bool) → same_alias a (alias.Place p global) ≡ true → a ≡ alias.Place p global
+pub place_alias : (a : Alias) (p : ℕ) (global : Bool) → same_alias a (alias.Place p global) ≡ true → a ≡ alias.Place p global
 place_alias alias.Own p global h = never h
 place_alias (alias.Value t) p global h = never h
 place_alias (alias.Node n) p global h = never h
@@ -80,7 +73,7 @@ module _ (x : Basis) (g : Both) (line : BlockLine) (rest : List BlockLine) (y : 
       values = λ u i away. refl;
       places = λ u away. cond-false (nat_eq u to) (Some there) (g.call.temps.places u) (ne_eqb u to (different u away));
       texts = λ u n k i e away. refl;
-      still = λ u w h. (w, h);
+      still = λ u w l h. (w, h);
       variables = λ f u other away home. others f u other (other_name f away) home;
       left = left;
     }
@@ -133,60 +126,15 @@ module _ (x : Basis) (g : Both) (line : BlockLine) (rest : List BlockLine) (y : 
 
 -- ---- lines
 
-filled_there : (o : Option Slot) → is_there o ≡ true → (slot : Slot) × (o ≡ Some slot)
-filled_there None h = never h
-filled_there (Some slot) h = (slot, refl)
-
 module _ (x : Basis) (labels : LabelsLead x) (g : Both) (rest : List BlockLine) (to : ℕ) where
-  module _ (p : ℕ) (global : Bool) where
-    abbrev root_here : BlockLine
-    root_here = plain (L.Root to p global)
-
-    -- the call whose place it is
-    record RootSite (y : IsGood x (starts g root_here rest)) : Type 0 where
-      site : Site
-      among : AmongSites site (all_sites x g root_here rest y)
-      level : site.level ≡ level_at global g.call.site.level
-      there : IsThere site (of_place p)
-
-  root_site : (p : ℕ) (global : Bool) (y : IsGood x (starts g (root_here p global) rest)) (ty : Ty)
-      → fit.any_place (known x) (sigs x.table x.blocks) (globals_of x.table x.blocks) (body_of g).proc.places p global ≡ Some ty → RootSite p global y
-  root_site p true y ty is =
-      let s = start_site x.table x.blocks g.call.site (map site_of (map called_by g.waiting)) y.linked in
-      let global = s.body.global s.start p ty is in
-      record { site = s.site; among = s.among; level = s.level; there = place_there x s.site p s.body global.there }
-  root_site p false y ty is =
-      let typed = has_type x g.call.site (of_place p) ty y.linked.0 is in
-      record { site = g.call.site; among = inl refl; level = refl; there = place_there x g.call.site p y.linked.0 typed.named }
-
-  pub root_line : (p : ℕ) (global : Bool) → FollowedHere x labels g rest (L.Root to p global)
-  root_line p global names y =
-      let line = root_here p global in
-      let place_type : Option Ty = fit.any_place (known x) (sigs x.table x.blocks) (globals_of x.table x.blocks) (body_of g).proc.places p global in
-      let f = and_parts (is_of (type_in x is_location (body_of g) to) place_type) _ (fits_here x.table x.blocks (body_of g) line rest y.stands) in
-      let v = are_of (type_in x is_location (body_of g) to) place_type f.0 in
-      let s = root_site p global y v.ty v.is_other in
-      let level : ℕ = level_at global g.call.site.level in
-      let a = place_alias (house g.call.site (of_location to)).alias p global (location_alias x g line rest y to (alias.Place p global) refl refl) in
-      branch_settles x (starts g line rest) rest (is_there (slot_at g.world level p))
-      (leads (scene_of (high x.table x.blocks (starts g line rest))) to (Located (place_at 0 0)) (rooted (Standing level p))) Fails
-      (λ h. named_settles x g line rest y to (Located (root_of (Standing level p) g.world)) (alias.Place p global) 1 a (record {
-        site = s.site;
-        among = s.among;
-        level = s.level;
-        is_there = s.there;
-        filled = subst (λ l. Filled g.world l p) (sym s.level) (filled_there (slot_at g.world level p) h);
-        is = ap (λ l. Located (root_of (Standing l p) g.world)) (sym s.level);
-      }) refl)
-      (λ h before. tt)
-
   pub fresh_line : (from : ℕ) → FollowedHere x labels g rest (L.Fresh to from None)
   fresh_line from names y =
       let line = plain (L.Fresh to from None) in
       let a = value_alias_is (house g.call.site (of_location to)).alias from (location_alias x g line rest y to (alias.Value from) refl refl) in
       using_settles x (starts g line rest) rest (g.call.temps.values from)
       (λ v. leads (scene_of (high x.table x.blocks (starts g line rest))) to (Within from []) (made v))
-      (λ v e. named_settles x g line rest y to (Within from []) (alias.Value from) 0 a (record { is = refl; value = v; has = e }) refl)
+      (λ v e. named_settles x g line rest y to (Within from []) (alias.Value from) 0 a
+      (record { is = refl; lasting = lasting x g line rest y from (leads_here x g line rest y); value = v; has = e }) refl)
 
   -- to where the value waits, if it may: the temporary is of its type, and only read
   pub fresh_at_node : (from node : ℕ) → IsThere g.call.site (of_waiting node)

@@ -1,4 +1,5 @@
 -- The code of each line stands before that of the lines behind it.
+use Rattle.std.specs.Prelude.{◌&&◌}
 use Rattle.nim_program.specs.declared.expr.Label.TheVariants as C
 use Rattle.std.proofs.Common.{◌≡◌, inl, ℕ, zero, suc, ◌+◌, ◌*◌, ◌<◌, ◌≤◌, List, [], ◌∷◌, ◌++◌, length, Bool, true, false}
 use Rattle.std.proofs.Common.{Option, Some, None, refl, arith}
@@ -31,7 +32,7 @@ use Rattle.word_lowering.specs.declared.homes.Housed.{Housed}
 use Rattle.word_lowering.specs.declared.spots.Spot.{Spot}
 use Rattle.word_lowering.specs.declared.spots.Spot.TheVariants.{Held, Lies}
 use Rattle.word_lowering.specs.declared.texts.TheConstants.{LINE_END_AT}
-use Rattle.word_lowering.specs.Aliases.{text_in}
+use Rattle.word_lowering.specs.Aliases.{is_read, text_in}
 use Rattle.word_lowering.specs.Layouts.{params_in, result_in}
 use Rattle.word_lowering.specs.Operations.{word, binary_code, trap_label}
 use Rattle.word_lowering.specs.Spots.{spot_of, shifted, address, moved, moves, passes, cleared, clears, starts, handed}
@@ -43,10 +44,14 @@ use Rattle.word_lowering.specs.LineCode.{Around, arguments_of}
 use Rattle.word_lowering.proofs.Fronts.{Coding, IsFront, front_on, front_none, front_more, front_address, moved_front, cleared_front, handed_front}
 use Rattle.word_lowering.proofs.Fronts.{binary_front, turn_front, turn_if_front, unary_front, compare_front, narrow_front, unless_front, beyond_front}
 use Rattle.word_lowering.proofs.Fronts.{fits_front}
-use Rattle.word_lowering.proofs.KeptCode.{behind_front, owning_front}
-use Rattle.word_lowering.proofs.OwnedFronts.{added_front, appended_front, compared_front, element_read_front, enough_front, joined_front, measured_front}
-use Rattle.word_lowering.proofs.OwnedFronts.{new_front, owned_element_front, owned_item_front, popped_front, read_front, sequence_front, shown_front}
-use Rattle.word_lowering.proofs.OwnedFronts.{sized_front, told_front, word_argument_front}
+use Rattle.word_lowering.proofs.CalledHooks.{assigned_front, got_front}
+use Rattle.word_lowering.specs.WaitingCode.{gives_hooked}
+use Rattle.word_lowering.proofs.KeptCode.{behind_front, owning_front, root_front}
+use Rattle.word_lowering.proofs.OwnedFronts.{front_enough, added_front, appended_front, compared_front, element_read_front, enough_front, joined_front}
+use Rattle.word_lowering.proofs.OwnedFronts.{measured_front}
+use Rattle.word_lowering.proofs.OwnedFronts.{lent_text_front, new_front, owned_element_front, owned_item_front, popped_front, read_front, sequence_front}
+use Rattle.word_lowering.proofs.OwnedFronts.{shown_front}
+use Rattle.word_lowering.proofs.OwnedFronts.{sized_front, text_copied_front, text_fits_front, told_front, word_argument_front}
 
 module _ (own many : ℕ) where
   moves_front : (to from : Housed) → IsFront own many (moves to from)
@@ -87,9 +92,12 @@ module _ (own many : ℕ) where
       front_on own many (cleared to.is_word to.bytes (Lies home)) (code.pieces_code home pieces)
       (cleared_front own many to.is_word to.bytes (Lies home)) (pieces_front home pieces)
 
-  constant_front : (text : Option (List ℕ)) (to : Housed) (pieces : List Piece) → IsFront own many (code.constant_by text to pieces)
-  constant_front None to pieces = constant_at_front to (spot_of to) pieces
-  constant_front (Some text) to pieces = front_none own many
+  constant_front : (x : Around) (read : Bool) (text : Option (List ℕ)) (to : Housed) (pieces : List Piece)
+      → IsFront own many (code.constant_by x read text to pieces)
+  constant_front x true None to pieces = constant_at_front to (spot_of to) pieces
+  constant_front x false None to pieces = constant_at_front to (spot_of to) pieces
+  constant_front x true (Some text) to pieces = lent_text_front own many x to.alias to.home text
+  constant_front x false (Some text) to pieces = text_copied_front own many x to.home text
 
   -- ---- addresses
 
@@ -293,13 +301,13 @@ module _ (own many : ℕ) where
 
     -- ---- rows
 
-    row_front : 7 < own → (operation : Operation) (ty : Option ℕ) (of : List (Option ℕ)) (to : Housed) (hs : List Housed)
+    row_front : 7 < own → (operation : Operation) (ty : Option ℕ) (of : List (Option ℕ)) (to : Housed) (hs : List Housed) → length hs ≤ many
         → IsFront own many (code.row_code x operation own ty of to hs)
-    row_front high O.Default ty of to hs = starts_front to.bytes to
-    row_front high (O.Unary operator) ty of to hs = unary_front own many operator (code.variable_of to) (code.variable_of (code.operand_at hs 0))
-    row_front high (O.Binary operator) ty of to hs =
+    row_front high O.Default ty of to hs few = starts_front to.bytes to
+    row_front high (O.Unary operator) ty of to hs few = unary_front own many operator (code.variable_of to) (code.variable_of (code.operand_at hs 0))
+    row_front high (O.Binary operator) ty of to hs few =
         binary_front own many high operator (code.variable_of to) (code.variable_of (code.operand_at hs 0)) (code.variable_of (code.operand_at hs 1))
-    row_front high (O.Compare c) ty of to hs =
+    row_front high (O.Compare c) ty of to hs few =
         enough_front own many 2 hs (code.compared_code x text c (code.variable_of to) of hs) (by text)
       where
         text : Bool
@@ -308,46 +316,46 @@ module _ (own many : ℕ) where
         by : (b : Bool) → IsFront own many (code.compared_code x b c (code.variable_of to) of hs)
         by true = compared_front own many x c (code.variable_of to) of hs (owned.left_of x of hs) (owned.right_of x of hs)
         by false = compare_front own many c (code.variable_of to) (code.variable_of (code.operand_at hs 0)) (code.variable_of (code.operand_at hs 1))
-    row_front high O.Convert ty of to hs = converted_front (limit_at x.table ty) to (code.operand_at hs 0)
-    row_front high O.Join ty of to hs =
+    row_front high O.Convert ty of to hs few = converted_front (limit_at x.table ty) to (code.operand_at hs 0)
+    row_front high O.Join ty of to hs few =
         enough_front own many 2 hs (λ k. owned.two_made x of hs (join_code to.home (owned.left_of x of hs) (owned.right_of x of hs) k))
         (joined_front own many x to.home of hs (owned.left_of x of hs) (owned.right_of x of hs))
-    row_front high O.Show ty of to hs =
+    row_front high O.Show ty of to hs few =
         enough_front own many 1 hs
         (owned.shown_code x (owned.entry_of x.table (owned.type_of of 0)) to.home (owned.type_of of 0) (code.operand_at hs 0))
         (shown_front own many x (owned.entry_of x.table (owned.type_of of 0)) to.home (owned.type_of of 0) (code.operand_at hs 0))
-    row_front high O.Make ty of to hs = parts_front to.home hs
-    row_front high O.Sequence ty of to hs = sequence_front own many to.home (owned.size_in x to) hs
-    row_front high O.NewSequence ty of to hs = new_front own many to.home (code.variable_of (code.operand_at hs 0)) (owned.size_in x to)
-    row_front high (O.Measure measure) ty of to hs =
+    row_front high O.Make ty of to hs few = parts_front to.home hs
+    row_front high O.Sequence ty of to hs few = sequence_front own many to.home (owned.size_in x to) hs
+    row_front high O.NewSequence ty of to hs few = new_front own many to.home (code.variable_of (code.operand_at hs 0)) (owned.size_in x to)
+    row_front high (O.Measure measure) ty of to hs few =
         measure_front (owned.has_handle (entry_at x.table (code.operand_at hs 0).ty)) measure (code.variable_of to) (code.operand_at hs 0)
-    row_front high O.IsNil ty of to hs = front_none own many
-    row_front high O.Echo ty of to hs =
+    row_front high O.IsNil ty of to hs few = front_none own many
+    row_front high O.Echo ty of to hs few =
         front_on own many (code.texts_code x of hs) (code.text_code LINE_END_AT 1) (texts_front of hs) (text_front LINE_END_AT 1)
-    row_front high O.Quit ty of to hs = quit_front hs
-    row_front high O.ReadLine ty of to hs = front_none own many
-    row_front high O.ReadLineInto ty of to hs = read_front own many (code.variable_of to) (code.operand_at hs 0).home
-    row_front high O.Assign ty of to hs = moves_front (code.operand_at hs 0) (code.operand_at hs 1)
-    row_front high (O.Update operator) ty of to hs = update_front high operator hs
-    row_front high O.Add ty of to hs = added_front own many (code.operand_at hs 0).home (owned.size_in x (code.operand_at hs 0)) (code.operand_at hs 1)
-    row_front high O.Append ty of to hs =
+    row_front high O.Quit ty of to hs few = quit_front hs
+    row_front high O.ReadLine ty of to hs few = front_none own many
+    row_front high O.ReadLineInto ty of to hs few = read_front own many (code.variable_of to) (code.operand_at hs 0).home
+    row_front high O.Assign ty of to hs few = moves_front (code.operand_at hs 0) (code.operand_at hs 1)
+    row_front high (O.Update operator) ty of to hs few = update_front high operator hs
+    row_front high O.Add ty of to hs few = added_front own many (code.operand_at hs 0).home (owned.size_in x (code.operand_at hs 0)) (code.operand_at hs 1)
+    row_front high O.Append ty of to hs few =
         appended_front own many x (owned.type_of of 1) (code.operand_at hs 1) (code.operand_at hs 0).home (owned.right_of x of hs)
-    row_front high O.SetLength ty of to hs =
+    row_front high O.SetLength ty of to hs few =
         let there : Housed = code.operand_at hs 0 in
         let n : ℕ = code.variable_of (code.operand_at hs 1) in
-        enough_front own many 2 hs
+        front_enough own many 2 hs
         (λ k. owned.counted_code n (owned.sized_code x (owned.is_text (entry_at x.table there.ty)) own there.ty there.home n k))
-        (sized_front own many x high (owned.is_text (entry_at x.table there.ty)) there.ty there.home n)
-    row_front high O.Pop ty of to hs =
+        (λ two. sized_front own many x high (omega (arith, two, few)) (owned.is_text (entry_at x.table there.ty)) there.ty there.home n)
+    row_front high O.Pop ty of to hs few =
         enough_front own many 1 hs (owned.popped_code to (code.operand_at hs 0).home (owned.size_in x (code.operand_at hs 0)))
         (popped_front own many to (code.operand_at hs 0).home (owned.size_in x (code.operand_at hs 0)))
-    row_front high O.Move ty of to hs =
+    row_front high O.Move ty of to hs few =
         front_on own many (moves to (code.operand_at hs 0)) (clears (code.operand_at hs 0)) (moves_front to (code.operand_at hs 0))
         (clears_front (code.operand_at hs 0))
-    row_front high O.Swap ty of to hs = swap_front (code.operand_at hs 0).home (code.operand_at hs 1).home (code.operand_at hs 0).bytes
-    row_front high O.Discard ty of to hs = front_none own many
-    row_front high O.Destroy ty of to hs = front_none own many
-    row_front high O.Blank ty of to hs = front_none own many
+    row_front high O.Swap ty of to hs few = swap_front (code.operand_at hs 0).home (code.operand_at hs 1).home (code.operand_at hs 0).bytes
+    row_front high O.Discard ty of to hs few = front_none own many
+    row_front high O.Destroy ty of to hs few = front_none own many
+    row_front high O.Blank ty of to hs few = front_none own many
 
 -- ---- lines
 
@@ -364,18 +372,23 @@ far name = omega arith
 
 pub line_front : (x : Around) (line : Line) (own : ℕ) → 7 < own → IsNoLabel line → IsFront own (length (arguments_of line)) (code.line_code x line own)
 line_front x (L.Label name) own high plain = absurd plain
-line_front x (L.Apply to operation how ty of from) own high plain = row_front own 0 x high operation ty of (code.value x to) (code.operands x from)
+line_front x (L.Apply to O.Assign how ty of from) own high plain =
+    assigned_front own (length from) x (gives_hooked x.table (owned.type_of of 0)) (code.row_code x O.Assign own ty of (code.value x to) (code.operands x from))
+    (owned.type_of of 0) from (row_front own (length from) x high O.Assign ty of (code.value x to) (code.operands x from) (operands_few x from))
+line_front x (L.Apply to operation how ty of from) own high plain =
+    row_front own (length from) x high operation ty of (code.value x to) (code.operands x from) (operands_few x from)
 line_front x (L.Construct to how ty fields from) own high plain =
     front_on own 0 (clears (code.value x to)) (code.fields_code x (code.value x to).home ty fields (code.operands x from))
     (clears_front own 0 (code.value x to))
     (fields_front own 0 x (code.value x to).home ty fields (code.operands x from))
-line_front x (L.Constant to how ty pieces) own high plain = constant_front own 0 (text_in pieces) (code.value x to) pieces
+line_front x (L.Constant to how ty pieces) own high plain = constant_front own 0 x (is_read how.how) (text_in pieces) (code.value x to) pieces
 line_front x (L.Call to how ty proc from) own high plain =
     front_more own (length from) Spend (code.call_code x own proc ty to from) refl
     (called_front own (length from) x high (code.layout_at x proc).runs proc ty to (code.operands x from) (operands_few x from))
-line_front x (L.Get to from how ty) own high plain = moves_front own 0 (code.value x to) (code.location x from)
+line_front x (L.Get to from how ty) own high plain =
+    got_front own 0 x (gives_hooked x.table ty && code.is_copied how.how) ty (code.value x to) (code.location x from)
 line_front x (L.Look to from) own high plain = moves_front own 0 (code.value x to) (code.location x from)
-line_front x (L.Root to p global) own high plain = front_none own 0
+line_front x (L.Root to p global) own high plain = root_front own 0 (code.own_alias x to) (code.led x to) (code.place x p global).home
 line_front x (L.Fresh to from waits) own high plain = front_none own 0
 line_front x (L.Standing to ty pieces) own high plain = record { is = λ k. refl; fine = tt }
 line_front x (L.Part to from field) own high plain =
@@ -403,8 +416,8 @@ line_front x (L.Next counter last) own high plain = record { is = λ k. refl; fi
 line_front x (L.Jump to) own high plain = record { is = λ k. refl; fine = tt }
 line_front x (L.Unless from to) own high plain = unless_front own 0 (code.held x from) (code.own_label to) (far to)
 line_front x (L.Fits from (C.Ordinals low most) to) own high plain = fits_front own 0 (code.held x from) (code.own_label to) low most (far to)
-line_front x (L.Fits from (C.Text text) to) own high plain = front_none own 0
-line_front x (L.Own what from) own high plain = owning_front own 0 x what from
+line_front x (L.Fits from (C.Text text) to) own high plain = text_fits_front own 0 x text (code.value x from) (code.own_label to) (far to)
+line_front x (L.Own what from) own high plain = owning_front own 0 x high what from
 line_front x L.Enter own high plain = record { is = λ k. refl; fine = tt }
 line_front x (L.Turn to) own high plain = record { is = λ k. refl; fine = tt }
 line_front x (L.TurnIf from to) own high plain = turn_if_front own 0 (code.held x from) (code.own_label to) (far to)

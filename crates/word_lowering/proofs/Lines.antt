@@ -7,7 +7,7 @@ use Rattle.std.specs.Prelude.{option_map, slice_get, ◌%◌, ◌==◌, ◌&&◌
 use Rattle.std.proofs.lemmas.Bool.{and_parts}
 use Rattle.arc_base.specs.Event.{Event}
 use Rattle.arc_base.specs.Behaviour.{no_objects}
-use Rattle.arc_base.specs.Stepping.{Next, Goes, next_map}
+use Rattle.arc_base.specs.Stepping.{Next, Goes, Ends, Faults, Errs, next_map}
 use Rattle.arc_base.specs.Simulation.{Does, Pairs, AreOf}
 use Rattle.rv32_isa.specs.Image.{stack_at}
 use Rattle.rv32_isa.specs.Machine.{Lives}
@@ -21,7 +21,6 @@ use Rattle.flat_code.specs.declared.line.UseAt.{UseAt}
 use Rattle.nim_program.specs.Kinds.{kind_of, field_at, plain_kind, is_compared, is_resource}
 use Rattle.nim_program.specs.declared.operation.Comparison.{Comparison}
 use Rattle.nim_meaning.specs.Table.{limit_of}
-use Rattle.word_lowering.specs.MayLower.{is_hooked}
 use Rattle.nim_types.specs.Forms.{hooked, form_of}
 use Rattle.nim_program.specs.Fitting.{is_built}
 use Rattle.word_lowering.proofs.ShapePaths.{shapes_before}
@@ -31,7 +30,7 @@ use Rattle.flat_code.specs.Fits.{operation_fits}
 use Rattle.word_lowering.proofs.ShapeFacts.{of_numbers, nth_shape}
 use Rattle.flat_code.specs.Shapes.{Shape, number, parts, Shapes}
 use Rattle.word_lowering.specs.OwnedCode.{is_text}
-use Rattle.word_lowering.specs.Stored.{entry_at, limit_at, part_at}
+use Rattle.word_lowering.specs.Stored.{entry_at, is_hooked, limit_at, part_at}
 use Rattle.flat_code.specs.declared.line.From.{From}
 use Rattle.flat_code.specs.Lines.{using_all, fetch}
 use Rattle.flat_code.specs.declared.block.BlockLine.{BlockLine}
@@ -54,10 +53,13 @@ use Rattle.flat_code.specs.Lines.{using}
 use Rattle.flat_code.specs.Shapes.{has_shape, shape_of}
 use Rattle.flat_code.specs.Fits.{Signature, fits}
 use Rattle.flat_code.specs.Running.{Machine, Counting, Going, Standing, onward, settled, spends}
-use Rattle.flat_code.specs.Running.{within as within_units}
+use Rattle.flat_code.specs.Running.{scene_of as block_scene, within as within_units}
 use Rattle.flat_code.specs.Codes.{block_label, block_does, procs_of, block_plain}
 use Rattle.word_lowering.specs.declared.may_lower.TheConstants.{MOST_DATA}
-use Rattle.word_lowering.specs.LineCode.{value}
+use Rattle.nim_types.specs.declared.types.TheConstants.{LIST_BYTES}
+use Rattle.hook_code.specs.Kept.{AreShort, HaveSmallElements, AreThere, CutsAreThere}
+use Rattle.word_lowering.specs.declared.lowering.TheConstants.{MOST_CHAIN}
+use Rattle.word_lowering.specs.LineCode.{value, first_hook}
 use Rattle.word_lowering.specs.Lowered.{data_at, lowered}
 use Rattle.word_lowering.specs.Runtimes.{Runtimes, with_runtimes}
 use Rattle.word_lowering.proofs.RoutineCalls.{Reaches}
@@ -70,7 +72,7 @@ use Rattle.word_lowering.proofs.SitesApart.{site_at, variable_high}
 use Rattle.word_lowering.proofs.Keeping.{AmongCalls, call, Edit, nowhere, Worlds, worlds_same, Kept, New, holding_kept, all_kept, later_ground}
 use Rattle.word_lowering.proofs.OrdinalRuns.{AllSame}
 use Rattle.word_lowering.proofs.Callees.{Callee}
-use Rattle.word_lowering.proofs.KeptCode.{kept_quiet}
+use Rattle.word_lowering.proofs.KeptCode.{none_kept, value_waits}
 use Rattle.word_lowering.proofs.Related.{Both, body_of, called_by, sites_of, with_rest, with_units, procs, low, high, within as call_within, code_behind}
 use Rattle.word_lowering.proofs.Related.{code_past, IsClosed, routines}
 use Rattle.word_lowering.proofs.Related.{MemoryGood}
@@ -95,8 +97,8 @@ pub record Basis : Type 0 where
   pub first : Memory
   pub law : MemoryLaw
   pub small : data_end table blocks ≤ MOST_DATA
-  -- the places of active calls, and behind them those for arguments, are within the machine's stack
-  pub within : (sites : List Site) → Linked table blocks sites → next_base sites + SPARE_ROOM ≤ stack_at + 268435456
+  -- the places of active calls, and behind them those for arguments and those of a chain of hooks, are within the machine's stack
+  pub within : (sites : List Site) → Linked table blocks sites → next_base sites + SPARE_ROOM + LIST_BYTES * MOST_CHAIN ≤ stack_at + 268435456
   -- what a type starts at has its shape
   pub defaults : (ty : ℕ) → has_shape (default_of (facts_in table) (type_at (types_in table) ty)) (shape_of (facts_in table) (type_at (types_in table) ty))
       ≡ true
@@ -108,6 +110,9 @@ pub record Basis : Type 0 where
   -- what comes without the heap is made of numbers
   pub plains : (ty : ℕ) → is_hooked table ty ≡ false → of_numbers (shape_of (facts_in table) (type_at (types_in table) ty)) ≡ true
   pub unhooked : (ty : ℕ) → is_hooked table ty ≡ false → hooked (form_of (facts_in table) (type_at (types_in table) ty)) ≡ false
+  -- what has hooks by its number in the table has them by its type
+  pub hooks : (ty : ℕ) → is_hooked table ty ≡ hooked (form_of (facts_in table) (type_at (types_in table) ty))
+  pub shaped : (ty : ℕ) → is_hooked table ty ≡ true → of_numbers (shape_of (facts_in table) (type_at (types_in table) ty)) ≡ false
   -- an object with hooks of its own isn't made of numbers
   pub resources : (ty : ℕ) → is_resource (kind_of (facts_in table) (type_at (types_in table) ty)) ≡ true
       → of_numbers (shape_of (facts_in table) (type_at (types_in table) ty)) ≡ false
@@ -134,12 +139,15 @@ pub record Basis : Type 0 where
   pub parts_at : (ty : ℕ) (all : Shapes) (field : ℕ) (s : Shape)
       → shape_of (facts_in table) (type_at (types_in table) ty) ≡ parts all → nth_shape all field ≡ Some s
       → part_at table ty field ≡ shapes_before all field
-  -- conversions: of a value that has the other type's shape too, or of a number that is checked
+  -- conversions: of a value that has the other type's shape too, as all of them do or as a number, or of a number that is checked
   pub conversions : (ty from : ℕ)
       → operation_fits (facts_in table) O.Convert (Some (type_at (types_in table) ty)) (Some (type_at (types_in table) from) ∷ []) ≡ true
       → ((limit_of (facts_in table) (type_at (types_in table) ty) ≡ None)
       × ((v : Value) → has_shape v (shape_of (facts_in table) (type_at (types_in table) from)) ≡ true
-      → has_shape v (shape_of (facts_in table) (type_at (types_in table) ty)) ≡ true))
+      → has_shape v (shape_of (facts_in table) (type_at (types_in table) ty)) ≡ true)
+      × ((shape_of (facts_in table) (type_at (types_in table) from) ≡ shape_of (facts_in table) (type_at (types_in table) ty))
+      ⊎ ((of_numbers (shape_of (facts_in table) (type_at (types_in table) from)) ≡ true)
+      × (of_numbers (shape_of (facts_in table) (type_at (types_in table) ty)) ≡ true))))
       ⊎ ((values : ℕ) × (other : Option ℕ) × (limit_of (facts_in table) (type_at (types_in table) ty) ≡ Some values)
       × (shape_of (facts_in table) (type_at (types_in table) ty) ≡ number (Some values))
       × (shape_of (facts_in table) (type_at (types_in table) from) ≡ number other))
@@ -152,6 +160,11 @@ pub record Basis : Type 0 where
   pub kept : (name : RoutineName) → IsKept live (with_runtimes runtimes (lowered table blocks)).procs (routines table blocks) runtimes.others.statics
       (routine (routines table blocks) name)
   pub given : (places : List ℕ) → HasData (routines table blocks) runtimes.others.statics (record first { places = places })
+  -- hooks of types are among the procedures
+  pub hooks_there : AreThere table (first_hook blocks.procs) (with_runtimes runtimes (lowered table blocks)).procs
+  pub cuts_there : CutsAreThere table (first_hook blocks.procs) (with_runtimes runtimes (lowered table blocks)).procs
+  pub short : AreShort table
+  pub elements_small : HaveSmallElements table
   pub globals_inside : data_end table blocks ≤ length (lowered table blocks).statics
   pub data_most : length (lowered table blocks).statics ≤ MOST_DATA
   pub given_closed : IsClosed table blocks (routines table blocks + SCRATCH_BYTES) (length (drop SCRATCH_BYTES runtimes.others.statics))
@@ -265,27 +278,51 @@ module _ (x : Basis) where
   abbrev pub Pair : Type 0
   Pair = ((g : Both) × IsGood g × ℕ) ⊎ ((s : WordState) × StandsStill s × ℕ)
 
-  abbrev low_of : Pair → ℕ × WordState
-  low_of (inl y) = (y.2, low x.table x.blocks y.0)
-  low_of (inr y) = (y.2, y.0)
+  -- where it goes on with lines, in front of the code for what a line's value waits in
+  abbrev pub low_past : (lines : List BlockLine) → Both → WordState
+  low_past [] g = low x.table x.blocks g
+  low_past (line ∷ rest) g =
+      at (call_within x.table x.blocks g) g.memory (code_past x.table x.blocks (body_of g) line g.rest) g.call.vars g.words
+
+  abbrev low_of : (lines : List BlockLine) → Pair → ℕ × WordState
+  low_of lines (inl y) = (y.2, low_past lines y.0)
+  low_of lines (inr y) = (y.2, y.0)
 
   abbrev pub going : Both → Counting BlockLine
   going g = Going g.units (high x.table x.blocks g)
+
+  -- where a line ends, and in which call
+  abbrev pub ends_at : Both → Counting BlockLine × Site
+  ends_at g = (going g, g.call.site)
 
   abbrev high_of : Pair → Counting BlockLine
   high_of (inl y) = going y.0
   high_of (inr y) = Standing
 
   abbrev pub pairs : Pairs Pair (ℕ × WordState) (Counting BlockLine)
-  pairs = record { low = low_of; high = high_of }
+  pairs = record { low = low_of []; high = high_of }
+
+  -- whether the value of the first of some lines waits
+  abbrev pub first_waits : (lines : List BlockLine) → Bool
+  first_waits [] = false
+  first_waits (line ∷ rest) = value_waits x.table (block_plain line)
+
+  -- a line whose value waits stays in its call
+  abbrev pub Stays : (lines : List BlockLine) → Site → Pair → Type 0
+  Stays lines site (inl y) = first_waits lines ≡ true → y.0.call.site ≡ site
+  Stays lines site (inr y) = Unit {0}
+
+  -- States that belong together in front of the code for what the value of the first of some lines waits in.
+  abbrev pub AreAt : (lines : List BlockLine) → Site → ℕ × WordState → Counting BlockLine → Type 0
+  AreAt lines site s t = (p : Pair) × (low_of lines p ≡ s) × (high_of p ≡ t) × Stays lines site p
 
   abbrev pub lines_left : Counting BlockLine → ℕ
   lines_left (Going units m) = length m.now.rest
   lines_left Standing = 0
 
-  -- from a state of word code on
+  -- from a state of word code on, by a line's own code
   abbrev pub FollowsFrom : WordState → Both → Next Event (Machine BlockLine) → Type 0
-  FollowsFrom t g n = (before : ℕ) → Does machine (AreOf pairs) lines_left 256 (before, t) (going g) (next_map (Going g.units) n)
+  FollowsFrom t g n = (before : ℕ) → Does machine (AreAt g.rest g.call.site) lines_left 256 (before, t) (going g) (next_map (Going g.units) n)
 
   abbrev pub Follows : Both → Next Event (Machine BlockLine) → Type 0
   Follows g n = FollowsFrom (low x.table x.blocks g) g n
@@ -299,7 +336,17 @@ module _ (x : Basis) where
 
   abbrev pub Settles : Both → List BlockLine → Did → Type 0
   Settles g rest d = (before : ℕ) →
+      Does machine (AreAt g.rest g.call.site) lines_left 256 (before, low x.table x.blocks g) (going g) (within_units (is_spent d) g.units (settles g rest d))
+
+  -- with what its value waits in
+  abbrev pub Completes : Both → List BlockLine → Did → Type 0
+  Completes g rest d = (before : ℕ) →
       Does machine (AreOf pairs) lines_left 256 (before, low x.table x.blocks g) (going g) (within_units (is_spent d) g.units (settles g rest d))
+
+  -- a line from where it begins
+  abbrev pub Whole : Both → List BlockLine → BlockLine → Type 0
+  Whole g rest line = (y : IsGood (starts g line rest)) → Completes (starts g line rest) rest
+      (block_does known (block_scene (high x.table x.blocks (starts g line rest))) line)
 
   -- ---- what comes of a line
 
@@ -331,59 +378,75 @@ module _ (x : Basis) where
   where_there g rest true did fault h = h refl
   where_there g rest false did fault h = fault
 
-  -- where it goes on with lines, in front of the code for what a line's value waits in
-  abbrev pub low_past : (lines : List BlockLine) → Both → WordState
-  low_past [] g = low x.table x.blocks g
-  low_past (line ∷ rest) g =
-      at (call_within x.table x.blocks g) g.memory (code_past x.table x.blocks (body_of g) line g.rest) g.call.vars g.words
-
-  -- nothing waits yet
-  pub past_is : (lines : List BlockLine) (g : Both) → IsGood g → low_past lines g ≡ low x.table x.blocks g
-  past_is [] g good = refl
-  past_is (line ∷ rest) g good =
-      ap (λ k. at (call_within x.table x.blocks g) g.memory k g.call.vars g.words)
-      (kept_quiet x.table (body_of g).own.waiters (value (around x.table x.blocks (body_of g))) (block_plain line)
-      (code_behind x.table x.blocks (body_of g) g.rest)
-      good.linked.0.waiters)
-
-  -- so many silent lines, with what a line's value waits in
-  pub arrives_from : (t : WordState) (g g' : Both) (rest : List BlockLine) (good : IsGood g') (n w : ℕ) (temps : Temps) (world : World)
-      → Runs x.live (all_procs x) n t (low x.table x.blocks g') → 0 < n → n ≤ 256 * w
-      → going g' ≡ Going g.units (onward (high x.table x.blocks g) rest temps world)
+  -- so many silent lines
+  pub goes_from : (t : WordState) (g g' : Both) (rest : List BlockLine) (good : IsGood g') (n w : ℕ) (temps : Temps) (world : World)
+      → Runs x.live (all_procs x) n t (low_past g.rest g') → 0 < n → n ≤ 256 * w
+      → ends_at g' ≡ ((Going g.units (onward (high x.table x.blocks g) rest temps world)), g.call.site)
       → FollowsFrom t g (settles g rest (Passes (Answers [] w temps world)))
-  arrives_from t g g' rest good n w temps world runs some few e = λ before.
+  goes_from t g g' rest good n w temps world runs some few e = λ before.
       let r = runs.by x.fresh before in (
-        (r.0, low x.table x.blocks g'),
+        (r.0, low_past g.rest g'),
         n,
         record { work = r.1.work; within = omega (arith, r.1.within, few); by = r.1.by },
-        (inl (g', good, r.0), refl, e),
+        (inl (g', good, r.0), refl, ap (λ (s : Counting BlockLine × Site). s.0) e, λ waits. ap (λ (s : Counting BlockLine × Site). s.1) e),
         inl some,
       )
 
-  -- where nothing waits
-  pub goes_from : (t : WordState) (g g' : Both) (rest : List BlockLine) (good : IsGood g') (n w : ℕ) (temps : Temps) (world : World)
-      → Runs x.live (all_procs x) n t (low_past g.rest g') → 0 < n → n ≤ 256 * w
-      → going g' ≡ Going g.units (onward (high x.table x.blocks g) rest temps world)
-      → FollowsFrom t g (settles g rest (Passes (Answers [] w temps world)))
-  goes_from t g g' rest good n w temps world runs some few e =
-      arrives_from t g g' rest good n w temps world (subst (Runs x.live (all_procs x) n t) (past_is g.rest g' good) runs) some few e
-
   pub goes_on : (g g' : Both) (rest : List BlockLine) (good : IsGood g') (n w : ℕ) (temps : Temps) (world : World)
       → Runs x.live (all_procs x) n (low x.table x.blocks g) (low_past g.rest g') → 0 < n → n ≤ 256 * w
-      → going g' ≡ Going g.units (onward (high x.table x.blocks g) rest temps world) → Settles g rest (Passes (Answers [] w temps world))
+      → ends_at g' ≡ ((Going g.units (onward (high x.table x.blocks g) rest temps world)), g.call.site) → Settles g rest (Passes (Answers [] w temps world))
   goes_on g g' rest good n w temps world runs some few e = goes_from (low x.table x.blocks g) g g' rest good n w temps world runs some few e
 
   -- no line at all
   pub stays_on : (g g' : Both) (rest : List BlockLine) (good : IsGood g') (w : ℕ) (temps : Temps) (world : World)
-      → low_past g.rest g' ≡ low x.table x.blocks g → going g' ≡ Going g.units (onward (high x.table x.blocks g) rest temps world)
+      → low_past g.rest g' ≡ low x.table x.blocks g → ends_at g' ≡ ((Going g.units (onward (high x.table x.blocks g) rest temps world)), g.call.site)
       → length rest < length g.rest → Settles g rest (Passes (Answers [] w temps world))
   stays_on g g' rest good w temps world same e less = λ before. (
     (before, low x.table x.blocks g),
     0,
     steps_none machine (before, low x.table x.blocks g) (256 * w),
-    (inl (g', good, before), ap (λ s. (before, s)) (sym (past_is g.rest g' good) ∙ same), e),
+    (
+      inl (g', good, before),
+      ap (λ (u : WordState). (before, u)) same,
+      ap (λ (s : Counting BlockLine × Site). s.0) e,
+      λ waits. ap (λ (s : Counting BlockLine × Site). s.1) e,
+    ),
     inr less,
   )
+
+  -- ---- lines whose value doesn't wait
+
+  -- nothing stands behind such a line's own code
+  abbrev pub IsPlainPast : (lines : List BlockLine) → Type 0
+  IsPlainPast lines = (g : Both) → low_past lines g ≡ low x.table x.blocks g
+
+  does_at_last : (lines : List BlockLine) → IsPlainPast lines → (site : Site) (s : ℕ × WordState) (t : Counting BlockLine)
+      (n : Next Event (Counting BlockLine))
+      → Does machine (AreAt lines site) lines_left 256 s t n → Does machine (AreOf pairs) lines_left 256 s t n
+  does_at_last lines same site s t (Goes es w then) d = (d.0, d.1, d.2, by d.3, d.4)
+    where
+      by : AreAt lines site d.0 then → AreOf pairs d.0 then
+      by (inl y, low_is, high_is, stays) = (inl y, ap (λ (u : WordState). (y.2, u)) (sym (same y.0)) ∙ low_is, high_is)
+      by (inr y, low_is, high_is, stays) = (inr y, low_is, high_is)
+  does_at_last lines same site s t (Ends es w status left) d = d
+  does_at_last lines same site s t Faults d = d
+  does_at_last lines same site s t Errs d = d
+
+  -- such a line's value doesn't wait
+  abbrev pub IsQuiet : BlockLine → Type 0
+  IsQuiet line = value_waits x.table (block_plain line) ≡ false
+
+  pub none_past : (line : BlockLine) (rest : List BlockLine) → IsQuiet line → IsPlainPast (line ∷ rest)
+  none_past line rest e g =
+      ap (λ k. at (call_within x.table x.blocks g) g.memory k g.call.vars g.words)
+      (none_kept x.table (body_of g).own.waiters (value (around x.table x.blocks (body_of g))) (block_plain line)
+      (code_behind x.table x.blocks (body_of g) g.rest) e)
+
+  pub completes_quiet : (g : Both) (line : BlockLine) (rest : List BlockLine) (d : Did) → IsQuiet line → Settles (starts g line rest) rest d
+      → Completes (starts g line rest) rest d
+  completes_quiet g line rest d quiet follows = λ before.
+      does_at_last (line ∷ rest) (none_past line rest quiet) g.call.site (before, low x.table x.blocks (starts g line rest)) (going (starts g line rest))
+      (within_units (is_spent d) g.units (settles (starts g line rest) rest d)) (follows before)
 
   -- ---- units
 
@@ -400,6 +463,8 @@ module _ (x : Basis) where
     stands = y.stands;
     waits = y.waits;
     answers = y.answers;
+    idle = y.idle;
+    fixed = y.fixed;
   }
 
   -- in front of a line that spends one
@@ -431,7 +496,7 @@ module _ (x : Basis) where
 
   abbrev Spends : Both → List BlockLine → Did → Option ℕ → Type 0
   Spends g rest d units = (before : ℕ) →
-      Does machine (AreOf pairs) lines_left 256 (before, low x.table x.blocks g) (going g) (within_units true units (settles g rest d))
+      Does machine (AreAt g.rest g.call.site) lines_left 256 (before, low x.table x.blocks g) (going g) (within_units true units (settles g rest d))
 
   -- Behind some lines word code spends a unit, where block code does, and goes on with what is left; or it stands still.
   pub spends_settles : (g : Both) (rest : List BlockLine) (d : Did) → is_spent d ≡ true → (l : WordInstr) (k : List WordInstr) (vars words : Vars)
@@ -441,7 +506,7 @@ module _ (x : Basis) where
       FollowsFrom (low x.table x.blocks g) (with_units g units) (settles g rest d))
       → Settles g rest d
   spends_settles g rest d is l k vars words spending n few runs then =
-      subst (λ b. (before : ℕ) → Does machine (AreOf pairs) lines_left 256 (before, low x.table x.blocks g) (going g)
+      subst (λ b. (before : ℕ) → Does machine (AreAt g.rest g.call.site) lines_left 256 (before, low x.table x.blocks g) (going g)
       (within_units b g.units (settles g rest d))) (sym is) (by g.units refl)
     where
       by : (units : Option ℕ) → g.units ≡ units → Spends g rest d units
@@ -456,7 +521,7 @@ module _ (x : Basis) where
             (suc r.0, s),
             n + 1,
             record { work = steps.work; within = omega (arith, steps.within, few); by = steps.by },
-            (inr (s, still, suc r.0), refl, refl),
+            (inr (s, still, suc r.0), refl, refl, tt),
             inl (omega arith),
           )
       by (Some (suc units)) e =
@@ -497,6 +562,8 @@ module _ (x : Basis) where
       stands = stands;
       waits = y.waits;
       answers = y.answers;
+      idle = ap length worlds.hand ∙ y.idle;
+      fixed = later.fixed ∙ y.fixed;
     }
 
     -- they are as they were, where memory changes beside the heap
@@ -545,7 +612,7 @@ module _ (x : Basis) where
           values = λ t i a. refl;
           places = λ t a. refl;
           texts = λ t n k i e a. refl;
-          still = λ t v h. (v, h);
+          still = λ t v l h. (v, h);
           variables = λ f u there a own. same.others u (variable_high x.table x.blocks g.call.site f u y.linked.0 there own);
           left = same.left;
         }
@@ -564,6 +631,8 @@ module _ (x : Basis) where
       stands = stands;
       waits = y.waits;
       answers = y.answers;
+      idle = y.idle;
+      fixed = y.fixed;
     }
 
     -- the same line, with other variables for what comes between

@@ -117,7 +117,7 @@ module _ (x : Basis) (g : Both) (y : IsGood x g) where
       → Lies_at a (shape_bytes t)
   value_lying c i temp path a t f = part_lying c.site (of_value temp) path f.offset a t i f.there f.home f.leads f.address
 
-  pub waiting_lying : (l : Location) (a : ℕ) (t : Shape) → FromWaiting x.table sites l a t → Lies_at a (shape_bytes t)
+  abbrev pub waiting_lying : (l : Location) (a : ℕ) (t : Shape) → FromWaiting x.table sites l a t → Lies_at a (shape_bytes t)
   waiting_lying l a t f =
       part_lying f.site (of_waiting f.node) l.path f.offset a t f.among f.there (waiting_inside f.site f.node f.there) f.path f.address
 
@@ -156,7 +156,8 @@ module _ (x : Basis) (g : Both) (y : IsGood x g) where
   pub owned_readable : (l : Location) (a : ℕ) (t : Shape) → FromOwned x.table sites g.ground g.world l a t → is_there g.world l ≡ true
       → Readable x sites y.linked g.memory a (shape_bytes t)
   owned_readable l a t (inl f) live = lying_readable x sites y.linked g.memory a (shape_bytes t) y.memory (place_lying l a t f)
-  owned_readable l a t (inr f) live = block_readable l a t f live
+  owned_readable l a t (inr (inl f)) live = block_readable l a t f live
+  owned_readable l a t (inr (inr f)) live = lying_readable x (sites_of g) y.linked g.memory a (shape_bytes t) y.memory (waiting_lying l a t f.from)
 
   -- ---- what is there
 
@@ -195,7 +196,7 @@ module _ (x : Basis) (g : Both) (y : IsGood x g) where
       }
 
   -- at a location that something owned is at
-  owned_stored : (l : Location) (a : ℕ) (t : Shape) → FromOwned x.table sites g.ground g.world l a t → is_full_at g.world l ≡ true
+  pub owned_stored : (l : Location) (a : ℕ) (t : Shape) → FromOwned x.table sites g.ground g.world l a t → is_full_at g.world l ≡ true
       → IsStoredAt (load g.world l) a t
   owned_stored l a t f full = leading_stored l a t (owned_to x g y l a t f) full (owned_readable l a t f (full_there l full).0)
 
@@ -250,7 +251,7 @@ module _ (x : Basis) (g : Both) (y : IsGood x g) where
       → IsStoredAt (load g.world (location_at c.temps there)) a t
   led_stored c i s (Located location) a t full (inl l) = owned_stored location a t (inl l) full
   led_stored c i s (Located location) a t full (inr (inl l)) = constant_stored location a t l
-  led_stored c i s (Located location) a t full (inr (inr (inl l))) = owned_stored location a t (inr l) full
+  led_stored c i s (Located location) a t full (inr (inr (inl l))) = owned_stored location a t (inr (inl l)) full
   led_stored c i s (Located location) a t full (inr (inr (inr l))) =
       leading_stored location a t (inl (waiting_home x g y location a t l (full_there location full).1)) full
       (lying_readable x (sites_of g) y.linked g.memory a (shape_bytes t) y.memory (waiting_lying location a t l))
@@ -278,7 +279,7 @@ module _ (x : Basis) (g : Both) (y : IsGood x g) where
       → Leads x.table x.blocks (sites_of g) g.ground g.world c.site c.temps there a (row n s) → RowRead (load g.world (location_at c.temps there)) n
   led_row c i (Located location) a n s seen (inl l) = leading_row location a n s (owned_to x g y location a (row n s) (inl l)) seen
   led_row c i (Located location) a n s seen (inr (inl l)) = row_parts (load g.world location) n s (constant_located location a (row n s) l).shaped
-  led_row c i (Located location) a n s seen (inr (inr (inl l))) = leading_row location a n s (owned_to x g y location a (row n s) (inr l)) seen
+  led_row c i (Located location) a n s seen (inr (inr (inl l))) = leading_row location a n s (owned_to x g y location a (row n s) (inr (inl l))) seen
   led_row c i (Located location) a n s seen (inr (inr (inr l))) =
       let p = and_parts (is_there g.world location) (is_whole g.world (load g.world location)) seen in
       leading_row location a n s (inl (waiting_home x g y location a (row n s) l p.1)) seen

@@ -16,7 +16,7 @@ use Rattle.nim_program.specs.View.{if_type}
 use Rattle.nim_meaning.specs.Values.{Value, Parts, Values, Nil, More, bytes, bytes_all, Operand, value_of, values_in}
 use Rattle.nim_meaning.specs.Deeds.{Answers, costs, give, ◌>>=◌}
 use Rattle.nim_meaning.specs.Here.{gives_hooked}
-use Rattle.nim_meaning.specs.Places.{made_by}
+use Rattle.nim_meaning.specs.Places.{kept_if}
 use Rattle.flat_code.specs.declared.block.BlockLine.{BlockLine}
 use Rattle.flat_code.specs.declared.line.From.{From}
 use Rattle.flat_code.specs.declared.line.From.TheVariants as F
@@ -60,7 +60,7 @@ use Rattle.word_lowering.proofs.ValueFacts.{value_plain}
 -- ---- operands that are parts
 
 -- no declared type is made of parts
-declared_no_made : (facts : Facts) (ty : Ty) → is_made (declared_kind (fact_of facts ty)) ≡ true → ⊥
+pub declared_no_made : (facts : Facts) (ty : Ty) → is_made (declared_kind (fact_of facts ty)) ≡ true → ⊥
 declared_no_made facts ty h =
     never (sym (declared_other is_made (λ n. refl) (λ own ts. refl) (λ t. refl) refl refl (fact_of facts ty)) ∙ h)
 
@@ -78,7 +78,7 @@ module _ (x : Basis) (g : Both) (line : BlockLine) (rest : List BlockLine) (y : 
   Parts_come from xs = Come x g line rest y to from (values_in xs)
 
   -- the first operand, by its type and that of the part
-  first_typed : (t : ℕ) (a p : Option Ty) (u : Ty) (from : List From) (wants : List (Option Ty)) → Typed (a ∷ wants) (F.Value t ∷ from) → is_of a p ≡ true
+  pub first_typed : (t : ℕ) (a p : Option Ty) (u : Ty) (from : List From) (wants : List (Option Ty)) → Typed (a ∷ wants) (F.Value t ∷ from) → is_of a p ≡ true
       → p ≡ Some u → value_type x g line rest y t ≡ Some u
   first_typed t a p u from wants typed is there =
       same_type (value_type x g line rest y t) (Some u)
@@ -287,10 +287,10 @@ module _ (x : Basis) (labels : LabelsLead x) (g : Both) (rest : List BlockLine) 
       using_all_settles x (starts g making rest) rest g.call.temps from
       (λ xs. gives (scene_of (high x.table x.blocks (starts g making rest))) to
       (costs 1 (costs (bytes (Parts (values_in xs))) (give (Parts (values_in xs))))
-      >>= made_by (gives_hooked (facts_in x.table) (if_type (known x).types ty)) (bound_for g how)))
+      >>= kept_if (gives_hooked (facts_in x.table) (if_type (known x).types ty)) (bound_for g how)))
       (λ xs has. let c = all_come x g making rest y to s.0 wants from xs s.2 q.0 q.1 f.typed f.placed has t.numbers t.look in
       let inside = in_memory x g making rest y (of_value to) t.there (value_plain into t.there.kind) (ap is_one_word t.look ∙ c.2) in
       subst (λ b. Settles x (starts g making rest) rest (gives (scene_of (high x.table x.blocks (starts g making rest))) to
-      (costs 1 (costs (bytes (Parts (values_in xs))) (give (Parts (values_in xs)))) >>= made_by b (bound_for g how))))
+      (costs 1 (costs (bytes (Parts (values_in xs))) (give (Parts (values_in xs)))) >>= kept_if b (bound_for g how))))
       (sym (ap (gives_hooked (facts_in x.table)) s.1 ∙ t.unhooked))
       (made y t.there inside t.here (values_in xs) (subst (λ u. has_shape (Parts (values_in xs)) u ≡ true) (sym t.look) c.1) c.0))

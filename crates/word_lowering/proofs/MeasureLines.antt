@@ -24,7 +24,7 @@ use Rattle.flat_code.specs.Fits.{is_location}
 use Rattle.flat_code.specs.Running.{scene_of}
 use Rattle.flat_code.specs.Scene.{Passes, Where, location_at, with_value}
 use Rattle.nim_meaning.specs.Here.{gives_hooked}
-use Rattle.nim_meaning.specs.Places.{length_at, made_by}
+use Rattle.nim_meaning.specs.Places.{length_at, kept_if}
 use Rattle.nim_meaning.specs.State.{is_seen, load}
 use Rattle.nim_meaning.specs.Table.{measured}
 use Rattle.nim_meaning.specs.Values.{Number, length_of, At, location_of, Value, number_of, nothing}
@@ -73,7 +73,7 @@ pub measured_word : (m : Measure) (n : ℕ) → is_int_number (pos n) ≡ true �
 measured_word Len n f = let h = fits_signed (pos n) f in omega (arith, ints)
 measured_word High n f = let h = fits_signed (pos n) f in omega (arith, ints)
 
-measured_fits : (m : Measure) (n : ℕ) → is_int_number (pos n) ≡ true → is_int_number (measured m n) ≡ true
+pub measured_fits : (m : Measure) (n : ℕ) → is_int_number (pos n) ≡ true → is_int_number (measured m n) ≡ true
 measured_fits Len n f = f
 measured_fits High n f = let h = fits_signed (pos n) f in signed_fits (measured High n) (omega (arith, ints))
 
@@ -81,7 +81,7 @@ module _ (x : Basis) (g : Both) (line : BlockLine) (rest : List BlockLine) (y : 
   abbrev count_at_location : ℕ → ℕ
   count_at_location from = count_in (entry_at x.table (location (around x.table x.blocks (body_of g)) from).ty)
 
-  measured_settles : (to : ℕ) (m : Measure) (from : ℕ) (there : Where) (r : RowAt x g line rest y from there)
+  pub measured_settles : (to : ℕ) (m : Measure) (from : ℕ) (there : Where) (r : RowAt x g line rest y from there)
       → is_seen g.world (location_at g.call.temps there) ≡ true → Getting x g line rest y to (measured m r.count)
       → code_here x g line rest y ≡ measure_code (around x.table x.blocks (body_of g))
       (has_handle (entry_at x.table (location (around x.table x.blocks (body_of g)) from).ty))
@@ -139,21 +139,21 @@ module _ (x : Basis) (labels : LabelsLead x) (g : Both) (rest : List BlockLine) 
       mapped_settles x (starts g line rest) rest (g.call.temps.places from) (λ place. At (location_at g.call.temps place))
       (λ u. gives (scene_of (high x.table x.blocks (starts g line rest))) to
       (costs 1 (sees (location_of u) (λ world v. give (Number (measured m (length_of v)))))
-      >>= made_by (gives_hooked (facts_in x.table) (if_type (known x).types ty)) (bound_for g how)))
+      >>= kept_if (gives_hooked (facts_in x.table) (if_type (known x).types ty)) (bound_for g how)))
       (λ there e. let r = row_at x g line rest y from there long names.1.0 e in
       subst (λ b. Settles x (starts g line rest) rest (gives (scene_of (high x.table x.blocks (starts g line rest))) to
       (costs 1 (sees (location_at g.call.temps there) (λ world v. give (Number (measured m (length_of v)))))
-      >>= made_by b (bound_for g how)))) (sym (ap (gives_hooked (facts_in x.table)) s.1 ∙ t.unhooked))
+      >>= kept_if b (bound_for g how)))) (sym (ap (gives_hooked (facts_in x.table)) s.1 ∙ t.unhooked))
       (where_there x (starts g line rest) rest (is_seen g.world (location_at g.call.temps there))
       (λ b. gives (scene_of (high x.table x.blocks (starts g line rest))) to
       (costs 1 (unless_gone b (give (Number (measured m (length_of (load g.world (location_at g.call.temps there)))))))
-      >>= made_by false (bound_for g how))) (λ before. tt)
+      >>= kept_if false (bound_for g how))) (λ before. tt)
       (λ seen. measured_settles x g line rest y to m from there r seen
       (getting x g line rest y to s.0 None (measured m r.count) t (int_shape (facts_in x.table) s.0 s.2) (measured_fits m r.count r.fits)) refl)))
 
 -- ---- a length that a loop checks
 
-turned : (a b : ℤ) → int_eq a b ≡ int_eq b a
+pub turned : (a b : ℤ) → int_eq a b ≡ int_eq b a
 turned a b = same_from_decides (int_eq a b) (int_eq b a) (Decides-int_eq a b)
     (λ e. sym ((Decides-int_eq b a).0 e), λ e. (Decides-int_eq b a).1 (sym e))
 

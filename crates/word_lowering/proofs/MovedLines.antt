@@ -28,7 +28,9 @@ use Rattle.flat_code.specs.Lines.{acts, fills, gives}
 use Rattle.flat_code.specs.Running.{scene_of}
 use Rattle.word_lowering.specs.declared.homes.Housed.{Housed}
 use Rattle.word_lowering.specs.Layouts.{found, owns, address_by, holds_address}
-use Rattle.word_lowering.specs.LineCode.{location}
+use Rattle.word_lowering.specs.LineCode.{is_copied, location}
+use Rattle.word_lowering.specs.WaitingCode.{gives_hooked as code_hooked}
+use Rattle.word_lowering.proofs.HookFree.{got_plain, same_hooks}
 use Rattle.word_lowering.specs.Spots.{moves}
 use Rattle.word_lowering.proofs.LineFits.{are_of, single_is, single_number}
 use Rattle.word_lowering.proofs.Targets.{Target, target, pointed}
@@ -238,7 +240,11 @@ module _ (x : Basis) (labels : LabelsLead x) (g : Both) (rest : List BlockLine) 
         (bound_for g how) None (location_at g.call.temps there)))
         (λ there e. taken_settles x g line rest y to f.ty (if_type (known x).types ty) how None from there names.1.0
         (target x g line rest y to f.ty refl refl f.is names.0)
-        (a.is_other ∙ ap Some same) f.is_other e refl)
+        (a.is_other ∙ ap Some same) f.is_other e
+        (got_plain (around x.table x.blocks (body_of g)) (code_hooked x.table ty) (is_copied how.how) ty (house g.call.site (of_value to))
+        (location (around x.table x.blocks (body_of g)) from) (code_next x g line rest y)
+        (same_hooks x ty ∙ (ap (gives_hooked (facts_in x.table)) (a.is_other ∙ ap Some same)
+        ∙ (target x g line rest y to f.ty refl refl f.is names.0).unhooked))))
 
     pub take_line : (how : UseAt) (act : Option Act) (ty : Option ℕ)
         → PlainNames x g.call.site (of_value to ∷ of_location from ∷ []) →
@@ -260,7 +266,11 @@ module _ (x : Basis) (labels : LabelsLead x) (g : Both) (rest : List BlockLine) 
         (bound_for g how) act (location_at g.call.temps there)))
         (λ there e. taken_settles x g line rest y to f.ty (if_type (known x).types ty) how act from there names.1.0
         (target x g line rest y to f.ty refl refl f.is names.0)
-        (a.is_other ∙ ap Some same) f.is_other e refl)
+        (a.is_other ∙ ap Some same) f.is_other e
+        (got_plain (around x.table x.blocks (body_of g)) (code_hooked x.table ty) (is_copied how.how) ty (house g.call.site (of_value to))
+        (location (around x.table x.blocks (body_of g)) from) (code_next x g line rest y)
+        (same_hooks x ty ∙ (ap (gives_hooked (facts_in x.table)) (a.is_other ∙ ap Some same)
+        ∙ (target x g line rest y to f.ty refl refl f.is names.0).unhooked))))
 
   module _ (n from : ℕ) where
     pub fill_line : FollowedHere x labels g rest (L.Fill n from)

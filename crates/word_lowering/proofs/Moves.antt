@@ -133,7 +133,7 @@ module _ (law : MemoryLaw) (live : Lives) (procs : List WordProc) (c : Within) (
   points_same v w (Placed n) a high same p = p
   points_same v w (Static n) a high same p = p
 
-  points_behind : (v : Vars) (n : ℕ) (home : Home) (a : ℕ) → IsBehind home → Points c.base v home a → Points c.base (put v FIRST n) home a
+  pub points_behind : (v : Vars) (n : ℕ) (home : Home) (a : ℕ) → IsBehind home → Points c.base v home a → Points c.base (put v FIRST n) home a
   points_behind v n (Variable u) a less p = put_other v FIRST n u (λ e. absurd (omega (arith, less, e))) ∙ p
   points_behind v n (Placed m) a less p = p
   points_behind v n (Static m) a less p = p

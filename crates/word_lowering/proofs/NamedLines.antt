@@ -1,4 +1,5 @@
 -- The word code of lines names variables of its procedure alone.
+use Rattle.std.specs.Prelude.{◌&&◌}
 use Rattle.nim_program.specs.declared.expr.Label.TheVariants as C
 use Rattle.std.proofs.Common.{ℕ, zero, suc, ◌≤◌, ◌<◌, List, [], ◌∷◌, Bool, true, false, Option, Some}
 use Rattle.std.proofs.Common.{None, arith}
@@ -31,14 +32,16 @@ use Rattle.word_lowering.specs.Layouts.{found, params_in, result_in}
 use Rattle.word_lowering.specs.Spots.{spot_of, shifted, moves, passes, clears, starts}
 use Rattle.word_lowering.specs.Stored.{part_at, entry_at, base_at, limit_at}
 use Rattle.word_lowering.specs.declared.texts.TheConstants.{LINE_END_AT}
-use Rattle.word_lowering.specs.Aliases.{text_in}
+use Rattle.word_lowering.specs.Aliases.{is_read, text_in}
 use Rattle.word_lowering.specs.Operations.{word}
 use Rattle.word_lowering.specs.LineCode.{Around}
 use Rattle.word_lowering.specs.WaitingCode.{waiter_at, waiter_house}
 use Rattle.word_lowering.specs.LineCode as lines
 use Rattle.word_lowering.specs.OwnedCode as owned
 use Rattle.word_lowering.proofs.HomesApart.{Each}
-use Rattle.word_lowering.proofs.KeptCode.{past_named, owning_named}
+use Rattle.word_lowering.proofs.CalledHooks.{assigned_named, got_named}
+use Rattle.word_lowering.specs.WaitingCode.{gives_hooked}
+use Rattle.word_lowering.proofs.KeptCode.{past_named, owning_named, root_named}
 use Rattle.word_lowering.proofs.LayoutBounds.{IsBelow, IsParamBelow, IsGlobalBelow, found_below, global_below, params_each}
 use Rattle.word_lowering.proofs.NamedCode.{AllNamed, IsSpotBelow, spot_below, shifted_below, first_is, second_is, third_is, fourth_is, fifth_is, left_is}
 use Rattle.word_lowering.proofs.NamedCode.{binary_named, unary_named, compare_named, narrow_named, unless_named, turn_if_named}
@@ -46,7 +49,8 @@ use Rattle.word_lowering.proofs.NamedCode.{fits_named, beyond_named, turn_named}
 use Rattle.word_lowering.proofs.NamedCode as named
 use Rattle.word_lowering.proofs.OwnedNames.{AllBelow, added_named, appended_named, at_below, compared_named, element_read_named, enough_named, joined_named}
 use Rattle.word_lowering.proofs.OwnedNames.{measured_named, new_named, owned_element_named, owned_item_named, popped_named, read_named, sequence_named}
-use Rattle.word_lowering.proofs.OwnedNames.{shown_named, sized_named, told_named, variable_is, word_argument_named}
+use Rattle.word_lowering.proofs.OwnedNames.{lent_text_named, shown_named, sized_named, text_copied_named, text_fits_named, told_named, variable_is}
+use Rattle.word_lowering.proofs.OwnedNames.{word_argument_named}
 use Rattle.word_lowering.proofs.WaiterHomes.{AreBelow}
 
 waiter_named : (vars : ℕ) (many : OWN_FROM ≤ vars) (there : Option Waiter) → IsBelow vars (waiter_house there).home
@@ -85,10 +89,12 @@ module _ (vars : ℕ) (many : OWN_FROM ≤ vars) where
   spot_named to (Held v) pieces h rest = named.constant vars many h rest
   spot_named to (Lies home) pieces h rest = named.cleared vars many to.is_word to.bytes (Lies home) h (pieces_named home pieces h rest)
 
-  constant_named : (text : Option (List ℕ)) (to : Housed) (pieces : List Piece) {k : List WordInstr} → IsBelow vars to.home → AllNamed vars k
-      → AllNamed vars (lines.constant_by text to pieces k)
-  constant_named None to pieces h rest = spot_named to (spot_of to) pieces (spot_below vars to h) rest
-  constant_named (Some text) to pieces h rest = rest
+  constant_named : (x : Around) (read : Bool) (text : Option (List ℕ)) (to : Housed) (pieces : List Piece) {k : List WordInstr} → IsBelow vars to.home
+      → AllNamed vars k → AllNamed vars (lines.constant_by x read text to pieces k)
+  constant_named x true None to pieces h rest = spot_named to (spot_of to) pieces (spot_below vars to h) rest
+  constant_named x false None to pieces h rest = spot_named to (spot_of to) pieces (spot_below vars to h) rest
+  constant_named x true (Some text) to pieces h rest = lent_text_named vars many x to.alias to.home text h rest
+  constant_named x false (Some text) to pieces h rest = text_copied_named vars many x to.home text h rest
 
   -- ---- addresses
   part_named : (to : ℕ) (home : Home) (at : ℕ) {k : List WordInstr} → to < vars → IsBelow vars home → AllNamed vars k
@@ -448,17 +454,25 @@ module _ (vars : ℕ) (many : OWN_FROM ≤ vars) where
 
     -- ---- lines
     line_named : (line : Line) (label : ℕ) {k : List WordInstr} → AllNamed vars k → AllNamed vars (lines.line_code x line label k)
+    line_named (L.Apply to O.Assign how ty of from) label k =
+        assigned_named vars many x (gives_hooked x.table (owned.type_of of 0))
+        (lines.row_code x O.Assign label ty of (lines.value x to) (lines.operands x from)) (owned.type_of of 0) from
+        (at_below vars many (lines.operands x from) 0 (operands_below from)) (at_below vars many (lines.operands x from) 1 (operands_below from))
+        (row_named O.Assign label ty of (lines.value x to) (lines.operands x from) (value_below to) (operands_below from) k) k
     line_named (L.Apply to operation how ty of from) label k =
         row_named operation label ty of (lines.value x to) (lines.operands x from) (value_below to) (operands_below from) k
     line_named (L.Construct to how ty fields from) label k =
         clears_named (lines.value x to) (value_below to)
         (fields_named (lines.value x to).home ty fields (lines.operands x from) (value_below to) (operands_below from) k)
-    line_named (L.Constant to how ty pieces) label k = constant_named (text_in pieces) (lines.value x to) pieces (value_below to) k
+    line_named (L.Constant to how ty pieces) label k = constant_named x (is_read how.how) (text_in pieces) (lines.value x to) pieces (value_below to) k
     line_named (L.Call to how ty proc from) label k =
         named.spend vars many (called_named (lines.layout_at x proc).runs label proc ty to (lines.operands x from) (operands_below from) k)
-    line_named (L.Get to from how ty) label k = moves_named (lines.value x to) (lines.location x from) (value_below to) (location_below from) k
+    line_named (L.Get to from how ty) label k =
+        got_named vars many x (gives_hooked x.table ty && lines.is_copied how.how) ty (lines.value x to) (lines.location x from) (value_below to)
+        (location_below from) k
     line_named (L.Look to from) label k = moves_named (lines.value x to) (lines.location x from) (value_below to) (location_below from) k
-    line_named (L.Root to p global) label k = k
+    line_named (L.Root to p global) label k =
+        root_named vars many (lines.own_alias x to) (lines.led x to) (lines.place x p global).home (led_below to) (place_below p global) k
     line_named (L.Fresh to from waits) label k = k
     line_named (L.Standing to ty pieces) label k = named.datum vars many (led_below to) k
     line_named (L.Part to from field) label k = part_named _ _ _ (led_below to) (location_below from) k
@@ -483,8 +497,11 @@ module _ (vars : ℕ) (many : OWN_FROM ≤ vars) where
     line_named (L.Jump to) label k = named.jump vars many k
     line_named (L.Unless from to) label k = unless_named vars many _ (lines.own_label to) (held_below from) k
     line_named (L.Fits from (C.Ordinals low high) to) label k = fits_named vars many _ (lines.own_label to) low high (held_below from) k
-    line_named (L.Fits from (C.Text text) to) label k = k
-    line_named (L.Own what from) label k = owning_named vars many x below.waiting value_below what from k
+    line_named (L.Fits from (C.Text text) to) label k = text_fits_named vars many x text (lines.value x from) (lines.own_label to) (value_below from) k
+    line_named (L.Own what from) label k =
+        owning_named vars many x below.waiting value_below (λ p. place_below p false)
+        (λ p. variable_is vars many (lines.place x p false) (place_below p false)) location_below what from
+        (at_below vars many (lines.operands x from) 0 (operands_below from)) label k
     line_named L.Enter label k = named.spend vars many k
     line_named (L.Turn to) label k = named.spend vars many (named.jump vars many k)
     line_named (L.TurnIf from to) label k = turn_if_named vars many _ (lines.own_label to) (held_below from) k

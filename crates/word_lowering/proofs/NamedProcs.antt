@@ -1,5 +1,5 @@
 -- Procedures of word code are well formed, and have numbers of their own.
-use Rattle.std.proofs.Common.{◌≡◌, inl, inr, ℕ, zero, suc, ◌+◌, ◌%◌, ◌≤◌, ◌<◌, List, [], ◌∷◌, length, map, Bool, true, false}
+use Rattle.std.proofs.Common.{◌≡◌, inl, inr, ℕ, zero, suc, ◌+◌, ◌*◌, ◌%◌, ◌≤◌, ◌<◌, List, [], ◌∷◌, ◌++◌, length, map, Bool, true, false}
 use Rattle.std.proofs.Common.{not, ◌&&◌, nat_le}
 use Rattle.std.proofs.Common.{Option, Some, None, slice_get, ◌==◌, refl, ap, arith}
 use Rattle.std.proofs.lemmas.Bool.{and_parts, and_from, or_from, le-leb, leb-true, eq-eqb, ne_eqb}
@@ -25,18 +25,20 @@ use Rattle.word_lowering.specs.declared.homes.Layout.{Layout}
 use Rattle.word_lowering.specs.declared.homes.Waiter.{Waiter}
 use Rattle.word_code.specs.declared.routine.TheConstants.{PROCS_FROM}
 use Rattle.word_lowering.specs.declared.texts.TheConstants.{FIXED_BYTES}
-use Rattle.word_lowering.specs.declared.may_lower.TheConstants.{MOST_ROOM, MOST_VARS}
+use Rattle.word_lowering.specs.declared.may_lower.TheConstants.{MOST_ROOM, MOST_VARS, MOST_WAITERS, MOST_FRAME}
 use Rattle.word_lowering.specs.Layouts.{all_housed, behind_all, is_empty, free_at, layout_of, layouts, params_in, result_in, kept_in}
-use Rattle.word_lowering.specs.LineCode.{Around, no_layout, or_none, layout_at, proc_number, lines_code}
+use Rattle.hook_code.specs.HookCode.{procs_in}
+use Rattle.word_lowering.specs.LineCode.{Around, no_layout, or_none, layout_at, proc_number, first_hook, lines_code}
 use Rattle.word_lowering.specs.Lowered as code
 use Rattle.word_code.specs.RoutineTable.{trap_number}
 use Rattle.word_lowering.specs.Operations.{trap_label}
 use Rattle.word_lowering.specs.Texts.{texts_in}
 use Rattle.word_lowering.specs.WaitingCode.{none_code}
 use Rattle.word_lowering.specs.Runtimes.{Runtimes, with_runtimes}
-use Rattle.word_lowering.specs.MayLower.{params_lead, all_plain, hook_may, places_may, sizes_may, proc_may, procs_may, may_lower, result_end}
+use Rattle.word_lowering.specs.MayLower.{params_lead, all_known, hook_may, places_may, sizes_may, proc_may, procs_may, may_lower, result_end}
 use Rattle.heap_memory.specs.declared.numbers.TheConstants.{HEAP_DATA}
 use Rattle.word_lowering.proofs.JoinedRoutines.{beyond, both_apart, behind_found, found_own}
+use Rattle.word_lowering.proofs.HookProcs.{HookLaws, AreHookProcs, all_are}
 use Rattle.word_lowering.proofs.HomesApart.{Each, each_as, grows_all}
 use Rattle.word_lowering.proofs.LayoutBounds.{IsBelow, IsParamBelow, IsGlobalBelow, IfHoused, bound_more}
 use Rattle.word_lowering.proofs.LayoutBounds.{room_whole, all_below, kept_within, params_below, globals_below, result_each}
@@ -71,8 +73,8 @@ module _ (vars : ℕ) (many : OWN_FROM ≤ vars) where
 
   code_named : (x : Around) (lines : List Line) → IsAroundBelow vars x → AllNamed vars (code.code_of x lines)
   code_named x lines below =
-      named_on (result_named (result_in x.own.all) (result_each (λ h. IsBelow vars h.home) x.own.all below.own)
-      (none_named_of x.own.waiters below.waiting (lines_named vars many x below lines none_named)))
+      named_on (none_named_of x.own.waiters below.waiting
+      (result_named (result_in x.own.all) (result_each (λ h. IsBelow vars h.home) x.own.all below.own) (lines_named vars many x below lines none_named)))
       (last_named (code.begin_code x.own (lines_code x lines [])))
 
 -- ---- a procedure
@@ -109,26 +111,35 @@ pub record Fits (own : Layout) (p : CodeProc BlockLine) : Type 0 where
   pub vars : own.free.variable ≤ MOST_VARS
   pub arguments : OWN_FROM + kept_in (params_in own.all) ≤ MOST_ARGUMENTS
   pub handed : result_end (result_in own.all) ≤ SPARE_ROOM
+  pub waiters : length own.waiters ≤ MOST_WAITERS
+  pub together : 4 * own.free.variable + own.free.byte ≤ MOST_FRAME
 
 pub fits_by : (table : List TypeDef) (own : Layout) (p : CodeProc BlockLine) → proc_may table own p ≡ true → Fits own p
 fits_by table own p h =
     let both = and_parts (places_may table own p) (sizes_may own) h in
-    let forms = and_parts (params_lead p.places && (all_plain table own.all && hook_may p.hook)) _ both.0 in
-    let places = and_parts (params_lead p.places) (all_plain table own.all && hook_may p.hook) forms.0 in
-    let plain = and_parts (all_plain table own.all) (hook_may p.hook) places.1 in
+    let last : Bool = nat_le (result_end (result_in own.all)) SPARE_ROOM && (nat_le (length own.waiters) MOST_WAITERS
+    && nat_le (4 * own.free.variable + own.free.byte) MOST_FRAME) in
+    let forms = and_parts (params_lead p.places && (all_known table own.all && hook_may p.hook)) _ both.0 in
+    let places = and_parts (params_lead p.places) (all_known table own.all && hook_may p.hook) forms.0 in
+    let known = and_parts (all_known table own.all) (hook_may p.hook) places.1 in
     let sizes = and_parts (nat_le own.free.byte MOST_ROOM) _ both.1 in
     let spare = and_parts _ (nat_le own.free.variable MOST_VARS && (nat_le (OWN_FROM + kept_in (params_in own.all)) MOST_ARGUMENTS
-    && nat_le (result_end (result_in own.all)) SPARE_ROOM)) sizes.1 in
+    && last)) sizes.1 in
     let vars = and_parts (nat_le own.free.variable MOST_VARS) (nat_le (OWN_FROM + kept_in (params_in own.all)) MOST_ARGUMENTS
-    && nat_le (result_end (result_in own.all)) SPARE_ROOM) spare.1 in
-    let passed = and_parts (nat_le (OWN_FROM + kept_in (params_in own.all)) MOST_ARGUMENTS) (nat_le (result_end (result_in own.all)) SPARE_ROOM) vars.1 in
+    && last) spare.1 in
+    let passed = and_parts (nat_le (OWN_FROM + kept_in (params_in own.all)) MOST_ARGUMENTS) last vars.1 in
+    let ends = and_parts (nat_le (result_end (result_in own.all)) SPARE_ROOM) (nat_le (length own.waiters) MOST_WAITERS
+    && nat_le (4 * own.free.variable + own.free.byte) MOST_FRAME) passed.1 in
+    let lasts = and_parts (nat_le (length own.waiters) MOST_WAITERS) (nat_le (4 * own.free.variable + own.free.byte) MOST_FRAME) ends.1 in
     record {
       lead = places.0;
-      hook = plain.1;
+      hook = known.1;
       room = leb-true own.free.byte MOST_ROOM sizes.0;
       vars = leb-true own.free.variable MOST_VARS vars.0;
       arguments = leb-true (OWN_FROM + kept_in (params_in own.all)) MOST_ARGUMENTS passed.0;
-      handed = leb-true (result_end (result_in own.all)) SPARE_ROOM passed.1;
+      handed = leb-true (result_end (result_in own.all)) SPARE_ROOM ends.0;
+      waiters = leb-true (length own.waiters) MOST_WAITERS lasts.0;
+      together = leb-true (4 * own.free.variable + own.free.byte) MOST_FRAME lasts.1;
     }
 
 kind_fits : (start : Bool) (hook : Option HookOf) → hook_may hook ≡ true → is_kind (code.kind_in start hook) ≡ true
@@ -197,6 +208,15 @@ formed_if true p n next procs ok same behind rest =
 formed_if false p n next procs ok same behind rest =
     record { formed = rest.formed; numbers = numbers_more n next procs (omega (arith, behind)) rest.numbers }
 
+formed_more : (m n : ℕ) (procs : List WordProc) → m ≤ n → AreFormed n procs → AreFormed m procs
+formed_more m n procs le h = record { formed = h.formed; numbers = numbers_more m n procs le h.numbers }
+
+-- in front of others
+in_front : (runs : Bool) (p : WordProc) (n : ℕ) (procs others : List WordProc) → AreFormed n (code.if_runs runs p (procs ++ others))
+    → AreFormed n (code.if_runs runs p procs ++ others)
+in_front true p n procs others h = h
+in_front false p n procs others h = h
+
 -- ---- what is around all
 
 module _ (table : List TypeDef) (datum : ℕ) where
@@ -222,6 +242,15 @@ module _ (table : List TypeDef) (datum : ℕ) where
       let both = and_parts (proc_may table own p) (procs_may table (layouts table datum ps) ps) may in
       last_vars own ps (fits_by table own p both.0).vars both.1
 
+  -- nor have many values that wait homes in it
+  pub last_waits : (none : Layout) (procs : List (CodeProc BlockLine)) → length none.waiters ≤ MOST_WAITERS
+      → procs_may table (layouts table datum procs) procs ≡ true → length (last_of none (layouts table datum procs)).waiters ≤ MOST_WAITERS
+  last_waits none [] h may = h
+  last_waits none (p ∷ ps) h may =
+      let own : Layout = layout_of table (is_empty ps) datum p in
+      let both = and_parts (proc_may table own p) (procs_may table (layouts table datum ps) ps) may in
+      last_waits own ps (fits_by table own p both.0).waiters both.1
+
   -- parameters are among arguments
   all_params : (procs : List (CodeProc BlockLine)) → procs_may table (layouts table datum procs) procs ≡ true → (proc : ℕ)
       → Each (IsParamBelow MOST_ARGUMENTS) (or_none (slice_get (layouts table datum procs) proc)).all
@@ -235,11 +264,13 @@ module _ (table : List TypeDef) (datum : ℕ) where
   all_params (p ∷ ps) h (suc proc) =
       all_params ps (and_parts (proc_may table (layout_of table (is_empty ps) datum p) p) (procs_may table (layouts table datum ps) ps) h).1 proc
 
-  procs_formed : (x : Around) → IsShared x → (index : ℕ) (procs : List (CodeProc BlockLine)) → procs_may table (layouts table datum procs) procs ≡ true
-      → AreFormed (proc_number index) (code.word_procs x index (layouts table datum procs) procs)
-  procs_formed x shared index [] may = record { formed = refl; numbers = tt }
-  procs_formed x shared index (p ∷ []) may = record { formed = refl; numbers = tt }
-  procs_formed x shared index (p ∷ q ∷ ps) may =
+  -- with others behind them, whose numbers are greater
+  procs_formed : (x : Around) → IsShared x → (index : ℕ) (procs : List (CodeProc BlockLine)) (last : ℕ) (others : List WordProc)
+      → proc_number index + length procs ≤ last → AreFormed last others → procs_may table (layouts table datum procs) procs ≡ true
+      → AreFormed (proc_number index) (code.word_procs x index (layouts table datum procs) procs ++ others)
+  procs_formed x shared index [] last others le behind_them may = formed_more (proc_number index) last others (omega (arith, le)) behind_them
+  procs_formed x shared index (p ∷ []) last others le behind_them may = formed_more (proc_number index) last others (omega (arith, le)) behind_them
+  procs_formed x shared index (p ∷ q ∷ ps) last others le behind_them may =
       let own : Layout = layout_of table false datum p in
       let behind : ℕ = length (texts_in (q ∷ ps)) in
       let y : Around = code.with_own x own behind in
@@ -248,11 +279,12 @@ module _ (table : List TypeDef) (datum : ℕ) where
       let fits : Fits own p = fits_by table own p both.0 in
       let is : IsLaid own = laid table false datum p in
       let ok = proc_formed y (proc_number index) p is (around_below y (shared_with x own behind shared) is) fits.vars (kind_fits false p.hook fits.hook) in
-      formed_if own.runs (code.word_proc y (proc_number index) p) (proc_number index) (proc_number (suc index)) rest ok refl (omega arith)
-      (procs_formed x shared (suc index) (q ∷ ps) both.1)
+      in_front own.runs (code.word_proc y (proc_number index) p) (proc_number index) rest others
+      (formed_if own.runs (code.word_proc y (proc_number index) p) (proc_number index) (proc_number (suc index)) (rest ++ others) ok refl (omega arith)
+      (procs_formed x shared (suc index) (q ∷ ps) last others (omega (arith, le)) behind_them both.1))
 
 -- the start code has the number 0, and the others none of a routine
-module _ (table : List TypeDef) (blocks : Code BlockLine) (may : may_lower table blocks ≡ true) where
+module _ (laws : HookLaws) (table : List TypeDef) (blocks : Code BlockLine) (may : may_lower table blocks ≡ true) where
   abbrev procs : List (CodeProc BlockLine)
   procs = blocks.procs
 
@@ -268,8 +300,19 @@ module _ (table : List TypeDef) (blocks : Code BlockLine) (may : may_lower table
   shared : IsShared around
   shared = record { globals = λ n. start_globals table FIXED_BYTES n procs; params = all_params table FIXED_BYTES procs each }
 
-  others_formed : AreFormed (proc_number 0) (code.word_procs around 0 all procs)
-  others_formed = procs_formed table FIXED_BYTES around shared 0 procs each
+  -- hooks of types stand behind them
+  abbrev hooks : List WordProc
+  hooks = procs_in table (first_hook procs)
+
+  hook_numbers : (n : ℕ) (ps : List WordProc) → AreHookProcs n ps → NumbersFrom n ps
+  hook_numbers n [] are = tt
+  hook_numbers n (p ∷ ps) are = (are.0.number, hook_numbers n ps are.1)
+
+  hooks_formed : AreFormed (first_hook procs) hooks
+  hooks_formed = record { formed = laws.formed table (first_hook procs); numbers = hook_numbers (first_hook procs) hooks (all_are table (first_hook procs)) }
+
+  others_formed : AreFormed (proc_number 0) (code.word_procs around 0 all procs ++ hooks)
+  others_formed = procs_formed table FIXED_BYTES around shared 0 procs (first_hook procs) hooks (omega arith) hooks_formed each
 
   pub procs_are_formed : are_procs (code.lowered table blocks).procs ≡ true
   procs_are_formed =
@@ -284,7 +327,7 @@ module _ (table : List TypeDef) (blocks : Code BlockLine) (may : may_lower table
 
   -- so they are apart from those of a runtime
   pub apart_from : (rs : List WordProc) → AreRoutines rs → AreApart (code.lowered table blocks).procs rs
-  apart_from rs are = (beyond 0 rs are (inl refl), all_beyond (code.word_procs around 0 all procs) rs are others_formed.numbers)
+  apart_from rs are = (beyond 0 rs are (inl refl), all_beyond (code.word_procs around 0 all procs ++ hooks) rs are others_formed.numbers)
 
   -- and all of them are free among those in front
   free_all : (r : WordProc) (ps : List WordProc) → (0 < r.number) × (r.number < PROCS_FROM) → NumbersFrom (proc_number 0) ps → IsFree r.number ps
@@ -297,31 +340,35 @@ module _ (table : List TypeDef) (blocks : Code BlockLine) (may : may_lower table
   apart_before (r ∷ rs) are =
       let first = are.0.first in
       let last = are.0.last in (
-        (λ e. absurd (omega (arith, e, first)), free_all r (code.word_procs around 0 all procs) (first, last) others_formed.numbers),
+        (λ e. absurd (omega (arith, e, first)), free_all r (code.word_procs around 0 all procs ++ hooks) (first, last) others_formed.numbers),
         apart_before rs are.1,
       )
 
 -- with all routines
-module _ (table : List TypeDef) (blocks : Code BlockLine) (may : may_lower table blocks ≡ true) (r : Runtimes) where
+module _ (laws : HookLaws) (table : List TypeDef) (blocks : Code BlockLine) (may : may_lower table blocks ≡ true) (r : Runtimes) where
   -- each number stands for one of them
   pub all_apart : AreApart r.heap.procs (code.lowered table blocks).procs × AreApart (joined r.heap (code.lowered table blocks)).procs r.others.procs
   all_apart = (
-    apart_before table blocks may r.heap.procs r.is_heap.routines,
+    apart_before laws table blocks may r.heap.procs r.is_heap.routines,
     both_apart r.heap.procs (code.lowered table blocks).procs r.others.procs (length r.heap.statics) r.apart
-        (apart_from table blocks may r.others.procs r.is_others.routines),
+        (apart_from laws table blocks may r.others.procs r.is_others.routines),
   )
 
   -- the start code is found behind the heap's
   pub start_found : from_proc 0 (with_runtimes r (code.lowered table blocks)).procs
       ≡ moved HEAP_DATA (code.word_proc (code.start_around table blocks.procs) 0 (last_of code.no_proc blocks.procs))
-      ∷ behind_found r (code.lowered table blocks) (code.word_procs (code.start_around table blocks.procs) 0 (code.all_layouts table blocks.procs) blocks.procs)
+      ∷ behind_found r (code.lowered table blocks)
+      (code.word_procs (code.start_around table blocks.procs) 0 (code.all_layouts table blocks.procs) blocks.procs
+      ++ procs_in table (first_hook blocks.procs))
   start_found =
       found_own r (code.lowered table blocks) 0 (code.word_proc (code.start_around table blocks.procs) 0 (last_of code.no_proc blocks.procs))
-      (code.word_procs (code.start_around table blocks.procs) 0 (code.all_layouts table blocks.procs) blocks.procs) (inl refl) refl
+      (code.word_procs (code.start_around table blocks.procs) 0 (code.all_layouts table blocks.procs) blocks.procs
+      ++ procs_in table (first_hook blocks.procs)) (inl refl) refl
 
   pub is_formed : is_word_code (with_runtimes r (code.lowered table blocks)) ≡ true
   is_formed =
       and_from _ _ (joined_formed (length (joined r.heap (code.lowered table blocks)).statics) (joined r.heap (code.lowered table blocks)).procs
       r.others.procs all_apart.1
-      (joined_formed (length r.heap.statics) r.heap.procs (code.lowered table blocks).procs all_apart.0 r.is_heap.formed (procs_are_formed table blocks may))
+      (joined_formed (length r.heap.statics) r.heap.procs (code.lowered table blocks).procs all_apart.0 r.is_heap.formed
+      (procs_are_formed laws table blocks may))
       r.is_others.formed) (ap (λ ps. may_start (first_of ps).kind) start_found)

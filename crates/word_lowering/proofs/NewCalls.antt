@@ -37,6 +37,7 @@ use Rattle.word_code.specs.Memory.{Memory}
 use Rattle.word_lowering.proofs.Temporaries.{AreOnce}
 use Rattle.word_lowering.proofs.Waiting.{none_says}
 use Rattle.word_lowering.specs.WaitingCode.{waiter_at}
+use Rattle.word_lowering.specs.declared.homes.Waiter.{Waiter}
 
 module _ (x : Basis) (g : Both) (line : BlockLine) (rest : List BlockLine) (y : IsGood x (starts g line rest)) {proc : ℕ} {s : Signature}
     (c : Callee x.table x.blocks proc s) (m : Memory) (slots : List Slot)
@@ -133,6 +134,8 @@ module _ (x : Basis) (g : Both) (line : BlockLine) (rest : List BlockLine) (y : 
   pub record VarsThen (vars : Vars) : Type 0 where
     pub left_is : vars LEFT ≡ Some left
     pub handed : (v : ℕ) → OWN_FROM ≤ v → v < limit → vars v ≡ g.words v
+    -- and nothing waits
+    pub zeros : (node : ℕ) (w : Waiter) → waiter_at node c.body.own.waiters ≡ Some w → vars w.variable ≡ Some 0
 
   module _ (vars : Vars) (is : VarsThen vars) where
     abbrev call_then : Call
@@ -253,8 +256,7 @@ module _ (x : Basis) (g : Both) (line : BlockLine) (rest : List BlockLine) (y : 
       filled = λ n there h. slot_filled n h.0 there h.1 (parameter n h.0 there h.1);
       left = λ h. is.left_is;
       waits = λ node. none_says node c.body.own.waiters (temporary_at world_first (suc g.call.site.level) node) (g.call.site.base + room (body_of g)) vars
-          (none_waiting node)
-          (λ w e. absurd (none_some w (sym (ap (waiter_at node) c.is.waiters) ∙ e)));
+          (none_waiting node) (is.zeros node);
       once = subst (λ (f : Frame). AreOnce f.temporaries) (sym frame_last) tt;
     }
       where

@@ -113,6 +113,8 @@ module _ (x : Basis) (g : Both) (line : BlockLine) (rest : List BlockLine) (y : 
       stands = stand_then lines same;
       waits = (stands_next x.table x.blocks (body_of g) line rest y.stands, y.waits);
       answers = (answers, y.answers);
+      idle = y.idle;
+      fixed = y.fixed;
     }
 
     -- ---- the result
@@ -233,7 +235,7 @@ module _ (x : Basis) (g : Both) (line : BlockLine) (rest : List BlockLine) (y : 
       cleared_bits : has_hooks x.table place ≡ true → Cleared
       cleared_bits hooks =
           let s : Shape = shape_of (facts_in x.table) start_type in
-          let built = c.is.built place there.among there.own hooks in
+          let built = c.is.built place there.among hooks in
           let handles : of_handles s ≡ true = sym (ap of_handles look_result) ∙ built.0 in
           let many : is_one_word s ≡ false = sym (ap is_one_word look_result) ∙ built.1 in
           let inside = housed_inside x c.body place (houses x.table x.blocks here (of_place number) c.is there) plain_result built.1 in

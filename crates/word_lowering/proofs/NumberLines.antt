@@ -182,7 +182,7 @@ module _ (x : Basis) (labels : LabelsLead x) (g : Both) (rest : List BlockLine) 
                 (number_of v) (number_of w) o.fits p.fits o.word_is p.word_is k inclusive (own_label to) h;
           };
         }))
-        (λ h. leaps_settles x g beyond rest y labels to
+        (λ h. leaps_settles x g beyond rest y labels refl to
         (λ there stands. beyond_off x.live (all_procs x) (within x.table x.blocks g) g.memory g.words g.call.vars counter_variable last_variable o.high p.high
         (number_of v) (number_of w) o.fits p.fits o.word_is p.word_is k inclusive (own_label to) there h stands))
 
@@ -250,7 +250,7 @@ module _ (x : Basis) (labels : LabelsLead x) (g : Both) (rest : List BlockLine) 
             (steps.0, low x.table x.blocks (changed here after temps s.vars g.memory g.words g.awaits g.world)),
             n + 1 + 1,
             record { work = steps.1.work; within = (let q = steps.1.within in omega (arith, q, few)); by = steps.1.by },
-            (inl (changed here after temps s.vars g.memory g.words g.awaits g.world, good, steps.0), refl, refl),
+            (inl (changed here after temps s.vars g.memory g.words g.awaits g.world, good, steps.0), refl, refl, λ waits. refl),
             inl (omega arith),
           )
 

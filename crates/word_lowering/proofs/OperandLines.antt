@@ -26,7 +26,7 @@ use Rattle.flat_code.specs.declared.block.BlockLine.{BlockLine}
 use Rattle.nim_meaning.specs.Acts.{line_of}
 use Rattle.nim_meaning.specs.Deeds.{Answers, costs, ◌>>=◌, Finishes}
 use Rattle.nim_meaning.specs.Here.{gives_hooked}
-use Rattle.nim_meaning.specs.Places.{made_by}
+use Rattle.nim_meaning.specs.Places.{kept_if}
 use Rattle.nim_meaning.specs.Values.{Given, value_of, Number, Value, number_of}
 use Rattle.nim_program.specs.View.{if_type}
 use Rattle.flat_code.specs.declared.line.UseAt.{UseAt}
@@ -206,7 +206,7 @@ module _ (x : Basis) (traps : TrapsStop x) (g : Both) (line : BlockLine) (rest :
 
   -- a value without hooks is what it is, however it is used
   pub told : (hooked : Bool) (how : UseAt) → hooked ≡ false → (r : Checked)
-      → answer 1 r ≡ gives (scene_of (high x.table x.blocks (starts g line rest))) to (costs 1 (outcome r) >>= made_by hooked (bound_for g how))
+      → answer 1 r ≡ gives (scene_of (high x.table x.blocks (starts g line rest))) to (costs 1 (outcome r) >>= kept_if hooked (bound_for g how))
   told true how e r = absurd (true≢false e)
   told false how e (Fine z) = refl
   told false how e (Trapped trap) =
@@ -232,7 +232,7 @@ module _ (x : Basis) (traps : TrapsStop x) (own : OwnLabels x) (g : Both) (rest 
         let got = target x g one rest y to t refl refl typed names.0 in
         mapped_settles x (starts g one rest) rest (g.call.temps.values from) Given
         (λ u. gives (scene_of (high x.table x.blocks (starts g one rest))) to
-        (costs 1 (outcome (applied_to operator (number_of (value_of u)))) >>= made_by (gives_hooked (facts_in x.table) (if_type (known x).types ty))
+        (costs 1 (outcome (applied_to operator (number_of (value_of u)))) >>= kept_if (gives_hooked (facts_in x.table) (if_type (known x).types ty))
         (bound_for g how)))
         (λ v e. let o = number_read x g one rest y from v t values from_typed shape e in
         let z = getting_any x traps g one rest y to t values got shape in
@@ -333,7 +333,7 @@ module _ (x : Basis) (traps : TrapsStop x) (own : OwnLabels x) (g : Both) (rest 
     two_followed names y values t types typed left_typed right_typed shape may =
         let got = target x g two rest y to t refl refl typed names.0 in
         let gives_it : Value → Value → Did = λ v w. gives (scene_of (high x.table x.blocks (starts g two rest))) to
-        (costs 1 (outcome (applied operator (number_of v) (number_of w))) >>= made_by (gives_hooked (facts_in x.table) (if_type (known x).types ty))
+        (costs 1 (outcome (applied operator (number_of v) (number_of w))) >>= kept_if (gives_hooked (facts_in x.table) (if_type (known x).types ty))
         (bound_for g how)) in
         mapped_settles x (starts g two rest) rest (g.call.temps.values left) Given
         (λ u. using (option_map Given (g.call.temps.values right)) (λ z. gives_it (value_of u) (value_of z)))

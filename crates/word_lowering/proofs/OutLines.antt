@@ -2,7 +2,7 @@
 use Rattle.std.proofs.Common.{◌≡◌, ℕ, ◌+◌, ◌≤◌, List, [], true, pos, refl, sym, ap, ap₂, subst, ◌∙◌, arith, None, Option, Some, false, ◌*◌, ◌∷◌}
 use Rattle.nim_program.specs.declared.operation.Operation.TheVariants as O
 use Rattle.nim_meaning.specs.Values.{Value, Number, Parts, Handle, Fixed, Ref, Resource, Gone, Vacant, bytes, Location, At, default_of, location_of}
-use Rattle.nim_meaning.specs.State.{is_full_at, is_there, load, store}
+use Rattle.nim_meaning.specs.State.{is_full_at, is_there, load, store, is_whole}
 use Rattle.flat_code.specs.declared.block.BlockLine.{BlockLine}
 use Rattle.flat_code.specs.declared.line.From.TheVariants as F
 use Rattle.flat_code.specs.declared.line.Line.TheVariants as L
@@ -28,7 +28,7 @@ use Rattle.word_lowering.proofs.Lines.{mapped_settles, where_there}
 use Rattle.word_lowering.proofs.Located.{full_there, owned_readable}
 use Rattle.word_lowering.proofs.MovedLines.{own_plain}
 use Rattle.word_lowering.proofs.Moves.{ToMemory, is_single, zero_to_memory, zeros_to_memory}
-use Rattle.word_lowering.proofs.OutPlaces.{Written, far_written, own_written, unlent_plain, written_at}
+use Rattle.word_lowering.proofs.OutPlaces.{Written, far_written, own_written, written_at}
 use Rattle.word_lowering.proofs.ReadFacts.{read_location}
 use Rattle.word_lowering.proofs.Related.{routines, Both, body_of, within, high}
 use Rattle.word_lowering.proofs.Scenes.{Ground, Points, house, looked, of_place, of_location, of_value}
@@ -41,7 +41,7 @@ use Rattle.flat_code.specs.Running.{scene_of}
 use Rattle.flat_code.specs.declared.line.From.{From}
 use Rattle.nim_meaning.specs.Deeds.{Answers, Stores, costs, does, give, sets, unless_gone, ◌>>=◌, ◌>>◌}
 use Rattle.nim_meaning.specs.Here.{gives_hooked}
-use Rattle.nim_meaning.specs.Places.{exchanged, made_by}
+use Rattle.nim_meaning.specs.Places.{changes, exchanged, kept_if, may_change}
 use Rattle.nim_program.specs.Kinds.{is_of, same_value}
 use Rattle.nim_program.specs.View.{if_type}
 use Rattle.flat_code.specs.declared.line.UseAt.{UseAt}
@@ -57,6 +57,7 @@ use Rattle.word_lowering.proofs.Settling.{LabelsLead, code_next}
 use Rattle.word_lowering.proofs.Sites.{around}
 use Rattle.word_lowering.proofs.Targets.{pointed, target}
 use Rattle.word_lowering.proofs.ValueFacts.{type_in, value_plain, PlainNames}
+use Rattle.word_lowering.proofs.GoodLeads.{owned_seen}
 
 module _ (x : Basis) (g : Both) (line : BlockLine) (rest : List BlockLine) (y : IsGood x (starts g line rest)) where
   -- what is true behind the code that clears a location
@@ -106,8 +107,9 @@ module _ (x : Basis) (g : Both) (line : BlockLine) (rest : List BlockLine) (y : 
         by (Gone value final) zero_value home a points range = absurd zero_value
         by Vacant zero_value home a points range = absurd zero_value
 
-    pub cleared_there : Written x g line rest y h l s → Cleared h l d temps k
-    cleared_there (own_written n there own is look old slot l_is) =
+    -- where something is
+    pub cleared_there : is_whole g.world (load g.world l) ≡ true → Written x g line rest y h l s → Cleared h l d temps k
+    cleared_there whole (own_written n there own is look old slot l_is) =
         let shape : has_shape d (looked x.table g.call.site (of_place n)) ≡ true = subst (λ k. has_shape d k ≡ true) (sym look) shaped in
         let plain_is = own_plain (house g.call.site (of_place n)) own in
         let get = subst (λ u. Gets x g line rest y (clears u k) k (of_place n) d (9 + bytes d)) (sym is)
@@ -125,8 +127,9 @@ module _ (x : Basis) (g : Both) (line : BlockLine) (rest : List BlockLine) (y : 
           good = good_place x g line rest y n there own d rest (stands_next x.table x.blocks (body_of g) line rest y.stands) temps same
               (clears h k) k (9 + bytes d) (ap of_numbers look ∙ numbers) shape plain_is get;
         })
-    cleared_there (far_written home spot up a points f) =
+    cleared_there whole (far_written home spot up a points owned leads) =
         let sites = all_sites x g line rest y in
+        let f = owned_seen x (starts g line rest) y l a s owned leads whole in
         let range : Readable x sites y.linked g.memory a (bytes d)
         = subst (λ n. Readable x sites y.linked g.memory a n) (sym (bytes_is d s numbers shaped)) (owned_readable x (starts g line rest) y l a s f live) in
         let r = zeros_at home a points range in
@@ -186,10 +189,10 @@ module _ (x : Basis) (labels : LabelsLead x) (g : Both) (rest : List BlockLine) 
         let y1 : IsGood x (starts g1 moving rest) = good_value x g moving rest y (moving ∷ rest) y.stands
         (moves (house g.call.site (of_value to)) from_house (clears from_house next)) (clears from_house next) to v (10 + 2 * bytes v) t.there t.here
         look get in
-        let w = written_at x g1 moving rest y1 from there p.named (unlent_plain x g1 moving rest y1 from p.named names.1.0) (y.linked.0.standing from may) e in
-        let live : is_there g.world w.location_is ≡ true
-        = subst (λ l. is_there g.world l ≡ true) (ap (location_at g.call.temps) w.is)
-        (full_there x (starts g moving rest) y (location_at g.call.temps there) full).0 in
+        let w = written_at x g1 moving rest y1 from there p.named (y.linked.0.standing from may) e in
+        let seen = full_there x (starts g moving rest) y w.location_is
+        (subst (λ l. is_full_at g.world l ≡ true) (ap (location_at g.call.temps) w.is) full) in
+        let live : is_there g.world w.location_is ≡ true = seen.0 in
         let size : bytes v ≡ bytes start_value = bytes_is v (shape_of (facts_in x.table) to_type) t.numbers v_shaped
         ∙ sym (bytes_is start_value (shape_of (facts_in x.table) to_type) t.numbers (x.defaults ty)) in
         let single : is_single v ≡ is_single start_value = single_is v (shape_of (facts_in x.table) to_type) t.numbers v_shaped
@@ -198,7 +201,7 @@ module _ (x : Basis) (labels : LabelsLead x) (g : Both) (rest : List BlockLine) 
         (ap of_numbers p.look ∙ t.numbers) live start_value
         (subst (λ s. has_shape start_value s ≡ true) (sym p.look) (x.defaults ty))
         (blank_zero (form_of (facts_in x.table) to_type) t.unhooked) (r.read.word ∙ single) (r.read.size ∙ size) (with_value to g.call.temps v)
-        (same_temps x g1 moving rest y1) next w.written in
+        (same_temps x g1 moving rest y1) next seen.1 w.written in
         let some = bytes_some v (values_of_numbers v (shape_of (facts_in x.table) to_type) t.numbers v_shaped) in
         subst (λ l. Settles x (starts g moving rest) rest (Passes (Answers [] (1 + (bytes start_value + 0)) (with_value to g.call.temps v)
         (store g.world l start_value)))) (sym (ap (location_at g.call.temps) w.is))
@@ -221,18 +224,22 @@ module _ (x : Basis) (labels : LabelsLead x) (g : Both) (rest : List BlockLine) 
         let t = target x g moving rest y to to_type refl refl typed names.0 in
         mapped_settles x (starts g moving rest) rest (g.call.temps.places from) (λ place. At (location_at g.call.temps place))
         (λ l. gives (scene_of (high x.table x.blocks (starts g moving rest))) to
-        (costs 1 (exchanged (location_of l) start_value) >>= made_by (gives_hooked (facts_in x.table) (Some to_type)) (bound_for g how)))
+        (costs 1 (exchanged (location_of l) start_value) >>= kept_if (gives_hooked (facts_in x.table) (Some to_type)) (bound_for g how)))
         (λ there e. subst (λ b. Settles x (starts g moving rest) rest (gives (scene_of (high x.table x.blocks (starts g moving rest))) to
-        (costs 1 (exchanged (location_at g.call.temps there) start_value) >>= made_by b (bound_for g how)))) (sym t.unhooked)
+        (costs 1 (exchanged (location_at g.call.temps there) start_value) >>= kept_if b (bound_for g how)))) (sym t.unhooked)
         (where_there x (starts g moving rest) rest (is_full_at g.world (location_at g.call.temps there))
         (λ b. gives (scene_of (high x.table x.blocks (starts g moving rest))) to (costs 1 (costs (bytes start_value)
-        (unless_gone b (sets (location_at g.call.temps there) start_value >> give (load g.world (location_at g.call.temps there)))))
-        >>= made_by false (bound_for g how))) (λ before. tt)
-        (λ seen. where_there x (starts g moving rest) rest (is_there g.world (location_at g.call.temps there))
+        (unless_gone b (changes (location_at g.call.temps there) start_value >> give (load g.world (location_at g.call.temps there)))))
+        >>= kept_if false (bound_for g how))) (λ before. tt)
+        (λ seen. where_there x (starts g moving rest) rest (may_change (location_at g.call.temps there).base)
+        (λ b. gives (scene_of (high x.table x.blocks (starts g moving rest))) to (costs 1 (costs (bytes start_value)
+        (unless_gone b (sets (location_at g.call.temps there) start_value) >> give (load g.world (location_at g.call.temps there))))
+        >>= kept_if false (bound_for g how))) (λ before. tt)
+        (λ may_be. where_there x (starts g moving rest) rest (is_there g.world (location_at g.call.temps there))
         (λ b. gives (scene_of (high x.table x.blocks (starts g moving rest))) to (costs 1 (costs (bytes start_value)
         (unless_gone b (does (Stores (location_at g.call.temps there) start_value)) >> give (load g.world (location_at g.call.temps there))))
-        >>= made_by false (bound_for g how))) (λ before. tt)
-        (λ h. moved_out names y there e typed from_typed may.0 seen))))
+        >>= kept_if false (bound_for g how))) (λ before. tt)
+        (λ h. moved_out names y there e typed from_typed may.0 seen)))))
 
   pub move_line : (ty : Option ℕ) (of : List (Option ℕ)) (from : List From) → RowHere x g rest to O.Move how ty of from
   move_line (Some ty) (a ∷ []) (F.Place from ∷ []) names y = move_value ty a from names y

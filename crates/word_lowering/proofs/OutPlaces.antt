@@ -1,6 +1,5 @@
 -- Where what a line writes at a location stands, and that it is written.
 use Rattle.std.proofs.Common.{◌≡◌, inl, inr, ℕ, ◌+◌, ◌*◌, ◌≤◌, List, [], Some, Bool, true, false, refl, sym, ap, subst, ◌∙◌, arith, ◌⊎◌}
-use Rattle.nim_types.specs.Forms.{hooked, form_of}
 use Rattle.std.proofs.lemmas.Bool.{cases_Bool}
 use Rattle.word_code.proofs.ForCallers.{at, Runs}
 use Rattle.word_lowering.proofs.RoutineCalls.{awaiting}
@@ -25,50 +24,47 @@ use Rattle.word_lowering.proofs.ControlLines.{plain}
 use Rattle.word_lowering.proofs.Gets.{Gets, SameTemps, gets_moved, good_place}
 use Rattle.word_lowering.proofs.Keeping.{declared_address, location_address, spot_address, spot_memory}
 use Rattle.word_lowering.proofs.Lines.{Basis, IsGood, Settles, all_procs, all_sites, changed, changed_later, goes_on, stands_next, starts}
-use Rattle.word_lowering.proofs.Located.{owned_readable}
+use Rattle.word_lowering.proofs.Located.{owned_readable, waiting_lying}
 use Rattle.word_lowering.proofs.MovedLines.{own_plain}
-use Rattle.word_lowering.proofs.Moves.{IsHigh}
+use Rattle.word_lowering.proofs.Moves.{IsHigh, ToMemory}
 use Rattle.word_lowering.proofs.ReadFacts.{Read, global_root, own_root}
 use Rattle.word_lowering.proofs.Related.{Both, body_of, within}
-use Rattle.word_lowering.proofs.Scenes.{Leads, IsOwned, Owned, of_owned, Filled, FromOwned, FromPlace, IsAddressed, IsFilled, IsLedBy, IsNamed, IsRoot, IsThere}
-use Rattle.word_lowering.proofs.Scenes.{Name, Points, address_of}
+use Rattle.word_lowering.proofs.Scenes.{Leads, IsOwned, Owned, Filled, FromOwned, FromPlace, IsAddressed, IsFilled, IsLedBy, IsNamed, IsRoot, IsThere}
+use Rattle.word_lowering.proofs.Scenes.{Name, Points, address_of, LeadsHere}
 use Rattle.word_lowering.proofs.Scenes.{house, looked, of_location, of_place}
 use Rattle.word_lowering.proofs.Settling.{code_here, code_next}
-use Rattle.word_lowering.proofs.ShapeFacts.{bytes_is, never, of_numbers}
+use Rattle.word_lowering.proofs.ShapeFacts.{bytes_is, never, of_numbers, shape_bytes}
 use Rattle.word_lowering.proofs.Sites.{Housing, InMemory, around, by_address, data_end, in_data, in_places, in_variable, room, type_of, Site}
 use Rattle.word_lowering.proofs.SitesApart.{houses}
-use Rattle.word_lowering.proofs.Sources.{Readable, separate_turned, to_range_by}
-use Rattle.word_lowering.proofs.Stores.{good_written, ground_then}
-use Rattle.word_lowering.proofs.ValueFacts.{has_type, look_of, place_there, IsPlain}
+use Rattle.word_lowering.proofs.Sources.{Readable, separate_turned, to_range_by, lying_readable}
+use Rattle.word_lowering.proofs.Stores.{good_written, ground_then, gone_written}
+use Rattle.word_lowering.proofs.ValueFacts.{has_type, look_of, place_there}
 use Rattle.word_lowering.specs.Spots.{moves, spot_of}
 use Rattle.word_lowering.specs.declared.homes.TheConstants.{OWN_FROM}
 use Rattle.word_lowering.specs.declared.texts.TheConstants.{FIXED_BYTES}
+use Rattle.word_lowering.proofs.GoodLeads.{FromGone, owned_or_gone}
+use Rattle.word_code.specs.declared.word.WordInstr.{WordInstr}
 
 pub high_in_memory : (home : Home) → InMemory home → IsHigh home
 high_in_memory (Variable v) i = absurd i
 high_in_memory (Placed at) i = tt
 high_in_memory (Static at) i = tt
 
--- no place that stands by address is another name of it
-abbrev pub IsUnlent : (s : Site) → ℕ → Type 0
-IsUnlent s t = (p : ℕ) → (house s (of_location t)).alias ≡ alias.Place p false → (house s (of_place p)).lent ≡ false
-
 module _ (x : Basis) (g : Both) (line : BlockLine) (rest : List BlockLine) (y : IsGood x (starts g line rest)) where
   abbrev here : Around
   here = around x.table x.blocks (body_of g)
 
-  -- all of a place of the call, or a part of some place or of an element in a block
+  -- all of a place of the call, or a part of some place, of what waits or of an element in a block
   pub data Written (h : Housed) (l : Location) (s : Shape) : Type 0 where
     own_written : (n : ℕ) → IsThere g.call.site (of_place n) → owns (house g.call.site (of_place n)) ≡ true
         → h ≡ house g.call.site (of_place n) → looked x.table g.call.site (of_place n) ≡ s
         → (old : Value) → slot_at g.world g.call.site.level n ≡ Some (Holds old) → l ≡ place_at g.call.site.level n → Written h l s
     far_written : (home : Home) → spot_of h ≡ Lies home → IsHigh home → (a : ℕ) → Points g.call.site.base g.call.vars home a
-        → FromOwned x.table (all_sites x g line rest y) g.ground g.world l a s → Written h l s
+        → IsOwned l.base → LeadsHere x.table x.blocks (all_sites x g line rest y) g.ground g.world l a s → Written h l s
 
   pub written_stands : {h : Housed} {l : Location} {s : Shape} → Written h l s → IsOwned l.base
   written_stands (own_written n there own same look old slot at) = subst (λ k. IsOwned k.base) (sym at) tt
-  written_stands (far_written home spot high a points (inl f)) = subst IsOwned (sym f.base) tt
-  written_stands (far_written home spot high a points (inr f)) = subst IsOwned (sym f.base) tt
+  written_stands (far_written home spot high a points owned leads) = owned
 
   -- what is in the variable of a place that has an address
   record AddressIn (f : Name) (a : ℕ) : Type 0 where
@@ -97,16 +93,9 @@ module _ (x : Basis) (g : Both) (line : BlockLine) (rest : List BlockLine) (y : 
     pub is : there ≡ Located location_is
     pub written : Written (location here t) location_is (looked x.table g.call.site (of_location t))
 
-  -- so it is where nothing is to be done for what it leads to
-  pub unlent_plain : (t : ℕ) → IsNamed g.call.site (of_location t) → IsPlain x g.call.site (of_location t) → IsUnlent g.call.site t
-  unlent_plain t n plain p is =
-      let typed = has_type x g.call.site (of_place p) (type_of x.table (house g.call.site (of_location t))) y.linked.0 (y.linked.0.aliased t p false n is) in
-      (houses x.table x.blocks g.call.site (of_place p) y.linked.0 (place_there x g.call.site p y.linked.0 typed.named)).unlent
-      (subst (λ u. hooked (form_of (facts_in x.table) u) ≡ false) (sym typed.typed) (y.linked.0.plain_locations t n (plain n)))
-
-  pub written_at : (t : ℕ) (there : Where) → IsNamed g.call.site (of_location t) → IsUnlent g.call.site t
-      → is_standing (house g.call.site (of_location t)).kind ≡ true → g.call.temps.places t ≡ Some there → WrittenAt t there
-  written_at t there n unlent standing e = by (house g.call.site (of_location t)).alias refl (y.hold.0.led t there n e)
+  pub written_at : (t : ℕ) (there : Where) → IsNamed g.call.site (of_location t) → is_standing (house g.call.site (of_location t)).kind ≡ true
+      → g.call.temps.places t ≡ Some there → WrittenAt t there
+  written_at t there n standing e = by (house g.call.site (of_location t)).alias refl (y.hold.0.led t there n e)
     where
       s : Shape
       s = looked x.table g.call.site (of_location t)
@@ -124,9 +113,8 @@ module _ (x : Basis) (g : Both) (line : BlockLine) (rest : List BlockLine) (y : 
           record {
             location_is = l;
             is = at_l;
-            written = as_location alias.Own l is (far_written (Variable p.variable_is) p.spot p.high_is r.address p.points
-                (of_owned x.table x.blocks of
-                (subst (λ w. Leads x.table x.blocks (all_sites x g line rest y) g.ground g.world g.call.site g.call.temps w r.address s) at_l r.leads)));
+            written = as_location alias.Own l is (far_written (Variable p.variable_is) p.spot p.high_is r.address p.points of
+                (subst (λ w. Leads x.table x.blocks (all_sites x g line rest y) g.ground g.world g.call.site g.call.temps w r.address s) at_l r.leads));
           }
 
       by_place : (p : ℕ) (global : Bool) → (house g.call.site (of_location t)).alias ≡ alias.Place p global
@@ -149,6 +137,7 @@ module _ (x : Basis) (g : Both) (line : BlockLine) (rest : List BlockLine) (y : 
             written = as_location (alias.Place p true) l is
                 (subst (λ h. Written h l s) same (far_written (house site0 (of_place p)).home
                 (spot_memory (house site0 (of_place p)) u.root.item.plain u.home) (high_in_memory (house site0 (of_place p)).home u.home) a points
+                (subst (λ (k : Location). IsOwned k.base) (sym own) tt)
                 (inl (subst (λ k. FromPlace x.table (all_sites x g line rest y) g.world k a s) (sym own) (record {
                   site = site0;
                   among = u.start.among;
@@ -175,25 +164,24 @@ module _ (x : Basis) (g : Both) (line : BlockLine) (rest : List BlockLine) (y : 
             location_is = l;
             is = at_l;
             written = as_location (alias.Place p false) l is
-                (of_call p l there_is (unlent p is) look f refl (cases_Bool (owns (house g.call.site (of_place p)))));
+                (of_call p l there_is look f refl (cases_Bool (owns (house g.call.site (of_place p)))));
           }
         where
-          of_call : (p : ℕ) (l : Location) → IsThere g.call.site (of_place p) → (house g.call.site (of_place p)).lent ≡ false →
-              looked x.table g.call.site (of_place p) ≡ s
+          of_call : (p : ℕ) (l : Location) → IsThere g.call.site (of_place p) → looked x.table g.call.site (of_place p) ≡ s
               → IsFilled x.table x.blocks (all_sites x g line rest y) g.ground g.world g.call p → l ≡ root_of (Standing g.call.site.level p) g.world
               → (owns (house g.call.site (of_place p)) ≡ true) ⊎ (owns (house g.call.site (of_place p)) ≡ false)
               → Written (house g.call.site (of_place p)) l s
-          of_call p l there_is unlent look f root (inl own) =
+          of_call p l there_is look f root (inl own) =
               let v = f.own own in
               own_written p there_is own refl look v.0 v.1 (root ∙ own_root x g line rest y g.call.site.level p v.0 v.1)
-          of_call p l there_is unlent look f root (inr no_own) =
+          of_call p l there_is look f root (inr no_own) =
               let v = f.other no_own in
               let q = address_in (of_place p) v.address there_is (declared_address (house g.call.site (of_place p)) there_is.kind no_own) v.holds in
               let same : v.location ≡ l = sym (ap (through_slot (Standing g.call.site.level p)) v.slot) ∙ sym root in
-              far_written (Variable q.variable_is) q.spot q.high_is v.address q.points
-              (subst (λ k. FromOwned x.table (all_sites x g line rest y) g.ground g.world l v.address k) look
-              (subst (λ k. FromOwned x.table (all_sites x g line rest y) g.ground g.world k v.address (looked x.table g.call.site (of_place p))) same
-              (of_owned x.table x.blocks (v.owned unlent) v.leads)))
+              far_written (Variable q.variable_is) q.spot q.high_is v.address q.points (subst (λ (k : Location). IsOwned k.base) same v.owned)
+              (subst (λ k. LeadsHere x.table x.blocks (all_sites x g line rest y) g.ground g.world l v.address k) look
+              (subst (λ k. LeadsHere x.table x.blocks (all_sites x g line rest y) g.ground g.world k v.address (looked x.table g.call.site (of_place p)))
+              same v.leads))
 
       by : (a : Alias) → (house g.call.site (of_location t)).alias ≡ a → IsLedBy x.table x.blocks a (all_sites x g line rest y) g.ground g.world g.call t there
           → WrittenAt t there
@@ -212,6 +200,48 @@ module _ (x : Basis) (g : Both) (line : BlockLine) (rest : List BlockLine) (y : 
     abbrev Stored : Type 0
     Stored = Settles x (starts g line rest) rest (Passes (Answers [] work temps (store g.world l v)))
 
+    abbrev sites : List Site
+    sites = all_sites x g line rest y
+
+    -- at an address
+    module _ (home : Home) (spot : spot_of h ≡ Lies home) (high : IsHigh home) (a : ℕ) (points : Points g.call.site.base g.call.vars home a) where
+      abbrev next : List WordInstr
+      next = code_next x g line rest y
+
+      put_there : Readable x sites y.linked g.memory a (bytes v)
+          → ToMemory x.law x.live (all_procs x) (within x.table x.blocks g) refl g.words g.memory (moves h from next) g.call.vars a v (10 + 2 * bytes v) next
+      put_there range =
+          to_range_by x sites y.linked (within x.table x.blocks g) refl g.words g.memory y.memory next g.call.vars h from v r.word r.size r.small
+          home spot a points range true r.source
+          (λ b readable is_all. let w = is_all refl in separate_turned x sites y.linked b a (bytes v) (range.separate b w.0 w.1))
+
+      far_settles : FromOwned x.table sites g.ground g.world l a s → Stored
+      far_settles f =
+          let p = put_there (subst (λ k. Readable x sites y.linked g.memory a k) (sym (bytes_is v s numbers shaped))
+          (owned_readable x (starts g line rest) y l a s f live)) in
+          goes_on x (starts g line rest)
+          (changed_later g rest temps p.vars p.memory p.words p.awaits (store g.world l v)
+          (ground_then x g line rest y l a s numbers live v shaped p.memory p.changed p.there f) g.input) rest
+          (good_written x g line rest y l a s numbers live v shaped p.memory p.changed p.there f rest
+          (stands_next x.table x.blocks (body_of g) line rest y.stands) temps same p.vars p.words p.awaits p.same)
+          p.steps work temps (store g.world l v)
+          (subst (λ k. Runs x.live (all_procs x) p.steps (at (within x.table x.blocks g) g.memory k g.call.vars g.words)
+          (at (awaiting (within x.table x.blocks g) p.awaits) p.memory next p.vars p.words)) (sym code) p.runs)
+          p.some (let k = p.few in omega (arith, k, le)) refl
+
+      -- where nothing waits that would
+      gone_settles : FromGone x (starts g line rest) y l a s → Stored
+      gone_settles f =
+          let p = put_there (subst (λ k. Readable x sites y.linked g.memory a k) (sym (bytes_is v s numbers shaped))
+          (lying_readable x sites y.linked g.memory a (shape_bytes s) y.memory (waiting_lying x (starts g line rest) y l a s f.from))) in
+          goes_on x (starts g line rest) (changed g rest temps p.vars p.memory p.words p.awaits (store g.world l v)) rest
+          (gone_written x g line rest y l a s numbers live v shaped p.memory p.changed p.there f rest
+          (stands_next x.table x.blocks (body_of g) line rest y.stands) temps same p.vars p.words p.awaits p.same)
+          p.steps work temps (store g.world l v)
+          (subst (λ k. Runs x.live (all_procs x) p.steps (at (within x.table x.blocks g) g.memory k g.call.vars g.words)
+          (at (awaiting (within x.table x.blocks g) p.awaits) p.memory next p.vars p.words)) (sym code) p.runs)
+          p.some (let k = p.few in omega (arith, k, le)) refl
+
     pub stored_settles : Written h l s → Stored
     stored_settles (own_written n there own is look old slot l_is) =
         let shape : has_shape v (looked x.table g.call.site (of_place n)) ≡ true = subst (λ k. has_shape v k ≡ true) (sym look) shaped in
@@ -225,21 +255,8 @@ module _ (x : Basis) (g : Both) (line : BlockLine) (rest : List BlockLine) (y : 
         (good_place x g line rest y n there own v rest (stands_next x.table x.blocks (body_of g) line rest y.stands) temps same
         (code_here x g line rest y) next (10 + 2 * bytes v) (ap of_numbers look ∙ numbers) shape plain_is get)
         get.steps work temps (with_slot g.world g.call.site.level n (Some (Holds v))) get.runs get.some (let f = get.few in omega (arith, f, le)) refl)
-    stored_settles (far_written home spot high a points f) =
-        let sites = all_sites x g line rest y in
-        let range : Readable x sites y.linked g.memory a (bytes v)
-        = subst (λ k. Readable x sites y.linked g.memory a k) (sym (bytes_is v s numbers shaped))
-        (owned_readable x (starts g line rest) y l a s f live) in
-        let next = code_next x g line rest y in
-        let put_there = to_range_by x sites y.linked (within x.table x.blocks g) refl g.words g.memory y.memory next g.call.vars h from v r.word r.size r.small
-        home spot a points range true r.source
-        (λ b readable is_all. let w = is_all refl in separate_turned x sites y.linked b a (bytes v) (range.separate b w.0 w.1)) in
-        goes_on x (starts g line rest)
-        (changed_later g rest temps put_there.vars put_there.memory put_there.words put_there.awaits (store g.world l v)
-        (ground_then x g line rest y l a s numbers live v shaped put_there.memory put_there.changed put_there.there f) g.input) rest
-        (good_written x g line rest y l a s numbers live v shaped put_there.memory put_there.changed put_there.there f rest
-        (stands_next x.table x.blocks (body_of g) line rest y.stands) temps same put_there.vars put_there.words put_there.awaits put_there.same)
-        put_there.steps work temps (store g.world l v)
-        (subst (λ k. Runs x.live (all_procs x) put_there.steps (at (within x.table x.blocks g) g.memory k g.call.vars g.words)
-        (at (awaiting (within x.table x.blocks g) put_there.awaits) put_there.memory next put_there.vars put_there.words)) (sym code) put_there.runs)
-        put_there.some (let k = put_there.few in omega (arith, k, le)) refl
+    stored_settles (far_written home spot high a points owned leads) = by (owned_or_gone x (starts g line rest) y l a s owned leads)
+      where
+        by : FromOwned x.table (all_sites x g line rest y) g.ground g.world l a s ⊎ FromGone x (starts g line rest) y l a s → Stored
+        by (inl f) = far_settles home spot high a points f
+        by (inr f) = gone_settles home spot high a points f

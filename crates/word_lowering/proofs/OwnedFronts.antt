@@ -1,6 +1,7 @@
 -- The code of operations on texts and sequences stands before what follows.
-use Rattle.std.proofs.Common.{inl, inr, ℕ, suc, ◌<◌, List, [], ◌∷◌, Option, Some, None, Bool, true, false, length, refl, arith}
-use Rattle.std.specs.Prelude.{nat_lt}
+use Rattle.std.proofs.Common.{◌≡◌, inl, inr, ℕ, suc, ◌+◌, ◌<◌, ◌≤◌, List, [], ◌∷◌, Option, Some, None, Bool, true, false, length, refl, arith}
+use Rattle.std.specs.Prelude.{if◌then◌else◌, nat_lt}
+use Rattle.std.proofs.lemmas.Bool.{ltb-false}
 use Rattle.nim_types.specs.declared.types.TypeDef.{TypeDef}
 use Rattle.nim_types.specs.declared.types.TypeDef.TheVariants as D
 use Rattle.nim_program.specs.declared.operation.Comparison.{Comparison}
@@ -12,7 +13,7 @@ use Rattle.heap_memory.specs.declared.numbers.TheConstants.{TEXT_ORDER, TEXT_REA
 use Rattle.rv32_isa.specs.declared.micro_op.Size.TheVariants.{Byte, Word as whole}
 use Rattle.word_code.specs.declared.word.Test.TheVariants as test
 use Rattle.word_code.specs.declared.word.WordOperation.TheVariants as operation
-use Rattle.word_code.specs.declared.word.WordInstr.TheVariants.{Branch, Call, Compute, Constant, Label, Load, Sum}
+use Rattle.word_code.specs.declared.word.WordInstr.TheVariants.{Branch, Call, Compute, Constant, Datum, Jump, Label, Load, Store, Sum}
 use Rattle.word_lowering.specs.declared.handed.TheConstants.{LEFT_HANDLE_AT, RIGHT_HANDLE_AT}
 use Rattle.word_lowering.specs.declared.handed.Handed.{Handed}
 use Rattle.word_lowering.specs.declared.handed.Handed.TheVariants.{Number, Where}
@@ -23,13 +24,13 @@ use Rattle.word_lowering.specs.declared.homes.Home.{Home}
 use Rattle.word_lowering.specs.declared.homes.Home.TheVariants.{Placed, Static, Variable}
 use Rattle.word_lowering.specs.declared.homes.Housed.{Housed}
 use Rattle.word_lowering.specs.declared.spots.Spot.TheVariants.{Held, Lies}
-use Rattle.word_lowering.specs.Operands.{Around, operand_at, one_less, word_argument}
+use Rattle.word_lowering.specs.Operands.{Around, operand_at, one_less, text_at, word_argument}
 use Rattle.word_lowering.specs.OwnedCode as owned
 use Rattle.word_lowering.specs.RoutineCode.{all_handed, append_code, called_code, copy_code, handed_code, join_code, length_code, new_code, read_code}
 use Rattle.word_lowering.specs.RoutineCode.{show_code}
 use Rattle.word_lowering.specs.RoutineCode.{echo_code, pop_code, text_compare_code, text_length_code}
 use Rattle.word_lowering.specs.Operations.{compare_code, trap_label}
-use Rattle.word_lowering.specs.Spots.{address, moved, spot_of}
+use Rattle.word_lowering.specs.Spots.{address, moved, shifted, spot_of}
 use Rattle.word_lowering.specs.Stored.{base_at, entry_at}
 use Rattle.word_lowering.proofs.Fronts.{Coding, IsFront, compare_front, front_address, front_if, front_more, front_none, front_on, moved_front}
 
@@ -63,6 +64,14 @@ module _ (own many : ℕ) where
   -- where operands lack nothing stands
   pub enough_front : (n : ℕ) (hs : List Housed) (f : Coding) → IsFront own many f → IsFront own many (λ k. owned.with_operands n hs (f k) k)
   enough_front n hs f y = front_if own many (nat_lt (length hs) n) (λ k. k) f (front_none own many) y
+
+  pub front_enough : (n : ℕ) (hs : List Housed) (f : Coding) → (n ≤ length hs → IsFront own many f)
+      → IsFront own many (λ k. owned.with_operands n hs (f k) k)
+  front_enough n hs f y = by (nat_lt (length hs) n) refl
+    where
+      by : (b : Bool) → nat_lt (length hs) n ≡ b → IsFront own many (λ k. if b then k else f k)
+      by true e = front_none own many
+      by false e = y (ltb-false (length hs) n e)
 
   -- ---- checks
 
@@ -166,20 +175,57 @@ module _ (own many : ℕ) where
     entry_front at (Some (D.Exception name place parent)) from = front_none own many
 
     name_front : (at : ℕ) (entry : Option TypeDef) (enum : ℕ) (from : Housed) → IsFront own many (owned.name_text x at entry enum from)
-    name_front at None enum from = front_none own many
-    name_front at (Some D.Int) enum from = front_none own many
+    name_front at None enum from = record { is = λ k. refl; fine = tt }
+    name_front at (Some D.Int) enum from = record { is = λ k. refl; fine = tt }
     name_front at (Some D.Bool) enum from = record { is = λ k. refl; fine = tt }
-    name_front at (Some D.Char) enum from = entry_front at (Some D.Char) from
-    name_front at (Some D.Text) enum from = entry_front at (Some D.Text) from
+    name_front at (Some D.Char) enum from = record { is = λ k. refl; fine = tt }
+    name_front at (Some D.Text) enum from = literal_front at from.alias
     name_front at (Some (D.Enum name place members)) enum from = record { is = λ k. refl; fine = tt }
-    name_front at (Some (D.Seq i)) enum from = front_none own many
-    name_front at (Some (D.Param n)) enum from = front_none own many
-    name_front at (Some (D.Array n i)) enum from = front_none own many
-    name_front at (Some (D.Tuple names is)) enum from = front_none own many
-    name_front at (Some (D.Object name place is all own_hooks parts)) enum from = front_none own many
-    name_front at (Some (D.Distinct name place i)) enum from = front_none own many
-    name_front at (Some (D.Ref name i)) enum from = front_none own many
-    name_front at (Some (D.Exception name place parent)) enum from = front_none own many
+    name_front at (Some (D.Seq i)) enum from = record { is = λ k. refl; fine = tt }
+    name_front at (Some (D.Param n)) enum from = record { is = λ k. refl; fine = tt }
+    name_front at (Some (D.Array n i)) enum from = record { is = λ k. refl; fine = tt }
+    name_front at (Some (D.Tuple names is)) enum from = record { is = λ k. refl; fine = tt }
+    name_front at (Some (D.Object name place is all own_hooks parts)) enum from = record { is = λ k. refl; fine = tt }
+    name_front at (Some (D.Distinct name place i)) enum from = record { is = λ k. refl; fine = tt }
+    name_front at (Some (D.Ref name i)) enum from = record { is = λ k. refl; fine = tt }
+    name_front at (Some (D.Exception name place parent)) enum from = record { is = λ k. refl; fine = tt }
+
+    -- a copy of a literal
+    pub text_copied_front : (to : Home) (text : List ℕ) → IsFront own many (owned.text_copy_code x to text)
+    text_copied_front to text =
+        front_on own many
+        (λ k. Datum FIRST (text_at x text) ∷ Constant SECOND (length text) ∷ owned.handle_code LEFT_HANDLE_AT k) (copy_code to (Static LEFT_HANDLE_AT))
+        (record { is = λ k. refl; fine = tt }) (called_front FIRST TEXT_COPY (Where to ∷ Where (Static LEFT_HANDLE_AT) ∷ []))
+
+    -- the handle of one that is only read
+    handle_put_front : (to : Home) (text : List ℕ) → IsFront own many (λ k. address FIRST to ∷ Constant SECOND (length text) ∷ Store FIRST SECOND whole
+        ∷ address FIRST (shifted 4 to) ∷ Datum SECOND (text_at x text) ∷ Store FIRST SECOND whole ∷ k)
+    handle_put_front to text =
+        front_on own many (λ k. address FIRST to ∷ Constant SECOND (length text) ∷ Store FIRST SECOND whole ∷ k)
+        (λ k. address FIRST (shifted 4 to) ∷ Datum SECOND (text_at x text) ∷ Store FIRST SECOND whole ∷ k)
+        (front_address own many FIRST to (λ k. Constant SECOND (length text) ∷ Store FIRST SECOND whole ∷ k) (record { is = λ k. refl; fine = tt }))
+        (front_address own many FIRST (shifted 4 to) (λ k. Datum SECOND (text_at x text) ∷ Store FIRST SECOND whole ∷ k)
+        (record { is = λ k. refl; fine = tt }))
+
+    pub lent_text_front : (other : Alias) (to : Home) (text : List ℕ) → IsFront own many (owned.lent_text_code x other to text)
+    lent_text_front alias.Own to text = handle_put_front to text
+    lent_text_front (alias.Place p global) to text = handle_put_front to text
+    lent_text_front (alias.Value t) to text = handle_put_front to text
+    lent_text_front (alias.Node n) to text = handle_put_front to text
+    lent_text_front (alias.Text behind bytes) to text = front_none own many
+
+    -- a text is a label
+    pub text_fits_front : (text : List ℕ) (from : Housed) (to : ℕ) → 7 < to
+        → IsFront own many (λ k. owned.literal_text x RIGHT_HANDLE_AT from.alias (owned.text_fits_code (text_at x text) (length text)
+        (owned.literal_home RIGHT_HANDLE_AT from.alias from.home) to k))
+    text_fits_front text from to far =
+        front_on own many (owned.literal_text x RIGHT_HANDLE_AT from.alias)
+        (owned.text_fits_code (text_at x text) (length text) (owned.literal_home RIGHT_HANDLE_AT from.alias from.home) to)
+        (literal_front RIGHT_HANDLE_AT from.alias)
+        (front_on own many (λ k. Datum FIRST (text_at x text) ∷ Constant SECOND (length text) ∷ owned.handle_code LEFT_HANDLE_AT k)
+        (owned.same_text_code (Static LEFT_HANDLE_AT) (owned.literal_home RIGHT_HANDLE_AT from.alias from.home) to) (record { is = λ k. refl; fine = tt })
+        (called_on FOURTH TEXT_ORDER (Where (Static LEFT_HANDLE_AT) ∷ Where (owned.literal_home RIGHT_HANDLE_AT from.alias from.home) ∷ [])
+        (λ k. Constant FIFTH 0 ∷ Branch test.Equal FOURTH FIFTH to ∷ k) (record { is = λ k. refl; fine = (inr far, tt) })))
 
     made_on : (at : ℕ) (ty : Option ℕ) (from : Housed) (f : Coding) → IsFront own many f → IsFront own many (λ k. owned.text_made x at ty from (f k))
     made_on at ty from f y = front_on own many (owned.text_made x at ty from) f (entry_front at (owned.entry_of x.table ty) from) y
@@ -249,23 +295,29 @@ module _ (own many : ℕ) where
     length_front : (to : Home) (n size : ℕ) → IsFront own many (length_code to n size)
     length_front to n size = called_front FIRST SEQ_RESIZE (Where to ∷ Where (Variable n) ∷ Number size ∷ [])
 
-    resized_front : 7 < own → (hooks : Bool) (ty : ℕ) (to : Home) (n size : ℕ) → IsFront own many (owned.resized_code x hooks own ty to n size)
-    resized_front high true ty to n size =
-        called_on FIRST (owned.cut_number x ty) (Where to ∷ Where (Variable n) ∷ [])
-        (λ k. address FIRST to ∷ Load FIRST FIRST whole ∷ Branch test.NotBelow FIRST n own ∷ length_code to n size (Label own ∷ k))
-        (front_address own many FIRST to (λ k. Load FIRST FIRST whole ∷ Branch test.NotBelow FIRST n own ∷ length_code to n size (Label own ∷ k))
-        (front_on own many (λ k. Load FIRST FIRST whole ∷ Branch test.NotBelow FIRST n own ∷ k) (λ k. length_code to n size (Label own ∷ k))
+    resized_front : 7 < own → 1 ≤ many → (hooks : Bool) (ty : ℕ) (to : Home) (n size : ℕ) → IsFront own many (owned.resized_code x hooks own ty to n size)
+    resized_front high more true ty to n size =
+        front_address own many FIRST to (λ k. Load FIRST FIRST whole ∷ Branch test.Below FIRST n own
+        ∷ called_code FIRST (owned.cut_number x ty) (Where to ∷ Where (Variable n) ∷ [])
+        (Jump (own + 2) ∷ Label own ∷ length_code to n size (Label (own + 2) ∷ k)))
+        (front_on own many (λ k. Load FIRST FIRST whole ∷ Branch test.Below FIRST n own ∷ k)
+        (λ k. called_code FIRST (owned.cut_number x ty) (Where to ∷ Where (Variable n) ∷ [])
+        (Jump (own + 2) ∷ Label own ∷ length_code to n size (Label (own + 2) ∷ k)))
         (record { is = λ k. refl; fine = (inr high, tt) })
-        (front_on own many (length_code to n size) (λ k. Label own ∷ k) (length_front to n size)
-        (record { is = λ k. refl; fine = ((0, omega arith, omega arith), tt) }))))
-    resized_front high false ty to n size = length_front to n size
+        (called_on FIRST (owned.cut_number x ty) (Where to ∷ Where (Variable n) ∷ [])
+        (λ k. Jump (own + 2) ∷ Label own ∷ length_code to n size (Label (own + 2) ∷ k))
+        (front_on own many (λ k. Jump (own + 2) ∷ Label own ∷ k) (λ k. length_code to n size (Label (own + 2) ∷ k))
+        (record { is = λ k. refl; fine = ((0, omega arith, omega arith), tt) })
+        (front_on own many (length_code to n size) (λ k. Label (own + 2) ∷ k) (length_front to n size)
+        (record { is = λ k. refl; fine = ((1, more, omega arith), tt) })))))
+    resized_front high more false ty to n size = length_front to n size
 
-    pub sized_front : 7 < own → (text : Bool) (ty : ℕ) (to : Home) (n : ℕ)
+    pub sized_front : 7 < own → 1 ≤ many → (text : Bool) (ty : ℕ) (to : Home) (n : ℕ)
         → IsFront own many (λ k. owned.counted_code n (owned.sized_code x text own ty to n k))
-    sized_front high true ty to n = counted_on n (text_length_code to n) (called_front FIRST TEXT_RESIZE (Where to ∷ Where (Variable n) ∷ []))
-    sized_front high false ty to n =
+    sized_front high more true ty to n = counted_on n (text_length_code to n) (called_front FIRST TEXT_RESIZE (Where to ∷ Where (Variable n) ∷ []))
+    sized_front high more false ty to n =
         counted_on n (owned.resized_code x hooks own (base_at x.table ty) to n (owned.each_bytes x.table (entry_at x.table ty)))
-        (resized_front high hooks (base_at x.table ty) to n (owned.each_bytes x.table (entry_at x.table ty)))
+        (resized_front high more hooks (base_at x.table ty) to n (owned.each_bytes x.table (entry_at x.table ty)))
       where
         hooks : Bool
         hooks = owned.has_hooks x.table (owned.element_in (entry_at x.table ty))

@@ -8,6 +8,8 @@ use Rattle.nim_program.specs.declared.operation.Measure.{Measure}
 use Rattle.nim_program.specs.declared.operation.Measure.TheVariants.{High, Len}
 use Rattle.word_code.specs.declared.word.TheConstants.{MOST_ARGUMENTS}
 use Rattle.word_code.specs.declared.word.WordInstr.{WordInstr}
+use Rattle.word_code.specs.declared.word.WordInstr.TheVariants.{Constant, Datum, Store}
+use Rattle.rv32_isa.specs.declared.micro_op.Size.TheVariants.{Word as whole}
 use Rattle.word_lowering.specs.declared.handed.TheConstants.{LEFT_HANDLE_AT, RIGHT_HANDLE_AT}
 use Rattle.word_lowering.specs.declared.handed.Handed.{Handed}
 use Rattle.word_lowering.specs.declared.handed.Handed.TheVariants.{Number, Where}
@@ -18,16 +20,16 @@ use Rattle.word_lowering.specs.declared.homes.Home.{Home}
 use Rattle.word_lowering.specs.declared.homes.Home.TheVariants.{Placed, Static, Variable}
 use Rattle.word_lowering.specs.declared.homes.Housed.{Housed}
 use Rattle.word_lowering.specs.declared.spots.Spot.TheVariants.{Held, Lies}
-use Rattle.word_lowering.specs.Operands.{Around, operand_at, variable_in, variable_of, word_argument}
+use Rattle.word_lowering.specs.Operands.{text_at, Around, operand_at, variable_in, variable_of, word_argument}
 use Rattle.word_lowering.specs.OwnedCode as owned
 use Rattle.word_lowering.specs.RoutineCode.{all_handed, append_code, called_code, copy_code, echo_code, handed_code, join_code, length_code, new_code}
 use Rattle.word_lowering.specs.RoutineCode.{read_code}
 use Rattle.word_lowering.specs.RoutineCode.{show_code, text_compare_code}
-use Rattle.word_lowering.specs.Spots.{moved, spot_of}
+use Rattle.word_lowering.specs.Spots.{address, moved, shifted, spot_of}
 use Rattle.word_lowering.specs.Stored.{base_at, entry_at}
 use Rattle.word_lowering.proofs.HomesApart.{Each}
 use Rattle.word_lowering.proofs.LayoutBounds.{IsBelow}
-use Rattle.word_lowering.proofs.NamedCode.{AllNamed, compare_named, fifth_is, first_is, fourth_is, second_is, spot_below, third_is}
+use Rattle.word_lowering.proofs.NamedCode.{AllNamed, compare_named, fifth_is, first_is, fourth_is, second_is, shifted_below, spot_below, third_is}
 use Rattle.word_lowering.proofs.NamedCode as named
 
 pub variable_below : (n : ℕ) (home : Home) → FIRST < n → IsBelow n home → variable_in home < n
@@ -249,22 +251,58 @@ module _ (vars : ℕ) (many : OWN_FROM ≤ vars) where
     entry_named at (Some (D.Ref name i)) from f rest = rest
     entry_named at (Some (D.Exception name place parent)) from f rest = rest
 
+    no_text_named : (at : ℕ) {k : List WordInstr} → AllNamed vars k → AllNamed vars (owned.no_text_code at k)
+    no_text_named at rest = named.constant vars many one (named.constant vars many two (handle_named at rest))
+
     name_named : (at : ℕ) (entry : Option TypeDef) (enum : ℕ) (from : Housed) {k : List WordInstr} → IsBelow vars from.home → AllNamed vars k
         → AllNamed vars (owned.name_text x at entry enum from k)
-    name_named at None enum from f rest = rest
-    name_named at (Some D.Int) enum from f rest = rest
+    name_named at None enum from f rest = no_text_named at rest
+    name_named at (Some D.Int) enum from f rest = no_text_named at rest
     name_named at (Some D.Bool) enum from f rest = bool_name_named at (variable_of from) (variable_is from f) rest
     name_named at (Some D.Char) enum from f rest = letter_named at (variable_of from) (variable_is from f) rest
     name_named at (Some D.Text) enum from f rest = literal_named at from.alias rest
     name_named at (Some (D.Enum name place members)) enum from f rest = name_handle_named at _ _ (variable_of from) (variable_is from f) rest
-    name_named at (Some (D.Seq i)) enum from f rest = rest
-    name_named at (Some (D.Param n)) enum from f rest = rest
-    name_named at (Some (D.Array n i)) enum from f rest = rest
-    name_named at (Some (D.Tuple names is)) enum from f rest = rest
-    name_named at (Some (D.Object name place is all own_hooks parts)) enum from f rest = rest
-    name_named at (Some (D.Distinct name place i)) enum from f rest = rest
-    name_named at (Some (D.Ref name i)) enum from f rest = rest
-    name_named at (Some (D.Exception name place parent)) enum from f rest = rest
+    name_named at (Some (D.Seq i)) enum from f rest = no_text_named at rest
+    name_named at (Some (D.Param n)) enum from f rest = no_text_named at rest
+    name_named at (Some (D.Array n i)) enum from f rest = no_text_named at rest
+    name_named at (Some (D.Tuple names is)) enum from f rest = no_text_named at rest
+    name_named at (Some (D.Object name place is all own_hooks parts)) enum from f rest = no_text_named at rest
+    name_named at (Some (D.Distinct name place i)) enum from f rest = no_text_named at rest
+    name_named at (Some (D.Ref name i)) enum from f rest = no_text_named at rest
+    name_named at (Some (D.Exception name place parent)) enum from f rest = no_text_named at rest
+
+    -- a copy of a literal, and one that is a label
+    pub text_copied_named : (to : Home) (text : List ℕ) {k : List WordInstr} → IsBelow vars to → AllNamed vars k →
+        AllNamed vars (owned.text_copy_code x to text k)
+    text_copied_named to text t rest =
+        named.datum vars many one (named.constant vars many two (handle_named LEFT_HANDLE_AT
+        (called_named FIRST _ (Where to ∷ Where (Static LEFT_HANDLE_AT) ∷ []) one (omega arith) (t, (tt, tt)) rest)))
+
+    -- the handle of one that is only read
+    handle_put_named : (to : Home) (text : List ℕ) {k : List WordInstr} → IsBelow vars to → AllNamed vars k
+        → AllNamed vars (address FIRST to ∷ Constant SECOND (length text) ∷ Store FIRST SECOND whole
+        ∷ address FIRST (shifted 4 to) ∷ Datum SECOND (text_at x text) ∷ Store FIRST SECOND whole ∷ k)
+    handle_put_named to text t rest =
+        named.address vars many FIRST to one t (named.constant vars many two (named.store vars many one two
+        (named.address vars many FIRST (shifted 4 to) one (shifted_below vars 4 to t) (named.datum vars many two (named.store vars many one two rest)))))
+
+    pub lent_text_named : (other : Alias) (to : Home) (text : List ℕ) {k : List WordInstr} → IsBelow vars to → AllNamed vars k
+        → AllNamed vars (owned.lent_text_code x other to text k)
+    lent_text_named alias.Own to text t rest = handle_put_named to text t rest
+    lent_text_named (alias.Place p global) to text t rest = handle_put_named to text t rest
+    lent_text_named (alias.Value u) to text t rest = handle_put_named to text t rest
+    lent_text_named (alias.Node n) to text t rest = handle_put_named to text t rest
+    lent_text_named (alias.Text behind bytes) to text t rest = rest
+
+    pub text_fits_named : (text : List ℕ) (from : Housed) (to : ℕ) {k : List WordInstr} → IsBelow vars from.home → AllNamed vars k
+        → AllNamed vars (owned.literal_text x RIGHT_HANDLE_AT from.alias (owned.text_fits_code (text_at x text) (length text)
+        (owned.literal_home RIGHT_HANDLE_AT from.alias from.home) to k))
+    text_fits_named text from to f rest =
+        literal_named RIGHT_HANDLE_AT from.alias
+        (named.datum vars many one (named.constant vars many two (handle_named LEFT_HANDLE_AT
+        (called_named FOURTH _ (Where (Static LEFT_HANDLE_AT) ∷ Where (owned.literal_home RIGHT_HANDLE_AT from.alias from.home) ∷ []) four (omega arith)
+        (tt, (literal_home_below RIGHT_HANDLE_AT from.alias from.home f, tt))
+        (named.constant vars many five (named.branch vars many four five rest))))))
 
     text_home_below : (at : ℕ) (ty : Option ℕ) (from : Housed) → IsBelow vars from.home → IsBelow vars (owned.text_home x at ty from)
     text_home_below at ty from f = entry_home_below at (owned.entry_of x.table ty) from f
@@ -344,9 +382,9 @@ module _ (vars : ℕ) (many : OWN_FROM ≤ vars) where
     resized_named : (hooks : Bool) (label ty : ℕ) (to : Home) (n size : ℕ) {k : List WordInstr} → IsBelow vars to → n < vars → AllNamed vars k
         → AllNamed vars (owned.resized_code x hooks label ty to n size k)
     resized_named true label ty to n size t i rest =
-        called_named FIRST _ (Where to ∷ Where (Variable n) ∷ []) one (omega arith) (t, (i, tt))
-        (named.address vars many FIRST to one t (named.load vars many one one (named.branch vars many one i
-        (length_named to n size t i (named.label vars many rest)))))
+        named.address vars many FIRST to one t (named.load vars many one one (named.branch vars many one i
+        (called_named FIRST _ (Where to ∷ Where (Variable n) ∷ []) one (omega arith) (t, (i, tt))
+        (named.jump vars many (named.label vars many (length_named to n size t i (named.label vars many rest)))))))
     resized_named false label ty to n size t i rest = length_named to n size t i rest
 
     pub sized_named : (text : Bool) (label ty : ℕ) (to : Home) (n : ℕ) {k : List WordInstr} → IsBelow vars to → n < vars → AllNamed vars k

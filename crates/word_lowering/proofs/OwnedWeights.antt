@@ -1,5 +1,6 @@
 -- How many lines the code of operations on texts and sequences has.
-use Rattle.std.proofs.Common.{◌≡◌, ℕ, suc, ◌+◌, ◌*◌, ◌≤◌, List, [], ◌∷◌, length, Option, Some, None, Bool, true, false, refl, arith, if◌then◌else◌}
+use Rattle.std.proofs.Common.{◌≡◌, ℕ, suc, ◌+◌, ◌*◌, ◌≤◌, List, [], ◌∷◌, length, Option, Some, None, Bool, true, false, refl, sym, ap, subst, arith}
+use Rattle.std.proofs.Common.{if◌then◌else◌}
 use Rattle.std.proofs.Common.{mul-le-mul, le_refl}
 use Rattle.std.specs.Prelude.{nat_lt}
 use Rattle.std.proofs.lemmas.Bool.{ltb-false}
@@ -10,6 +11,9 @@ use Rattle.nim_program.specs.declared.operation.Measure.{Measure}
 use Rattle.nim_program.specs.declared.operation.Measure.TheVariants.{High, Len}
 use Rattle.heap_memory.specs.declared.numbers.TheConstants.{SEQ_ADD, SEQ_NEW, SEQ_POP, SEQ_RESIZE, TEXT_APPEND, TEXT_COPY, TEXT_JOIN, TEXT_OF_NUMBER}
 use Rattle.heap_memory.specs.declared.numbers.TheConstants.{TEXT_ORDER, TEXT_READ, TEXT_RESIZE}
+use Rattle.flat_code.specs.declared.line.Piece.{Piece}
+use Rattle.flat_code.specs.declared.line.Piece.TheVariants as P
+use Rattle.flat_code.specs.Sizes.{pieces_weight}
 use Rattle.rv32_isa.specs.declared.micro_op.Size.TheVariants.{Byte, Word as whole}
 use Rattle.word_code.specs.declared.word.Test.TheVariants as test
 use Rattle.word_code.specs.declared.word.WordInstr.{WordInstr}
@@ -21,11 +25,13 @@ use Rattle.word_lowering.specs.declared.homes.TheConstants.{FIFTH, FIRST, FOURTH
 use Rattle.word_lowering.specs.declared.homes.Alias.{Alias}
 use Rattle.word_lowering.specs.declared.homes.Alias.TheVariants as alias
 use Rattle.word_lowering.specs.declared.homes.Home.{Home}
-use Rattle.word_lowering.specs.declared.homes.Home.TheVariants.{Variable}
+use Rattle.word_lowering.specs.declared.homes.Home.TheVariants.{Placed, Static, Variable}
 use Rattle.word_lowering.specs.declared.homes.Housed.{Housed}
 use Rattle.word_lowering.specs.declared.spots.Spot.{Spot}
 use Rattle.word_lowering.specs.declared.spots.Spot.TheVariants.{Held, Lies}
-use Rattle.word_lowering.specs.Operands.{Around, operand_at, variable_of}
+use Rattle.word_lowering.specs.Operands.{Around, operand_at, text_at, variable_of}
+use Rattle.word_lowering.specs.Aliases.{text_in}
+use Rattle.word_lowering.specs.LineCode as lines
 use Rattle.word_lowering.specs.OwnedCode as owned
 use Rattle.word_lowering.specs.RoutineCode.{all_handed, append_code, called_code, copy_code, handed_code, join_code, length_code, new_code, read_code}
 use Rattle.word_lowering.specs.RoutineCode.{show_code}
@@ -33,7 +39,7 @@ use Rattle.word_lowering.specs.RoutineCode.{text_compare_code}
 use Rattle.word_lowering.specs.Operations as operations
 use Rattle.word_lowering.specs.Spots.{address, moved, spot_of}
 use Rattle.word_lowering.specs.Stored.{base_at, entry_at}
-use Rattle.word_lowering.proofs.PieceWeights.{compare_weighs, moved_weighs, word_argument_weighs}
+use Rattle.word_lowering.proofs.PieceWeights.{compare_weighs, moved_weighs, spot_weighs, word_argument_weighs}
 
 -- ---- calls at addresses
 
@@ -100,6 +106,21 @@ module _ (x : Around) where
   name_weighs at (Some (D.Distinct name place i)) enum from k = omega arith
   name_weighs at (Some (D.Ref name i)) enum from k = omega arith
   name_weighs at (Some (D.Exception name place parent)) enum from k = omega arith
+
+  -- a copy of a literal, and one that is a label
+  pub text_copied_weighs : (to : Home) (text : List ℕ) (k : List WordInstr) → length (owned.text_copy_code x to text k) ≤ 11 + length k
+  text_copied_weighs to text k =
+      let b = called_weighs FIRST TEXT_COPY (Where to ∷ Where (Static LEFT_HANDLE_AT) ∷ []) k in omega (arith, b)
+
+  pub text_fits_weighs : (text : List ℕ) (from : Housed) (to : ℕ) (k : List WordInstr)
+      → length (owned.literal_text x RIGHT_HANDLE_AT from.alias (owned.text_fits_code (text_at x text) (length text)
+      (owned.literal_home RIGHT_HANDLE_AT from.alias from.home) to k)) ≤ 19 + length k
+  text_fits_weighs text from to k =
+      let home : Home = owned.literal_home RIGHT_HANDLE_AT from.alias from.home in
+      let tail : List WordInstr = Constant FIFTH 0 ∷ Branch test.Equal FOURTH FIFTH to ∷ k in
+      let a = literal_weighs RIGHT_HANDLE_AT from.alias (owned.text_fits_code (text_at x text) (length text) home to k) in
+      let b = called_weighs FOURTH TEXT_ORDER (Where (Static LEFT_HANDLE_AT) ∷ Where home ∷ []) tail in
+      omega (arith, a, b)
 
   made_weighs : (at : ℕ) (ty : Option ℕ) (from : Housed) (k : List WordInstr) → length (owned.text_made x at ty from k) ≤ 7 + length k
   made_weighs at ty from k = entry_weighs at (owned.entry_of x.table ty) from k
@@ -216,12 +237,9 @@ module _ (x : Around) where
 
   resized_weighs : (hooks : Bool) (label ty : ℕ) (to : Home) (n size : ℕ) (k : List WordInstr)
       → length (owned.resized_code x hooks label ty to n size k) ≤ 16 + length k
-  resized_weighs true label ty to n size k =
-      let tail : List WordInstr = length_code to n size (Label label ∷ k) in
-      let a = called_weighs FIRST (owned.cut_number x ty) (Where to ∷ Where (Variable n) ∷ [])
-      (address FIRST to ∷ Load FIRST FIRST whole ∷ Branch test.NotBelow FIRST n label ∷ tail) in
-      let b = length_weighs to n size (Label label ∷ k) in
-      omega (arith, a, b)
+  resized_weighs true label ty (Variable v) n size k = omega arith
+  resized_weighs true label ty (Placed at) n size k = omega arith
+  resized_weighs true label ty (Static at) n size k = omega arith
   resized_weighs false label ty to n size k = let b = length_weighs to n size k in omega (arith, b)
 
   pub sized_weighs : (text : Bool) (label ty : ℕ) (to : Home) (n : ℕ) (k : List WordInstr)
@@ -261,3 +279,41 @@ enough_weighs n hs lines k each base few = by (nat_lt (length hs) n) refl
         let h : n ≤ length hs = ltb-false (length hs) n e in
         let m : each * n ≤ each * length hs = mul-le-mul (le_refl each) h in
         omega (arith, few, m)
+
+-- ---- constants
+
+lent_text_weighs : (x : Around) (other : Alias) (to : Home) (text : List ℕ) (k : List WordInstr) →
+    length (owned.lent_text_code x other to text k) ≤ 6 + length k
+lent_text_weighs x alias.Own to text k = omega arith
+lent_text_weighs x (alias.Place p global) to text k = omega arith
+lent_text_weighs x (alias.Value t) to text k = omega arith
+lent_text_weighs x (alias.Node n) to text k = omega arith
+lent_text_weighs x (alias.Text behind bytes) to text k = omega arith
+
+pub constant_weighs : (x : Around) (read : Bool) (pieces : List Piece) (to : Housed) (k : List WordInstr)
+    → length (lines.constant_by x read (text_in pieces) to pieces k) ≤ 5 + pieces_weight pieces + length k
+constant_weighs x read pieces to k = by read pieces refl
+  where
+    none : (read : Bool) → length (lines.constant_by x read None to pieces k) ≤ 5 + pieces_weight pieces + length k
+    none true = spot_weighs to (spot_of to) pieces k
+    none false = spot_weighs to (spot_of to) pieces k
+
+    one : (read : Bool) (text : List ℕ) → pieces ≡ P.Text text ∷ [] →
+        length (lines.constant_by x read (Some text) to pieces k) ≤ 5 + pieces_weight pieces + length k
+    one true text e = let w : pieces_weight pieces ≡ 6 = ap pieces_weight e in let h = lent_text_weighs x to.alias to.home text k in omega (arith, w, h)
+    one false text e =
+        let w : pieces_weight pieces ≡ 6 = ap pieces_weight e in let h = text_copied_weighs x to.home text k in omega (arith, w, h)
+
+    no_text : (read : Bool) → text_in pieces ≡ None → length (lines.constant_by x read (text_in pieces) to pieces k) ≤ 5 + pieces_weight pieces + length k
+    no_text read e = subst (λ o. length (lines.constant_by x read o to pieces k) ≤ 5 + pieces_weight pieces + length k) (sym e) (none read)
+
+    by : (read : Bool) (same : List Piece) → pieces ≡ same →
+        length (lines.constant_by x read (text_in pieces) to pieces k) ≤ 5 + pieces_weight pieces + length k
+    by read (P.Text text ∷ []) e =
+        subst (λ o. length (lines.constant_by x read o to pieces k) ≤ 5 + pieces_weight pieces + length k) (sym (ap text_in e)) (one read text e)
+    by read [] e = no_text read (ap text_in e)
+    by read (P.Text text ∷ piece ∷ same) e = no_text read (ap text_in e)
+    by read (P.Ordinal z ∷ same) e = no_text read (ap text_in e)
+    by read (P.Nil ∷ same) e = no_text read (ap text_in e)
+    by read (P.Parts n ∷ same) e = no_text read (ap text_in e)
+    by read (P.Elements n ∷ same) e = no_text read (ap text_in e)

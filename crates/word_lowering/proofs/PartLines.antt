@@ -1,6 +1,8 @@
 -- Lines that lead to a part of what stands at a location are followed.
 use Rattle.std.proofs.Common.{inr, ◌≡◌, ℕ, ◌+◌, ◌^◌, ◌<◌, ◌≤◌, List, [], ◌∷◌, ◌++◌, Some, true, refl, sym, ap, subst, ◌∙◌, arith, inl, Bool, false}
+use Rattle.std.specs.Prelude.{◌&&◌, not}
 use Rattle.nim_meaning.specs.Values.{Value, deeper}
+use Rattle.nim_meaning.specs.LeftOut.{is_exception_type}
 use Rattle.flat_code.specs.declared.block.BlockLine.{BlockLine}
 use Rattle.flat_code.specs.declared.line.Line.TheVariants as L
 use Rattle.flat_code.specs.declared.place.PlaceKind.TheVariants as K
@@ -30,7 +32,7 @@ use Rattle.word_lowering.proofs.Moves.{all_same}
 use Rattle.word_lowering.proofs.OpRuns.{gives_sum}
 use Rattle.word_lowering.proofs.OperationRuns.{Given}
 use Rattle.word_lowering.proofs.OrdinalRuns.{but_one, put_here}
-use Rattle.word_lowering.proofs.OutPlaces.{IsUnlent, unlent_plain, written_at, written_stands}
+use Rattle.word_lowering.proofs.OutPlaces.{written_at, written_stands}
 use Rattle.word_lowering.proofs.ReadFacts.{constant_near, owned_near, value_near, waiting_near}
 use Rattle.word_lowering.proofs.Related.{Both, body_of, within, high}
 use Rattle.word_lowering.proofs.Scenes.{Ground, Leads, Owned, IsLedBy, IsNamed, IsThere, Points, house, looked, of_location, of_place, of_value, of_waiting}
@@ -128,6 +130,7 @@ module _ (x : Basis) (sites : List Site) (s : Site) (ground : Ground) (world : W
     offset = f.offset + o;
     leads = path_on (looked x.table s (of_value from)) path f.offset t i o u f.leads step;
     address = (let e = f.address in omega (arith, e));
+    lasting = f.lasting;
     value = f.value;
     has = still from f.value f.has;
   }
@@ -226,13 +229,12 @@ module _ (x : Basis) (g : Both) (line : BlockLine) (rest : List BlockLine) (y : 
   }
 
   -- where a part of what may be written stands, that may be written too
-  pub part_standing : (to from i : ℕ) (there : Where) → IsNamed g.call.site (of_location from) → IsUnlent g.call.site from →
-      g.call.temps.places from ≡ Some there
+  pub part_standing : (to from i : ℕ) (there : Where) → IsNamed g.call.site (of_location from) → g.call.temps.places from ≡ Some there
       → (is_standing (house g.call.site (of_location to)).kind ≡ true → is_standing (house g.call.site (of_location from)).kind ≡ true)
       → is_standing (house g.call.site (of_location to)).kind ≡ true
       → Owned (deeper_in g.call.temps there i)
-  part_standing to from i there n unlent e as_base standing =
-      let w = written_at x g line rest y from there n unlent (as_base standing) e in
+  part_standing to from i there n e as_base standing =
+      let w = written_at x g line rest y from there n (as_base standing) e in
       subst (λ t. Owned (deeper_in g.call.temps t i)) (sym w.is) (written_stands x g line rest y w.written)
 
 -- ---- a field
@@ -267,14 +269,13 @@ module _ (x : Basis) (labels : LabelsLead x) (g : Both) (rest : List BlockLine) 
       → (all : Shapes) × (shape_of (facts_in x.table) (type_at (types_in x.table) n) ≡ parts all)
       × (nth_shape all field ≡ Some (shape_of (facts_in x.table) of))
 
-  part_with : (IsNamed g.call.site (of_location from) → IsHomed x g.call.site from)
-      → ((y : IsGood x (starts g part_here rest)) → IsNamed g.call.site (of_location from) → IsUnlent g.call.site from) → HasFields →
-      BitsHere x g rest part_here
-  part_with homed unlent has_fields y =
+  part_with : (IsNamed g.call.site (of_location from) → IsHomed x g.call.site from) → HasFields → BitsHere x g rest part_here
+  part_with homed has_fields y =
       let from_kind : TypeKind = kind_if (facts_in x.table) (type_in x is_location (body_of g) from) in
       let to_may : Bool = if_kind is_standing (place_named is_location (body_of g).proc.places to) in
       let from_may : Bool = if_kind is_standing (place_named is_location (body_of g).proc.places from) in
-      let f = and_parts (is_of (type_in x is_location (body_of g) to) (field_at from_kind field)) (same_bool to_may from_may)
+      let has_parts : Bool = not (is_exception_type (type_in x is_location (body_of g) from)) in
+      let f = and_parts (is_of (type_in x is_location (body_of g) to) (field_at from_kind field)) (same_bool to_may from_may && has_parts)
       (fits_here x.table x.blocks (body_of g) part_here rest y.stands) in
       let v = are_of (type_in x is_location (body_of g) to) (field_at from_kind field) f.0 in
       let s = some_kind (facts_in x.table) (type_in x is_location (body_of g) from) (λ k. is_of (Some v.ty) (field_at k field)) refl
@@ -295,17 +296,18 @@ module _ (x : Basis) (labels : LabelsLead x) (g : Both) (rest : List BlockLine) 
       (own_alias (house g.call.site (of_location to)).alias (location_alias x g part_here rest y to alias.Own refl refl)) tt in
       using_settles x (starts g part_here rest) rest (g.call.temps.places from)
       (λ there. leads (scene_of (high x.table x.blocks (starts g part_here rest))) to there (to_part (location_at g.call.temps there) field))
-      (λ there e. part_of y there e p.named (homed p.named) (unlent y p.named) there_to whole.0 (look_is ∙ whole.1) (whole.2 ∙ ap Some (sym q.look))
-      (λ st. y.linked.0.standing from (same_bool_true to_may from_may f.1 (y.linked.0.may_be_standing to st))))
+      (λ there e. part_of y there e p.named (homed p.named) there_to whole.0 (look_is ∙ whole.1) (whole.2 ∙ ap Some (sym q.look))
+      (λ st. y.linked.0.standing from (same_bool_true to_may from_may (and_parts (same_bool to_may from_may) has_parts f.1).0
+      (y.linked.0.may_be_standing to st))))
     where
       part_of : (y : IsGood x (starts g part_here rest)) (there : Where) → g.call.temps.places from ≡ Some there → IsNamed g.call.site (of_location from)
-          → IsHomed x g.call.site from → IsUnlent g.call.site from → IsThere g.call.site (of_location to) → (all : Shapes) →
+          → IsHomed x g.call.site from → IsThere g.call.site (of_location to) → (all : Shapes) →
           looked x.table g.call.site (of_location from) ≡ parts all
           → nth_shape all field ≡ Some (looked x.table g.call.site (of_location to))
           → (is_standing (house g.call.site (of_location to)).kind ≡ true → is_standing (house g.call.site (of_location from)).kind ≡ true)
           → Settles x (starts g part_here rest) rest
           (leads (scene_of (high x.table x.blocks (starts g part_here rest))) to there (to_part (location_at g.call.temps there) field))
-      part_of y there e named_from homed_from unlent_from there_to all look nth as_base =
+      part_of y there e named_from homed_from there_to all look nth as_base =
           let a = at_homed x g part_here rest y from there named_from homed_from e (ap is_one_word look) in
           let h = homed_house x g part_here rest y from there named_from homed_from e in
           let o : ℕ = shapes_before all field in
@@ -318,7 +320,7 @@ module _ (x : Basis) (labels : LabelsLead x) (g : Both) (rest : List BlockLine) 
           let some = shape_some (looked x.table g.call.site (of_location to)) in
           let b = led_home x g part_here rest y to there_to in
           leads_settles x g part_here rest y to (deeper_in g.call.temps there field) (a.address + o) 1 (omega arith) there_to
-          (part_standing x g part_here rest y to from field there named_from unlent_from e as_base)
+          (part_standing x g part_here rest y to from field there named_from e as_base)
           (leads_on x (all_sites x g part_here rest y) g.call.site g.ground g.world g.call.temps
           (with_place to g.call.temps (deeper_in g.call.temps there field))
           (λ t v h. h) there a.address o
@@ -337,13 +339,12 @@ module _ (x : Basis) (labels : LabelsLead x) (g : Both) (rest : List BlockLine) 
   pub part_line : FollowedHere x labels g rest (L.Part to from field)
   part_line names y =
       part_with (λ n. homed_plain x g.call.site from y.linked.0 n names.1.0)
-      (λ y n. unlent_plain x g part_here rest y from n names.1.0)
       (λ n of is named_from named_to look look_to. x.fields n field of is
       (sym (ap of_numbers look) ∙ location_of_numbers x g.call.site from y.linked.0 named_from names.1.0)
       (sym (ap of_numbers look_to) ∙ location_of_numbers x g.call.site to y.linked.0 named_to names.0)) y
 
-  pub part_bits : IsHomed x g.call.site from → IsUnlent g.call.site from → of_handles (looked x.table g.call.site (of_location from)) ≡ true
+  pub part_bits : IsHomed x g.call.site from → of_handles (looked x.table g.call.site (of_location from)) ≡ true
       → is_one_word (looked x.table g.call.site (of_location from)) ≡ false → BitsHere x g rest part_here
-  part_bits homed unlent handles many y =
-      part_with (λ n. homed) (λ y n. unlent) (λ n of is named_from named_to look look_to. x.built_fields n field of is (sym (ap of_handles look) ∙ handles)
+  part_bits homed handles many y =
+      part_with (λ n. homed) (λ n of is named_from named_to look look_to. x.built_fields n field of is (sym (ap of_handles look) ∙ handles)
       (sym (ap is_one_word look) ∙ many)) y

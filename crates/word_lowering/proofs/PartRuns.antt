@@ -142,7 +142,7 @@ module _ (x : Basis) (g : Both) (line : BlockLine) (rest : List BlockLine) (y : 
         values = λ u i away. refl;
         places = λ u away. refl;
         texts = λ u n k i text away. refl;
-        still = λ u w h. (w, h);
+        still = λ u w l h. (w, h);
         variables = λ h u other away home. same.others u (high_variable x g line rest y h u other home);
         left = same.left;
       }

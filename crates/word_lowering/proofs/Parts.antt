@@ -55,11 +55,11 @@ ends_are old new a b c d e f h is_a is_b is_c is_d is_e is_f =
 
 -- the code of a procedure as it is put together
 pub code_is : (x : Around) (lines : List Line) (result : Option Housed) (ws : List Waiter) (a b m c d : List WordInstr) → a ≡ []
-    → result ≡ result_in x.own.all → ws ≡ x.own.waiters → Puts a b (result_cleared result) → Puts b m (none_code ws) → Puts m c (lines_code x lines)
+    → result ≡ result_in x.own.all → ws ≡ x.own.waiters → Puts a b (none_code ws) → Puts b m (result_cleared result) → Puts m c (lines_code x lines)
     → d ≡ and_last c → d ≡ code_of x lines
 code_is x lines result ws a b m c d none r w p n q e =
     let body : List WordInstr = lines_code x lines [] in
-    e ∙ ap and_last (sym (append-nil c) ∙ q [] ∙ n body ∙ p (none_code ws body)
-    ∙ ap (λ (l : List WordInstr). l ++ result_cleared result (none_code ws body)) none
-    ∙ ap (λ (o : Option Housed). result_cleared o (none_code ws body)) r
-    ∙ ap (λ (us : List Waiter). result_cleared (result_in x.own.all) (none_code us body)) w)
+    e ∙ ap and_last (sym (append-nil c) ∙ q [] ∙ n body ∙ p (result_cleared result body)
+    ∙ ap (λ (l : List WordInstr). l ++ none_code ws (result_cleared result body)) none
+    ∙ ap (λ (o : Option Housed). none_code ws (result_cleared o body)) r
+    ∙ ap (λ (us : List Waiter). none_code us (result_cleared (result_in x.own.all) body)) w)

@@ -129,18 +129,13 @@ pieces_weigh to (P.Nil ∷ pieces) k = let i = pieces_weigh to pieces k in omega
 pieces_weigh to (P.Elements zero ∷ pieces) k = let i = pieces_weigh (shifted 4 to) pieces k in omega (arith, i)
 pieces_weigh to (P.Elements (suc n) ∷ pieces) k = let i = pieces_weigh to pieces k in omega (arith, i)
 
-spot_weighs : (to : Housed) (spot : Spot) (pieces : List Piece) (k : List WordInstr)
+pub spot_weighs : (to : Housed) (spot : Spot) (pieces : List Piece) (k : List WordInstr)
     → length (lines.constant_at to spot pieces k) ≤ 5 + pieces_weight pieces + length k
 spot_weighs to (Held v) pieces k = omega arith
 spot_weighs to (Lies home) pieces k =
     let h = cleared_weighs to.is_word to.bytes (Lies home) (lines.pieces_code home pieces k) in
     let i = pieces_weigh home pieces k in
     omega (arith, h, i)
-
-pub constant_weighs : (text : Option (List ℕ)) (to : Housed) (pieces : List Piece) (k : List WordInstr)
-    → length (lines.constant_by text to pieces k) ≤ 5 + pieces_weight pieces + length k
-constant_weighs None to pieces k = spot_weighs to (spot_of to) pieces k
-constant_weighs (Some text) to pieces k = omega arith
 
 -- ---- addresses, texts and returns
 

@@ -2,18 +2,19 @@
 use Rattle.std.proofs.Common.{◌≡◌, ◌⊎◌, inl, inr, ℕ, suc, ◌%◌, ◌≤◌, ◌<◌, List, [], ◌∷◌, length, Option, Some}
 use Rattle.std.proofs.Common.{None, Bool, true, false, not, ◌&&◌}
 use Rattle.std.proofs.Common.{refl, sym, ap, subst, ◌∙◌, arith, if◌then◌else◌, nat_eq, nat_le}
-use Rattle.std.specs.Prelude.{nat_lt, ◌||◌}
-use Rattle.std.proofs.lemmas.Bool.{and_parts, and_from, and_left, and_right, cases_Bool, eqb-true, eq-eqb, ne_eqb, leb-true, ltb-true, lt-ltb, not-true}
+use Rattle.std.specs.Prelude.{nat_lt}
+use Rattle.std.proofs.lemmas.Bool.{and_parts, and_from, and_left, and_right, cases_Bool, eqb-true, eq-eqb, ne_eqb, leb-true, ltb-true, not-true}
 use Rattle.std.proofs.lemmas.Bool.{true≢false, false≢true}
 use Rattle.nim_types.specs.declared.types.TypeDef.{TypeDef}
 use Rattle.nim_types.specs.Types.{Ty}
 use Rattle.nim_types.specs.Table.{type_at, types_in, facts_in, IsTable}
-use Rattle.nim_types.specs.Forms.{hooked, form_of}
+use Rattle.nim_types.specs.Forms.{hooked, form_of, levels}
 use Rattle.nim_program.specs.declared.program.Mode.TheVariants.{Var, Plain}
 use Rattle.flat_code.specs.declared.line.Line.{Line}
 use Rattle.flat_code.specs.declared.place.PlaceKind.{PlaceKind}
 use Rattle.flat_code.specs.declared.place.PlaceKind.TheVariants as K
 use Rattle.flat_code.specs.declared.place.FlatPlace.{FlatPlace}
+use Rattle.nim_meaning.specs.Unbuilt.{is_unbuilt}
 use Rattle.flat_code.specs.Scene.{known_in}
 use Rattle.flat_code.specs.Shapes.{Shape, number, row, parts, Shapes, shape_of}
 use Rattle.flat_code.specs.Fits.{is_value, is_declared, is_global, is_own, type_by_kind, place_named, or_result, result_at, are_within}
@@ -25,18 +26,19 @@ use Rattle.word_lowering.specs.declared.homes.Home.TheVariants.{Variable, Placed
 use Rattle.word_lowering.specs.declared.homes.Housed.{Housed}
 use Rattle.word_lowering.specs.declared.homes.Free.{Free}
 use Rattle.word_lowering.specs.OwnedCode.{has_handle}
-use Rattle.word_lowering.specs.Stored.{bytes_at, entry_at, is_word, count_in, element_bytes, part_at, HaveForms}
+use Rattle.word_lowering.specs.Stored.{bytes_at, entry_at, is_hooked, is_word, count_in, element_bytes, part_at, HaveForms}
 use Rattle.word_lowering.specs.Aliases.{alias_for, addressed, is_among}
 use Rattle.word_lowering.specs.Layouts.{is_kept, is_static, home_at, home_by, free_behind, free_by, word_by, bytes_by, place_word, place_bytes, place_kept}
 use Rattle.word_lowering.specs.Layouts.{address_by, holds_address, owns, place_lent, lent_by}
 use Rattle.word_lowering.specs.Layouts.{place_alias, housed, behind, all_housed, found, nowhere, is_result, result_in}
-use Rattle.word_lowering.specs.MayLower.{is_hooked, is_text, is_plain, all_plain}
+use Rattle.word_lowering.specs.MayLower.{is_known, all_known}
+use Rattle.word_lowering.proofs.BlankShapes.{of_handles}
 use Rattle.word_lowering.proofs.ShapeFacts.{never, nth_shape, shape_bytes, of_numbers}
 use Rattle.word_lowering.proofs.ShapePaths.{shapes_before}
 use Rattle.word_lowering.proofs.HomesApart.{Each, IsBetween}
 use Rattle.word_lowering.proofs.LayoutBounds.{place_whole}
-use Rattle.word_lowering.proofs.TypeRules.{type_plain}
-use Rattle.word_lowering.proofs.TypeShapes.{type_bytes, type_is_word, type_row, type_part}
+use Rattle.word_lowering.proofs.TypeRules.{type_hooked, type_plain, type_unhooked}
+use Rattle.word_lowering.proofs.TypeShapes.{type_bytes, type_handles, type_is_word, type_many, type_row, type_part}
 use Rattle.word_lowering.proofs.Sites.{is_one_word, Among, There, Housing, in_variable, by_address, in_places, in_data, InVariable, InMemory, has_hooks_by}
 
 -- ---- kinds
@@ -125,12 +127,11 @@ each_among P [] h e i = absurd i
 each_among P (k ∷ hs) h e (inl s) = subst P s e.0
 each_among P (k ∷ hs) h e (inr i) = each_among P hs h e.1 i
 
-pub plain_among : (table : List TypeDef) (hs : List Housed) (h : Housed) → all_plain table hs ≡ true → Among h hs
-    → is_plain table h.ty h.alias h.kind ≡ true
-plain_among table [] h e i = absurd i
-plain_among table (k ∷ hs) h e (inl s) =
-    subst (λ z. is_plain table z.ty z.alias z.kind ≡ true) s (and_parts (is_plain table k.ty k.alias k.kind) (all_plain table hs) e).0
-plain_among table (k ∷ hs) h e (inr i) = plain_among table hs h (and_parts (is_plain table k.ty k.alias k.kind) (all_plain table hs) e).1 i
+pub known_among : (table : List TypeDef) (hs : List Housed) (h : Housed) → all_known table hs ≡ true → Among h hs → is_known table h.ty h.kind ≡ true
+known_among table [] h e i = absurd i
+known_among table (k ∷ hs) h e (inl s) =
+    subst (λ z. is_known table z.ty z.kind ≡ true) s (and_parts (is_known table k.ty k.kind) (all_known table hs) e).0
+known_among table (k ∷ hs) h e (inr i) = known_among table hs h (and_parts (is_known table k.ty k.kind) (all_known table hs) e).1 i
 
 -- where a home begins is a whole word
 abbrev pub IsAligned : Home → Type 0
@@ -448,37 +449,41 @@ module _ (table : List TypeDef) (is_table : IsTable table) (have : HaveForms tab
   abbrev shape_here : PlaceKind → ℕ → Shape
   shape_here kind ty = shape_of (facts_in table) (type_here kind ty)
 
-  -- of the table, and without the heap
-  plain_type : (ty : ℕ) (name : Alias) → is_text name ≡ false → (nat_lt ty (length table) && (is_text name || not (is_hooked table ty))) ≡ true
-      → (ty < length table) × (is_hooked table ty ≡ false)
-  plain_type ty name other h =
-      let q = and_parts (nat_lt ty (length table)) (is_text name || not (is_hooked table ty)) h in (
-        ltb-true ty (length table) q.0,
-        not-true (is_hooked table ty) (sym (ap (λ b. b || not (is_hooked table ty)) other) ∙ q.1),
-      )
+  -- of the table, and built
+  known_type : (ty : ℕ) → (nat_lt ty (length table) && (not (is_unbuilt (facts_in table) (type_at (types_in table) ty))
+      && nat_le (levels (form_of (facts_in table) (type_at (types_in table) ty))) 64)) ≡ true
+      → (ty < length table) × (is_unbuilt (facts_in table) (type_at (types_in table) ty) ≡ false)
+  known_type ty h =
+      let q = and_parts (nat_lt ty (length table)) _ h in
+      let r = and_parts (not (is_unbuilt (facts_in table) (type_at (types_in table) ty))) _ q.1 in
+      (ltb-true ty (length table) q.0, not-true (is_unbuilt (facts_in table) (type_at (types_in table) ty)) r.0)
 
-  pub place_numbers : (kind : PlaceKind) (ty : ℕ) (name : Alias) → is_text name ≡ false → is_plain table ty name kind ≡ true
-      → of_numbers (shape_here kind ty) ≡ true
-  place_numbers K.Counter ty name other h = refl
-  place_numbers kind ty name other h = type_plain table is_table have ty (plain_type ty name other h).1
+  pub place_numbers : (kind : PlaceKind) (ty : ℕ) → has_hooks_by table kind ty ≡ false → of_numbers (shape_here kind ty) ≡ true
+  place_numbers K.Counter ty h = refl
+  place_numbers kind ty h = type_plain table is_table have ty h
 
-  pub place_unhooked : (kind : PlaceKind) (ty : ℕ) (name : Alias) → is_text name ≡ false → is_plain table ty name kind ≡ true
-      → hooked (form_of (facts_in table) (type_here kind ty)) ≡ false
-  place_unhooked K.Counter ty name other h = refl
-  place_unhooked kind ty name other h =
-      let q = plain_type ty name other h in
-      sym (ap (λ b. b && hooked (form_of (facts_in table) (type_at (types_in table) ty))) (lt-ltb ty (length table) q.0)) ∙ q.1
+  pub place_unhooked : (kind : PlaceKind) (ty : ℕ) → has_hooks_by table kind ty ≡ false → hooked (form_of (facts_in table) (type_here kind ty)) ≡ false
+  place_unhooked K.Counter ty h = refl
+  place_unhooked kind ty h = type_unhooked table is_table have ty h
 
-  pub place_bare : (kind : PlaceKind) (ty : ℕ) (name : Alias) → is_text name ≡ false → is_plain table ty name kind ≡ true
-      → has_hooks_by table kind ty ≡ false
-  place_bare K.Counter ty name other h = refl
-  place_bare kind ty name other h = (plain_type ty name other h).1
+  -- what has hooks by its number in the table has them by its type
+  pub place_by_type : (kind : PlaceKind) (ty : ℕ) → has_hooks_by table kind ty ≡ hooked (form_of (facts_in table) (type_here kind ty))
+  place_by_type K.Counter ty = refl
+  place_by_type kind ty = type_hooked table is_table have ty
+
+  pub place_built : (kind : PlaceKind) (ty : ℕ) → is_known table ty kind ≡ true → of_handles (shape_here kind ty) ≡ true
+  place_built K.Counter ty h = refl
+  place_built kind ty h = type_handles table is_table have ty (known_type ty h).1
+
+  pub place_many : (kind : PlaceKind) (ty : ℕ) → has_hooks_by table kind ty ≡ true → is_one_word (shape_here kind ty) ≡ false
+  place_many K.Counter ty h = never h
+  place_many kind ty h = type_many table is_table have ty h
 
   pub place_shape_bytes : (kind : PlaceKind) (ty : ℕ) → shape_bytes (shape_here kind ty) ≡ bytes_by kind (bytes_at table ty)
   place_shape_bytes K.Counter ty = refl
   place_shape_bytes kind ty = sym (type_bytes table is_table have ty)
 
-  pub place_is_word : (kind : PlaceKind) (ty : ℕ) → of_numbers (shape_here kind ty) ≡ true
+  pub place_is_word : (kind : PlaceKind) (ty : ℕ) → of_handles (shape_here kind ty) ≡ true
       → is_one_word (shape_here kind ty) ≡ word_by kind (is_word (entry_at table ty))
   place_is_word K.Counter ty n = refl
   place_is_word kind ty n = type_is_word table is_table have ty n

@@ -1,5 +1,5 @@
 -- A place of any call that has a value of its own gets another one: what is true of the world then.
-use Rattle.std.proofs.Common.{◌≡◌, ◌≢◌, ◌⊎◌, inl, inr, ℕ, ◌+◌, ◌<◌, ◌≤◌, List, length, Some, sym, ap, subst, ◌∙◌}
+use Rattle.std.proofs.Common.{◌≡◌, ◌≢◌, ◌⊎◌, inl, inr, ℕ, ◌+◌, ◌<◌, ◌≤◌, List, length, Some, sym, ap, subst, ◌∙◌, refl}
 use Rattle.nim_meaning.specs.Values.{Value, Holds, Standing}
 use Rattle.nim_meaning.specs.State.{World, with_slot, slot_at, frame_at, with_slot_of}
 use Rattle.nim_meaning.specs.Places.{root_of, through_slot}
@@ -56,10 +56,11 @@ module _ (x : Basis) (g : Both) (line : BlockLine) (rest : List BlockLine) (y : 
     slots = slots_other;
     more = λ s m i other h. more s m i other h
         (away_cases x.table x.blocks x.small (all_sites x g line rest y) y.linked lo (of_place number) s (of_place m));
-    roots = λ s m i other h. roots s m i other
+    roots = λ s m i other h k. roots s m i other
         (away_cases x.table x.blocks x.small (all_sites x g line rest y) y.linked lo (of_place number) s (of_place m));
     waits = λ s node i a. waits_alike g.world put_world (slot_alike g.world lo.level number (Some (Holds new))) s.level node;
     once = λ s i h. once_alike g.world put_world (slot_alike g.world lo.level number (Some (Holds new))) s.level h;
+    hand = refl;
   }
     where
       more : (s : Site) (m : ℕ) → AmongSites s (all_sites x g line rest y) → IsThere s (of_place m) → Filled g.world s.level m

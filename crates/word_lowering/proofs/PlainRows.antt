@@ -1,35 +1,31 @@
 -- A line of an operation does what the row of types without hooks says: no type of it has any, but that of a text which `echo` writes.
 use Rattle.std.proofs.Common.{◌≡◌, ℕ, List, [], ◌∷◌, map, Option, Some, None, Bool, true, false, refl, sym, ap, subst, ◌∙◌}
-use Rattle.std.specs.Prelude.{not, ◌||◌}
-use Rattle.std.proofs.lemmas.Bool.{not-true}
+use Rattle.std.specs.Prelude.{◌||◌}
 use Rattle.nim_types.specs.Table.{facts_in, type_at}
 use Rattle.nim_program.specs.declared.operation.Operation.{Operation}
-use Rattle.nim_program.specs.declared.operation.Operation.TheVariants as O
 use Rattle.flat_code.specs.declared.line.UseAt.{UseAt}
 use Rattle.nim_program.specs.View.{if_type}
-use Rattle.nim_meaning.specs.Deeds.{Deed, branch, costs, looks, unless_gone, ◌>>=◌}
+use Rattle.nim_meaning.specs.Deeds.{branch, costs, looks, unless_gone, ◌>>=◌}
 use Rattle.nim_meaning.specs.Here.{any_hooked, gives_hooked}
 use Rattle.nim_meaning.specs.OwnedRows.{owned}
-use Rattle.nim_meaning.specs.Places.{made_by}
+use Rattle.nim_meaning.specs.Places.{kept_if}
 use Rattle.nim_meaning.specs.Table.{does}
 use Rattle.nim_meaning.specs.Texts.{are_seen}
-use Rattle.nim_meaning.specs.Values.{Operand, Value}
+use Rattle.nim_meaning.specs.Values.{Operand}
 use Rattle.flat_code.specs.declared.block.BlockLine.{BlockLine}
 use Rattle.flat_code.specs.declared.line.From.{From}
 use Rattle.flat_code.specs.declared.line.Line.TheVariants as L
 use Rattle.flat_code.specs.Lines.{fetch, gives, traded, using, using_all, without_all}
 use Rattle.flat_code.specs.Running.{scene_of}
 use Rattle.flat_code.specs.Scene.{Did, Temps}
-use Rattle.word_lowering.specs.MayLower.{is_echo, is_hooked}
-use Rattle.word_lowering.specs.MayLower as may
 use Rattle.word_lowering.proofs.ApplyFits.{RowHere, applies, apply_line, gets_type, of_types}
 use Rattle.word_lowering.proofs.ControlLines.{FollowedHere, value_type}
-use Rattle.word_lowering.proofs.Lines.{Basis, IsGood, Settles, bound_for, known, starts, where_there}
+use Rattle.word_lowering.proofs.Lines.{Basis, IsGood, Settles, bound_for, known, starts}
 use Rattle.word_lowering.proofs.OperandLines.{value_type_by}
 use Rattle.word_lowering.proofs.Related.{Both, high}
 use Rattle.word_lowering.proofs.Settling.{LabelsLead}
 use Rattle.word_lowering.proofs.ShapeFacts.{never}
-use Rattle.word_lowering.proofs.Targets.{plain_operands, target}
+use Rattle.word_lowering.proofs.Targets.{target}
 use Rattle.word_lowering.proofs.ValueFacts.{PlainNames}
 use Rattle.word_lowering.proofs.NamesIn.{names_from}
 use Rattle.word_lowering.proofs.Scenes.{of_value}
@@ -38,7 +34,7 @@ neither : (a b : Bool) → (a || b) ≡ false → (a ≡ false) × (b ≡ false)
 neither true b h = never (sym h)
 neither false b h = (refl, h)
 
-using_all_mapped : (x : Basis) (g : Both) (rest : List BlockLine) (temps : Temps) (from : List From) (go other : List Operand → Did)
+pub using_all_mapped : (x : Basis) (g : Both) (rest : List BlockLine) (temps : Temps) (from : List From) (go other : List Operand → Did)
     → ((xs : List Operand) → Settles x g rest (go xs) → Settles x g rest (other xs)) → Settles x g rest (using_all temps from go)
     → Settles x g rest (using_all temps from other)
 using_all_mapped x g rest temps [] go other h s = h [] s
@@ -50,14 +46,6 @@ using_all_mapped x g rest temps (f ∷ from) go other h s =
         → Settles x g rest (using o (λ z. using_all temps from (λ xs. other (z ∷ xs))))
     by more None s = s
     by more (Some z) s = more z s
-
-any_unhooked : (x : Basis) (of : List (Option ℕ)) → may.any_hooked x.table of ≡ false
-    → any_hooked (facts_in x.table) (map (if_type (known x).types) of) ≡ false
-any_unhooked x [] h = refl
-any_unhooked x (None ∷ of) h = any_unhooked x of h
-any_unhooked x (Some ty ∷ of) h =
-    let n = neither (is_hooked x.table ty) (may.any_hooked x.table of) h in
-    ap (λ b. b || any_hooked (facts_in x.table) (map (if_type (known x).types) of)) (x.unhooked ty n.0) ∙ any_unhooked x of n.1
 
 module _ (x : Basis) (labels : LabelsLead x) (g : Both) (rest : List BlockLine) (to : ℕ) (how : UseAt) (ty : Option ℕ) (of : List (Option ℕ))
     (from : List From) where
@@ -75,7 +63,7 @@ module _ (x : Basis) (labels : LabelsLead x) (g : Both) (rest : List BlockLine) 
       (owned operation (facts_in x.table) (if_type (known x).types ty) (map (if_type (known x).types) of) xs
       (does operation (facts_in x.table) (if_type (known x).types ty) (map (if_type (known x).types) of) xs))))
       (does operation (facts_in x.table) (if_type (known x).types ty) (map (if_type (known x).types) of) xs))
-      >>= made_by (gives_hooked (facts_in x.table) (if_type (known x).types ty)) (bound_for g how)))
+      >>= kept_if (gives_hooked (facts_in x.table) (if_type (known x).types ty)) (bound_for g how)))
 
   module _ (operation : Operation) (names : PlainNames x g.call.site (of_value to ∷ names_from from))
       (y : IsGood x (starts g (apply_line x g rest to operation how ty of from) rest)) where
@@ -87,38 +75,14 @@ module _ (x : Basis) (labels : LabelsLead x) (g : Both) (rest : List BlockLine) 
         (applies x g rest to operation how ty of from names y).given (ap (if_type (known x).types) e) in
         (target x g line rest y to (type_at (known x).types n) refl refl typed names.0).unhooked
 
-    none_operands : is_echo operation ≡ false → any_hooked (facts_in x.table) (map (if_type (known x).types) of) ≡ false
-    none_operands e = any_unhooked x of (not-true (may.any_hooked x.table of) (subst (λ b. (b || not (may.any_hooked x.table of)) ≡ true) e
-        (plain_operands x g (apply_line x g rest to operation how ty of from) rest y)))
+  abbrev none_of : Type 0
+  none_of = any_hooked (facts_in x.table) (map (if_type (known x).types) of) ≡ false
 
-    none_hooked : is_echo operation ≡ false → has_hooks operation ≡ false
-    none_hooked e =
-        ap (λ b. b || any_hooked (facts_in x.table) (map (if_type (known x).types) of)) (value_unhooked ty refl) ∙ none_operands e
-
-  pub as_row : (operation : Operation) → RowHere x g rest to operation how ty of from → FollowedHere x labels g rest (L.Apply to operation how ty of from)
-  as_row O.Echo row names y = by (any_hooked (facts_in x.table) (map (if_type (known x).types) of)) (has_hooks O.Echo)
-    where
-      here : Both
-      here = starts g (apply_line x g rest to O.Echo how ty of from) rest
-
-      echoed : List Operand → Deed Value
-      echoed xs = does O.Echo (facts_in x.table) (if_type (known x).types ty) (map (if_type (known x).types) of) xs
-
-      gives_by : (b : Bool) → List Operand → Did
-      gives_by b xs = gives (scene_of (high x.table x.blocks here)) to
-          (costs 1 (unless_gone b (echoed xs)) >>= made_by (gives_hooked (facts_in x.table) (if_type (known x).types ty)) (bound_for g how))
-
-      seen : Settles x here rest (using_all g.call.temps from (λ xs. gives_by (are_seen g.world xs) xs))
-      seen = using_all_mapped x here rest g.call.temps from (gives_by true) (λ xs. gives_by (are_seen g.world xs) xs)
-          (λ xs s. where_there x here rest (are_seen g.world xs) (λ b. gives_by b xs) (λ before. tt) (λ h. s)) (row names y)
-
-      by : (operands any : Bool) → Settles x here rest (does_by O.Echo operands any)
-      by true true = seen
-      by false true = seen
-      by true false = row names y
-      by false false = row names y
-  as_row operation row names y =
+  pub as_row : (operation : Operation) → none_of → RowHere x g rest to operation how ty of from
+      → FollowedHere x labels g rest (L.Apply to operation how ty of from)
+  as_row operation none row names y =
       let line = apply_line x g rest to operation how ty of from in
-      subst (λ b. Settles x (starts g line rest) rest (does_by operation (any_hooked (facts_in x.table) (map (if_type (known x).types) of)) b))
-      (sym (none_hooked operation names y refl))
-      (subst (λ b. Settles x (starts g line rest) rest (does_by operation b false)) (sym (none_operands operation names y refl)) (row names y))
+      let unhooked : has_hooks operation ≡ false
+      = ap (λ b. b || any_hooked (facts_in x.table) (map (if_type (known x).types) of)) (value_unhooked operation names y ty refl) ∙ none in
+      subst (λ b. Settles x (starts g line rest) rest (does_by operation (any_hooked (facts_in x.table) (map (if_type (known x).types) of)) b)) (sym unhooked)
+      (subst (λ b. Settles x (starts g line rest) rest (does_by operation b false)) (sym none) (row names y))

@@ -1,6 +1,5 @@
 -- Procedures of block code that may be lowered: each is tested, and has its word code under its number.
 use Rattle.std.proofs.Common.{◌≡◌, ◌⊎◌, inl, inr, ℕ, zero, suc, ◌+◌, ◌≤◌, List, [], ◌∷◌, ◌++◌, append_assoc, append-nil}
-use Rattle.word_lowering.specs.Aliases.{standing, is_among}
 use Rattle.std.proofs.Common.{length, map}
 use Rattle.std.proofs.Common.{Some, None, Bool, true, false, not, ◌&&◌}
 use Rattle.std.proofs.Common.{refl, sym, ap, subst, ◌∙◌, arith, if◌then◌else◌, nat_le}
@@ -8,10 +7,8 @@ use Rattle.std.specs.Prelude.{slice_get}
 use Rattle.std.specs.Set.{is_member}
 use Rattle.std.proofs.lemmas.Bool.{and_parts, eq-eqb, ne_eqb, leb-true, true≢false, false≢true}
 use Rattle.nim_types.specs.declared.types.TypeDef.{TypeDef}
-use Rattle.nim_types.specs.Types.{Ty, same_text}
-use Rattle.nim_types.specs.Table.{IsTable, facts_in}
-use Rattle.nim_meaning.specs.Here.{is_hooked}
-use Rattle.nim_program.specs.declared.program.Mode.TheVariants.{Plain, Sink, Var}
+use Rattle.nim_types.specs.Types.{same_text, Ty}
+use Rattle.nim_types.specs.Table.{IsTable, facts_in, type_at, types_in}
 use Rattle.word_code.specs.declared.word.TheConstants.{SPARE_ROOM}
 use Rattle.flat_code.specs.declared.line.Line.{Line}
 use Rattle.flat_code.specs.declared.place.PlaceKind.{PlaceKind}
@@ -26,7 +23,7 @@ use Rattle.flat_code.specs.Codes.{block_plain, proc_of}
 use Rattle.flat_code.specs.Sizes.{lines_texts, code_texts}
 use Rattle.flat_code.specs.Running.{last_of, before_last}
 use Rattle.word_code.specs.Words.{from_proc}
-use Rattle.flat_code.specs.Fits.{place_type, has_lines_for, Taken, and_param, taken_by, given_by, Signature, signature_of, signatures, proc_fits}
+use Rattle.flat_code.specs.Fits.{has_lines_for, taken_by, given_by, Signature, signature_of, signatures, proc_fits, Taken, and_param, place_type, type_by_kind}
 use Rattle.flat_code.specs.Fits.{each_fits, start_places as start_places_in, is_declared}
 use Rattle.word_lowering.specs.declared.homes.Alias.TheVariants.{Own}
 use Rattle.word_lowering.specs.declared.homes.Home.{Home}
@@ -36,32 +33,41 @@ use Rattle.word_lowering.specs.declared.homes.Free.{Free}
 use Rattle.word_lowering.specs.declared.homes.Layout.{Layout}
 use Rattle.word_lowering.specs.declared.texts.TheConstants.{FIXED_BYTES}
 use Rattle.word_lowering.specs.declared.may_lower.TheConstants.{MOST_ROOM}
-use Rattle.word_lowering.specs.Layouts.{is_empty, is_static, place_kept, place_bytes, place_alias, home_at, free_behind, free_by, free_at, layout_of}
-use Rattle.word_lowering.specs.Layouts.{address_by}
+use Rattle.word_lowering.specs.Layouts.{is_empty, is_static, place_kept, place_bytes, place_alias, home_at, free_behind, free_by, free_at, layout_of, lent_by}
+use Rattle.word_lowering.specs.Layouts.{address_by, holds_address}
 use Rattle.word_lowering.specs.Layouts.{layouts, housed, behind}
-use Rattle.word_lowering.specs.Layouts.{all_housed, is_param, params_in}
+use Rattle.word_lowering.specs.Layouts.{all_housed, behind_all, is_param, kept_in, params_in}
+use Rattle.word_lowering.proofs.WaiterHomes.{waiters_few, waiters_from}
 use Rattle.word_lowering.specs.Layouts.{found as found_in}
-use Rattle.word_lowering.specs.LineCode.{Around, no_layout, or_none, proc_number}
+use Rattle.hook_code.specs.HookCode.{procs_in}
+use Rattle.word_code.proofs.ForCallers.{found_first}
+use Rattle.word_lowering.specs.LineCode.{all_labels, first_hook, labels_in, Around, no_layout, or_none, proc_number}
 use Rattle.word_lowering.specs.Texts.{texts_of, texts_in}
 use Rattle.word_lowering.proofs.DistinctTexts.{has_behind, has_before}
 use Rattle.word_lowering.specs.Lowered as code
 use Rattle.word_lowering.specs.Lowered.{no_proc, all_layouts, start_layout, start_around, lowered}
 use Rattle.word_lowering.specs.Lowers.{IsFitting, AreSilent}
-use Rattle.word_lowering.specs.MayLower.{no_params, params_lead, is_text, is_plain, all_plain, hook_may, lines_may, labels_once, labels_may, and_placed}
+use Rattle.word_lowering.specs.MayLower.{no_params, params_lead, all_known, hook_may, lines_may, labels_once, labels_may, and_placed}
 use Rattle.word_lowering.specs.MayLower.{placed_bytes}
 use Rattle.word_lowering.specs.MayLower.{places_may, sizes_may, proc_may, procs_may}
 use Rattle.word_lowering.specs.MayLower.{may_lower}
-use Rattle.word_lowering.specs.Stored.{HaveForms}
+use Rattle.word_lowering.specs.Stored.{HaveForms, is_hooked}
 use Rattle.word_lowering.proofs.Options.{none_some, some_same}
 use Rattle.word_lowering.proofs.NamedProcs.{fits_by}
 use Rattle.word_lowering.proofs.FirstPlaces.{ParamsAre, Orderly}
 use Rattle.word_lowering.proofs.Callees.{Callee}
 use Rattle.word_lowering.proofs.ShapeFacts.{never}
-use Rattle.word_lowering.proofs.Sites.{Body, around, type_of, Among, sigs, globals_of, IsBody}
-use Rattle.word_lowering.proofs.LayoutBounds.{params_below}
-use Rattle.word_lowering.proofs.PlaceFacts.{one_found, own_home, declared_own, place_unhooked, place_unlent}
+use Rattle.word_lowering.proofs.Sites.{Body, around, Among, sigs, globals_of, type_of, IsBody}
+use Rattle.word_lowering.proofs.LayoutBounds.{params_below, kept_within}
+use Rattle.word_lowering.proofs.PlaceFacts.{one_found, own_home, declared_own}
 use Rattle.word_lowering.proofs.PlacesInOrder.{orderly}
 use Rattle.word_lowering.proofs.Bodies.{IsTested, body_at, is_body}
+use Rattle.word_lowering.specs.declared.homes.TheConstants.{OWN_FROM}
+use Rattle.word_lowering.specs.Aliases.{standing, is_among}
+use Rattle.flat_code.specs.Waits.{AllWaitOnce, AllWaitRight, all_wait_right, wait_once}
+use Rattle.nim_types.specs.Forms.{form_of, hooked}
+use Rattle.nim_program.specs.declared.program.Mode.TheVariants.{Plain, Sink, Var}
+use Rattle.word_lowering.proofs.TypeRules.{type_hooked}
 
 -- ---- procedures by number
 
@@ -104,15 +110,17 @@ next_ends false true bytes rest last free h = h
 next_ends false false bytes rest last free h = omega (arith, h)
 
 module _ (table : List TypeDef) where
-  add_param : (kind : PlaceKind) (h : Housed) → h.kind ≡ kind → (ty : Ty) → ty ≡ type_of table h
-      → (is_param kind ≡ true → is_hooked (facts_in table) ty ≡ false) → (is_param kind ≡ true → h.lent ≡ false) → (hs : List Housed) (ts : List Taken)
+  add_param : (kind : PlaceKind) (h : Housed) → h.kind ≡ kind → (hooks stands : Bool) → h.lent ≡ lent_by kind hooks stands → (ty : Ty) → ty ≡ type_of table h
+      → (is_param kind ≡ true → hooked (form_of (facts_in table) ty) ≡ hooks) → (hs : List Housed) (ts : List Taken)
       → ParamsAre table hs ts → ParamsAre table (if is_param kind then h ∷ hs else hs) (and_param (facts_in table) kind ty ts)
-  add_param (K.Param Plain) h e ty f plain own hs ts r =
-      let no = sym (ap (address_by h.lent) e ∙ own refl) in
-      ((plain refl ∙ no, no, f), r)
-  add_param (K.Param Sink) h e ty f plain own hs ts r = ((sym (ap (address_by h.lent) e), sym (ap (address_by h.lent) e), f), r)
-  add_param (K.Param Var) h e ty f plain own hs ts r = ((sym (ap (address_by h.lent) e), sym (ap (address_by h.lent) e), f), r)
-  add_param kind h e ty f plain own hs ts r = r
+  add_param (K.Param Plain) h e hooks stands lent ty f same hs ts r =
+      let address : holds_address h ≡ hooks = ap (address_by h.lent) e ∙ lent in
+      ((same refl ∙ sym address, λ w a. lent ∙ (sym address ∙ a), f), r)
+  add_param (K.Param Sink) h e hooks stands lent ty f same hs ts r =
+      let none : holds_address h ≡ false = ap (address_by h.lent) e in
+      ((sym none, λ w a. never (sym none ∙ a), f), r)
+  add_param (K.Param Var) h e hooks stands lent ty f same hs ts r = ((sym (ap (address_by h.lent) e), λ w a. never (sym w), f), r)
+  add_param kind h e hooks stands lent ty f same hs ts r = r
 
   module _ (start : Bool) (lines : List Line) where
     abbrev one : Free → FlatPlace → Housed
@@ -139,17 +147,18 @@ module _ (table : List TypeDef) where
     param_own : (p : FlatPlace) → is_param p.kind ≡ true → place_alias table start lines p ≡ Own
     param_own p e = declared_own p.kind p.number lines (param_declared p.kind e)
 
-    params_are : IsTable table → HaveForms table → (free : Free) (ps : List FlatPlace) → all_plain table (all_housed table start lines free ps) ≡ true
-        → ParamsAre table (params free ps) (taken_by (known_in table) ps)
-    params_are is_table have free [] plain = tt
-    params_are is_table have free (p ∷ ps) plain =
-        let q = and_parts (is_plain table p.ty (place_alias table start lines p) p.kind) (all_plain table (all_housed table start lines (next free p) ps))
-        plain in
-        add_param p.kind (one free p) refl (place_type (known_in table) p) refl
-        (λ e. place_unhooked table is_table have p.kind p.ty (place_alias table start lines p) (ap is_text (param_own p e)) q.0)
-        (λ e. place_unlent table p.kind p.ty (is_among p.number (standing lines))
-        (place_unhooked table is_table have p.kind p.ty (place_alias table start lines p) (ap is_text (param_own p e)) q.0))
-        (params (next free p) ps) (taken_by (known_in table) ps) (params_are is_table have (next free p) ps q.1)
+    module _ (is_table : IsTable table) (have : HaveForms table) where
+      param_hooked : (kind : PlaceKind) (ty : ℕ) → is_param kind ≡ true
+          → hooked (form_of (facts_in table) (type_by_kind kind (type_at (types_in table) ty))) ≡ is_hooked table ty
+      param_hooked (K.Param mode) ty k = sym (type_hooked table is_table have ty)
+      param_hooked kind ty k = never k
+
+      -- as callers hand them on
+      params_are : (free : Free) (ps : List FlatPlace) → ParamsAre table (params free ps) (taken_by (known_in table) ps)
+      params_are free [] = tt
+      params_are free (p ∷ ps) =
+          add_param p.kind (one free p) refl (is_hooked table p.ty) (is_among p.number (standing lines)) refl (place_type (known_in table) p) refl
+          (param_hooked p.kind p.ty) (params (next free p) ps) (taken_by (known_in table) ps) (params_are (next free p) ps)
 
     param_ends : (free : Free) (ps : List FlatPlace) → params_lead ps ≡ true → (h : Housed) (at : ℕ) → Among h (params free ps) → h.home ≡ Placed at
         → at + h.bytes ≤ free.byte + placed_bytes (params free ps)
@@ -222,21 +231,41 @@ module _ (table : List TypeDef) (blocks : Code BlockLine) where
   abbrev fits_one : CodeProc BlockLine → Bool
   fits_one p = proc_fits block_plain (known_in table) (sigs table blocks) (globals_of table blocks) p
 
+  -- values wait where lines say, and a number of 32 bits counts labels
+  record IsRight (p : CodeProc BlockLine) : Type 0 where
+    rightly : all_wait_right block_plain (known_in table) p.places p.lines ≡ true
+    alone : wait_once p.places ≡ true
+    labels : labels_in (map block_plain p.lines) ≤ 4294967295
+
+  abbrev AreRight : List (CodeProc BlockLine) → Type 0
+  AreRight [] = Unit {0}
+  AreRight (p ∷ ps) = IsRight p × AreRight ps
+
+  are_right : (ps : List (CodeProc BlockLine)) → AllWaitRight block_plain (known_in table) ps → AllWaitOnce (map (λ (p : CodeProc BlockLine). p.places) ps)
+      → all_labels ps ≤ 4294967295 → AreRight ps
+  are_right [] right once few = tt
+  are_right (p ∷ ps) right once few =
+      (record { rightly = right.0; alone = once.0; labels = omega (arith, few) }, are_right ps right.1 once.1 (omega (arith, few)))
+
   one_tested : (start : Bool) (p : CodeProc BlockLine) → fits_one p ≡ true → proc_may table (layout_of table start FIXED_BYTES p) p ≡ true
-      → labels_once (map block_plain p.lines) ≡ true → IsTested table blocks start p
-  one_tested start p fit may once =
+      → labels_once (map block_plain p.lines) ≡ true → IsRight p → IsTested table blocks start p
+  one_tested start p fit may once right =
       let own : Layout = layout_of table start FIXED_BYTES p in
       let a = and_parts _ _ (and_parts _ _ fit).1 in
-      let places = and_parts (params_lead p.places && (all_plain table own.all && hook_may p.hook)) (lines_may table own.all (map block_plain p.lines))
+      let places = and_parts (params_lead p.places && (all_known table own.all && hook_may p.hook))
+      (lines_may table own.all (standing (map block_plain p.lines)) (map block_plain p.lines))
       (and_parts (places_may table own p) (sizes_may own) may).0 in
-      let plain = and_parts (params_lead p.places) (all_plain table own.all && hook_may p.hook) places.0 in
+      let known = and_parts (params_lead p.places) (all_known table own.all && hook_may p.hook) places.0 in
       record {
         order = (and_parts _ _ (and_parts _ _ a.0).1).1;
         first = (and_parts _ _ (and_parts _ _ a.0).1).0;
         fits = a.1;
-        plain = (and_parts (all_plain table own.all) (hook_may p.hook) plain.1).0;
+        known = (and_parts (all_known table own.all) (hook_may p.hook) known.1).0;
+        rightly = right.rightly;
+        alone = right.alone;
         may = places.1;
         once = once;
+        labels = right.labels;
         room = (fits_by table own p may).room;
         handed = (fits_by table own p may).handed;
       }
@@ -273,10 +302,10 @@ module _ (table : List TypeDef) (blocks : Code BlockLine) where
 
   call_at : (x : Around) (ps : List (CodeProc BlockLine)) (index i : ℕ) (s : Signature)
       → slice_get (signatures block_plain (known_in table) (before_last ps)) i ≡ Some s → AllFit ps → AllMay ps → AllOnce ps → AreSilent ps
-      → Called x ps index i s
-  call_at x [] index i s h e m o n = absurd (none_some s h)
-  call_at x (p ∷ []) index i s h e m o n = absurd (none_some s h)
-  call_at x (p ∷ q ∷ ps) index zero s h e m o n =
+      → AreRight ps → Called x ps index i s
+  call_at x [] index i s h e m o n right = absurd (none_some s h)
+  call_at x (p ∷ []) index i s h e m o n right = absurd (none_some s h)
+  call_at x (p ∷ q ∷ ps) index zero s h e m o n right =
       let here = and_parts (fits_one p) _ e in
       let may = and_parts (proc_may table (own_of p) p) _ m in
       let once = and_parts (labels_once (map block_plain p.lines)) _ o in
@@ -293,7 +322,7 @@ module _ (table : List TypeDef) (blocks : Code BlockLine) where
         layout = refl;
         lines = (and_parts _ _ here.0).0;
         silent = n.0;
-        tested = one_tested false p here.0 may.0 once.0;
+        tested = one_tested false p here.0 may.0 once.0 right.0;
         may = may.0;
         found = λ some n same. (
           rest,
@@ -303,14 +332,14 @@ module _ (table : List TypeDef) (blocks : Code BlockLine) where
               (ap (λ b. from_proc (proc_number index) (code.if_runs b (one index) rest)) some ∙ from_this (one index) rest (proc_number index) refl),
         );
       }
-  call_at x (p ∷ q ∷ ps) index (suc i) s h e m o n =
+  call_at x (p ∷ q ∷ ps) index (suc i) s h e m o n right =
       let here = and_parts (fits_one p) _ e in
       let may = and_parts (proc_may table (own_of p) p) _ m in
       let once = and_parts (labels_once (map block_plain p.lines)) _ o in
       let literals : ℕ = length (texts_in (q ∷ ps)) in
       let rest : List WordProc = code.word_procs x (suc index) (layouts table FIXED_BYTES (q ∷ ps)) (q ∷ ps) in
       let one : WordProc = code.word_proc (code.with_own x (own_of p) literals) (proc_number index) p in
-      let r = call_at x (q ∷ ps) (suc index) i s h here.1 may.1 once.1 n.1 in
+      let r = call_at x (q ∷ ps) (suc index) i s h here.1 may.1 once.1 n.1 right.1 in
       record {
         proc = r.proc;
         behind_it = r.behind_it;
@@ -334,13 +363,13 @@ module _ (table : List TypeDef) (blocks : Code BlockLine) where
 
   -- the start code is the last one
   last_tested : (none p : CodeProc BlockLine) (ps : List (CodeProc BlockLine)) → AllFit (p ∷ ps) → AllMay (p ∷ ps) → AllOnce (p ∷ ps)
-      → IsTested table blocks true (last_of none (p ∷ ps))
-  last_tested none p [] e m o =
+      → AreRight (p ∷ ps) → IsTested table blocks true (last_of none (p ∷ ps))
+  last_tested none p [] e m o right =
       one_tested true p (and_parts (fits_one p) _ e).0 (and_parts (proc_may table (layout_of table true FIXED_BYTES p) p) _ m).0
-      (and_parts (labels_once (map block_plain p.lines)) _ o).0
-  last_tested none p (q ∷ ps) e m o =
+      (and_parts (labels_once (map block_plain p.lines)) _ o).0 right.0
+  last_tested none p (q ∷ ps) e m o right =
       last_tested p q ps (and_parts (fits_one p) _ e).1 (and_parts (proc_may table (own_of p) p) _ m).1
-      (and_parts (labels_once (map block_plain p.lines)) _ o).1
+      (and_parts (labels_once (map block_plain p.lines)) _ o).1 right.1
 
   last_layout : (none : Layout) (other p : CodeProc BlockLine) (ps : List (CodeProc BlockLine))
       → last_of none (layouts table FIXED_BYTES (p ∷ ps)) ≡ layout_of table true FIXED_BYTES (last_of other (p ∷ ps))
@@ -379,9 +408,13 @@ module _ (table : List TypeDef) (blocks : Code BlockLine) where
 
   -- ---- the whole
 
-  module _ (is_table : IsTable table) (have : HaveForms table) (fitting : IsFitting table blocks) (may : may_lower table blocks ≡ true) where
+  module _ (is_table : IsTable table) (have : HaveForms table) (fitting : IsFitting table blocks) (may : may_lower table blocks ≡ true)
+      (labels : all_labels blocks.procs ≤ 4294967295) where
     all_fits : AllFit blocks.procs
-    all_fits = (and_parts _ _ fitting).1
+    all_fits = (and_parts _ _ fitting.fits).1
+
+    all_right : AreRight blocks.procs
+    all_right = are_right blocks.procs fitting.waits fitting.once labels
 
     all_mays : AllMay blocks.procs
     all_mays = (and_parts (procs_may table (all_layouts table blocks.procs) blocks.procs) _ may).0
@@ -396,7 +429,8 @@ module _ (table : List TypeDef) (blocks : Code BlockLine) where
     rest_procs = code.word_procs x 0 (all_layouts table blocks.procs) blocks.procs
 
     -- the start code has a smaller number
-    from_rest : (n : ℕ) → from_proc (proc_number n) (lowered table blocks).procs ≡ from_proc (proc_number n) rest_procs
+    from_rest : (n : ℕ) → from_proc (proc_number n) (lowered table blocks).procs
+        ≡ from_proc (proc_number n) (rest_procs ++ procs_in table (first_hook blocks.procs))
     from_rest n = from_other _ _ (proc_number n) (λ (z : 0 ≡ proc_number n). omega (arith, z))
 
     -- a procedure that may be called
@@ -409,11 +443,16 @@ module _ (table : List TypeDef) (blocks : Code BlockLine) where
       block = c.block;
       layout = ap or_none c.layout;
       params = subst (λ (z : Signature). ParamsAre table (params_in body.own.all) z.takes) c.sign
-          (params_are table false lines is_table have (free_at FIXED_BYTES) c.proc.places c.tested.plain);
+          (params_are table false lines is_table have (free_at FIXED_BYTES) c.proc.places);
       among = among_params body.own.all;
       homes = λ k i. is_called.places k (among_params body.own.all k i) (param_declared k.kind (param_kind body.own.all k i));
       orderly = subst (λ (z : Signature). Orderly table body z) c.sign (orderly table false c.proc literals (proc_number proc) once
           (is_called.inside) c.tested.first (params_below table false lines (free_at FIXED_BYTES) c.proc.places lead));
+      waiters_from =
+          let within = kept_within table false lines (free_at FIXED_BYTES) c.proc.places in
+          waiters_from (behind_all table false lines (free_at FIXED_BYTES) c.proc.places) body.own.all
+          (OWN_FROM + kept_in (params_in body.own.all)) (omega (arith, within));
+      waiters_few = waiters_few table false lines (free_at FIXED_BYTES) (behind_all table false lines (free_at FIXED_BYTES) c.proc.places) c.proc.places;
       spare = λ k at i e.
           let ends = param_ends table false lines (free_at FIXED_BYTES) c.proc.places lead k at i e in
           let sizes = and_parts (nat_le (own_of c.proc).free.byte MOST_ROOM) _
@@ -431,7 +470,7 @@ module _ (table : List TypeDef) (blocks : Code BlockLine) where
     }
       where
         c : Called x blocks.procs 0 proc s
-        c = call_at x blocks.procs 0 proc s h all_fits all_mays all_onces silent
+        c = call_at x blocks.procs 0 proc s h all_fits all_mays all_onces silent all_right
 
         lines : List Line
         lines = map block_plain c.proc.lines
@@ -452,7 +491,9 @@ module _ (table : List TypeDef) (blocks : Code BlockLine) where
 
         found : not (is_empty c.proc.lines) ≡ true → (others : List WordProc)
             × (from_proc (proc_number proc) (lowered table blocks).procs ≡ code.word_proc (around table blocks body) body.number body.proc ∷ others)
-        found some = let f = c.found some proc (omega arith) in (f.0, from_rest proc ∙ f.1)
+        found some =
+            let f = c.found some proc (omega arith) in
+            (_, from_rest proc ∙ found_first (proc_number proc) rest_procs (procs_in table (first_hook blocks.procs)) _ f.0 f.1)
 
         is_called : IsBody table blocks body
         is_called = is_body table blocks is_table have false c.proc literals (proc_number proc) c.tested (record {
@@ -484,7 +525,7 @@ module _ (table : List TypeDef) (blocks : Code BlockLine) where
         tested : IsTested table blocks true (last_of no_proc blocks.procs)
         tested =
             subst (λ qs. IsTested table blocks true (last_of no_proc qs)) (sym e)
-            (last_tested no_proc p ps (subst AllFit e all_fits) (subst AllMay e all_mays) (subst AllOnce e all_onces))
+            (last_tested no_proc p ps (subst AllFit e all_fits) (subst AllMay e all_mays) (subst AllOnce e all_onces) (subst AreRight e all_right))
 
         texts : (others : List ℕ) × (texts_in blocks.procs ≡ texts_of (map block_plain (last_of no_proc blocks.procs).lines) ++ others)
         texts = subst (λ qs. (others : List ℕ) × (texts_in qs ≡ texts_of (map block_plain (last_of no_proc qs).lines) ++ others)) (sym e)

@@ -75,11 +75,6 @@ module _ (x : Basis) (sites : List Site) (linked : Linked x.table x.blocks sites
       let e = f.address in
       omega (arith, near, within, e, size)
 
-  pub owned_near : (ground : Ground) (w : World) (location : Location) (a : ℕ) (t : Shape) → FromOwned x.table sites ground w location a t
-      → a + shape_bytes t < 2 ^ 32
-  owned_near ground w location a t (inl f) = place_near sites w location a t (λ s i. i) f
-  owned_near ground w location a t (inr f) = f.near
-
   pub waiting_near : (location : Location) (a : ℕ) (t : Shape) → FromWaiting x.table sites location a t → a + shape_bytes t < 2 ^ 32
   waiting_near location a t f =
       let b = site_at x.table x.blocks sites f.site linked f.among in
@@ -91,6 +86,12 @@ module _ (x : Basis) (sites : List Site) (linked : Linked x.table x.blocks sites
       let within = path_within (looked x.table f.site (of_waiting f.node)) location.path f.offset t f.path in
       let e = f.address in
       omega (arith, near, within, e, size)
+
+  pub owned_near : (ground : Ground) (w : World) (location : Location) (a : ℕ) (t : Shape) → FromOwned x.table sites ground w location a t
+      → a + shape_bytes t < 2 ^ 32
+  owned_near ground w location a t (inl f) = place_near sites w location a t (λ s i. i) f
+  owned_near ground w location a t (inr (inl f)) = f.near
+  owned_near ground w location a t (inr (inr f)) = waiting_near location a t f.from
 
   pub here_near : (ground : Ground) (w : World) (location : Location) (a : ℕ) (t : Shape)
       → LeadsHere x.table x.blocks sites ground w location a t → a + shape_bytes t < 2 ^ 32

@@ -1,5 +1,7 @@
 -- The states of block code and of word code that belong together: both are made of one record, and what is true of it.
-use Rattle.std.proofs.Common.{◌≡◌, ◌⊎◌, inl, inr, arith, ℕ, ◌+◌, ◌%◌, ◌≤◌, List, [], ◌∷◌, ◌++◌, length, map, Option, Some, true}
+use Rattle.std.proofs.Common.{◌≡◌, ◌⊎◌, inl, inr, arith, ℕ, ◌+◌, ◌%◌, ◌≤◌, List, [], ◌∷◌, ◌++◌, length, map, Option, Some, None, Bool, true, false}
+use Rattle.std.specs.Prelude.{nat_le, nat_lt, ◌&&◌}
+use Rattle.nim_types.specs.Types.{same_text}
 use Rattle.rv32_isa.specs.Image.{stack_at}
 use Rattle.nim_types.specs.declared.types.TypeDef.{TypeDef}
 use Rattle.nim_meaning.specs.State.{World}
@@ -37,6 +39,17 @@ use Rattle.word_lowering.proofs.PieceWords.{WordsAt, room_of}
 use Rattle.word_lowering.proofs.Scenes.{standing_from}
 use Rattle.word_lowering.proofs.Scenes.{of_value, IsNamed, IsThere, looked, Call, site_of, AllHold, Ground, Store, is_fixed}
 use Rattle.word_code.specs.declared.word.TheConstants.{SPARE_ROOM}
+
+-- ---- texts
+
+abbrev pub are_bytes : List ℕ → Bool
+are_bytes [] = true
+are_bytes (b ∷ bytes) = nat_lt b 256 && are_bytes bytes
+
+-- what was read is a text
+abbrev pub is_read : Option (List ℕ) → List ℕ → Bool
+is_read None text = false
+is_read (Some bytes) text = same_text bytes text
 
 -- a call that waits: the lines that it goes on with, the temporary to which the result goes, and the procedure that it called
 pub record Waits : Type 0 where
@@ -189,6 +202,12 @@ module _ (table : List TypeDef) (blocks : Code BlockLine) where
   abbrev pub IsText : (at n : ℕ) → Type 0
   IsText at n = IsClosed at n × Beside at n routines SCRATCH_BYTES
 
+  -- A text stands at a place of the data at the start, behind the globals: of a program's texts, which nothing changes.
+  abbrev pub is_text_of_data : Memory → (place : ℕ) → List ℕ → Bool
+  is_text_of_data first place text =
+      nat_le (data_at + data_end table blocks) place && (nat_le (place + length text) routines
+      && (are_bytes text && is_read (bytes_at first place (length text)) text))
+
   -- a part of that
   pub text_part : (a n b k : ℕ) → IsText a n → a ≤ b → b + k ≤ a + n → IsText b k
   text_part a n b k text low high = (closed text.0, beside text.1)
@@ -262,3 +281,6 @@ module _ (table : List TypeDef) (blocks : Code BlockLine) where
     pub stands : StandAt (body_of g) g.rest
     pub waits : AllStand g.waiting
     pub answers : AllAnswer (body_of g) g.waiting
+    -- no value is under way between lines
+    pub idle : length g.world.hand ≡ 0
+    pub fixed : g.ground.fixed ≡ is_text_of_data first

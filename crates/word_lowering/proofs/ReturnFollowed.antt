@@ -25,7 +25,7 @@ use Rattle.word_lowering.proofs.CallerGets.{good_gets, good_nothing, good_word_b
 use Rattle.word_lowering.proofs.Gets.{memory_kept, heap_kept}
 use Rattle.word_lowering.proofs.Keeping.{spot_held, spot_memory, points_there, from_memory, to_memory, somewhere, call, from_home, to_home}
 use Rattle.word_lowering.proofs.LineFits.{single_is}
-use Rattle.word_lowering.proofs.Lines.{Basis, all_procs, starts, IsGood, Settles, all_sites}
+use Rattle.word_lowering.proofs.Lines.{Basis, all_procs, starts, IsGood, Settles, all_sites, IsQuiet}
 use Rattle.word_lowering.proofs.Moves.{is_single, single_word, same_first, same_more, IsArea, single_small}
 use Rattle.word_lowering.proofs.Options.{some_same}
 use Rattle.word_lowering.proofs.Related.{Both, Waits, low, code_behind, awaits_in, goes_on, MayAnswer, MemoryGood, store_of, store_with}
@@ -56,7 +56,7 @@ no_word_both (Placed n) i j = i
 no_word_both (Static n) i j = i
 
 module _ (x : Basis) (h : Both) (w : Waits) (ws : List Waits) (line : BlockLine) (rest : List BlockLine)
-    (y : IsGood x (starts (called x h w ws line rest) line rest)) (v : Value) where
+    (y : IsGood x (starts (called x h w ws line rest) line rest)) (last : IsQuiet x line) (v : Value) where
   abbrev g : Both
   g = called x h w ws line rest
 
@@ -101,7 +101,7 @@ module _ (x : Basis) (h : Both) (w : Waits) (ws : List Waits) (line : BlockLine)
 
   pub unwanted : (IsNamed w.call.site (of_value w.to) → ⊥) → (u : Value) (work : ℕ) → 1 ≤ work → HandsBack x h w ws line rest y u code_here → Goes work
   unwanted unnamed u work some b =
-      settles_back x h w ws line rest y v work (put w.call.vars FIRST b.handed) memory_now no_words FIRST
+      settles_back x h w ws line rest y v last work (put w.call.vars FIRST b.handed) memory_now no_words FIRST
       (good_nothing x h w ws line rest y v unnamed b.handed FIRST) b.steps b.some (let f = b.few in omega (arith, f, some))
       (subst (Runs x.live (all_procs x) b.steps (low x.table x.blocks (starts g line rest))) (ap (λ t. state t (spot_of t) b.handed) none) b.runs)
     where
@@ -151,7 +151,7 @@ module _ (x : Basis) (h : Both) (w : Waits) (ws : List Waits) (line : BlockLine)
 
     in_variable_done : (u : ℕ) → to.home ≡ Variable u → to.is_word ≡ true → Done
     in_variable_done u home is_word =
-        settles_back x h w ws line rest y v (suc (bytes v)) (put w.call.vars u (single_word v)) memory_now no_words u
+        settles_back x h w ws line rest y v last (suc (bytes v)) (put w.call.vars u (single_word v)) memory_now no_words u
         (good_word_back x h w ws line rest y v may.there numbers shaped u home (single_small v small) u) b.steps b.some (let f = b.few in omega (arith, f))
         (subst (Runs x.live (all_procs x) b.steps (low x.table x.blocks (starts g line rest)))
         (ap₂ (state to) (spot_held to u plain_to home) (b.is (single_to ∙ is_word))) b.runs)
@@ -215,7 +215,7 @@ module _ (x : Basis) (h : Both) (w : Waits) (ws : List Waits) (line : BlockLine)
           let f = b.few in
           let size = size_to in
           let few = r.few in
-          settles_back x h w ws line rest y v (suc (bytes v)) r.vars r.memory r.words r.awaits
+          settles_back x h w ws line rest y v last (suc (bytes v)) r.vars r.memory r.words r.awaits
           (good_gets x h w ws line rest y v may.there numbers shaped r.vars r.memory r.words r.awaits
           (memory_kept x left linked memory_now r.memory a (bytes v) good_now r.changed lying)
           (heap_more h.memory memory_now r.memory (heap_left x h w ws line rest y)
@@ -356,7 +356,7 @@ module _ (x : Basis) (h : Both) (w : Waits) (ws : List Waits) (line : BlockLine)
         let s = b.some in
         let f = b.few in
         let few = r.few in
-        settles_back x h w ws line rest y v (suc (bytes v)) r.vars_then r.memory no_words FIRST
+        settles_back x h w ws line rest y v last (suc (bytes v)) r.vars_then r.memory no_words FIRST
         (good_gets_item x h w ws line rest y v may.there r.vars_then r.memory no_words FIRST
         (memory_kept x left linked memory_now r.memory a_at to.bytes good_now r.changed lying)
         (heap_more h.memory memory_now r.memory (heap_left x h w ws line rest y)

@@ -104,7 +104,7 @@ module _ (x : Basis) (h : Both) (rest : List BlockLine) where
         (fits_here x.table x.blocks h.call.site.body line rest y.stands) y.linked.0.result in
         let code : code_behind x.table x.blocks h.call.site.body (line ∷ rest) ≡ return_code (around x.table x.blocks h.call.site.body) false None k
         = ap (λ b. return_code (around x.table x.blocks h.call.site.body) b None k) y.linked.1 in
-        unwanted x h w ws line rest y nothing (λ named. let may = y.answers.0.may named in absurd (none_some may.result (sym no ∙ may.is)))
+        unwanted x h w ws line rest y refl nothing (λ named. let may = y.answers.0.may named in absurd (none_some may.result (sym no ∙ may.is)))
         (Parts Nil) 1 (omega arith)
         (subst (HandsBack x h w ws line rest y (Parts Nil)) (sym code) (hands_nothing x h w ws line rest y (Parts Nil) k refl))
 
@@ -146,7 +146,7 @@ module _ (x : Basis) (h : Both) (rest : List BlockLine) where
           by : (o : Option Ty) → type_in x is_value w.call.site.body w.to ≡ o → Settles x (starts g line rest) rest (Returns v (suc (bytes v)))
           by (Some ty) e = let n = y.linked.5.0.named is_value w.to ty e in gets (y.answers.0.may n.0)
           by None e =
-              unwanted x h w ws line rest y v (λ named. untyped x w.call.site.body w.to y.linked.5.0 e named) v (suc (bytes v)) (omega arith) back
+              unwanted x h w ws line rest y refl v (λ named. untyped x w.call.site.body w.to y.linked.5.0 e named) v (suc (bytes v)) (omega arith) back
 
       -- what the place of the result has
       return_by : ((v : Value) → IsThere h.call.site (of_place p) → slot_at h.world h.call.site.level p ≡ Some (Holds v) → is_full v ≡ true
@@ -177,13 +177,13 @@ module _ (x : Basis) (h : Both) (rest : List BlockLine) where
           numbers v there slot unhooked =
               let item = item_read x g line rest y (of_place p) v there (numbers_there x h.call.site (of_place p) y.linked.0 there unhooked) slot in
               let back = handed v item in
-              finish v back (λ may. wanted x h w ws line rest y v p item may place_is.0 back)
+              finish v back (λ may. wanted x h w ws line rest y refl v p item may place_is.0 back)
 
           bits : (v : Value) → IsThere h.call.site (of_place p) → slot_at h.world h.call.site.level p ≡ Some (Holds v) → is_full v ≡ true
               → has_hooks x.table (house h.call.site (of_place p)) ≡ true
               → Settles x (starts (called x h w ws (plain (L.Return (Some p))) rest) (plain (L.Return (Some p))) rest) rest (Returns v (suc (bytes v)))
           bits v there slot full hooks =
-              let many = (y.linked.0.built (house h.call.site (of_place p)) there.among there.own hooks).1 in
+              let many = (y.linked.0.built (house h.call.site (of_place p)) there.among hooks).1 in
               let item = y.hold.0.items (of_place p) v there slot in
               let origin = houses x.table x.blocks h.call.site (of_place p) y.linked.0 there in
               let inside = housed_inside x h.call.site.body (house h.call.site (of_place p)) origin item.plain many in
@@ -195,7 +195,7 @@ module _ (x : Basis) (h : Both) (rest : List BlockLine) where
               = subst (HandsBack x h w ws line rest y v)
               (sym (code_is ∙ ap₂ (λ c q. back_code c q k) (sym origin.word ∙ many) (spot_memory (house h.call.site (of_place p)) item.plain inside)))
               (hands_nothing x h w ws line rest y v k (many_single v (looked x.table h.call.site (of_place p)) many shaped)) in
-              finish v back (λ may. wanted_bits x h w ws line rest y v p item full many may place_is.0 back)
+              finish v back (λ may. wanted_bits x h w ws line rest y refl v p item full many may place_is.0 back)
 
           by : (v : Value) → IsThere h.call.site (of_place p) → slot_at h.world h.call.site.level p ≡ Some (Holds v) → is_full v ≡ true
               → (has_hooks x.table (house h.call.site (of_place p)) ≡ true) ⊎ (has_hooks x.table (house h.call.site (of_place p)) ≡ false)

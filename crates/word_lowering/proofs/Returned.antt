@@ -97,9 +97,10 @@ module _ (x : Basis) (h : Both) (w : Waits) (ws : List Waits) (line : BlockLine)
     worlds_down lo e = record {
       slots = λ s n i there away. slot_down h.world h.call.site.level s.level n (below s i);
       more = λ s n i there k. (k.0, slot_down h.world h.call.site.level s.level n (below s i) ∙ k.1);
-      roots = λ s n i there k. ap (through_slot (Standing s.level n)) (slot_down h.world h.call.site.level s.level n (below s i));
+      roots = λ s n i there k steady. ap (through_slot (Standing s.level n)) (slot_down h.world h.call.site.level s.level n (below s i));
       waits = λ s node i away. ap (λ f. temporary_in (frame_in f).temporaries node) (get_take h.call.site.level h.world.frames s.level (below s i));
       once = λ s i k. subst (λ f. AreOnce (frame_in f).temporaries) (sym (get_take h.call.site.level h.world.frames s.level (below s i))) k;
+      hand = refl;
     }
 
     -- the caller goes on
@@ -142,6 +143,8 @@ module _ (x : Basis) (h : Both) (w : Waits) (ws : List Waits) (line : BlockLine)
       stands = y.waits.0;
       waits = y.waits.1;
       answers = y.answers.1;
+      idle = y.idle;
+      fixed = y.fixed;
     }
 
     -- a call below the caller

@@ -9,18 +9,24 @@ use Rattle.flat_code.specs.declared.code.CodeProc.{CodeProc}
 use Rattle.flat_code.specs.declared.block.BlockLine.{BlockLine}
 use Rattle.flat_code.specs.declared.code.Code.{Code}
 use Rattle.word_code.specs.declared.word.TheConstants.{SPARE_ROOM}
-use Rattle.word_lowering.specs.declared.may_lower.TheConstants.{MOST_ROOM, MOST_DATA}
+use Rattle.word_lowering.specs.declared.may_lower.TheConstants.{MOST_ROOM, MOST_DATA, MOST_WAITERS}
 use Rattle.word_lowering.specs.declared.handed.TheConstants.{LEFT_HANDLE_AT}
 use Rattle.word_lowering.specs.Texts.{missing, padded, fixed_texts, all_names, joined_all, ends_from, laid_texts, data_in}
-use Rattle.word_lowering.specs.Lowered.{all_layouts, globals_end, data_of, lowered}
+use Rattle.word_lowering.specs.Lowered.{all_layouts, globals_end, data_of, lowered, start_layout}
 use Rattle.word_lowering.specs.MayLower.{procs_may, defs_may, labels_may, may_lower}
 use Rattle.word_code.specs.declared.word.WordProc.{WordProc}
 use Rattle.word_lowering.specs.Runtimes.{Runtimes, with_runtimes}
+use Rattle.nim_types.specs.declared.types.TheConstants.{LIST_BYTES}
+use Rattle.word_lowering.specs.declared.lowering.TheConstants.{MOST_CHAIN}
+use Rattle.word_lowering.proofs.HookProcs.{HookLaws}
 use Rattle.word_lowering.proofs.NamedProcs.{start_found}
+use Rattle.word_lowering.proofs.NamedProcs.{last_waits}
 use Rattle.word_lowering.proofs.SmallProcs.{own_small}
 use Rattle.word_lowering.proofs.Padding.{zeros_length}
 use Rattle.word_lowering.proofs.Sites.{Site, next_base, data_end, Linked}
 use Rattle.word_code.specs.Words.{from_proc, first_of}
+use Rattle.word_lowering.specs.declared.texts.TheConstants.{FIXED_BYTES}
+use Rattle.word_lowering.specs.LineCode.{no_layout}
 
 -- ---- places
 
@@ -38,8 +44,8 @@ module _ (table : List TypeDef) (blocks : Code BlockLine) where
       let most = y.0.room_most in
       omega (arith, h, base, most)
 
-  -- they are within the machine's stack, with room for the arguments of one call more
-  pub sites_within : (sites : List Site) → Linked table blocks sites → next_base sites + SPARE_ROOM ≤ stack_at + 268435456
+  -- they are within the machine's stack, with room for the arguments of one call more, and for a chain of hooks
+  pub sites_within : (sites : List Site) → Linked table blocks sites → next_base sites + SPARE_ROOM + LIST_BYTES * MOST_CHAIN ≤ stack_at + 268435456
   sites_within sites y =
       let h = linked_ends sites y in
       let n = linked_count sites y in
@@ -88,8 +94,14 @@ module _ (table : List TypeDef) (blocks : Code BlockLine) (may : may_lower table
   pub enums_may : defs_may table ≡ true
   enums_may = (and_parts (defs_may table) (labels_may blocks.procs) (and_parts few (defs_may table && labels_may blocks.procs) others_may).1).0
 
+  -- not many values wait in the start code
+  pub start_waits : length (start_layout table blocks.procs).waiters ≤ MOST_WAITERS
+  start_waits =
+      last_waits table FIXED_BYTES no_layout blocks.procs (omega arith)
+      (and_parts (procs_may table (all_layouts table blocks.procs) blocks.procs) (few && (defs_may table && labels_may blocks.procs)) may).0
+
 -- the start code's places
-pub start_most : (table : List TypeDef) (blocks : Code BlockLine) → may_lower table blocks ≡ true
+pub start_most : (laws : HookLaws) (table : List TypeDef) (blocks : Code BlockLine) → may_lower table blocks ≡ true
     → (r : Runtimes) → (first_of (from_proc 0 (with_runtimes r (lowered table blocks)).procs)).room ≤ MOST_ROOM
-start_most table blocks may r =
-    subst (λ (p : WordProc). p.room ≤ MOST_ROOM) (sym (ap first_of (start_found table blocks may r))) (own_small table blocks may).0.room
+start_most laws table blocks may r =
+    subst (λ (p : WordProc). p.room ≤ MOST_ROOM) (sym (ap first_of (start_found laws table blocks may r))) (own_small table blocks may).0.room

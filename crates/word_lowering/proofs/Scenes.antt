@@ -1,6 +1,6 @@
 -- What block code and word code have in common while they run: each value is where its place is, and each location has the address to
 -- which it leads.
-use Rattle.std.proofs.Common.{◌≡◌, ◌⊎◌, inl, inr, subst, ℕ, ◌+◌, ◌<◌, ◌^◌, List, [], ◌∷◌, ◌++◌, length, map, Option, Some, None, Bool, true, false}
+use Rattle.std.proofs.Common.{◌≡◌, ◌⊎◌, inl, inr, sym, subst, ◌∙◌, ℕ, ◌+◌, ◌<◌, ◌^◌, List, [], ◌∷◌, ◌++◌, length, map, Option, Some, None, Bool, true, false}
 use Rattle.std.specs.Set.{is_member}
 use Rattle.nim_types.specs.Types.{same_text}
 use Rattle.nim_types.specs.declared.types.TypeDef.{TypeDef}
@@ -30,7 +30,7 @@ use Rattle.flat_code.specs.Codes.{block_plain}
 use Rattle.flat_code.specs.Lines.{level_at}
 use Rattle.flat_code.specs.Pieces.{value_of, are_one, standing_bytes}
 use Rattle.flat_code.specs.Sizes.{lines_texts, code_texts}
-use Rattle.word_lowering.specs.Aliases.{texts_of}
+use Rattle.word_lowering.specs.Aliases.{is_among, standing, texts_of}
 use Rattle.word_lowering.specs.Layouts.{found, holds_address, owns}
 use Rattle.word_lowering.specs.WaitingCode.{waiter_at, waiter_house}
 use Rattle.word_lowering.specs.Spots.{spot_of}
@@ -40,8 +40,8 @@ use Rattle.word_lowering.specs.LineCode.{variable_of}
 use Rattle.word_lowering.proofs.InMemory.{IsAt}
 use Rattle.word_lowering.proofs.Blocks.{Blocks, AreLater, Stored}
 use Rattle.word_lowering.proofs.BlockPaths.{LeadsInBlock}
-use Rattle.word_lowering.proofs.ShapeFacts.{of_numbers, shape_bytes}
-use Rattle.word_lowering.proofs.ShapePaths.{PathTo}
+use Rattle.word_lowering.proofs.ShapeFacts.{never, of_numbers, shape_bytes}
+use Rattle.word_lowering.proofs.ShapePaths.{PathTo, path_numbers}
 use Rattle.word_lowering.proofs.Temporaries.{AreOnce}
 use Rattle.word_lowering.proofs.Sites.{Body, type_of, data_end, lines_of, Site, AmongSites, Among, looks, There, InMemory}
 
@@ -199,14 +199,19 @@ pub record IsLiteral (b : Body) (behind bytes : ℕ) (x : Value) : Type 0 where
   pub at : length before ≡ behind
   pub among : is_member same_text (lines_texts (lines_of b)) text ≡ true
 
+-- a place leads to the same location while its call is active: it has a value of its own, or no line gives it a location
+abbrev pub IsSteady : Site → ℕ → Type 0
+IsSteady s n = (owns (house s (of_place n)) ≡ true) ⊎ (is_among n (standing (lines_of s.body)) ≡ false)
+
 -- in a block
 abbrev pub IsInBlock : Base → Type 0
 IsInBlock (InBlock block) = Unit {0}
 IsInBlock base = ⊥
 
--- in a place or a block, and in no value or constant
+-- in a place, in what waits or in a block, and in no value or constant
 abbrev pub IsOwned : Base → Type 0
 IsOwned (Standing level number) = Unit {0}
+IsOwned (Waiting level node) = Unit {0}
 IsOwned (InBlock block) = Unit {0}
 IsOwned base = ⊥
 
@@ -224,6 +229,10 @@ pub record FromBlock (ground : Ground) (location : Location) (a : ℕ) (t : Shap
 module _ (table : List TypeDef) where
   abbrev pub looked : Site → Name → Shape
   looked s name = looks table (house s name)
+
+  -- the value of a temporary is never handed over: it is made of numbers, or a literal
+  abbrev pub IsLasting : Site → (temp : ℕ) → Type 0
+  IsLasting s t = IsThere s (of_value t) → of_numbers (looked s (of_value t)) ≡ true
 
   -- a value looks as its place says, and is there
   pub record IsItem (k : Store) (c : Call) (name : Name) (x : Value) : Type 0 where
@@ -253,10 +262,6 @@ module _ (table : List TypeDef) where
     pub path : PathTo (looked site (of_place number)) location.path offset t
     pub address : a ≡ address_of site.base (house site (of_place number)).home + offset
 
-  -- or of one in a block: of a part of something that is owned
-  abbrev pub FromOwned : (sites : List Site) → Ground → World → Location → (a : ℕ) → Shape → Type 0
-  FromOwned sites ground w location a t = FromPlace sites w location a t ⊎ FromBlock ground location a t
-
   -- or of a part of what waits at a node of one of these calls, if anything does
   pub record FromWaiting (sites : List Site) (location : Location) (a : ℕ) (t : Shape) : Type 0 where
     pub site : Site
@@ -268,6 +273,16 @@ module _ (table : List TypeDef) where
     pub path : PathTo (looked site (of_waiting node)) location.path offset t
     pub address : a ≡ address_of site.base (house site (of_waiting node)).home + offset
 
+  -- where something does
+  pub record FromWaits (sites : List Site) (w : World) (location : Location) (a : ℕ) (t : Shape) : Type 0 where
+    pub from : FromWaiting sites location a t
+    pub value : Value
+    pub has : temporary_at w from.site.level from.node ≡ Some (Holds value)
+
+  -- of a part of something that is owned
+  abbrev pub FromOwned : (sites : List Site) → Ground → World → Location → (a : ℕ) → Shape → Type 0
+  FromOwned sites ground w location a t = FromPlace sites w location a t ⊎ (FromBlock ground location a t ⊎ FromWaits sites w location a t)
+
   -- the same of a part of a temporary's value
   pub record FromValue (s : Site) (temps : Temps) (temp : ℕ) (path : List ℕ) (a : ℕ) (t : Shape) : Type 0 where
     pub there : IsThere s (of_value temp)
@@ -275,6 +290,7 @@ module _ (table : List TypeDef) where
     pub offset : ℕ
     pub leads : PathTo (looked s (of_value temp)) path offset t
     pub address : a ≡ address_of s.base (house s (of_value temp)).home + offset
+    pub lasting : IsLasting s temp
     pub value : Value
     pub has : temps.values temp ≡ Some value
 
@@ -286,12 +302,14 @@ module _ (table : List TypeDef) where
     pub among : AmongSites site sites
     pub level : site.level ≡ level_at global c.site.level
     pub is_there : IsThere site (of_place place)
+    pub steady : IsSteady site place
     pub filled : Filled w site.level place
     pub is : there ≡ Located (root_of (Standing site.level place) w)
 
   -- another name for a value
   pub record IsInValue (c : Call) (t : ℕ) (there : Where) : Type 0 where
     pub is : there ≡ Within t []
+    pub lasting : IsLasting c.site t
     pub value : Value
     pub has : c.temps.values t ≡ Some value
 
@@ -329,27 +347,30 @@ module _ (table : List TypeDef) where
     Leads sites ground w s temps (Located location) a t = LeadsHere sites ground w location a t
     Leads sites ground w s temps (Within temp path) a t = FromValue s temps temp path a t
 
-    pub of_owned : {sites : List Site} {ground : Ground} {w : World} {location : Location} {a : ℕ} {t : Shape} → IsOwned location.base
-        → LeadsHere sites ground w location a t → FromOwned sites ground w location a t
-    of_owned is (inl f) = inl f
-    of_owned is (inr (inl f)) = absurd (subst IsOwned f.base is)
-    of_owned is (inr (inr (inl f))) = inr f
-    of_owned is (inr (inr (inr f))) = absurd (subst IsOwned f.base is)
+    -- what isn't made of numbers is no part of a constant
+    pub is_owned : (sites : List Site) (ground : Ground) (w : World) (location : Location) (a : ℕ) (t : Shape) → of_numbers t ≡ false
+        → LeadsHere sites ground w location a t → IsOwned location.base
+    is_owned sites ground w location a t blocks_in (inl f) = subst IsOwned (sym f.base) tt
+    is_owned sites ground w location a t blocks_in (inr (inl f)) =
+        never (sym blocks_in ∙ path_numbers f.shape location.path f.offset t f.numbers f.path)
+    is_owned sites ground w location a t blocks_in (inr (inr (inl f))) = subst IsOwned (sym f.base) tt
+    is_owned sites ground w location a t blocks_in (inr (inr (inr f))) = subst IsOwned (sym f.base) tt
 
     pub owned_leads : {sites : List Site} {ground : Ground} {w : World} {location : Location} {a : ℕ} {t : Shape} → FromOwned sites ground w location a t
         → LeadsHere sites ground w location a t
     owned_leads (inl f) = inl f
-    owned_leads (inr f) = inr (inr (inl f))
+    owned_leads (inr (inl f)) = inr (inr (inl f))
+    owned_leads (inr (inr f)) = inr (inr (inr f.from))
 
     -- ---- places
 
-    -- a filled place: it has a value of its own, or stands for a location, of something that is owned where it isn't lent
+    -- a filled place: it has a value of its own, or stands for a location, of something that is owned
     pub record StandsFor (sites : List Site) (ground : Ground) (w : World) (c : Call) (n : ℕ) : Type 0 where
       pub location : Location
       pub slot : slot_at w c.site.level n ≡ Some (Stands location)
       pub address : ℕ
       pub holds : c.vars (variable_of (house c.site (of_place n))) ≡ Some address
-      pub owned : (house c.site (of_place n)).lent ≡ false → IsOwned location.base
+      pub owned : IsOwned location.base
       pub leads : LeadsHere sites ground w location address (looked c.site (of_place n))
 
     pub record IsFilled (sites : List Site) (ground : Ground) (w : World) (c : Call) (n : ℕ) : Type 0 where

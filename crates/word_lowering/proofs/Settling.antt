@@ -23,7 +23,8 @@ use Rattle.word_lowering.specs.Operations.{word, trap_label}
 use Rattle.word_lowering.specs.LineCode.{variable_of, own_label, label_before, line_code}
 use Rattle.word_lowering.specs.Lowered.{any_branches}
 use Rattle.word_lowering.proofs.Gets.{SameTemps, good_with_temps, same_temps}
-use Rattle.word_lowering.proofs.Lines.{Basis, Follows, FollowsFrom, IsGood, IsSpending, Settles, good_units, spends_settles, all_procs, goes_on}
+use Rattle.word_lowering.proofs.Lines.{Basis, Follows, FollowsFrom, IsGood, IsSpending, Settles, good_units, spends_settles, all_procs, goes_on, IsQuiet}
+use Rattle.word_lowering.proofs.Lines.{none_past}
 use Rattle.word_lowering.proofs.Lines.{stands_next, stays_on, changed, lower, starts}
 use Rattle.word_lowering.proofs.Moves.{all_same, same_more}
 use Rattle.word_lowering.proofs.OperationRuns.{Given, Led}
@@ -157,12 +158,12 @@ module _ (x : Basis) where
     -- ---- labels
 
     -- on at a label, wherever it was looked for
-    pub lands_settles : LabelsLead → (temps : Temps) → SameTemps x g line rest y temps → (name : ℕ) (o : Option (List BlockLine))
+    pub lands_settles : LabelsLead → IsQuiet x line → (temps : Temps) → SameTemps x g line rest y temps → (name : ℕ) (o : Option (List BlockLine))
         → ((after : List BlockLine) → o ≡ Some after → line_from block_label name (body_of g).proc.lines ≡ Some after)
         → ((there : List WordInstr) → from_label (own_label name) (word_of x.table x.blocks (body_of g)).lines ≡ Some there → Comes there)
         → Follows x (starts g line rest) (jumped (high x.table x.blocks (starts g line rest)) temps 1 o)
-    lands_settles labels temps same name None first comes = λ before. tt
-    lands_settles labels temps same name (Some after) first comes =
+    lands_settles labels plain temps same name None first comes = λ before. tt
+    lands_settles labels plain temps same name (Some after) first comes =
         let l = labels g line rest after name y (first after refl) in
         let led = comes (code_behind x.table x.blocks (body_of g) after) l.0 in
         let good = good_with_temps x g line rest y after temps same led.leads.vars g.words g.awaits led.leads.same l.1 in
@@ -170,27 +171,32 @@ module _ (x : Basis) where
           (r.0, low x.table x.blocks (changed g after temps led.leads.vars g.memory g.words g.awaits g.world)),
           led.steps,
           record { work = r.1.work; within = omega (arith, r.1.within, led.few); by = r.1.by },
-          (inl (changed g after temps led.leads.vars g.memory g.words g.awaits g.world, good, r.0), refl, refl),
+          (
+            inl (changed g after temps led.leads.vars g.memory g.words g.awaits g.world, good, r.0),
+            ap (λ (u : WordState). (r.0, u)) (none_past x line rest plain (changed g after temps led.leads.vars g.memory g.words g.awaits g.world)),
+            refl,
+            λ waits. refl,
+          ),
           inl led.some,
         )
 
-    pub leaps_settles : LabelsLead → (name : ℕ)
+    pub leaps_settles : LabelsLead → IsQuiet x line → (name : ℕ)
         → ((there : List WordInstr) → from_label (own_label name) (word_of x.table x.blocks (body_of g)).lines ≡ Some there → Comes there)
         → Settles x (starts g line rest) rest (Leaps name 1)
-    leaps_settles labels name comes =
-        lands_settles labels g.call.temps (same_temps x g line rest y) name (line_from block_label name rest)
+    leaps_settles labels plain name comes =
+        lands_settles labels plain g.call.temps (same_temps x g line rest y) name (line_from block_label name rest)
         (λ after e. y.linked.0.once name (y.stands.before ++ line ∷ []) rest after
         (y.stands.whole ∙ sym (append_assoc y.stands.before (line ∷ []) rest)) e) comes
 
     -- the same from a state before, behind other lines that change variables for what comes between alone
-    lands_from : LabelsLead → (t : WordState) (k : List WordInstr) (vars : Vars) (n : ℕ) → n ≤ 8 → AllSame g.call.vars vars
+    lands_from : LabelsLead → IsQuiet x line → (t : WordState) (k : List WordInstr) (vars : Vars) (n : ℕ) → n ≤ 8 → AllSame g.call.vars vars
         → Runs x.live (all_procs x) n t (at (within x.table x.blocks g) g.memory k vars g.words) → (name : ℕ) (o : Option (List BlockLine))
         → ((after : List BlockLine) → o ≡ Some after → line_from block_label name (body_of g).proc.lines ≡ Some after)
         → ((there : List WordInstr) → from_label (own_label name) (word_of x.table x.blocks (body_of g)).lines ≡ Some there
         → Leads x.live (all_procs x) (within x.table x.blocks g) g.memory g.words k vars there 1)
         → FollowsFrom x t (starts g line rest) (jumped (high x.table x.blocks (starts g line rest)) g.call.temps 1 o)
-    lands_from labels t k vars n few same runs name None first comes = λ before. tt
-    lands_from labels t k vars n few same runs name (Some after) first comes =
+    lands_from labels plain t k vars n few same runs name None first comes = λ before. tt
+    lands_from labels plain t k vars n few same runs name (Some after) first comes =
         let l = labels g line rest after name y (first after refl) in
         let led = comes (code_behind x.table x.blocks (body_of g) after) l.0 in
         let good = good_with_temps x g line rest y after g.call.temps (same_temps x g line rest y) led.vars g.words g.awaits
@@ -199,19 +205,25 @@ module _ (x : Basis) where
           (r.0, low x.table x.blocks (changed g after g.call.temps led.vars g.memory g.words g.awaits g.world)),
           n + 1,
           record { work = r.1.work; within = omega (arith, r.1.within, few); by = r.1.by },
-          (inl (changed g after g.call.temps led.vars g.memory g.words g.awaits g.world, good, r.0), refl, refl),
+          (
+            inl (changed g after g.call.temps led.vars g.memory g.words g.awaits g.world, good, r.0),
+            ap (λ (u : WordState). (r.0, u)) (none_past x line rest plain (changed g after g.call.temps led.vars g.memory g.words g.awaits g.world)),
+            refl,
+            λ waits. refl,
+          ),
           inl (omega arith),
         )
 
   -- a unit is spent, and then control goes on at a label
-  pub turns_settles : (g : Both) (line : BlockLine) (rest : List BlockLine) → IsGood x (starts g line rest) → LabelsLead → (name : ℕ)
+  pub turns_settles : (g : Both) (line : BlockLine) (rest : List BlockLine) → IsGood x (starts g line rest) → LabelsLead
+      → IsQuiet x line → (name : ℕ)
       (spend : WordInstr) (k : List WordInstr) (vars : Vars) → IsSpending x g spend k vars g.words → (n : ℕ) → n ≤ 7 → AllSame g.call.vars vars
       → Runs x.live (all_procs x) n (low x.table x.blocks (starts g line rest)) (at (within x.table x.blocks g) g.memory (spend ∷ k) vars g.words)
       → ((units : Option ℕ) (there : List WordInstr) → from_label (own_label name) (word_of x.table x.blocks (body_of g)).lines ≡ Some there
       → Leads x.live (all_procs x) (within x.table x.blocks (with_units g units)) g.memory g.words k vars there 1)
       → Settles x (starts g line rest) rest (Turns g.call.temps name)
-  turns_settles g line rest y labels name spend k vars is n few same runs comes =
+  turns_settles g line rest y labels plain name spend k vars is n few same runs comes =
       spends_settles x (starts g line rest) rest (Turns g.call.temps name) refl spend k vars g.words is n (omega (arith, few)) runs
       (λ units runs.
-      lands_from (with_units g units) line rest (good_units x (starts g line rest) units y) labels (low x.table x.blocks (starts g line rest)) k vars
+      lands_from (with_units g units) line rest (good_units x (starts g line rest) units y) labels plain (low x.table x.blocks (starts g line rest)) k vars
       (n + 1) (omega (arith, few)) same runs name (line_from block_label name (body_of g).proc.lines) (λ after e. e) (comes units))

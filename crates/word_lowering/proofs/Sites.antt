@@ -38,12 +38,13 @@ use Rattle.word_lowering.specs.declared.homes.Waiter.{Waiter}
 use Rattle.word_lowering.specs.declared.texts.TheConstants.{FIXED_BYTES}
 use Rattle.word_lowering.specs.declared.may_lower.TheConstants.{MOST_ROOM}
 use Rattle.word_lowering.specs.OwnedCode.{has_handle}
-use Rattle.word_lowering.specs.Stored.{entry_at, count_in, element_bytes, part_at, is_hooked}
+use Rattle.word_lowering.specs.Stored.{entry_at, count_in, element_bytes, is_word, part_at, is_hooked}
+use Rattle.word_lowering.specs.Aliases as aliases
 use Rattle.word_lowering.specs.Aliases.{texts_of, is_among, addressed, alias_for}
-use Rattle.word_lowering.specs.Layouts.{result_in, is_empty, found, holds_address, owns}
-use Rattle.word_lowering.specs.MayLower.{lines_may}
+use Rattle.word_lowering.specs.Layouts.{result_in, is_empty, found, holds_address, owns, word_by}
+use Rattle.word_lowering.specs.MayLower.{is_known, lines_may}
 use Rattle.word_lowering.specs.Texts.{names_at, texts_at, texts_in}
-use Rattle.word_lowering.specs.LineCode.{Around}
+use Rattle.word_lowering.specs.LineCode.{Around, labels_in}
 use Rattle.word_lowering.specs.WaitingCode.{waiter_at, waiting_house}
 use Rattle.word_lowering.specs.Lowered.{all_layouts, start_layout, globals_end, word_proc}
 use Rattle.word_lowering.proofs.ShapeFacts.{nth_shape, shape_bytes, of_numbers}
@@ -52,6 +53,7 @@ use Rattle.word_lowering.proofs.HomesApart.{AllApart}
 use Rattle.word_lowering.proofs.Waiters.{AreApart}
 use Rattle.word_code.specs.declared.word.TheConstants.{SPARE_ROOM}
 use Rattle.word_lowering.proofs.BlankShapes.{of_handles}
+use Rattle.flat_code.specs.Waits.{all_wait_right, waiting_as, waits_in}
 
 -- ---- procedures
 
@@ -195,6 +197,14 @@ module _ (table : List TypeDef) (blocks : Code BlockLine) where
         → IsTakenBefore h.home h.bytes w
     pub apart : (n m : ℕ) (w u : Waiter) → n ≢ m → waiter_at n b.own.waiters ≡ Some w → waiter_at m b.own.waiters ≡ Some u → AreApart w u
 
+  -- a home for what waits at a node has as many bytes as that of the temporary
+  pub record IsKeptAt (b : Body) (h : Housed) (node : ℕ) : Type 0 where
+    pub waiter : Waiter
+    pub is : waiter_at node b.own.waiters ≡ Some waiter
+    pub type_is : waiter.ty ≡ h.ty
+    pub bytes : waiter.bytes ≡ h.bytes
+    pub kind : h.kind ≡ K.Temp
+
   -- a global is a place of the start code, in the data
   pub record IsGlobal (b : Body) (n : ℕ) (ty : Ty) : Type 0 where
     pub same : found is_global n (start_layout table blocks.procs).all ≡ found is_declared n b.own.all
@@ -254,6 +264,9 @@ module _ (table : List TypeDef) (blocks : Code BlockLine) where
     pub valued : (t u : ℕ) → There b.own.all is_location t → (found is_location t b.own.all).alias ≡ alias.Value u
         → (if_type_of (known_in table) (place_named is_value b.proc.places u) ≡ Some (type_of table (found is_location t b.own.all)))
         × (is_standing (found is_location t b.own.all).kind ≡ false)
+    -- what a location is another name for has no hooks where that is a value
+    pub entered : (t u : ℕ) → There b.own.all is_location t → (found is_location t b.own.all).alias ≡ alias.Value u
+        → is_hooked table (found is_value u b.own.all).ty ≡ false
     -- a location that may be written is of that kind
     pub standing : (n : ℕ) → if_kind is_standing (place_named is_location b.proc.places n) ≡ true
         → is_standing (found is_location n b.own.all).kind ≡ true
@@ -268,20 +281,28 @@ module _ (table : List TypeDef) (blocks : Code BlockLine) where
         → owns (found is_declared n b.own.all) ≡ true → InMemory (found is_declared n b.own.all).home
     pub global : b.start ≡ true → (n : ℕ) (ty : Ty) → if_type_of (known_in table) (place_named is_global globals_of n) ≡ Some ty → IsGlobal b n ty
     pub fits : all_fit (known_in table) sigs globals_of b.proc.places (lines_of b) ≡ true
-    pub may : lines_may table b.own.all (lines_of b) ≡ true
-    -- yet nothing that has a home has hooks
-    pub plain : (h : Housed) → Among h b.own.all → h.alias ≡ alias.Own → has_hooks table h ≡ false
-    pub plain_led : (t : ℕ) → There b.own.all is_location t → has_hooks table (found is_location t b.own.all) ≡ false
-    -- what has hooks and a home has neither refs nor objects with hooks of their own, and is no word
-    pub built : (h : Housed) → Among h b.own.all → h.alias ≡ alias.Own → has_hooks table h ≡ true
+    pub may : lines_may table b.own.all (aliases.standing (lines_of b)) (lines_of b) ≡ true
+    -- their types are known: nothing has refs or objects with hooks of their own, and what has hooks is no word
+    pub known : (h : Housed) → Among h b.own.all → is_known table h.ty h.kind ≡ true
+    pub handles : (h : Housed) → Among h b.own.all → of_handles (looks table h) ≡ true
+    pub words : (h : Housed) → Among h b.own.all → is_one_word (looks table h) ≡ word_by h.kind (is_word (entry_at table h.ty))
+    pub built : (h : Housed) → Among h b.own.all → has_hooks table h ≡ true
         → (of_handles (looks table h) ≡ true) × (is_one_word (looks table h) ≡ false)
     -- each label comes once: the one that stands behind is the first one
     pub once : (name : ℕ) (before after found_there : List BlockLine) → b.proc.lines ≡ before ++ after
         → line_from block_label name after ≡ Some found_there → line_from block_label name b.proc.lines ≡ Some found_there
+    -- a number of 32 bits counts its labels, of which each operand has one
+    pub labels : labels_in (lines_of b) ≤ 4294967295
     pub result : ResultIs b.own.all (result_at (known_in table) b.proc.places) (result_in b.own.all)
-    -- nothing waits yet
-    pub waiters : b.own.waiters ≡ []
     pub waiting : AreWaiters b
+    -- lines say rightly what waits, and a temporary whose value waits at a node has a home there
+    pub rightly : all_wait_right block_plain (known_in table) b.proc.places b.proc.lines ≡ true
+    pub kept_at : (t node : ℕ) → waits_in (known_in table) b.proc.places t node ≡ true → There b.own.all is_value t
+        → (found is_value t b.own.all).alias ≡ alias.Own → is_hooked table (found is_value t b.own.all).ty ≡ true
+        → IsKeptAt b (found is_value t b.own.all) node
+    -- what waits at a node is of the type of which a line says so
+    pub typed_at : (node : ℕ) (ty : Ty) (w : Waiter) → waiting_as (known_in table) b.proc.places node ty ≡ true → waiter_at node b.own.waiters ≡ Some w
+        → (type_at (types_in table) w.ty ≡ ty) × (is_known table w.ty K.Temp ≡ true)
     pub room_whole : room b % 4 ≡ 0
     pub room_most : room b ≤ MOST_ROOM
     -- a result stands within the room for arguments

@@ -97,10 +97,10 @@ module _ (x : Basis) (labels : LabelsLead x) (g : Both) (rest : List BlockLine) 
       let own_ty : Ty = type_at (known x).types ty in
       let may : Bool = if_kind is_standing (place_named is_location (body_of g).proc.places to) in
       let shaped : Bool = has_shape (value_of pieces) (shape_of (facts_in x.table) own_ty) in
-      let f = and_parts (are_one pieces 0 && shaped) (is_of (type_in x is_location (body_of g) to) (Some own_ty) && not may)
+      let f = and_parts (are_one pieces 0 && shaped) _
       (fits_here x.table x.blocks (body_of g) standing_here rest y.stands) in
       let c = and_parts (are_one pieces 0) shaped f.0 in
-      let p = and_parts (is_of (type_in x is_location (body_of g) to) (Some own_ty)) (not may) f.1 in
+      let p = and_parts (is_of (type_in x is_location (body_of g) to) (Some own_ty)) _ f.1 in
       let v = are_of (type_in x is_location (body_of g) to) (Some own_ty) p.0 in
       let q = pointed x g standing_here rest y to v.ty v.is in
       let look : shape_of (facts_in x.table) own_ty ≡ looked x.table g.call.site (of_location to)
@@ -125,4 +125,4 @@ module _ (x : Basis) (labels : LabelsLead x) (g : Both) (rest : List BlockLine) 
       } in
       let near = constant_near x (root_of (Made (value_of pieces)) g.world) address (looked x.table g.call.site (of_location to)) from in
       leads_settles x g standing_here rest y to there address 1 (omega arith) there_to
-      (λ st. both_not may p.1 (y.linked.0.may_be_standing to st)) (inr (inl from)) (comes y there_to (omega (arith, near)))
+      (λ st. both_not may (and_parts (not may) _ p.1).0 (y.linked.0.may_be_standing to st)) (inr (inl from)) (comes y there_to (omega (arith, near)))

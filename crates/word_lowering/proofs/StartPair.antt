@@ -22,19 +22,20 @@ use Rattle.flat_code.specs.Fits.{or_result, result_at, and_result, results_at}
 use Rattle.flat_code.specs.Running.{Proc, frame_of}
 use Rattle.word_code.specs.declared.word.WordProc.{WordProc}
 use Rattle.word_code.specs.Memory.{Memory}
-use Rattle.word_code.specs.Words.{no_words, step}
-use Rattle.word_code.proofs.ForCallers.{Runs, at, none}
+use Rattle.word_code.specs.Words.{no_words}
+use Rattle.word_code.proofs.ForCallers.{Runs, at}
 use Rattle.word_lowering.specs.Layouts.{result_in}
 use Rattle.word_lowering.specs.Lowered.{result_cleared}
-use Rattle.word_lowering.specs.WaitingCode.{none_code, waiter_at}
+use Rattle.word_lowering.specs.WaitingCode.{none_code}
 use Rattle.word_lowering.proofs.LabelsHere.{code_is}
 use Rattle.word_lowering.proofs.Sites.{Body, Site, lines_of, around, word_of, IsBody}
 use Rattle.word_lowering.proofs.Scenes.{is_fixed, Name, of_value, of_location, of_place, HasValue, Filled, of_waiting}
 use Rattle.word_lowering.proofs.Options.{none_some}
-use Rattle.word_lowering.proofs.Related.{Both, code_behind, within, low, MemoryGood, Good}
+use Rattle.word_lowering.proofs.Related.{Both, code_behind, within, low, MemoryGood, Good, is_text_of_data}
 use Rattle.nim_meaning.specs.Heap.{heap_of}
 use Rattle.word_lowering.proofs.Blocks.{Bytes, HasHeap}
 use Rattle.word_lowering.proofs.Waiting.{none_says}
+use Rattle.word_lowering.proofs.WaitingRuns.{none_runs, zeroed, zeroed_is}
 
 -- ---- both states
 
@@ -93,12 +94,12 @@ module _ (table : List TypeDef) (blocks : Code BlockLine) (b : Body) (is : IsBod
     memory = first;
     input = input;
     world = world_of (frame_of as_proc [] ∷ []) heap input;
-    call = record { site = site; temps = no_temps; vars = no_words };
+    call = record { site = site; temps = no_temps; vars = zeroed b.own.waiters no_words };
     rest = b.proc.lines;
     words = no_words;
     awaits = 0;
     waiting = [];
-    ground = record { blocks = record { born = 0; inside = λ k. Bytes; stands = λ k. None }; fixed = λ place text. false };
+    ground = record { blocks = record { born = 0; inside = λ k. Bytes; stands = λ k. None }; fixed = is_text_of_data table blocks first };
   }
 
   module _ (memory : MemoryGood table blocks (site ∷ []) first first)
@@ -125,8 +126,8 @@ module _ (table : List TypeDef) (blocks : Code BlockLine) (b : Body) (is : IsBod
           led = λ t there i e. absurd (none_some there e);
           filled = λ n i h. absurd (no_slot n h);
           left = λ h. absurd (true≢false (sym start ∙ h));
-          waits = λ node. none_says node b.own.waiters None stack_at no_words refl
-              (λ w e. absurd (none_some w (sym (ap (waiter_at node) is.waiters) ∙ e)));
+          waits = λ node. none_says node b.own.waiters None stack_at (zeroed b.own.waiters no_words) refl
+              (zeroed_is b.own.waiters no_words node);
           once = tt;
         },
         tt,
@@ -144,18 +145,20 @@ module _ (table : List TypeDef) (blocks : Code BlockLine) (b : Body) (is : IsBod
       stands = record { before = []; whole = refl; fits = is.fits };
       waits = tt;
       answers = tt;
+      idle = refl;
+      fixed = refl;
     }
 
-    -- there is no line before the first one of block code
+    -- before the first line of block code nothing waits
     pub first_runs : (live : Lives) (all : List WordProc) → result_in b.own.all ≡ None
-        → Runs live all 0 (at (within table blocks first_pair) first (word_of table blocks b).lines no_words no_words)
+        → Runs live all (length b.own.waiters) (at (within table blocks first_pair) first (word_of table blocks b).lines no_words no_words)
         (low table blocks first_pair)
     first_runs live all result =
-        subst (λ l. Runs live all 0 (at (within table blocks first_pair) first l no_words no_words) (low table blocks first_pair))
-        (sym first_code) (none (step live all) (low table blocks first_pair))
+        subst (λ l. Runs live all (length b.own.waiters) (at (within table blocks first_pair) first l no_words no_words) (low table blocks first_pair))
+        (sym first_code)
+        (none_runs live all (within table blocks first_pair) first (code_behind table blocks b b.proc.lines) no_words b.own.waiters no_words)
       where
-        first_code : (word_of table blocks b).lines ≡ code_behind table blocks b b.proc.lines
+        first_code : (word_of table blocks b).lines ≡ none_code b.own.waiters (code_behind table blocks b b.proc.lines)
         first_code =
             code_is (around table blocks b) (lines_of b)
-            ∙ ap (λ r. result_cleared r (none_code b.own.waiters (code_behind table blocks b b.proc.lines))) result
-            ∙ ap (λ ws. none_code ws (code_behind table blocks b b.proc.lines)) is.waiters
+            ∙ ap (λ r. none_code b.own.waiters (result_cleared r (code_behind table blocks b b.proc.lines))) result

@@ -1,5 +1,5 @@
 -- The start of word code: it is at the first line of block code, and both states belong together there.
-use Rattle.std.proofs.Common.{Option, ◌≡◌, ℕ, List, [], ◌∷◌, ◌++◌, map, None, false, true, refl, sym, ap, subst, ◌+◌}
+use Rattle.std.proofs.Common.{Option, ◌≡◌, ℕ, List, [], ◌∷◌, ◌++◌, map, None, false, true, refl, sym, ap, subst, ◌+◌, length, ◌≤◌}
 use Rattle.std.proofs.Common.{◌∙◌}
 use Rattle.std.proofs.lemmas.Bool.{and_parts, false≢true}
 use Rattle.rv32_isa.specs.Machine.{Lives}
@@ -32,15 +32,19 @@ use Rattle.word_lowering.specs.MayLower.{may_lower}
 use Rattle.word_lowering.specs.Stored.{HaveForms}
 use Rattle.word_lowering.specs.Runtimes.{Runtimes, with_runtimes}
 use Rattle.word_lowering.proofs.Sites.{Body, globals_of, ResultIs, IsBody, Site, next_base, word_of}
-use Rattle.word_lowering.proofs.Related.{Both, low, high, MemoryGood, Good}
+use Rattle.word_lowering.proofs.Related.{Both, low, high, MemoryGood, Good, is_text_of_data}
 use Rattle.word_lowering.proofs.FirstMemory.{first_memory, start_room}
 use Rattle.word_lowering.proofs.Blocks.{Bytes, Blocks, HasHeap}
 use Rattle.word_lowering.proofs.JoinedRoutines.{joined_again}
+use Rattle.word_lowering.specs.LineCode.{all_labels}
+use Rattle.word_lowering.proofs.HookProcs.{HookLaws}
 use Rattle.word_lowering.proofs.NamedProcs.{start_found}
 use Rattle.word_lowering.proofs.Padding.{zeros_length}
 use Rattle.word_lowering.proofs.ProcCodes.{start_laid, start_places, start_is_body}
 use Rattle.word_lowering.proofs.StartPair.{no_results, first_pair, first_good, first_runs}
 use Rattle.rv32_isa.specs.Image.{stack_at}
+use Rattle.word_lowering.proofs.RoomBounds.{start_waits}
+use Rattle.word_lowering.specs.declared.may_lower.TheConstants.{MOST_WAITERS}
 
 none_behind : (xs ys : List ℕ) → are_none (xs ++ ys) ≡ true → ys ≡ []
 none_behind [] [] h = refl
@@ -71,12 +75,15 @@ module _ (table : List TypeDef) (blocks : Code BlockLine) (runtime : Runtimes) (
   pub record Begins (live : Lives) : Type 0 where
     pub both : Both
     pub good : Good table blocks first both
-    pub runs : Runs live code.procs 0 (record (word_start code heap stack input) { units = units }) (low table blocks both)
+    -- so many lines of word code come before those of block code
+    pub before : ℕ
+    pub few : before ≤ MOST_WAITERS
+    pub runs : Runs live code.procs before (record (word_start code heap stack input) { units = units }) (low table blocks both)
     pub units_are : both.units ≡ units
     pub same : high table blocks both ≡ at_first block_label (block_does (known_in table)) (procs_of (known_in table) blocks) heap input
 
-  module _ (is_table : IsTable table) (have : HaveForms table) (fits : IsFitting table blocks) (may : may_lower table blocks ≡ true)
-      (p : CodeProc BlockLine) (ps : List (CodeProc BlockLine)) (some : blocks.procs ≡ p ∷ ps)
+  module _ (laws : HookLaws) (is_table : IsTable table) (have : HaveForms table) (fits : IsFitting table blocks) (may : may_lower table blocks ≡ true)
+      (labels : all_labels blocks.procs ≤ 4294967295) (p : CodeProc BlockLine) (ps : List (CodeProc BlockLine)) (some : blocks.procs ≡ p ∷ ps)
       (memory : (sites : List Site) → next_base sites ≡ stack_at + start_room code → MemoryGood table blocks sites first first) where
     start_is : IsBody table blocks start_body
     start_is =
@@ -87,20 +94,20 @@ module _ (table : List TypeDef) (blocks : Code BlockLine) (runtime : Runtimes) (
           number = 0;
           proc = last_of no_proc blocks.procs;
         })) (sym (start_laid table blocks p ps some))
-        (start_is_body table blocks is_table have fits may p ps some 0)
+        (start_is_body table blocks is_table have fits may labels p ps some 0)
 
     no_result : (result_at (known_in table) start_body.proc.places ≡ None) × (slots_of (known_in table) start_body.proc.places ≡ [])
     no_result =
         no_results (known_in table) start_body.proc.places
         (ap results_at (sym (start_places table blocks p ps some))
-        ∙ none_behind (params_at (globals_of table blocks)) (results_at (globals_of table blocks)) (and_parts _ _ fits).0)
+        ∙ none_behind (params_at (globals_of table blocks)) (results_at (globals_of table blocks)) (and_parts _ _ fits.fits).0)
 
     no_place : result_in start_body.own.all ≡ None
     no_place = subst (λ o. ResultIs table blocks start_body.own.all o (result_in start_body.own.all)) no_result.0 start_is.result
 
     -- the start code is the first procedure
     start_proc : first_of (from_proc 0 code.procs) ≡ word_of table blocks start_body
-    start_proc = ap first_of (start_found table blocks may runtime)
+    start_proc = ap first_of (start_found laws table blocks may runtime)
 
     start_memory : MemoryGood table blocks (record { body = start_body; level = 0; base = stack_at; left = ACTIVE_CALLS } ∷ []) first first
     start_memory =
@@ -110,7 +117,7 @@ module _ (table : List TypeDef) (blocks : Code BlockLine) (runtime : Runtimes) (
     abbrev first_blocks : Blocks
     first_blocks = record { born = 0; inside = λ k. Bytes; stands = λ k. None }
 
-    start_heap : HasHeap (λ place text. false ≡ true) first_blocks (heap_of heap) first
+    start_heap : HasHeap (λ place text. is_text_of_data table blocks first place text ≡ true) first_blocks (heap_of heap) first
     unfolding word_start
     start_heap = record {
       kept = subst (λ (c : WordCode). IsHeap own_data_at (heap_of heap).classes none_stands (word_start c heap stack input).memory)
@@ -140,7 +147,10 @@ module _ (table : List TypeDef) (blocks : Code BlockLine) (runtime : Runtimes) (
           both = first_pair table blocks start_body start_is refl units heap input first;
           units_are = refl;
           good = first_good table blocks start_body start_is refl units heap input first start_memory start_heap no_result.1;
-          runs = subst (λ p. Runs live code.procs 0 (begun p) (low table blocks (first_pair table blocks start_body start_is refl units heap input first)))
+          before = length start_body.own.waiters;
+          few = start_waits table blocks may;
+          runs = subst (λ p. Runs live code.procs (length start_body.own.waiters) (begun p)
+              (low table blocks (first_pair table blocks start_body start_is refl units heap input first)))
               (sym start_proc)
               (first_runs table blocks start_body start_is refl units heap input first start_memory start_heap no_result.1 live code.procs no_place);
           same = ap (λ (q : Proc BlockLine). record {

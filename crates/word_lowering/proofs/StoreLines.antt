@@ -1,22 +1,26 @@
 -- Lines that put values to locations, and those that give nothing.
-use Rattle.std.proofs.Common.{◌≡◌, ℕ, ◌+◌, List, [], ◌∷◌, Option, Some, None, true, false, refl, sym, ap, subst, ◌∙◌, arith}
+use Rattle.std.proofs.Common.{◌≡◌, ℕ, ◌+◌, List, [], ◌∷◌, map, Option, Some, None, true, false, refl, sym, ap, subst, ◌∙◌, arith}
 use Rattle.std.proofs.lemmas.Bool.{and_parts}
 use Rattle.std.specs.Prelude.{option_map, ◌&&◌}
 use Rattle.nim_program.specs.declared.operation.Operation.TheVariants as O
 use Rattle.nim_meaning.specs.Values.{Value, bytes, nothing, At, Given, value_of, location_of, Location}
 use Rattle.nim_meaning.specs.State.{is_there}
-use Rattle.nim_meaning.specs.Places.{put, made_by}
+use Rattle.nim_meaning.specs.Places.{kept_if, may_change, put}
 use Rattle.flat_code.specs.declared.block.BlockLine.{BlockLine}
 use Rattle.flat_code.specs.declared.line.From.{From}
 use Rattle.flat_code.specs.declared.line.From.TheVariants as F
 use Rattle.flat_code.specs.declared.line.Line.TheVariants as L
 use Rattle.flat_code.specs.Fits.{is_standing, is_location, if_kind, place_named, is_value, needs_no_type}
 use Rattle.flat_code.specs.Scene.{Where, with_value, location_at}
-use Rattle.word_lowering.specs.LineCode.{location}
+use Rattle.word_lowering.specs.LineCode.{label_before, location, operands, row_code, value}
+use Rattle.word_lowering.specs.WaitingCode.{gives_hooked as code_hooked}
+use Rattle.flat_code.specs.Codes.{block_plain}
+use Rattle.nim_meaning.specs.Here.{gives_hooked}
+use Rattle.word_lowering.proofs.HookFree.{assigned_plain, same_hooks}
 use Rattle.flat_code.specs.Lines.{gives, using}
 use Rattle.flat_code.specs.Running.{scene_of}
 use Rattle.flat_code.specs.Shapes.{has_shape, shape_of}
-use Rattle.nim_meaning.specs.Deeds.{Stores, costs, does, give, unless_gone, ◌>>=◌, ◌>>◌}
+use Rattle.nim_meaning.specs.Deeds.{Stores, costs, does, give, unless_gone, ◌>>=◌, ◌>>◌, sets}
 use Rattle.nim_program.specs.Kinds.{same_value}
 use Rattle.nim_program.specs.View.{if_type}
 use Rattle.flat_code.specs.declared.line.UseAt.{UseAt}
@@ -34,14 +38,14 @@ use Rattle.word_lowering.proofs.LineFits.{are_of, no_type, ordinal_shape, same_t
 use Rattle.word_lowering.proofs.Lines.{Basis, IsGood, Settles, known, mapped_settles, starts, all_settles, fits_here, using_settles, bound_for}
 use Rattle.word_lowering.proofs.Lines.{where_there}
 use Rattle.word_lowering.proofs.MovedLines.{value_read, moved_value, moved_word}
-use Rattle.word_lowering.proofs.OutPlaces.{Written, stored_settles, unlent_plain, written_at}
+use Rattle.word_lowering.proofs.OutPlaces.{Written, stored_settles, written_at}
 use Rattle.word_lowering.proofs.Related.{Both, body_of, high}
 use Rattle.word_lowering.proofs.Scenes.{house, of_value, of_location}
 use Rattle.word_lowering.proofs.Settling.{LabelsLead, code_next, silent_settles}
 use Rattle.word_lowering.proofs.ShapeFacts.{never, of_numbers, values_of_numbers}
 use Rattle.word_lowering.proofs.Sites.{around, is_one_word}
 use Rattle.word_lowering.proofs.Targets.{Target, no_target, pointed, target, unnamed_value}
-use Rattle.word_lowering.proofs.ValueFacts.{location_of_numbers, type_in, IsPlain}
+use Rattle.word_lowering.proofs.ValueFacts.{has_type, location_of_numbers, type_in, IsPlain}
 use Rattle.nim_meaning.specs.Meaning.{handed_by}
 use Rattle.nim_meaning.specs.Table.{moved}
 use Rattle.word_lowering.proofs.OperandLines.{value_type_by}
@@ -58,11 +62,17 @@ module _ (x : Basis) (g : Both) (line : BlockLine) (rest : List BlockLine) (y : 
     pub is : location_at g.call.temps there ≡ at
     pub written : Written x g line rest y (location (around x.table x.blocks (body_of g)) t) at (shape_of (facts_in x.table) ty)
 
+  unhooked_at : (t : ℕ) (ty : Ty) → IsPlain x g.call.site (of_location t) → type_in x is_location (body_of g) t ≡ Some ty
+      → gives_hooked (facts_in x.table) (Some ty) ≡ false
+  unhooked_at t ty plain typed =
+      let n = has_type x g.call.site (of_location t) ty y.linked.0 typed in
+      ap (λ u. gives_hooked (facts_in x.table) (Some u)) (sym n.typed) ∙ y.linked.0.plain_locations t n.named (plain n.named)
+
   pub writes_at : (t : ℕ) (there : Where) (ty : Ty) → IsPlain x g.call.site (of_location t) → type_in x is_location (body_of g) t ≡ Some ty
       → if_kind is_standing (place_named is_location (body_of g).proc.places t) ≡ true → g.call.temps.places t ≡ Some there → WritesAt t there ty
   writes_at t there ty plain typed may e =
       let p = pointed x g line rest y t ty typed in
-      let w = written_at x g line rest y t there p.named (unlent_plain x g line rest y t p.named plain) (y.linked.0.standing t may) e in
+      let w = written_at x g line rest y t there p.named (y.linked.0.standing t may) e in
       record {
         numbers = sym (ap of_numbers p.look) ∙ location_of_numbers x g.call.site t y.linked.0 p.named plain;
         at = w.location_is;
@@ -90,21 +100,30 @@ module _ (x : Basis) (labels : LabelsLead x) (g : Both) (rest : List BlockLine) 
         let may = and_parts (if_kind is_standing (place_named is_location (body_of g).proc.places at)) true f.written in
         mapped_settles x (starts g assign rest) rest (g.call.temps.places at) (λ place. At (location_at g.call.temps place))
         (λ l. using (option_map Given (g.call.temps.values from)) (λ z. gives (scene_of (high x.table x.blocks (starts g assign rest))) to
-        (costs 1 (put (location_of l) (value_of z)) >>= made_by false (bound_for g how))))
+        (costs 1 (put (location_of l) (value_of z)) >>= kept_if false (bound_for g how))))
         (λ there e. mapped_settles x (starts g assign rest) rest (g.call.temps.values from) Given
         (λ z. gives (scene_of (high x.table x.blocks (starts g assign rest))) to
-        (costs 1 (put (location_at g.call.temps there) (value_of z)) >>= made_by false (bound_for g how)))
+        (costs 1 (put (location_at g.call.temps there) (value_of z)) >>= kept_if false (bound_for g how)))
         (λ z h. let s = writes_at x g assign rest y at there w.ty names.1.0 at_typed may.0 e in
         let r = value_read x g assign rest y from z w.ty from_typed s.numbers h in
         subst (λ l. Settles x (starts g assign rest) rest (gives (scene_of (high x.table x.blocks (starts g assign rest))) to
-        (costs 1 (put l z) >>= made_by false (bound_for g how)))) (sym s.is)
-        (where_there x (starts g assign rest) rest (is_there g.world s.at)
+        (costs 1 (put l z) >>= kept_if false (bound_for g how)))) (sym s.is)
+        (where_there x (starts g assign rest) rest (may_change s.at.base)
         (λ b. gives (scene_of (high x.table x.blocks (starts g assign rest))) to
-        (costs 1 (costs (bytes z) (unless_gone b (does (Stores s.at z)) >> give nothing)) >>= made_by false (bound_for g how))) (λ before. tt)
+        (costs 1 (costs (bytes z) (unless_gone b (sets s.at z) >> give nothing)) >>= kept_if false (bound_for g how))) (λ before. tt)
+        (λ changes. where_there x (starts g assign rest) rest (is_there g.world s.at)
+        (λ b. gives (scene_of (high x.table x.blocks (starts g assign rest))) to
+        (costs 1 (costs (bytes z) (unless_gone b (does (Stores s.at z)) >> give nothing)) >>= kept_if false (bound_for g how))) (λ before. tt)
         (λ seen. stored_settles x g assign rest y (location (around x.table x.blocks (body_of g)) at) s.at (shape_of (facts_in x.table) w.ty) s.numbers
         seen z r.1
-        (house g.call.site (of_value from)) r.0.read refl (with_value to g.call.temps nothing) (none_temps x g assign rest y to none)
-        (1 + (bytes z + 0)) (omega arith) s.written))))
+        (house g.call.site (of_value from)) r.0.read
+        (assigned_plain (around x.table x.blocks (body_of g)) (code_hooked x.table a)
+        (row_code (around x.table x.blocks (body_of g)) O.Assign (label_before (map block_plain rest)) None (a ∷ b ∷ [])
+        (value (around x.table x.blocks (body_of g)) to)
+        (operands (around x.table x.blocks (body_of g)) (F.Place at ∷ F.Value from ∷ []))) a (F.Place at ∷ F.Value from ∷ []) (code_next x g assign rest y)
+        (same_hooks x a ∙ (ap (gives_hooked (facts_in x.table)) w.is_other ∙ unhooked_at x g assign rest y at w.ty names.1.0 at_typed)))
+        (with_value to g.call.temps nothing) (none_temps x g assign rest y to none)
+        (1 + (bytes z + 0)) (omega arith) s.written)))))
 
   pub assign_line : (ty : Option ℕ) (of : List (Option ℕ)) (from : List From) → RowHere x g rest to O.Assign how ty of from
   assign_line None (a ∷ b ∷ []) (F.Place at ∷ F.Value from ∷ []) names y = assign_values a b at from names y
@@ -132,7 +151,7 @@ module _ (x : Basis) (labels : LabelsLead x) (g : Both) (rest : List BlockLine) 
       let line = plain (L.Apply to O.Discard how None of from) in
       let f = applies x g rest to O.Discard how None of from names y in
       all_settles x (starts g line rest) rest g.call.temps from
-      (λ xs. gives (scene_of (high x.table x.blocks (starts g line rest))) to (costs 1 (give nothing) >>= made_by false (bound_for g how)))
+      (λ xs. gives (scene_of (high x.table x.blocks (starts g line rest))) to (costs 1 (give nothing) >>= kept_if false (bound_for g how)))
       (λ xs. silent_settles x g line rest y (with_value to g.call.temps nothing)
       (none_temps x g line rest y to (no_type (value_type x g line rest y to) f.given)) 1 refl)
   discard_line (Some ty) of from names y = never (applies x g rest to O.Discard how (Some ty) of from names y).row
@@ -165,7 +184,7 @@ module _ (x : Basis) (labels : LabelsLead x) (g : Both) (rest : List BlockLine) 
       (λ v. gives (scene_of (high x.table x.blocks (starts g line rest))) to (costs 1 (handed_by (facts_in x.table) (bound_for g how) (Some t) v)))
       (λ v e. let r = value_read x g line rest y from v t from_typed s.numbers e in
       subst (λ b. Settles x (starts g line rest) rest (gives (scene_of (high x.table x.blocks (starts g line rest))) to
-      (costs 1 (moved v >>= made_by b (bound_for g how))))) (sym s.unhooked)
+      (costs 1 (moved v >>= kept_if b (bound_for g how))))) (sym s.unhooked)
       (moved_value x g line rest y to t v s r.1 (house g.call.site (of_value from)) true r.0.read (passed_code x g line rest y to from v t s r.1 r.0)
       (1 + (bytes v + 0)) (omega arith)))
 

@@ -51,7 +51,7 @@ shape_some (resource ss) = or_word_some (shapes_bytes ss) (shapes_whole ss)
 abbrev pub CarriesSmall : (m other : Memory) → (a b bytes : ℕ) → Type 0
 CarriesSmall m other a b bytes = (o w : ℕ) → o + 4 ≤ bytes → o % 4 ≡ 0 → w < 2 ^ 32 → number_at m (a + o) Word ≡ Ok w → number_at other (b + o) Word ≡ Ok w
 
-word_below : (values : Option ℕ) (z : ℤ) → is_ordinal values (Number z) ≡ true → word z < 2 ^ 32
+pub word_below : (values : Option ℕ) (z : ℤ) → is_ordinal values (Number z) ≡ true → word z < 2 ^ 32
 word_below None z h = word_small z h
 word_below (Some n) z h = word_small z (and_parts (fits z) (inside z n) h).0
 

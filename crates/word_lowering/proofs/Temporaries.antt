@@ -1,11 +1,11 @@
 -- What waits in a frame, where a value begins to wait and where one doesn't any more.
 use Rattle.std.proofs.Common.{◌≡◌, ◌≢◌, ◌⊎◌, inl, inr, refl, sym, ap, subst, ◌∙◌, arith, ℕ, zero, suc, ◌<◌, List, [], ◌∷◌, length, Option, slice_get}
 use Rattle.std.proofs.Common.{Bool, true, false, Some, None}
-use Rattle.std.specs.Prelude.{nat_eq, if◌then◌else◌, slice_set}
+use Rattle.std.specs.Prelude.{nat_eq, slice_set, if◌then◌else◌}
 use Rattle.std.proofs.lemmas.Bool.{cases_order, eqb-true, eq-eqb, ne_eqb, true≢false}
 use Rattle.nim_meaning.specs.Values.{Slot}
 use Rattle.nim_meaning.specs.State.{Temporary, Frame, World, frame_in, frame_at, temporary_in, temporary_at, without_temporary_in, with_temporaries}
-use Rattle.nim_meaning.specs.State.{with_one_waiting, with_none_waiting, slot_of, slot_at, with_slot, with_slot_of}
+use Rattle.nim_meaning.specs.State.{with_temporary_in, with_one_waiting, with_none_waiting, slot_of, slot_at, with_slot, with_slot_of}
 use Rattle.word_lowering.proofs.Frames.{get_set, get_other, get_inside, IsFrame}
 
 -- no node has two
@@ -58,6 +58,39 @@ without_once (t ∷ ts) node once = by (nat_eq t.node node) refl (without_once t
           without_other ts node t.node (λ s. true≢false (sym (eq-eqb t.node node s) ∙ e)) ∙ once.0,
           go,
         )
+
+replaced : (t : Temporary) (ts : List Temporary) (node : ℕ) (slot : Slot) (b : Bool) → nat_eq t.node node ≡ b
+    → with_temporary_in (t ∷ ts) node slot ≡ (if b then record t { slot = slot } ∷ ts else t ∷ with_temporary_in ts node slot)
+replaced t ts node slot b e = ap (λ c. if c then record t { slot = slot } ∷ ts else t ∷ with_temporary_in ts node slot) e
+
+some_none : {A : Type 0} (slot : Slot) → Some slot ≡ None → A
+some_none slot z = absurd cc
+
+-- where another value waits in place of one, none waits where none did
+pub stays_none : (ts : List Temporary) (node : ℕ) (slot : Slot) (other : ℕ) → temporary_in ts other ≡ None
+    → temporary_in (with_temporary_in ts node slot) other ≡ None
+stays_none [] node slot other none = refl
+stays_none (t ∷ ts) node slot other none =
+    by (nat_eq t.node other) refl (nat_eq t.node node) refl none (λ r. stays_none ts node slot other r)
+  where
+    by : (b : Bool) → nat_eq t.node other ≡ b → (c : Bool) → nat_eq t.node node ≡ c → temporary_in (t ∷ ts) other ≡ None
+        → (temporary_in ts other ≡ None → temporary_in (with_temporary_in ts node slot) other ≡ None)
+        → temporary_in (with_temporary_in (t ∷ ts) node slot) other ≡ None
+    by true e c z h more = some_none t.slot (sym (chosen t ts other true e) ∙ h)
+    by false e true z h more =
+        ap (λ us. temporary_in us other) (replaced t ts node slot true z)
+        ∙ chosen (record t { slot = slot }) ts other false e ∙ (sym (chosen t ts other false e) ∙ h)
+    by false e false z h more =
+        ap (λ us. temporary_in us other) (replaced t ts node slot false z)
+        ∙ chosen t (with_temporary_in ts node slot) other false e ∙ more (sym (chosen t ts other false e) ∙ h)
+
+pub with_once : (ts : List Temporary) (node : ℕ) (slot : Slot) → AreOnce ts → AreOnce (with_temporary_in ts node slot)
+with_once [] node slot once = tt
+with_once (t ∷ ts) node slot once = by (nat_eq t.node node) refl (with_once ts node slot once.1)
+  where
+    by : (c : Bool) → nat_eq t.node node ≡ c → AreOnce (with_temporary_in ts node slot) → AreOnce (with_temporary_in (t ∷ ts) node slot)
+    by true z go = subst AreOnce (sym (replaced t ts node slot true z)) (once.0, once.1)
+    by false z go = subst AreOnce (sym (replaced t ts node slot false z)) (stays_none ts node slot t.node once.0, go)
 
 -- ---- worlds in which the same waits
 
@@ -122,7 +155,7 @@ frame_waits w level ts other first span f = by (cases_order other level)
     by (inr (inr h)) = apart (λ e. absurd (omega (arith, h, e)))
 
 module _ (w : World) (level : ℕ) (there : level < length w.frames) where
-  frame_set : (ts : List Temporary) → frame_at (with_temporaries w level ts) level ≡ record (frame_at w level) { temporaries = ts }
+  pub frame_set : (ts : List Temporary) → frame_at (with_temporaries w level ts) level ≡ record (frame_at w level) { temporaries = ts }
   frame_set ts = ap frame_in (get_set w.frames level (record (frame_at w level) { temporaries = ts }) there)
 
   abbrev now : List Temporary

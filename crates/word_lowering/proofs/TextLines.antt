@@ -15,10 +15,11 @@ use Rattle.word_lowering.specs.Lowered.{data_at}
 use Rattle.word_lowering.specs.declared.homes.TheConstants.{FIRST, SECOND}
 use Rattle.word_lowering.specs.declared.texts.TheConstants.{FIXED_BYTES, LINE_END_AT}
 use Rattle.word_lowering.specs.Aliases.{texts_of}
-use Rattle.word_lowering.specs.LineCode.{text_code, write_code, literal_at}
+use Rattle.word_lowering.specs.LineCode.{text_code, write_code, literal_at, text_at}
 use Rattle.word_lowering.proofs.Lines.{Basis, IsGood, all_procs, lower, starts}
 use Rattle.word_lowering.proofs.Moves.{same_first, same_more, same_second}
-use Rattle.word_lowering.proofs.Related.{Both, IsText, within, sites_of}
+use Rattle.rv32_isa.specs.Regions.{AreBytes}
+use Rattle.word_lowering.proofs.Related.{Both, IsText, within, sites_of, is_text_of_data}
 use Rattle.word_lowering.proofs.Sites.{Body, IsBody, around, data_end, lines_of}
 use Rattle.word_lowering.proofs.Told.{Tells, none_tells, told_none}
 
@@ -28,9 +29,14 @@ pub record TextAt (x : Basis) (from : ℕ) (text : List ℕ) : Type 0 where
   pub small : data_at + from + length text < 2 ^ 32
   pub bytes : bytes_at x.first (data_at + from) (length text) ≡ Some text
 
--- the line end is there, and so are the texts of a procedure's lines
+-- the line end is there, and so are the texts of a procedure's lines, by where they stand among all and by what they are
 pub record LiteralsThere (x : Basis) : Type 0 where
   pub line_end : TextAt x LINE_END_AT (10 ∷ [])
+  pub laid : (b : Body) → IsBody x.table x.blocks b → (text : List ℕ) → is_member same_text (lines_texts (lines_of b)) text ≡ true
+      → TextAt x (text_at (around x.table x.blocks b) text) text
+  -- nothing changes them
+  pub fixed : (b : Body) → IsBody x.table x.blocks b → (text : List ℕ) → is_member same_text (lines_texts (lines_of b)) text ≡ true → AreBytes text
+      → is_text_of_data x.table x.blocks x.first (data_at + text_at (around x.table x.blocks b) text) text ≡ true
   pub literal : (b : Body) → IsBody x.table x.blocks b → (before text after : List ℕ) → texts_of (lines_of b) ≡ before ++ (text ++ after)
       → is_member same_text (lines_texts (lines_of b)) text ≡ true → TextAt x (literal_at (around x.table x.blocks b) (length before) (length text)) text
 
@@ -49,9 +55,10 @@ module _ (x : Basis) (least : FIXED_BYTES ≤ data_end x.table x.blocks) (g : Bo
   pub text_still : (from : ℕ) (text : List ℕ) → TextAt x from text → bytes_at g.memory (data_at + from) (length text) ≡ Some text
   text_still from text t = y.memory.texts (data_at + from) (length text) t.is_text ∙ t.bytes
 
-  pub text_tells : (from : ℕ) (text : List ℕ) (k : List WordInstr) → TextAt x from text → Tells x least g line rest y (text_code from (length text) k) k text
-  text_tells from [] k t = none_tells x least g line rest y k
-  text_tells from (c ∷ text) k t =
+  pub text_tells : (parts from : ℕ) (text : List ℕ) (k : List WordInstr) → TextAt x from text
+      → Tells x least g line rest y parts (text_code from (length text) k) k text
+  text_tells parts from [] k t = none_tells x least g line rest y parts k
+  text_tells parts from (c ∷ text) k t =
       let n : ℕ = length (c ∷ text) in
       let v1 : Vars = put g.call.vars FIRST (data_at + 0 + from) in
       let v2 : Vars = put v1 SECOND n in

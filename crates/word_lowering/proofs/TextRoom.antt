@@ -20,7 +20,7 @@ use Rattle.word_lowering.specs.LineCode.{Around, no_layout}
 use Rattle.word_lowering.specs.MayLower.{may_lower}
 use Rattle.word_lowering.specs.Scope.{HasRoom}
 use Rattle.word_lowering.specs.Stored.{HaveForms}
-use Rattle.word_lowering.specs.Texts.{padded, fixed_texts, all_names, joined_all, ends_from, laid, laid_texts, data_in, texts_at}
+use Rattle.word_lowering.specs.Texts.{padded, fixed_texts, all_names, joined_all, ends_from, laid, laid_texts, data_in, texts_at, text_place}
 use Rattle.word_lowering.specs.Texts.{place_among, or_zero, place_of, standing_place}
 use Rattle.word_lowering.proofs.CountedLayouts.{layouts_counted, counted_at}
 use Rattle.word_lowering.proofs.DataSizes.{six_parts, ends_length, data_within}
@@ -42,6 +42,9 @@ literal_within procs offset bytes = place_within (distinct_texts block_plain pro
 
 pub standing_within : (procs : List (CodeProc BlockLine)) (pieces : List Piece) → standing_place procs pieces ≤ length (laid_texts procs)
 standing_within procs pieces = place_within (distinct_texts block_plain procs) _
+
+pub text_within : (procs : List (CodeProc BlockLine)) (text : List ℕ) → text_place procs text ≤ length (laid_texts procs)
+text_within procs text = place_within (distinct_texts block_plain procs) text
 
 -- texts end where the data does
 texts_end : (table : List TypeDef) (globals_end : ℕ) (procs : List (CodeProc BlockLine))

@@ -23,7 +23,7 @@ use Rattle.word_lowering.specs.declared.texts.TheConstants.{FIXED_BYTES}
 use Rattle.word_lowering.proofs.HeapKept.{SameHeap, heap_same, heap_more, heap_beside}
 use Rattle.word_lowering.proofs.Gets.{SameTemps, high_variable, kept_temps, same_temps}
 use Rattle.word_lowering.proofs.Keeping.{AmongCalls, aside, worlds_same}
-use Rattle.word_lowering.proofs.Lines.{Basis, IsGood, Settles, all_sites, changed, good_changed, lower, past_is, stands_next, starts}
+use Rattle.word_lowering.proofs.Lines.{Basis, IsGood, Settles, all_sites, changed, good_changed, low_past, lower, stands_next, starts}
 use Rattle.word_lowering.proofs.Moves.{all_same, same_more}
 use Rattle.word_lowering.proofs.OrdinalRuns.{AllSame}
 use Rattle.word_lowering.proofs.Related.{Both, IsClosed, IsOpen, IsText, MemoryGood, StandAt, body_of, called_by, low, routines, within, sites_of}
@@ -118,8 +118,8 @@ writes_both stream (c ∷ a) b = ap (λ es. writes stream (c ∷ []) ++ es) (wri
 
 module _ (x : Basis) (least : FIXED_BYTES ≤ data_end x.table x.blocks) (g : Both) (line : BlockLine) (rest : List BlockLine)
     (y : IsGood x (starts g line rest)) where
-  -- code that writes a text: it changes no more than words for what comes between, and bytes beside all places
-  pub record Tells (lines k : List WordInstr) (text : List ℕ) : Type 0 where
+  -- Code that writes a text, which so many operands give: it changes no more than words for what comes between, and bytes beside all places.
+  pub record Tells (parts : ℕ) (lines k : List WordInstr) (text : List ℕ) : Type 0 where
     pub vars : Vars
     pub same : AllSame g.call.vars vars
     pub memory : Memory
@@ -127,13 +127,13 @@ module _ (x : Basis) (least : FIXED_BYTES ≤ data_end x.table x.blocks) (g : Bo
     pub words : Vars
     pub awaits : ℕ
     pub count : ℕ
-    pub few : count ≤ 16 * length text
+    pub few : count ≤ 40 * parts + 16 * length text
     pub steps : AlwaysSteps (lower x) count (at (within x.table x.blocks g) g.memory lines g.call.vars g.words) (writes Out text) count
         (at (awaiting (within x.table x.blocks g) awaits) memory k vars words)
 
   -- nothing
-  pub none_tells : (k : List WordInstr) → Tells k k []
-  none_tells k = record {
+  pub none_tells : (parts : ℕ) (k : List WordInstr) → Tells parts k k []
+  none_tells parts k = record {
     vars = g.call.vars;
     same = all_same g.call.vars;
     memory = g.memory;
@@ -171,24 +171,25 @@ module _ (x : Basis) (least : FIXED_BYTES ≤ data_end x.table x.blocks) (g : Bo
           sites_among (d ∷ cs) c (inr i) = inr (sites_among cs c i)
 
   -- all that is done
-  pub tells_settles : (temps : Temps) → SameTemps x g line rest y temps → (text : List ℕ) → Tells (code_here x g line rest y) (code_next x g line rest y) text
-      → (work : ℕ) → length text ≤ work → Settles x (starts g line rest) rest (Passes (Answers (writes Out text) work temps g.world))
-  tells_settles temps same_at text s work enough =
+  pub tells_settles : (temps : Temps) → SameTemps x g line rest y temps → (parts : ℕ) (text : List ℕ)
+      → Tells parts (code_here x g line rest y) (code_next x g line rest y) text → (work : ℕ) → parts + length text ≤ work →
+      Settles x (starts g line rest) rest (Passes (Answers (writes Out text) work temps g.world))
+  tells_settles temps same_at parts text s work enough =
       let behind : Both = changed g rest temps s.vars s.memory s.words s.awaits g.world in
       let good = good_told rest temps same_at s.vars s.words s.awaits s.memory s.told s.same (stands_next x.table x.blocks (body_of g) line rest y.stands) in
-      λ before. let r = (subst (AlwaysSteps (lower x) s.count (low x.table x.blocks (starts g line rest)) (writes Out text) s.count)
-      (past_is x (line ∷ rest) behind good) s.steps).by x.fresh before in (
-        (r.0, low x.table x.blocks behind),
+      λ before. let r = s.steps.by x.fresh before in (
+        (r.0, low_past x (line ∷ rest) behind),
         s.count,
         record { work = r.1.work; within = (let h = r.1.within in let f = s.few in omega (arith, h, f, enough)); by = r.1.by },
-        (inl (behind, good, r.0), refl, refl),
+        (inl (behind, good, r.0), refl, refl, λ waits. refl),
         inr (omega arith),
       )
 
 -- ---- one text after another
 
 module _ (x : Basis) (least : FIXED_BYTES ≤ data_end x.table x.blocks) (g : Both) (line : BlockLine) (rest : List BlockLine)
-    (y : IsGood x (starts g line rest)) (lines middle : List WordInstr) (a : List ℕ) (t : Tells x least g line rest y lines middle a) where
+    (y : IsGood x (starts g line rest)) (parts : ℕ) (lines middle : List WordInstr) (a : List ℕ)
+    (t : Tells x least g line rest y parts lines middle a) where
   -- where the first is written
   abbrev pub then_at : Both
   then_at = changed g rest g.call.temps t.vars t.memory t.words t.awaits g.world
@@ -196,8 +197,9 @@ module _ (x : Basis) (least : FIXED_BYTES ≤ data_end x.table x.blocks) (g : Bo
   pub then_good : IsGood x (starts then_at line rest)
   then_good = good_told x least g line rest y (line ∷ rest) g.call.temps (same_temps x g line rest y) t.vars t.words t.awaits t.memory t.told t.same y.stands
 
-  pub then_tells : (k : List WordInstr) (b : List ℕ) → Tells x least then_at line rest then_good middle k b → Tells x least g line rest y lines k (a ++ b)
-  then_tells k b s =
+  pub then_tells : (more : ℕ) (k : List WordInstr) (b : List ℕ) → Tells x least then_at line rest then_good more middle k b
+      → Tells x least g line rest y (parts + more) lines k (a ++ b)
+  then_tells more k b s =
       let f = t.few in
       let h = s.few in
       let long = length-append a b in

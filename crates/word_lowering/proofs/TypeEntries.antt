@@ -108,7 +108,7 @@ module _ (ds : List TypeDef) (table : IsTable ds) where
   base_said i o e = ap (λ t. base_in (fact_of facts t)) (by_entry ds table i o e) ∙ ap base_in (said_by ds table i o e)
 
   -- no distinct type
-  base_stays : (n i : ℕ) (o : Option TypeDef) → slice_get ds i ≡ o → Stays o → base_within n ds i ≡ i
+  pub base_stays : (n i : ℕ) (o : Option TypeDef) → slice_get ds i ≡ o → Stays o → base_within n ds i ≡ i
   base_stays zero i o e s = refl
   base_stays (suc n) i o e s = ap (base_or (base_within n ds) i) e ∙ s (base_within n ds) i
 

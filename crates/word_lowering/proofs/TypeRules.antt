@@ -2,7 +2,7 @@
 use Rattle.std.proofs.Common.{◌≡◌, ◌⊎◌, inl, inr, ℕ, zero, suc, ◌≤◌, ◌<◌, List, [], ◌∷◌, length, Option, Some, None, Bool}
 use Rattle.std.proofs.Common.{true, false, refl, sym, ap, ap₂, subst, ◌∙◌}
 use Rattle.std.specs.Prelude.{slice_get, ◌&&◌, ◌||◌}
-use Rattle.std.proofs.lemmas.Bool.{and_parts, cases_Bool, cases_lt, lt-ltb, true≢false}
+use Rattle.std.proofs.lemmas.Bool.{and_parts, cases_Bool, cases_lt, le-ltb, lt-ltb, true≢false}
 use Rattle.nim_types.specs.declared.types.TypeDef.{TypeDef}
 use Rattle.nim_types.specs.declared.types.TypeDef.TheVariants as D
 use Rattle.nim_types.specs.Types as type
@@ -25,8 +25,7 @@ use Rattle.flat_code.specs.Fits.{operation_fits}
 use Rattle.flat_code.specs.Shapes.{Shape, number, reference, block, elements, row, parts, resource, Shapes, no_shapes, shapes, shape_of, has_shape}
 use Rattle.flat_code.proofs.ForCallers.{sorted_table, shapes_of, Matches, shaped, plain_shaped, is_free, are_free, free_of}
 use Rattle.word_lowering.specs.OwnedCode.{is_text}
-use Rattle.word_lowering.specs.Stored.{entry_at, limit_in, limit_at, HaveForms}
-use Rattle.word_lowering.specs.MayLower.{is_hooked}
+use Rattle.word_lowering.specs.Stored.{entry_at, is_hooked, limit_in, limit_at, HaveForms}
 use Rattle.word_lowering.proofs.Options.{none_some, some_same}
 use Rattle.word_lowering.proofs.ShapeFacts.{never, nth_shape, of_numbers, all_of_numbers}
 use Rattle.word_lowering.proofs.TypeShapes.{beyond_int, has_form, type_no_text}
@@ -228,6 +227,16 @@ module _ (table : List TypeDef) where
         by (inl lt) = sym (ap (λ b. b && hooked (form_of facts (type_at ts ty))) (lt-ltb ty (length table) lt)) ∙ h
         by (inr ge) = ap (λ t. hooked (form_of facts t)) (beyond_int table is_table have ty ge)
 
+    -- a type beyond the table is that of ints
+    pub type_hooked : (ty : ℕ) → is_hooked table ty ≡ hooked (form_of facts (type_at ts ty))
+    type_hooked ty = by (cases_lt ty (length table))
+      where
+        by : (ty < length table) ⊎ (length table ≤ ty) → is_hooked table ty ≡ hooked (form_of facts (type_at ts ty))
+        by (inl lt) = ap (λ b. b && hooked (form_of facts (type_at ts ty))) (lt-ltb ty (length table) lt)
+        by (inr ge) =
+            ap (λ b. b && hooked (form_of facts (type_at ts ty))) (le-ltb ty (length table) ge)
+            ∙ sym (ap (λ t. hooked (form_of facts t)) (beyond_int table is_table have ty ge))
+
     pub type_plain : (ty : ℕ) → is_hooked table ty ≡ false → of_numbers (shape_of facts (type_at ts ty)) ≡ true
     type_plain ty h = by (cases_lt ty (length table))
       where
@@ -307,7 +316,8 @@ module _ (table : List TypeDef) where
             (sym (ap (λ b. b || is_base_of (kind_of facts other) (type_at ts ty)) e) ∙ h))
 
     abbrev pub Converts : Ty → Ty → Type 0
-    Converts ty from = ((limit_of facts ty ≡ None) × ((v : Value) → has_shape v (shape_of facts from) ≡ true → has_shape v (shape_of facts ty) ≡ true))
+    Converts ty from = ((limit_of facts ty ≡ None) × ((v : Value) → has_shape v (shape_of facts from) ≡ true → has_shape v (shape_of facts ty) ≡ true)
+        × ((shape_of facts from ≡ shape_of facts ty) ⊎ ((of_numbers (shape_of facts from) ≡ true) × (of_numbers (shape_of facts ty) ≡ true))))
         ⊎ ((values : ℕ) × (other : Option ℕ) × (limit_of facts ty ≡ Some values) × (shape_of facts ty ≡ number (Some values))
         × (shape_of facts from ≡ number other))
 
@@ -322,9 +332,13 @@ module _ (table : List TypeDef) where
         other = type_at ts from
 
         by : Limits to → Comes (kind_of facts to) (shape_of facts to) other → Converts to other
-        by (inl l) (inl same) = inl (l.0, λ v s. subst (λ t. has_shape v t ≡ true) same s)
+        by (inl l) (inl same) = inl (l.0, (λ v s. subst (λ t. has_shape v t ≡ true) same s), inl same)
         by (inl l) (inr (values, is, inl narrow)) = absurd (true≢false (sym narrow ∙ l.1))
         by (inl l) (inr (values, is, inr int)) =
-            inl (l.0, λ v s. subst (λ t. has_shape v t ≡ true) (sym int) (wider v values (subst (λ t. has_shape v t ≡ true) is s)))
+            inl (
+              l.0,
+              (λ v s. subst (λ t. has_shape v t ≡ true) (sym int) (wider v values (subst (λ t. has_shape v t ≡ true) is s))),
+              inr (ap of_numbers is, ap of_numbers int),
+            )
         by (inr l) (inl same) = inr (l.0, Some l.0, l.1, l.2, same ∙ l.2)
         by (inr l) (inr c) = inr (l.0, c.0, l.1, l.2, c.1)

@@ -2,8 +2,8 @@
 -- and where their parts are.
 use Rattle.std.proofs.Common.{◌≡◌, ◌⊎◌, inl, inr, ℕ, zero, suc, ◌+◌, ◌*◌, ◌≤◌, ◌<◌, List, [], ◌∷◌, length, take, Option, Some, None, Bool}
 use Rattle.std.proofs.Common.{true, false, refl, sym, ap, ap₂, subst, ◌∙◌, arith}
-use Rattle.std.specs.Prelude.{slice_get}
-use Rattle.std.proofs.lemmas.Bool.{cases_lt}
+use Rattle.std.specs.Prelude.{slice_get, nat_lt, ◌&&◌, ◌||◌}
+use Rattle.std.proofs.lemmas.Bool.{and_from, and_parts, and_right, cases_lt}
 use Rattle.std.proofs.lemmas.Option.{slice_get_past}
 use Rattle.arc_base.specs.declared.place.Place.{Place}
 use Rattle.nim_types.specs.declared.types.TheConstants.{WORD_BYTES}
@@ -11,19 +11,23 @@ use Rattle.nim_types.specs.declared.types.TypeDef.{TypeDef}
 use Rattle.nim_types.specs.declared.types.TypeDef.TheVariants as D
 use Rattle.nim_types.specs.Types as type
 use Rattle.nim_types.specs.Types.{Ty, Tys, Key, Field, Fact, members, fields, base, below, Facts, fact_of}
-use Rattle.nim_types.specs.Forms.{Form, plain, Forms, object_form, or_word, size, size_all, types_of, HasForm, IsForm, of_int, of_bool, of_char, of_text}
+use Rattle.nim_types.specs.Forms.{Form, plain, Forms, object_form, or_word, size, form_of, hooked, hooked_any, of_some, size_all, types_of, HasForm, IsForm}
+use Rattle.nim_types.specs.Forms.{of_int, of_bool, of_char, of_text}
 use Rattle.nim_types.specs.Forms.{of_sequence, of_any_sequence, of_array, of_tuple, of_parameter, of_enum, of_object, of_distinct, of_ref, of_exception}
 use Rattle.nim_types.specs.Forms.{AreForms, none_of, more_of}
 use Rattle.nim_types.specs.Table.{type_at, types_at, key_of, types_in, fields_with, fields_fact, facts_in, IsWithin, WithinOnto, IsTable}
 use Rattle.nim_types.specs.Entries.{meant_at, said_at}
 use Rattle.nim_types.proofs.ForCallers.{the_form, by_entry, said_by, fields_types}
 use Rattle.nim_program.specs.Kinds.{declared_kind}
+use Rattle.nim_meaning.specs.Unbuilt.{has_unbuilt, has_unbuilt_any, is_unbuilt}
 use Rattle.flat_code.specs.Shapes.{Shape, number, reference, block, elements, row, parts, Shapes, object_shape, shape_by, shape_within, shape_of}
 use Rattle.flat_code.proofs.ForCallers.{sorted_table, shapes_of, Matches, shaped}
 use Rattle.word_lowering.specs.OwnedCode.{has_handle, is_text}
-use Rattle.word_lowering.specs.Stored.{bytes_at, bytes_all, base_or, base_within, entry_at, is_word, parts_in, part_at, count_in, element_bytes, HaveForms}
+use Rattle.word_lowering.specs.Stored.{bytes_at, bytes_all, base_or, base_within, entry_at, is_hooked, is_word, parts_in, part_at, count_in, element_bytes}
+use Rattle.word_lowering.specs.Stored.{HaveForms}
 use Rattle.word_lowering.proofs.Options.{none_some, some_same}
-use Rattle.word_lowering.proofs.ShapeFacts.{never, shape_bytes, shapes_bytes, of_numbers}
+use Rattle.word_lowering.proofs.BlankShapes.{of_handles, all_of_handles}
+use Rattle.word_lowering.proofs.ShapeFacts.{never, all_of_numbers, shape_bytes, shapes_bytes, of_numbers}
 use Rattle.word_lowering.proofs.ShapePaths.{shapes_before}
 use Rattle.word_lowering.proofs.Sites.{is_one_word}
 
@@ -106,6 +110,19 @@ object_bytes : (own : Bool) (fs : Forms) (ss : Shapes) → shapes_bytes ss ≡ s
 object_bytes true fs ss e = ap or_word e
 object_bytes false fs ss e = ap or_word e
 
+or_false : (a b : Bool) → (a || b) ≡ false → (a ≡ false) × (b ≡ false)
+or_false true b h = never (sym h)
+or_false false b h = (refl, h)
+
+row_handles : (n : ℕ) (s : Shape) → of_handles s ≡ true → of_handles (row n s) ≡ true
+row_handles zero s h = refl
+row_handles (suc n) s h = h
+
+object_handles : (own : Bool) (fs : Forms) (ss : Shapes) → has_unbuilt (object_form own fs) ≡ false
+    → (has_unbuilt_any fs ≡ false → all_of_handles ss ≡ true) → of_handles (object_shape own ss) ≡ true
+object_handles true fs ss h go = never (sym h)
+object_handles false fs ss h go = go h
+
 module _ (table : List TypeDef) where
   abbrev facts : Facts
   facts = facts_in table
@@ -132,7 +149,7 @@ module _ (table : List TypeDef) where
   declared_look {ty} fact has m e = subst (λ o. Matches facts (declared_kind o) (shape_of facts ty)) e m
 
   mutual
-    bytes_of : {ty : Ty} {f : Form} → HasForm facts ty f → shape_bytes (shape_of facts ty) ≡ size f
+    pub bytes_of : {ty : Ty} {f : Form} → HasForm facts ty f → shape_bytes (shape_of facts ty) ≡ size f
     bytes_of of_int = refl
     bytes_of of_bool = refl
     bytes_of of_char = refl
@@ -156,6 +173,111 @@ module _ (table : List TypeDef) where
     all_bytes : {tys : Tys} {fs : Forms} → AreForms true facts tys fs → shapes_bytes (shapes_of facts tys) ≡ size_all fs
     all_bytes none_of = refl
     all_bytes (more_of a s) = ap₂ (λ m n. m + n) (bytes_of a) (all_bytes s)
+
+  -- ---- what has code: numbers, texts and sequences
+
+  enum_handles : (known : Ty → Shape) (key : Key) (o : Option Fact) → fact_of facts (type.enum key) ≡ o → of_handles (shape_by known o) ≡ true
+  enum_handles known key None e = refl
+  enum_handles known key (Some (members names)) e = refl
+  enum_handles known key (Some (fields all own)) e = absurd (sorted_table table (type.enum key) (fields all own) e)
+  enum_handles known key (Some (base t)) e = absurd (sorted_table table (type.enum key) (base t) e)
+  enum_handles known key (Some (below t)) e = refl
+
+  enum_built : (n : ℕ) (key : Key) → of_handles (shape_within n facts (type.enum key)) ≡ true
+  enum_built zero key = refl
+  enum_built (suc n) key = enum_handles (shape_within n facts) key (fact_of facts (type.enum key)) refl
+
+  mutual
+    handles_of : {ty : Ty} {f : Form} → HasForm facts ty f → has_unbuilt f ≡ false → of_handles (shape_of facts ty) ≡ true
+    handles_of of_int h = refl
+    handles_of of_bool h = refl
+    handles_of of_char h = refl
+    handles_of of_text h = refl
+    handles_of (of_sequence d a) h = refl
+    handles_of (of_any_sequence d) h = refl
+    handles_of (of_array {n} {t} a) h = row_handles n (shape_of facts t) (handles_of a h)
+    handles_of (of_tuple a) h = all_handles_of a h
+    handles_of of_parameter h = refl
+    handles_of (of_enum {key}) h = enum_built (length facts) key
+    handles_of (of_object {key} {arguments} {all} {own_hooks} {fs} e a) h =
+        let whole : HasForm facts (type.object key arguments) (object_form own_hooks fs) = of_object e a in
+        ap of_handles (declared_look (fields all own_hooks) whole (shaped facts (sorted_table table) whole).matches e)
+        ∙ object_handles own_hooks fs (shapes_of facts (types_of all)) h (λ g. all_handles_of a g)
+    handles_of (of_distinct {key} {t} e a) h =
+        let whole : HasForm facts (type.distinct key) _ = of_distinct e a in
+        ap of_handles (declared_look (base t) whole (shaped facts (sorted_table table) whole).matches e) ∙ handles_of a h
+    handles_of of_ref h = never (sym h)
+    handles_of of_exception h = refl
+
+    all_handles_of : {tys : Tys} {fs : Forms} → AreForms true facts tys fs → has_unbuilt_any fs ≡ false → all_of_handles (shapes_of facts tys) ≡ true
+    all_handles_of none_of h = refl
+    all_handles_of (more_of {t} {ts} {f} {fs} a s) h =
+        let p = or_false (has_unbuilt f) (has_unbuilt_any fs) h in
+        and_from (of_handles (shape_of facts t)) (all_of_handles (shapes_of facts ts)) (handles_of a p.0) (all_handles_of s p.1)
+
+  -- what has hooks is no word
+  hooked_word : {ty : Ty} {f : Form} → HasForm facts ty f → hooked f ≡ true → is_one_word (shape_of facts ty) ≡ false
+  hooked_word of_int h = never h
+  hooked_word of_bool h = never h
+  hooked_word of_char h = never h
+  hooked_word of_text h = refl
+  hooked_word (of_sequence d a) h = refl
+  hooked_word (of_any_sequence d) h = refl
+  hooked_word (of_array a) h = refl
+  hooked_word (of_tuple a) h = refl
+  hooked_word of_parameter h = never h
+  hooked_word of_enum h = never h
+  hooked_word (of_object {key} {arguments} {all} {own_hooks} {fs} e a) h =
+      let whole : HasForm facts (type.object key arguments) (object_form own_hooks fs) = of_object e a in
+      ap is_one_word (declared_look (fields all own_hooks) whole (shaped facts (sorted_table table) whole).matches e)
+      ∙ object_word own_hooks (shapes_of facts (types_of all))
+  hooked_word (of_distinct {key} {t} e a) h =
+      let whole : HasForm facts (type.distinct key) _ = of_distinct e a in
+      ap is_one_word (declared_look (base t) whole (shaped facts (sorted_table table) whole).matches e) ∙ hooked_word a h
+  hooked_word of_ref h = refl
+  hooked_word of_exception h = never h
+
+  -- what has hooks isn't made of numbers alone
+  row_hooked : (n : ℕ) (s : Shape) (b : Bool) → of_some n b ≡ true → (b ≡ true → of_numbers s ≡ false) → of_numbers (row n s) ≡ false
+  row_hooked zero s b h go = never h
+  row_hooked (suc n) s b h go = go h
+
+  object_hooked : (own : Bool) (fs : Forms) (ss : Shapes) → hooked (object_form own fs) ≡ true → (hooked_any fs ≡ true → all_of_numbers ss ≡ false)
+      → of_numbers (object_shape own ss) ≡ false
+  object_hooked true fs ss h go = refl
+  object_hooked false fs ss h go = go h
+
+  mutual
+    hooked_shape : {ty : Ty} {f : Form} → HasForm facts ty f → hooked f ≡ true → of_numbers (shape_of facts ty) ≡ false
+    hooked_shape of_int h = never h
+    hooked_shape of_bool h = never h
+    hooked_shape of_char h = never h
+    hooked_shape of_text h = refl
+    hooked_shape (of_sequence d a) h = refl
+    hooked_shape (of_any_sequence d) h = refl
+    hooked_shape (of_array {n} {t} {f} a) h = row_hooked n (shape_of facts t) (hooked f) h (λ g. hooked_shape a g)
+    hooked_shape (of_tuple a) h = all_hooked_shape a h
+    hooked_shape of_parameter h = never h
+    hooked_shape of_enum h = never h
+    hooked_shape (of_object {key} {arguments} {all} {own_hooks} {fs} e a) h =
+        let whole : HasForm facts (type.object key arguments) (object_form own_hooks fs) = of_object e a in
+        ap of_numbers (declared_look (fields all own_hooks) whole (shaped facts (sorted_table table) whole).matches e)
+        ∙ object_hooked own_hooks fs (shapes_of facts (types_of all)) h (λ g. all_hooked_shape a g)
+    hooked_shape (of_distinct {key} {t} e a) h =
+        let whole : HasForm facts (type.distinct key) _ = of_distinct e a in
+        ap of_numbers (declared_look (base t) whole (shaped facts (sorted_table table) whole).matches e) ∙ hooked_shape a h
+    hooked_shape of_ref h = refl
+    hooked_shape of_exception h = never h
+
+    all_hooked_shape : {tys : Tys} {fs : Forms} → AreForms true facts tys fs → hooked_any fs ≡ true → all_of_numbers (shapes_of facts tys) ≡ false
+    all_hooked_shape none_of h = never h
+    all_hooked_shape (more_of {t} {ts} {f} {fs} a s) h = by (hooked f) refl (λ g. hooked_shape a g) (λ g. all_hooked_shape s g) h
+      where
+        by : (b : Bool) → hooked f ≡ b → (hooked f ≡ true → of_numbers (shape_of facts t) ≡ false)
+            → (hooked_any fs ≡ true → all_of_numbers (shapes_of facts ts) ≡ false) → (b || hooked_any fs) ≡ true
+            → (of_numbers (shape_of facts t) && all_of_numbers (shapes_of facts ts)) ≡ false
+        by true e first rest i = ap (λ b. b && all_of_numbers (shapes_of facts ts)) (first e)
+        by false e first rest i = and_right (of_numbers (shape_of facts t)) (all_of_numbers (shapes_of facts ts)) (rest i)
 
   -- ---- what an entry says
 
@@ -264,7 +386,20 @@ module _ (table : List TypeDef) where
 
     -- ---- words
 
-    word_at : (o : Option TypeDef) (s : Shape) → Looks o s → of_numbers s ≡ true → is_one_word s ≡ is_word o
+    pub type_handles : (ty : ℕ) → is_unbuilt facts (type_at ts ty) ≡ false → of_handles (shape_of facts (type_at ts ty)) ≡ true
+    type_handles ty h = let f = has_form ty in handles_of f.1 (sym (ap has_unbuilt (the_form f.1)) ∙ h)
+
+    pub type_shaped : (ty : ℕ) → is_hooked table ty ≡ true → of_numbers (shape_of facts (type_at ts ty)) ≡ false
+    type_shaped ty h =
+        let f = has_form ty in
+        hooked_shape f.1 (sym (ap hooked (the_form f.1)) ∙ (and_parts (nat_lt ty (length table)) (hooked (form_of facts (type_at ts ty))) h).1)
+
+    pub type_many : (ty : ℕ) → is_hooked table ty ≡ true → is_one_word (shape_of facts (type_at ts ty)) ≡ false
+    type_many ty h =
+        let f = has_form ty in
+        hooked_word f.1 (sym (ap hooked (the_form f.1)) ∙ (and_parts (nat_lt ty (length table)) (hooked (form_of facts (type_at ts ty))) h).1)
+
+    word_at : (o : Option TypeDef) (s : Shape) → Looks o s → of_handles s ≡ true → is_one_word s ≡ is_word o
     word_at None s l n = ap is_one_word l
     word_at (Some D.Int) s l n = ap is_one_word l
     word_at (Some D.Bool) s l n = ap is_one_word l
@@ -277,10 +412,10 @@ module _ (table : List TypeDef) where
     word_at (Some (D.Tuple names is)) s l n = ap is_one_word l
     word_at (Some (D.Object name at is all own tys)) s l n = ap is_one_word l ∙ object_word own (shapes_of facts (types_at ts tys))
     word_at (Some (D.Distinct name at i)) s l n = absurd l
-    word_at (Some (D.Ref name i)) s l n = never (sym (ap of_numbers l) ∙ n)
+    word_at (Some (D.Ref name i)) s l n = never (sym (ap of_handles l) ∙ n)
     word_at (Some (D.Exception name at parent)) s l n = ap is_one_word l
 
-    pub type_is_word : (ty : ℕ) → of_numbers (shape_of facts (type_at ts ty)) ≡ true
+    pub type_is_word : (ty : ℕ) → of_handles (shape_of facts (type_at ts ty)) ≡ true
         → is_one_word (shape_of facts (type_at ts ty)) ≡ is_word (entry_at table ty)
     type_is_word ty n = word_at (entry_at table ty) (shape_of facts (type_at ts ty)) (type_looks ty) n
 

@@ -18,9 +18,9 @@ use Rattle.nim_program.specs.Kinds.{is_int, kind_if, same_value}
 use Rattle.nim_program.specs.Traps.{trap_text}
 use Rattle.nim_program.specs.View.{if_type}
 use Rattle.nim_meaning.specs.Acts.{line_of}
-use Rattle.nim_meaning.specs.Deeds.{Answers, Finishes, Stores, behind, costs, does, give, perform, unless_gone, ◌>>=◌, ◌>>◌}
-use Rattle.nim_meaning.specs.Places.{made_by, place_at, put as put_to}
-use Rattle.nim_meaning.specs.State.{held, is_full_at, is_there, load, slot_at, store, with_slot}
+use Rattle.nim_meaning.specs.Deeds.{Answers, Finishes, Stores, behind, costs, does, give, perform, unless_gone, ◌>>=◌, ◌>>◌, sets}
+use Rattle.nim_meaning.specs.Places.{kept_if, may_change, place_at, put as put_to}
+use Rattle.nim_meaning.specs.State.{held, is_full_at, is_there, load, slot_at, store, with_slot, is_whole}
 use Rattle.nim_meaning.specs.Table.{operate, outcome, updated}
 use Rattle.nim_meaning.specs.Values.{At, Given, Holds, Location, Number, Value, bytes, location_of, nothing, number_of, value_of}
 use Rattle.flat_code.specs.declared.block.BlockLine.{BlockLine}
@@ -82,6 +82,7 @@ use Rattle.word_lowering.proofs.StoreLines.{none_temps, writes_at}
 use Rattle.word_lowering.proofs.Stores.{good_written, ground_then}
 use Rattle.word_lowering.proofs.UpdateRuns.{Comes, fourth_stored, update_comes}
 use Rattle.word_lowering.proofs.ValueFacts.{type_in, IsPlain}
+use Rattle.word_lowering.proofs.GoodLeads.{owned_seen}
 
 -- ---- traps that code of an update may come to
 
@@ -125,9 +126,10 @@ module _ (x : Basis) (g : Both) (line : BlockLine) (rest : List BlockLine) (y : 
     lies_at : (home : Home) → spot_of h ≡ Lies home → IsHigh home → (a : ℕ) → Points g.call.site.base g.call.vars home a
         → FromOwned x.table sites g.ground g.world l a (number None) → WordAt h l
 
-  word_at : (h : Housed) (l : Location) → Written x g line rest y h l (number None) → WordAt h l
-  word_at h l (far_written home spot up a points f) = lies_at home spot up a points f
-  word_at h l (own_written n there own is look old slot l_is) = by (houses x.table x.blocks g.call.site (of_place n) y.linked.0 there).where_is
+  word_at : (h : Housed) (l : Location) → is_whole g.world (load g.world l) ≡ true → Written x g line rest y h l (number None) → WordAt h l
+  word_at h l whole (far_written home spot up a points owned leads) =
+      lies_at home spot up a points (owned_seen x (starts g line rest) y l a (number None) owned leads whole)
+  word_at h l whole (own_written n there own is look old slot l_is) = by (houses x.table x.blocks g.call.site (of_place n) y.linked.0 there).where_is
     where
       plain_is : holds_address (house g.call.site (of_place n)) ≡ false
       plain_is = own_plain (house g.call.site (of_place n)) own
@@ -384,11 +386,14 @@ module _ (x : Basis) (traps : TrapsStop x) (labels : LabelsLead x) (g : Both) (r
     -- the deed, as what it comes to
     as_deed : (r : Checked) (old : Value) (l : Location) (same_at : SameTemps x g line rest y temps) → Outcome x g line rest y traps temps same_at old l r
         → Settles x (starts g line rest) rest (Passes (behind [] 1 (behind [] (bytes old) (perform
-        (((outcome r >>= put_to l) >>= made_by false (bound_for g how)) >>= (λ u. give (with_value to g.call.temps u))) g.world))))
+        (((outcome r >>= put_to l) >>= kept_if false (bound_for g how)) >>= (λ u. give (with_value to g.call.temps u))) g.world))))
     as_deed (Fine z) old l same_at d =
-        where_there x (starts g line rest) rest (is_there g.world l) (λ b. Passes (behind [] 1 (behind [] (bytes old) (perform
-        (((costs 4 (unless_gone b (does (Stores l (Number z))) >> give nothing)) >>= made_by false (bound_for g how))
-        >>= (λ u. give (with_value to g.call.temps u))) g.world)))) (λ before. tt) (λ seen. d)
+        where_there x (starts g line rest) rest (may_change l.base) (λ b. Passes (behind [] 1 (behind [] (bytes old) (perform
+        (((costs 4 (unless_gone b (sets l (Number z)) >> give nothing)) >>= kept_if false (bound_for g how))
+        >>= (λ u. give (with_value to g.call.temps u))) g.world)))) (λ before. tt)
+        (λ changes. where_there x (starts g line rest) rest (is_there g.world l) (λ b. Passes (behind [] 1 (behind [] (bytes old) (perform
+        (((costs 4 (unless_gone b (does (Stores l (Number z))) >> give nothing)) >>= kept_if false (bound_for g how))
+        >>= (λ u. give (with_value to g.call.temps u))) g.world)))) (λ before. tt) (λ seen. d))
     as_deed (Trapped trap) old l same_at d =
         subst (λ e. Settles x (starts g line rest) rest e)
         (ap (λ es. Passes (Finishes es (1 + bytes old + length (line_of (trap_text trap))) 1 g.world))
@@ -409,21 +414,21 @@ module _ (x : Basis) (traps : TrapsStop x) (labels : LabelsLead x) (g : Both) (r
         → ((trap : ℕ) (k : List WordInstr) → any_branches trap (code_of_line x g line rest k)
         ≡ any_branches trap (updated_code label operator (spot_of (location (around x.table x.blocks (body_of g)) t)) by k))
         → Settles x (starts g line rest) rest (gives (scene_of (high x.table x.blocks (starts g line rest))) to
-        (costs 1 (updated (location_at g.call.temps there) (λ n. operate operator n step)) >>= made_by false (bound_for g how)))
+        (costs 1 (updated (location_at g.call.temps there) (λ n. operate operator n step)) >>= kept_if false (bound_for g how)))
     updates_there t there plain none k may e up label by high_by step step_fits v same step_is front short runs shown =
         let s = some_kind (facts_in x.table) (location_type t) is_int refl k in
         let w = writes_at x g line rest y t there s.0 plain s.1 may e in
         let same_at = none_temps x g line rest y to none in
         let h : Housed = location (around x.table x.blocks (body_of g)) t in
-        let at_word = word_at x g line rest y h w.at (subst (λ q. Written x g line rest y h w.at q) (int_shape (facts_in x.table) s.0 s.2) w.written) in
         subst (λ l. Settles x (starts g line rest) rest (gives (scene_of (high x.table x.blocks (starts g line rest))) to
-        (costs 1 (updated l (λ n. operate operator n step)) >>= made_by false (bound_for g how)))) (sym w.is)
+        (costs 1 (updated l (λ n. operate operator n step)) >>= kept_if false (bound_for g how)))) (sym w.is)
         (where_there x (starts g line rest) rest (is_full_at g.world w.at) (λ b. gives (scene_of (high x.table x.blocks (starts g line rest))) to
         (costs 1 (unless_gone b (costs (bytes (load g.world w.at)) (operate operator (number_of (load g.world w.at)) step >>= put_to w.at)))
-        >>= made_by false (bound_for g how))) (λ before. tt)
+        >>= kept_if false (bound_for g how))) (λ before. tt)
         (λ seen. as_deed (applied operator (number_of (load g.world w.at)) step) (load g.world w.at) w.at same_at
         (update_settles x g line rest y traps temps same_at h operator up label by high_by step step_fits v same step_is front short runs shown w.at
-        at_word seen)))
+        (word_at x g line rest y h w.at (full_there x (starts g line rest) y w.at seen).1
+        (subst (λ q. Written x g line rest y h w.at q) (int_shape (facts_in x.table) s.0 s.2) w.written)) seen)))
 
   -- by 1
   module _ (a : Option ℕ) (t : ℕ) where
@@ -439,7 +444,7 @@ module _ (x : Basis) (traps : TrapsStop x) (labels : LabelsLead x) (g : Both) (r
         let k = subst (λ o. is_int (kind_if (facts_in x.table) o) ≡ true) (sym (same_type (location_type t) (if_type (known x).types a) p.0)) r.1 in
         mapped_settles x (starts g stepping rest) rest (g.call.temps.places t) (λ place. At (location_at g.call.temps place))
         (λ l. gives (scene_of (high x.table x.blocks (starts g stepping rest))) to
-        (costs 1 (updated (location_of l) (λ n. operate operator n (pos 1))) >>= made_by false (bound_for g how)))
+        (costs 1 (updated (location_of l) (λ n. operate operator n (pos 1))) >>= kept_if false (bound_for g how)))
         (λ there e. updates_there stepping y t there names.1.0 (no_type (value_type x g stepping rest y to) f.given) k may.0 e (step_updates operator r.0)
         (label_before (map block_plain rest)) FIFTH (omega arith) (pos 1) refl (put g.call.vars FIFTH 1)
         (same_put g.call.vars FIFTH 1 (omega arith) (omega arith)) (put_here g.call.vars FIFTH 1 (omega arith)) 1 (omega arith)
@@ -468,10 +473,10 @@ module _ (x : Basis) (traps : TrapsStop x) (labels : LabelsLead x) (g : Both) (r
         (sym (same_type (value_type x g adding rest y by) (if_type (known x).types b) q.0)) i.1 in
         mapped_settles x (starts g adding rest) rest (g.call.temps.places t) (λ place. At (location_at g.call.temps place))
         (λ l. using (option_map Given (g.call.temps.values by)) (λ z. gives (scene_of (high x.table x.blocks (starts g adding rest))) to
-        (costs 1 (updated (location_of l) (λ n. operate operator n (number_of (value_of z)))) >>= made_by false (bound_for g how))))
+        (costs 1 (updated (location_of l) (λ n. operate operator n (number_of (value_of z)))) >>= kept_if false (bound_for g how))))
         (λ there e. mapped_settles x (starts g adding rest) rest (g.call.temps.values by) Given
         (λ z. gives (scene_of (high x.table x.blocks (starts g adding rest))) to
-        (costs 1 (updated (location_at g.call.temps there) (λ n. operate operator n (number_of (value_of z)))) >>= made_by false (bound_for g how)))
+        (costs 1 (updated (location_at g.call.temps there) (λ n. operate operator n (number_of (value_of z)))) >>= kept_if false (bound_for g how)))
         (λ z h. let o = int_read x g adding rest y by z k_by h in
         updates_there adding y t there names.1.0 (no_type (value_type x g adding rest y to) f.given) k may.0 e r.0
         (label_before (map block_plain rest)) (variable x g adding rest y by) (let high_by = o.high in omega (arith, high_by)) (number_of z) o.fits

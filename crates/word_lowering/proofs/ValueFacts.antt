@@ -105,17 +105,6 @@ module _ (x : Basis) where
   PlainNames s [] = Unit {0}
   PlainNames s (name ∷ names) = IsPlain s name × PlainNames s names
 
-  -- yet so it is of all names
-  pub plain_name : (s : Site) (name : Name) → IsBody x.table x.blocks s.body → IsPlain s name
-  plain_name s (of_value t) b = λ there. b.plain (house s (of_value t)) there.among there.own
-  plain_name s (of_location t) b = b.plain_led t
-  plain_name s (of_place n) b = λ there. b.plain (house s (of_place n)) there.among there.own
-  plain_name s (of_waiting node) b = tt
-
-  pub plain_names : (s : Site) (names : List Name) → IsBody x.table x.blocks s.body → PlainNames s names
-  plain_names s [] b = tt
-  plain_names s (name ∷ names) b = (plain_name s name b, plain_names s names b)
-
   -- such locations lead to numbers
   pub location_of_numbers : (s : Site) (t : ℕ) → IsBody x.table x.blocks s.body → IsNamed s (of_location t) → IsPlain s (of_location t)
       → of_numbers (looked x.table s (of_location t)) ≡ true
@@ -248,7 +237,7 @@ module _ (x : Basis) where
           values = λ u other away. put_away t v u (different t u away);
           places = λ u away. refl;
           texts = λ u n k i text away. put_away t v u (different t u away);
-          still = λ u w h. put_still t v u w h;
+          still = λ u w l h. put_still t v u w h;
           variables = λ f u other away home. but.others u (above f u other home) (apart f u other away home);
           left = but.left;
         }

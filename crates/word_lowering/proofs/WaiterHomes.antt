@@ -1,26 +1,21 @@
 -- What waits has homes and variables behind those of all places, one after another; without hooks there are none.
 use Rattle.std.proofs.Common.{◌≡◌, refl, sym, ap, ◌∙◌, ℕ, ◌+◌, ◌%◌, ◌≤◌, ◌<◌, List, [], ◌∷◌, ◌++◌, length, drop, get_or, arith}
-use Rattle.std.proofs.Common.{append-nil, append_assoc, Bool, true, false, not, Option, Some, None}
-use Rattle.std.specs.Prelude.{nat_lt, ◌&&◌, ◌||◌, map}
-use Rattle.std.proofs.lemmas.Bool.{and_parts, not-true}
+use Rattle.std.proofs.Common.{append-nil, append_assoc, Bool, true, false, Option, Some, None}
 use Rattle.std.proofs.lemmas.List.{drop_more, drop_all}
 use Rattle.nim_types.specs.declared.types.TypeDef.{TypeDef}
 use Rattle.flat_code.specs.declared.line.Line.{Line}
-use Rattle.flat_code.specs.declared.block.BlockLine.{BlockLine}
-use Rattle.flat_code.specs.declared.code.CodeProc.{CodeProc}
 use Rattle.flat_code.specs.declared.place.FlatPlace.{FlatPlace}
 use Rattle.flat_code.specs.declared.place.PlaceKind.{PlaceKind}
 use Rattle.flat_code.specs.declared.place.PlaceKind.TheVariants as K
-use Rattle.flat_code.specs.Codes.{and_waits, block_plain, waiting_in}
+use Rattle.flat_code.specs.Codes.{and_waits, waiting_in}
 use Rattle.word_lowering.specs.declared.homes.Alias.{Alias}
 use Rattle.word_lowering.specs.declared.homes.Alias.TheVariants.{Own}
 use Rattle.word_lowering.specs.declared.homes.Free.{Free}
 use Rattle.word_lowering.specs.declared.homes.Housed.{Housed}
-use Rattle.word_lowering.specs.declared.homes.Layout.{Layout}
 use Rattle.word_lowering.specs.declared.homes.Waiter.{Waiter}
 use Rattle.word_lowering.specs.Layouts.{AreNumbers, all_housed, and_waiter, behind, behind_waiter, behind_waiters}
-use Rattle.word_lowering.specs.Layouts.{place_alias, place_bytes, waiters, waits_by, behind_all, free_at, layout_of}
-use Rattle.word_lowering.specs.MayLower.{all_plain, hook_may, is_hooked, is_plain, is_text, params_lead, places_may, proc_may, sizes_may}
+use Rattle.word_lowering.specs.Layouts.{place_alias, place_bytes, waiters, waits_by}
+use Rattle.word_lowering.specs.Stored.{is_hooked}
 use Rattle.word_lowering.proofs.HomesApart.{Each, Grows}
 use Rattle.word_lowering.proofs.LayoutBounds.{place_whole}
 
@@ -123,52 +118,6 @@ last_waiter hs i free made all le before = sym (append-nil made) ∙ ap (λ rest
 pub last_free : (hs : List Housed) (i : ℕ) (free all : Free) → length hs ≤ i → behind_waiters free (drop i hs) ≡ all → free ≡ all
 last_free hs i free all le before = sym (ap (behind_waiters free) (drop_all i hs le)) ∙ before
 
--- ---- nothing waits that has no hooks
-
-plain_by : (table : List TypeDef) (ty : ℕ) (kind : PlaceKind) (alias : Alias) (waits : Option ℕ) → is_plain table ty alias kind ≡ true
-    → waits_by kind alias (is_hooked table ty) waits ≡ None
-plain_by table ty K.Temp Own waits h =
-    ap (λ b. waits_by K.Temp Own b waits)
-    (not-true (is_hooked table ty) (and_parts (nat_lt ty (length table)) (is_text Own || not (is_hooked table ty)) h).1)
-plain_by table ty K.Temp alias waits h = refl
-plain_by table ty kind alias waits h = refl
-
-module _ (table : List TypeDef) (start : Bool) (lines : List Line) where
-  one_none : (p : FlatPlace) → is_plain table p.ty (place_alias table start lines p) p.kind ≡ true
-      → waits_by p.kind (place_alias table start lines p) (is_hooked table p.ty) p.waits ≡ None
-  one_none p h = plain_by table p.ty p.kind (place_alias table start lines p) p.waits h
-
-  pub nothing_waits : (first free : Free) (ps : List FlatPlace) → all_plain table (all_housed table start lines first ps) ≡ true
-      → waiters free (all_housed table start lines first ps) ≡ []
-  nothing_waits first free [] h = refl
-  nothing_waits first free (p ∷ ps) h =
-      let both = and_parts (is_plain table p.ty (place_alias table start lines p) p.kind) _ h in
-      let next = behind table start lines first p in
-      let bytes : ℕ = place_bytes table start lines p in
-      ap (λ o. and_waiter o p.ty bytes free (waiters (behind_waiter o bytes free) (all_housed table start lines next ps))) (one_none p both.0)
-      ∙ nothing_waits next free ps both.1
-
-  pub nothing_behind : (first free : Free) (ps : List FlatPlace) → all_plain table (all_housed table start lines first ps) ≡ true
-      → behind_waiters free (all_housed table start lines first ps) ≡ free
-  nothing_behind first free [] h = refl
-  nothing_behind first free (p ∷ ps) h =
-      let both = and_parts (is_plain table p.ty (place_alias table start lines p) p.kind) _ h in
-      let next = behind table start lines first p in
-      ap (λ o. behind_waiters (behind_waiter o (place_bytes table start lines p) free) (all_housed table start lines next ps)) (one_none p both.0)
-      ∙ nothing_behind next free ps both.1
-
--- a layout that may become word code
-pub none_waits : (table : List TypeDef) (start : Bool) (datum : ℕ) (p : CodeProc BlockLine) → proc_may table (layout_of table start datum p) p ≡ true
-    → (layout_of table start datum p).waiters ≡ []
-none_waits table start datum p h =
-    let own : Layout = layout_of table start datum p in
-    let lines : List Line = map block_plain p.lines in
-    let both = and_parts (places_may table own p) (sizes_may own) h in
-    let forms = and_parts (params_lead p.places && (all_plain table own.all && hook_may p.hook)) _ both.0 in
-    let places = and_parts (params_lead p.places) (all_plain table own.all && hook_may p.hook) forms.0 in
-    nothing_waits table start lines (free_at datum) (behind_all table start lines (free_at datum) p.places) p.places
-    (and_parts (all_plain table own.all) (hook_may p.hook) places.1).0
-
 -- ---- variables of all are below those that aren't taken
 
 abbrev pub AreBelow : ℕ → List Waiter → Type 0
@@ -185,6 +134,21 @@ waiters_below free (h ∷ hs) n le =
         → AreBelow n (and_waiter o h.ty h.bytes free (waiters (behind_waiter o h.bytes free) hs))
     by None g le rest = rest
     by (Some node) g le rest = (omega (arith, g, le), rest)
+
+-- and all from one on
+abbrev pub AreFrom : ℕ → List Waiter → Type 0
+AreFrom n [] = Unit {0}
+AreFrom n (w ∷ ws) = (n ≤ w.variable) × AreFrom n ws
+
+-- and none is one of those that were taken before
+pub waiters_from : (free : Free) (hs : List Housed) (n : ℕ) → n ≤ free.variable → AreFrom n (waiters free hs)
+waiters_from free [] n le = tt
+waiters_from free (h ∷ hs) n le = by h.waits (λ f more. waiters_from f hs n more)
+  where
+    by : (o : Option ℕ) → ((f : Free) → n ≤ f.variable → AreFrom n (waiters f hs))
+        → AreFrom n (and_waiter o h.ty h.bytes free (waiters (behind_waiter o h.bytes free) hs))
+    by None go = go free le
+    by (Some node) go = (le, go (behind_waiter (Some node) h.bytes free) (omega (arith, le)))
 
 -- no more than places that may wait
 pub waiters_few : (table : List TypeDef) (start : Bool) (lines : List Line) (first free : Free) (ps : List FlatPlace)

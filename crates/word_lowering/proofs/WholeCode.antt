@@ -15,7 +15,8 @@ use Rattle.flat_code.specs.Running.{last_of}
 use Rattle.word_lowering.specs.declared.homes.Layout.{Layout}
 use Rattle.word_lowering.specs.Emission.{Puts}
 use Rattle.word_lowering.specs.Layouts.{layouts}
-use Rattle.word_lowering.specs.LineCode.{Around, no_layout, proc_number}
+use Rattle.hook_code.specs.HookCode.{procs_in}
+use Rattle.word_lowering.specs.LineCode.{Around, no_layout, proc_number, first_hook}
 use Rattle.word_lowering.specs.Texts.{texts_of, texts_in, padded, data_in}
 use Rattle.word_lowering.specs.Lowered.{word_proc, with_own, if_runs, word_procs, no_proc, all_layouts, around_start, lowered}
 use Rattle.word_lowering.specs.MayLower.{may_lower}
@@ -81,7 +82,7 @@ next_proc x y index next behind text owns more own left (q ∷ ps) p old new all
 module _ (table : List TypeDef) (blocks : Code BlockLine) where
   abbrev made : Layout → CodeProc BlockLine → Around → WordCode
   made own start x = record {
-    procs = word_proc x 0 start ∷ word_procs x 0 x.layouts blocks.procs;
+    procs = (word_proc x 0 start ∷ word_procs x 0 x.layouts blocks.procs) ++ procs_in table (first_hook blocks.procs);
     statics = padded (data_in table own.free.datum blocks.procs);
   }
 
@@ -99,7 +100,7 @@ module _ (table : List TypeDef) (blocks : Code BlockLine) where
 
   pub whole : (all : List Layout) (own : Layout) (start : CodeProc BlockLine) (x : Around) (procs : List WordProc) (statics : List ℕ)
       → all ≡ all_layouts table blocks.procs → last_of no_layout all ≡ own → last_start ≡ start → x ≡ around_start table blocks.procs all own
-      → procs ≡ word_proc x 0 start ∷ word_procs x 0 x.layouts blocks.procs
+      → procs ≡ (word_proc x 0 start ∷ word_procs x 0 x.layouts blocks.procs) ++ procs_in table (first_hook blocks.procs)
       → statics ≡ padded (data_in table own.free.datum blocks.procs)
       → ◌≡◌ {A = WordCode} (record { procs = procs; statics = statics }) (lowered table blocks)
   whole all own start x procs statics a b c d e f =
@@ -114,7 +115,7 @@ module _ (table : List TypeDef) (blocks : Code BlockLine) where
       (procs : List WordProc) (statics : List ℕ)
       → slice ≡ blocks.procs → slices ≡ all_layouts table blocks.procs
       → slice_get slices (length slices - 1) ≡ Some own → slice_get slice (length slice - 1) ≡ Some start
-      → x ≡ around_start table slice slices own → procs ≡ word_proc x 0 start ∷ word_procs x 0 x.layouts slice
+      → x ≡ around_start table slice slices own → procs ≡ (word_proc x 0 start ∷ word_procs x 0 x.layouts slice) ++ procs_in table (first_hook slice)
       → statics ≡ padded (data_in table own.free.datum slice)
       → may_lower table blocks ≡ true
       → IsLowered table blocks (both procs statics)
@@ -122,6 +123,6 @@ module _ (table : List TypeDef) (blocks : Code BlockLine) where
       let is : ◌≡◌ {A = WordCode} (both procs statics) (lowered table blocks) =
       whole slices own start x procs statics there (last_is no_layout slices own o)
       (ap (λ ps. last_of no_proc ps) (sym s) ∙ last_is no_proc slice start f) (around ∙ ap (λ ps. around_start table ps slices own) s)
-      (h ∙ ap (λ ps. word_proc x 0 start ∷ word_procs x 0 x.layouts ps) s)
+      (h ∙ ap (λ ps. (word_proc x 0 start ∷ word_procs x 0 x.layouts ps) ++ procs_in table (first_hook ps)) s)
       (d ∙ ap (λ ps. padded (data_in table own.free.datum ps)) s) in
       record { is = is; may = may }

@@ -69,7 +69,7 @@ module _ (x : Basis) (least : FIXED_BYTES ≤ data_end x.table x.blocks) (g : Bo
   -- ---- an int
 
   pub number_tells : (z : ℤ) (from : ℕ) (k : List WordInstr) → is_int_number z ≡ true → g.call.vars from ≡ Some (word z)
-      → Tells x least g line rest y (number_code from k) k (signed_decimal z)
+      → Tells x least g line rest y 1 (number_code from k) k (signed_decimal z)
   number_tells z from k f e =
       let v : Vars = g.call.vars in
       let words : Vars = put g.words 0 (word z) in
@@ -98,7 +98,7 @@ module _ (x : Basis) (least : FIXED_BYTES ≤ data_end x.table x.blocks) (g : Bo
   -- ---- a char
 
   pub char_tells : (n from : ℕ) (k : List WordInstr) → n < 256 → OWN_FROM ≤ from → g.call.vars from ≡ Some n
-      → Tells x least g line rest y (char_code from k) k (n ∷ [])
+      → Tells x least g line rest y 1 (char_code from k) k (n ∷ [])
   char_tells n from k small high e =
       let m : Memory = g.memory in
       let m1 : Memory = with_number m data_at Byte n in
@@ -133,7 +133,7 @@ module _ (x : Basis) (least : FIXED_BYTES ≤ data_end x.table x.blocks) (g : Bo
 
   pub bool_tells : (a from : ℕ) (text : List ℕ) (k : List WordInstr) → a < 2 → length text + a ≡ 5 → TextAt x (8 + 8 * a) text
       → OWN_FROM ≤ from
-      → g.call.vars from ≡ Some a → Tells x least g line rest y (bool_code from k) k text
+      → g.call.vars from ≡ Some a → Tells x least g line rest y 1 (bool_code from k) k text
   bool_tells a from text k less long t high e =
       let m : Memory = g.memory in
       let v : Vars = g.call.vars in
@@ -188,7 +188,7 @@ module _ (x : Basis) (least : FIXED_BYTES ≤ data_end x.table x.blocks) (g : Bo
 
   pub name_tells : (ends names a from : ℕ) (text : List ℕ) (k : List WordInstr) → NameAt x ends names a text → OWN_FROM ≤ from → g.call.vars from
       ≡ Some a
-      → Tells x least g line rest y (name_code ends names from k) k text
+      → Tells x least g line rest y 1 (name_code ends names from k) k text
   name_tells ends names a from text k t high e =
       let m : Memory = g.memory in
       let v : Vars = g.call.vars in

@@ -1,6 +1,6 @@
--- Code that writes a value, by what the table says of its type.
-use Rattle.std.proofs.Common.{◌≡◌, ◌⊎◌, inl, inr, ℕ, zero, suc, ◌+◌, ◌*◌, ◌<◌, ◌≤◌, pos, negsuc, ℤ, List, [], ◌∷◌, length, Option, Some, None, true}
-use Rattle.std.proofs.Common.{refl, sym, ap, ap₂, subst, ◌∙◌, arith}
+-- Code that writes the value of a temporary that is a number, by what the table says of its type.
+use Rattle.std.proofs.Common.{◌≡◌, ℕ, zero, suc, ◌+◌, ◌*◌, ◌<◌, ◌≤◌, pos, negsuc, ℤ, List, [], ◌∷◌, length, Option, Some, None, true, false}
+use Rattle.std.proofs.Common.{refl, sym, ap, subst, ◌∙◌, arith}
 use Rattle.std.specs.Prelude.{unsigned_abs, codes, slice_get, int_le, int_lt}
 use Rattle.std.proofs.lemmas.Int.{ints}
 use Rattle.std.proofs.lemmas.Bool.{and_parts}
@@ -8,35 +8,37 @@ use Rattle.nim_types.specs.declared.types.TypeDef.{TypeDef}
 use Rattle.nim_types.specs.declared.types.TypeDef.TheVariants as D
 use Rattle.nim_types.specs.Table.{type_at, types_in, facts_in}
 use Rattle.nim_types.specs.Types.{Ty}
+use Rattle.nim_program.specs.declared.operation.Comparison.{Comparison}
+use Rattle.nim_program.specs.Kinds.{is_compared, is_joined, kind_of, plain_kind}
 use Rattle.nim_program.specs.Ints.{is_true, inside, low_byte, fits as is_int_number}
 use Rattle.nim_meaning.specs.Texts.{text_at}
 use Rattle.nim_program.specs.Texts.{bool_text, name_in}
 use Rattle.nim_meaning.specs.Values.{Number, Value, number_of}
 use Rattle.flat_code.specs.declared.block.BlockLine.{BlockLine}
 use Rattle.flat_code.specs.Fits.{is_value}
-use Rattle.flat_code.specs.Shapes.{Shape, block, has_shape, number, shape_of}
+use Rattle.flat_code.specs.Shapes.{Shape, has_shape, number, shape_of}
 use Rattle.word_code.specs.declared.word.WordInstr.{WordInstr}
-use Rattle.word_lowering.specs.declared.homes.Alias.TheVariants as alias
 use Rattle.word_lowering.specs.declared.texts.TheConstants.{FIXED_BYTES}
-use Rattle.word_lowering.specs.LineCode.{literal_at, bool_code, char_code, told_code, name_code, text_code, typed_code, value, variable_of, written_code}
+use Rattle.word_lowering.specs.LineCode.{bool_code, char_code, name_code, value, variable_of, written_code}
 use Rattle.word_lowering.specs.Operations.{word}
 use Rattle.word_lowering.specs.Stored.{base_at, entry_at}
 use Rattle.word_lowering.specs.Texts.{members_of, names_at, names_before}
 use Rattle.word_lowering.proofs.Arithmetic.{pos_word, small_byte}
+use Rattle.word_lowering.proofs.BlankShapes.{of_handles}
 use Rattle.word_lowering.proofs.ControlLines.{number_read}
+use Rattle.word_lowering.proofs.JoinedTypes.{Joined}
 use Rattle.word_lowering.proofs.LineFits.{number_value}
 use Rattle.word_lowering.proofs.Lines.{Basis, IsGood, starts}
 use Rattle.word_lowering.proofs.Related.{Both, body_of}
-use Rattle.word_lowering.proofs.Scenes.{IsLiteral, IsNamed, house, of_value}
-use Rattle.word_lowering.proofs.ShapeFacts.{never, of_numbers}
-use Rattle.word_lowering.proofs.Sites.{IsTextual, around, data_end}
-use Rattle.word_lowering.proofs.TextLines.{LiteralsThere, TextAt, text_tells}
-use Rattle.word_lowering.proofs.Told.{Tells, none_tells}
+use Rattle.word_lowering.proofs.Scenes.{house, of_value}
+use Rattle.word_lowering.proofs.Sites.{around, data_end, is_one_word}
+use Rattle.word_lowering.proofs.TextLines.{LiteralsThere, TextAt}
+use Rattle.word_lowering.proofs.Told.{Tells}
 use Rattle.word_lowering.proofs.TypeEntries.{entry_text}
 use Rattle.word_lowering.proofs.TypeShapes.{Looks}
-use Rattle.word_lowering.proofs.ValueFacts.{Operand, has_type, look_of, type_in, with_home, numbers_there, plain_name}
+use Rattle.word_lowering.proofs.ValueFacts.{Operand, has_type, look_of, type_in}
 use Rattle.word_lowering.proofs.WriteLines.{NameAt, bool_tells, char_tells, name_tells, number_tells}
-use Rattle.nim_meaning.specs.State.{World, text_of}
+use Rattle.nim_meaning.specs.State.{World}
 
 -- the texts of bools, and the names of enums, stand in the data
 pub record NamesThere (x : Basis) : Type 0 where
@@ -54,6 +56,13 @@ pub record Writing (x : Basis) : Type 0 where
   pub looks : (ty : ℕ) → Looks x.table (entry_at x.table ty) (shape_of (facts_in x.table) (type_at (types_in x.table) ty))
   pub texts : (world : World) (ty : ℕ) (v : Value)
       → text_at (facts_in x.table) world (Some (type_at (types_in x.table) ty)) v ≡ entry_text world (entry_at x.table ty) v
+  -- what is joined to texts is a text or a character
+  pub joined : (ty : ℕ) → is_joined (kind_of (facts_in x.table) (type_at (types_in x.table) ty)) ≡ true
+      → Joined (entry_at x.table ty) (type_at (types_in x.table) ty)
+  -- what is compared and no word is a text, where no ref is built
+  pub compared : (ty : ℕ) (comparison : Comparison) → is_compared comparison (plain_kind (facts_in x.table) (type_at (types_in x.table) ty)) ≡ true
+      → is_one_word (shape_of (facts_in x.table) (type_at (types_in x.table) ty)) ≡ false
+      → of_handles (shape_of (facts_in x.table) (type_at (types_in x.table) ty)) ≡ true → entry_at x.table ty ≡ Some D.Text
 
 -- ---- ordinals of so many values
 
@@ -73,7 +82,7 @@ value_small v n h =
     let s : has_shape (Number z.0) (number (Some n)) ≡ true = subst (λ u. has_shape u (number (Some n)) ≡ true) z.1 h in
     subst (λ u. (m : ℕ) × (number_of u ≡ pos m) × (m < n)) (sym z.1) (inside_small z.0 n (and_parts (is_int_number z.0) (inside z.0 n) s).1)
 
-some_of : {A : Type 0} (xs : List A) (n : ℕ) → n < length xs → (x : A) × (slice_get xs n ≡ Some x)
+pub some_of : {A : Type 0} (xs : List A) (n : ℕ) → n < length xs → (x : A) × (slice_get xs n ≡ Some x)
 some_of [] n h = absurd (omega (arith, h))
 some_of (x ∷ xs) zero h = (x, refl)
 some_of (x ∷ xs) (suc n) h = some_of xs n (omega (arith, h))
@@ -81,17 +90,17 @@ some_of (x ∷ xs) (suc n) h = some_of xs n (omega (arith, h))
 module _ (x : Basis) (said : Writing x) (g : Both) (line : BlockLine) (rest : List BlockLine) (y : IsGood x (starts g line rest)) (t ty : ℕ) (v : Value)
     (typed : type_in x is_value (body_of g) t ≡ Some (type_at (types_in x.table) ty)) (e : g.call.temps.values t ≡ Some v) (k : List WordInstr)
     (world : World) where
-  abbrev value_ty : Ty
+  abbrev pub value_ty : Ty
   value_ty = type_at (types_in x.table) ty
 
-  abbrev shape : Shape
+  abbrev pub shape : Shape
   shape = shape_of (facts_in x.table) value_ty
 
   abbrev held : ℕ
   held = variable_of (house g.call.site (of_value t))
 
-  abbrev Writes : List WordInstr → List ℕ → Type 0
-  Writes lines text = Tells x said.least g line rest y lines k text
+  abbrev pub Writes : List WordInstr → List ℕ → Type 0
+  Writes lines text = Tells x said.least g line rest y 1 lines k text
 
   -- ---- a number
 
@@ -111,12 +120,12 @@ module _ (x : Basis) (said : Writing x) (g : Both) (line : BlockLine) (rest : Li
         let same = small.1 in
         o.word_is ∙ (ap (λ z. Some (word z)) same ∙ ap Some (pos_word small.0 (subst (λ z. is_int_number z ≡ true) same o.fits)))
 
-  an_int : shape ≡ number None
+  pub an_int : shape ≡ number None
       → Writes (written_code (around x.table x.blocks (body_of g)) (Some D.Int) (base_at x.table ty) (house g.call.site (of_value t)) k)
       (entry_text world (Some D.Int) v)
   an_int is = let o = read None is in number_tells x said.least g line rest y (number_of v) held k o.fits o.word_is
 
-  a_bool : shape ≡ number (Some 2) → Writes (bool_code held k) (bool_text (is_true (number_of v)))
+  pub a_bool : shape ≡ number (Some 2) → Writes (bool_code held k) (bool_text (is_true (number_of v)))
   a_bool is = by (small 2 is).0 (small 2 is).1 (small 2 is).2 (small_word 2 is)
     where
       by : (m : ℕ) → number_of v ≡ pos m → m < 2 → g.call.vars held ≡ Some m → Writes (bool_code held k) (bool_text (is_true (number_of v)))
@@ -126,7 +135,7 @@ module _ (x : Basis) (said : Writing x) (g : Both) (line : BlockLine) (rest : Li
           (bool_tells x said.least g line rest y 1 held (codes "true") k (omega arith) refl said.names.true_text (read (Some 2) is).high w)
       by (suc (suc m)) at less w = absurd (omega (arith, less))
 
-  a_char : shape ≡ number (Some 256) → Writes (char_code held k) (low_byte (number_of v) ∷ [])
+  pub a_char : shape ≡ number (Some 256) → Writes (char_code held k) (low_byte (number_of v) ∷ [])
   a_char is =
       let s = small 256 is in
       subst (λ b. Writes (char_code held k) (b ∷ [])) (sym (ap low_byte s.1 ∙ small_byte s.0 s.2))
@@ -135,7 +144,7 @@ module _ (x : Basis) (said : Writing x) (g : Both) (line : BlockLine) (rest : Li
   abbrev ends : ℕ
   ends = data_end x.table x.blocks + 4 * names_before x.table (base_at x.table ty)
 
-  a_member : (def : TypeDef) (all : List (List ℕ)) → members_of def ≡ all → entry_at x.table ty ≡ Some def → shape ≡ number (Some (length all))
+  pub a_member : (def : TypeDef) (all : List (List ℕ)) → members_of def ≡ all → entry_at x.table ty ≡ Some def → shape ≡ number (Some (length all))
       → Writes (name_code ends (names_at x.table (data_end x.table x.blocks)) held k) (name_in (slice_get all (unsigned_abs (number_of v))))
   a_member def all are at is =
       let s = small (length all) is in
@@ -144,65 +153,3 @@ module _ (x : Basis) (said : Writing x) (g : Both) (line : BlockLine) (rest : Li
       subst (Writes (name_code ends (names_at x.table (data_end x.table x.blocks)) held k)) (sym same)
       (name_tells x said.least g line rest y ends (names_at x.table (data_end x.table x.blocks)) s.0 held text.0 k
       (said.names.name ty def at s.0 text.0 (ap (λ l. slice_get l s.0) are ∙ text.1)) (read (Some (length all)) is).high (small_word (length all) is))
-
-  -- ---- a text
-
-  module _ (is : shape ≡ block) where
-    named : IsNamed g.call.site (of_value t)
-    named = (has_type x g.call.site (of_value t) value_ty y.linked.0 typed).named
-
-    pub textual : IsTextual x.table x.blocks (house g.call.site (of_value t))
-    textual = by (y.linked.0.values t named)
-      where
-        by : ((house g.call.site (of_value t)).alias ≡ alias.Own) ⊎ IsTextual x.table x.blocks (house g.call.site (of_value t))
-            → IsTextual x.table x.blocks (house g.call.site (of_value t))
-        by (inr text) = text
-        by (inl own) =
-            let look = look_of x g.call.site (of_value t) value_ty (has_type x g.call.site (of_value t) value_ty y.linked.0 typed) in
-            never (sym (ap of_numbers (look ∙ is)) ∙ numbers_there x g.call.site (of_value t) y.linked.0 (with_home x named own tt)
-            (plain_name x g.call.site (of_value t) y.linked.0 (with_home x named own tt)))
-
-    pub literal : IsLiteral (body_of g) textual.behind textual.bytes v
-    literal = y.hold.0.texts t textual.behind textual.bytes v named textual.is e
-
-    abbrev place : (behind bytes : ℕ) → ℕ
-    place = literal_at (around x.table x.blocks (body_of g))
-
-    a_text : Writes (told_code (literal_at (around x.table x.blocks (body_of g))) (house g.call.site (of_value t)).alias
-        (house g.call.site (of_value t)).home k) (text_of world v)
-    a_text =
-        let l = literal in
-        let s = textual in
-        let code : text_code (place (length l.before) (length l.text)) (length l.text) k
-        ≡ told_code place (house g.call.site (of_value t)).alias (house g.call.site (of_value t)).home k
-        = ap₂ (λ n m. text_code (place n m) m k) l.at l.size ∙ sym (ap (λ a. told_code place a (house g.call.site (of_value t)).home k) s.is) in
-        subst (λ c. Writes c (text_of world v)) code
-        (subst (Writes (text_code (place (length l.before) (length l.text)) (length l.text) k)) (sym (ap (text_of world) l.is))
-        (text_tells x said.least g line rest y (place (length l.before) (length l.text)) l.text k
-        (said.literals.literal (body_of g) y.linked.0 l.before l.text l.after l.whole l.among)))
-
-  -- ---- each
-
-  abbrev Here : Option TypeDef → Type 0
-  Here d = Writes (written_code (around x.table x.blocks (body_of g)) d (base_at x.table ty) (house g.call.site (of_value t)) k) (entry_text world d v)
-
-  by_entry : (d : Option TypeDef) → entry_at x.table ty ≡ d → Looks x.table d shape → Here d
-  by_entry None at is = an_int is
-  by_entry (Some D.Int) at is = an_int is
-  by_entry (Some D.Bool) at is = a_bool is
-  by_entry (Some D.Char) at is = a_char is
-  by_entry (Some D.Text) at is = a_text is
-  by_entry (Some (D.Enum name place all)) at is = a_member (D.Enum name place all) all refl at is
-  by_entry (Some (D.Seq i)) at is = none_tells x said.least g line rest y k
-  by_entry (Some (D.Param n)) at is = none_tells x said.least g line rest y k
-  by_entry (Some (D.Array n i)) at is = none_tells x said.least g line rest y k
-  by_entry (Some (D.Tuple names is)) at l = none_tells x said.least g line rest y k
-  by_entry (Some (D.Object name place arguments all own_hooks parts)) at is = none_tells x said.least g line rest y k
-  by_entry (Some (D.Distinct name place i)) at is = absurd is
-  by_entry (Some (D.Ref name i)) at is = none_tells x said.least g line rest y k
-  by_entry (Some (D.Exception name place parent)) at is = none_tells x said.least g line rest y k
-
-  pub value_tells : Writes (typed_code (around x.table x.blocks (body_of g)) (Some ty) (value (around x.table x.blocks (body_of g)) t) k)
-      (text_at (facts_in x.table) world (Some value_ty) v)
-  value_tells = subst (Writes (typed_code (around x.table x.blocks (body_of g)) (Some ty) (value (around x.table x.blocks (body_of g)) t) k))
-      (sym (said.texts world ty v)) (by_entry (entry_at x.table ty) refl (said.looks ty))

@@ -1,10 +1,12 @@
 -- Temporaries that are other names: for a declared place, where a line leads to its location; for a temporary with a value, where one leads into that,
--- or for where it waits;
--- and for a text in the data, where one gives a literal. The first line of a procedure that gives a temporary says it, and all that give it have to
--- agree (specs/MayLower.antt). No public contract speaks of it.
-use Rattle.std.specs.Prelude.{◌≡◌, ℕ, Bool, false, nat_eq, ◌||◌, if◌then◌else◌, List, [], ◌∷◌, ◌++◌, length, Option, Some, None}
+-- or for where it waits; and for a text in the data, where one gives a literal that is only read and that no line takes from a home. The first line of a
+-- procedure that gives a temporary says it, and all that give it have to agree (specs/MayLower.antt). No public contract speaks of it.
+use Rattle.std.specs.Prelude.{◌≡◌, ℕ, Bool, true, false, nat_eq, ◌||◌, if◌then◌else◌, List, [], ◌∷◌, ◌++◌, length, Option, Some, None}
 use Rattle.std.specs.HashMap.{HashMap, get}
+use Rattle.nim_program.specs.declared.operation.Operation.{Operation}
 use Rattle.nim_program.specs.declared.operation.Operation.TheVariants as O
+use Rattle.nim_program.specs.declared.operation.Use.{Use}
+use Rattle.nim_program.specs.declared.operation.Use.TheVariants.{Lent, Looked}
 use Rattle.flat_code.specs.declared.line.From.{From}
 use Rattle.flat_code.specs.declared.line.From.TheVariants as F
 use Rattle.flat_code.specs.declared.line.Line.{Line}
@@ -68,16 +70,23 @@ texts_of (line ∷ rest) = texts_of rest ++ text_of line
 
 -- ---- aliases
 
-abbrev pub text_alias : (behind : ℕ) → Option (List ℕ) → Alias
-text_alias behind None = Own
-text_alias behind (Some text) = Text behind (length text)
+-- a literal that is only read is nobody's, and stays where it stands
+abbrev pub is_read : Use → Bool
+is_read Lent = true
+is_read Looked = true
+is_read how = false
+
+abbrev pub text_alias : (read : Bool) → (behind : ℕ) → Option (List ℕ) → Alias
+text_alias read behind None = Own
+text_alias true behind (Some text) = Text behind (length text)
+text_alias false behind (Some text) = Own
 
 -- what a line gives is another name for, where so many bytes of texts are behind it
 abbrev pub alias_by : Line → (behind : ℕ) → Alias
 alias_by (L.Root to place global) behind = Place place global
 alias_by (L.Fresh to from None) behind = Value from
 alias_by (L.Fresh to from (Some node)) behind = Node node
-alias_by (L.Constant to how ty pieces) behind = text_alias behind (text_in pieces)
+alias_by (L.Constant to how ty pieces) behind = text_alias (is_read how.how) behind (text_in pieces)
 alias_by line behind = Own
 
 abbrev pub is_it : ℕ → Option ℕ → Bool
@@ -87,13 +96,6 @@ is_it t (Some u) = nat_eq u t
 abbrev pub alias_in : (given : Line → Option ℕ) → (t : ℕ) → List Line → Alias
 alias_in given t [] = Own
 alias_in given t (line ∷ rest) = if is_it t (given line) then alias_by line (length (texts_of rest)) else alias_in given t rest
-
--- of a place of some kind
-abbrev pub alias_for : PlaceKind → (number : ℕ) → List Line → Alias
-alias_for K.Temp t lines = alias_in value_to t lines
-alias_for K.Location t lines = alias_in location_to t lines
-alias_for K.Within t lines = alias_in location_to t lines
-alias_for kind n lines = Own
 
 -- ---- places whose addresses are needed: their locations are arguments of calls, or trade values
 
@@ -133,7 +135,8 @@ addressed_in handed (line ∷ rest) = and_some (addressed_by handed line) (addre
 abbrev pub addressed : List Line → List ℕ
 addressed lines = addressed_in (handed_in lines) lines
 
--- the places to which lines give locations
+-- ---- places to which lines give locations
+
 abbrev pub stands_by : Line → Option ℕ
 stands_by (L.Own (W.PlaceStands place) from) = Some place
 stands_by line = None
@@ -141,6 +144,57 @@ stands_by line = None
 abbrev pub standing : List Line → List ℕ
 standing [] = []
 standing (line ∷ rest) = and_some (stands_by line) (standing rest)
+
+-- each time for another one, so that a location of such a place has a home of its own
+abbrev pub own_where : (standing : List ℕ) → Alias → Alias
+own_where standing (Place p false) = if is_among p standing then Own else Place p false
+own_where standing alias = alias
+
+-- ---- values that lines take from homes
+
+-- operations that read texts, each of which may be a literal
+abbrev pub reads_texts : Operation → Bool
+reads_texts (O.Compare comparison) = true
+reads_texts O.Join = true
+reads_texts O.Show = true
+reads_texts (O.Measure measure) = true
+reads_texts O.Echo = true
+reads_texts O.Append = true
+reads_texts operation = false
+
+-- the values that a line takes from homes of their own, which are no other names for literals
+abbrev pub homed_by : Line → List From
+homed_by (L.Apply to operation how ty of from) = if reads_texts operation then [] else from
+homed_by (L.Construct to how ty fields from) = from
+homed_by (L.Call to how ty proc from) = from
+homed_by (L.Fresh to from waits) = F.Value from ∷ []
+homed_by (L.Pass to from how ty) = F.Value from ∷ []
+homed_by (L.Fill place from) = F.Value from ∷ []
+homed_by (L.Give place from) = F.Value from ∷ []
+homed_by (L.Own what from) = from
+homed_by line = []
+
+-- the temporaries with values that are among operands
+abbrev pub values_in : List From → List ℕ
+values_in [] = []
+values_in (F.Value t ∷ from) = t ∷ values_in from
+values_in (F.Place t ∷ from) = values_in from
+
+abbrev pub homed : List Line → List ℕ
+homed [] = []
+homed (line ∷ rest) = values_in (homed_by line) ++ homed rest
+
+-- a literal that one is has a home then, and its handle stands there
+abbrev pub own_literal : (homed : List ℕ) → (t : ℕ) → Alias → Alias
+own_literal homed t (Text behind bytes) = if is_among t homed then Own else Text behind bytes
+own_literal homed t alias = alias
+
+-- what a place of some kind is another name for
+abbrev pub alias_for : PlaceKind → (number : ℕ) → List Line → Alias
+alias_for K.Temp t lines = own_literal (homed lines) t (alias_in value_to t lines)
+alias_for K.Location t lines = own_where (standing lines) (alias_in location_to t lines)
+alias_for K.Within t lines = own_where (standing lines) (alias_in location_to t lines)
+alias_for kind n lines = Own
 
 -- ---- as the code has them, by number
 

@@ -1,6 +1,7 @@
 pub mod Operands
 pub mod Stored
 pub mod ShapeBytes
+pub mod StandingBlocks
 pub mod Aliases
 pub mod Survey
 pub mod Lookups
@@ -20,3 +21,4 @@ pub mod Scope
 pub mod Lowered
 pub mod MayLower
 pub mod Lowers
+pub mod HookCalled

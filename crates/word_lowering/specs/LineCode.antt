@@ -1,6 +1,6 @@
 -- The word code of block code: for each line some lines, which stand before those of the lines behind it. The code of a line is a function of
 -- it and of the lines behind it. No public contract speaks of it.
-use Rattle.std.specs.Prelude.{ℕ, zero, suc, ◌+◌, ◌-◌, ◌*◌, Bool, true, false, List, [], ◌∷◌, length, Option, Some, None, slice_get}
+use Rattle.std.specs.Prelude.{ℕ, zero, suc, ◌+◌, ◌-◌, ◌*◌, Bool, true, false, ◌&&◌, List, [], ◌∷◌, length, map, Option, Some, None, slice_get}
 use Rattle.arc_base.specs.declared.outside.Stream.TheVariants.{Out}
 use Rattle.nim_types.specs.declared.types.TypeDef.{TypeDef}
 use Rattle.nim_types.specs.declared.types.TypeDef.TheVariants as D
@@ -12,10 +12,14 @@ use Rattle.nim_program.specs.declared.operation.Comparison.{Comparison}
 use Rattle.nim_program.specs.declared.operation.Operation.{Operation}
 use Rattle.nim_program.specs.declared.operation.Operation.TheVariants as O
 use Rattle.nim_program.specs.declared.operation.Operator.{Operator}
+use Rattle.nim_program.specs.declared.operation.Use.{Use}
+use Rattle.nim_program.specs.declared.operation.Use.TheVariants.{Looked}
 use Rattle.nim_program.specs.declared.program.TheConstants.{ACTIVE_CALLS}
 use Rattle.nim_program.specs.Traps.{IndexOutOfBounds, LengthChanged, CallDepth}
 use Rattle.rv32_isa.specs.declared.micro_op.Size.TheVariants.{Byte, Word as whole}
 use Rattle.rv32_isa.specs.Values.{subtracted}
+use Rattle.flat_code.specs.declared.code.CodeProc.{CodeProc}
+use Rattle.flat_code.specs.declared.block.BlockLine.{BlockLine}
 use Rattle.flat_code.specs.declared.line.From.{From}
 use Rattle.flat_code.specs.declared.line.From.TheVariants as F
 use Rattle.flat_code.specs.declared.line.Line.{Line}
@@ -24,6 +28,7 @@ use Rattle.flat_code.specs.declared.line.Owning.{Owning}
 use Rattle.flat_code.specs.declared.line.Owning.TheVariants as W
 use Rattle.flat_code.specs.declared.line.Piece.{Piece}
 use Rattle.flat_code.specs.declared.line.Piece.TheVariants as P
+use Rattle.flat_code.specs.Codes.{block_plain}
 use Rattle.flat_code.specs.Pieces.{piece_words}
 use Rattle.word_code.specs.declared.routine.TheConstants.{SWAP, NUMBER, PROCS_FROM}
 use Rattle.word_code.specs.declared.word.WordOperation.TheVariants as operation
@@ -31,6 +36,9 @@ use Rattle.word_code.specs.declared.word.Test.TheVariants as test
 use Rattle.word_code.specs.declared.word.WordInstr.{WordInstr}
 use Rattle.word_code.specs.declared.word.WordInstr.TheVariants.{Label, Spend, Constant, Copy, Compute, Sum, Place, Datum, Load, Store, Jump, Branch}
 use Rattle.word_code.specs.declared.word.WordInstr.TheVariants.{Argument, Call, Return, Write, Exit}
+use Rattle.hook_lifting.specs.declared.lifted.Hook.{Hook}
+use Rattle.hook_lifting.specs.declared.lifted.Hook.TheVariants.{Assigns, Copies, Ends, Sinks}
+use Rattle.word_lowering.specs.declared.handed.TheConstants.{RIGHT_HANDLE_AT}
 use Rattle.word_lowering.specs.declared.homes.TheConstants.{LEFT, FIRST, SECOND, THIRD, FOURTH, FIFTH}
 use Rattle.word_lowering.specs.declared.homes.Alias.{Alias}
 use Rattle.word_lowering.specs.declared.homes.Alias.TheVariants as alias
@@ -38,36 +46,46 @@ use Rattle.word_lowering.specs.declared.homes.Home.{Home}
 use Rattle.word_lowering.specs.declared.homes.Home.TheVariants.{Variable, Placed, Static}
 use Rattle.word_lowering.specs.declared.homes.Housed.{Housed}
 use Rattle.word_lowering.specs.declared.homes.Layout.{Layout}
+use Rattle.word_lowering.specs.declared.homes.Waiter.{Waiter}
 use Rattle.word_lowering.specs.declared.spots.Spot.{Spot}
 use Rattle.word_lowering.specs.declared.spots.Spot.TheVariants.{Held, Lies}
 use Rattle.word_lowering.specs.declared.texts.TheConstants.{LINE_END_AT, FALSE_AT}
 use Rattle.word_lowering.specs.Stored.{base_at, entry_at, part_at, count_in, element_bytes, limit_at}
-use Rattle.word_lowering.specs.Layouts.{free_at, params_in, result_in}
+use Rattle.word_lowering.specs.HookCalled.{hook_called}
+use Rattle.word_lowering.specs.Layouts.{free_at, holds_address, params_in, result_in, found}
+use Rattle.flat_code.specs.Fits.{is_location}
 use Rattle.word_lowering.specs.Spots.{spot_of, shifted, address, moved, moves, passes, cleared, clears, starts, handed}
 use Rattle.word_lowering.specs.Operations.{word, trap_label, binary_code, unary_code, compare_code, narrow_code, unless_code, turn_if_code, fits_code}
 use Rattle.word_lowering.specs.Operations.{beyond_code, turn_code}
-use Rattle.word_lowering.specs.Aliases.{text_in}
+use Rattle.word_lowering.specs.Aliases.{is_read, text_in}
 use Rattle.word_lowering.specs.Texts.{names_before, standing_place}
 pub use Rattle.word_lowering.specs.Operands.{variable_in, variable_of, operand_at, one_less, word_argument, Around, value, own_place, place, named}
-pub use Rattle.word_lowering.specs.Operands.{location_by, location, operand, operands, literal_at}
+pub use Rattle.word_lowering.specs.Operands.{location_by, location, operand, operands, literal_at, text_at}
 use Rattle.word_lowering.specs.OwnedCode.{type_of, entry_of, is_text, has_handle, each_bytes, two_made, left_of, right_of, with_operands, owned_code}
+use Rattle.word_lowering.specs.OwnedCode.{lent_text_code, literal_home, literal_text, text_copy_code, text_fits_code}
 use Rattle.word_lowering.specs.OwnedCode.{measured_code, owned_item_code, owned_element_code, element_read}
 use Rattle.word_lowering.specs.RoutineCode.{text_compare_code, echo_code}
-use Rattle.word_lowering.specs.WaitingCode.{waiter_at, waits_code, leaves_code, kept_code}
+use Rattle.word_lowering.specs.WaitingCode.{gives_hooked, waiter_at, waits_code, leaves_code, kept_code}
 
 -- ---- labels: those of traps are below 8, those of the lines are even, and those that code of a line has are odd
 
 abbrev pub own_label : ℕ → ℕ
 own_label name = 8 + 2 * name
 
--- a line has one for its code, and one for each argument of a call
+-- a line has one for its code, and one for each argument of a call, or operand
 abbrev pub arguments_of : Line → List From
 arguments_of (L.Call to how ty proc from) = from
+arguments_of (L.Apply to operation how ty of from) = from
 arguments_of line = []
 
 abbrev pub labels_in : List Line → ℕ
 labels_in [] = 0
 labels_in (line ∷ rest) = suc (length (arguments_of line)) + labels_in rest
+
+-- those of all procedures
+abbrev pub all_labels : List (CodeProc BlockLine) → ℕ
+all_labels [] = 0
+all_labels (p ∷ procs) = labels_in (map block_plain p.lines) + all_labels procs
 
 -- of the line that has these lines behind it
 abbrev pub label_before : List Line → ℕ
@@ -100,19 +118,16 @@ abbrev pub constant_at : Housed → Spot → List Piece → List WordInstr → L
 constant_at to (Held v) pieces k = Constant v (first_word (piece_words pieces)) ∷ k
 constant_at to (Lies home) pieces k = cleared to.is_word to.bytes (Lies home) (pieces_code home pieces k)
 
--- a text stands in the data
-abbrev pub constant_by : Option (List ℕ) → Housed → List Piece → List WordInstr → List WordInstr
-constant_by None to pieces k = constant_at to (spot_of to) pieces k
-constant_by (Some text) to pieces k = k
-
-abbrev pub constant_code : Housed → List Piece → List WordInstr → List WordInstr
-constant_code to pieces k = constant_by (text_in pieces) to pieces k
-
 -- ---- locations
 
 abbrev pub measure_word : Measure → ℕ → ℕ
 measure_word Len n = n
 measure_word High n = subtracted n 1
+
+-- that of a place, unless the location is another name for it
+abbrev pub root_code : Alias → (to : ℕ) → Home → List WordInstr → List WordInstr
+root_code alias.Own to home k = address to home ∷ k
+root_code other to home k = k
 
 -- the address so many bytes behind that of a home
 abbrev pub part_code : (to : ℕ) → Home → (at : ℕ) → List WordInstr → List WordInstr
@@ -149,6 +164,10 @@ or_none (Some layout) = layout
 
 abbrev pub proc_number : ℕ → ℕ
 proc_number proc = PROCS_FROM + proc
+
+-- the number of the first hook of a type: hooks have numbers behind those of all procedures
+abbrev pub first_hook : List (CodeProc BlockLine) → ℕ
+first_hook procs = proc_number (length procs)
 
 -- where the places of a call behind so many bytes left something; what is no word has no variable
 abbrev pub left_at : (room : ℕ) → Home → Home
@@ -239,15 +258,23 @@ abbrev pub quit_code : List Housed → List WordInstr → List WordInstr
 quit_code [] k = exit_code k
 quit_code (status ∷ rest) k = Exit (variable_of status) ∷ k
 
--- a label of a `case`; texts come with the heap
-abbrev pub choice_code : Choice → (from to : ℕ) → List WordInstr → List WordInstr
-choice_code (C.Ordinals low high) from to k = fits_code from to low high k
-choice_code (C.Text text) from to k = k
-
 -- parts one behind the other
 abbrev pub parts_code : Home → List Housed → List WordInstr → List WordInstr
 parts_code to [] k = k
 parts_code to (h ∷ hs) k = moved h.is_word h.bytes (Lies to) (spot_of h) (parts_code (shifted h.bytes to) hs k)
+
+-- ---- hooks
+
+-- what has hooks is copied where it is found, unless it is only looked at
+abbrev pub is_copied : Use → Bool
+is_copied Looked = false
+is_copied how = true
+
+-- by which a place gets an operand: a value is taken over, what stands at a location is copied
+abbrev pub taking : List From → (i : ℕ) → Hook
+taking (F.Value t ∷ from) zero = Sinks
+taking (operand ∷ from) (suc i) = taking from i
+taking from i = Assigns
 
 -- ---- lines of a procedure
 
@@ -258,6 +285,10 @@ module _ (x : Around) where
 
   abbrev pub led : ℕ → ℕ
   led t = variable_of (location x t)
+
+  -- what a location is another name for
+  abbrev pub own_alias : ℕ → Alias
+  own_alias t = (found is_location t x.own.all).alias
 
   abbrev pub layout_at : ℕ → Layout
   layout_at proc = or_none (slice_get x.layouts proc)
@@ -275,6 +306,26 @@ module _ (x : Around) where
   fields_code to ty (field ∷ fields) [] k = k
   fields_code to ty (field ∷ fields) (h ∷ hs) k =
       moved h.is_word h.bytes (Lies (shifted (part_at x.table ty field) to)) (spot_of h) (fields_code to ty fields hs k)
+
+  -- ---- constants
+
+  -- a text that is read is that of the data, and one that somebody gets is a copy of it
+  abbrev pub constant_by : (read : Bool) → Option (List ℕ) → Housed → List Piece → List WordInstr → List WordInstr
+  constant_by read None to pieces k = constant_at to (spot_of to) pieces k
+  constant_by true (Some text) to pieces k = lent_text_code x to.alias to.home text k
+  constant_by false (Some text) to pieces k = text_copy_code x to.home text k
+
+  abbrev pub constant_code : Use → Housed → List Piece → List WordInstr → List WordInstr
+  constant_code how to pieces k = constant_by (is_read how) (text_in pieces) to pieces k
+
+  -- ---- labels of a `case`
+
+  -- a text is compared with one that has its handle, or gets one
+  abbrev pub choice_code : Choice → Housed → (to : ℕ) → List WordInstr → List WordInstr
+  choice_code (C.Ordinals low high) from to k = fits_code (variable_of from) to low high k
+  choice_code (C.Text text) from to k =
+      literal_text x RIGHT_HANDLE_AT from.alias
+      (text_fits_code (text_at x text) (length text) (literal_home RIGHT_HANDLE_AT from.alias from.home) to k)
 
   -- ---- calls
 
@@ -405,23 +456,64 @@ module _ (x : Around) where
   abbrev pub element_at : (handle : Bool) → (from index : ℕ) → Housed → List WordInstr → List WordInstr
   element_at handle from index to k = element_in handle (location x from) (held index) to k
 
-  -- ---- what somebody owns: it waits at a node, or doesn't any more; what ends, and places, come with hooks
+  -- ---- hooks, whose numbers are behind those of all procedures
 
-  abbrev pub owning_code : Owning → List From → List WordInstr → List WordInstr
-  owning_code (W.TakenUp node) from k = leaves_code (waiter_at node x.own.waiters) k
-  owning_code (W.Waits node) (F.Value t ∷ []) k = waits_code (waiter_at node x.own.waiters) (value x t) k
-  owning_code what from k = k
+  abbrev pub hook_code : Hook → (ty : ℕ) → (to from : Home) → List WordInstr → List WordInstr
+  hook_code hook ty to from k = hook_called (proc_number (length x.layouts)) hook ty to from k
+
+  -- a copy of what is found, by a hook unless its bits are one
+  abbrev pub got_code : (hooked : Bool) → Option ℕ → (to from : Housed) → List WordInstr → List WordInstr
+  got_code true (Some ty) to from k = hook_code Copies ty to.home from.home k
+  got_code hooked ty to from k = moves to from k
+
+  -- an assignment, by a hook unless a row does it
+  abbrev pub assigned_code : (hooked : Bool) → (row : List WordInstr → List WordInstr) → Option ℕ → List From → List WordInstr → List WordInstr
+  assigned_code true row (Some ty) from k =
+      hook_code (taking from 1) ty (operand_at (operands x from) 0).home (operand_at (operands x from) 1).home k
+  assigned_code hooked row ty from k = row k
+
+  abbrev pub applied_code : Operation → (label to : ℕ) → (ty : Option ℕ) → (of : List (Option ℕ)) → List From → List WordInstr → List WordInstr
+  applied_code O.Assign label to ty of from k =
+      assigned_code (gives_hooked x.table (type_of of 0)) (row_code O.Assign label ty of (value x to) (operands x from)) (type_of of 0) from k
+  applied_code operation label to ty of from k = row_code operation label ty of (value x to) (operands x from) k
+
+  -- ---- what somebody owns: it waits at a node, or doesn't any more, it ends, or a place gets it
+
+  abbrev pub declared : ℕ → Housed
+  declared p = place x p false
+
+  -- what a place holds ends, unless it stands for another one
+  abbrev pub ends_code : (stands : Bool) → (ty : ℕ) → Home → List WordInstr → List WordInstr
+  ends_code true ty home k = k
+  ends_code false ty home k = hook_code Ends ty home home k
+
+  -- what waits ends, if anything does
+  abbrev pub waiter_ends_code : (label : ℕ) → (ty : ℕ) → Option Waiter → List WordInstr → List WordInstr
+  waiter_ends_code label ty None k = k
+  waiter_ends_code label ty (Some w) k =
+      Constant FIRST 0 ∷ Branch test.Equal w.variable FIRST label
+      ∷ hook_code Ends ty (Placed w.at) (Placed w.at) (Label label ∷ leaves_code (Some w) k)
+
+  abbrev pub owning_code : Owning → List From → (label : ℕ) → List WordInstr → List WordInstr
+  owning_code (W.TakenUp node) from label k = leaves_code (waiter_at node x.own.waiters) k
+  owning_code (W.Waits node) (F.Value t ∷ []) label k = waits_code (waiter_at node x.own.waiters) (value x t) k
+  owning_code (W.TemporaryEnds node ty) from label k = waiter_ends_code label ty (waiter_at node x.own.waiters) k
+  owning_code (W.PlaceEnds place ty) from label k = ends_code (holds_address (declared place)) ty (declared place).home k
+  owning_code (W.PlaceCopies place ty) from label k = hook_code Copies ty (declared place).home (operand_at (operands x from) 0).home k
+  owning_code (W.ResultGets place ty) from label k = hook_code (taking from 0) ty (declared place).home (operand_at (operands x from) 0).home k
+  owning_code (W.PlaceStands p) (F.Place t ∷ []) label k = address (variable_of (declared p)) (location x t).home ∷ k
+  owning_code what from label k = k
 
   -- ---- lines
 
   abbrev pub line_code : Line → (label : ℕ) → List WordInstr → List WordInstr
-  line_code (L.Apply to operation how ty of from) label k = row_code operation label ty of (value x to) (operands x from) k
+  line_code (L.Apply to operation how ty of from) label k = applied_code operation label to ty of from k
   line_code (L.Construct to how ty fields from) label k = clears (value x to) (fields_code (value x to).home ty fields (operands x from) k)
-  line_code (L.Constant to how ty pieces) label k = constant_code (value x to) pieces k
+  line_code (L.Constant to how ty pieces) label k = constant_code how.how (value x to) pieces k
   line_code (L.Call to how ty proc from) label k = Spend ∷ call_code label proc ty to from k
-  line_code (L.Get to from how ty) label k = moves (value x to) (location x from) k
+  line_code (L.Get to from how ty) label k = got_code (gives_hooked x.table ty && is_copied how.how) ty (value x to) (location x from) k
   line_code (L.Look to from) label k = moves (value x to) (location x from) k
-  line_code (L.Root to p global) label k = k
+  line_code (L.Root to p global) label k = root_code (own_alias to) (led to) (place x p global).home k
   line_code (L.Fresh to from waits) label k = k
   line_code (L.Standing to ty pieces) label k = Datum (led to) (standing_at pieces) ∷ k
   line_code (L.Part to from field) label k = part_code (led to) (location x from).home (part_at x.table (location x from).ty field) k
@@ -443,8 +535,8 @@ module _ (x : Around) where
   line_code (L.Label name) label k = Label (own_label name) ∷ k
   line_code (L.Jump to) label k = Jump (own_label to) ∷ k
   line_code (L.Unless from to) label k = unless_code (held from) (own_label to) k
-  line_code (L.Fits from these to) label k = choice_code these (held from) (own_label to) k
-  line_code (L.Own what from) label k = owning_code what from k
+  line_code (L.Fits from these to) label k = choice_code these (value x from) (own_label to) k
+  line_code (L.Own what from) label k = owning_code what from label k
   line_code L.Enter label k = Spend ∷ k
   line_code (L.Turn to) label k = Spend ∷ Jump (own_label to) ∷ k
   line_code (L.TurnIf from to) label k = turn_if_code (held from) (own_label to) k

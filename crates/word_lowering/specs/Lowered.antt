@@ -1,5 +1,5 @@
--- The word code of block code as a whole: the start code first, then the procedures in their order. It calls routines by their numbers. No public
--- contract speaks of it.
+-- The word code of block code as a whole: the start code first, then the procedures in their order, then the hooks of types. It calls routines by
+-- their numbers. No public contract speaks of it.
 use Rattle.std.specs.Prelude.{ℕ, suc, nat_eq, ◌+◌, Bool, true, false, ◌||◌, if◌then◌else◌}
 use Rattle.std.specs.Prelude.{List, [], ◌∷◌, ◌++◌, length, map, Option, Some, None}
 use Rattle.nim_types.specs.declared.types.TypeDef.{TypeDef}
@@ -29,7 +29,8 @@ use Rattle.word_lowering.specs.Spots.{clears}
 use Rattle.word_lowering.specs.Operations.{trap_label}
 use Rattle.word_lowering.specs.WaitingCode.{none_code}
 use Rattle.word_lowering.specs.Texts.{padded, names_at, texts_at, texts_in, data_in}
-use Rattle.word_lowering.specs.LineCode.{Around, no_layout, lines_code, proc_number}
+use Rattle.hook_code.specs.HookCode.{procs_in}
+use Rattle.word_lowering.specs.LineCode.{Around, no_layout, lines_code, proc_number, first_hook}
 
 -- ---- procedures
 
@@ -66,7 +67,7 @@ and_last lines = lines ++ last_code lines
 
 -- what stands before the lines of a procedure: its result is at its default, and nothing waits
 abbrev pub begin_code : Layout → List WordInstr → List WordInstr
-begin_code own k = result_cleared (result_in own.all) (none_code own.waiters k)
+begin_code own k = none_code own.waiters (result_cleared (result_in own.all) k)
 
 abbrev pub code_of : Around → List Line → List WordInstr
 code_of x lines = and_last (begin_code x.own (lines_code x lines []))
@@ -155,6 +156,6 @@ data_at = own_data_at + HEAP_DATA
 
 abbrev pub lowered : List TypeDef → Code BlockLine → WordCode
 lowered table blocks = record {
-  procs = lowered_procs (start_around table blocks.procs) blocks.procs;
+  procs = lowered_procs (start_around table blocks.procs) blocks.procs ++ procs_in table (first_hook blocks.procs);
   statics = data_of table blocks.procs;
 }

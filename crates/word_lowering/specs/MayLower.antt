@@ -1,17 +1,25 @@
 -- What `words` asks of block code: that no form comes that word code has no room for, and none that isn't built. Block code that comes from a program
--- without what the heap is for has no such form.
-use Rattle.std.specs.Prelude.{ℕ, ◌+◌, nat_eq, nat_le, nat_lt, Bool, true, false, not, ◌&&◌, ◌||◌, if◌then◌else◌}
+-- that is built has no such form.
+use Rattle.std.specs.Prelude.{ℕ, ◌+◌, ◌*◌, nat_eq, nat_le, nat_lt, Bool, true, false, not, ◌&&◌, ◌||◌, if◌then◌else◌}
 use Rattle.std.specs.Prelude.{List, [], ◌∷◌, length, map, Option, Some, None}
+use Rattle.nim_types.specs.declared.types.TheConstants.{WORD_BYTES}
 use Rattle.nim_types.specs.declared.types.TypeDef.{TypeDef}
 use Rattle.nim_types.specs.declared.types.TypeDef.TheVariants as D
-use Rattle.nim_program.specs.declared.expr.Label.TheVariants as C
+use Rattle.nim_types.specs.Forms.{form_of, levels}
+use Rattle.nim_types.specs.Table.{type_at, types_in, facts_in}
+use Rattle.nim_program.specs.declared.program.HookOf.{HookOf}
+use Rattle.nim_program.specs.View.{if_type}
 use Rattle.nim_program.specs.declared.operation.Operation.{Operation}
 use Rattle.nim_program.specs.declared.operation.Operation.TheVariants as O
-use Rattle.nim_program.specs.declared.operation.Use.{Use}
-use Rattle.nim_program.specs.declared.program.HookOf.{HookOf}
-use Rattle.nim_meaning.specs.Shapes.{is_lent}
+use Rattle.nim_meaning.specs.LeftOut.{is_built}
+use Rattle.nim_meaning.specs.Unbuilt.{is_unbuilt}
+use Rattle.flat_code.specs.declared.line.From.{From}
+use Rattle.flat_code.specs.declared.line.From.TheVariants as F
+use Rattle.flat_code.specs.declared.line.Owning.TheVariants as W
 use Rattle.flat_code.specs.declared.line.Line.{Line}
 use Rattle.flat_code.specs.declared.line.Line.TheVariants as L
+use Rattle.flat_code.specs.declared.line.Owning.{Owning}
+use Rattle.flat_code.specs.declared.line.Owning.TheVariants as W
 use Rattle.flat_code.specs.declared.place.PlaceKind.{PlaceKind}
 use Rattle.flat_code.specs.declared.place.PlaceKind.TheVariants as K
 use Rattle.flat_code.specs.declared.place.FlatPlace.{FlatPlace}
@@ -19,7 +27,7 @@ use Rattle.flat_code.specs.declared.block.BlockLine.{BlockLine}
 use Rattle.flat_code.specs.declared.code.Code.{Code}
 use Rattle.flat_code.specs.declared.code.CodeProc.{CodeProc}
 use Rattle.flat_code.specs.Codes.{block_plain}
-use Rattle.flat_code.specs.Fits.{is_value, is_location}
+use Rattle.flat_code.specs.Fits.{is_own, is_value, is_location, is_declared}
 use Rattle.flat_code.specs.Whole.{label_in}
 use Rattle.word_code.specs.declared.word.TheConstants.{SPARE_ROOM, MOST_ARGUMENTS, HOOK_KINDS}
 use Rattle.word_lowering.specs.declared.homes.TheConstants.{OWN_FROM}
@@ -29,11 +37,12 @@ use Rattle.word_lowering.specs.declared.homes.Home.{Home}
 use Rattle.word_lowering.specs.declared.homes.Home.TheVariants.{Placed}
 use Rattle.word_lowering.specs.declared.homes.Housed.{Housed}
 use Rattle.word_lowering.specs.declared.homes.Layout.{Layout}
-use Rattle.word_lowering.specs.declared.may_lower.TheConstants.{MOST_ROOM, MOST_VARS, MOST_DATA}
-use Rattle.word_lowering.specs.Aliases.{value_to, location_to, alias_by, is_it, text_in, texts_of}
-use Rattle.word_lowering.specs.Layouts.{is_empty, found, params_in, kept_in, is_param, result_in}
+use Rattle.word_lowering.specs.declared.may_lower.TheConstants.{MOST_ROOM, MOST_VARS, MOST_WAITERS, MOST_FRAME, MOST_DATA}
+use Rattle.word_lowering.specs.Aliases.{value_to, location_to, alias_by, is_it, texts_of, own_where, standing}
+pub use Rattle.word_lowering.specs.Aliases.{homed_by}
+use Rattle.word_lowering.specs.Stored.{entry_at, is_hooked, is_word}
+use Rattle.word_lowering.specs.Layouts.{is_empty, found, owns, params_in, kept_in, is_param, result_in}
 use Rattle.word_lowering.specs.Lowered.{all_layouts, data_of}
-pub use Rattle.word_lowering.specs.Stored.{is_hooked}
 
 -- ---- places
 
@@ -46,18 +55,17 @@ abbrev pub params_lead : List FlatPlace → Bool
 params_lead [] = true
 params_lead (p ∷ ps) = if is_param p.kind then params_lead ps else no_params ps
 
-abbrev pub is_text : Alias → Bool
-is_text (Text behind bytes) = true
-is_text alias = false
+-- Its type is one of the table, its values have code, and so many parts inside one another that hooks have room. A number that a loop keeps is a word,
+-- whatever its type says.
+abbrev pub is_known : List TypeDef → (ty : ℕ) → PlaceKind → Bool
+is_known table ty K.Counter = true
+is_known table ty kind =
+    nat_lt ty (length table) && (not (is_unbuilt (facts_in table) (type_at (types_in table) ty))
+    && nat_le (levels (form_of (facts_in table) (type_at (types_in table) ty))) 64)
 
--- Nothing that the heap would be for, but a text of the data. A number that a loop keeps is a word, whatever its type says.
-abbrev pub is_plain : List TypeDef → (ty : ℕ) → Alias → PlaceKind → Bool
-is_plain table ty alias K.Counter = true
-is_plain table ty alias kind = nat_lt ty (length table) && (is_text alias || not (is_hooked table ty))
-
-abbrev pub all_plain : List TypeDef → List Housed → Bool
-all_plain table [] = true
-all_plain table (h ∷ hs) = is_plain table h.ty h.alias h.kind && all_plain table hs
+abbrev pub all_known : List TypeDef → List Housed → Bool
+all_known table [] = true
+all_known table (h ∷ hs) = is_known table h.ty h.kind && all_known table hs
 
 -- ---- lines
 
@@ -75,37 +83,65 @@ abbrev pub is_as : (PlaceKind → Bool) → List Housed → Option ℕ → Alias
 is_as is_kind hs None alias = true
 is_as is_kind hs (Some t) alias = same_alias (found is_kind t hs).alias alias
 
-abbrev pub is_echo : Operation → Bool
-is_echo O.Echo = true
-is_echo operation = false
+-- a temporary with a value may have a home instead
+abbrev pub is_value_as : List Housed → Option ℕ → Alias → Bool
+is_value_as hs None alias = true
+is_value_as hs (Some t) alias = same_alias (found is_value t hs).alias Own || same_alias (found is_value t hs).alias alias
 
-abbrev pub any_hooked : List TypeDef → List (Option ℕ) → Bool
-any_hooked table [] = false
-any_hooked table (None ∷ tys) = any_hooked table tys
-any_hooked table (Some ty ∷ tys) = is_hooked table ty || any_hooked table tys
+-- the type for whose values a line calls a hook
+abbrev pub hook_type : Owning → Option ℕ
+hook_type (W.TemporaryEnds node ty) = Some ty
+hook_type (W.PlaceEnds place ty) = Some ty
+hook_type (W.PlaceCopies place ty) = Some ty
+hook_type (W.ResultGets place ty) = Some ty
+hook_type what = None
 
--- a text of the data, which nobody owns, is lent
-abbrev pub lends : Option (List ℕ) → Use → Bool
-lends None how = true
-lends (Some text) how = is_lent how
+abbrev pub has_hook : List TypeDef → Option ℕ → Bool
+has_hook table None = true
+has_hook table (Some ty) = is_hooked table ty
 
--- Texts are operands of `echo` alone; no value waits or is owned.
-abbrev pub reads_plain : List TypeDef → Line → Bool
-reads_plain table (L.Apply to operation how ty of from) = is_echo operation || not (any_hooked table of)
-reads_plain table (L.Constant to how ty pieces) = lends (text_in pieces) how.how
-reads_plain table (L.Fresh to from (Some node)) = false
-reads_plain table (L.Fits from (C.Text text) to) = false
-reads_plain table (L.Own what from) = false
-reads_plain table line = true
+-- operations are built, nothing is dereferenced, and a hook that is called is one of a type that has some
+abbrev pub has_code : List TypeDef → Line → Bool
+has_code table (L.Apply to operation how ty of from) = is_built operation (facts_in table) (map (if_type (types_in table)) of)
+has_code table (L.Object to from) = false
+has_code table (L.Own what from) = has_hook table (hook_type what)
+has_code table line = true
 
-abbrev pub line_may : List TypeDef → List Housed → Line → (behind : ℕ) → Bool
-line_may table hs line behind =
-    is_as is_value hs (value_to line) (alias_by line behind)
-    && (is_as is_location hs (location_to line) (alias_by line behind) && reads_plain table line)
+-- a place to which a line gives a location stands by address, and has no value of its own
+abbrev pub stands_lent : List Housed → ℕ → Bool
+stands_lent hs p = (found is_declared p hs).lent && not (owns (found is_declared p hs))
 
-abbrev pub lines_may : List TypeDef → List Housed → List Line → Bool
-lines_may table hs [] = true
-lines_may table hs (line ∷ rest) = line_may table hs line (length (texts_of rest)) && lines_may table hs rest
+-- they are no other names for literals
+abbrev pub own_values : List Housed → List From → Bool
+own_values hs [] = true
+own_values hs (F.Value t ∷ from) = same_alias (found is_value t hs).alias Own && own_values hs from
+own_values hs (F.Place t ∷ from) = own_values hs from
+
+-- What a line leads into: into a value that doesn't wait only where that has no hooks, and what waits has some. What it fills stands for nothing else.
+-- A part is one of what has parts.
+abbrev pub leads_right : List TypeDef → List Housed → Line → Bool
+leads_right table hs (L.Fresh to from None) = not (is_hooked table (found is_value from hs).ty)
+leads_right table hs (L.Fresh to from (Some node)) = is_hooked table (found is_value from hs).ty
+leads_right table hs (L.Fill place from) = not (found is_own place hs).lent
+leads_right table hs (L.Blank place ty) = not (found is_own place hs).lent
+leads_right table hs (L.Give place from) = not (found is_own place hs).lent
+leads_right table hs (L.Own (W.PlaceCopies place ty) from) = not (found is_own place hs).lent
+leads_right table hs (L.Own (W.ResultGets place ty) from) = not (found is_own place hs).lent
+leads_right table hs (L.Part to from field) = not (is_word (entry_at table (found is_location from hs).ty))
+leads_right table hs (L.Own (W.PlaceStands place) from) = stands_lent hs place
+leads_right table hs (L.Own (W.Waits node) (F.Value t ∷ [])) = is_hooked table (found is_value t hs).ty
+leads_right table hs line = true
+
+-- among lines that give locations to these places
+abbrev pub line_may : List TypeDef → List Housed → (standing : List ℕ) → Line → (behind : ℕ) → Bool
+line_may table hs standing line behind =
+    is_value_as hs (value_to line) (alias_by line behind)
+    && (is_as is_location hs (location_to line) (own_where standing (alias_by line behind))
+    && (has_code table line && (own_values hs (homed_by line) && leads_right table hs line)))
+
+abbrev pub lines_may : List TypeDef → List Housed → (standing : List ℕ) → List Line → Bool
+lines_may table hs standing [] = true
+lines_may table hs standing (line ∷ rest) = line_may table hs standing line (length (texts_of rest)) && lines_may table hs standing rest
 
 -- a line is a label of that name
 abbrev pub has_label : (name : ℕ) → List Line → Bool
@@ -165,18 +201,20 @@ abbrev pub result_end : Option Housed → ℕ
 result_end None = 0
 result_end (Some h) = placed_end h.home h.bytes
 
--- what a call hands on and back stands within the room for arguments
+-- What a call hands on and back stands within the room for arguments. Its variables and its places are few together.
 abbrev pub sizes_may : Layout → Bool
 sizes_may own =
     nat_le own.free.byte MOST_ROOM && (nat_le (placed_bytes (params_in own.all)) SPARE_ROOM
     && (nat_le own.free.variable MOST_VARS && (nat_le (OWN_FROM + kept_in (params_in own.all)) MOST_ARGUMENTS
-    && nat_le (result_end (result_in own.all)) SPARE_ROOM)))
+    && (nat_le (result_end (result_in own.all)) SPARE_ROOM && (nat_le (length own.waiters) MOST_WAITERS
+    && nat_le (WORD_BYTES * own.free.variable + own.free.byte) MOST_FRAME)))))
 
 -- ---- all of it
 
 abbrev pub places_may : List TypeDef → Layout → CodeProc BlockLine → Bool
 places_may table own p =
-    (params_lead p.places && (all_plain table own.all && hook_may p.hook)) && lines_may table own.all (map block_plain p.lines)
+    (params_lead p.places && (all_known table own.all && hook_may p.hook))
+    && lines_may table own.all (standing (map block_plain p.lines)) (map block_plain p.lines)
 
 abbrev pub proc_may : List TypeDef → Layout → CodeProc BlockLine → Bool
 proc_may table own p = places_may table own p && sizes_may own

@@ -18,7 +18,7 @@ use Rattle.word_lowering.specs.declared.homes.Layout.{Layout}
 use Rattle.word_lowering.specs.declared.setting.Setting.{Setting}
 use Rattle.word_lowering.specs.Layouts.{nowhere, found}
 use Rattle.word_lowering.specs.Spots.{address}
-use Rattle.word_lowering.specs.Texts.{place_of}
+use Rattle.word_lowering.specs.Texts.{place_of, text_place}
 use Rattle.word_lowering.specs.WaitingCode.{waiter_at, waiter_house}
 
 -- the variable of a word
@@ -87,3 +87,7 @@ module _ (x : Around) where
   -- where a literal of the procedure is laid out: so many bytes, behind so many of its literals
   abbrev pub literal_at : (behind bytes : ℕ) → ℕ
   literal_at behind bytes = x.setting.texts + place_of x.procs (x.setting.literals + behind) bytes
+
+  -- and where a text is, whichever line has it
+  abbrev pub text_at : List ℕ → ℕ
+  text_at text = x.setting.texts + text_place x.procs text

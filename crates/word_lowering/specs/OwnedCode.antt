@@ -15,7 +15,7 @@ use Rattle.word_code.specs.declared.routine.TheConstants.{PROCS_FROM}
 use Rattle.word_code.specs.declared.word.WordOperation.TheVariants as operation
 use Rattle.word_code.specs.declared.word.Test.TheVariants as test
 use Rattle.word_code.specs.declared.word.WordInstr.{WordInstr}
-use Rattle.word_code.specs.declared.word.WordInstr.TheVariants.{Label, Constant, Compute, Sum, Datum, Load, Store, Branch}
+use Rattle.word_code.specs.declared.word.WordInstr.TheVariants.{Label, Constant, Compute, Sum, Datum, Load, Store, Jump, Branch}
 use Rattle.heap_memory.specs.declared.numbers.TheConstants.{SEQ_NEW, TEXT_ORDER}
 use Rattle.word_lowering.specs.declared.handed.TheConstants.{LEFT_HANDLE_AT, RIGHT_HANDLE_AT}
 use Rattle.word_lowering.specs.declared.handed.Handed.TheVariants.{Where, Number}
@@ -27,11 +27,11 @@ use Rattle.word_lowering.specs.declared.homes.Home.TheVariants.{Variable, Static
 use Rattle.word_lowering.specs.declared.homes.Housed.{Housed}
 use Rattle.word_lowering.specs.declared.spots.Spot.TheVariants.{Held, Lies}
 use Rattle.word_lowering.specs.declared.texts.TheConstants.{FALSE_AT}
-use Rattle.word_lowering.specs.Operands.{Around, literal_at, variable_of, operand_at, one_less}
+use Rattle.word_lowering.specs.Operands.{Around, literal_at, text_at, variable_of, operand_at, one_less}
 use Rattle.word_lowering.specs.Operations.{least, trap_label}
 use Rattle.word_lowering.specs.RoutineCode.{called_code, copy_code, join_code, show_code, append_code, text_length_code}
 use Rattle.word_lowering.specs.RoutineCode.{read_code, new_code, add_code, length_code, pop_code}
-use Rattle.word_lowering.specs.Spots.{address, moved, spot_of}
+use Rattle.word_lowering.specs.Spots.{address, moved, shifted, spot_of}
 use Rattle.word_lowering.specs.Stored.{base_at, bytes_at, entry_at}
 use Rattle.word_lowering.specs.Texts.{names_before}
 
@@ -89,6 +89,10 @@ handle_code at k = Datum THIRD at ∷ Store THIRD SECOND whole ∷ Datum THIRD (
 
 abbrev pub letter_code : (at from : ℕ) → List WordInstr → List WordInstr
 letter_code at from k = Datum FIRST (letter_at at) ∷ Store FIRST from Byte ∷ Constant SECOND 1 ∷ handle_code at k
+
+-- of no text
+abbrev pub no_text_code : (at : ℕ) → List WordInstr → List WordInstr
+no_text_code at k = Constant FIRST 0 ∷ Constant SECOND 0 ∷ handle_code at k
 
 -- a bool's name: `false` has five letters and stands 8 bytes before `true`
 abbrev pub bool_name_code : (at from : ℕ) → List WordInstr → List WordInstr
@@ -155,6 +159,12 @@ abbrev pub entry_home : (at : ℕ) → Option TypeDef → Housed → Home
 entry_home at (Some D.Text) from = literal_home at from.alias from.home
 entry_home at entry from = Static at
 
+-- where a length gets no longer, what is behind it ends by a procedure, and control goes on at the second label behind this one
+abbrev pub cut_code : (number label : ℕ) → Home → (length : ℕ) → List WordInstr → List WordInstr
+cut_code number label to n k =
+    address FIRST to ∷ Load FIRST FIRST whole ∷ Branch test.Below FIRST n label
+    ∷ called_code FIRST number (Where to ∷ Where (Variable n) ∷ []) (Jump (label + 2) ∷ Label label ∷ k)
+
 module _ (x : Around) where
   -- ---- operands
 
@@ -168,12 +178,14 @@ module _ (x : Around) where
   entry_text at (Some D.Char) from k = letter_code at (variable_of from) k
   entry_text at entry from k = k
 
-  -- or of the name of a value; `enum` is the number of its type
+  -- or of the name of a value, where its type has names; `enum` is the number of the type
   abbrev pub name_text : (at : ℕ) → Option TypeDef → (enum : ℕ) → Housed → List WordInstr → List WordInstr
   name_text at (Some D.Bool) enum from k = bool_name_code at (variable_of from) k
   name_text at (Some (D.Enum name place members)) enum from k =
       name_handle_code at (x.setting.ends + 4 * names_before x.table enum) x.setting.names (variable_of from) k
-  name_text at entry enum from k = entry_text at entry from k
+  name_text at (Some D.Char) enum from k = letter_code at (variable_of from) k
+  name_text at (Some D.Text) enum from k = literal_text at from.alias k
+  name_text at entry enum from k = no_text_code at k
 
   abbrev pub text_made : (at : ℕ) → Option ℕ → Housed → List WordInstr → List WordInstr
   text_made at ty from k = entry_text at (entry_of x.table ty) from k
@@ -190,6 +202,18 @@ module _ (x : Around) where
   abbrev pub right_of : List (Option ℕ) → List Housed → Home
   right_of of hs = text_home RIGHT_HANDLE_AT (type_of of 1) (operand_at hs 1)
 
+  -- a copy of a text of the data
+  abbrev pub text_copy_code : Home → List ℕ → List WordInstr → List WordInstr
+  text_copy_code to text k =
+      Datum FIRST (text_at x text) ∷ Constant SECOND (length text) ∷ handle_code LEFT_HANDLE_AT (copy_code to (Static LEFT_HANDLE_AT) k)
+
+  -- its handle, which nobody owns, or nothing where the text has another name
+  abbrev pub lent_text_code : Alias → Home → List ℕ → List WordInstr → List WordInstr
+  lent_text_code (alias.Text behind bytes) to text k = k
+  lent_text_code named to text k =
+      address FIRST to ∷ Constant SECOND (length text) ∷ Store FIRST SECOND whole
+      ∷ address FIRST (shifted 4 to) ∷ Datum SECOND (text_at x text) ∷ Store FIRST SECOND whole ∷ k
+
   -- ---- rows
 
   -- an int is spelled
@@ -203,11 +227,12 @@ module _ (x : Around) where
   abbrev pub cut_number : ℕ → ℕ
   cut_number ty = PROCS_FROM + length x.layouts + (5 * ty + 4)
 
-  -- elements with hooks end first, where it gets no longer: that is all then
+  -- where it gets no longer, elements with hooks end, and that is all
   abbrev pub resized_code : (hooks : Bool) → (label ty : ℕ) → Home → (length size : ℕ) → List WordInstr → List WordInstr
   resized_code true label ty to n size k =
-      called_code FIRST (cut_number ty) (Where to ∷ Where (Variable n) ∷ [])
-      (address FIRST to ∷ Load FIRST FIRST whole ∷ Branch test.NotBelow FIRST n label ∷ length_code to n size (Label label ∷ k))
+      address FIRST to ∷ Load FIRST FIRST whole ∷ Branch test.Below FIRST n label
+      ∷ called_code FIRST (cut_number ty) (Where to ∷ Where (Variable n) ∷ [])
+      (Jump (label + 2) ∷ Label label ∷ length_code to n size (Label (label + 2) ∷ k))
   resized_code false label ty to n size k = length_code to n size k
 
   abbrev pub sized_code : (text : Bool) → (label ty : ℕ) → Home → (length : ℕ) → List WordInstr → List WordInstr

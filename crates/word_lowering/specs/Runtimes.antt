@@ -1,8 +1,10 @@
 -- The routines that a program's word code is joined with: those of the heap, whose data stands in front of all, and the others behind it.
-use Rattle.std.specs.Prelude.{◌≤◌, ℕ}
+use Rattle.std.specs.Prelude.{◌≡◌, ◌≤◌, ◌/◌, ℕ}
+use Rattle.word_code.specs.declared.routine.TheConstants.{PROCS_FROM}
 use Rattle.word_code.specs.declared.word.WordCode.{WordCode}
 use Rattle.word_code.specs.Joined.{joined, AreApart}
 use Rattle.word_code.specs.Runtime.{IsRuntime}
+use Rattle.word_code.specs.Words.{most_chain}
 use Rattle.word_code.specs.Sizes.{AreRanked}
 use Rattle.heap_memory.specs.declared.numbers.TheConstants.{HEAP_CHAIN}
 use Rattle.heap_memory.specs.HeapRuntime.{IsHeapRuntime}
@@ -19,6 +21,9 @@ pub record Runtimes : Type 0 where
   pub heap_ranked : AreRanked rank heap.procs
   pub others_ranked : AreRanked rank others.procs
   pub chain : (number : ℕ) → rank number ≤ HEAP_CHAIN
+  -- they call routines alone
+  pub heap_calls : most_chain (λ n. n / PROCS_FROM) heap.procs ≡ 0
+  pub others_calls : most_chain (λ n. n / PROCS_FROM) others.procs ≡ 0
 
 abbrev pub with_runtimes : Runtimes → WordCode → WordCode
 with_runtimes r code = joined (joined r.heap code) r.others

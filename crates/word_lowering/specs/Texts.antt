@@ -79,13 +79,17 @@ or_zero (Some n) = n
 abbrev pub laid_texts : List (CodeProc BlockLine) → List ℕ
 laid_texts procs = laid (distinct_texts block_plain procs)
 
+-- where a text is laid out
+abbrev pub text_place : List (CodeProc BlockLine) → List ℕ → ℕ
+text_place procs text = or_zero (place_among (distinct_texts block_plain procs) text)
+
 -- where the literal of so many bytes is laid out that stands at this offset in the code
 abbrev pub place_of : List (CodeProc BlockLine) → (offset bytes : ℕ) → ℕ
-place_of procs offset bytes = or_zero (place_among (distinct_texts block_plain procs) (take bytes (drop offset (texts_in procs))))
+place_of procs offset bytes = text_place procs (take bytes (drop offset (texts_in procs)))
 
 -- where a constant is laid out that stands in the data
 abbrev pub standing_place : List (CodeProc BlockLine) → List Piece → ℕ
-standing_place procs pieces = or_zero (place_among (distinct_texts block_plain procs) (standing_bytes pieces))
+standing_place procs pieces = text_place procs (standing_bytes pieces)
 
 -- ---- all of it
 

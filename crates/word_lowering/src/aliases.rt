@@ -4,12 +4,13 @@ ghost use Rattle.std.specs.Prelude.{IfOk, OnOk};
 ghost use Rattle.std.specs.HashMap.{get};
 ghost use Rattle.flat_code.specs.Codes.{block_plain};
 ghost use Rattle.word_lowering.specs.Aliases.{value_to, location_to, text_in, or_empty, text_of};
-ghost use Rattle.word_lowering.specs.Aliases.{text_alias, alias_by, is_it, FindsAliases};
+ghost use Rattle.word_lowering.specs.Aliases.{is_read, text_alias, alias_by, is_it, FindsAliases};
 
 use crate::homes::Alias;
 use crate::spots::more;
 use arc_base::Memory;
 use flat_code::{BlockLine, Line, OwnedLine, Piece};
+use nim_program::Use;
 use std::collections::HashMap;
 
 /// What temporaries are other names for, by their numbers.
@@ -103,9 +104,22 @@ pub fn text_of(line: &BlockLine) -> &[u8]
 
 // ---- aliases
 
-fn text_alias(behind: u32, pieces: &[Piece]) -> Result<Alias, Memory>
-    ensures { IfOk result (λ alias. alias ≡ text_alias behind (text_in pieces.now)) }
+/// A literal that is only read is nobody's, and stays where it stands.
+pub fn is_read(how: Use) -> bool
+    ensures { result ≡ is_read how }
 {
+    match how {
+        Use::Lent | Use::Looked => true,
+        _ => false,
+    }
+}
+
+fn text_alias(read: bool, behind: u32, pieces: &[Piece]) -> Result<Alias, Memory>
+    ensures { IfOk result (λ alias. alias ≡ text_alias read behind (text_in pieces.now)) }
+{
+    if !read {
+        return Ok(Alias::Own);
+    }
     match text_in(pieces) {
         None => Ok(Alias::Own),
         Some(text) => Ok(Alias::Text {
@@ -128,8 +142,8 @@ pub fn alias_by(line: &BlockLine, behind: u32) -> Result<Alias, Memory>
             None => Ok(Alias::Value(*from)),
             Some(node) => Ok(Alias::Node(*node)),
         },
-        BlockLine::Plain(OwnedLine::Plain(Line::Constant { pieces, .. })) => {
-            text_alias(behind, pieces.as_slice())
+        BlockLine::Plain(OwnedLine::Plain(Line::Constant { how, pieces, .. })) => {
+            text_alias(is_read(how.how), behind, pieces.as_slice())
         }
         _ => Ok(Alias::Own),
     }

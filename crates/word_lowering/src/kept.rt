@@ -2,7 +2,7 @@
 ghost use Rattle.std.specs.Prelude.{◌≡◌, OnOk};
 ghost use Rattle.nim_meaning.specs.Shapes.{is_held, waits};
 ghost use Rattle.nim_meaning.specs.Waiting.{reads_kept};
-ghost use Rattle.flat_code.specs.Codes.{block_plain};
+ghost use Rattle.flat_code.specs.Codes.{block_plain, owned_plain};
 ghost use Rattle.flat_code.specs.Waits.{constant_waits};
 ghost use Rattle.word_lowering.specs.Emission.{Puts};
 ghost use Rattle.word_lowering.specs.LineCode.{value, owning_code, behind_line};
@@ -10,11 +10,14 @@ ghost use Rattle.word_lowering.specs.Scope.{around_of};
 ghost use Rattle.word_lowering.specs.Stored.{HaveForms};
 ghost use Rattle.word_lowering.specs.WaitingCode.{gives_hooked, kept_if};
 
+use crate::hook_calls::{emit_ends, emit_hook, emit_waiter_ends, taking};
 use crate::nodes::{emit_leaves, emit_waits, waiter_at};
-use crate::scope::Scope;
+use crate::scope::{Scope, variable_of};
+use crate::spots::{address, emit, holds_address};
 use crate::stored::is_hooked;
 use arc_base::{Items, Memory};
 use flat_code::{BlockLine, From, Line, OwnedLine, Owning, Piece};
+use hook_lifting::Hook;
 use nim_program::Use;
 use nim_types::{TypeId, TypeTable};
 use word_code::WordInstr;
@@ -58,7 +61,8 @@ fn constant_waits(pieces: &[Piece], how: Use) -> bool
     }
 }
 
-fn gives_hooked(types: &TypeTable, ty: Option<TypeId>) -> bool
+/// Whether values of a type, if there is one, have hooks.
+pub fn gives_hooked(types: &TypeTable, ty: Option<TypeId>) -> bool
     requires { HaveForms types.now }
     ensures { result ≡ gives_hooked types.now ty }
 {
@@ -123,6 +127,21 @@ fn emit_behind(code: &mut Items<WordInstr>, x: &Scope, line: &Line) -> Result<()
     }
 }
 
+// Behind a line of owned code.
+fn emit_behind_owned(code: &mut Items<WordInstr>, x: &Scope, line: &OwnedLine) -> Result<(), Memory>
+    requires { HaveForms x.now.types.now }
+    ensures { OnOk result (Puts code.old code.new
+        (behind_line (around_of x.now) (owned_plain line.now))) }
+{
+    match line {
+        OwnedLine::Plain(line) => emit_behind(code, x, line),
+        OwnedLine::Take { to, how, ty, .. } => {
+            let kept = gives_hooked(x.types, *ty) && reads_kept(how.how);
+            emit_kept(code, x, kept, how.node, *to)
+        }
+    }
+}
+
 /// Behind a line of block code whose value waits it comes where it waits.
 pub fn emit_behind_line(
     code: &mut Items<WordInstr>,
@@ -134,11 +153,7 @@ pub fn emit_behind_line(
         (behind_line (around_of x.now) (block_plain line.now))) }
 {
     match line {
-        BlockLine::Plain(OwnedLine::Plain(line)) => emit_behind(code, x, line),
-        BlockLine::Plain(OwnedLine::Take { to, how, ty, .. }) => {
-            let kept = gives_hooked(x.types, *ty) && reads_kept(how.how);
-            emit_kept(code, x, kept, how.node, *to)
-        }
+        BlockLine::Plain(line) => emit_behind_owned(code, x, line),
     }
 }
 
@@ -148,12 +163,28 @@ pub fn emit_owning(
     x: &Scope,
     what: Owning,
     from: &[From],
+    label: u32,
 ) -> Result<(), Memory>
     ensures { OnOk result (Puts code.old code.new
-        (owning_code (around_of x.now) what from.now)) }
+        (owning_code (around_of x.now) what from.now label)) }
 {
     let waiters = x.own.waiters.as_slice();
     match what {
+        Owning::TemporaryEnds { node, ty } => {
+            emit_waiter_ends(code, x, label, ty, waiter_at(node, waiters))
+        }
+        Owning::PlaceEnds { place, ty } => {
+            let there = x.place(place, false);
+            emit_ends(code, x, holds_address(there), ty, there.home)
+        }
+        Owning::PlaceCopies { place, ty } => {
+            let (to, value) = (x.place(place, false), x.operand_at(from, 0));
+            emit_hook(code, x, Hook::Copies, ty, to.home, value.home)
+        }
+        Owning::ResultGets { place, ty } => {
+            let (to, value) = (x.place(place, false), x.operand_at(from, 0));
+            emit_hook(code, x, taking(from, 0), ty, to.home, value.home)
+        }
         Owning::TakenUp { node } => emit_leaves(code, waiter_at(node, waiters)),
         Owning::Waits { node } => match from.split_first() {
             Some((From::Value(t), rest)) if rest.is_empty() => {
@@ -161,6 +192,12 @@ pub fn emit_owning(
             }
             _ => Ok(()),
         },
-        _ => Ok(()),
+        Owning::PlaceStands { place } => match from.split_first() {
+            Some((From::Place(t), rest)) if rest.is_empty() => {
+                let to = variable_of(x.place(place, false));
+                emit(code, &[address(to, x.location(*t).home)])
+            }
+            _ => Ok(()),
+        },
     }
 }

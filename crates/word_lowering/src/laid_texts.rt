@@ -9,6 +9,7 @@ ghost use Rattle.flat_code.specs.Pieces.{standing_bytes};
 ghost use Rattle.word_lowering.specs.LaidTexts.{AreLaid, piece_before, pieces_before, line_before};
 ghost use Rattle.word_lowering.specs.LaidTexts.{lines_before, procs_before};
 ghost use Rattle.word_lowering.specs.Texts.{padded, or_zero, laid_texts, place_of, standing_place};
+ghost use Rattle.word_lowering.specs.Texts.{text_place};
 
 use crate::standing::standing_bytes;
 use crate::texts::{push_padded, push_texts_in};
@@ -226,6 +227,14 @@ impl LaidTexts<'_> {
         let from = offset.min(all.len());
         let to = (bytes as usize).min(all.len() - from);
         let text = Bytes::from_slice(self.alloc, &all[from..from + to])?;
+        Ok(place_in(&self.places, &text))
+    }
+
+    /// Where a text is laid out.
+    pub fn text_place(&self, text: &[u8]) -> Result<usize, Memory>
+        ensures { IfOk result (λ at. at ≡ text_place self.now text.now) }
+    {
+        let text = Bytes::from_slice(self.alloc, text)?;
         Ok(place_in(&self.places, &text))
     }
 

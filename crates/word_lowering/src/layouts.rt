@@ -14,6 +14,7 @@ ghost use Rattle.word_lowering.specs.Stored.{HaveForms};
 
 use crate::addresses::{addressed, is_among, standing};
 use crate::aliases::put_aliases;
+use crate::homed::homed;
 use crate::homes::{Alias, FIRST, Free, Home, Housed, Layout, OWN_FROM, Sort, Waiter};
 use crate::place_table::places_of;
 use crate::stored::{bytes_at, is_hooked, is_word};
@@ -324,12 +325,14 @@ pub fn layout_of(
     put_aliases(lines, &mut values, &mut locations)?;
     let needed = addressed(alloc, lines)?;
     let stands = standing(alloc, lines)?;
+    let taken = homed(alloc, lines)?;
     let survey = Survey {
         lines,
         values: &values,
         locations: &locations,
         addressed: needed.as_slice(),
         standing: stands.as_slice(),
+        homed: taken.as_slice(),
     };
     laid(alloc, types, start, datum, &survey, proc.places.as_slice())
 }

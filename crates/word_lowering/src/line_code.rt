@@ -1,34 +1,38 @@
 // The word code of each line.
-ghost use Rattle.std.specs.Prelude.{◌≡◌, true, ◌∷◌, map, OnOk};
+ghost use Rattle.std.specs.Prelude.{◌≡◌, ◌&&◌, ◌∷◌, map, OnOk};
 ghost use Rattle.nim_program.specs.Traps.{LengthChanged};
-ghost use Rattle.flat_code.specs.Codes.{block_plain};
+ghost use Rattle.flat_code.specs.Codes.{block_plain, owned_plain};
 ghost use Rattle.word_lowering.specs.Emission.{Puts};
-ghost use Rattle.word_lowering.specs.LineCode.{part_code, item_at, item_in, element_at, element_in, own_label};
+ghost use Rattle.word_lowering.specs.LineCode.{part_code, item_at, item_in, element_at, element_in};
 ghost use Rattle.word_lowering.specs.LineCode.{value, own_place, location, held, led, measure_code, entry_from};
-ghost use Rattle.word_lowering.specs.LineCode.{operands, row_code, choice_code, line_code, lines_code, labels_in};
-ghost use Rattle.word_lowering.specs.LineCode.{is_control, standing_at, behind_line};
+ghost use Rattle.word_lowering.specs.LineCode.{operands, row_code, line_code, lines_code, labels_in};
+ghost use Rattle.word_lowering.specs.LineCode.{applied_code, assigned_code, got_code, is_copied};
+ghost use Rattle.word_lowering.specs.LineCode.{standing_at, behind_line, place, own_alias, root_code};
 ghost use Rattle.word_lowering.specs.Operations.{trap_label};
 ghost use Rattle.word_lowering.specs.Scope.{around_of, HasRoom};
-ghost use Rattle.word_lowering.specs.OwnedCode.{has_handle};
+ghost use Rattle.word_lowering.specs.OwnedCode.{has_handle, type_of};
 ghost use Rattle.word_lowering.specs.Spots.{moves};
 ghost use Rattle.word_lowering.specs.Stored.{part_at, HaveForms};
+ghost use Rattle.word_lowering.specs.WaitingCode.{gives_hooked};
 
 use crate::calls::{emit_call, emit_return};
+use crate::control::emit_control;
 use crate::homes::{FIFTH, FIRST, Home, Housed};
-use crate::kept::{emit_behind_line, emit_owning};
-use crate::locations::{emit_element, emit_item, emit_owned_element, emit_owned_item, emit_part};
-use crate::operations::{LENGTH, emit_beyond, emit_fits, emit_turn, emit_turn_if, emit_unless};
-use crate::rows::{emit_measure, emit_row, has_handle, is_text};
-use crate::scope::{Scope, label_before, labels_in, labels_of, own_label};
-use crate::sequence_rows::{emit_element_read, size_in};
-use crate::spots::{
-    address, branch, constant, emit, emit_clears, emit_moves, emit_passes, sum_with,
+use crate::hook_calls::{emit_got, emit_hook, is_copied, taking};
+use crate::kept::{emit_behind_line, emit_owning, gives_hooked};
+use crate::locations::{
+    emit_element, emit_item, emit_owned_element, emit_owned_item, emit_part, emit_root,
 };
+use crate::operations::LENGTH;
+use crate::rows::{emit_measure, emit_row, has_handle, is_text};
+use crate::scope::{Scope, label_before, labels_in, labels_of};
+use crate::sequence_rows::{emit_element_read, size_in};
+use crate::spots::{address, branch, constant, emit, emit_clears, emit_moves, emit_passes};
 use crate::stored::{count_in, element_bytes, part_at};
 use crate::values::{emit_constant, emit_construct, truth_word};
 use arc_base::{Items, Memory};
-use flat_code::{BlockLine, From, Line, OwnedLine, Piece};
-use nim_program::{Label, Measure, Operation};
+use flat_code::{BlockLine, From, Line, OwnedLine, Piece, UseAt};
+use nim_program::{Measure, Operation, Use};
 use nim_types::TypeId;
 use word_code::{Test, WordInstr};
 
@@ -49,6 +53,62 @@ fn emit_apply(
 {
     let there = x.value(to);
     emit_row(code, x, label, operation, ty, of, there, from)
+}
+
+fn first_type(of: &[Option<TypeId>]) -> Option<TypeId>
+    ensures { result ≡ type_of of.now 0 }
+{
+    match of.first() {
+        Some(ty) => *ty,
+        None => None,
+    }
+}
+
+// An assignment, by a hook or by a row.
+fn emit_assign(
+    code: &mut Items<WordInstr>,
+    x: &Scope,
+    label: u32,
+    to: u32,
+    ty: Option<TypeId>,
+    of: &[Option<TypeId>],
+    from: &[From],
+) -> Result<(), Memory>
+    requires { HasRoom (around_of x.now) }
+    ensures { OnOk result (Puts code.old code.new (assigned_code (around_of x.now)
+        (gives_hooked x.now.types.now (type_of of.now 0))
+        (row_code (around_of x.now) Operation.Assign label ty of.now (value (around_of x.now) to)
+        (operands (around_of x.now) from.now)) (type_of of.now 0) from.now)) }
+{
+    let assigned = first_type(of);
+    let hooked = gives_hooked(x.types, assigned);
+    match assigned {
+        Some(ty) if hooked => {
+            let (place, value) = (x.operand_at(from, 0), x.operand_at(from, 1));
+            emit_hook(code, x, taking(from, 1), ty, place.home, value.home)
+        }
+        _ => emit_apply(code, x, label, to, Operation::Assign, ty, of, from),
+    }
+}
+
+fn emit_applied(
+    code: &mut Items<WordInstr>,
+    x: &Scope,
+    label: u32,
+    to: u32,
+    operation: Operation,
+    ty: Option<TypeId>,
+    of: &[Option<TypeId>],
+    from: &[From],
+) -> Result<(), Memory>
+    requires { HasRoom (around_of x.now) }
+    ensures { OnOk result (Puts code.old code.new (applied_code (around_of x.now) operation label to
+        ty of.now from.now)) }
+{
+    match operation {
+        Operation::Assign => emit_assign(code, x, label, to, ty, of, from),
+        _ => emit_apply(code, x, label, to, operation, ty, of, from),
+    }
 }
 
 // The location of a part.
@@ -180,85 +240,6 @@ fn emit_still(code: &mut Items<WordInstr>, x: &Scope, from: u32, length: u32) ->
     )
 }
 
-fn emit_label(code: &mut Items<WordInstr>, name: u32) -> Result<(), Memory>
-    ensures { OnOk result (Puts code.old code.new (λ k. WordInstr.Label (own_label name) ∷ k)) }
-{
-    let name = own_label(name)?;
-    emit(code, &[WordInstr::Label { name }])
-}
-
-fn emit_jump(code: &mut Items<WordInstr>, to: u32) -> Result<(), Memory>
-    ensures { OnOk result (Puts code.old code.new (λ k. WordInstr.Jump (own_label to) ∷ k)) }
-{
-    let to = own_label(to)?;
-    emit(code, &[WordInstr::Jump { to }])
-}
-
-// A turn of a loop begins at a label.
-fn emit_turn_to(code: &mut Items<WordInstr>, to: u32) -> Result<(), Memory>
-    ensures { OnOk result (Puts code.old code.new
-        (λ k. WordInstr.Spend ∷ WordInstr.Jump (own_label to) ∷ k)) }
-{
-    let to = own_label(to)?;
-    emit(code, &[WordInstr::Spend, WordInstr::Jump { to }])
-}
-
-// A test of what is chosen by: control goes on at `to` where a label has it.
-fn emit_choice(code: &mut Items<WordInstr>, from: u32, these: &Label, to: u32) -> Result<(), Memory>
-    ensures { OnOk result (Puts code.old code.new (choice_code these.now from to)) }
-{
-    match these {
-        Label::Ordinals { low, high } => emit_fits(code, from, to, *low, *high),
-        Label::Text(_) => Ok(()),
-    }
-}
-
-// The code of a line of control, with a label of its own.
-fn emit_control(
-    code: &mut Items<WordInstr>,
-    x: &Scope,
-    line: &Line,
-    label: u32,
-) -> Result<(), Memory>
-    requires { is_control line.now ≡ true }
-    ensures { OnOk result (Puts code.old code.new (line_code (around_of x.now) line.now label)) }
-{
-    match line {
-        Line::Beyond {
-            counter,
-            last,
-            inclusive,
-            to,
-        } => {
-            let (i, n) = (x.held(*counter), x.held(*last));
-            emit_beyond(code, *inclusive, i, n, own_label(*to)?)
-        }
-        Line::Next { counter, .. } => {
-            let i = x.held(*counter);
-            emit(code, &[sum_with(i, i, 1)])
-        }
-        Line::Label { name } => emit_label(code, *name),
-        Line::Jump { to } => emit_jump(code, *to),
-        Line::Enter => emit(code, &[WordInstr::Spend]),
-        Line::Turn { to } => emit_turn_to(code, *to),
-        Line::Unless { from, to } => emit_unless(code, x.held(*from), own_label(*to)?),
-        Line::Fits { from, these, to } => {
-            emit_choice(code, x.held(*from), these, own_label(*to)?)
-        }
-        Line::TurnIf { from, to } => emit_turn_if(code, x.held(*from), own_label(*to)?),
-        Line::CountTurn {
-            counter,
-            last,
-            inclusive,
-            to,
-        } => {
-            let (i, n) = (x.held(*counter), x.held(*last));
-            emit_turn(code, label, i, n, *inclusive, own_label(*to)?)
-        }
-        _ => Ok(()),
-    }
-}
-
 // The address of a constant that stands in the data.
 fn emit_standing(
     code: &mut Items<WordInstr>,
@@ -274,12 +255,57 @@ fn emit_standing(
     emit(code, &[address(x.led(to), Home::Static(at))])
 }
 
-// A copy of what is found.
-fn emit_got(code: &mut Items<WordInstr>, x: &Scope, to: u32, from: u32) -> Result<(), Memory>
+// The bits of what is found.
+fn emit_looked(code: &mut Items<WordInstr>, x: &Scope, to: u32, from: u32) -> Result<(), Memory>
     ensures { OnOk result (Puts code.old code.new
         (moves (value (around_of x.now) to) (location (around_of x.now) from))) }
 {
     emit_moves(code, x.value(to), x.location(from))
+}
+
+// Whether what is found is copied by a hook.
+fn gets_copy(x: &Scope, ty: Option<TypeId>, how: Use) -> bool
+    requires { HasRoom (around_of x.now) }
+    ensures { result ≡ (gives_hooked x.now.types.now ty && is_copied how) }
+{
+    gives_hooked(x.types, ty) && is_copied(how)
+}
+
+// A copy of what is found, as its use asks.
+fn emit_got_for(
+    code: &mut Items<WordInstr>,
+    x: &Scope,
+    to: u32,
+    from: u32,
+    how: UseAt,
+    ty: Option<TypeId>,
+) -> Result<(), Memory>
+    requires { HasRoom (around_of x.now) }
+    ensures { OnOk result (Puts code.old code.new (got_code (around_of x.now)
+        (gives_hooked x.now.types.now ty && is_copied how.how) ty (value (around_of x.now) to)
+        (location (around_of x.now) from))) }
+{
+    let hooked = gets_copy(x, ty, how.how);
+    emit_got(code, x, hooked, ty, x.value(to), x.location(from))
+}
+
+// A location of a place.
+fn emit_root_at(
+    code: &mut Items<WordInstr>,
+    x: &Scope,
+    to: u32,
+    number: u32,
+    global: bool,
+) -> Result<(), Memory>
+    ensures { OnOk result (Puts code.old code.new (root_code (own_alias (around_of x.now) to)
+        (led (around_of x.now) to) (place (around_of x.now) number global).home)) }
+{
+    emit_root(
+        code,
+        x.own_alias(to),
+        x.led(to),
+        x.place(number, global).home,
+    )
 }
 
 // A declared place gets a value.
@@ -290,8 +316,8 @@ fn emit_put(code: &mut Items<WordInstr>, x: &Scope, place: u32, from: u32) -> Re
     emit_moves(code, x.own_place(place), x.value(from))
 }
 
-// The code of a line with a label of its own. Another name needs none, and what comes with the heap
-// has none yet.
+// The code of a line with a label of its own. Another name for a value needs none, and what stands
+// behind a ref has none yet.
 fn emit_line(code: &mut Items<WordInstr>, x: &Scope, line: &Line, label: u32) -> Result<(), Memory>
     requires { HasRoom (around_of x.now) }
     ensures { OnOk result (Puts code.old code.new (line_code (around_of x.now) line.now label)) }
@@ -306,7 +332,7 @@ fn emit_line(code: &mut Items<WordInstr>, x: &Scope, line: &Line, label: u32) ->
             ..
         } => {
             let (tys, operands) = (of.as_slice(), from.as_slice());
-            emit_apply(code, x, label, *to, *operation, *ty, tys, operands)
+            emit_applied(code, x, label, *to, *operation, *ty, tys, operands)
         }
         Line::Construct {
             to,
@@ -315,7 +341,12 @@ fn emit_line(code: &mut Items<WordInstr>, x: &Scope, line: &Line, label: u32) ->
             from,
             ..
         } => emit_construct(code, x, *to, *ty, fields.as_slice(), from.as_slice()),
-        Line::Constant { to, pieces, .. } => emit_constant(code, x.value(*to), pieces.as_slice()),
+        Line::Constant {
+            to,
+            how,
+            pieces,
+            ..
+        } => emit_constant(code, x, how.how, x.value(*to), pieces.as_slice()),
         Line::Call {
             to,
             ty,
@@ -323,10 +354,11 @@ fn emit_line(code: &mut Items<WordInstr>, x: &Scope, line: &Line, label: u32) ->
             from,
             ..
         } => emit_call(code, x, label, *proc, *ty, *to, from.as_slice()),
-        Line::Get { to, from, .. } => emit_got(code, x, *to, *from),
-        Line::Look { to, from } => emit_got(code, x, *to, *from),
+        Line::Get { to, from, how, ty } => emit_got_for(code, x, *to, *from, *how, *ty),
+        Line::Look { to, from } => emit_looked(code, x, *to, *from),
         Line::Standing { to, pieces, .. } => emit_standing(code, x, *to, pieces.as_slice()),
-        Line::Own { what, from } => emit_owning(code, x, *what, from.as_slice()),
+        Line::Own { what, from } => emit_owning(code, x, *what, from.as_slice(), label),
+        Line::Root { to, place, global } => emit_root_at(code, x, *to, *place, *global),
         Line::Part { to, from, field } => emit_part_at(code, x, *to, *from, *field),
         Line::Item { to, from, index } => emit_item_at(code, x, *to, *from, *index),
         Line::Pass { to, from, .. } => emit_passes(code, x.value(*to), x.value(*from)),
@@ -338,18 +370,31 @@ fn emit_line(code: &mut Items<WordInstr>, x: &Scope, line: &Line, label: u32) ->
         Line::Length { to, from } => emit_length(code, x, *to, *from),
         Line::Still { from, length } => emit_still(code, x, *from, *length),
         Line::Element { to, from, index } => emit_element_of(code, x, *to, *from, *index),
-        Line::Beyond { .. }
-        | Line::Next { .. }
-        | Line::Label { .. }
-        | Line::Jump { .. }
-        | Line::Unless { .. }
-        | Line::Fits { .. }
-        | Line::Enter
-        | Line::Turn { .. }
-        | Line::TurnIf { .. }
-        | Line::CountTurn { .. } => emit_control(code, x, line, label),
         Line::Return { result } => emit_return(code, x, *result),
-        _ => Ok(()),
+        Line::Fresh { .. } | Line::Object { .. } => Ok(()),
+        _ => emit_control(code, x, line, label),
+    }
+}
+
+fn emit_owned_line(
+    code: &mut Items<WordInstr>,
+    x: &Scope,
+    line: &OwnedLine,
+    label: u32,
+) -> Result<(), Memory>
+    requires { HasRoom (around_of x.now) }
+    ensures { OnOk result (Puts code.old code.new
+        (line_code (around_of x.now) (owned_plain line.now) label)) }
+{
+    match line {
+        OwnedLine::Plain(line) => emit_line(code, x, line, label),
+        OwnedLine::Take {
+            to,
+            from,
+            how,
+            ty,
+            ..
+        } => emit_got_for(code, x, *to, *from, *how, *ty),
     }
 }
 
@@ -364,10 +409,7 @@ fn emit_block_line(
         (line_code (around_of x.now) (block_plain line.now) label)) }
 {
     match line {
-        BlockLine::Plain(OwnedLine::Plain(line)) => emit_line(code, x, line, label),
-        BlockLine::Plain(OwnedLine::Take { to, from, .. }) => {
-            emit_moves(code, x.value(*to), x.location(*from))
-        }
+        BlockLine::Plain(line) => emit_owned_line(code, x, line, label),
     }
 }
 

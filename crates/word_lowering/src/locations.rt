@@ -1,16 +1,31 @@
 // The word code of locations.
 ghost use Rattle.std.specs.Prelude.{◌≡◌, OnOk};
 ghost use Rattle.word_lowering.specs.Emission.{Puts};
-ghost use Rattle.word_lowering.specs.LineCode.{part_code, behind_code, element_code, item_code};
+ghost use Rattle.word_lowering.specs.LineCode.{root_code, part_code, behind_code, element_code, item_code};
 ghost use Rattle.word_lowering.specs.LineCode.{word_argument, swap_code, measure_word};
 ghost use Rattle.word_lowering.specs.OwnedCode.{owned_element_code, owned_item_code};
 
-use crate::homes::{FIRST, Home, SECOND, THIRD};
+use crate::homes::{Alias, FIRST, Home, SECOND, THIRD};
 use crate::operations::INDEX;
 use crate::spots::{address, argument, branch, call, compute, constant, emit, load, sum, sum_with};
 use arc_base::{Items, Memory};
 use nim_program::Measure;
 use word_code::{SWAP, Test, WordInstr, WordOperation};
+
+/// That of a place, unless the location is another name for it.
+pub fn emit_root(
+    code: &mut Items<WordInstr>,
+    alias: Alias,
+    to: u32,
+    home: Home,
+) -> Result<(), Memory>
+    ensures { OnOk result (Puts code.old code.new (root_code alias to home)) }
+{
+    match alias {
+        Alias::Own => emit(code, &[address(to, home)]),
+        _ => Ok(()),
+    }
+}
 
 /// The address so many bytes behind that of a home.
 pub fn emit_part(code: &mut Items<WordInstr>, to: u32, home: Home, at: u32) -> Result<(), Memory>

@@ -1,6 +1,9 @@
 // From block code to word code.
 ghost use Rattle.std.specs.Prelude.{◌≡◌, ◌<◌, ◌≤◌, ◌∷◌, ◌++◌, true, length, map, IfOk, OnOk};
+ghost use Rattle.rv32_isa.specs.Regions.{AreBytes};
 ghost use Rattle.flat_code.specs.Codes.{block_plain};
+ghost use Rattle.hook_lifting.specs.Lifted.{AreMarked};
+ghost use Rattle.hook_code.specs.HookCode.{procs_in};
 ghost use Rattle.word_lowering.specs.Emission.{Puts};
 ghost use Rattle.word_lowering.specs.LineCode.{proc_number};
 ghost use Rattle.word_lowering.specs.Lowered.{result_cleared, kind_of, kind_in, code_of, word_proc};
@@ -17,13 +20,15 @@ use crate::laid_texts::{LaidTexts, laid_texts};
 use crate::layouts::{kept_in, layouts, result_in};
 use crate::line_code::emit_lines;
 use crate::nodes::emit_none;
-use crate::scope::Scope;
+use crate::scope::{Scope, few_labels};
 use crate::setting::Setting;
 use crate::spots::{emit_clears, sum};
 use crate::tails::emit_last;
 use crate::texts::{FIXED_BYTES, data, names_at, text_bytes, texts_at, texts_bytes};
 use arc_base::{Items, Memory};
 use flat_code::{BlockLine, Blocks, CodeProc};
+use hook_code::{arrays_are_short, elements_are_small, hook_levels, hook_procedures, put_hooks};
+use hook_lifting::lift;
 use nim_program::HookOf;
 use nim_types::TypeTable;
 use rv32_isa::memories;
@@ -33,6 +38,10 @@ use word_code::{ProcKind, WordCode, WordInstr, WordProc};
 /// Word code has at most so many lines carried out for each work of the block code that it is of.
 pub const WORD_PACE: u32 = 256;
 
+/// And for so many works more: in front of its first line the start code says of up to 8,192 values
+/// that none waits.
+pub const WORD_LATE: u32 = 33;
+
 /// Without a runtime word code has at most so many lines and procedures beside what block code weighs:
 /// a start code without lines.
 pub const START_WEIGHT: u32 = 6;
@@ -40,6 +49,9 @@ pub const START_WEIGHT: u32 = 6;
 /// Without a runtime data has at most so many bytes beside those of globals, of names of enums and of
 /// texts.
 pub const MORE_DATA: u32 = 2_044;
+
+/// A chain of calls that don't count has at most so many: hooks of types, and then routines.
+pub const MOST_CHAIN: u32 = 134;
 
 /// The greatest heap of a machine.
 pub const MOST_HEAP: u32 = 16_777_216;
@@ -60,9 +72,9 @@ fn code_of(alloc: Global, x: &Scope, lines: &[BlockLine]) -> Result<Items<WordIn
 {
     let mut code = Items::new(alloc);
     let places = x.own.all.as_slice();
-    emit_result(&mut code, result_in(places))?;
     let waiters = x.own.waiters.as_slice();
     emit_none(&mut code, waiters)?;
+    emit_result(&mut code, result_in(places))?;
     emit_lines(&mut code, x, lines)?;
     emit_last(&mut code)?;
     Ok(code)
@@ -221,22 +233,64 @@ fn start_scope<'a>(
     }
 }
 
+// A number of procedures.
+fn count_of(count: usize) -> Result<u32, Memory>
+    ensures { IfOk result (λ n. n ≡ count) }
+{
+    if count > u32::MAX as usize {
+        return Err(Memory);
+    }
+    Ok(count as u32)
+}
+
+// The hooks of types, behind so many procedures.
+fn push_hooks(
+    alloc: Global,
+    all: &mut Items<WordProc>,
+    types: &TypeTable,
+    shallow: &[bool],
+    count: usize,
+) -> Result<(), Memory>
+    requires forms { HaveForms types.now }
+    requires marked { AreMarked types.now shallow.now }
+    ensures { OnOk result (all.new ≡ all.old ++ procs_in types.now (proc_number count)) }
+{
+    let many = count_of(count)?;
+    let first = proc_number(many)?;
+    let hooks = lift(alloc, types, shallow)?;
+    put_hooks(alloc, all, types, first, &hooks)
+}
+
+// Data are bytes.
+fn are_bytes(data: &[u8])
+    ensures { AreBytes data.now }
+{
+    let _count = data.len();
+}
+
 // The word code of block code whose procedures have these layouts.
 fn words_of(
     alloc: Global,
     blocks: &Blocks,
     types: &TypeTable,
+    shallow: &[bool],
     layouts: &[Layout],
 ) -> Result<WordCode, Memory>
     requires forms { HaveForms types.now }
+    requires marked { AreMarked types.now shallow.now }
     requires layouts { layouts.now ≡ all_layouts types.now blocks.now.procs }
     requires some { 0 < length blocks.now.procs }
     requires may { may_lower types.now blocks.now ≡ true }
     ensures { IfOk result (λ code. LowersWithRuntime types.now blocks.now code) }
 {
     memories();
+    hook_procedures();
+    hook_levels();
+    arrays_are_short(types);
+    elements_are_small(types)?;
     let _types = types.count();
     let procs = blocks.procs.as_slice();
+    few_labels(procs)?;
     let Some(own) = layouts.last() else {
         unreachable!()
     };
@@ -245,19 +299,33 @@ fn words_of(
     };
     let texts = laid_texts(alloc, procs)?;
     let statics = data(alloc, types, own.free.datum, &texts)?;
+    let bytes = statics.as_slice();
+    are_bytes(bytes);
     let x = start_scope(types, &texts, layouts, own);
-    let procs = all_procs(alloc, &x, start, procs)?;
-    Ok(WordCode { procs, statics })
+    let count = procs.len();
+    let mut all = all_procs(alloc, &x, start, procs)?;
+    push_hooks(alloc, &mut all, types, shallow, count)?;
+    Ok(WordCode {
+        procs: all,
+        statics,
+    })
 }
 
-/// The word code of block code, which calls routines by their numbers: it is to be joined with a
+/// The word code of block code, with the hooks of types that have no more levels than each type of a
+/// program's places, as marks say. It calls routines by their numbers: it is to be joined with a
 /// runtime.
-pub fn words(alloc: Global, blocks: &Blocks, types: &TypeTable) -> Result<WordCode, Memory>
+pub fn words(
+    alloc: Global,
+    blocks: &Blocks,
+    types: &TypeTable,
+    shallow: &[bool],
+) -> Result<WordCode, Memory>
     requires forms { HaveForms types.now }
+    requires marked { AreMarked types.now shallow.now }
     requires some { 0 < length blocks.now.procs }
     requires may { may_lower types.now blocks.now ≡ true }
     ensures { IfOk result (λ code. LowersWithRuntime types.now blocks.now code) }
 {
     let all = layouts(alloc, types, FIXED_BYTES, blocks.procs.as_slice())?;
-    words_of(alloc, blocks, types, all.as_slice())
+    words_of(alloc, blocks, types, shallow, all.as_slice())
 }

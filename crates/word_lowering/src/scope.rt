@@ -1,12 +1,12 @@
 // What is around the lines of a procedure.
-ghost use Rattle.std.specs.Prelude.{◌≡◌, ◌+◌, ◌*◌, suc, length, map, IfOk};
+ghost use Rattle.std.specs.Prelude.{◌≡◌, ◌≤◌, ◌+◌, ◌*◌, suc, length, map, IfOk};
 ghost use Rattle.flat_code.specs.Codes.{block_plain};
 ghost use Rattle.word_lowering.specs.Layouts.{params_in};
-ghost use Rattle.word_lowering.specs.LineCode.{own_label, arguments_of, labels_in};
+ghost use Rattle.word_lowering.specs.LineCode.{own_label, arguments_of, labels_in, all_labels};
 ghost use Rattle.word_lowering.specs.LineCode.{value, location_by, location, own_place, place};
 ghost use Rattle.word_lowering.specs.LineCode.{operand, operands, operand_at, held, led};
 ghost use Rattle.word_lowering.specs.LineCode.{layout_at, variable_of};
-ghost use Rattle.word_lowering.specs.LineCode.{literal_at, standing_at};
+ghost use Rattle.word_lowering.specs.LineCode.{literal_at, standing_at, text_at, own_alias};
 ghost use Rattle.word_lowering.specs.Scope.{around_of, HasRoom};
 
 use crate::homes::{Alias, FIRST, Home, Housed, Layout, Sort};
@@ -17,7 +17,7 @@ use crate::place_table::PlaceTable;
 use crate::setting::Setting;
 use crate::spots::sum;
 use arc_base::Memory;
-use flat_code::{BlockLine, From, Line, OwnedLine, Piece};
+use flat_code::{BlockLine, CodeProc, From, Line, OwnedLine, Piece};
 use nim_types::TypeTable;
 
 /// What is around the lines of a procedure.
@@ -79,6 +79,13 @@ impl Scope<'_> {
         self.named(self.own.all.found(Sort::Location, t))
     }
 
+    /// What that is another name for.
+    pub fn own_alias(&self, t: u32) -> Alias
+        ensures { result ≡ own_alias (around_of self.now) t }
+    {
+        self.own.all.found(Sort::Location, t).alias
+    }
+
     /// An operand.
     pub fn operand(&self, from: From) -> Housed
         ensures { result ≡ operand (around_of self.now) from }
@@ -136,6 +143,15 @@ impl Scope<'_> {
     {
         let offset = self.setting.literals as usize + behind as usize;
         let place = self.texts.place_of(offset, bytes)?;
+        Ok(self.setting.texts + place as u32)
+    }
+
+    /// And where a text is, whichever line has it.
+    pub fn text_at(&self, text: &[u8]) -> Result<u32, Memory>
+        requires { HasRoom (around_of self.now) }
+        ensures { IfOk result (λ at. at ≡ text_at (around_of self.now) text.now) }
+    {
+        let place = self.texts.text_place(text)?;
         Ok(self.setting.texts + place as u32)
     }
 
@@ -203,6 +219,9 @@ pub fn labels_of(line: &BlockLine) -> Result<u32, Memory>
         BlockLine::Plain(OwnedLine::Plain(Line::Call { from, .. })) => {
             with_arguments(from.as_slice())
         }
+        BlockLine::Plain(OwnedLine::Plain(Line::Apply { from, .. })) => {
+            with_arguments(from.as_slice())
+        }
         _ => Ok(1),
     }
 }
@@ -216,6 +235,17 @@ pub fn labels_in(lines: &[BlockLine]) -> Result<u32, Memory>
         n = sum(n, labels_of(line)?)?;
     }
     Ok(n)
+}
+
+/// A number of 32 bits counts those of procedures, and so the operands of each line.
+pub fn few_labels(procs: &[CodeProc<BlockLine>]) -> Result<(), Memory>
+    ensures { IfOk result (λ done. all_labels procs.now ≤ 4294967295) }
+{
+    let mut n = 0;
+    for proc in procs {
+        n = sum(n, labels_in(proc.lines.as_slice())?)?;
+    }
+    Ok(())
 }
 
 /// The label of a line's code, where those behind it have so many.

@@ -1,17 +1,15 @@
 // The word code of operations on sequences.
-ghost use Rattle.rv32_isa.specs.declared.micro_op.Size.TheVariants as size;
-ghost use Rattle.std.specs.Prelude.{IfOk, OnOk, [], false, length, option_map, ◌∷◌, ◌≡◌, if◌then◌else◌};
+ghost use Rattle.std.specs.Prelude.{IfOk, OnOk, false, length, option_map, ◌≡◌, if◌then◌else◌};
 ghost use Rattle.word_lowering.specs.Emission.{Puts};
 ghost use Rattle.word_lowering.specs.LineCode.{operands};
-ghost use Rattle.word_lowering.specs.OwnedCode.{added_code, counted_code, cut_number};
+ghost use Rattle.word_lowering.specs.OwnedCode.{added_code, counted_code, cut_code, cut_number};
 ghost use Rattle.word_lowering.specs.OwnedCode.{each_bytes, element_in, element_read};
 ghost use Rattle.word_lowering.specs.OwnedCode.{elements_code};
 ghost use Rattle.word_lowering.specs.OwnedCode.{filled_code, has_hooks, is_text, measured_code};
 ghost use Rattle.word_lowering.specs.OwnedCode.{next_element_code, popped_code, resized_code};
 ghost use Rattle.word_lowering.specs.OwnedCode.{sequence_code, size_in, sized_code};
-ghost use Rattle.word_lowering.specs.RoutineCode.{called_code, length_code, new_code};
+ghost use Rattle.word_lowering.specs.RoutineCode.{length_code, new_code};
 ghost use Rattle.word_lowering.specs.Scope.{HasRoom, around_of};
-ghost use Rattle.word_lowering.specs.Spots.{address};
 ghost use Rattle.word_lowering.specs.Stored.{HaveForms, entry_at};
 
 use crate::handed::Handed;
@@ -272,7 +270,8 @@ fn emit_length(code: &mut Items<WordInstr>, to: Home, length: u32, size: u32) ->
     )
 }
 
-// Elements with hooks behind a length end. Where it gets no longer that is all.
+// Where it gets no longer, elements with hooks behind a length end, and control goes on at the
+// second label behind this one.
 fn emit_cut(
     code: &mut Items<WordInstr>,
     number: u32,
@@ -280,20 +279,22 @@ fn emit_cut(
     to: Home,
     length: u32,
 ) -> Result<(), Memory>
-    ensures { OnOk result (Puts code.old code.new (λ k. called_code FIRST number
-        (Handed.Where to ∷ Handed.Where (Home.Variable length) ∷ [])
-        (address FIRST to ∷ WordInstr.Load FIRST FIRST size.Word
-        ∷ WordInstr.Branch Test.NotBelow FIRST length label ∷ k))) }
+    ensures { OnOk result (Puts code.old code.new (cut_code number label to length)) }
 {
-    let kept = Handed::Where(Home::Variable(length));
-    emit_two(code, FIRST, number, Handed::Where(to), kept)?;
     emit(
         code,
         &[
             address(FIRST, to),
             load(FIRST, FIRST),
-            branch(Test::NotBelow, FIRST, length, label),
+            branch(Test::Below, FIRST, length, label),
         ],
+    )?;
+    let kept = Handed::Where(Home::Variable(length));
+    emit_two(code, FIRST, number, Handed::Where(to), kept)?;
+    let to = sum(label, 2)?;
+    emit(
+        code,
+        &[WordInstr::Jump { to }, WordInstr::Label { name: label }],
     )
 }
 
@@ -316,7 +317,8 @@ fn emit_resized(
     let number = cut_number(x, ty)?;
     emit_cut(code, number, label, to, length)?;
     emit_length(code, to, length, size)?;
-    emit(code, &[WordInstr::Label { name: label }])
+    let name = sum(label, 2)?;
+    emit(code, &[WordInstr::Label { name }])
 }
 
 fn emit_sequence_sized(

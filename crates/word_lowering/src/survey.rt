@@ -2,9 +2,10 @@
 ghost use Rattle.std.specs.Prelude.{◌≡◌, nat_eq, map};
 ghost use Rattle.std.specs.HashMap.{get};
 ghost use Rattle.flat_code.specs.Codes.{block_plain};
-ghost use Rattle.word_lowering.specs.Aliases.{alias_for, or_own};
+ghost use Rattle.word_lowering.specs.Aliases.{alias_for, own_literal, own_where, or_own};
 ghost use Rattle.word_lowering.specs.Survey.{IsSurvey};
 
+use crate::addresses::is_among;
 use crate::aliases::Names;
 use crate::homes::Alias;
 use flat_code::{BlockLine, PlaceKind};
@@ -21,6 +22,8 @@ pub struct Survey<'a> {
     pub addressed: &'a [u32],
     /// The places to which lines give locations.
     pub standing: &'a [u32],
+    /// The temporaries whose values lines take from homes.
+    pub homed: &'a [u32],
 }
 
 fn named(names: &Names, number: u32) -> Alias
@@ -32,6 +35,29 @@ fn named(names: &Names, number: u32) -> Alias
     }
 }
 
+// A location of a place that stands for another one each time has a home of its own.
+fn own_where(standing: &[u32], alias: Alias) -> Alias
+    ensures { result ≡ own_where standing.now alias }
+{
+    match alias {
+        Alias::Place {
+            place,
+            global: false,
+        } if is_among(place, standing) => Alias::Own,
+        _ => alias,
+    }
+}
+
+// A literal whose value a line takes from a home has one.
+fn own_literal(homed: &[u32], number: u32, alias: Alias) -> Alias
+    ensures { result ≡ own_literal homed.now number alias }
+{
+    match alias {
+        Alias::Text { .. } if is_among(number, homed) => Alias::Own,
+        _ => alias,
+    }
+}
+
 impl Survey<'_> {
     /// What a place of some kind is another name for.
     pub fn alias(&self, kind: PlaceKind, number: u32) -> Alias
@@ -39,8 +65,10 @@ impl Survey<'_> {
         ensures { result ≡ alias_for kind number (map block_plain self.now.lines.now) }
     {
         match kind {
-            PlaceKind::Temp => named(self.values, number),
-            PlaceKind::Location | PlaceKind::Within => named(self.locations, number),
+            PlaceKind::Temp => own_literal(self.homed, number, named(self.values, number)),
+            PlaceKind::Location | PlaceKind::Within => {
+                own_where(self.standing, named(self.locations, number))
+            }
             _ => Alias::Own,
         }
     }

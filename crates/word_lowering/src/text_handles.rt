@@ -5,7 +5,7 @@ ghost use Rattle.word_lowering.specs.LineCode.{operand_at, operands};
 ghost use Rattle.word_lowering.specs.OwnedCode.{bool_name_code, entry_home, entry_text};
 ghost use Rattle.word_lowering.specs.OwnedCode.{handle_code, left_of, letter_code};
 ghost use Rattle.word_lowering.specs.OwnedCode.{literal_home, literal_text, name_handle_code};
-ghost use Rattle.word_lowering.specs.OwnedCode.{name_text, right_of, text_home, text_made};
+ghost use Rattle.word_lowering.specs.OwnedCode.{name_text, no_text_code, right_of, text_home, text_made};
 ghost use Rattle.word_lowering.specs.OwnedCode.{two_made, type_of};
 ghost use Rattle.word_lowering.specs.Scope.{HasRoom, around_of};
 ghost use Rattle.word_lowering.specs.Stored.{base_at, entry_at};
@@ -23,8 +23,8 @@ use nim_types::{TypeDef, TypeId};
 use rv32_isa::Size;
 use word_code::{WordInstr, WordOperation};
 
-// The handle of a text whose address is in the first variable and whose length is in the second.
-fn emit_handle(code: &mut Items<WordInstr>, at: u32) -> Result<(), Memory>
+/// The handle of a text whose address is in the first variable and whose length is in the second.
+pub fn emit_handle(code: &mut Items<WordInstr>, at: u32) -> Result<(), Memory>
     ensures { OnOk result (Puts code.old code.new (handle_code at)) }
 {
     let behind = sum(at, 4)?;
@@ -103,7 +103,7 @@ fn emit_name_handle(
     emit_handle(code, at)
 }
 
-fn emit_literal_text(
+pub fn emit_literal_text(
     code: &mut Items<WordInstr>,
     x: &Scope,
     at: u32,
@@ -144,7 +144,14 @@ fn emit_entry_text(
     }
 }
 
-/// Or of the name of a value.
+fn emit_no_text(code: &mut Items<WordInstr>, at: u32) -> Result<(), Memory>
+    ensures { OnOk result (Puts code.old code.new (no_text_code at)) }
+{
+    emit(code, &[constant(FIRST, 0), constant(SECOND, 0)])?;
+    emit_handle(code, at)
+}
+
+/// Or of the name of a value, where its type has names.
 pub fn emit_name_text(
     code: &mut Items<WordInstr>,
     x: &Scope,
@@ -161,7 +168,9 @@ pub fn emit_name_text(
         Some(TypeDef::Enum { .. }) => {
             emit_name_handle(code, at, ends_of(x, ty), x.setting.names, variable_of(from))
         }
-        _ => emit_entry_text(code, x, at, ty, from),
+        Some(TypeDef::Char) => emit_letter(code, at, variable_of(from)),
+        Some(TypeDef::Text) => emit_literal_text(code, x, at, from.alias),
+        _ => emit_no_text(code, at),
     }
 }
 
@@ -181,7 +190,7 @@ fn emit_text_made(
     }
 }
 
-fn literal_home(at: u32, alias: Alias, home: Home) -> Home
+pub fn literal_home(at: u32, alias: Alias, home: Home) -> Home
     ensures { result ≡ literal_home at alias home }
 {
     match alias {

@@ -5,12 +5,13 @@ ghost use Rattle.word_lowering.specs.LineCode.{truth_word, unless_zero, pieces_c
 ghost use Rattle.flat_code.specs.Pieces.{piece_words};
 ghost use Rattle.word_lowering.specs.LineCode.{constant_at, constant_code, parts_code, fields_code};
 ghost use Rattle.word_lowering.specs.LineCode.{first_word, operands, value};
-ghost use Rattle.word_lowering.specs.Scope.{around_of};
+ghost use Rattle.word_lowering.specs.Scope.{HasRoom, around_of};
 ghost use Rattle.word_lowering.specs.Spots.{spot_of, clears};
 ghost use Rattle.word_lowering.specs.Stored.{HaveForms};
 
-use crate::aliases::text_in;
+use crate::aliases::{is_read, text_in};
 use crate::homes::{FIRST, Home, Housed, SECOND};
+use crate::literals::{emit_lent_text, emit_text_copy};
 use crate::scope::Scope;
 use crate::spots::{
     Spot, address, constant, emit, emit_cleared, emit_clears, emit_moved, shifted, spot_of, store,
@@ -18,6 +19,7 @@ use crate::spots::{
 use crate::stored::part_at;
 use arc_base::{Items, Memory};
 use flat_code::{From, Piece};
+use nim_program::Use;
 use nim_types::TypeId;
 use word_code::WordInstr;
 
@@ -94,14 +96,22 @@ fn emit_constant_at(code: &mut Items<WordInstr>, to: Housed, pieces: &[Piece]) -
 /// The value of a constant.
 pub fn emit_constant(
     code: &mut Items<WordInstr>,
+    x: &Scope,
+    how: Use,
     to: Housed,
     pieces: &[Piece],
 ) -> Result<(), Memory>
-    ensures { OnOk result (Puts code.old code.new (constant_code to pieces.now)) }
+    requires { HasRoom (around_of x.now) }
+    ensures { OnOk result (Puts code.old code.new (constant_code (around_of x.now) how to pieces.now)) }
 {
     match text_in(pieces) {
         None => emit_constant_at(code, to, pieces),
-        Some(_) => Ok(()),
+        Some(text) => {
+            if is_read(how) {
+                return emit_lent_text(code, x, to, text);
+            }
+            emit_text_copy(code, x, to.home, text)
+        }
     }
 }
 

@@ -14,6 +14,9 @@ use Rattle.core_compiler.proofs.meaning.mean_core.Goals as goal
 pub words_of-requires-clause-may : goal.words_of-requires-clause-may
 words_of-requires-clause-may g c = c.in-Ok.ensures.may
 
+pub words_of-requires-clause-table : goal.words_of-requires-clause-table
+words_of-requires-clause-table g c = c.count-types.ensures.table
+
 pub words_of-requires-clause-enums : goal.words_of-requires-clause-enums
 words_of-requires-clause-enums g c =
     let program = program_in c.args.program.now in
@@ -31,7 +34,7 @@ run_words-requires g c κs within =
           within.1.1,
           (
             c.in-Ok-words_of.ensures.can.formed,
-            λ live input k. subst (λ w. w ≤ 256 * (12 * ((meaning program c.args.plan.now c.args.heap input c.args.n).work + 1) + 2))
+            λ live input k. subst (λ w. w ≤ 256 * (12 * ((meaning program c.args.plan.now c.args.heap input c.args.n).work + 1) + 34))
                 (work_same words no_fresh c.args.heap 0 input c.args.n k live_objects live)
                 (words_within c.agreement.ensures.law c.agreement.ensures.pace program c.args.program.now.types c.args.plan.now c.in-Ok.flat words
                 c.in-Ok.ensures c.in-Ok-words_of.ensures no_fresh c.args.heap 0 input c.requires.heap c.args.n k),

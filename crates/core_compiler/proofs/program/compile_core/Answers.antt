@@ -20,6 +20,9 @@ use Rattle.core_compiler.proofs.program.compile_core.Goals as goal
 pub words_of-requires-clause-may : goal.words_of-requires-clause-may
 words_of-requires-clause-may c = c.in_ok-flat.ensures.may
 
+pub words_of-requires-clause-table : goal.words_of-requires-clause-table
+words_of-requires-clause-table c = c.count-types.ensures.table
+
 pub words_of-requires-clause-enums : goal.words_of-requires-clause-enums
 words_of-requires-clause-enums c =
     let program = program_in c.args.program.now in
@@ -95,7 +98,8 @@ returns-in-Err-TooLarge-clause-answers c =
     let has = has_code c.agreement.ensures.law c.agreement.ensures.pace program c.args.program.now.types c.args.plan.now c.in_ok-flat.flat c.in_ok-words.words
     c.in_ok-flat.ensures c.in_ok-words.ensures bytes large.1 in (
       bytes,
-      refuses (λ (image : RustImage). tt) (build_limits c.args.plan.now bytes program) TooLarge beginning c.too_large-in-Err-TooLarge.result c.too_large-in-Err-TooLarge.ensures
+      refuses (λ (image : RustImage). tt) (build_limits c.args.plan.now bytes program) TooLarge beginning c.too_large-in-Err-TooLarge.result
+          c.too_large-in-Err-TooLarge.ensures
           (code_large program c.args.plan.now bytes c.in_ok-within_core.ensures large.0),
       refused_with RustImage program c.args.plan.now bytes c.too_large-in-Err-TooLarge.result has,
       tt,

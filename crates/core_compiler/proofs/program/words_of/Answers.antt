@@ -3,6 +3,8 @@ use Rattle.std.proofs.lemmas.Result.{IfOk-weaker}
 use Rattle.word_code.specs.declared.word.WordCode.{WordCode}
 use Rattle.word_code.specs.Joined.{joined, AreApart, HaveRoom}
 use Rattle.word_code.proofs.ForCallers.{routines_room}
+use Rattle.core_compiler.specs.Stages.{AreWordsOf}
+use Rattle.core_compiler.proofs.FewLevels.{are_marked}
 use Rattle.reachable_procs.specs.Reachable.{IsPruned}
 use Rattle.core_compiler.proofs.Composing.{both_of, words_of_flat, front_small}
 use Rattle.core_compiler.proofs.MayLower.{may_be, some_blocks}
@@ -39,11 +41,15 @@ join-requires-2-clause-room c =
     (front_small c.in_ok-words.words (both_of c.in_ok-runtimes.runtimes.heap c.in_ok-runtimes.runtimes.others c.in_ok-runtimes.ensures)
     c.in_ok-words.ensures))
 
--- `words` asks that block code may become word code
+-- `words` asks for marks of types, and that block code may become word code
+pub words-requires-clause-marked : goal.words-requires-clause-marked
+words-requires-clause-marked c =
+    are_marked c.args.types.now c.as_slice.result.now (c.as_slice.ensures ∙ c.in_ok-shallow.ensures)
+
 pub words-requires-clause-may : goal.words-requires-clause-may
 words-requires-clause-may c =
     may_be c.args.plan.now c.args.types.now c.args.flat.now c.in_ok-owned.owned c.in_ok-blocks.blocks (c.in_ok-owned.ensures c.requires.ordered)
-    c.in_ok-blocks.ensures c.requires.may c.requires.enums
+    c.in_ok-blocks.ensures c.requires.may c.requires.enums c.requires.table
 
 pub words-requires-clause-some : goal.words-requires-clause-some
 words-requires-clause-some c =

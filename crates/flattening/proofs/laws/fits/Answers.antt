@@ -10,16 +10,20 @@ pub returns-clause-given : goal.returns-clause-given
 returns-clause-given c = λ program typed plan. code_given program plan typed
 
 pub returns-clause-fits : goal.returns-clause-fits
-returns-clause-fits c = λ table program said typed numbered plain plan.
-    (program_fits program plan typed numbered plain (subst AreSorted (sym said) (sorted_table table))).0
+returns-clause-fits c = λ table program said typed numbered built plan.
+    (program_fits program plan typed numbered built (subst AreSorted (sym said) (sorted_table table))).0
 
 pub returns-clause-waits : goal.returns-clause-waits
-returns-clause-waits c = λ table program said typed numbered plain plan.
-    (program_fits program plan typed numbered plain (subst AreSorted (sym said) (sorted_table table))).1
+returns-clause-waits c = λ table program said typed numbered built plan.
+    (program_fits program plan typed numbered built (subst AreSorted (sym said) (sorted_table table))).1
+
+pub returns-clause-leads : goal.returns-clause-leads
+returns-clause-leads c = λ table program said typed numbered built plan.
+    (program_fits program plan typed numbered built (subst AreSorted (sym said) (sorted_table table))).2
 
 pub returns-clause-hooks : goal.returns-clause-hooks
-returns-clause-hooks c = λ table program said typed plain plan.
-    none_hooks program plan typed (subst AreSorted (sym said) (sorted_table table)) plain
+returns-clause-hooks c = λ table program said typed built plan.
+    none_hooks program plan typed (subst AreSorted (sym said) (sorted_table table)) built
 
 pub returns-clause-whole : goal.returns-clause-whole
 returns-clause-whole c = λ program plan known. code_whole program plan known

@@ -3,8 +3,7 @@ use Rattle.nim_types.specs.Types.{base_in, fact_of, int}
 use Rattle.flat_code.proofs.ForCallers.{AreSorted, sorted_table}
 use Rattle.flattening.proofs.AlikeLines.{all_alike}
 use Rattle.flattening.proofs.Shaped.{typed_shaped, undeclared_in}
-use Rattle.flattening.proofs.PlainPrograms.{all_plain}
-use Rattle.flattening.proofs.Unlent.{all_unlent}
+use Rattle.flattening.proofs.BuiltPrograms.{all_built}
 use Rattle.flattening.proofs.WaitNodes.{all_once}
 use Rattle.flattening.proofs.laws.may_be_lowered.Goals as goal
 
@@ -16,9 +15,6 @@ pub returns-clause-once : goal.returns-clause-once
 returns-clause-once c = λ table program said typed numbered plan.
     all_once program plan numbered (typed_shaped program (ap (λ facts. base_in (fact_of facts int)) said ∙ undeclared_in table) typed)
 
-pub returns-clause-plain : goal.returns-clause-plain
-returns-clause-plain c = λ table program said typed numbered plain most sums plan.
-    all_plain program plan typed (subst AreSorted (sym said) (sorted_table table)) most numbered plain sums
-
-pub returns-clause-lent : goal.returns-clause-lent
-returns-clause-lent c = λ table program said typed plain plan. all_unlent program plan typed (subst AreSorted (sym said) (sorted_table table)) plain
+pub returns-clause-built : goal.returns-clause-built
+returns-clause-built c = λ table program said typed numbered built few most sums plan.
+    all_built program plan typed (subst AreSorted (sym said) (sorted_table table)) most numbered built few sums

@@ -1,6 +1,6 @@
 use Rattle.holders.proofs.territories.parts_of_bodies.Goals as goal
 use Rattle.holders.proofs.Staging.{stage_moves, stage_takes, stage_hands, stage_declares, stage_waits, stage_takes_up, stage_over, no_given}
-use Rattle.holders.proofs.Groups.{group_ends, scope_left}
+use Rattle.holders.proofs.Groups.{group_ends}
 use Rattle.holders.proofs.Statements.{fill_comes}
 use Rattle.holders.proofs.PlaceCopies.{fill_from_comes}
 use Rattle.holders.proofs.Results.{result_comes}
@@ -33,10 +33,6 @@ returns-clause-over c f r ms gs first places n nodes old start now mine s = stag
 pub returns-clause-group : goal.returns-clause-group
 returns-clause-group c r ms ns gs first places nodes old start ws flow mine e s h =
     group_ends r gs first places old start (λ way after. ⊥) flow mine e s h
-
-pub returns-clause-scope : goal.returns-clause-scope
-returns-clause-scope c r ms gs first places nodes old start here place last rest level_is mine s h =
-    scope_left r gs first places old start ms nodes here place last rest level_is mine s h
 
 pub returns-clause-absorbed : goal.returns-clause-absorbed
 returns-clause-absorbed c r inner ms ks gs first places nodes old start now w own s = absorbed ks w own s

@@ -84,3 +84,9 @@ returns-clause-taking c = refl
 
 pub returns-clause-giving : goal.returns-clause-giving
 returns-clause-giving c = refl
+
+pub returns-clause-comparing_texts : goal.returns-clause-comparing_texts
+returns-clause-comparing_texts c = refl
+
+pub returns-clause-reading_into : goal.returns-clause-reading_into
+returns-clause-reading_into c = refl

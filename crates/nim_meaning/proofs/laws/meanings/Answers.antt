@@ -1,12 +1,8 @@
 use Rattle.nim_meaning.proofs.Whole.{meaning_steady, frames_kept, demand_within, blocks_balanced, blocks_once, demand_asked}
-use Rattle.nim_meaning.proofs.MildPrograms.{meaning_sound}
 use Rattle.nim_meaning.proofs.laws.meanings.Goals as goal
 
 pub returns-clause-steady : goal.returns-clause-steady
 returns-clause-steady c = meaning_steady
-
-pub returns-clause-sound : goal.returns-clause-sound
-returns-clause-sound c = meaning_sound
 
 pub returns-clause-framed : goal.returns-clause-framed
 returns-clause-framed c = frames_kept

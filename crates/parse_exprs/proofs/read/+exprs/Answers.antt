@@ -6,7 +6,8 @@ use Rattle.nim_tree.specs.Terms.{place_of, binary, range}
 use Rattle.nim_tree.specs.Terms.{choice, no_choices, and_choice}
 use Rattle.parse_exprs.specs.declared.layout.Layout.TheVariants.{Brackets}
 use Rattle.parse_exprs.specs.declared.input.Bracket.TheVariants.{Square}
-use Rattle.parse_exprs.specs.Look.{place_at, single_of, grouped, applied, names_in, names_behind, closes_at, stays, square_at, first_of_at, past_colon, past_start}
+use Rattle.parse_exprs.specs.Look.{place_at, single_of, grouped, applied, names_in, names_behind, closes_at, stays, square_at, first_of_at, past_colon}
+use Rattle.parse_exprs.specs.Look.{past_start}
 use Rattle.parse_exprs.specs.Outcome.{got, bad, Settles}
 use Rattle.parse_exprs.specs.Run.{run_expr, run_level, run_chain, run_unary, run_suffixes, run_enclosed, run_list, run_parts, run_part, run_value, run_own_line}
 use Rattle.parse_exprs.specs.Run.{run_elifs, run_label, run_labels, run_ofs, run_branches, run_otherwise}

@@ -4,4 +4,4 @@ use Rattle.program_limits.proofs.Summing.{elements_is}
 use Rattle.program_limits.proofs.summary.elements_of.Goals as goal
 
 pub returns : goal.returns
-returns c = λ f e. c.above.ensures ∙ ap (λ s. above true s.levels) e ∙ sym (elements_is f)
+returns c = λ f e. c.above.ensures ∙ ap (λ s. above s.unbuilt true s.levels) e ∙ sym (elements_is f)

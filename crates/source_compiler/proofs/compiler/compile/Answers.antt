@@ -10,10 +10,10 @@ use Rattle.core_compiler.specs.Compile.{HasCodeWhereWithin}
 use Rattle.core_compiler.specs.Limits as core
 use Rattle.source_compiler.specs.Limits.{build_limits}
 use Rattle.source_compiler.specs.Source.{alone, read_program}
-use Rattle.source_compiler.proofs.PlainFiles.{plain_file, built_note, image_is}
+use Rattle.source_compiler.proofs.PlainFiles.{plain_file, built_note, all_built, image_is}
 use Rattle.source_compiler.proofs.Taking.{never_refused, down_by_limits, no_long, for_limits, code_read, unread_code, stopped_code}
 use Rattle.source_compiler.proofs.Stages.{limits_down, under_plan}
-use Rattle.source_compiler.proofs.Unlisted.{within_same, does_same}
+use Rattle.source_compiler.proofs.Unlisted.{within_same, does_same, sound_same}
 use Rattle.source_compiler.proofs.compiler.compile.Goals as goal
 
 -- ---- no typed program
@@ -100,7 +100,8 @@ pub returns-clause-compiled : goal.returns-clause-compiled
 returns-clause-compiled c =
     let source = c.args.source.now in
     let image = c.in_ok-image.image in
-    let does = does_same (program_in c.in_ok-program.program) c.in_ok-plan.plan c.in_ok-image.ensures.does in
+    let typed = program_in c.in_ok-program.program in
+    let does = does_same typed c.in_ok-plan.plan c.in_ok-image.ensures.does in
     let answer = c.in_ok-image.ensures.answers in
     let program = read_program c.in_ok-program.program in
     let reads = c.in_ok-program.ensures.reads in
@@ -127,6 +128,8 @@ returns-clause-compiled c =
       agrees = λ input. does.agrees input;
       paced = λ input. does.paced input;
       in_time = λ input. does.in_time input;
+      sound = λ other bytes input. sound_same typed other bytes input
+          (c.in_ok-program.ensures.sound other (all_built c.in_ok-plan.plan answer.0 typed answer.1) bytes input);
       code = does.code;
       made = does.made;
       plan = plan;

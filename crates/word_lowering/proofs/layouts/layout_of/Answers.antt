@@ -19,11 +19,12 @@ laid-requires-clause-survey c = record {
   locations = c.in_ok-put_aliases.ensures.locations;
   addressed = c.as_slice.ensures ∙ c.in_ok-needed.ensures;
   standing = c.as_slice-2.ensures ∙ c.in_ok-stands.ensures;
+  homed = c.as_slice-3.ensures ∙ c.in_ok-taken.ensures;
 }
 
 pub returns : goal.returns
 returns c =
     let a = c.args in
     IfOk-weaker c.laid.result _ _
-    (λ own is. is ∙ ap₂ (λ (ls : List BlockLine) (ps : List FlatPlace). laid a.types.now a.start a.datum ls ps) c.as_slice-lines.ensures c.as_slice-3.ensures)
+    (λ own is. is ∙ ap₂ (λ (ls : List BlockLine) (ps : List FlatPlace). laid a.types.now a.start a.datum ls ps) c.as_slice-lines.ensures c.as_slice-4.ensures)
     c.laid.ensures

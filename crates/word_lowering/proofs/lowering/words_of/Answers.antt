@@ -1,5 +1,11 @@
 use Rattle.word_code.proofs.ForCallers.{law_by}
-use Rattle.std.proofs.Common.{◌≡◌, ◌-◌, ◌∙◌, length, slice_get, sym, ap, subst, arith}
+use Rattle.std.proofs.Common.{List, ◌≡◌, ◌≤◌, ◌-◌, ◌++◌, ◌∙◌, length, slice_get, sym, ap, subst, arith}
+use Rattle.rv32_isa.specs.Regions.{AreBytes}
+use Rattle.word_code.specs.declared.word.WordCode.{WordCode}
+use Rattle.word_code.specs.declared.word.WordProc.{WordProc}
+use Rattle.hook_code.specs.HookCode.{procs_in}
+use Rattle.word_lowering.specs.LineCode.{all_labels, proc_number}
+use Rattle.word_lowering.proofs.HookProcs.{HookLaws}
 use Rattle.std.specs.Option.{option_copied}
 use Rattle.word_lowering.specs.declared.texts.TheConstants.{FIXED_BYTES}
 use Rattle.word_lowering.specs.Lowered.{around_start}
@@ -38,14 +44,32 @@ unreachable-requires c =
 
 pub returns : goal.returns
 returns c =
-    lowers_given c.args.types.now c.args.blocks.now (both c.args.types.now c.args.blocks.now c.in_ok-procs.procs c.in_ok-statics.statics)
-    c.count-types.ensures.table c.requires.forms
-    (law_by c.memories.ensures.sizes c.memories.ensures.bytes c.memories.ensures.regions c.memories.ensures.stores c.memories.ensures.here
-    c.memories.ensures.elsewhere)
-    (whole_by c.args.types.now c.args.blocks.now c.as_slice-procs.result.now c.args.layouts.now
-    c.in-Some.own.now c.in-Some-last.start.now (around_of c.start_scope-x.result) c.in_ok-procs.procs c.in_ok-statics.statics
+    let all = c.push_hooks.new.all in
+    let laws : HookLaws = record {
+      formed = c.hook_procedures.ensures.formed;
+      unhooked = c.hook_procedures.ensures.unhooked;
+      weight = c.hook_procedures.ensures.weight;
+      there = c.hook_procedures.ensures.there;
+      cuts_there = c.hook_procedures.ensures.cuts_there;
+      ordered = c.hook_levels.ensures.ordered;
+      ranks = c.hook_levels.ensures.ranks;
+      ranked = c.hook_levels.ensures.ranked;
+    } in
+    let given =
+    whole_by c.args.types.now c.args.blocks.now c.as_slice-procs.result.now c.args.layouts.now
+    c.in-Some.own.now c.in-Some-last.start.now (around_of c.start_scope-x.result) all c.in_ok-statics.statics
     c.as_slice-procs.ensures c.requires.layouts (sym c.in-Some.ensures.value) (sym c.in-Some-last.ensures.value)
     (c.start_scope-x.ensures ∙ ap (λ ps. around_start c.args.types.now ps c.args.layouts.now c.in-Some.own.now) c.in_ok-texts.ensures)
-    c.in_ok-procs.ensures
+    (c.in_ok-push_hooks.ensures
+    ∙ ap (λ (l : List WordProc). l ++ procs_in c.args.types.now (proc_number (length c.as_slice-procs.result.now))) c.in_ok-all.ensures)
     (c.in_ok-statics.ensures ∙ ap (λ ps. padded (data_in c.args.types.now c.in-Some.own.now.free.datum ps)) c.in_ok-texts.ensures)
-    c.requires.may)
+    c.requires.may in
+    -- the data are bytes, and so is each text in them
+    let letters = subst AreBytes (c.as_slice-bytes.ensures ∙ ap (λ (w : WordCode). w.statics) given.is) c.are_bytes.ensures in
+    -- a number of 32 bits counts labels
+    let few = subst (λ ps. all_labels ps ≤ 4294967295) c.as_slice-procs.ensures c.in_ok-few_labels.ensures in
+    lowers_given c.args.types.now c.args.blocks.now (both c.args.types.now c.args.blocks.now all c.in_ok-statics.statics)
+    c.count-types.ensures.table c.requires.forms
+    (law_by c.memories.ensures.sizes c.memories.ensures.bytes c.memories.ensures.regions c.memories.ensures.stores c.memories.ensures.here
+    c.memories.ensures.elsewhere) laws
+    (record { short = c.arrays_are_short.ensures; small = c.in_ok-elements_are_small.ensures }) letters few given

@@ -10,4 +10,5 @@ returns-in-None-clause-did c =
 
 pub returns-in-Some-clause-did : goal.returns-in-Some-clause-did
 returns-in-Some-clause-did c =
-    λ input d. ap (sets (scene_at c.args.frame.now c.args.space.now input d) c.args.to) c.computed.ensures ∙ both_there _ _ _ _ _ (rw c.in-Some.is at c.both.ensures)
+    λ input d. ap (sets (scene_at c.args.frame.now c.args.space.now input d) c.args.to) c.computed.ensures
+    ∙ both_there _ _ _ _ _ (rw c.in-Some.is at c.both.ensures)

@@ -1,0 +1,26 @@
+//! What the meaning of a whole program is never.
+
+ghost use Rattle.std.specs.Prelude.{◌≡◌, ℕ, List, true, None};
+ghost use Rattle.arc_base.specs.Behaviour.{Sound};
+ghost use Rattle.nim_types.specs.declared.types.TypeDef.{TypeDef};
+ghost use Rattle.nim_types.specs.Table.{facts_in};
+ghost use Rattle.nim_plan.specs.declared.plan.Plan.{Plan};
+ghost use Rattle.nim_program.specs.Program.{Program};
+ghost use Rattle.nim_program.specs.Numbering.{is_numbered_program};
+ghost use Rattle.nim_program.specs.Typed.{IsTyped};
+ghost use Rattle.nim_meaning.specs.LeftOut.{first_left_out};
+ghost use Rattle.nim_meaning.specs.Meaning.{meaning};
+ghost use Rattle.lending_laws.specs.Apart.{AreLentApart};
+
+use decl_rules::names_found;
+
+/// A typed program without hooks of its own that lends no place twice is never at a fault, nor
+/// wrong, whatever it reads, and however large its heap is.
+pub fn sound()
+    ensures { (program : Program) (table : List TypeDef) → program.facts ≡ facts_in table →
+        IsTyped program → is_numbered_program program ≡ true → AreLentApart program →
+        first_left_out program ≡ None → (plan : Plan) (heap : ℕ) (input : List ℕ) →
+        Sound (meaning program plan heap input) }
+{
+    names_found();
+}

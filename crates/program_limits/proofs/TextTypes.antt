@@ -1,0 +1,37 @@
+-- Which types of a table are those of texts.
+use Rattle.std.proofs.Common.{◌≡◌, refl, sym, ap, ◌∙◌, arith, ℕ, zero, suc, ◌≤◌, List, [], ◌∷◌, length, Option, Some, None, Bool, false}
+use Rattle.std.specs.Prelude.{slice_get}
+use Rattle.std.proofs.lemmas.Option.{none-some}
+use Rattle.nim_types.specs.Types.{Ty, int}
+use Rattle.nim_types.specs.declared.types.TypeDef.{TypeDef}
+use Rattle.nim_types.specs.declared.types.TypeDef.TheVariants as D
+use Rattle.nim_types.specs.Table.{type_at, types_in, meant}
+use Rattle.nim_meaning.specs.LeftOut.{is_text_type}
+
+beyond : {A : Type 0} (xs : List A) (i : ℕ) → slice_get xs i ≡ None → length xs ≤ i
+beyond [] i e = omega arith
+beyond (x ∷ xs) zero e = absurd (none-some x (sym e))
+beyond (x ∷ xs) (suc i) e = omega (arith, beyond xs i e)
+
+an_int : (ts : List Ty) (i : ℕ) → length ts ≤ i → type_at ts i ≡ int
+an_int [] i le = refl
+an_int (t ∷ ts) zero le = absurd (omega (arith, le))
+an_int (t ∷ ts) (suc i) le = an_int ts i (omega (arith, le))
+
+pub no_entry : (ds : List TypeDef) (i : ℕ) → length (types_in ds) ≡ length ds → slice_get ds i ≡ None → type_at (types_in ds) i ≡ int
+no_entry ds i e none = let le = beyond ds i none in an_int (types_in ds) i (omega (arith, le, e))
+
+pub no_text : (ts : List Ty) (d : TypeDef) → (d ≡ D.Text → ⊥) → is_text_type (Some (meant ts d)) ≡ false
+no_text ts D.Int n = refl
+no_text ts D.Bool n = refl
+no_text ts D.Char n = refl
+no_text ts D.Text n = absurd (n refl)
+no_text ts (D.Seq i) n = refl
+no_text ts (D.Param i) n = refl
+no_text ts (D.Enum name at all) n = refl
+no_text ts (D.Array len i) n = refl
+no_text ts (D.Tuple names is) n = refl
+no_text ts (D.Object name at is all own_hooks parts) n = refl
+no_text ts (D.Distinct name at i) n = refl
+no_text ts (D.Ref name i) n = refl
+no_text ts (D.Exception name at parent) n = refl

@@ -1,0 +1,73 @@
+-- Texts of literals and names of enums are made of bytes where all of the data is.
+use Rattle.std.proofs.Common.{◌≡◌, ℕ, zero, suc, ◌+◌, ◌-◌, List, [], ◌∷◌, ◌++◌, length, Some, None, true, subst, ◌∙◌}
+use Rattle.std.specs.Prelude.{replicate, slice_get}
+use Rattle.std.specs.Set.{is_member}
+use Rattle.nim_types.specs.Types.{same_text}
+use Rattle.nim_types.specs.declared.types.TheConstants.{WORD_BYTES}
+use Rattle.rv32_isa.specs.Regions.{AreBytes}
+use Rattle.flat_code.specs.Codes.{block_plain}
+use Rattle.flat_code.specs.Sizes.{code_texts, distinct_texts}
+use Rattle.word_lowering.specs.declared.handed.TheConstants.{LEFT_HANDLE_AT}
+use Rattle.word_lowering.specs.Lowered.{data_of, globals_end}
+use Rattle.word_lowering.specs.Stored.{base_at}
+use Rattle.word_lowering.specs.Texts.{all_names, data_in, ends_from, fixed_texts, joined_all, laid_texts, missing, names_before, padded}
+use Rattle.word_lowering.proofs.DistinctTexts.{IsLaid, is_laid, unique_has}
+use Rattle.word_lowering.proofs.FirstNames.{name_among}
+use Rattle.word_lowering.proofs.Lines.{Basis}
+use Rattle.word_lowering.proofs.OperandTexts.{TextsBuilt}
+
+in_front : (xs ys : List ℕ) → AreBytes (xs ++ ys) → AreBytes xs
+in_front [] ys are = tt
+in_front (x ∷ xs) ys are = (are.0, in_front xs ys are.1)
+
+past : (xs ys : List ℕ) → AreBytes (xs ++ ys) → AreBytes ys
+past [] ys are = are
+past (x ∷ xs) ys are = past xs ys are.1
+
+one_of : (texts : List (List ℕ)) (n : ℕ) (text : List ℕ) → slice_get texts n ≡ Some text → AreBytes (joined_all texts) → AreBytes text
+one_of [] n text h are = absurd (no_entry text h)
+  where
+    no_entry : (text : List ℕ) → None ≡ Some text → ⊥
+    no_entry text h = cc
+one_of (other ∷ texts) zero text h are = subst AreBytes (same other text h) (in_front other (joined_all texts) are)
+  where
+    same : (u v : List ℕ) → Some u ≡ Some v → u ≡ v
+    same u v e = cc
+one_of (other ∷ texts) (suc n) text h are = one_of texts n text h (past other (joined_all texts) are)
+
+module _ (x : Basis) (are : AreBytes (data_of x.table x.blocks.procs)) where
+  abbrev ends : List ℕ
+  ends = ends_from 0 (all_names x.table)
+
+  abbrev names : List ℕ
+  names = joined_all (all_names x.table)
+
+  abbrev laid_out : List ℕ
+  laid_out = laid_texts x.blocks.procs
+
+  abbrev globals : List ℕ
+  globals = replicate (globals_end x.table x.blocks.procs - LEFT_HANDLE_AT) 0
+
+  -- the names, and the texts
+  both : AreBytes (padded names ++ laid_out)
+  both =
+      past ends (padded names ++ laid_out)
+      (past globals (ends ++ (padded names ++ laid_out))
+      (past fixed_texts (globals ++ (ends ++ (padded names ++ laid_out)))
+      (past (replicate WORD_BYTES 0) (fixed_texts ++ (globals ++ (ends ++ (padded names ++ laid_out))))
+      (in_front (data_in x.table (globals_end x.table x.blocks.procs) x.blocks.procs)
+      (replicate (missing (length (data_in x.table (globals_end x.table x.blocks.procs) x.blocks.procs))) 0) are))))
+
+  laid_text : (text : List ℕ) → is_member same_text (code_texts block_plain x.blocks.procs) text ≡ true → AreBytes text
+  laid_text text among =
+      let l : IsLaid (distinct_texts block_plain x.blocks.procs) text
+      = is_laid (distinct_texts block_plain x.blocks.procs) text (unique_has (code_texts block_plain x.blocks.procs) text ∙ among) in
+      in_front text l.after (past l.before (text ++ l.after) (subst AreBytes l.whole (past (padded names) laid_out both)))
+
+  pub texts_built : TextsBuilt x
+  texts_built = record {
+    letters = λ b body text among. laid_text text (body.texts.among text among);
+    names = λ ty def entry n text at.
+        one_of (all_names x.table) (names_before x.table (base_at x.table ty) + n) text (name_among x.table (base_at x.table ty) def n text entry at)
+        (in_front names (replicate (missing (length names)) 0) (in_front (padded names) laid_out both));
+  }
