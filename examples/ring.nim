@@ -20,9 +20,10 @@ proc show(log: Log) =
     at = (at + 1) mod size
 
 var log: Log
+var line: string
 var total = 0
-for message in @["boot", "clock ok", "radio ok", "link up", "link down", "link up", "battery low", "sleep"]:
+while readLine(stdin, line):
   total += 1
-  note(log, message)
+  note(log, line)
 show(log)
 echo total, " lines in all"

@@ -1,4 +1,4 @@
-# Counts the words of a text, and prints them by how often they come, then by name.
+# Counts the words of standard input, and prints them by how often they come, then by name.
 type
   Count = object
     word: string
@@ -27,7 +27,9 @@ proc sort(counts: var seq[Count]) =
       swap(counts[at], counts[at - 1])
       at -= 1
 
-proc noteWords(counts: var seq[Count], line: string) =
+var counts: seq[Count]
+var line = ""
+while readLine(stdin, line):
   var word = ""
   for c in line:
     if isLetter(c):
@@ -38,13 +40,6 @@ proc noteWords(counts: var seq[Count], line: string) =
   if word.len > 0:
     note(counts, word)
 
-let lines = @[
-  "The quick brown fox jumps over the lazy dog.",
-  "The dog doesn't mind; the fox does.",
-  "Over and over the quick fox jumps."]
-var counts: seq[Count]
-for line in lines:
-  noteWords(counts, line)
 sort(counts)
 for count in counts:
   echo count.times, " ", count.word

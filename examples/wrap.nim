@@ -1,10 +1,10 @@
-# Breaks the words of a text into lines of at most 40 characters.
+# Breaks the words of standard input into lines of at most 40 characters.
 const width = 40
 
-proc words(text: string): seq[string] =
+proc words(line: string): seq[string] =
   var word = ""
-  for c in text:
-    if c == ' ':
+  for c in line:
+    if c == ' ' or c == '\t':
       if word.len > 0:
         result.add(word)
         word = ""
@@ -13,24 +13,23 @@ proc words(text: string): seq[string] =
   if word.len > 0:
     result.add(word)
 
-proc wrapped(words: seq[string]): seq[string] =
-  var line = ""
-  for word in words:
-    if line.len > 0 and line.len + 1 + word.len > width:
-      result.add(line)
-      line = word
-    elif line.len > 0:
-      line &= ' ' & word
+var text = ""
+var line = ""
+while readLine(stdin, line):
+  let all = words(line)
+  if all.len == 0:
+    if text.len > 0:
+      echo text
+      text = ""
+    echo ""
+  for word in all:
+    if text.len > 0 and text.len + 1 + word.len > width:
+      echo text
+      text = word
+    elif text.len > 0:
+      text &= ' '
+      text &= word
     else:
-      line = word
-  if line.len > 0:
-    result.add(line)
-
-let paragraphs = @[
-  "Firmware runs for years on a board that nobody looks at, and what it takes it has to give back.",
-  "A block that is given back twice is a fault; one that is never given back is a leak.",
-  "  Both   are   found by   the compiler, not by the customer."]
-for paragraph in paragraphs:
-  for line in wrapped(words(paragraph)):
-    echo line
-  echo ""
+      text = word
+if text.len > 0:
+  echo text

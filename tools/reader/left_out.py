@@ -75,7 +75,7 @@ def _left_out_call(node: tree.Expression, meaning: Any) -> Iterator[Position]:
     elif isinstance(meaning, DollarCall) and isinstance(meaning.shown, Procedure) and is_text(meaning.argument):
         yield place_of(node)
     elif isinstance(meaning, BuiltInCall):
-        if meaning.name == READ_LINE:
+        if meaning.name == READ_LINE and len(meaning.arguments) == 1:
             yield place_of(node)
         if meaning.name in LOOKED_AT and is_text(meaning.arguments[0]):
             yield place_of(meaning.arguments[0])

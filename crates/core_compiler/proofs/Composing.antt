@@ -32,22 +32,24 @@ use Rattle.refc_runtime.specs.BothRuntimes.{AreRuntimes}
 use Rattle.destructor_injection.specs.Injecting.{IsOwned}
 use Rattle.goto_exceptions.specs.Branches.{IsBranched}
 use Rattle.rv32_codegen.specs.Layout.{DoesCode, IsFault, laid_out}
-use Rattle.rv32_codegen.specs.Lowering.{CanRun, most_bytes, procs_bytes, DoesWords}
+use Rattle.rv32_codegen.specs.Lowering.{CanRun, DoesWords}
+use Rattle.rv32_codegen.specs.LineBytes.{most_bytes, procs_bytes}
 use Rattle.rv32_codegen.specs.Stack.{stack_need}
 use Rattle.word_lowering.specs.Runtimes.{Runtimes, with_runtimes}
 use Rattle.flat_code.specs.Waits.{AllWaitOnce}
 use Rattle.flattening.specs.Counted.{places_waiting}
 use Rattle.word_lowering.specs.Lowers.{Lowers, LowersWithRuntime, IsFitting, AreSilent, AreSmall, all_waiting}
 use Rattle.core_compiler.specs.Compile.{live_objects, HasCode, DoesProgram}
-use Rattle.hook_code.specs.Kept.{hook_parts}
 use Rattle.core_compiler.specs.declared.program.TheConstants.{BYTES_OF_HOOK}
-use Rattle.core_compiler.specs.Limits.{code_bound}
+use Rattle.core_compiler.specs.Limits.{code_bound, hook_parts}
 use Rattle.rv32_codegen.specs.declared.layout.LayFault.{LayFault}
 use Rattle.rv32_codegen.specs.declared.layout.LayFault.TheVariants.{TooLarge, Memory}
 use Rattle.program_limits.specs.Data.{data_counted}
 use Rattle.core_compiler.specs.Stages.{FlatFits, HasLines, IsTooLarge, IsImageOf, IsFlatOf, AreWordsOf, DoesWith, ShowsSame}
 use Rattle.core_compiler.proofs.Refusals.{bound_is}
 use Rattle.core_compiler.proofs.CodeSizes.{joined_bytes}
+use Rattle.core_compiler.proofs.HookBytes.{hooks_few}
+use Rattle.hook_code.specs.HookCode.{procs_in}
 use Rattle.core_compiler.proofs.PrunedWords.{agrees_alike, paced_alike, kept_small, kept_bytes, kept_unhooked}
 use Rattle.core_compiler.proofs.InTime.{in_time}
 
@@ -249,11 +251,25 @@ module _ (law : AgreesLaw) (pace : PaceLaw) where
             statics_most = omega (arith, statics_same, low.data_most);
           };
           code_most =
-              let most = joined_bytes (length (joined r.heap own).statics) (length r.heap.statics) r.heap.procs own.procs r.others.procs r.is_heap.routines
-              r.is_others.routines in
+              let most = joined_bytes (length (joined r.heap own).statics) (length r.heap.statics) r.heap.procs own.procs lowered.own
+              (procs_in table lowered.first) r.others.procs lowered.procs r.is_heap.routines r.is_others.routines in
+              let hooks = hooks_few table lowered.first (length r.heap.statics) in
               let less = kept_bytes is.numbers words.procs in
               let bytes : procs_bytes pruned.procs ≡ procs_bytes (kept is.numbers words.procs) = ap procs_bytes is.procs in
-              omega (arith, most, less, bytes, lowered.weight, r.is_heap.weight, r.is_others.weight, injected.form.weight, branched.form.weight, waiting_same);
+              omega (
+                arith,
+                most,
+                hooks,
+                less,
+                bytes,
+                lowered.quiet,
+                lowered.weight,
+                r.is_heap.weight,
+                r.is_others.weight,
+                injected.form.weight,
+                branched.form.weight,
+                waiting_same,
+              );
           data_size =
               let few = lowered.data_size in
               let more = branched.form.statics table in

@@ -50,7 +50,7 @@ module _ (p : RustProgram) (plan : Plan) (flat : Code Line) (procs : flat.procs 
     (at_first label_in (does (known_in p.types) plan) (procs_of (known_in p.types) flat) heap input) units [] 0).work + 1)
     (fits : code_fits flat_plain (known_of (program_in p)) (flat_procs (program_in p) plan) ≡ true)
     (hooks : AreNone (hooks_of (flat_of (program_in p) plan)))
-    (weight : code_weight flat_plain (flat_procs (program_in p) plan) ≤ 47 * program_parts (program_in p)
+    (weight : code_weight flat_plain (flat_procs (program_in p) plan) ≤ 44 * program_parts (program_in p)
     + 9 * program_pairs (modes_of (program_in p) plan) (program_in p))
     (waiting : places_waiting (places_of (flat_of (program_in p) plan)) ≤ program_parts (program_in p))
     (globals : globals_bytes (known_of (program_in p)) (start_places (flat_procs (program_in p) plan))
@@ -136,7 +136,7 @@ module _ (p : RustProgram) (plan : Plan) (flat : Code Line) (procs : flat.procs 
         once = one;
       };
       waiting = subst (λ ps. places_waiting (places_of (record { procs = ps })) ≤ program_parts program) (sym procs) waiting;
-      weight = subst (λ ps. code_weight flat_plain ps ≤ 47 * program_parts program + 9 * program_pairs (modes_of program plan) program) (sym procs) weight;
+      weight = subst (λ ps. code_weight flat_plain ps ≤ 44 * program_parts program + 9 * program_pairs (modes_of program plan) program) (sym procs) weight;
       data_size = data_most;
       hooks = none;
       may = record {

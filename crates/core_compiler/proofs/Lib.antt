@@ -4,6 +4,7 @@ mod Homes
 mod Refusals
 mod Limiting
 mod CodeSizes
+mod HookBytes
 mod PrunedWords
 mod Composing
 mod ProgramTexts

@@ -6,7 +6,7 @@ use Rattle.arc_base.specs.Behaviour.{Behaviour, Seen, Agrees, Covers, Ended}
 use Rattle.arc_base.specs.Pace.{PacedFrom}
 use Rattle.number_sets.specs.Numbers.{is_among}
 use Rattle.reachable_procs.specs.Reachable.{kept}
-use Rattle.rv32_codegen.specs.Lowering.{procs_bytes, proc_bytes}
+use Rattle.rv32_codegen.specs.LineBytes.{procs_bytes, proc_bytes}
 use Rattle.word_code.specs.declared.word.WordProc.{WordProc}
 use Rattle.word_code.specs.Words.{have_no_hooks, is_no_hook}
 use Rattle.word_lowering.specs.Lowers.{AreSmall}

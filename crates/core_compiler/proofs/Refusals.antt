@@ -20,7 +20,7 @@ use Rattle.program_limits.specs.Frames.{beginning, frame_limits}
 use Rattle.program_limits.specs.Limits.{unless_left_out, unless_large, data_limits, tree_limits}
 use Rattle.flattening.specs.Counted.{program_parts, program_pairs, places_waiting}
 use Rattle.flattening.specs.Flattened.{modes_of}
-use Rattle.rv32_codegen.specs.Lowering.{most_bytes}
+use Rattle.rv32_codegen.specs.LineBytes.{most_bytes}
 use Rattle.core_compiler.specs.Limits.{code_bound, code_limits, note_bytes, note_limits, build_limits}
 use Rattle.core_compiler.specs.Limits.{where_built, check_limits}
 use Rattle.core_compiler.specs.Compile.{HasCode, HasCodeWhereWithin, UnlessMemory}
@@ -46,12 +46,12 @@ module _ (program : Program) where
       ]
 
   pub bound_is : (plan : Plan) (flat : Code Line) (procs : List WordProc) (hooks : ℕ) →
-      code_weight flat_plain flat.procs ≤ 47 * program_parts program + 9 * program_pairs (modes_of program plan) program →
+      code_weight flat_plain flat.procs ≤ 44 * program_parts program + 9 * program_pairs (modes_of program plan) program →
       places_waiting (places_of flat) ≤ program_parts program →
-      most_bytes procs ≤ 48 * (code_weight flat_plain flat.procs + places_waiting (places_of flat)) + (36672 * hooks + 13436) →
-      most_bytes procs ≤ code_bound program plan + 36672 * hooks
+      most_bytes procs ≤ 44 * (code_weight flat_plain flat.procs + places_waiting (places_of flat)) + (1980 * hooks + 13412) →
+      most_bytes procs ≤ code_bound program plan + 1980 * hooks
   bound_is plan flat procs hooks few waiting most =
-      let bound : 2304 * program_parts program + (432 * program_pairs (modes_of program plan) program + 13436) ≤ code_bound program plan = omega arith in
+      let bound : 1980 * program_parts program + (396 * program_pairs (modes_of program plan) program + 13412) ≤ code_bound program plan = omega arith in
       omega (arith, few, waiting, most, bound)
 
 -- ---- where all of it is built

@@ -11,7 +11,8 @@ use Rattle.word_code.proofs.ForCallers.{longest_times}
 use Rattle.reg_scan.specs.declared.homes.Homes.{Homes}
 use Rattle.rv32_codegen.specs.Stack.{frame_for, stack_need, most_size, call_size, counted_size}
 use Rattle.rv32_codegen.specs.Layout.{code_size}
-use Rattle.rv32_codegen.specs.Lowering.{AllHomes, CanRun, AlwaysDoes, MakeFrames, most_bytes}
+use Rattle.rv32_codegen.specs.Lowering.{AllHomes, CanRun, AlwaysDoes, MakeFrames}
+use Rattle.rv32_codegen.specs.LineBytes.{most_bytes}
 use Rattle.nim_types.specs.declared.types.TheConstants.{LIST_BYTES}
 use Rattle.hook_code.specs.declared.numbers.TheConstants.{HOOK_VARIABLES}
 use Rattle.word_lowering.specs.declared.lowering.TheConstants.{MOST_CHAIN}

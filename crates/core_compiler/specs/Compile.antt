@@ -22,14 +22,13 @@ use Rattle.word_code.specs.declared.routine.TheConstants.{RUNTIME_DATA}
 use Rattle.heap_memory.specs.declared.numbers.TheConstants.{HEAP_DATA}
 use Rattle.program_limits.specs.Data.{data_counted}
 use Rattle.word_lowering.specs.declared.lowering.TheConstants.{MOST_HEAP, MORE_DATA}
-use Rattle.hook_code.specs.Kept.{hook_parts}
 use Rattle.reg_scan.specs.declared.homes.Homes.{Homes}
 use Rattle.rv32_codegen.specs.Layout.{code_size, laid_out}
 use Rattle.rv32_codegen.specs.Lowering.{AllHomes, CanRun, AlwaysDoes, MakeFrames}
 use Rattle.rv32_codegen.specs.Stack.{stack_need}
 use Rattle.core_compiler.specs.declared.program.TheConstants.{IMAGE_PACE, IMAGE_LATE, TIME_PACE, TIME_LATE, BYTES_OF_HOOK}
 use Rattle.program_limits.specs.Limits.{tree_limits}
-use Rattle.core_compiler.specs.Limits.{code_bound}
+use Rattle.core_compiler.specs.Limits.{code_bound, hook_parts}
 
 -- a program has no objects yet
 abbrev pub live_objects : Lives

@@ -40,16 +40,16 @@ use Rattle.rv32_codegen.specs.declared.layout.TheConstants.{LAYOUT_PACE, MOST_CO
 use Rattle.rv32_codegen.specs.declared.layout.LayFault.{LayFault}
 use Rattle.rv32_codegen.specs.declared.layout.LayFault.TheVariants.{TooLarge, Memory}
 use Rattle.rv32_codegen.specs.Layout.{code_size, laid_out}
-use Rattle.rv32_codegen.specs.Lowering.{most_bytes}
+use Rattle.rv32_codegen.specs.LineBytes.{most_bytes}
 use Rattle.rv32_codegen.specs.Stack.{stack_need}
 use Rattle.reg_scan.specs.declared.homes.Homes.{Homes}
 use Rattle.word_code.specs.declared.routine.TheConstants.{RUNTIME_DATA}
 use Rattle.heap_memory.specs.declared.numbers.TheConstants.{HEAP_DATA}
 use Rattle.word_lowering.specs.declared.lowering.TheConstants.{WORD_LATE, WORD_PACE, MOST_HEAP, MOST_CHAIN, MORE_DATA}
 use Rattle.word_lowering.specs.declared.may_lower.TheConstants.{MOST_DATA}
-use Rattle.hook_code.specs.Kept.{hook_parts}
 use Rattle.word_lowering.specs.Lowers.{AreSmall}
 use Rattle.core_compiler.specs.declared.program.TheConstants.{BYTES_OF_HOOK, BYTES_OF_ALL}
+use Rattle.core_compiler.specs.Limits.{hook_parts}
 use Rattle.core_compiler.specs.Compile.{live_objects, IsLabelCode}
 
 -- ---- a typed program and its flat code

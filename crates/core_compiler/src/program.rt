@@ -49,16 +49,16 @@ pub const TIME_PACE: u32 = 262_144;
 pub const TIME_LATE: u32 = 64;
 
 /// The most bytes of code for each part that is counted of a program.
-pub const BYTES_OF_PART: u32 = 2_304;
+pub const BYTES_OF_PART: u32 = 1_980;
 
 /// The most for each pair of an exit and what ends there.
-pub const BYTES_OF_PAIR: u32 = 432;
+pub const BYTES_OF_PAIR: u32 = 396;
 
 /// The most for each type with hooks, and for each of its parts.
-pub const BYTES_OF_HOOK: u32 = 36_672;
+pub const BYTES_OF_HOOK: u32 = 1_980;
 
 /// And for the whole.
-pub const BYTES_OF_ALL: u32 = 13_436;
+pub const BYTES_OF_ALL: u32 = 13_412;
 
 // The main module is too large.
 fn too_large() -> Stop

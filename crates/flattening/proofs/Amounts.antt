@@ -84,7 +84,7 @@ module _ (part : ℕ) (built standing : Literal → ℕ) (said : Label → ℕ) 
 -- ---- in the measure of weights: a constant that is read where it stands is none of the code
 
 abbrev pub taken : Literal → ℕ
-taken literal = 47 * literal_parts literal
+taken literal = 44 * literal_parts literal
 
 abbrev pub none_of : Literal → ℕ
 none_of literal = 0
@@ -92,19 +92,19 @@ none_of literal = 0
 abbrev pub no_label : Label → ℕ
 no_label label = 0
 
-labels_scaled : (labels : List Label) → labels_counted 47 taken none_of no_label labels ≡ 47 * length labels
+labels_scaled : (labels : List Label) → labels_counted 44 taken none_of no_label labels ≡ 44 * length labels
 labels_scaled [] = refl
 labels_scaled (label ∷ labels) = let h = labels_scaled labels in omega (arith, h)
 
-branches_scaled : (labels : List (List Label)) → branches_counted 47 taken none_of no_label labels ≡ 47 * labels_parts labels
+branches_scaled : (labels : List (List Label)) → branches_counted 44 taken none_of no_label labels ≡ 44 * labels_parts labels
 branches_scaled [] = refl
 branches_scaled (labels ∷ rest) = let h = labels_scaled labels in let i = branches_scaled rest in omega (arith, h, i)
 
-chooser_scaled : (chooser : Chooser) → chooser_counted 47 taken none_of no_label chooser ≡ 47 * chooser_parts chooser
+chooser_scaled : (chooser : Chooser) → chooser_counted 44 taken none_of no_label chooser ≡ 44 * chooser_parts chooser
 chooser_scaled ByConditions = refl
 chooser_scaled (ByLabels labels) = branches_scaled labels
 
-part_scaled : (part : Part) → part_counted 47 taken none_of no_label part ≡ 47 * part_parts part
+part_scaled : (part : Part) → part_counted 44 taken none_of no_label part ≡ 44 * part_parts part
 part_scaled (Acting (Giving literal)) = omega arith
 part_scaled (Acting (Doing operation)) = refl
 part_scaled (Acting (Building fields)) = refl
@@ -124,21 +124,21 @@ part_scaled (Looping kind false) = omega arith
 part_scaled Handling = refl
 
 abbrev Scaled : ℕ → ℕ → Type 0
-Scaled x y = x ≡ 47 * y
+Scaled x y = x ≡ 44 * y
 
-block_scaled : (block : Stmts) → block_counted 47 taken none_of no_label block ≡ 47 * block_parts block
-block_scaled block = related_of numbers numbers (own_counted 47 taken none_of no_label) own_parts Scaled (record {
+block_scaled : (block : Stmts) → block_counted 44 taken none_of no_label block ≡ 44 * block_parts block
+block_scaled block = related_of numbers numbers (own_counted 44 taken none_of no_label) own_parts Scaled (record {
   none = refl;
   plus = λ x y u v h g. omega (arith, h, g);
   own = λ seen. part_scaled seen.part;
 }) block
 
-body_scaled : (body : Body) → body_counted 47 taken none_of no_label body ≡ 47 * body_parts body
+body_scaled : (body : Body) → body_counted 44 taken none_of no_label body ≡ 44 * body_parts body
 body_scaled body = let h = block_scaled body.stmts in omega (arith, h)
 
-pub program_scaled : (program : Program) → counted 47 taken none_of no_label program ≡ 47 * program_parts program
+pub program_scaled : (program : Program) → counted 44 taken none_of no_label program ≡ 44 * program_parts program
 program_scaled program =
-    related_bodies numbers numbers (body_counted 47 taken none_of no_label) body_parts Scaled refl (λ x y u v h g. omega (arith, h, g))
+    related_bodies numbers numbers (body_counted 44 taken none_of no_label) body_parts Scaled refl (λ x y u v h g. omega (arith, h, g))
     (λ body. body_scaled body) program
 
 -- ---- pairs of what ends and an exit, where they count otherwise

@@ -565,7 +565,7 @@ module _ (types : List Ty) (facts : Facts) (modes : (proc position : ℕ) → Mo
         (outer_aim path t (λ z f. aim path t z f) z >> ready act rest uses (suc i) (t + width_at path) z)
 
     pub choice : (parts : Args) (ty : Option Ty) (how : UseAt) (t u : ℕ) (z : k.ground.World) → k.ground.Free z t → k.Behind z (label End t) →
-        P z (x.begin u) (x.of_args parts u + x.line (none_fits types facts modes t ty how)) (choice_lines types facts modes parts ty how t u)
+        P z (x.begin u) (x.of_args parts u + x.line (none_fits types facts modes t ty how) + x.last) (choice_lines types facts modes parts ty how t u)
     choice NoArg ty how t u z f end = most z _ _ (omega (arith, x.some_args NoArg u)) (no_fit z t ty how f)
     choice (ByPath path rest) ty how t u z f end = most z _ _ (omega (arith, x.some_args (ByPath path rest) u)) (no_fit z t ty how f)
     choice (ByValue last NoArg) ty how t u z f end =
@@ -588,7 +588,7 @@ module _ (types : List Ty) (facts : Facts) (modes : (proc position : ℕ) → Mo
         k.Behind z (label End t) →
         P z (x.begin u + ends (waiting_first facts modes parts))
         (x.of_chosen parts u + all_tests x.tests labels + x.branches labels + x.line (none_fits types facts modes t ty how) + x.mark (label Next t)
-        + x.line (L.Jump (label Next t))) (select_lines types facts modes labels parts ty how t u)
+        + x.line (L.Jump (label Next t)) + x.last) (select_lines types facts modes labels parts ty how t u)
     select labels NoArg ty how t u z f end = most z _ _ (omega (arith, x.no_selector u)) (no_fit z t ty how f)
     select labels (ByValue selector rest) ty how t u z f end =
         let v = u + width selector in
@@ -608,7 +608,7 @@ module _ (types : List Ty) (facts : Facts) (modes : (proc position : ℕ) → Mo
 
     pub arms : (covered : Bool) (labels : List (List Label)) (values : Args) (ty : Option Ty) (how : UseAt) (t u : ℕ) (z : k.ground.World) →
         k.ground.Free z t → k.Behind z (label End t) →
-        P z (x.begin u) (x.branches labels + x.of_args values u + x.line (none_fits types facts modes t ty how) + x.mark (label Next t))
+        P z (x.begin u) (x.branches labels + x.of_args values u + x.line (none_fits types facts modes t ty how) + x.mark (label Next t) + x.last)
         (arm_lines types facts modes covered labels values ty how t u)
     arms covered labels NoArg ty how t u z f end =
         most z _ _ (omega (arith, x.some_args NoArg u)) (marked z (label Next t) >> no_fit z t ty how f)
@@ -621,7 +621,7 @@ module _ (types : List Ty) (facts : Facts) (modes : (proc position : ℕ) → Mo
         let v = u + width value in
         most z _ _ (omega (arith, x.arm these labels value rest ty how t u))
         (arm_then z (covered && is_last_value rest) (label Next t) (label Arm u) (x.begin v)
-        (x.line (L.Jump (label End t)) + x.branches labels + x.of_args rest v + x.line (none_fits types facts modes t ty how) + x.mark (label Next t))
+        (x.line (L.Jump (label End t)) + x.branches labels + x.of_args rest v + x.line (none_fits types facts modes t ty how) + x.mark (label Next t) + x.last)
         (omega (arith, x.some_args rest v))
         (branch value u (expr value (branch_use types facts modes value) u) z >> hands_on z t u how ty f)
         (most z _ _ (omega arith) (jump z (label End t) end >> arms covered labels rest ty how t v z f end)))

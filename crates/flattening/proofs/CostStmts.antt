@@ -20,7 +20,7 @@ use Rattle.flat_code.specs.declared.line.Owning.TheVariants as W
 use Rattle.flat_code.specs.declared.line.Line.{Line}
 use Rattle.flat_code.specs.declared.line.Line.TheVariants as L
 use Rattle.flattening.specs.declared.numbers.Purpose.TheVariants.{Arm, End, Next, Turn}
-use Rattle.flattening.specs.ExprLines.{use_at, has_hooks, is_copied, waits_at, find_lines, lines, copied_lines, ready_lines, value_ends}
+use Rattle.flattening.specs.ExprLines.{has_hooks, is_copied, waits_at, find_lines, lines, copied_lines, ready_lines, value_ends}
 use Rattle.flattening.specs.Numbering.{type_number, width, width_at, widths, arm_count, width_in, width_of, label, looked_from, behind_selector}
 use Rattle.flattening.specs.StmtLines.{Exits, leaving_by, ending, in_loop, back_lines, block_tests, second, place_end, head_ends, selector_ends, test_ends}
 use Rattle.flattening.specs.StmtLines.{selector_lines, test_lines, look_up, gets_line, give_lines, fill_lines, hooked_element, element_lines, in_scope}
@@ -241,7 +241,7 @@ module _ (types : List Ty) (facts : Facts) (modes : (proc position : ℕ) → Mo
     test NoArg t s z = at_most z _ _ (omega (arith, x.some_args NoArg t)) (zero z t (k.ground.all_free (only s) z t))
     test (ByPath path rest) t s z = at_most z _ _ (omega (arith, x.some_args (ByPath path rest) t)) (zero z t (k.ground.all_free (only s) z t))
     test (ByValue e rest) t s z =
-        at_most z _ _ (omega (arith, x.handed e rest None (use_at Owned 0) t t)) (alone types facts modes x k e Owned t (told e Owned t) z)
+        at_most z _ _ (omega (arith, x.tested e rest t)) (alone types facts modes x k e Owned t (told e Owned t) z)
 
     -- ---- places get values
 

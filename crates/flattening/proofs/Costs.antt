@@ -70,6 +70,8 @@ pub record Costs (types : List Ty) (facts : Facts) (modes : (proc position : ℕ
   pub waited : Act → ℕ
   pub taken : ℕ
   pub ended : ℕ
+  -- and what the last branch of a choice, as it is handed on, takes of the choice
+  pub last : ℕ
   -- that a place is filled, the result given, and an element taken
   pub filled : ℕ
   pub given : ℕ
@@ -115,11 +117,11 @@ pub record Costs (types : List Ty) (facts : Facts) (modes : (proc position : ℕ
       + mark (label Next t) + of_expr right (suc t + width left) + line (L.Pass t (suc t + width left) how None) + mark (label End t)
       ≤ of_expr (Early node ty Or left right) t + spare (suc t) + spare (suc t + width left)
   pub conditions : (node : Node) (ty : Option Ty) (parts : Args) (how : UseAt) (t : ℕ) →
-      spare t + lent t + value t + of_args parts (suc t) + line (none_fits types facts modes t ty how) + mark (label End t) + ended
+      spare t + lent t + value t + of_args parts (suc t) + line (none_fits types facts modes t ty how) + mark (label End t) + ended + last
       ≤ of_expr (Choose node ty ByConditions parts) t + begin (suc t)
   pub labels : (node : Node) (ty : Option Ty) (these : List (List Label)) (parts : Args) (how : UseAt) (t : ℕ) →
       spare t + lent t + value t + of_chosen parts (suc t + arm_count (ByLabels these)) + all_tests tests these + branches these
-      + line (none_fits types facts modes t ty how) + mark (label Next t) + line (L.Jump (label Next t)) + mark (label End t) + ended
+      + line (none_fits types facts modes t ty how) + mark (label Next t) + line (L.Jump (label Next t)) + mark (label End t) + ended + last
       ≤ of_expr (Choose node ty (ByLabels these) parts) t + begin (suc t + arm_count (ByLabels these))
   -- paths
   pub root : (node : Node) (ty : Ty) (place : ℕ) (global : Bool) (t : ℕ) →
@@ -148,9 +150,10 @@ pub record Costs (types : List Ty) (facts : Facts) (modes : (proc position : ℕ
       held (ByPath path more) t + of_path path t + of_args more (t + width_at path)
       ≤ of_args (ByPath path more) t + spare t + get + held more (t + width_at path)
   pub some_args : (args : Args) (t : ℕ) → begin t ≤ of_args args t
-  -- what chooses
+  -- what chooses, or goes on
+  pub tested : (e : Expr) (more : Args) (t : ℕ) → begin t + of_expr e t ≤ of_args (ByValue e more) t + spare t
   pub handed : (e : Expr) (more : Args) (ty : Option Ty) (how : UseAt) (t u : ℕ) →
-      begin u + of_expr e u + taken + line (handed_on types facts modes t u how ty) ≤ of_args (ByValue e more) u + spare u
+      begin u + of_expr e u + taken + line (handed_on types facts modes t u how ty) ≤ of_args (ByValue e more) u + spare u + last
   pub condition : (first second : Expr) (more : Args) (ty : Option Ty) (how : UseAt) (t u : ℕ) →
       begin u + of_expr first u + line (L.Unless u (label Arm u)) + of_expr second (u + width first) + taken
       + line (handed_on types facts modes t (u + width first) how ty) + line (L.Jump (label End t)) + mark (label Arm u)

@@ -49,7 +49,7 @@ back hold act = 0
 -- its value, and so much for reading at a path; beside it what ends takes so much, at each exit.
 pub record Bounds (types : List Ty) (facts : Facts) (modes : (proc position : ℕ) → Mode) (m : Line → ℕ) (part : ℕ) (built standing : Literal → ℕ)
     (said : Label → ℕ)
-    (reserve operand get exit each one fill turn hold : ℕ) : Type 0 where
+    (reserve operand get exit each one fill turn hold last : ℕ) : Type 0 where
   pub reserves : reserve + one ≤ operand
   pub act : (t : ℕ) (act : Act) (how : UseAt) (ty : Option Ty) (operands : Args) →
       m (act_line types facts modes t act how ty (types_in operands) (froms facts act operands (use_of modes act) 0 (suc t))) + operand + back hold act +
@@ -72,13 +72,13 @@ pub record Bounds (types : List Ty) (facts : Facts) (modes : (proc position : �
       m (L.Truth t false) + m (L.Unless s l) + m (L.Pass t from how None) + m (L.Label l) + operand + one ≤ part
   pub either : (t s from l next : ℕ) (how : UseAt) →
       m (L.Truth t true) + m (L.Unless s next) + m (L.Jump l) + m (L.Label next) + m (L.Pass t from how None) + m (L.Label l) + operand + one ≤ part
-  pub handed : (t from : ℕ) (how : UseAt) (ty : Option ℕ) → m (L.Pass t from how ty) + one ≤ operand
+  pub handed : (t from : ℕ) (how : UseAt) (ty : Option ℕ) → m (L.Pass t from how ty) + one ≤ operand + last
   pub condition : (t u from l arm : ℕ) (how : UseAt) (ty : Option ℕ) →
       m (L.Unless u arm) + m (L.Pass t from how ty) + m (L.Jump l) + m (L.Label arm) + one ≤ operand + operand
   pub chosen : (t l next : ℕ) (how : UseAt) (ty : Option Ty) →
-      m (none_fits types facts modes t ty how) + m (L.Jump next) + m (L.Label next) + m (L.Label l) + operand + one + each ≤ part
+      m (none_fits types facts modes t ty how) + m (L.Jump next) + m (L.Label next) + m (L.Label l) + operand + one + each + last ≤ part
   pub test : (s arm : ℕ) (these : Label) → m (L.Fits s (written_label these) arm) ≤ part + said these
-  pub branch : (other arm l : ℕ) → m (L.Label other) + m (L.Label arm) + m (L.Jump l) ≤ part
+  pub branch : (other arm l : ℕ) → m (L.Label other) + m (L.Label arm) + m (L.Jump l) + last ≤ part
   pub given : (place from : ℕ) → m (L.Give place from) ≤ fill
   pub gets : (place ty : ℕ) (from : List From) → m (L.Own (W.ResultGets place ty) from) ≤ fill
   pub left : fill + exit ≤ part
@@ -103,8 +103,8 @@ pub record Bounds (types : List Ty) (facts : Facts) (modes : (proc position : �
   pub kept : fill + each ≤ part
 
 module _ (types : List Ty) (facts : Facts) (modes : (proc position : ℕ) → Mode) (m : Line → ℕ) (part : ℕ) (built standing : Literal → ℕ) (said : Label → ℕ)
-    (reserve operand get exit each one fill turn hold : ℕ)
-    (b : Bounds types facts modes m part built standing said reserve operand get exit each one fill turn hold) where
+    (reserve operand get exit each one fill turn hold last : ℕ)
+    (b : Bounds types facts modes m part built standing said reserve operand get exit each one fill turn hold last) where
   abbrev E : Expr → ℕ
   E = expr_counted part built standing said
 
@@ -197,6 +197,7 @@ module _ (types : List Ty) (facts : Facts) (modes : (proc position : ℕ) → Mo
     waited = back hold;
     taken = one;
     ended = each;
+    last = last;
     filled = fill;
     given = fill;
     element = λ t. turn;
@@ -238,6 +239,7 @@ module _ (types : List Ty) (facts : Facts) (modes : (proc position : ℕ) → Mo
     by_value = λ e more t. omega (arith, b.reserves);
     by_path = λ path more t. omega (arith, b.reserves);
     some_args = λ args t. omega arith;
+    tested = λ e more t. omega arith;
     handed = λ e more ty how t u. omega (arith, b.handed t u how (if_number types ty));
     condition = λ first second more ty how t u.
         omega (arith, b.condition t u (u + width first) (label End t) (label Arm u) how (if_number types ty));

@@ -57,6 +57,7 @@ module _ (types : List Ty) (facts : Facts) (modes : (proc position : ℕ) → Mo
     waited = λ act. 0;
     taken = 0;
     ended = 0;
+    last = 0;
     filled = 0;
     given = 0;
     element = λ t. values t + locations t;
@@ -120,6 +121,7 @@ module _ (types : List Ty) (facts : Facts) (modes : (proc position : ℕ) → Mo
     by_path = λ path others t.
         omega (arith, more (t + width_at path + widths others) (t + widths (ByPath path others)) (omega (arith, same_width path)));
     some_args = λ args t. more t (t + widths args) (omega arith);
+    tested = λ e others t. omega (arith, more (t + width e) (t + widths (ByValue e others)) (omega arith));
     handed = λ e others ty how t u. omega (arith, more (u + width e) (u + widths (ByValue e others)) (omega arith));
     condition = λ first second others ty how t u.
         omega (arith, more (u + width first + width second + widths others) (u + widths (ByValue first (ByValue second others))) (omega arith));

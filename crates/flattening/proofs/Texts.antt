@@ -115,7 +115,7 @@ module _ (text : List ℕ) where
     label_most s arm (Ordinals low high) = omega arith
     label_most s arm (Exactly written) = omega arith
 
-    text_bounds : Bounds types facts modes times_in 0 built standing said 0 0 0 0 0 0 0 0 0
+    text_bounds : Bounds types facts modes times_in 0 built standing said 0 0 0 0 0 0 0 0 0 0
     text_bounds = record {
       reserves = omega arith;
       act = act_most;
@@ -164,7 +164,7 @@ module _ (text : List ℕ) where
     body_most hook params body =
         let modes = modes_of program plan in
         let lines = body_lines program.types program.facts modes params body in
-        let s = body_spare program.types program.facts modes times_in 0 built standing said 0 0 0 0 0 0 0 0 0
+        let s = body_spare program.types program.facts modes times_in 0 built standing said 0 0 0 0 0 0 0 0 0 0
         (text_bounds program.types program.facts modes) params body.result body.stmts in
         let e = ap (λ ls. times text (lines_texts ls)) (plain_same lines) ∙ in_lines lines in
         let i = block_within body.stmts in

@@ -36,19 +36,19 @@ pieces_end : (a b : List Piece) → pieces_weight (a ++ b) ≡ pieces_weight a +
 pieces_end [] b = omega arith
 pieces_end (p ∷ a) b = let h = pieces_end a b in omega (arith, h)
 
-number_most : (zero : Bool) → (if zero then 0 else 3) + 0 ≤ 47 * (if zero then 0 else 1)
+number_most : (zero : Bool) → (if zero then 0 else 3) + 0 ≤ 44 * (if zero then 0 else 1)
 number_most true = omega arith
 number_most false = omega arith
 
 mutual
-  literal_most : (l : Literal) → pieces_weight (pieces_of l) ≤ 47 * literal_parts l
+  literal_most : (l : Literal) → pieces_weight (pieces_of l) ≤ 44 * literal_parts l
   literal_most (Number z) = number_most (int_eq z (pos 0))
   literal_most (Characters text) = omega arith
   literal_most NoObject = omega arith
   literal_most (PartsOf all) = let h = pieces_end (pieces_of_all all) (P.Parts (count_of all) ∷ []) in let i = all_most all in omega (arith, h, i)
   literal_most (ElementsOf all) = let h = pieces_end (pieces_of_all all) (P.Elements (count_of all) ∷ []) in let i = all_most all in omega (arith, h, i)
 
-  all_most : (all : Literals) → pieces_weight (pieces_of_all all) ≤ 47 * all_parts all
+  all_most : (all : Literals) → pieces_weight (pieces_of_all all) ≤ 44 * all_parts all
   all_most NoLiteral = omega arith
   all_most (ALiteral first rest) =
       let h = pieces_end (pieces_of first) (pieces_of_all rest) in
@@ -79,7 +79,7 @@ reserves facts act NoArg uses i t = refl
 reserves facts act (ByValue value rest) uses i t = let h = reserves facts act rest uses (suc i) (t + width value) in omega (arith, h)
 reserves facts act (ByPath path rest) uses i t = let h = reserves facts act rest uses (suc i) (t + width_at path) in omega (arith, h)
 
-label_most : (s arm : ℕ) (these : Label) → weight (L.Fits s (written_label these) arm) ≤ 47 + 0
+label_most : (s arm : ℕ) (these : Label) → weight (L.Fits s (written_label these) arm) ≤ 44 + 0
 label_most s arm (Ordinals low high) = omega arith
 label_most s arm (Exactly text) = omega arith
 
@@ -89,8 +89,8 @@ plain_same (l ∷ lines) = ap (λ ls. l ∷ ls) (plain_same lines)
 
 module _ (types : List Ty) (facts : Facts) (modes : (proc position : ℕ) → Mode) where
   act_most : (t : ℕ) (act : Act) (how : UseAt) (ty : Option Ty) (operands : Args) →
-      weight (act_line types facts modes t act how ty (types_in operands) (froms facts act operands (use_of modes act) 0 (suc t))) + 16 + back 8 act + 1 + 9
-      ≤ act_counted 47 taken none_of no_label act + reserved 12 operands
+      weight (act_line types facts modes t act how ty (types_in operands) (froms facts act operands (use_of modes act) 0 (suc t))) + 13 + back 8 act + 1 + 9
+      ≤ act_counted 44 taken none_of no_label act + reserved 12 operands
   act_most t (Doing operation) how ty operands =
       let uses = use_of modes (Doing operation) in
       let h = operation_most operation (length (froms facts (Doing operation) operands uses 0 (suc t))) in
@@ -105,7 +105,7 @@ module _ (types : List Ty) (facts : Facts) (modes : (proc position : ℕ) → Mo
   act_most t (Calling proc of) how ty operands =
       let r = reserves facts (Calling proc of) operands (use_of modes (Calling proc of)) 0 (suc t) in omega (arith, r)
 
-  weight_bounds : Bounds types facts modes weight 47 taken none_of no_label 12 16 25 3 9 1 7 20 8
+  weight_bounds : Bounds types facts modes weight 44 taken none_of no_label 12 13 25 3 9 1 7 20 8 3
   weight_bounds = record {
     reserves = omega arith;
     act = act_most;
@@ -160,10 +160,10 @@ module _ (program : Program) (plan : Plan) where
   pairs = body_pairs program.facts modes 9
 
   body_most : (hook : Option HookOf) (params : List Param) (body : Body) →
-      proc_weight (map flat_plain (flat_body program plan hook params body).lines) ≤ body_counted 47 taken none_of no_label body + pairs params body
+      proc_weight (map flat_plain (flat_body program plan hook params body).lines) ≤ body_counted 44 taken none_of no_label body + pairs params body
   body_most hook params body =
       let lines = body_lines program.types program.facts modes params body in
-      let s = body_spare program.types program.facts modes weight 47 taken none_of no_label 12 16 25 3 9 1 7 20 8
+      let s = body_spare program.types program.facts modes weight 44 taken none_of no_label 12 13 25 3 9 1 7 20 8 3
       (weight_bounds program.types program.facts modes)
       params body.result body.stmts in
       let a = some_most lines in
@@ -172,7 +172,7 @@ module _ (program : Program) (plan : Plan) where
 
   procs_most : (procs : List Proc) (more : List (CodeProc Line)) →
       code_weight flat_plain (map (λ (p : Proc). flat_proc program plan p.hook p.params p.body) procs ++ more)
-      ≤ procs_counted 47 taken none_of no_label procs + procs_pairs program.facts modes 9 procs + code_weight flat_plain more
+      ≤ procs_counted 44 taken none_of no_label procs + procs_pairs program.facts modes 9 procs + code_weight flat_plain more
   procs_most [] more = omega arith
   procs_most (p ∷ procs) more =
       let h = of_body p.body in
@@ -180,11 +180,11 @@ module _ (program : Program) (plan : Plan) where
       omega (arith, h, i)
     where
       of_body : (body : Option Body) → proc_weight (map flat_plain (flat_proc program plan p.hook p.params body).lines)
-          ≤ if_counted 47 taken none_of no_label body + if_pairs program.facts modes 9 p.params body
+          ≤ if_counted 44 taken none_of no_label body + if_pairs program.facts modes 9 p.params body
       of_body None = omega arith
       of_body (Some body) = body_most p.hook p.params body
 
-  pub weighs : code_weight flat_plain (flat_procs program plan) ≤ 47 * program_parts program + 9 * program_pairs modes program
+  pub weighs : code_weight flat_plain (flat_procs program plan) ≤ 44 * program_parts program + 9 * program_pairs modes program
   weighs =
       let h = procs_most program.procs (flat_body program plan None [] program.start ∷ []) in
       let i = body_most None [] program.start in

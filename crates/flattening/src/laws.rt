@@ -38,7 +38,7 @@ ghost use Rattle.flattening.specs.Shallow.{IsShallow};
 pub const FLAT_PACE: u32 = 12;
 
 /// The most that flat code weighs for each counted part of its program.
-pub const NODE_WEIGHT: u32 = 47;
+pub const NODE_WEIGHT: u32 = 44;
 
 /// And for each pair of an exit and what ends there.
 pub const PAIR_WEIGHT: u32 = 9;

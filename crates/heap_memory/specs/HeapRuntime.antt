@@ -1,7 +1,7 @@
 -- What the routines of the heap promise, as word code in front of a program's.
 use Rattle.std.specs.Prelude.{◌≡◌, ◌≤◌, ℕ, true, List, length}
 use Rattle.rv32_isa.specs.Machine.{Lives}
-use Rattle.rv32_isa.specs.Regions.{HasRegions}
+use Rattle.rv32_isa.specs.Regions.{HasRegions, as_bytes}
 use Rattle.nim_meaning.specs.Heap.{heap_of}
 use Rattle.word_code.specs.declared.word.WordCode.{WordCode}
 use Rattle.word_code.specs.Memory.{as_state, own_data_at}
@@ -69,5 +69,6 @@ pub record IsHeapRuntime (code : WordCode) : Type 0 where
       → IsHeap own_data_at (heap_of heap).classes none_stands (start (joined code others) heap stack input).memory
   -- whatever it is joined with, and whichever input is left
   pub kept : (live : Lives) (others : WordCode) (name : HeapRoutineName) → IsKeptThere live (joined code others).procs (heap_routine own_data_at name)
-  pub reads : (live : Lives) (others : WordCode) (input : List ℕ) → IsKeptOn live (joined code others).procs input (reads_line own_data_at input)
-  pub reads_texts : (live : Lives) (others : WordCode) (input : List ℕ) → IsKeptOn live (joined code others).procs input (reads_text own_data_at input)
+  pub reads : (live : Lives) (others : WordCode) (input : List ℕ) → IsKeptOn live (joined code others).procs input (reads_line own_data_at (as_bytes input))
+  pub reads_texts : (live : Lives) (others : WordCode) (input : List ℕ) →
+      IsKeptOn live (joined code others).procs input (reads_text own_data_at (as_bytes input))

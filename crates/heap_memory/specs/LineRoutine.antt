@@ -24,7 +24,6 @@ use Rattle.heap_memory.specs.HeapBlocks.{size_at}
 use Rattle.heap_memory.specs.HeapState.{Stands, IsHeap}
 use Rattle.heap_memory.specs.HeapUse.{IsElsewhere}
 use Rattle.heap_memory.specs.HeapRoutines.{class_of}
-use Rattle.heap_memory.specs.TextRoutines.{AreBytes}
 use Rattle.heap_memory.specs.GrowRoutine.{Owned, place_of}
 use Rattle.heap_memory.specs.AppendRoutine.{with_owned, new_block}
 
@@ -92,13 +91,12 @@ pub record Reading : Type 0 where
   pub classes : List Class
   pub stands : Stands
 
-pub record MayRead (at : ℕ) (input : List ℕ) (u : Reading) (m : Memory) : Type 0 where
+pub record MayRead (at : ℕ) (u : Reading) (m : Memory) : Type 0 where
   pub heap : IsHeap at u.classes u.stands m
   pub all : length m.heap ≡ u.room
   pub cells : Area m u.to 2
   pub elsewhere : IsElsewhere at m u.to 8
   pub unused : (k : ℕ) → u.first ≤ k → u.stands k ≡ None
-  pub are : AreBytes input
 
 -- the line, as far as it fits
 abbrev pub line_then : (input : List ℕ) → Reading → UnderWay
@@ -155,13 +153,13 @@ abbrev pub ReadGives : (at : ℕ) → (input : List ℕ) → Reading → Memory 
 ReadGives at [] u other word = word ≡ 0
 ReadGives at (c ∷ cs) u other word = (word ≡ 1) × IsLine at u (line_then (c ∷ cs) u) (next_line (c ∷ cs)) other
 
--- where so much input is left
+-- where these bytes are left of the input
 abbrev pub reads_line : (at : ℕ) → (input : List ℕ) → Routine
 reads_line at input = record {
   number = READ_LINE;
   Use = Reading;
   takes = λ u. u.to ∷ [];
-  may = λ u m. MayRead at input u m;
+  may = λ u m. MayRead at u m;
   shows = λ u. if line_fits input u then [] else writes Err (trap_line OutOfMemory);
   ends = λ u. if line_fits input u then None else Some 1;
   leaves = λ u m other. ReadLeaves at input u m other;

@@ -11,7 +11,6 @@ use Rattle.word_code.specs.RoutineTable.{trap_line}
 use Rattle.word_code.specs.Routines.{Routine}
 use Rattle.heap_memory.specs.declared.numbers.TheConstants.{TEXT_READ, HEAP_SCRATCH, HANDLE_LINES, RELEASE_LINES, LINE_LINES}
 use Rattle.heap_memory.specs.HeapState.{Stands, IsHeap}
-use Rattle.heap_memory.specs.TextRoutines.{AreBytes}
 use Rattle.heap_memory.specs.GrowRoutine.{Owned, place_of, IsPresent, classes_then, stands_then}
 use Rattle.heap_memory.specs.AppendRoutine.{with_owned}
 use Rattle.heap_memory.specs.LineRoutine.{UnderWay, empty_text, line_work, Reading, line_then, line_fits, block_under_way, IsPart}
@@ -30,11 +29,10 @@ pub record ReadingText : Type 0 where
 abbrev pub to_scratch : (at : ℕ) → ReadingText → Reading
 to_scratch at u = record { to = at + HEAP_SCRATCH; first = u.first; room = u.room; classes = u.classes; stands = u.stands }
 
-pub record MayReadText (at : ℕ) (input : List ℕ) (u : ReadingText) (m : Memory) : Type 0 where
+pub record MayReadText (at : ℕ) (u : ReadingText) (m : Memory) : Type 0 where
   pub heap : IsHeap at u.classes u.stands m
   pub all : length m.heap ≡ u.room
   pub unused : (k : ℕ) → u.first ≤ k → u.stands k ≡ None
-  pub are : AreBytes input
   pub there : number_at m (u.to + 4) Word ≡ Ok (place_of u.present)
   pub has : MayHave m u.to
   pub present : IsPresent u.stands 0 u.present
@@ -64,13 +62,13 @@ abbrev pub if_any : List ℕ → ℕ
 if_any [] = 0
 if_any (c ∷ cs) = 1
 
--- where so much input is left
+-- where these bytes are left of the input
 abbrev pub reads_text : (at : ℕ) → (input : List ℕ) → Routine
 reads_text at input = record {
   number = TEXT_READ;
   Use = ReadingText;
   takes = λ u. u.to ∷ [];
-  may = λ u m. MayReadText at input u m;
+  may = λ u m. MayReadText at u m;
   shows = λ u. if line_fits input (to_scratch at u) then [] else writes Err (trap_line OutOfMemory);
   ends = λ u. if line_fits input (to_scratch at u) then None else Some 1;
   leaves = λ u m other. ReadTextLeaves at input u m other;

@@ -33,7 +33,7 @@ use Rattle.holders.specs.Evaluating.{value_nodes, path_nodes, waits_itself, Bare
 use Rattle.holders.specs.Evaluating.{is_waiting, Aims, at_place, at_made}
 use Rattle.holders.proofs.PartsInTurn.{leaves_none, begins_part, First, begins_next, stage_next, leaves_next, path_in, waiting_in}
 use Rattle.holders.specs.Claimed.{NoExit, From, Sees, HasValue, ValueSo, HasAim, AimSo}
-use Rattle.holders.proofs.Claims.{behind_value, value_bare, scene_passes, aims_first}
+use Rattle.holders.proofs.Claims.{behind_value, value_bare, scene_passes, aims_first, behind_alone}
 use Rattle.holders.proofs.Constants.{no_ref}
 use Rattle.holders.specs.Finding.{IsWhole}
 use Rattle.nim_program.specs.Kinds.{is_text}
@@ -131,9 +131,10 @@ module _ (here : Here) (scope : scopes.Here) (limits : Limits) (root : (global :
       at_made unwritten (λ world. element_aim here.facts z (type_at base) ty simple typed (aims_first ks (h world))) tt
 
   pub element_so : (node : Node) (ty : Ty) (base : Path) (index : Expr) (constant : Option ℤ) → IfSimple here.facts (type_at base) →
-      is_of (element_of (kind_if here.facts (type_at base))) (Some ty) ≡ true → Distinct (path_nodes base ++ value_nodes index) → Aim_so base →
-      ValueSo here scope limits root first places os index Owned → Aim_so (Element node ty base index constant)
-  element_so node ty base index constant simple typed d so index_so nodes s b scene =
+      is_of (element_of (kind_if here.facts (type_at base))) (Some ty) ≡ true → Distinct (path_nodes base ++ value_nodes index) →
+      gives_hooked here.facts (type_of index) ≡ false → Aim_so base → ValueSo here scope limits root first places os index Owned →
+      Aim_so (Element node ty base index constant)
+  element_so node ty base index constant simple typed d unhooked so index_so nodes s b scene =
       let one = path_nodes base in
       let two = value_nodes index in
       let ws = waiting_at here.facts here.modes base in
@@ -160,7 +161,7 @@ module _ (here : Here) (scope : scopes.Here) (limits : Limits) (root : (global :
         own = a.own ++ after.own;
         later = after.later;
         leaves = leaves_next p (λ n m. waiting_in here.facts here.modes index Owned n m) after.leaves;
-        stage = stage_next p after.stage;
+        stage = stage_next p (behind_alone here index Owned (distinct_second one two d) (λ how. unhooked) v);
         aims = element_aims after.own (number_of z) node ty base index constant simple typed a.aims;
       }))
 
@@ -177,7 +178,7 @@ module _ (here : Here) (scope : scopes.Here) (limits : Limits) (root : (global :
         own = after.own;
         later = after.later;
         leaves = after.leaves;
-        stage = after.stage;
+        stage = behind_alone here value Looked d (λ how. unhooked) v;
         aims = at_made {n = 0} refl (λ world. at_value (value_bare here value Looked unhooked v world)) tt;
       }
   fresh_aim value d true hooked waits (is_bare which a none st h) = absurd (waits none refl)

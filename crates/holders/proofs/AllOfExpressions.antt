@@ -33,7 +33,7 @@ use Rattle.holders.specs.Asked.{Limits, Simple, IfSimple, ActAsked, Asked, Asked
 use Rattle.holders.specs.Evaluating.{value_nodes, path_nodes, operand_nodes, waits_itself, Bare, Lasts, AllLast}
 use Rattle.holders.specs.Claimed.{ValueSo, AimSo, ReadySo}
 use Rattle.holders.proofs.Claims.{asked_type, asked_at}
-use Rattle.holders.proofs.Constants.{not_hooked, bool_type}
+use Rattle.holders.proofs.Constants.{not_hooked, bool_type, int_type}
 use Rattle.holders.proofs.FormKinds.{same_type}
 use Rattle.holders.proofs.Aiming.{no_object, variable_so, field_so, element_so, fresh_so}
 use Rattle.holders.proofs.OperandKinds.{Regular, AllRegular, no_hooks, no_own}
@@ -294,7 +294,10 @@ module _ (here : Here) (scope : scopes.Here) (limits : Limits) (root : (global :
         let plain_is = is_bool_plain here.facts ty asked.0 f.0 in
         let right_is = ap (form_for here.facts)
         (same_type {a = type_of right} {b = Some ty} (and_parts (is_of (type_of left) (Some ty)) (is_of (type_of right) (Some ty)) f.1).1) ∙ plain_is in
-        early_so here known limits root first places os node ty short left right how plain_is d (not_hooked here.facts (type_of right) right_is) right_is
+        early_so here known limits root first places os node ty short left right how plain_is d
+        (not_hooked here.facts (type_of left) (ap (form_for here.facts)
+        (same_type {a = type_of left} {b = Some ty} (and_parts (is_of (type_of left) (Some ty)) (is_of (type_of right) (Some ty)) f.1).0) ∙ plain_is))
+        (not_hooked here.facts (type_of right) right_is) right_is
         (value_so rest left both.0 asked.1.0 (distinct_first (value_nodes left) (value_nodes right) d) Owned)
         (value_so rest right both.1 asked.1.1 (distinct_second (value_nodes left) (value_nodes right) d) Owned)
     value_so rest (Choose node ty ByConditions parts) typed asked d how =
@@ -328,6 +331,8 @@ module _ (here : Here) (scope : scopes.Here) (limits : Limits) (root : (global :
         let both = and_parts (is_typed_path known base) (is_typed known index) t.1 in
         element_so here known limits root first places os node ty base index constant (asked_at here.facts limits OfCall base asked.1.0)
         (and_parts (is_of (element_of (kind_if here.facts (type_at base))) (Some ty)) (is_int (kind_if here.facts (type_of index))) t.0).0 d
+        (not_hooked here.facts (type_of index) (int_type here.facts (type_of index) (asked_type here.facts limits OfCall index asked.1.1)
+        (and_parts (is_of (element_of (kind_if here.facts (type_at base))) (Some ty)) (is_int (kind_if here.facts (type_of index))) t.0).1))
         (aim_so rest base both.0 asked.1.0 (distinct_first (path_nodes base) (value_nodes index) d))
         (value_so rest index both.1 asked.1.1 (distinct_second (path_nodes base) (value_nodes index) d) Owned)
     aim_so rest (Deref ty base) typed asked d =

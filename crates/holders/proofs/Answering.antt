@@ -15,12 +15,12 @@ use Rattle.holders.specs.Owned.{no_sequence}
 use Rattle.holders.specs.Owned.{a_sequence, HasEach, Apart}
 use Rattle.holders.specs.Sure.{Sure}
 use Rattle.holders.specs.Becoming.{taken_in, Gives, KeepsHolders, none}
-use Rattle.holders.specs.Becoming.{Turns}
+use Rattle.holders.specs.Becoming.{Turns, times}
 use Rattle.holders.proofs.Staying.{stays_same, taken_stays}
 use Rattle.holders.proofs.HolderCounts.{taken_counts}
 use Rattle.holders.proofs.BaseChanges.{taken_elsewhere, taken_text, taken_row}
 use Rattle.holders.proofs.Sure.{sure_then, sure_weaker}
-use Rattle.holders.proofs.Ledger.{taken_live}
+use Rattle.holders.proofs.Ledger.{taken_live, none_in_none}
 use Rattle.holders.proofs.Owning.{each_stays}
 use Rattle.holders.proofs.Guards.{sure_takes, sure_sees, sure_changes, read_at}
 use Rattle.holders.proofs.Copying.{each_below}
@@ -39,13 +39,15 @@ fresh_sure : (n m : ℕ) (contents : Contents) (P : Value → World → Type 0) 
 fresh_sure zero m contents P world empty some = empty refl
 fresh_sure (suc n) m contents P world empty some = some (class_for m world.heap.classes)
 
-nothing_given : (f : Form) (x : Value) (given : List ℕ) (world : World) → Has world Full f x [] → Gives f x given world world
-nothing_given f x given world h = record {
+nothing_given : (f : Form) (x : Value) (given : List ℕ) (world : World) → Has world Full f x [] → ((k : ℕ) → times k given ≡ 0) →
+    Gives f x given world world
+nothing_given f x given world h none_in = record {
   blocks = [];
   has = h;
   distinct = tt;
   came = λ k m. elim m [ ];
   grows = omega arith;
+  loses = λ k. omega (arith, none_in k);
   elsewhere = λ b y is. is;
   stays = stays_same world;
 }
@@ -54,7 +56,7 @@ pub text_made : (t : List ℕ) (world : World) →
     Sure (fresh_text t) (λ x after. Gives block x [] world after × KeepsHolders none (λ k. held_by k x) world after) world
 text_made t world =
     fresh_sure (length t) (length t) (Characters t) (λ x after. Gives block x [] world after × KeepsHolders none (λ k. held_by k x) world after) world
-    (λ z. (nothing_given block (Handle 0 None) [] world no_text, λ others is. is))
+    (λ z. (nothing_given block (Handle 0 None) [] world no_text (λ k. refl), λ others is. is))
     (λ class. (
       record {
         blocks = taken_in world ∷ [];
@@ -62,6 +64,7 @@ text_made t world =
         distinct = (λ m. elim m [ ], tt);
         came = λ k m. only k m;
         grows = omega (arith, one_more_length world.heap.blocks (Some (record { class = class; contents = Characters t })));
+        loses = λ k. omega (arith, taken_live world k class (Characters t));
         elsewhere = λ b y is. taken_elsewhere world class (Characters t) is;
         stays = taken_stays world class (Characters t);
       },
@@ -78,7 +81,7 @@ pub sequence_made : (f : Form) (vs : Values) (ds : List ℕ) (n : ℕ) (world : 
 sequence_made f vs ds n world each d =
     fresh_sure (count vs) n (Elements vs)
     (λ x after. Gives (elements f) x ds world after × KeepsHolders (λ k. held_in k vs) (λ k. held_by k x) world after) world
-    (λ z. (nothing_given (elements f) (Handle 0 None) ds world no_sequence, λ others is k. omega (arith, is k, none_in k vs z)))
+    (λ z. (nothing_given (elements f) (Handle 0 None) ds world no_sequence (none_in_none each z), λ others is k. omega (arith, is k, none_in k vs z)))
     (λ class.
     let after = with_block class (Elements vs) world in (
       record {
@@ -87,6 +90,7 @@ sequence_made f vs ds n world each d =
         distinct = (λ m. too_far (each_below each (taken_in world) m), d);
         came = λ k m. of_new k m;
         grows = omega (arith, one_more_length world.heap.blocks (Some (record { class = class; contents = Elements vs })));
+        loses = λ k. omega (arith, taken_live world k class (Elements vs));
         elsewhere = λ b y is. taken_elsewhere world class (Elements vs) is;
         stays = taken_stays world class (Elements vs);
       },
@@ -142,6 +146,7 @@ line_made input world =
         distinct = t.0.distinct;
         came = t.0.came;
         grows = t.0.grows;
+        loses = λ k. omega (arith, t.0.loses k);
         elsewhere = λ b y is. t.0.elsewhere b y (reading_stays (up_to_feed input) is);
         stays = record { hand = t.0.stays.hand; frames = t.0.stays.frames };
       },

@@ -12,7 +12,7 @@ use Rattle.holders.specs.Owned.{IsBase, At, From, Extent, Full, Constant, Has, a
 use Rattle.holders.specs.Owned.{HasAll, Apart}
 use Rattle.holders.specs.Sure.{Sure}
 use Rattle.holders.specs.Becoming.{taken_in, Becomes, Gives, HeldOnce, KeepsHolders, none}
-use Rattle.holders.specs.Becoming.{Strange, Turns}
+use Rattle.holders.specs.Becoming.{Strange, Turns, times}
 use Rattle.holders.specs.Owned.{PartForm, first_part, next_part}
 use Rattle.holders.specs.Walks.{GivenUp}
 use Rattle.holders.proofs.Staying.{stays_same, stays_then, stored_stays}
@@ -54,6 +54,7 @@ replaces f to w v0 x old new world at e h0 h d dn both apart apart_new =
         distinct = dn;
         came = λ k m. inr (inl m);
         grows = omega (arith, t.1, stored_length world to.base (put_part (whole_at world to.base) to.path x));
+        loses = λ k. omega (arith, t.0.loses k, stored_live world k to.base (put_part (whole_at world to.base) to.path x));
         is = t.0.elsewhere to.base (put_part w to.path x) (is_put to w world at x) (λ k q m. apart k q m);
         elsewhere = λ b y is q far. t.0.elsewhere b y (put_elsewhere to w world at x b y is q) far;
         stays = stays_then (stored_stays world (put_part (whole_at world to.base) to.path x) at.base) t.0.stays;
@@ -91,6 +92,7 @@ module _ (f : Form) (x : Value) (to : Location) (w v0 : Value) (old : List ℕ) 
           distinct = t.0.distinct;
           came = λ k m. from_copy k c.0.blocks (taken_in middle) (λ n. new_one k (c.0.came k n)) c.0.grows (t.0.came k m);
           grows = omega (arith, c.0.grows, t.0.grows);
+          loses = λ k. omega (arith, c.0.loses k, t.0.loses k);
           is = t.0.is;
           elsewhere = λ b y is q far. t.0.elsewhere b y (c.0.elsewhere b y is) q far;
           stays = stays_then c.0.stays t.0.stays;
@@ -145,6 +147,7 @@ bits_assigned f to from w u v0 v old bs world bare at e h0 source h =
         distinct = tt;
         came = λ k m. elim m [ ];
         grows = omega (arith, stored_length world to.base (put_part (whole_at world to.base) to.path v));
+        loses = λ k. omega (arith, ap (times k) (plain_none bare h0), stored_live world k to.base (put_part (whole_at world to.base) to.path v));
         is = is_put to w world at v;
         elsewhere = λ b y is q far. put_elsewhere to w world at v b y is q;
         stays = stored_stays world (put_part (whole_at world to.base) to.path v) at.base;
@@ -172,6 +175,7 @@ nothing_turns f l w v old world at e h d = (
     distinct = d;
     came = λ k m. inl m;
     grows = omega arith;
+    loses = λ k. omega arith;
     is = subst (λ x. IsBase world l.base x) (sym (ap (put_part w l.path) (sym e) ∙ put_same at.part)) at.base;
     elsewhere = λ b y is q far. is;
     stays = stays_same world;

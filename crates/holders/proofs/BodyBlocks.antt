@@ -1,6 +1,6 @@
 -- All statements and blocks of a body, by induction.
-use Rattle.std.proofs.Common.{◌≡◌, refl, sym, subst, ◌∙◌, ℕ, suc, inl, inr, Bool, true, false, List, [], ◌∷◌, ◌++◌}
-use Rattle.std.specs.Prelude.{◌&&◌, not, Some}
+use Rattle.std.proofs.Common.{◌≡◌, refl, sym, subst, ◌∙◌, ℕ, suc, inl, inr, Bool, true, false, List, [], ◌∷◌, ◌++◌, Option, None, Some}
+use Rattle.std.specs.Prelude.{◌&&◌, not}
 use Rattle.std.proofs.lemmas.Bool.{false≢true, and_parts}
 use Rattle.nim_program.specs.declared.expr.Node.{Node}
 use Rattle.nim_program.specs.declared.stmt.Leaving.{Leaving}
@@ -22,7 +22,7 @@ use Rattle.nim_program.specs.Typed.{is_typed_stmt, is_typed_block, are_typed_blo
 use Rattle.nim_meaning.specs.ActTree as points
 use Rattle.nim_meaning.specs.Values.{Value, number_of, default_of}
 use Rattle.nim_meaning.specs.Acts.{Does, give, branch, costs, leave, loop, ◌>>=◌}
-use Rattle.nim_meaning.specs.Here.{Here}
+use Rattle.nim_meaning.specs.Here.{Here, gives_hooked}
 use Rattle.nim_meaning.specs.Waiting.{waiting, waiting_at}
 use Rattle.nim_meaning.specs.Shapes.{is_covered, is_last_block}
 use Rattle.nim_meaning.specs.Steps.{at_node, grouped, ended_value, waits_of, gets_copy, selecting}
@@ -45,6 +45,7 @@ use Rattle.holders.proofs.BodyGiven.{default_declares, value_declares, declare_t
 use Rattle.holders.proofs.BodyChoices.{by_value_so, by_path_so}
 use Rattle.holders.proofs.BodyLoops.{while_so}
 use Rattle.holders.proofs.BodyEach.{count_so, each_so}
+use Rattle.nim_types.specs.Types.{Ty}
 
 module _ (here : Here) (first places : ℕ) (sorted : FactsOfTheirSort here.facts) (OfCall : Limits → ℕ → Args → Type 0) (Known : scopes.Here → Type 0)
     (known_more : (scope : scopes.Here) (place : Declared) → Known scope → Known (with_place scope place))
@@ -213,6 +214,10 @@ module _ (here : Here) (first places : ℕ) (sorted : FactsOfTheirSort here.fact
       while_so here first places sorted OfCall Known calls scope ok limits node e (and_parts (is_typed (known scope) e) true typed).0 asked.0 fits hd bd bn body
       numbers body_so
 
+  no_type : (ty : Option Ty) → not (is_there ty) ≡ true → gives_hooked here.facts ty ≡ false
+  no_type None e = refl
+  no_type (Some ty) e = absurd (false≢true e)
+
   mutual
     pub stmt_so : (scope : scopes.Here) → Known scope → (limits : Limits) → NamesOwn limits → (around : Around) → around.gives ≡ type_of_place here.result →
         (x : Stmt) → is_typed_stmt (known scope) around x ≡ true → AskedStmt here.facts OfCall limits x →
@@ -221,7 +226,9 @@ module _ (here : Here) (first places : ℕ) (sorted : FactsOfTheirSort here.fact
     stmt_so scope ok limits own around gives (Do e) typed asked numbers =
         let ns = total lists node_numbers e in
         part_in here first places (known scope) limits (numbers_of (total lists own_places e)) ns [] ns (exec (Do e) here) (λ n m. elim m [ ]) (λ n m. m)
-        (do_so here first places sorted OfCall Known calls scope ok limits e (and_parts (not (is_there (type_of e))) (is_typed (known scope) e) typed).1 asked
+        (do_so here first places sorted OfCall Known calls scope ok limits e
+        (no_type (type_of e) (and_parts (not (is_there (type_of e))) (is_typed (known scope) e) typed).0)
+        (and_parts (not (is_there (type_of e))) (is_typed (known scope) e) typed).1 asked
         numbers.from_node numbers.nodes)
     stmt_so scope ok limits own around gives (Idle node parts) typed asked numbers =
         let ps = numbers_of (totals lists own_places parts) in

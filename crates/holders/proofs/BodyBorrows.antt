@@ -175,7 +175,7 @@ module _ (here : Here) (first places : ℕ) (scope : scopes.Here) (limits : Limi
   -- the body, in its scope
   in_scope : (now : State) → Borrowed now.world → Comes (λ u after. J after) (LeftBy J) (scoped here place last body now)
   in_scope now k =
-      scope_left here place last body S J (λ w e. over w e) (λ w e. e.0) now
+      scope_left here place last body S J (λ w e. over w e) (λ bare w e. e.0) now
       (comes_weaker (λ u after. O after) (LeftBy O) (λ u after. S after) (LeftBy S) (body now) (body_so qs k.over.later now c there)
       (λ u after f. closes after f) (λ way after f. (f.0, closes after f.1)))
     where
@@ -392,7 +392,7 @@ module _ (here : Here) (first places : ℕ) (sorted : FactsOfTheirSort here.fact
   borrowed_so scope ok limits own place node value hooks typed asked item hd bd bn numbers last body body_so =
       head_then here first places sorted OfCall Known calls scope ok limits own place head typed asked hd bd bn numbers node (λ ready. go (ready_aim ready)) tt
       (λ os nodes start mid xs b sights a.
-      let h = headed here first places sorted OfCall Known calls scope ok limits own place head typed asked hd bd bn numbers b sights a in
+      let h = headed here first places sorted OfCall Known calls scope ok limits own place head typed asked hd bd bn numbers b sights a tt in
       let W : World → Type 0 = λ after. Pending (part_region here.level ps ns) [] os first places nodes (waits_in here head) b.territory.blocks start after in
       let O : World → Type 0 = λ after. Over here first places (known_at here scope) limits ips bn (h.own ++ os) h.later h.stage.runs.territory.blocks
       mid.world after in

@@ -49,7 +49,7 @@ use Rattle.holders.proofs.WholeExpressions.{CallsSo}
 use Rattle.holders.proofs.BodyParts.{scene_stays, starts_over}
 use Rattle.holders.proofs.BodyNumbers.{numbers_second}
 use Rattle.holders.proofs.BodyHeads.{inner_begins, inner_sights, inner_over}
-use Rattle.holders.proofs.BodyLoops.{less_written, headed, head_then, counts, elements}
+use Rattle.holders.proofs.BodyLoops.{less_written, headed, head_then, counts, elements, AllBare}
 use Rattle.holders.proofs.BodyBorrows.{borrowed_so}
 
 -- what isn't written in the body of a loop
@@ -89,6 +89,25 @@ module _ (here : Here) (first places : ℕ) (sorted : FactsOfTheirSort here.fact
   ends_last scope limits place inclusive (ByValue e (ByValue f (ByPath path rest))) fits asked =
       absurd (false≢true (and_parts (is_int (kind_of here.facts place.of) && is_int (kind_if here.facts (type_of e))) false fits).1)
 
+  ends_bare : (limits : Limits) (place : Declared) (inclusive : Bool) (head : Args) → head_fits here.facts (Count place inclusive) head ≡ true →
+      AllAsked here.facts limits (OfCall limits) head → AllBare here head
+  ends_bare limits place inclusive NoArg fits asked = tt
+  ends_bare limits place inclusive (ByPath path rest) fits asked = absurd (false≢true fits)
+  ends_bare limits place inclusive (ByValue e NoArg) fits asked =
+      absurd (false≢true (and_parts (is_int (kind_of here.facts place.of) && is_int (kind_if here.facts (type_of e))) false fits).1)
+  ends_bare limits place inclusive (ByValue e (ByPath path rest)) fits asked =
+      absurd (false≢true (and_parts (is_int (kind_of here.facts place.of) && is_int (kind_if here.facts (type_of e))) false fits).1)
+  ends_bare limits place inclusive (ByValue e (ByValue f NoArg)) fits asked =
+      let t = and_parts (is_int (kind_of here.facts place.of) && is_int (kind_if here.facts (type_of e))) (is_int (kind_if here.facts (type_of f))) fits in (
+        not_hooked here.facts (type_of e) (int_type here.facts (type_of e) (asked_type here.facts limits (OfCall limits) e asked.0)
+            (and_parts (is_int (kind_of here.facts place.of)) (is_int (kind_if here.facts (type_of e))) t.0).1),
+        (not_hooked here.facts (type_of f) (int_type here.facts (type_of f) (asked_type here.facts limits (OfCall limits) f asked.1.0) t.1), tt),
+      )
+  ends_bare limits place inclusive (ByValue e (ByValue f (ByValue g rest))) fits asked =
+      absurd (false≢true (and_parts (is_int (kind_of here.facts place.of) && is_int (kind_if here.facts (type_of e))) false fits).1)
+  ends_bare limits place inclusive (ByValue e (ByValue f (ByPath path rest))) fits asked =
+      absurd (false≢true (and_parts (is_int (kind_of here.facts place.of) && is_int (kind_if here.facts (type_of e))) false fits).1)
+
   -- the place too
   place_plain : (place : Declared) (inclusive : Bool) (head : Args) → Simple here.facts place.of → head_fits here.facts (Count place inclusive) head ≡ true →
       form_of here.facts place.of ≡ plain
@@ -116,7 +135,8 @@ module _ (here : Here) (first places : ℕ) (sorted : FactsOfTheirSort here.fact
       head_then here first places sorted OfCall Known calls scope ok limits own place head typed.1 asked hd bd bn numbers node rest
       (ends_last scope limits place inclusive head typed.0 asked)
       (λ os nodes start mid xs b sights a.
-      let h = headed here first places sorted OfCall Known calls scope ok limits own place head typed.1 asked hd bd bn numbers b sights a in
+      let h = headed here first places sorted OfCall Known calls scope ok limits own place head typed.1 asked hd bd bn numbers b sights a
+      (ends_bare limits place inclusive head typed.0 asked) in
       let J : World → Type 0 = λ after. Over here first places (known scope) limits (numbers_of (place ∷ bd)) bn (h.own ++ os) h.later
       h.stage.runs.territory.blocks
       mid.world after in
@@ -182,7 +202,7 @@ module _ (here : Here) (first places : ℕ) (sorted : FactsOfTheirSort here.fact
       head_then here first places sorted OfCall Known calls scope ok limits own place head typed.1 asked hd bd bn numbers node
       (λ ready. rest (ready_aim ready)) tt
       (λ os nodes start mid xs b sights a.
-      let h = headed here first places sorted OfCall Known calls scope ok limits own place head typed.1 asked hd bd bn numbers b sights a in
+      let h = headed here first places sorted OfCall Known calls scope ok limits own place head typed.1 asked hd bd bn numbers b sights a tt in
       let W : World → Type 0 = λ after. Pending (part_region here.level ps ns) [] os first places nodes (waits_in here head) b.territory.blocks start after in
       let J : World → Type 0 = λ after. Over here first places (known scope) limits ips bn (h.own ++ os) h.later h.stage.runs.territory.blocks
       mid.world after in

@@ -140,9 +140,9 @@ module _ (here : Here) (first places : ℕ) (scope : scopes.Here) (limits : Limi
       (λ u after. Stage r [] os first places h.later b.territory.blocks start after) (λ u after. T after) now
       (stage_over r os first places b.territory.blocks start place.number (in_is place.number ps mine) h.stage)
       (λ u after st. record { later = h.later; stage = st; distinct = h.distinct; came = h.came }))
-      (λ now h. record {
+      (λ bare now h. record {
         later = h.later;
-        stage = stage_lets_go r os first places b.territory.blocks start h.stage;
+        stage = stage_lets_go r os first places b.territory.blocks start bare h.stage;
         distinct = h.distinct;
         came = h.came;
       })

@@ -1,10 +1,10 @@
 -- Loops: while a test holds, over a range, and over elements of what stands somewhere, of which each turn has a copy.
-use Rattle.std.proofs.Common.{◌≡◌, refl, sym, ap, subst, arith, ℕ, ◌+◌, ◌<◌, ◌≤◌, inl, inr, Bool, true, false, List, [], ◌∷◌, ◌++◌}
+use Rattle.std.proofs.Common.{◌≡◌, refl, sym, ap, subst, arith, ℕ, ◌+◌, ◌<◌, ◌≤◌, inl, inr, Bool, true, false, List, [], ◌∷◌, ◌++◌, ◌∙◌}
 use Rattle.std.specs.Prelude.{◌||◌, not, nat_eq, nat_lt, ℤ}
 use Rattle.std.proofs.lemmas.Bool.{false≢true, eqb-true, ltb-true}
 use Rattle.nim_types.specs.Forms.{Form, plain, form_of, hooked}
 use Rattle.nim_program.specs.declared.operation.Use.TheVariants.{Owned}
-use Rattle.nim_program.specs.Program.{Expr, Args, NoArg, ByValue, Declared, type_of}
+use Rattle.nim_program.specs.Program.{Expr, Args, NoArg, ByValue, Declared, type_of, ByPath}
 use Rattle.nim_program.specs.Folds.{lists, node_numbers, total, totals}
 use Rattle.nim_program.specs.Traps.{LengthChanged}
 use Rattle.nim_program.specs.Numbering.{numbers_of}
@@ -18,7 +18,7 @@ use Rattle.nim_meaning.specs.State.{World, State}
 use Rattle.nim_meaning.specs.Acts.{Exit, Does, branch, loop, ◌>>=◌}
 use Rattle.nim_meaning.specs.Deeds.{carry, stop}
 use Rattle.nim_meaning.specs.Deeds as deeds
-use Rattle.nim_meaning.specs.Here.{Here, is_hooked}
+use Rattle.nim_meaning.specs.Here.{Here, is_hooked, gives_hooked}
 use Rattle.nim_meaning.specs.Waiting.{Wait}
 use Rattle.nim_meaning.specs.Places.{as_long, item_at, fetched_item, fetched}
 use Rattle.nim_meaning.specs.Aims.{Aim, Ready, find}
@@ -33,7 +33,8 @@ use Rattle.holders.specs.Running.{Region}
 use Rattle.holders.specs.Staging.{Stage}
 use Rattle.holders.specs.Called.{LeftBy}
 use Rattle.holders.specs.Asked.{Limits, AllAsked, Asked, FactsOfTheirSort, may_write_at}
-use Rattle.holders.specs.Evaluating.{operand_nodes, Hand, empty, holds, AtHand, AllReady, AllLast}
+use Rattle.holders.specs.Evaluating.{operand_nodes, Hand, holds, AllReady, AllLast}
+use Rattle.holders.specs.Evaluating.{Readied, none_ready, bare_ready, held_ready, lent_ready, aim_ready, seen_ready, copy_ready, hand_ready}
 use Rattle.holders.specs.Claimed.{NoExit, InBody, known_at}
 use Rattle.holders.specs.BodyParts.{part_region, PartBegins, own_cell, Sights, Pending, Over, PartSo}
 use Rattle.holders.specs.Numbered.{Numbered}
@@ -54,12 +55,27 @@ use Rattle.holders.proofs.BodyHeads.{Headed, scoped_so}
 use Rattle.holders.proofs.BodySights.{sights_more}
 use Rattle.holders.proofs.BodyNumbers.{numbers_second, place_new, rise_apart}
 use Rattle.holders.proofs.BodyStatements.{operands_at, test_so}
+use Rattle.holders.proofs.Staging.{hand_alone, IsHeld}
+use Rattle.nim_program.specs.declared.operation.Use.{Use}
 
--- a value under way may be left out
-pub hand_stage : {r : Region} {ms os : List Owner} {first places : ℕ} {nodes old : List ℕ} {start now : World} (h : Hand) →
-    AtHand h r ms os first places nodes old start now → Stage r ms os first places nodes old start now
-hand_stage empty s = s
-hand_stage (holds f v) s = s.stage
+-- heads whose values have no hooks
+abbrev pub AllBare : Here → Args → Type 0
+AllBare here NoArg = Unit {0}
+AllBare here (ByValue value rest) = (gives_hooked here.facts (type_of value) ≡ false) × AllBare here rest
+AllBare here (ByPath path rest) = AllBare here rest
+
+-- have nothing under way
+pub head_free : {here : Here} {scope : scopes.Here} {limits : Limits} {root : (global : Bool) → ℕ → ℕ} {uses : (position : ℕ) → Use} {ms os : List Owner}
+    {now : World} {h : Hand} {args : Args} {i : ℕ} {xs : List Ready} → AllBare here args → Readied here scope limits root uses ms os now h args i xs →
+    IsHeld h → ⊥
+head_free all none_ready q = q
+head_free all (bare_ready which b more) q = head_free all.1 more q
+head_free all (held_ready purpose hooks a stands more) q = head_free all.1 more q
+head_free all (lent_ready purpose hooks own a more) q = head_free all.1 more q
+head_free all (aim_ready a more) q = head_free all more q
+head_free all (seen_ready purpose b) q = q
+head_free all (copy_ready purpose hooks f) q = q
+head_free all (hand_ready purpose hooks) q = false≢true (sym all.0 ∙ hooks)
 
 -- what isn't written in a loop isn't written around it
 pub less_written : (kept : ℕ → Bool) (place : Declared) (n : ℕ) → not (nat_eq place.number n || kept n) ≡ true → not (kept n) ≡ true
@@ -166,8 +182,8 @@ module _ (here : Here) (first places : ℕ) (sorted : FactsOfTheirSort here.fact
     abbrev pub headed : {os : List Owner} {nodes : List ℕ} {start mid : World} {xs : List Ready} (b : PartBegins here.level first places ps ns os nodes start)
         (sights : Sights here (known scope) limits os start) →
         AllReady here (known scope) limits sights.root (λ i. Owned) head 0 first places nodes os b.territory.blocks start xs mid →
-        Headed here first places (known scope) limits ps ns (operand_nodes head) ips bn ws os nodes start mid
-    headed b sights a = record {
+        AllBare here head → Headed here first places (known scope) limits ps ns (operand_nodes head) ips bn ws os nodes start mid
+    headed b sights a bare = record {
       before = b;
       sights = sights;
       of_head = λ n m. in_first n hn bn (in_head n m);
@@ -178,7 +194,7 @@ module _ (here : Here) (first places : ℕ) (sorted : FactsOfTheirSort here.fact
       own = a.own;
       later = a.later;
       leaves = a.leaves;
-      stage = hand_stage a.hand a.stage;
+      stage = hand_alone a.hand (head_free bare a.ready) a.stage;
     }
 
     -- the head is evaluated, then the loop runs

@@ -18,7 +18,7 @@ use Rattle.holders.specs.Owned.{Active}
 use Rattle.holders.specs.Sure.{Comes}
 use Rattle.holders.specs.Territory.{Owner}
 use Rattle.holders.specs.Running.{Region, IsOutside, Wider, Passes}
-use Rattle.holders.specs.Staging.{Stage}
+use Rattle.holders.specs.Staging.{Stage, StageWith}
 use Rattle.holders.specs.Groups.{without_waits, AllMine, Ends}
 use Rattle.holders.specs.Called.{LeftBy}
 use Rattle.holders.specs.Asked.{Limits}
@@ -63,13 +63,14 @@ pub node_outside : (level n : ℕ) (ps ns : List ℕ) → (Member n ns → ⊥) 
 node_outside level n ps ns h = inr (refl, λ e. h (is_member n ns e))
 
 -- a stage of a part is one of the whole
-abbrev pub stage_in : {r inner : Region} {ms os : List Owner} {first places : ℕ} {nodes old : List ℕ} {start now : World} → Wider r inner →
-    Stage inner ms os first places nodes old start now → Stage r ms os first places nodes old start now
+abbrev pub stage_in : {out : ℕ → ℕ} {r inner : Region} {ms os : List Owner} {first places : ℕ} {nodes old : List ℕ} {start now : World} → Wider r inner →
+    StageWith out inner ms os first places nodes old start now → StageWith out r ms os first places nodes old start now
 stage_in {ms = ms} {first = first} {places = places} {nodes = nodes} {now = now} w s = record {
   runs = record {
     territory = s.runs.territory;
     own = own_wider w ms s.runs.own;
     came = s.runs.came;
+    loses = s.runs.loses;
     passes = passes_wider [] w tt (λ k m. m) s.runs.passes;
   };
   active = subst (λ l. Active now.frames l first places nodes) w.level s.active;

@@ -103,9 +103,10 @@ module _ (here : Here) (first places : ℕ) (sorted : FactsOfTheirSort here.fact
       before n (inl m) = m
       before n (inr m) = elim m [ ]
 
-  pub do_so : (scope : scopes.Here) → Known scope → (limits : Limits) (e : Expr) → is_typed (known scope) e ≡ true → Asks limits e → (from : ℕ) →
+  pub do_so : (scope : scopes.Here) → Known scope → (limits : Limits) (e : Expr) → gives_hooked here.facts (type_of e) ≡ false → is_typed (known scope) e ≡ true
+      → Asks limits e → (from : ℕ) →
       Rise from (total lists node_numbers e) → Part scope limits [] (total lists node_numbers e) (exec (Do e) here)
-  do_so scope ok limits e typed asked from r os nodes s b sights =
+  do_so scope ok limits e unhooked typed asked from r os nodes s b sights =
       let ns = total lists node_numbers e in
       let d = value_distinct (known scope) from e typed r in
       let within : (n : ℕ) → Member n (value_nodes e) → Member n ns = λ n m. value_members (known scope) e typed n m in
@@ -113,7 +114,7 @@ module _ (here : Here) (first places : ℕ) (sorted : FactsOfTheirSort here.fact
       comes_weaker (λ u after. Q after) NoExit (λ u after. Q after) (LeftBy Q) (exec (Do e) here s)
       (do_comes here (known scope) limits sights.root (λ n. false) (λ n. is_in n ns) first places [] os nodes b.territory.blocks
       s.world e
-      (value_at scope ok limits sights.root os e typed asked d Owned) d (λ n m. in_is n ns (within n m)) (λ n m q. b.free n m (within n q))
+      (value_at scope ok limits sights.root os e typed asked d Owned) d unhooked (λ n m. in_is n ns (within n m)) (λ n m q. b.free n m (within n q))
       (value_begins [] ns (value_nodes e) b within).outside tt b.deepest s (starts_over [] ns b) sights.scene)
       (λ u now e. e) (λ way now q. absurd q)
 

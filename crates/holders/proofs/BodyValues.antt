@@ -40,7 +40,7 @@ use Rattle.holders.proofs.Sure.{sure_weaker}
 use Rattle.holders.proofs.Finding.{finds}
 use Rattle.holders.proofs.PlainRows.{read_found}
 use Rattle.holders.proofs.Operations.{copied_to}
-use Rattle.holders.proofs.Staging.{stage_moves}
+use Rattle.holders.proofs.Staging.{stage_moves, bare_stage}
 use Rattle.holders.proofs.Statements.{plain_held, fill_comes}
 use Rattle.holders.proofs.PlaceCopies.{fill_from_comes}
 use Rattle.holders.proofs.Results.{result_comes, plain_result_comes}
@@ -115,7 +115,7 @@ no_place_waits level n ws ms waits =
 
 abbrev pub holding_in : {r inner : Region} {ms os : List Owner} {f : Form} {v : Value} {first places : ℕ} {nodes old : List ℕ} {start now : World} →
     Wider r inner → Holding f v inner ms os first places nodes old start now → Holding f v r ms os first places nodes old start now
-holding_in w h = record { stage = stage_in w h.stage; under = h.under; came = h.came }
+holding_in w h = record { out = h.out; stage = stage_in w h.stage; under = h.under; came = h.came; out_is = h.out_is }
 
 module _ (here : Here) (scope : scopes.Here) (limits : Limits) (root : (global : Bool) → ℕ → ℕ) (first places : ℕ) (os : List Owner) where
   -- under way, and temporaries wait
@@ -295,7 +295,8 @@ module _ (here : Here) (first places : ℕ) (ps ns : List ℕ) (os : List Owner)
         let g = subst (λ x. Holding x v r own os first places later old start s.world) same (holding_in w h) in
         comes_weaker (λ u after. Stage r own os first places later old start after) X (λ u after. Waits [] ws after) X
         (result_gets false (Some place) here v s)
-        (plain_result_comes r own os first places later old start here place X s (sym (ap hooked same) ∙ hooks) g.stage
+        (plain_result_comes r own os first places later old start here place X s (sym (ap hooked same) ∙ hooks)
+        (bare_stage r os first places old start (sym (ap hooked same) ∙ hooks) g)
         (in_cell (cell_of own s.world) goes_nowhere) (from_full {x = Constant} g.under.has)) (λ u after st. waits_then after leaves st) (λ way after q. q)
 
     pub result_copied : (sub : List ℕ) {f : Form} {ws : List Wait} {own : List Owner} {later : List ℕ} {l : Location} {position : ℕ} {steps : List Step}

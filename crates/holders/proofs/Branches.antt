@@ -33,7 +33,7 @@ use Rattle.holders.specs.Evaluating.{value_nodes, at_nodes, waits_inside, waits_
 use Rattle.holders.proofs.PartsInTurn.{in_is, waiting_in, waits_outside, wider_nodes, nodes_second, ends_later, without_node_in, without_node_distinct}
 use Rattle.holders.proofs.PartsInTurn.{without_node_gone}
 use Rattle.holders.specs.Claimed.{NoExit, From, Sees, HasValue, ValueSo}
-use Rattle.holders.proofs.Claims.{behind_value, value_bare, own_apart, none_itself, waiting_is}
+use Rattle.holders.proofs.Claims.{behind_value, value_bare, own_apart, none_itself, waiting_is, behind_alone}
 use Rattle.holders.proofs.Constants.{hooked_is}
 use Rattle.holders.proofs.OperandKinds.{owned_none}
 use Rattle.holders.proofs.GroupsOver.{all_mine, group_over, leaves_over, without_waits_in, without_waits_distinct, without_waits_gone}
@@ -95,7 +95,8 @@ module _ (here : Here) (scope : scopes.Here) (limits : Limits) (root : (global :
       let after = behind_value here e Owned d p in
       comes_weaker (λ u last. Stage (at_nodes here.level (value_nodes e)) [] os first places (without_waits after.later ws) b.territory.blocks s.world last)
       (λ way last. ⊥) (λ u last. Q x last) (λ way last. ⊥) (all_end here.level flow ws now)
-      (group_over (value_nodes e) (λ way last. ⊥) flow (λ n m. waiting_in here.facts here.modes e Owned n m) after.leaves now after.stage)
+      (group_over (value_nodes e) (λ way last. ⊥) flow (λ n m. waiting_in here.facts here.modes e Owned n m) after.leaves now
+      (behind_alone here e Owned d (λ how. unhooked) p))
       (λ u last st. (record { later = without_waits after.later ws; leaves = leaves_over after.leaves; stage = st }, value_bare here e Owned unhooked p))
       (λ way last q. q))
       (λ way flow now q. elim q [ ])
@@ -199,7 +200,8 @@ module _ (here : Here) (scope : scopes.Here) (limits : Limits) (root : (global :
         distinct = without_waits_distinct later' inner distinct';
         came = λ n m. from n m (without_waits_in later' inner n m);
         stage = stage_framed (cell ∷ []) ms (wider_nodes here.level (value_nodes e) within of_value) (not_outside, tt)
-            h.stage.runs.territory h.stage.runs.came h.stage.runs.passes (waits_outside here.level node within apart, tt) st;
+            h.stage.runs.territory h.stage.runs.came h.stage.runs.passes (λ k. omega (arith, h.stage.runs.loses k))
+            (waits_outside here.level node within apart, tt) st;
         stands = st.runs.passes.bases (Waiting here.level node) v h.base (waits_outside here.level node within apart)
             (all_so (λ o. IsOutside R o.at.base) (λ o. Waiting here.level node ≡ o.at.base → ⊥) os
             (λ o out q. not_outside (subst (λ c. IsOutside R c) (sym q) out)) b.outside) (λ k q m. no_block k q);

@@ -157,7 +157,7 @@ module _ (program : Program) (named : (proc g : ℕ) → Bool) (kept : List Para
       Comes (λ u after. Stage region ms gs body.first body.places [] st.territory.blocks w after)
       (λ way after. NotRaised way × Stage region ms gs body.first body.places [] st.territory.blocks w after) (exec_all body.stmts H now)) q
       (λ st. body_so Own Root ms gs now st) starts_so))
-      (λ v after back. record { old = begins.territory.blocks; into = begins.from; back = back })
+      (λ v after back. record { old = begins.territory.blocks; into = begins.from; sum = begins.sum; back = back })
       (λ way after x. x)
     where
       result_is : Result H (result_cells program.facts level body.result) (form_given program.facts p.gives)

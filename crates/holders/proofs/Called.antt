@@ -1,5 +1,5 @@
 -- A call as a whole, seen from its caller, where the code of the procedure keeps to its cells.
-use Rattle.std.proofs.Common.{◌≡◌, sym, ap, subst, ◌∙◌, ℕ, ◌≤◌, inr, ◌⊎◌, List, [], ◌∷◌, length, Option, Some, Bool, true, false}
+use Rattle.std.proofs.Common.{◌≡◌, sym, ap, subst, ◌∙◌, ℕ, ◌≤◌, inr, ◌⊎◌, List, [], ◌∷◌, length, Option, Some, Bool, true, false, arith, refl}
 use Rattle.nim_types.specs.Forms.{Form, form_of}
 use Rattle.nim_program.specs.Program.{Declared, Param, Body, last_of}
 use Rattle.nim_meaning.specs.Values.{Value, Stands, Standing, Location, at_base}
@@ -14,7 +14,7 @@ use Rattle.nim_meaning.specs.Places.{place_at}
 use Rattle.nim_meaning.specs.Meaning.{place_ends, ends, params_end, result_of, result_bytes, handing, handed, exec_all}
 use Rattle.holders.specs.Owned.{IsName, a_name}
 use Rattle.holders.specs.Sure.{Sure, Comes}
-use Rattle.holders.specs.Becoming.{taken_in}
+use Rattle.holders.specs.Becoming.{taken_in, times}
 use Rattle.holders.specs.Territory.{Owner, AllOwners}
 use Rattle.holders.specs.Working.{without}
 use Rattle.holders.specs.Running.{IsBelow, Region}
@@ -40,17 +40,17 @@ module _ (r : Region) (gs : List Owner) (first places : ℕ) (nodes old : List �
   own_ends : {ms : List Owner} (place : Declared) (exit : ℕ) (X : Exit → World → Type 0) (now : State) → r.places place.number ≡ true →
       At (record { form = form_of here.facts place.of; at = at_base (Standing here.level place.number) } ∷ ms) now.world →
       Comes (λ u after. At ms after) X (ends here place exit now)
-  own_ends {ms} place exit X now mine g = by (is_hooked here.facts place.of)
+  own_ends {ms} place exit X now mine g = by (is_hooked here.facts place.of) refl
     where
       at_level : At (record { form = form_of here.facts place.of; at = at_base (Standing r.level place.number) } ∷ ms) now.world
       at_level = subst (λ l. At (record { form = form_of here.facts place.of; at = at_base (Standing l place.number) } ∷ ms) now.world) level_is g
 
-      by : (b : Bool) → Comes (λ u after. At ms after) X
+      by : (b : Bool) → is_hooked here.facts place.of ≡ b → Comes (λ u after. At ms after) X
           (costs 1 (branch b (carry (place_ends (form_of here.facts place.of) here.level place.number)) (give tt)) now)
-      by true = comes_carried (λ u after. At ms after) X (place_ends (form_of here.facts place.of) here.level place.number) _
+      by true e = comes_carried (λ u after. At ms after) X (place_ends (form_of here.facts place.of) here.level place.number) _
           (subst (λ l. Sure (place_ends (form_of here.facts place.of) l place.number) (λ u after. At ms after) now.world) (sym level_is)
           (stage_over r gs first places old start place.number mine at_level))
-      by false = stage_lets_go r gs first places old start g
+      by false e = stage_lets_go r gs first places old start e g
 
   name_ends : {ms : List Owner} {l : Location} (place : Declared) (exit : ℕ) (X : Exit → World → Type 0) (now : State) →
       IsName now.world.frames here.level place.number l → At ms now.world → Comes (λ u after. At ms after) X (ends here place exit now)
@@ -88,15 +88,18 @@ module _ (r : Region) (gs : List Owner) (first places : ℕ) (nodes old : List �
   came_back : {f : Option Form} {ms : List Owner} → Result here ms f → (last : World) → Stage r ms gs first places nodes old entered_world last →
       CameBack gs old world (result_of here.result here.level last) (down_to r.level last) f
   came_back (gives_none e) last s =
-      without_value (returns r frame count below s.runs.territory s.runs.came s.runs.passes).moves (ap (λ (p : Option Declared). result_of p here.level last) e)
+      without_value (returns r frame count below s.runs.territory s.runs.came s.runs.passes (λ k. omega (arith, s.runs.loses k))).moves
+      (ap (λ (p : Option Declared). result_of p here.level last) e)
   came_back (gives_one place e) last s =
       let a = first_apart s.runs.territory in
       let f = form_of here.facts place.of in
       let came : (k : ℕ) → Member k a.others.blocks → Member k old ⊎ (Member k [] ⊎ (taken_in world ≤ k)) = λ k m. s.runs.came k (a.within k m) in
       subst (λ v. CameBack gs old world v (down_to r.level last) (Some f))
       (sym (ap (λ (p : Option Declared). result_of p here.level last) e ∙ loaded last (place_at here.level place.number) a.value a.base))
-      (let back = returns r frame count below a.others came s.runs.passes in
+      (let back = returns {goes = λ k. times k a.under.given} r frame count below a.others came s.runs.passes
+      (λ k. omega (arith, s.runs.loses k, a.sum k)) in
       with_value (record {
+        goes = λ k. times k a.under.given;
         moves = back.moves;
         value = record {
           given = a.under.given;
@@ -106,6 +109,7 @@ module _ (r : Region) (gs : List Owner) (first places : ℕ) (nodes old : List �
           clear = a.under.clear;
         };
         came = λ k m. s.runs.came k (a.were k m);
+        goes_is = λ k. omega arith;
       }))
 
   -- ---- the whole of it

@@ -23,6 +23,7 @@ use Rattle.holders.proofs.Making.{kept_so}
 use Rattle.holders.proofs.Coming.{comes_carried}
 use Rattle.holders.proofs.Constants.{hooked_is}
 use Rattle.holders.proofs.Applying.{OwnWaits, made_valued}
+use Rattle.holders.proofs.Staging.{bare_stage}
 
 module _ (here : Here) (first places : ℕ) (os : List Owner) (e : Expr) (own_waits : OwnWaits here e (type_of e)) (nodes later old : List ℕ) (start : World)
     (ms : List Owner) (leaves : Leaves here.level nodes (waits_inside here.facts here.modes e) ms later) where
@@ -57,7 +58,7 @@ module _ (here : Here) (first places : ℕ) (os : List Owner) (e : Expr) (own_wa
           (kept_so R ms os first places later old start how (node_of e).number mine off h)
           (λ x after m. made_valued here first places os e own_waits nodes later old start ms leaves how hooks m))
       by false unhooked =
-          bare_comes how v unhooked s h.stage
+          bare_comes how v unhooked s (bare_stage R os first places old start (sym (hooked_is here.facts (type_of e)) ∙ unhooked) h)
           (λ world. plain_anywhere world Constant (sym (hooked_is here.facts (type_of e)) ∙ unhooked) (from_full h.under.has))
 
   -- a call without a value

@@ -1,6 +1,6 @@
 -- What waits is taken up, or ends; a place is over; a call begins, and comes back.
 use Rattle.std.proofs.Common.{◌≡◌, true, refl, sym, ap, subst, ◌∙◌, arith, ℕ, zero, suc, ◌<◌, ◌≤◌, inl, inr, ◌⊎◌, List, [], ◌∷◌, ◌++◌, length, Option}
-use Rattle.std.proofs.Common.{Some}
+use Rattle.std.proofs.Common.{Some, ◌+◌}
 use Rattle.std.specs.Prelude.{slice_get, take}
 use Rattle.std.proofs.lemmas.Option.{none-some}
 use Rattle.nim_types.specs.Forms.{Form}
@@ -13,11 +13,11 @@ use Rattle.nim_meaning.specs.Meaning.{place_ends}
 use Rattle.nim_meaning.specs.Places.{place_at}
 use Rattle.holders.specs.Owned.{IsBase, at_place, at_node, in_hand, in_row, in_text, in_program, Apart, IsName, a_name, Active, Stays}
 use Rattle.holders.specs.Sure.{Sure}
-use Rattle.holders.specs.Becoming.{taken_in}
+use Rattle.holders.specs.Becoming.{taken_in, times, none, LosesNone}
 use Rattle.holders.specs.Walks.{Ended}
 use Rattle.holders.specs.Beside.{PartWays, OtherPart, other_base, other_way}
 use Rattle.holders.specs.Territory.{Owner, Cells, no_cells, a_cell, AllOwners, OtherThan, LieApart, ClearOf, Territory, StandsAt, RowAt}
-use Rattle.holders.specs.Territory.{NoBaseOf, Moves}
+use Rattle.holders.specs.Territory.{NoBaseOf, MovesWith}
 use Rattle.holders.specs.Handing.{UnderWay}
 use Rattle.holders.specs.Running.{IsBelow, Region, IsOutside, Passes}
 use Rattle.holders.proofs.Sure.{sure_weaker}
@@ -30,6 +30,7 @@ use Rattle.holders.proofs.Separating.{none_part}
 use Rattle.holders.proofs.FrameChanges.{value_leaves, frame_more, name_more, active_more, base_below_level}
 use Rattle.holders.proofs.FrameChanges.{name_below_level, active_below_level}
 use Rattle.holders.proofs.Running.{no_less, passes_apace, Apace, territory_apace, under_apace}
+use Rattle.holders.proofs.Ledger.{times_both}
 
 -- ---- the first cell goes
 
@@ -41,6 +42,7 @@ pub record Apart_from (f : Form) (b : Base) (os : List Owner) (blocks : List ℕ
   pub within : (k : ℕ) → Member k others.blocks → Member k blocks
   pub under : UnderWay f value os others.blocks world
   pub were : (k : ℕ) → Member k under.given → Member k blocks
+  pub sum : (k : ℕ) → times k blocks ≡ times k under.given + times k others.blocks
   pub off : NoBaseOf b os
   pub clear : ((k : ℕ) → b ≡ InBlock k → Member k under.given → ⊥)
 
@@ -76,6 +78,7 @@ first_apart {f} {b} {os} {world} t = by t.blocks t.cells t.distinct t.others t.c
         clear = clear_less (bs ++ cs) bs os (λ k m. in_first k bs cs m) clear.1;
       };
       were = λ k m. in_first k bs cs m;
+      sum = λ k. times_both k bs cs;
       off = all_so (λ p. OtherPart p.at (at_base b)) (λ p. b ≡ p.at.base → ⊥) os (λ p o e. other_base_only o e) others.0;
       clear = c.apart;
     }
@@ -89,6 +92,7 @@ pub record TakenUp (f : Form) (r : Region) (node : ℕ) (ms gs : List Owner) (ol
   pub within : (k : ℕ) → Member k territory.blocks → Member k old
   pub under : UnderWay f value (ms ++ gs) territory.blocks after
   pub were : (k : ℕ) → Member k under.given → Member k old
+  pub loses : LosesNone (λ k. times k old) (λ k. times k territory.blocks + times k under.given) world after
   pub passes : Passes r gs old world after
 
 pub takes_up : {f : Form} {first places : ℕ} {nodes : List ℕ} (r : Region) (node : ℕ) → r.nodes node ≡ true → (ms gs : List Owner) {world : World}
@@ -107,6 +111,7 @@ takes_up {f} {first} {places} {nodes} r node mine ms gs {world} t active =
       within = s.within;
       under = under_apace a (λ k e. no_node k e) s.under;
       were = s.were;
+      loses = λ k. omega (arith, s.sum k);
       passes = passes_apace r gs inside a (λ l m to h there. now.names l m to h)
           (λ l first places nodes less h. now.active l first places nodes h (λ e. not_same l less e)) now.count;
     }
@@ -131,6 +136,7 @@ takes_up {f} {first} {places} {nodes} r node mine ms gs {world} t active =
 pub record EndsAlone (f : Form) (b : Base) (os : List Owner) (old : List ℕ) (world after : World) : Type 0 where
   pub territory : Territory os after
   pub within : (k : ℕ) → Member k territory.blocks → Member k old
+  pub loses : LosesNone (λ k. times k old) (λ k. times k territory.blocks) world after
   pub bases : (c : Base) (x : Value) → IsBase world c x → (c ≡ b → ⊥) → Apart c old → IsBase after c x
   pub stays : Stays world after
   pub grows : taken_in world ≤ taken_in after
@@ -158,6 +164,7 @@ ends_alone {f} {b} {os} {world} t no_block = by t.blocks t.cells t.distinct t.ot
             clear = clear_less (bs ++ cs) cs os (λ k m. in_second k bs cs m) clear.1;
           };
           within = λ k m. in_second k bs cs m;
+          loses = λ k. omega (arith, e.0.loses k, times_both k bs cs);
           bases = λ x y h off far. e.0.elsewhere x y h off (λ k q m. far k q (in_first k bs cs m));
           stays = e.0.once.stays;
           grows = e.1;
@@ -289,15 +296,15 @@ one_longer [] x = refl
 one_longer (y ∷ xs) x = ap suc (one_longer xs x)
 
 -- what the code of a call does, seen from its caller, whose cells have these blocks then
-pub record Returned (gs : List Owner) (old blocks : List ℕ) (world after : World) : Type 0 where
-  pub moves : Moves gs [] old world after
+pub record Returned (goes : ℕ → ℕ) (gs : List Owner) (old blocks : List ℕ) (world after : World) : Type 0 where
+  pub moves : MovesWith none goes gs [] old world after
   pub same : moves.territory.blocks ≡ blocks
 
-pub returns : {gs : List Owner} {old : List ℕ} {world last : World} (r : Region) (frame : Frame) → length world.frames ≡ r.level →
+pub returns : {goes : ℕ → ℕ} {gs : List Owner} {old : List ℕ} {world last : World} (r : Region) (frame : Frame) → length world.frames ≡ r.level →
     AllOwners (λ g. IsBelow r.level g.at.base) gs → (t : Territory gs last) →
     ((k : ℕ) → Member k t.blocks → Member k old ⊎ (Member k [] ⊎ (taken_in world ≤ k))) → Passes r gs old (with_frame world frame) last →
-    Returned gs old t.blocks world (down_to r.level last)
-returns {gs} {old} {world} {last} r frame e below t came p = record {
+    LosesNone (λ k. times k old) (λ k. times k t.blocks + goes k) (with_frame world frame) last → Returned goes gs old t.blocks world (down_to r.level last)
+returns {gs = gs} {old = old} {world = world} {last = last} r frame e below t came p loses = record {
   same = refl;
   moves = record {
     territory = record {
@@ -309,6 +316,7 @@ returns {gs} {old} {world} {last} r frame e below t came p = record {
     };
     came = came;
     grows = p.grows;
+    loses = λ k. omega (arith, loses k);
     alone = record {
       bases = λ b x h off far. base_below_level r.level (all_below r.level e h) (p.bases b x (frame_more frame h) (outside b (all_below r.level e h)) off far);
       parts = λ l v h other far. back_below (all_below r.level e h.at.base) (p.parts l v (record {

@@ -32,12 +32,12 @@ use Rattle.nim_meaning.specs.Shapes.{is_sink, mode_of, mode_in, modes_in}
 use Rattle.nim_meaning.specs.Steps.{destination, left_at, invoked}
 use Rattle.nim_meaning.specs.Meaning.{from_level}
 use Rattle.holders.specs.Sure.{Comes}
-use Rattle.holders.specs.Becoming.{Strange, taken_in}
+use Rattle.holders.specs.Becoming.{Strange, taken_in, times}
 use Rattle.holders.specs.Territory.{Owner, AllOwners, ClearOf, NoBaseOf}
 use Rattle.holders.specs.Working.{Works}
 use Rattle.holders.specs.Ways.{targets_of}
 use Rattle.holders.specs.Running.{IsBelow, Region}
-use Rattle.holders.specs.Staging.{Stage, Holding}
+use Rattle.holders.specs.Staging.{Holding, StageWith}
 use Rattle.holders.specs.Called.{CallGives, gives_nothing, gives_value}
 use Rattle.holders.specs.Asked.{Limits, AllWrite, NoCharacter, Asked, AskedAt, AllAsked, FactsOfTheirSort}
 use Rattle.holders.specs.Evaluating.{value_nodes, path_nodes, operand_nodes, at_nodes, seen_of, Scene, Leaves}
@@ -66,6 +66,7 @@ use Rattle.holders.proofs.TakenOperations.{own_distinct, taken_so}
 use Rattle.holders.proofs.Targets.{Target, owner_at, chain_at, chains_part, targets_in, AllPlaced, all_placed_so, GlobalAt, global_targets, count_globals}
 use Rattle.holders.proofs.CallRoots.{RootOf, roots_so, GlobalKnown, globals_known, globals_distinct, all_part}
 use Rattle.holders.proofs.CallHands.{given_none, AllKept, KeptAt, arrive_so, globals_so}
+use Rattle.holders.proofs.Staging.{out_as}
 
 abbrev use_number : Use → ℕ
 use_number Owned = 0
@@ -236,7 +237,7 @@ module _ (program : Program) (named : (proc g : ℕ) → Bool) (kept : List Para
       (operands : Args) (how : Use) (found : CallFound program filled proc ty operands) (site : Site proc operands) (roots : AllPaths RootAt operands)
       (regular : AllRegular H.facts operands) (distinct : Distinct (node.number ∷ operand_nodes operands)) (nodes later given : List ℕ) (start : World)
       (b : From H S limits root first places os (node.number ∷ operand_nodes operands) nodes start) (own : List Owner) (xs : List Operand) (s : State)
-      (st : Stage (at_nodes level (node.number ∷ operand_nodes operands)) own os first places later b.territory.blocks start s.world)
+      (st : StageWith (λ k. times k given) (at_nodes level (node.number ∷ operand_nodes operands)) own os first places later b.territory.blocks start s.world)
       (taken : Taken H limits root (use_of H.modes (Calling proc [])) own os st.runs.territory.blocks s.world operands 0 xs given)
       (no_text : NoCharacter H.facts operands)
       (came : (k : ℕ) → Member k given → Member k b.territory.blocks ⊎ (taken_in start ≤ k))
@@ -324,7 +325,7 @@ module _ (program : Program) (named : (proc g : ℕ) → Bool) (kept : List Para
         comes_weaker (Returns gs found.p.gives program.facts given works.territory.blocks s.world) NoExit P NoExit (calls proc slots (worked work s))
         (gives proc found.p found.body found.there found.has gs slots (worked work s) handing)
         (λ v after r. subst (λ t. CallGives (own ++ os) given st.runs.territory.blocks s.world v after (form_given program.facts t)) found.gives
-        (call_gives st.runs.territory works given r.old (strange_taken taken) (clear_taken taken) r.into r.back))
+        (call_gives st.runs.territory works given r.old (strange_taken taken) (clear_taken taken) r.into r.sum r.back))
         (λ way after x. x)
 
     own_waits : OwnWaits H e ty
@@ -347,10 +348,10 @@ module _ (program : Program) (named : (proc g : ℕ) → Bool) (kept : List Para
     valued v now None q (gives_nothing m same) =
         called_none H first places os e own_waits nodes later b.territory.blocks start own leaves how v (none_type program.facts ty q) same now
         (stage_given R os first places b.territory.blocks start st came m)
-    valued v now (Some f) q (gives_value m u from) =
+    valued v now (Some f) q (gives_value m u from is) =
         called_value H first places os e own_waits nodes later b.territory.blocks start own leaves how v mine off now
         (subst (λ g. Holding g v R own os first places later b.territory.blocks start now.world) (some_form program.facts ty f q)
-        (holding_given R os first places b.territory.blocks start st came m u from))
+        (holding_given R os first places b.territory.blocks start st came m u from is))
 
     pub call_row : Comes Q NoExit (invoked H node.number proc how ty (handed_over H.facts operands uses 0 xs) s)
     call_row =
@@ -377,7 +378,9 @@ module _ (program : Program) (named : (proc g : ℕ) → Bool) (kept : List Para
       let roots = roots_so S limits root H.facts Site operands typed asked write in
       taken_so H S limits root first places os node ty (Calling proc []) operands how (λ j. lent_or_held (H.modes proc j)) d regular write ready
       (λ nodes later start world xs ms s b scene leaves st t.
-      call_row known gives node ty proc operands how found site roots regular d nodes t.later t.given start b t.own xs s t.stage t.taken no_text
+      call_row known gives node ty proc operands how found site roots regular d nodes t.later t.given start b t.own xs s
+      (out_as (at_nodes level (node.number ∷ operand_nodes operands)) os first places b.territory.blocks start (λ k. omega (arith, t.out_is k)) t.stage)
+      t.taken no_text
       (λ k m. simple_came b.territory.blocks start k (st.runs.came k (t.were k m)))
       (t.leaves nodes (waiting_all H.facts H.modes operands (use_of H.modes (Calling proc [])) 0) leaves)
       (scene_passes (node.number ∷ operand_nodes operands) t.stage.runs.passes scene))

@@ -1,5 +1,5 @@
 -- A `case` that gives a value, by its selector; and what becomes of the value of a choice.
-use Rattle.std.proofs.Common.{◌≡◌, refl, sym, ap, ap₂, subst, arith, ℕ, Bool, true, false, inl, inr, List, [], ◌∷◌, ◌++◌, length, Option, Some, None}
+use Rattle.std.proofs.Common.{◌≡◌, refl, sym, ap, ap₂, subst, arith, ℕ, Bool, true, false, inl, inr, List, [], ◌∷◌, ◌++◌, length, Option, Some, None, ◌⊎◌}
 use Rattle.std.specs.Prelude.{◌&&◌}
 use Rattle.std.proofs.lemmas.Bool.{false≢true, and_parts, and_right}
 use Rattle.nim_types.specs.Types.{Ty}
@@ -43,7 +43,7 @@ use Rattle.holders.specs.Evaluating.{value_nodes, path_nodes, operand_nodes, at_
 use Rattle.holders.proofs.PartsInTurn.{begins_part, First, begins_next, stage_next, holding_next, leaves_next, stage_wider, first_in, waiting_in, path_in}
 use Rattle.holders.proofs.PartsInTurn.{in_is}
 use Rattle.holders.specs.Claimed.{NoExit, From, Sees, HasValue, ValueSo, HasAim, AimSo}
-use Rattle.holders.proofs.Claims.{behind_value, nothing_more, scene_passes}
+use Rattle.holders.proofs.Claims.{behind_value, nothing_more, scene_passes, behind_alone}
 use Rattle.holders.proofs.OperandCopies.{aim_here}
 use Rattle.holders.proofs.OperandParts.{waiting_seen}
 use Rattle.holders.proofs.Table.{Out, OutOf}
@@ -83,7 +83,13 @@ module _ (here : Here) (scope : scopes.Here) (limits : Limits) (root : (global :
       ((n : ℕ) → Member n sub → Member n ns) → Out hooks f (at_nodes here.level sub) ms os first places later old start v now →
       Out hooks f (at_nodes here.level ns) ms os first places later old start v now
   out_wider false f ns sub ms later old start v now within h = (stage_wider ns sub within h.0, h.1)
-  out_wider true f ns sub ms later old start v now within h = record { stage = stage_wider ns sub within h.stage; under = h.under; came = h.came }
+  out_wider true f ns sub ms later old start v now within h = record {
+    out = h.out;
+    stage = stage_wider ns sub within h.stage;
+    under = h.under;
+    came = h.came;
+    out_is = h.out_is;
+  }
 
   out_next : (hooks : Bool) (f : Form) {ns one two nodes middle : List ℕ} {ws : List Wait} {ms : List Owner} {start mid : World} (ks : List Owner)
       (later : List ℕ) (v : Value) (last : World) (p : First here.level first places ns one two os nodes ws ms middle start mid) →
@@ -161,8 +167,18 @@ module _ (here : Here) (scope : scopes.Here) (limits : Limits) (root : (global :
       Selector (type_of e) (value_nodes e) nodes (waiting here.facts here.modes e Looked) old start x now
   value_selector e d h =
       let after = behind_value here e Looked d h in
-      record { own = after.own; later = after.later; leaves = after.leaves; stage = after.stage; whole = λ hooks. there h }
+      record {
+        own = after.own;
+        later = after.later;
+        leaves = after.leaves;
+        stage = behind_alone here e Looked d looked_only h;
+        whole = λ hooks. there h;
+      }
     where
+      looked_only : (Looked ≡ Owned) ⊎ (Looked ≡ ToPlace) → gives_hooked here.facts (type_of e) ≡ false
+      looked_only (inl q) = absurd (omega (arith, ap use_number q))
+      looked_only (inr q) = absurd (omega (arith, ap use_number q))
+
       there : {nodes old : List ℕ} {start : World} {x : Value} {now : World} → HasValue here first places os e Looked nodes old start x now →
           is_whole now x ≡ true
       there {now = now} (is_bare which a none s bare) = has_whole tt (bare now)

@@ -57,7 +57,13 @@ module _ (here : Here) (scope : scopes.Here) (limits : Limits) (root : (global :
   chosen_wider true f ns sub nodes old start v now within h = record {
     later = h.later;
     leaves = h.leaves;
-    holding = record { stage = stage_wider ns sub within h.holding.stage; under = h.holding.under; came = h.holding.came };
+    holding = record {
+      out = h.holding.out;
+      stage = stage_wider ns sub within h.holding.stage;
+      under = h.holding.under;
+      came = h.holding.came;
+      out_is = h.holding.out_is;
+    };
   }
 
   -- behind a condition

@@ -6,7 +6,7 @@ use Rattle.nim_types.specs.Types.{Facts}
 use Rattle.nim_types.specs.Forms.{Form}
 use Rattle.nim_program.specs.declared.program.Mode.{Mode}
 use Rattle.nim_program.specs.declared.operation.Use.{Use}
-use Rattle.nim_program.specs.declared.operation.Use.TheVariants.{Owned}
+use Rattle.nim_program.specs.declared.operation.Use.TheVariants.{Owned, Given as ToPlace}
 use Rattle.nim_program.specs.Program.{ByConditions, ByLabels, Expr, Apply, Read, Early, Choose, Path, Variable, Fresh, Field, Element, Deref}
 use Rattle.nim_program.specs.Program.{Args, type_of, type_at, node_of, node_at}
 use Rattle.nim_program.specs.Uses.{use_of}
@@ -22,9 +22,9 @@ use Rattle.holders.specs.Owned.{Constant}
 use Rattle.holders.specs.Territory.{Owner}
 use Rattle.holders.specs.Finding.{PlaceOf, AimsAt, at_root, at_constant, at_value, at_waiting, at_field, at_element}
 use Rattle.holders.specs.Running.{Passes}
-use Rattle.holders.specs.Staging.{Stage}
+use Rattle.holders.specs.Staging.{Stage, StageWith}
 use Rattle.holders.specs.Groups.{without_node, waiting_cell}
-use Rattle.holders.proofs.Owning.{from_full, plain_anywhere}
+use Rattle.holders.proofs.Owning.{from_full, plain_anywhere, plain_none}
 use Rattle.holders.proofs.Working.{among_first, number_first}
 use Rattle.holders.proofs.Scenes.{place_first, place_kept}
 use Rattle.holders.specs.Asked.{Limits, IfSimple, Asked, AskedAt}
@@ -33,6 +33,8 @@ use Rattle.holders.specs.Evaluating.{is_waiting, Bare}
 use Rattle.holders.proofs.PartsInTurn.{leaves_waits, path_in, operands_in, first_in}
 use Rattle.holders.proofs.Constants.{hooked_is}
 use Rattle.holders.specs.Claimed.{HasValue}
+use Rattle.holders.proofs.Staging.{out_as}
+use Rattle.holders.specs.Becoming.{times, none as no_blocks}
 
 -- ---- the places in scope stand for the same afterwards
 
@@ -143,7 +145,8 @@ pub record Behind (how : Use) (e : Expr) (here : Here) (first places : ℕ) (nod
   pub own : List Owner
   pub later : List ℕ
   pub leaves : Leaves here.level nodes (waiting here.facts here.modes e how) own later
-  pub stage : Stage (at_nodes here.level (value_nodes e)) own os first places later old start now
+  pub out : ℕ → ℕ
+  pub stage : StageWith out (at_nodes here.level (value_nodes e)) own os first places later old start now
 
 abbrev pub behind_value : (here : Here) {first places : ℕ} {os : List Owner} (e : Expr)
     (how : Use) {nodes old : List ℕ} {start : World} {v : Value} {now : World} → Distinct (value_nodes e) →
@@ -152,18 +155,21 @@ behind_value here e how {nodes} d (is_bare {ms = ms} {later = later} which a non
   own = ms;
   later = later;
   leaves = subst (λ ws. Leaves here.level nodes ws ms later) (none_itself here.facts here.modes e how none) a;
+  out = no_blocks;
   stage = s;
 }
 behind_value here e how {nodes} d (is_seen {ms = ms} {later = later} look a none s h) = record {
   own = ms;
   later = later;
   leaves = subst (λ ws. Leaves here.level nodes ws ms later) (none_itself here.facts here.modes e how none) a;
+  out = no_blocks;
   stage = s;
 }
 behind_value here e how {nodes} d (is_held {ms = ms} {later = later} purpose a none h) = record {
   own = ms;
   later = later;
   leaves = subst (λ ws. Leaves here.level nodes ws ms later) (none_itself here.facts here.modes e how none) a;
+  out = h.out;
   stage = h.stage;
 }
 behind_value here e how {nodes} d (is_waiting {ms = ms} {later = later} {ty = ty} a one h) =
@@ -174,8 +180,27 @@ behind_value here e how {nodes} d (is_waiting {ms = ms} {later = later} {ty = ty
       leaves = subst (λ ws. Leaves here.level nodes ws (waiting_cell here.level w ∷ ms) (w.node ∷ without_node later w.node))
           (ap (λ (vs : List Wait). waits_inside here.facts here.modes e ++ vs) (sym one) ∙ waiting_is here.facts here.modes e how)
           (leaves_waits w a (own_apart here.facts here.modes e how d one refl));
+      out = no_blocks;
       stage = h.stage;
     }
+
+-- where what is taken has no hooks, nothing is under way
+pub out_none : (here : Here) {first places : ℕ} {os : List Owner} (e : Expr)
+    (how : Use) {nodes old : List ℕ} {start : World} {v : Value} {now : World} (d : Distinct (value_nodes e)) →
+    ((how ≡ Owned) ⊎ (how ≡ ToPlace) → gives_hooked here.facts (type_of e) ≡ false) → (h : HasValue here first places os e how nodes old start v now) →
+    (k : ℕ) → no_blocks k ≡ (behind_value here e how d h).out k
+out_none here e how d unhooked (is_bare which a none s h) k = refl
+out_none here e how d unhooked (is_seen look a none s h) k = refl
+out_none here e how d unhooked (is_held purpose a none h) k =
+    omega (arith, h.out_is k, ap (times k) (plain_none (sym (hooked_is here.facts (type_of e)) ∙ unhooked purpose) h.under.has))
+out_none here e how d unhooked (is_waiting a one h) k = refl
+
+abbrev pub behind_alone : (here : Here) {first places : ℕ} {os : List Owner} (e : Expr)
+    (how : Use) {nodes old : List ℕ} {start : World} {v : Value} {now : World} (d : Distinct (value_nodes e)) →
+    ((how ≡ Owned) ⊎ (how ≡ ToPlace) → gives_hooked here.facts (type_of e) ≡ false) → (h : HasValue here first places os e how nodes old start v now) →
+    Stage (at_nodes here.level (value_nodes e)) (behind_value here e how d h).own os first places (behind_value here e how d h).later old start now
+behind_alone here {first} {places} {os} e how {nodes} {old} {start} d unhooked h =
+    out_as (at_nodes here.level (value_nodes e)) os first places old start (out_none here e how d unhooked h) (behind_value here e how d h).stage
 
 -- a value without hooks has no blocks
 pub value_bare : (here : Here) {first places : ℕ} {os : List Owner} (e : Expr)

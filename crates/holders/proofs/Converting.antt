@@ -29,6 +29,7 @@ use Rattle.holders.specs.Asked.{Simple, IfSimple}
 use Rattle.holders.specs.Evaluating.{Bare}
 use Rattle.holders.proofs.Constants.{number_form, is_number}
 use Rattle.holders.proofs.Table.{OutOf, At_stage, out_bare, out_either, out_number, one_row}
+use Rattle.holders.proofs.Staging.{bare_stage}
 
 abbrev is_distinct : TypeKind → Bool
 is_distinct (kind.distinct t) = true
@@ -150,6 +151,12 @@ converted_has (to_number p q) {world} {x} {v} {bs} h = subst (λ f. Has world x 
 converted_has (wraps p) {world} {x} {v} {bs} h = subst (λ f. Has world x f v bs) (sym p) (of_wrapped h)
 converted_has (unwraps p) {world} {x} {v} {bs} h = unwrapped (subst (λ f. Has world x f v bs) p h)
 
+-- one has hooks where the other has
+from_bare : {to from : Form} → Converts to from → hooked to ≡ false → hooked from ≡ false
+from_bare (to_number p q) bare = ap hooked q
+from_bare (wraps p) bare = sym (ap hooked p) ∙ bare
+from_bare (unwraps p) bare = ap hooked p ∙ bare
+
 limit_plain : {facts : Facts} {ty : Ty} {f : Form} {n : ℕ} → HasForm facts ty f → limit_of facts ty ≡ Some n → f ≡ plain
 limit_plain of_char e = refl
 limit_plain of_enum e = refl
@@ -177,12 +184,12 @@ module _ (facts : Facts) (r : Region) (ms os : List Owner) (first places : ℕ) 
   outcome_moved (Fine z) s = (s, λ world. a_number)
   outcome_moved (Trapped trap) s = tt
 
-  converted_row : {ty : Ty} (v : Value) → Simple facts ty → StageHere now → (limit : Option ℕ) → limit_of facts ty ≡ limit →
+  converted_row : {ty : Ty} (v : Value) → Simple facts ty → (limit : Option ℕ) → limit_of facts ty ≡ limit → ((n : ℕ) → limit ≡ Some n → StageHere now) →
       (limit ≡ None → Sure (moved v) (OutHere (Some ty)) now) → Sure (converted limit v >>= moved) (OutHere (Some ty)) now
-  converted_row {ty} v simple s None e h = h refl
-  converted_row {ty} v simple s (Some n) e h =
+  converted_row {ty} v simple None e s h = h refl
+  converted_row {ty} v simple (Some n) e s h =
       out_number facts r ms os first places nodes old start (Some ty) (outcome (within n (number_of v)) >>= moved) now
-      (the_form simple.has ∙ limit_plain simple.has e) (outcome_moved (within n (number_of v)) s)
+      (the_form simple.has ∙ limit_plain simple.has e) (outcome_moved (within n (number_of v)) (s n refl))
 
   pub convert_bare : (ty t : Option Ty) {v : Value} → IfSimple facts ty → IfSimple facts t → fits facts O.Convert ty (t ∷ []) ≡ true →
       hooked (form_for facts t) ≡ false → are_seen now (Given v ∷ []) ≡ true → StageHere now → Bare (form_for facts t) v →
@@ -191,7 +198,7 @@ module _ (facts : Facts) (r : Region) (ms os : List Owner) (first places : ℕ) 
   convert_bare (Some ty) None a b typed bare seen s h = absurd (false≢true typed)
   convert_bare (Some ty) (Some t) {v} a b typed bare seen s h =
       one_row facts r ms os first places nodes old start O.Convert (Some ty) (Some t ∷ []) (Given v ∷ []) (OutHere (Some ty)) now (λ d. refl) seen
-      (converted_row {ty = ty} v a s (limit_of facts ty) refl
+      (converted_row {ty = ty} v a (limit_of facts ty) refl (λ n e. s)
       (λ q. out_bare facts r ms os first places nodes old start (Some ty) (moved v) now (hooked_to (converts_so facts a b typed))
       (s, λ world. converted_has (converts_so facts a b typed) (h world))))
     where
@@ -207,9 +214,12 @@ module _ (facts : Facts) (r : Region) (ms os : List Owner) (first places : ℕ) 
   convert_held (Some ty) None a b typed seen h = absurd (false≢true typed)
   convert_held (Some ty) (Some t) {v} a b typed seen h =
       one_row facts r ms os first places nodes old start O.Convert (Some ty) (Some t ∷ []) (Given v ∷ []) (OutHere (Some ty)) now (λ d. refl) seen
-      (converted_row {ty = ty} v a h.stage (limit_of facts ty) refl
+      (converted_row {ty = ty} v a (limit_of facts ty) refl
+      (λ n e. bare_stage r os first places old start (from_bare (converts_so facts a b typed) (ap hooked (the_form a.has ∙ limit_plain a.has e))) h)
       (λ q. out_either facts r ms os first places nodes old start (Some ty) (moved v) now (record {
+        out = h.out;
         stage = h.stage;
+        out_is = h.out_is;
         under = record {
           given = h.under.given;
           has = converted_has (converts_so facts a b typed) h.under.has;

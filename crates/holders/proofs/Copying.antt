@@ -1,7 +1,7 @@
 -- A copy has blocks of its own, which weren't there before; all else stays, and each block has one holder.
 use Rattle.std.proofs.Common.{◌≡◌, refl, sym, ap, subst, ◌∙◌, arith, ℕ, zero, suc, ◌<◌, ◌≤◌, inl, inr, Bool, true, false, if◌then◌else◌, List, [], ◌∷◌}
 use Rattle.std.proofs.Common.{◌++◌, length}
-use Rattle.std.proofs.Common.{Option, Some, None}
+use Rattle.std.proofs.Common.{Option, Some, None, ◌+◌}
 use Rattle.std.specs.Prelude.{◌*◌, slice_get, slice_set}
 use Rattle.std.proofs.lemmas.Option.{none-some}
 use Rattle.nim_types.specs.Forms.{Form, plain, reference, block, elements, row, parts, resource, wrapped, Forms, no_forms, forms, of_some, hooked, hooked_any}
@@ -21,7 +21,7 @@ use Rattle.holders.specs.Owned.{Has}
 use Rattle.holders.specs.Owned.{a_number, no_number, no_text, a_text, gone_text, constant_text, no_sequence, a_sequence, gone_sequence, constant_sequence}
 use Rattle.holders.specs.Owned.{a_row, gone_row, some_parts, gone_parts, of_wrapped, HasEach, none_more, one_more, HasAll, no_parts, a_part, Apart}
 use Rattle.holders.specs.Sure.{Sure}
-use Rattle.holders.specs.Becoming.{taken_in}
+use Rattle.holders.specs.Becoming.{taken_in, times, none, LosesNone, live_at}
 use Rattle.holders.specs.Holders.{held_by, held_in, held_in_contents}
 use Rattle.holders.specs.Walks.{KeepsOnce}
 use Rattle.holders.proofs.Staying.{stays_then, stored_stays, taken_stays}
@@ -30,11 +30,12 @@ use Rattle.holders.proofs.Bases.{whole_is, stored_there, stored_elsewhere}
 use Rattle.holders.proofs.BaseChanges.{taken_elsewhere, taken_text, taken_row}
 use Rattle.holders.proofs.Sure.{sure_then, sure_weaker}
 use Rattle.holders.proofs.PathLemmas.{count_with, nth_with, nth_without, part_of_put, put_twice, has_put, put_deeper, put_same}
-use Rattle.holders.proofs.Ledger.{keeps_none, keeps_then, stored_counts, stored_live, taken_live}
+use Rattle.holders.proofs.Ledger.{keeps_none, keeps_then, stored_counts, stored_live, taken_live, times_both}
 use Rattle.holders.proofs.Owning.{in_first, in_second, has_stays, each_stays, all_stays}
 use Rattle.holders.proofs.Owning.{has_none, plain_none, plain_anywhere}
 use Rattle.holders.proofs.Guards.{sure_reads, sure_takes, sure_sets}
 use Rattle.holders.proofs.Ending.{Row, row_of, same_number, at_part, part_is, may_deeper}
+use Rattle.nim_meaning.specs.Kept.{one_if_same}
 
 pub record Copied (f : Form) (to : Location) (w : Value) (world after : World) : Type 0 where
   pub now : Value
@@ -46,6 +47,7 @@ pub record Copied (f : Form) (to : Location) (w : Value) (world after : World) :
   pub grows : taken_in world ≤ taken_in after
   pub is : IsBase after to.base (put_part w to.path now)
   pub elsewhere : (b : Base) (x : Value) → IsBase world b x → (b ≡ to.base → ⊥) → IsBase after b x
+  pub loses : LosesNone none (λ k. times k blocks) world after
   pub once : KeepsOnce world after
 
 abbrev pub Copies : Form → Type 0
@@ -169,6 +171,7 @@ module _ (to : Location) (w : Value) (world : World) (at : At world to w) (none 
     grows = omega (arith, put_length);
     is = is_put;
     elsewhere = put_elsewhere;
+    loses = λ k. omega (arith, stored_live world k to.base (put_part (whole_at world to.base) to.path x));
     once = record {
       held = λ others h k. omega (
         arith,
@@ -222,6 +225,14 @@ module _ (to : Location) (w : Value) (world : World) (at : At world to w) (none 
   taken_length =
       put_length to w taken_world at_taken none (Handle n (Some new)) ∙ length_more world.heap.blocks (Some (record { class = class; contents = contents }))
 
+  -- one block is live besides
+  taken_all : (j : ℕ) → live_at held_world j ≡ live_at world j + one_if_same new j
+  taken_all j = omega (
+    arith,
+    stored_live taken_world j to.base (put_part (whole_at taken_world to.base) to.path (Handle n (Some new))),
+    taken_live world j class contents,
+  )
+
   taken_once : ((j : ℕ) → held_in_contents j contents ≡ 0) → KeepsOnce world held_world
   taken_once nothing = record {
     held = λ others h j. omega (
@@ -258,6 +269,7 @@ module _ (to : Location) (w : Value) (world : World) (at : At world to w) (none 
         grows = omega (arith, taken_length to w world at none class n (Characters t));
         is = taken_is to w world at none class n (Characters t);
         elsewhere = taken_stay to w world at none class n (Characters t);
+        loses = λ k. omega (arith, taken_all to w world at none class n (Characters t) k);
         once = taken_once to w world at none class n (Characters t) (λ j. refl);
       }))
     where
@@ -354,6 +366,7 @@ record CopiedParts (left : List ℕ → World → Values → Type 0) (i : ℕ) (
   same_count : count now ≡ count all
   before : (j : ℕ) → j < i → nth now j ≡ nth all j
   elsewhere : (b : Base) (x : Value) → IsBase world b x → (b ≡ o.base → ⊥) → IsBase after b x
+  loses : LosesNone none (λ k. times k blocks) world after
   once : KeepsOnce world after
 
 abbrev EachHas : Form → ℕ → ℕ → List ℕ → World → Values → Type 0
@@ -376,6 +389,7 @@ nothing_copied left i o w all world r h = record {
   same_count = refl;
   before = λ j le. refl;
   elsewhere = λ b x h d. h;
+  loses = λ k. omega arith;
   once = keeps_none world;
 }
 
@@ -424,6 +438,7 @@ module _ (f : Form) (i : ℕ) (o : Location) (w : Value) (all : Values) (world :
     same_count = s.same_count ∙ count_with all i t.now;
     before = λ j less. s.before j (omega (arith, less)) ∙ nth_without all i j t.now (λ e. not_before i j less e);
     elsewhere = λ b x h d. s.elsewhere b x (t.elsewhere b x h d) d;
+    loses = λ k. omega (arith, t.loses k, s.loses k, times_both k t.blocks s.blocks);
     once = keeps_then t.once s.once;
   }
     where
@@ -582,6 +597,7 @@ module _ (f : Form) (copies : Copies f) (to s : Location) (w u : Value) (all : V
         is = s.elsewhere to.base (put_part w to.path (Handle n (Some new))) (taken_is to w world at none class n (Elements start))
             (λ e. not_new to w world at none class n (Elements start) (sym e));
         elsewhere = λ b x h d. s.elsewhere b x (taken_stay to w world at none class n (Elements start) b x h d) (not_old b x h);
+        loses = λ k. omega (arith, s.loses k, taken_all to w world at none class n (Elements start) k);
         once = keeps_then (taken_once to w world at none class n (Elements start) (none_repeated n (vacant f) (vacant_none f))) s.once;
       }
     where
@@ -671,6 +687,7 @@ copied_row f left to w all world after has s = record {
   grows = s.grows;
   is = s.is;
   elsewhere = s.elsewhere;
+  loses = s.loses;
   once = s.once;
 }
 
@@ -726,6 +743,7 @@ wrapped_copies f copies to from w u v bs world at empty source (of_wrapped h) d 
       grows = s.grows;
       is = s.is;
       elsewhere = s.elsewhere;
+      loses = s.loses;
       once = s.once;
     })
 

@@ -25,10 +25,11 @@ use Rattle.holders.proofs.Bases.{whole_is, stored_there, stored_elsewhere}
 use Rattle.holders.proofs.BaseChanges.{freed_elsewhere}
 use Rattle.holders.proofs.Sure.{sure_then, sure_weaker}
 use Rattle.holders.proofs.PathLemmas.{count_with, nth_with, nth_without, part_of_put, put_twice, has_put, has_deeper, part_deeper, put_deeper, put_same}
-use Rattle.holders.proofs.Ledger.{keeps_none, keeps_then, stored_counts, stored_live, freed_live}
+use Rattle.holders.proofs.Ledger.{keeps_none, keeps_then, stored_counts, stored_live, freed_live, times_both}
 use Rattle.holders.proofs.Owning.{in_first, in_second, distinct_first, distinct_second}
 use Rattle.holders.proofs.Owning.{distinct_apart, Stay, has_stays, each_stays, all_stays, each_same, all_same, row_none, plain_none, from_full}
 use Rattle.holders.proofs.Guards.{sure_sees, sure_sets, sure_frees}
+use Rattle.holders.specs.Becoming.{times, none, LosesNone}
 
 abbrev pub Ends : Form → Type 0
 Ends f = (l : Location) (w v : Value) (bs : List ℕ) (world : World) → At world l w → part w l.path ≡ v → Has world Full f v bs → Distinct bs →
@@ -39,6 +40,7 @@ Ends f = (l : Location) (w v : Value) (bs : List ℕ) (world : World) → At wor
 pub record Vacated (l : Location) (w : Value) (bs : List ℕ) (world after : World) : Type 0 where
   pub is : IsBase after l.base (put_part w l.path Vacant)
   pub elsewhere : Elsewhere world after l.base bs
+  pub loses : LosesNone (λ k. times k bs) none world after
   pub once : KeepsOnce world after
 
 pub record Found (world : World) (k : ℕ) (x : Value) : Type 0 where
@@ -62,10 +64,11 @@ module _ (l : Location) (w : Value) (world : World) (at : At world l w) where
   vacant_elsewhere : (b : Base) (x : Value) → IsBase world b x → (b ≡ l.base → ⊥) → IsBase vacant_world b x
   vacant_elsewhere b x h d = stored_elsewhere world (put_part (whole_at world l.base) l.path Vacant) d at.base h
 
-  none_vacated : (bs : List ℕ) → HasNone (part w l.path) → Vacated l w bs world vacant_world
-  none_vacated bs none = record {
+  none_vacated : HasNone (part w l.path) → Vacated l w [] world vacant_world
+  none_vacated none = record {
     is = is_vacant;
     elsewhere = λ b x h d e. vacant_elsewhere b x h d;
+    loses = λ k. omega (arith, stored_live world k l.base (put_part (whole_at world l.base) l.path Vacant));
     once = record {
       held = λ others h k. omega (
         arith,
@@ -79,13 +82,18 @@ module _ (l : Location) (w : Value) (world : World) (at : At world l w) where
   }
 
   -- with a block, in which nothing is any more
-  block_vacated : (n k : ℕ) (bs : List ℕ) (x : Value) → part w l.path ≡ Handle n (Some k) → IsBase world (InBlock k) x → HasNone x →
-      Apart l.base (k ∷ bs) → Vacated l w (k ∷ bs) world (freed vacant_world k (block_at vacant_world.heap k))
-  block_vacated n k bs x is b none apart =
+  block_vacated : (n k : ℕ) (x : Value) → part w l.path ≡ Handle n (Some k) → IsBase world (InBlock k) x → HasNone x →
+      Apart l.base (k ∷ []) → Vacated l w (k ∷ []) world (freed vacant_world k (block_at vacant_world.heap k))
+  block_vacated n k x is b none apart =
       let it = found_block (vacant_elsewhere (InBlock k) x b (λ e. apart k (sym e) (inl refl))) in
       record {
         is = freed_elsewhere vacant_world k is_vacant (λ e. apart k e (inl refl)) (block_at vacant_world.heap k);
         elsewhere = λ b x h d e. freed_elsewhere vacant_world k (vacant_elsewhere b x h d) (λ q. e k q (inl refl)) (block_at vacant_world.heap k);
+        loses = λ j. omega (
+          arith,
+          stored_live world j l.base (put_part (whole_at world l.base) l.path Vacant),
+          freed_live vacant_world j k it.found it.there,
+        );
         once = record {
           held = λ others h j. omega (
             arith,
@@ -138,6 +146,7 @@ pub record Through (left : World → Values → Type 0) (i : ℕ) (o : Location)
   pub before : (j : ℕ) → j < i → nth now j ≡ nth all j
   pub ended : left after now
   pub elsewhere : Elsewhere world after o.base bs
+  pub loses : LosesNone (λ k. times k bs) none world after
   pub once : KeepsOnce world after
 
 abbrev pub EachLeft : Form → ℕ → ℕ → World → Values → Type 0
@@ -163,6 +172,7 @@ through_none left i o w all world r h = record {
   before = λ j le. refl;
   ended = h;
   elsewhere = λ b x h d e. h;
+  loses = λ k. omega arith;
   once = keeps_none world;
 }
 
@@ -206,6 +216,7 @@ module _ (f : Form) (i : ℕ) (o : Location) (w : Value) (all : Values) (bs cs :
         (has_stays after last (λ k x m h. elim m [ ]) t.has) s.ended;
     elsewhere = λ b x h q e.
         s.elsewhere b x (t.elsewhere b x h q (λ k is m. e k is (in_first k bs cs m))) q (λ k is m. e k is (in_second k bs cs m));
+    loses = λ k. omega (arith, t.loses k, s.loses k, times_both k bs cs);
     once = keeps_then t.once s.once;
   }
     where
@@ -243,7 +254,7 @@ each_ends f ends (suc n) i o w all _ world r (one_more {bs = bs} {cs = cs} le h 
 
 ended_vacant : (f : Form) (l : Location) (w : Value) (bs : List ℕ) (world after : World) → Has after Gaps f Vacant [] → Vacated l w bs world after →
     Ended f l w bs world after
-ended_vacant f l w bs world after has v = record { now = Vacant; has = has; is = v.is; elsewhere = v.elsewhere; once = v.once }
+ended_vacant f l w bs world after has v = record { now = Vacant; has = has; is = v.is; elsewhere = v.elsewhere; loses = v.loses; once = v.once }
 
 -- nothing is done
 ended_plain : (f : Form) (l : Location) (w v : Value) (bs : List ℕ) (world : World) → At world l w → part w l.path ≡ v → bs ≡ [] → Has world Full f v bs →
@@ -253,6 +264,7 @@ ended_plain f l w v bs world at e none has = record {
   has = subst (λ cs. Has world Gaps f v cs) none (from_full has);
   is = subst (λ x. IsBase world l.base x) (sym (ap (put_part w l.path) (sym e) ∙ put_same at.part)) at.base;
   elsewhere = λ b x h d e. h;
+  loses = λ k. omega (arith, ap (times k) none);
   once = keeps_none world;
 }
 
@@ -271,22 +283,22 @@ none_left f n bytes l w v world at e none own empty has =
     (sure_then (sets l Vacant) (λ u. frees None) (λ u after. Ended f l w [] world after) (λ u after. Ended f l w [] world after) world
     (sure_sets Vacant (λ u after. Ended f l w [] world after) at
     (ended_vacant f l w [] world (vacant_world l w world at) (has (vacant_world l w world at))
-    (none_vacated l w world at [] (λ k. ap (held_by k) e ∙ none k))))
+    (none_vacated l w world at (λ k. ap (held_by k) e ∙ none k))))
     (λ u after h. h)))
 
 -- and with one, in which nothing is any more
-block_left : (f : Form) (n k bytes : ℕ) (bs : List ℕ) (x : Value) (l : Location) (w : Value) (world : World) → At world l w →
-    part w l.path ≡ Handle n (Some k) → IsBase world (InBlock k) x → HasNone x → Apart l.base (k ∷ bs) → ((after : World) → Has after Gaps f Vacant []) →
-    Sure (left_vacant bytes l (Handle n (Some k))) (λ u after. Ended f l w (k ∷ bs) world after) world
-block_left f n k bytes bs x l w world at e b none apart has =
-    let Q : Unit {0} → World → Type 0 = λ u after. Ended f l w (k ∷ bs) world after in
+block_left : (f : Form) (n k bytes : ℕ) (x : Value) (l : Location) (w : Value) (world : World) → At world l w →
+    part w l.path ≡ Handle n (Some k) → IsBase world (InBlock k) x → HasNone x → Apart l.base (k ∷ []) → ((after : World) → Has after Gaps f Vacant []) →
+    Sure (left_vacant bytes l (Handle n (Some k))) (λ u after. Ended f l w (k ∷ []) world after) world
+block_left f n k bytes x l w world at e b none apart has =
+    let Q : Unit {0} → World → Type 0 = λ u after. Ended f l w (k ∷ []) world after in
     sure_then (sets l Vacant) (λ u. frees (Some k)) (λ u after. after ≡ vacant_world l w world at) Q world
     (sure_sets Vacant (λ u after. after ≡ vacant_world l w world at) at refl)
     (λ u after is. subst (λ y. Sure (frees (Some k)) Q y) (sym is)
     (sure_frees {x = x} Q (vacant_elsewhere l w world at (InBlock k) x b (λ q. apart k (sym q) (inl refl)))
-    (ended_vacant f l w (k ∷ bs) world (freed (vacant_world l w world at) k (block_at (vacant_world l w world at).heap k))
+    (ended_vacant f l w (k ∷ []) world (freed (vacant_world l w world at) k (block_at (vacant_world l w world at).heap k))
     (has (freed (vacant_world l w world at) k (block_at (vacant_world l w world at).heap k)))
-    (block_vacated l w world at n k bs x e b none apart))))
+    (block_vacated l w world at n k x e b none apart))))
 
 text_ends : Ends block
 text_ends l w v bs world at e h d apart =
@@ -296,7 +308,7 @@ text_ends l w v bs world at e h d apart =
         Sure (left_vacant (8 + length_of v) l v) (λ u after. Ended block l w bs world after) world
     by v _ e no_text apart = none_left block 0 8 l w v world at e (λ k. refl) refl refl (λ after. gone_text)
     by _ _ e (a_text {n = n} {k = k} {t = t} same b) apart =
-        block_left block n k (8 + n) [] (Fixed t) l w world at e b (λ j. refl) apart (λ after. gone_text)
+        block_left block n k (8 + n) (Fixed t) l w world at e b (λ j. refl) apart (λ after. gone_text)
 
 sequence_ends : (f : Form) → Ends f → Ends (elements f)
 sequence_ends f ends l w v bs world at e h d apart =
@@ -327,16 +339,23 @@ sequence_ends f ends l w v bs world at e h d apart =
               may = at.may;
             } in
             let none = row_none s.now (subst (λ n. HasEach after Gaps f n 0 s.now []) (sym s.same_count) s.ended) in
-            sure_weaker (left_vacant (8 + count all * size f) l (Handle (count all) (Some k))) (λ u last. Ended (elements f) l w (k ∷ cs) after last)
+            sure_weaker (left_vacant (8 + count all * size f) l (Handle (count all) (Some k))) (λ u last. Ended (elements f) l w (k ∷ []) after last)
             (λ u last. Ended (elements f) l w (k ∷ cs) world last) after
-            (block_left (elements f) (count all) k (8 + count all * size f) cs (Parts s.now) l w after still e s.is none apart (λ after. gone_sequence))
+            (block_left (elements f) (count all) k (8 + count all * size f) (Parts s.now) l w after still e s.is none (λ j q m. apart j q (alone j m))
+            (λ after. gone_sequence))
             (λ u last v. record {
               now = v.now;
               has = v.has;
               is = v.is;
-              elsewhere = λ b x h dd ee. v.elsewhere b x (s.elsewhere b x h (λ q. ee k q (inl refl)) (λ j q m. ee j q (inr m))) dd ee;
+              elsewhere = λ b x h dd ee. v.elsewhere b x (s.elsewhere b x h (λ q. ee k q (inl refl)) (λ j q m. ee j q (inr m))) dd
+                  (λ j q m. ee j q (alone j m));
+              loses = λ j. omega (arith, s.loses j, v.loses j);
               once = keeps_then s.once v.once;
             })
+          where
+            alone : (j : ℕ) → Member j (k ∷ []) → Member j (k ∷ cs)
+            alone j (inl q) = inl q
+            alone j (inr m) = elim m [ ]
 
 row_ends : (n : ℕ) (f : Form) → Ends f → Ends (row n f)
 row_ends n f ends l w v bs world at e h d apart = by (of_some n (hooked f)) refl v bs e h d apart
@@ -354,6 +373,7 @@ row_ends n f ends l w v bs world at e h d apart = by (of_some n (hooked f)) refl
           has = a_row (s.same_count ∙ same) s.ended;
           is = s.is;
           elsewhere = s.elsewhere;
+          loses = s.loses;
           once = s.once;
         }))
 
@@ -371,7 +391,7 @@ parts_end fs ends l w v bs world at e h d apart = by (hooked_any fs) refl v bs e
         sure_weaker (walk_all ending fs 0 l l) (λ u after. Through (AllLeft fs 0) 0 l w all bs world after)
         (λ u after. Ended (parts fs) l w bs world after) world
         (ends 0 l w all bs world (record { base = at.base; part_there = at.part; is = e; may = λ i. may_deeper i at.may }) h d apart)
-        (λ u after s. record { now = Parts s.now; has = some_parts s.ended; is = s.is; elsewhere = s.elsewhere; once = s.once })
+        (λ u after s. record { now = Parts s.now; has = some_parts s.ended; is = s.is; elsewhere = s.elsewhere; loses = s.loses; once = s.once })
 
 more_ends : (f : Form) (fs : Forms) → Ends f → AllEnds fs → AllEnds (forms f fs)
 more_ends f fs ends ends_all i o w all _ world r (a_part {bs = bs} {cs = cs} le h more) d apart =
@@ -395,7 +415,7 @@ wrapped_ends : (f : Form) → Ends f → Ends (wrapped f)
 wrapped_ends f ends l w v bs world at e (of_wrapped h) d apart =
     sure_weaker (walk ending f l l) (λ u after. Ended f l w bs world after) (λ u after. Ended (wrapped f) l w bs world after) world
     (ends l w v bs world at e h d apart)
-    (λ u after s. record { now = s.now; has = of_wrapped s.has; is = s.is; elsewhere = s.elsewhere; once = s.once })
+    (λ u after s. record { now = s.now; has = of_wrapped s.has; is = s.is; elsewhere = s.elsewhere; loses = s.loses; once = s.once })
 
 plain_ends : Ends plain
 plain_ends l w v bs world at e h d apart = ended_plain plain l w v bs world at e (plain_none refl h) h

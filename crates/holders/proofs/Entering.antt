@@ -15,6 +15,7 @@ use Rattle.holders.proofs.Owning.{in_first, in_second, has_stays}
 use Rattle.holders.proofs.Working.{all_both, all_so}
 use Rattle.holders.proofs.Running.{HasCell, with_cell}
 use Rattle.holders.proofs.Calling.{territory_kept}
+use Rattle.holders.proofs.Ledger.{times_both}
 
 -- what the cells of the call aren't: those of places before, and blocks
 own_all : (P : Owner → Type 0) (level n : ℕ) (fs : List Form) (slots : List Slot) →
@@ -44,7 +45,7 @@ module _ {os : List Owner} {world after : World} (t : Territory os world) (kept 
     (below : AllOwners (λ o. IsBelow level o.at.base) os) where
   pub enters : {fs : List Form} {slots : List Slot} {given : List ℕ} (n : ℕ) → Handed os t.blocks world fs slots given → StandThere after level n slots →
       HasCell (own_cells level n fs slots ++ os) given t.blocks after
-  enters n nothing_more there = record { territory = territory_kept kept t; from = λ k m. inr m }
+  enters n nothing_more there = record { territory = territory_kept kept t; from = λ k m. inr m; sum = λ k. omega arith }
   enters n (a_name h) there = enters (suc n) h there
   enters n (a_value {f = f} {fs = fs} {x = x} {slots = slots} {given = given} u h apart) there =
       more (enters (suc n) h there.1)
@@ -73,7 +74,11 @@ module _ {os : List Owner} {world after : World} (t : Territory os world) (kept 
                 (own_all (λ o. Apart o.at.base u.given) level (suc n) fs slots (λ g m le k e q. no_block level m k e)) u.clear;
           } in
           let c = with_cell r.territory (Standing level n) under there.0 place_may off (λ k e. no_block level n k e) in
-          record { territory = c.territory; from = λ k m. where_from k (c.from k m) (λ q. r.from k q) }
+          record {
+            territory = c.territory;
+            from = λ k m. where_from k (c.from k m) (λ q. r.from k q);
+            sum = λ k. omega (arith, c.sum k, r.sum k, times_both k u.given given);
+          }
         where
           strange : (k : ℕ) → Member k u.given → Member k given ⊎ Member k t.blocks → ⊥
           strange k m (inl q) = apart k m q

@@ -1,15 +1,15 @@
 -- A part of a part: what else the whole has stays as it is meanwhile.
-use Rattle.std.proofs.Common.{◌≡◌, true, refl, sym, ap, subst, ◌∙◌, arith, ℕ, ◌<◌, ◌≤◌, inl, inr, ◌⊎◌, List, [], ◌∷◌, ◌++◌}
+use Rattle.std.proofs.Common.{◌≡◌, true, refl, sym, ap, subst, ◌∙◌, arith, ℕ, ◌<◌, ◌≤◌, inl, inr, ◌⊎◌, List, [], ◌∷◌, ◌++◌, ◌+◌}
 use Rattle.nim_types.specs.Forms.{Form}
 use Rattle.nim_meaning.specs.Values.{Value, InBlock}
 use Rattle.nim_meaning.specs.Marks.{Member, Distinct}
 use Rattle.nim_meaning.specs.State.{World}
 use Rattle.holders.specs.Owned.{Apart, Active}
-use Rattle.holders.specs.Becoming.{taken_in}
+use Rattle.holders.specs.Becoming.{taken_in, times, LosesNone}
 use Rattle.holders.specs.Beside.{OtherPart, other_base}
 use Rattle.holders.specs.Territory.{Owner, Cells, no_cells, a_cell, AllOwners, OtherThan, ClearOf, Territory, IsUnder}
 use Rattle.holders.specs.Running.{Region, IsOutside, Passes, AreOwn, Wider}
-use Rattle.holders.specs.Staging.{Stage, Holding}
+use Rattle.holders.specs.Staging.{Stage, Holding, StageWith}
 use Rattle.holders.proofs.Owning.{in_first, in_second, distinct_first, distinct_second, distinct_apart, has_stays}
 use Rattle.holders.proofs.Ending.{same_number}
 use Rattle.holders.proofs.Copying.{distinct_both, either_block}
@@ -18,6 +18,7 @@ use Rattle.holders.proofs.PlainRows.{none_clear}
 use Rattle.holders.proofs.Working.{all_both, all_first, all_second, all_so, apart_first, apart_second, apart_across, apart_both, CellsApart, cells_apart}
 use Rattle.holders.proofs.Working.{cells_both}
 use Rattle.holders.proofs.Running.{not_own, other_own, leave_own, passes_then, passes_same}
+use Rattle.holders.proofs.Ledger.{times_both}
 
 -- ---- regions
 
@@ -51,20 +52,24 @@ owners_assoc : (ms ks gs : List Owner) → ms ++ (ks ++ gs) ≡ (ms ++ ks) ++ gs
 owners_assoc [] ks gs = refl
 owners_assoc (m ∷ ms) ks gs = ap (λ (ps : List Owner). m ∷ ps) (owners_assoc ms ks gs)
 
-pub record There (ps : List Owner) (old : List ℕ) (start now : World) : Type 0 where
+pub record There (out : ℕ → ℕ) (ps : List Owner) (old : List ℕ) (start now : World) : Type 0 where
   pub territory : Territory ps now
   pub came : (k : ℕ) → Member k territory.blocks → Member k old ⊎ (Member k [] ⊎ (taken_in start ≤ k))
+  pub loses : LosesNone (λ k. times k old) (λ k. times k territory.blocks + out k) start now
 
-pub absorbed : {r inner : Region} {ms : List Owner} (ks : List Owner) {gs : List Owner} {first places : ℕ} {nodes old : List ℕ} {start now : World} →
+pub absorbed : {out : ℕ → ℕ} {r inner : Region} {ms : List Owner}
+    (ks : List Owner) {gs : List Owner} {first places : ℕ} {nodes old : List ℕ} {start now : World} →
     Wider r inner → AreOwn r ks →
-    Stage inner ms (ks ++ gs) first places nodes old start now → Stage r (ms ++ ks) gs first places nodes old start now
-absorbed {r} {inner} {ms} ks {gs} {first} {places} {nodes} {old} {start} {now} w own s =
-    let t = subst (λ ps. There ps old start now) (owners_assoc ms ks gs) (record { territory = s.runs.territory; came = s.runs.came }) in
+    StageWith out inner ms (ks ++ gs) first places nodes old start now → StageWith out r (ms ++ ks) gs first places nodes old start now
+absorbed {out} {r} {inner} {ms} ks {gs} {first} {places} {nodes} {old} {start} {now} w own s =
+    let t = subst (λ ps. There out ps old start now) (owners_assoc ms ks gs)
+    (record { territory = s.runs.territory; came = s.runs.came; loses = λ k. omega (arith, s.runs.loses k) }) in
     record {
       runs = record {
         territory = t.territory;
         own = all_both (λ m. IsOutside r m.at.base → ⊥) ms ks (own_wider w ms s.runs.own) own;
         came = t.came;
+        loses = λ k. omega (arith, t.loses k);
         passes = passes_wider ks w own (λ k m. m) s.runs.passes;
       };
       active = subst (λ l. Active now.frames l first places nodes) w.level s.active;
@@ -124,7 +129,7 @@ module _ (ms ts gs : List Owner) (world : World) (t : Territory (ms ++ (ts ++ gs
     -- with the part's own that there are then
     module _ (ns : List Owner) (u : Territory (ns ++ gs) after)
         (came : (k : ℕ) → Member k u.blocks → Member k pieces.second ⊎ (Member k [] ⊎ (taken_in world ≤ k)))
-        (out : AllOwners (λ m. IsOutside inner m.at.base) ms) (own : AreOwn inner ns) where
+        (outside : AllOwners (λ m. IsOutside inner m.at.base) ms) (own : AreOwn inner ns) where
       too_far : (k : ℕ) → k < taken_in world → taken_in world ≤ k → ⊥
       too_far k less le = omega (arith, less, le)
 
@@ -149,7 +154,7 @@ module _ (ms ts gs : List Owner) (world : World) (t : Territory (ms ++ (ts ++ gs
 
       beside : (os : List Owner) → AreOwn inner os → AllOwners (λ n. OtherThan n.at ms) os
       beside [] h = tt
-      beside (n ∷ os) h = (beside_one n h.0 ms out, beside os h.1)
+      beside (n ∷ os) h = (beside_one n h.0 ms outside, beside os h.1)
 
       -- each that waits lies beside those that were given
       turn : (qs : List Owner) → AllOwners (λ g. OtherThan g.at qs) gs → AllOwners (λ q. OtherThan q.at gs) qs
@@ -170,13 +175,15 @@ module _ (ms ts gs : List Owner) (world : World) (t : Territory (ms ++ (ts ++ gs
           let g = cells_apart ts gs pieces.second pieces.others in
           cells_clear gs g.second t.blocks [] (pieces.first ++ u.blocks) g.others (of_given (λ o. Apart o.at.base t.blocks) t.clear) (none_clear gs) came_all
 
-      pub with_waiting : There (ms ++ (ns ++ gs)) t.blocks world after
-      with_waiting = record {
+      pub with_waiting : {out : ℕ → ℕ} → LosesNone (λ k. times k pieces.second) (λ k. times k u.blocks + out k) world after →
+          There out (ms ++ (ns ++ gs)) t.blocks world after
+      with_waiting loses = record {
         came = came_all;
+        loses = λ k. omega (arith, loses k, ap (times k) pieces.is, times_both k pieces.first pieces.second, times_both k pieces.first u.blocks);
         territory = record {
           blocks = pieces.first ++ u.blocks;
           cells = cells_both ms (ns ++ gs) pieces.first u.blocks
-              (waiting_stay ms pieces.first pieces.cells out (turn ms across) (clear_less t.blocks pieces.second ms in_others
+              (waiting_stay ms pieces.first pieces.cells outside (turn ms across) (clear_less t.blocks pieces.second ms in_others
               (all_first (λ o. Apart o.at.base t.blocks) ms (ts ++ gs) t.clear))
               (clear_less t.blocks pieces.first gs in_these (of_given (λ o. Apart o.at.base t.blocks) t.clear))
               (λ k a b. distinct_apart k pieces.first pieces.second split a b)) u.cells;
@@ -194,24 +201,27 @@ module _ (ms ts gs : List Owner) (world : World) (t : Territory (ms ++ (ts ++ gs
 pub stage_begins : {inner : Region} {ts gs : List Owner} {first places : ℕ} {nodes : List ℕ} {now : World} (t : Territory (ts ++ gs) now) → AreOwn inner ts →
     Active now.frames inner.level first places nodes → Stage inner ts gs first places nodes t.blocks now now
 stage_begins {inner} {ts} {gs} {now = now} t own active = record {
-  runs = record { territory = t; own = own; came = λ k m. inl m; passes = passes_same inner gs t.blocks now };
+  runs = record { territory = t; own = own; came = λ k m. inl m; passes = passes_same inner gs t.blocks now; loses = λ k. omega arith };
   active = active;
 }
 
 -- a part of it after what came before, of which some cells wait, and others are the part's own
-pub stage_framed : {r inner : Region} (ms ts : List Owner) {ns gs : List Owner} {first places : ℕ} {more old : List ℕ} {start mid last : World} →
+pub stage_framed : {out : ℕ → ℕ} {r inner : Region} (ms ts : List Owner) {ns gs : List Owner} {first places : ℕ} {more old : List ℕ} {start mid last : World} →
     Wider r inner →
     AreOwn r ms → (t : Territory (ms ++ (ts ++ gs)) mid) → ((k : ℕ) → Member k t.blocks → Member k old ⊎ (Member k [] ⊎ (taken_in start ≤ k))) →
-    Passes r gs old start mid → AllOwners (λ m. IsOutside inner m.at.base) ms →
-    Stage inner ns gs first places more (others_alone ms ts gs mid t).blocks mid last → Stage r (ms ++ ns) gs first places more old start last
-stage_framed {r} {inner} ms ts {ns} {gs} {first} {places} {more} {old} {start} {mid} {last} w own t came passes out u =
-    let all = with_waiting ms ts gs mid t inner last u.runs.passes ns u.runs.territory u.runs.came out u.runs.own in
-    let there = subst (λ ps. There ps old start last) (owners_assoc ms ns gs) (record { territory = all.territory; came = λ k m. further k (all.came k m) }) in
+    Passes r gs old start mid → LosesNone (λ k. times k old) (λ k. times k t.blocks) start mid → AllOwners (λ m. IsOutside inner m.at.base) ms →
+    StageWith out inner ns gs first places more (others_alone ms ts gs mid t).blocks mid last → StageWith out r (ms ++ ns) gs first places more old start last
+stage_framed {out} {r} {inner} ms ts {ns} {gs} {first} {places} {more} {old} {start} {mid} {last} w own t came passes loses outside u =
+    let all = with_waiting ms ts gs mid t inner last u.runs.passes ns u.runs.territory u.runs.came outside u.runs.own {out = out}
+    (λ k. omega (arith, u.runs.loses k)) in
+    let there = subst (λ ps. There out ps old start last) (owners_assoc ms ns gs)
+    (record { territory = all.territory; came = λ k m. further k (all.came k m); loses = λ k. omega (arith, loses k, all.loses k) }) in
     record {
       runs = record {
         territory = there.territory;
         own = all_both (λ m. IsOutside r m.at.base → ⊥) ms ns own (own_wider w ns u.runs.own);
         came = there.came;
+        loses = λ k. omega (arith, there.loses k);
         passes = passes_then passes came (passes_wider [] w tt (in_others ms ts gs mid t) u.runs.passes);
       };
       active = subst (λ l. Active last.frames l first places more) w.level u.active;
@@ -227,19 +237,21 @@ stage_framed {r} {inner} ms ts {ns} {gs} {first} {places} {more} {old} {start} {
 
 -- ---- a value comes out of a part of a part
 
-record ThereWith (ps : List Owner) (blocks old : List ℕ) (start now : World) : Type 0 where
+record ThereWith (out : ℕ → ℕ) (ps : List Owner) (blocks old : List ℕ) (start now : World) : Type 0 where
   territory : Territory ps now
   came : (k : ℕ) → Member k territory.blocks → Member k old ⊎ (Member k [] ⊎ (taken_in start ≤ k))
   same : territory.blocks ≡ blocks
+  loses : LosesNone (λ k. times k old) (λ k. times k territory.blocks + out k) start now
 
 -- and which blocks there are then
-record StageWith (r : Region) (ms gs : List Owner) (first places : ℕ) (nodes old blocks : List ℕ) (start now : World) : Type 0 where
-  stage : Stage r ms gs first places nodes old start now
+record StageThere (out : ℕ → ℕ) (r : Region) (ms gs : List Owner) (first places : ℕ) (nodes old blocks : List ℕ) (start now : World) : Type 0 where
+  stage : StageWith out r ms gs first places nodes old start now
   same : stage.runs.territory.blocks ≡ blocks
 
 module _ (r inner : Region) (ms gs : List Owner) (old : List ℕ) (start mid : World) (w : Wider r inner)
     (own : AreOwn r ms) (t : Territory (ms ++ gs) mid) (came : (k : ℕ) → Member k t.blocks → Member k old ⊎ (Member k [] ⊎ (taken_in start ≤ k)))
-    (passes : Passes r gs old start mid) (out : AllOwners (λ m. IsOutside inner m.at.base) ms) where
+    (passes : Passes r gs old start mid) (loses : LosesNone (λ k. times k old) (λ k. times k t.blocks) start mid)
+    (outside : AllOwners (λ m. IsOutside inner m.at.base) ms) where
   later : (k : ℕ) → taken_in mid ≤ k → taken_in start ≤ k
   later k le = omega (arith, le, passes.grows)
 
@@ -248,21 +260,28 @@ module _ (r inner : Region) (ms gs : List Owner) (old : List ℕ) (start mid : W
   further k (inr (inl m)) = elim m [ ]
   further k (inr (inr le)) = inr (inr (later k le))
 
-  framed_with : {ns : List Owner} {first places : ℕ} {more : List ℕ} {last : World}
-      (u : Stage inner ns gs first places more (others_alone ms [] gs mid t).blocks mid last) →
-      StageWith r (ms ++ ns) gs first places more old ((pieces ms [] gs mid t).first ++ u.runs.territory.blocks) start last
+  framed_with : {out : ℕ → ℕ} {ns : List Owner} {first places : ℕ} {more : List ℕ} {last : World}
+      (u : StageWith out inner ns gs first places more (others_alone ms [] gs mid t).blocks mid last) →
+      StageThere out r (ms ++ ns) gs first places more old ((pieces ms [] gs mid t).first ++ u.runs.territory.blocks) start last
   unfolding with_waiting
-  framed_with {ns} {first} {places} {more} {last} u =
-      let all = with_waiting ms [] gs mid t inner last u.runs.passes ns u.runs.territory u.runs.came out u.runs.own in
+  framed_with {out} {ns} {first} {places} {more} {last} u =
+      let all = with_waiting ms [] gs mid t inner last u.runs.passes ns u.runs.territory u.runs.came outside u.runs.own {out = out}
+      (λ k. omega (arith, u.runs.loses k)) in
       let blocks = (pieces ms [] gs mid t).first ++ u.runs.territory.blocks in
-      let there = subst (λ ps. ThereWith ps blocks old start last) (owners_assoc ms ns gs)
-      (record { territory = all.territory; came = λ k m. further k (all.came k m); same = refl }) in
+      let there = subst (λ ps. ThereWith out ps blocks old start last) (owners_assoc ms ns gs)
+      (record {
+        territory = all.territory;
+        came = λ k m. further k (all.came k m);
+        same = refl;
+        loses = λ k. omega (arith, loses k, all.loses k);
+      }) in
       record {
         stage = record {
           runs = record {
             territory = there.territory;
             own = all_both (λ m. IsOutside r m.at.base → ⊥) ms ns own (own_wider w ns u.runs.own);
             came = there.came;
+            loses = λ k. omega (arith, there.loses k);
             passes = passes_then passes came (passes_wider [] w tt (in_others ms [] gs mid t) u.runs.passes);
           };
           active = subst (λ l. Active last.frames l first places more) w.level u.active;
@@ -277,7 +296,9 @@ module _ (r inner : Region) (ms gs : List Owner) (old : List ℕ) (start mid : W
       let fs = framed_with h.stage in
       let p = pieces ms [] gs mid t in
       record {
+        out = h.out;
         stage = fs.stage;
+        out_is = h.out_is;
         under = record {
           given = h.under.given;
           has = h.under.has;

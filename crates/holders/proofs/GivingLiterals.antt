@@ -141,7 +141,9 @@ module _ (here : Here) (scope : scopes.Here) (limits : Limits) (root : (global :
           sure_weaker (fresh_text t) (HandsOut block os [] begun.runs.territory.blocks s.world) Text s.world (text_comes begun.runs.territory t)
           (λ v after h. let g = stage_hands R' os first places b.territory.blocks s.world begun (no_given R' os first places b.territory.blocks s.world) h in
           record {
+            out = g.out;
             stage = g.stage;
+            out_is = g.out_is;
             under = record {
               given = g.under.given;
               has = text_like like g.under.has;

@@ -19,7 +19,7 @@ use Rattle.nim_meaning.specs.Steps.{all_end, ended}
 use Rattle.nim_meaning.specs.Meaning.{place_ends, ends, scoped}
 use Rattle.holders.specs.Owned.{IsBase, at_node}
 use Rattle.holders.specs.Sure.{Sure, Comes}
-use Rattle.holders.specs.Becoming.{taken_in}
+use Rattle.holders.specs.Becoming.{taken_in, times, LosesNone}
 use Rattle.holders.specs.Territory.{Owner, Cells, no_cells, a_cell, Territory, Among, first_owner, later_owner, NoBaseOf}
 use Rattle.holders.specs.Working.{without}
 use Rattle.holders.specs.Running.{Region, IsOutside}
@@ -30,7 +30,7 @@ use Rattle.holders.proofs.Sure.{sure_then}
 use Rattle.holders.proofs.FrameChanges as frames
 use Rattle.holders.proofs.FrameChanges.{value_leaves}
 use Rattle.holders.proofs.Running.{no_less, passes_then, passes_apace, Apace, territory_apace}
-use Rattle.holders.proofs.Working.{works_front, among_first, all_at, all_without}
+use Rattle.holders.proofs.Working.{works_front, among_first, all_at, all_without, front_often}
 use Rattle.holders.proofs.Calling.{first_apart, ends_alone, EndsAlone, ended_passes}
 use Rattle.holders.proofs.Coming.{comes_carried, comes_then, comes_at_exit, comes_scope, comes_weaker}
 
@@ -41,6 +41,7 @@ without_first gs (later_owner {p = p} i) = ap (λ (ps : List Owner). p ∷ ps) (
 record TurnedTo (ps : List Owner) (old : List ℕ) (start now : World) : Type 0 where
   territory : Territory ps now
   came : (k : ℕ) → Member k territory.blocks → Member k old ⊎ (Member k [] ⊎ (taken_in start ≤ k))
+  loses : LosesNone (λ k. times k old) (λ k. times k territory.blocks) start now
 
 without_node_in : (ns : List ℕ) (node n : ℕ) → Member n (without_node ns node) → Member n ns
 without_node_in [] node n m = m
@@ -62,12 +63,17 @@ module _ (r : Region) (gs : List Owner) (first places : ℕ) (old : List ℕ) (s
   stage_front {ms} {o} {nodes} {now} i s =
       let w = works_front (among_first gs i) s.runs.territory in
       let turned = subst (λ ps. TurnedTo (o ∷ ps) old start now) (without_first gs i)
-      (record { territory = w.territory; came = λ k m. s.runs.came k (w.within k m) }) in
+      (record {
+        territory = w.territory;
+        came = λ k m. s.runs.came k (w.within k m);
+        loses = λ k. omega (arith, s.runs.loses k, front_often (among_first gs i) s.runs.territory k);
+      }) in
       record {
         runs = record {
           territory = turned.territory;
           own = (all_at (λ m. IsOutside r m.at.base → ⊥) s.runs.own i, all_without (λ m. IsOutside r m.at.base → ⊥) i s.runs.own);
           came = turned.came;
+          loses = λ k. omega (arith, turned.loses k);
           passes = s.runs.passes;
         };
         active = s.active;
@@ -100,6 +106,7 @@ module _ (r : Region) (gs : List Owner) (first places : ℕ) (old : List ℕ) (s
           territory = territory_apace a (no_node node) off s.runs.territory;
           own = s.runs.own;
           came = s.runs.came;
+          loses = λ k. omega (arith, s.runs.loses k);
           passes = passes_then s.runs.passes s.runs.came (passes_apace r gs (inside node mine) a (λ l m to h there. change.names l m to h)
               (λ l f p ns less h. change.active l f p ns h (not_same l less)) change.count);
         };
@@ -123,6 +130,7 @@ module _ (r : Region) (gs : List Owner) (first places : ℕ) (old : List ℕ) (s
           territory = e.territory;
           own = s.runs.own.1;
           came = λ k m. s.runs.came k (e.within k m);
+          loses = λ k. omega (arith, s.runs.loses k, e.loses k);
           passes = passes_then s.runs.passes s.runs.came (ended_passes r (inside node mine) e);
         };
         active = e.stays.frames.active r.level first places nodes s.active;
@@ -156,6 +164,7 @@ module _ (r : Region) (gs : List Owner) (first places : ℕ) (old : List ℕ) (s
               territory = territory_there a off (ms ++ gs) s.runs.territory;
               own = s.runs.own;
               came = s.runs.came;
+              loses = λ k. omega (arith, s.runs.loses k);
               passes = passes_then s.runs.passes s.runs.came (passes_apace r gs (inside node mine) a (λ l m to h there. change.names l m to h)
                   (λ l f p ns less h. change.active l f p ns h (not_same l less)) change.count);
             };
@@ -202,7 +211,7 @@ module _ (r : Region) (gs : List Owner) (first places : ℕ) (old : List ℕ) (s
 -- What follows in its block, by whichever way it is left, and then the place is over: where it has hooks its value ends, else nobody looks at it.
 pub scope_left : (here : Here) (place : Declared) (last : ℕ) (rest : Does (Unit {0})) (S T : World → Type 0) →
     ((now : World) → S now → Sure (place_ends (form_of here.facts place.of) here.level place.number) (λ u after. T after) now) →
-    ((now : World) → S now → T now) → (s : State) → Comes (λ u after. S after) (LeftBy S) (rest s) →
+    (is_hooked here.facts place.of ≡ false → (now : World) → S now → T now) → (s : State) → Comes (λ u after. S after) (LeftBy S) (rest s) →
     Comes (λ u after. T after) (LeftBy T) (scoped here place last rest s)
 scope_left here place last rest S T over lets_go s h =
     comes_at_exit rest after_all (λ u after. S after) (LeftBy S) (λ u after. T after) (LeftBy T) s h
@@ -218,12 +227,12 @@ scope_left here place last rest S T over lets_go s h =
         >> as_before flow
 
     place_ends_so : (exit : ℕ) (now : State) → S now.world → Comes (λ u after. T after) (LeftBy T) (ends here place exit now)
-    place_ends_so exit now g = by (is_hooked here.facts place.of)
+    place_ends_so exit now g = by (is_hooked here.facts place.of) refl
       where
-        by : (b : Bool) → Comes (λ u after. T after) (LeftBy T)
+        by : (b : Bool) → is_hooked here.facts place.of ≡ b → Comes (λ u after. T after) (LeftBy T)
             (costs 1 (branch b (carry (place_ends (form_of here.facts place.of) here.level place.number)) (give tt)) now)
-        by true = comes_carried (λ u after. T after) (LeftBy T) (place_ends (form_of here.facts place.of) here.level place.number) _ (over now.world g)
-        by false = lets_go now.world g
+        by true e = comes_carried (λ u after. T after) (LeftBy T) (place_ends (form_of here.facts place.of) here.level place.number) _ (over now.world g)
+        by false e = lets_go e now.world g
 
     as_it_was : (flow : Outcome (Unit {0})) → Left flow → (now : State) → T now.world → Comes (λ u after. T after) (LeftBy T) (as_before flow now)
     as_it_was (On u) ok now g = g

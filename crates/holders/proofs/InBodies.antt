@@ -1,8 +1,8 @@
 -- A statement that is an expression, in a body: the expression may work on the body's own cells, and nothing of it is left.
-use Rattle.std.proofs.Common.{◌≡◌, refl, ◌∙◌, ℕ, suc, inl, inr, ◌⊎◌, Bool, true, List, [], ◌∷◌, ◌++◌, length}
+use Rattle.std.proofs.Common.{◌≡◌, refl, ◌∙◌, ℕ, suc, inl, inr, ◌⊎◌, Bool, true, List, [], ◌∷◌, ◌++◌, length, false}
 use Rattle.std.proofs.lemmas.Bool.{false≢true}
 use Rattle.nim_program.specs.declared.operation.Use.TheVariants.{Owned}
-use Rattle.nim_program.specs.Program.{Expr, Do, node_of}
+use Rattle.nim_program.specs.Program.{Expr, Do, node_of, type_of}
 use Rattle.nim_program.specs.Scopes as scopes
 use Rattle.nim_meaning.specs.ActTree as points
 use Rattle.nim_meaning.specs.Ways.{At as Spot}
@@ -10,7 +10,7 @@ use Rattle.nim_meaning.specs.Values.{Value, Base, Standing, Waiting, InBlock, In
 use Rattle.nim_meaning.specs.Marks.{Member, Distinct}
 use Rattle.nim_meaning.specs.State.{World, State}
 use Rattle.nim_meaning.specs.Acts.{give, with_trail}
-use Rattle.nim_meaning.specs.Here.{Here}
+use Rattle.nim_meaning.specs.Here.{Here, gives_hooked}
 use Rattle.nim_meaning.specs.Steps.{grouped, waits_of, all_end}
 use Rattle.nim_meaning.specs.Meaning.{eval, exec}
 use Rattle.holders.specs.Sure.{Comes}
@@ -27,7 +27,7 @@ use Rattle.holders.proofs.Framing.{absorbed}
 use Rattle.holders.proofs.Groups.{ended_comes}
 use Rattle.holders.proofs.GroupsOver.{group_over, leaves_over}
 use Rattle.holders.proofs.PartsInTurn.{is_member, waiting_in}
-use Rattle.holders.proofs.Claims.{behind_value}
+use Rattle.holders.proofs.Claims.{behind_value, behind_alone}
 use Rattle.holders.specs.Claimed.{InBody, body_region}
 
 module _ (level : ℕ) (own_places own_nodes : ℕ → Bool) where
@@ -50,12 +50,13 @@ module _ (here : Here) (scope : scopes.Here) (limits : Limits) (root : (global :
   r = body_region here.level own_places own_nodes
 
   pub do_comes : (value : Expr) → ValueSo here scope limits root first places (ks ++ gs) value Owned → Distinct (value_nodes value) →
-      ((n : ℕ) → Member n (value_nodes value) → own_nodes n ≡ true) → ((n : ℕ) → Member n nodes → Member n (value_nodes value) → ⊥) →
+      gives_hooked here.facts (type_of value) ≡ false → ((n : ℕ) → Member n (value_nodes value) → own_nodes n ≡ true) →
+      ((n : ℕ) → Member n nodes → Member n (value_nodes value) → ⊥) →
       AllOwners (λ o. IsOutside (at_nodes here.level (value_nodes value)) o.at.base) (ks ++ gs) → AreOwn r ks → length start.frames ≡ suc here.level →
       (s : State) →
       InBody r ks gs first places nodes old start s.world → Scene here scope limits root (ks ++ gs) s.world →
       Comes (λ u after. InBody r ks gs first places nodes old start after) NoExit (exec (Do value) here s)
-  do_comes value so d mine free outside own deepest s body scene =
+  do_comes value so d unhooked mine free outside own deepest s body scene =
       comes_then (grouped here (node_of value).number (waits_of here value Owned) (eval value Owned here)) (λ v. give tt)
       (λ v after. InBody r ks gs first places nodes old start after)
       (λ u after. InBody r ks gs first places nodes old start after) NoExit s
@@ -89,7 +90,8 @@ module _ (here : Here) (scope : scopes.Here) (limits : Limits) (root : (global :
           comes_weaker (λ u after. Stage (at_nodes here.level ns) [] (ks ++ gs) first places (without_waits behind.later (waits_of here value Owned))
           b.territory.blocks s.world after) (λ way after. ⊥) (λ u after. InBody r ks gs first places nodes old start after) (λ way after. ⊥)
           (all_end here.level flow (waits_of here value Owned) now)
-          (group_over ns (λ way after. ⊥) flow (λ n m. waiting_in here.facts here.modes value Owned n m) behind.leaves now behind.stage)
+          (group_over ns (λ way after. ⊥) flow (λ n m. waiting_in here.facts here.modes value Owned n m) behind.leaves now
+          (behind_alone here value Owned d (λ how. unhooked) h))
           (λ u after st.
           let wide = absorbed ks (body_wider here.level own_places own_nodes ns mine) own st in
           let left = leaves_over behind.leaves in

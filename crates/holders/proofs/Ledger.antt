@@ -3,23 +3,41 @@ use Rattle.std.proofs.Common.{◌≡◌, refl, sym, ap, subst, ◌∙◌, arith,
 use Rattle.std.specs.Prelude.{slice_get, slice_set, if◌then◌else◌}
 use Rattle.std.proofs.lemmas.Option.{none-some}
 use Rattle.std.proofs.Math.Dec.{eqb-suc-zero, eqb-zero-suc, eqb-suc-suc}
-use Rattle.nim_meaning.specs.Values.{Value, Parts, Base, InBlock, Location, Slot, Holds, put_part, part, parts_of}
+use Rattle.nim_meaning.specs.Values.{Value, Parts, Base, InBlock, Location, Slot, Holds, put_part, part, parts_of, Values}
 use Rattle.nim_meaning.specs.Heap.{Contents, Elements, Block, flat, block_at, without, with_contents, refilled}
 use Rattle.nim_meaning.specs.State.{World, store, stored, with_value_in, new_contents, frame_in, temporary_in, Frame}
 use Rattle.nim_meaning.specs.Deeds.{with_block, freed}
 use Rattle.nim_meaning.specs.Kept.{one_if_same, one_if_there}
 use Rattle.holders.specs.Owned.{IsBase, at_place, at_node, in_hand, in_row, in_text, in_program, HasPart, whole, row_part, MayStore}
+use Rattle.holders.specs.Owned.{Extent, HasEach, none_more, one_more}
 use Rattle.holders.specs.Holders.{held_by, held_in, held_in_contents, held_in_block, held_in_world}
 use Rattle.holders.specs.Walks.{KeepsOnce}
 use Rattle.holders.proofs.HolderCounts.{part_put, slot_counts, temporary_counts, total_set}
 use Rattle.holders.proofs.Staying.{stays_same, stays_then}
 use Rattle.holders.proofs.Bases.{whole_is, block_position}
+use Rattle.holders.specs.Becoming.{times}
+use Rattle.nim_types.specs.Forms.{Form}
 
 pub keeps_none : (world : World) → KeepsOnce world world
 keeps_none world = record { held = λ others h. h; stays = stays_same world }
 
 pub keeps_then : {a b c : World} → KeepsOnce a b → KeepsOnce b c → KeepsOnce a c
 keeps_then h g = record { held = λ others x. g.held others (h.held others x); stays = stays_then h.stays g.stays }
+
+-- how often a block is among some and others
+pub times_both : (k : ℕ) (bs cs : List ℕ) → times k (bs ++ cs) ≡ times k bs + times k cs
+times_both k [] cs = omega arith
+times_both k (b ∷ bs) cs = omega (arith, times_both k bs cs)
+
+-- some, between others
+pub times_middle : (k : ℕ) {all : List ℕ} (bs cs ds : List ℕ) → all ≡ bs ++ (cs ++ ds) → times k all ≡ times k bs + (times k cs + times k ds)
+times_middle k bs cs ds e = omega (arith, ap (times k) e, times_both k bs (cs ++ ds), times_both k cs ds)
+
+-- no elements have no blocks
+pub none_in_none : {world : World} {x : Extent} {f : Form} {n i : ℕ} {all : Values} {bs : List ℕ} → HasEach world x f n i all bs → n ≡ 0 → (k : ℕ) →
+    times k bs ≡ 0
+none_in_none none_more e k = refl
+none_in_none (one_more le h more) e k = absurd (omega (arith, e))
 
 -- ---- blocks by position
 
@@ -29,7 +47,7 @@ not_first j = ap (λ b. if b then 1 else 0) (eqb-suc-zero j)
 not_later : (i : ℕ) → one_if_same 0 (suc i) ≡ 0
 not_later i = ap (λ b. if b then 1 else 0) (eqb-zero-suc i)
 
-both_later : (i j : ℕ) → one_if_same (suc j) (suc i) ≡ one_if_same j i
+pub both_later : (i j : ℕ) → one_if_same (suc j) (suc i) ≡ one_if_same j i
 both_later i j = ap (λ b. if b then 1 else 0) (eqb-suc-suc j i)
 
 abbrev there : ℕ → List (Option Block) → ℕ

@@ -5,10 +5,10 @@ use Rattle.nim_meaning.specs.Values.{Value, part, put_part, Base, InBlock, Locat
 use Rattle.nim_meaning.specs.Marks.{Member, Distinct}
 use Rattle.nim_meaning.specs.State.{World, whole_at}
 use Rattle.holders.specs.Owned.{IsBase, At, HasPart, Cell, Apart}
-use Rattle.holders.specs.Becoming.{taken_in, Becomes, Strange}
+use Rattle.holders.specs.Becoming.{taken_in, Strange, times, BecomesWith}
 use Rattle.holders.specs.Beside.{OtherPart, other_base, other_way}
 use Rattle.holders.specs.Territory.{Owner, Cells, no_cells, a_cell, OtherThan, LieApart, ClearOf, Territory, StandsAt, NoBaseOf, Moves, Among}
-use Rattle.holders.specs.Territory.{first_owner, later_owner, Owns, IsUnder, LeaveRow}
+use Rattle.holders.specs.Territory.{first_owner, later_owner, Owns, IsUnder, LeaveRow, MovesWith}
 use Rattle.holders.proofs.RowsLeft.{row_left}
 use Rattle.holders.proofs.Bases.{whole_is}
 use Rattle.holders.proofs.Staying.{stays_same, stays_then}
@@ -17,6 +17,7 @@ use Rattle.holders.proofs.Owning.{in_first, in_second, distinct_second, distinct
 use Rattle.holders.proofs.Ending.{same_number}
 use Rattle.holders.proofs.Copying.{base_below, has_below, either_block}
 use Rattle.holders.proofs.Outward.{assoc, middle_distinct, at_next}
+use Rattle.holders.proofs.Ledger.{times_middle}
 
 -- ---- one location beside another
 
@@ -24,8 +25,8 @@ pub other_back : {to from : Location} → OtherPart to from → OtherPart from t
 other_back (other_base d) = other_base (λ e. d (sym e))
 other_back (other_way e w) = other_way (sym e) (ways_back w)
 
-pub becomes_beside : {f : Form} {to l : Location} {w v : Value} {given old : List ℕ} {world after : World} → At world to w →
-    Becomes f to w given old world after → OtherPart to l → Apart l.base old → StandsAt world l v → StandsAt after l v
+pub becomes_beside : {goes : ℕ → ℕ} {f : Form} {to l : Location} {w v : Value} {given old : List ℕ} {world after : World} → At world to w →
+    BecomesWith goes f to w given old world after → OtherPart to l → Apart l.base old → StandsAt world l v → StandsAt after l v
 becomes_beside {l = l} at b (other_base d) far s = record {
   whole = s.whole;
   at = record { base = b.elsewhere l.base s.whole s.at.base d far; part = s.at.part; may = s.at.may };
@@ -47,8 +48,8 @@ record CellThen (g : Form) (l : Location) (v : Value) (bs : List ℕ) (after : W
   whole : Value
   cell : Cell g l whole v bs after
 
-cell_beside : {f g : Form} {to l : Location} {w u v : Value} {given old bs : List ℕ} {world after : World} → At world to w →
-    Becomes f to w given old world after →
+cell_beside : {goes : ℕ → ℕ} {f g : Form} {to l : Location} {w u v : Value} {given old bs : List ℕ} {world after : World} → At world to w →
+    BecomesWith goes f to w given old world after →
     OtherPart to l → Apart l.base old → Apart to.base bs → ((k : ℕ) → Member k bs → Member k old → ⊥) → Cell g l u v bs world → CellThen g l v bs after
 cell_beside {u = u} {old = old} {bs = bs} {world = world} {after = after} at b other far to_far both c =
     let s = becomes_beside at b other far (record { whole = u; at = c.at; is = c.is }) in
@@ -87,8 +88,9 @@ clear_at bs h first_owner = h.0
 clear_at bs h (later_owner i) = clear_at bs h.1 i
 
 -- the others stay
-cells_beside : {f : Form} {to : Location} {w : Value} {given old : List ℕ} {world after : World} → At world to w → Becomes f to w given old world after →
-    (os : List Owner) (cs : List ℕ) → OtherThan to os → ClearOf old os → Apart to.base cs → ((k : ℕ) → Member k cs → Member k old → ⊥) →
+cells_beside : {goes : ℕ → ℕ} {f : Form} {to : Location} {w : Value} {given old : List ℕ} {world after : World} → At world to w →
+    BecomesWith goes f to w given old world after → (os : List Owner) (cs : List ℕ) → OtherThan to os → ClearOf old os → Apart to.base cs →
+    ((k : ℕ) → Member k cs → Member k old → ⊥) →
     Cells world os cs → Cells after os cs
 cells_beside at b [] _ other far to_far both no_cells = no_cells
 cells_beside at b (o ∷ os) _ other far to_far both (a_cell {bs = bs} {cs = cs} c rest) =
@@ -125,11 +127,11 @@ record Picked (os : List Owner) (all : List ℕ) (o : Owner) (world : World) : T
   behind : List ℕ
   is : all ≡ before ++ (mine ++ behind)
   cell : Cell o.form o.at stands_in value mine world
-  put : (given : List ℕ) (after : World) → ClearOf given os → (b : Becomes o.form o.at stands_in given mine world after) →
+  put : {goes : ℕ → ℕ} (given : List ℕ) (after : World) → ClearOf given os → (b : BecomesWith goes o.form o.at stands_in given mine world after) →
       Cells after os (before ++ (b.blocks ++ behind))
 
-new_cell : {f : Form} {l : Location} {w v : Value} {given mine : List ℕ} {world after : World} → Cell f l w v mine world →
-    (b : Becomes f l w given mine world after) → Apart l.base given → Cell f l (put_part w l.path b.now) b.now b.blocks after
+new_cell : {goes : ℕ → ℕ} {f : Form} {l : Location} {w v : Value} {given mine : List ℕ} {world after : World} → Cell f l w v mine world →
+    (b : BecomesWith goes f l w given mine world after) → Apart l.base given → Cell f l (put_part w l.path b.now) b.now b.blocks after
 new_cell {l = l} {w = w} {given = given} {mine = mine} {world = world} c b far = record {
   at = at_next c.at b;
   is = part_of_put b.now c.at.part;
@@ -184,10 +186,10 @@ pick_cell {world} {o} (p ∷ os) _ (a_cell {w = u} {v = v} {bs = bs} {cs = cs} c
           (s.put given after far.1 b));
     }
 
-picked_moves : {os : List Owner} {o : Owner} {world : World} (t : Territory os world) (i : Among os o) (s : Picked os t.blocks o world) (given : List ℕ)
-    (after : World) → Strange given t.blocks → ClearOf given os →
-    Becomes o.form o.at s.stands_in given s.mine world after → Moves os given t.blocks world after
-picked_moves {os} {o} {world} t i s given after strange far b = record {
+picked_moves : {goes : ℕ → ℕ} {os : List Owner} {o : Owner} {world : World} (t : Territory os world) (i : Among os o) (s : Picked os t.blocks o world)
+    (given : List ℕ) (after : World) → Strange given t.blocks → ClearOf given os →
+    BecomesWith goes o.form o.at s.stands_in given s.mine world after → MovesWith (λ k. times k given) goes os given t.blocks world after
+picked_moves {os = os} {o = o} {world = world} t i s given after strange far b = record {
   territory = record {
     blocks = s.before ++ (b.blocks ++ s.behind);
     cells = s.put given after far b;
@@ -200,6 +202,7 @@ picked_moves {os} {o} {world} t i s given after strange far b = record {
   };
   came = came;
   grows = b.grows;
+  loses = λ k. omega (arith, b.loses k, times_middle k s.before s.mine s.behind s.is, times_middle k s.before b.blocks s.behind refl);
   alone = record {
     bases = λ x y h off apart. b.elsewhere x y h (no_base_at off i) (λ k q m. apart k q (in_second k given t.blocks (mine_in k m)));
     parts = λ l v h other apart. becomes_beside s.cell.at b (other_at other i) (λ k q m. apart k q (in_second k given t.blocks (mine_in k m))) h;
@@ -238,9 +241,10 @@ picked_moves {os} {o} {world} t i s given after strange far b = record {
         by (inl q) = inl (mine_in k q)
         by (inr q) = inr q
 
-picked_without : {os : List Owner} {o : Owner} {world : World} (t : Territory os world) (i : Among os o) (s : Picked os t.blocks o world) (given : List ℕ)
+picked_without : {goes : ℕ → ℕ} {os : List Owner} {o : Owner} {world : World} (t : Territory os world) (i : Among os o) (s : Picked os t.blocks o world)
+    (given : List ℕ)
     (after : World) (far : Strange given t.blocks) (clear : ClearOf given os)
-    (b : Becomes o.form o.at s.stands_in given s.mine world after) (k : ℕ) → Member k (picked_moves t i s given after far clear b).territory.blocks →
+    (b : BecomesWith goes o.form o.at s.stands_in given s.mine world after) (k : ℕ) → Member k (picked_moves t i s given after far clear b).territory.blocks →
     Member k s.mine → Member k b.blocks
 unfolding picked_moves
 picked_without t i s given after far clear b k m n =
@@ -250,9 +254,11 @@ picked_without t i s given after far clear b k m n =
     (λ q. either_block k b.blocks s.behind (Member k b.blocks) q (λ z. z)
     (λ z. absurd (distinct_apart k s.mine s.behind (distinct_second s.before (s.mine ++ s.behind) split) n z)))
 
-pub head_moves : {world : World} {o : Owner} {os : List Owner} {w v : Value} {bs cs : List ℕ} → Cell o.form o.at w v bs world → Cells world os cs →
+pub head_moves : {goes : ℕ → ℕ} {world : World} {o : Owner} {os : List Owner} {w v : Value} {bs cs : List ℕ} → Cell o.form o.at w v bs world →
+    Cells world os cs →
     LieApart (o ∷ os) → ClearOf (bs ++ cs) (o ∷ os) → Distinct (bs ++ cs) → (given : List ℕ) (after : World) → Strange given (bs ++ cs) →
-    ClearOf given (o ∷ os) → Becomes o.form o.at w given bs world after → Moves (o ∷ os) given (bs ++ cs) world after
+    ClearOf given (o ∷ os) → BecomesWith goes o.form o.at w given bs world after →
+    MovesWith (λ k. times k given) goes (o ∷ os) given (bs ++ cs) world after
 unfolding head_picked
 head_moves {bs = bs} {cs = cs} c rest others clear d given after far far_given b =
     picked_moves (record { blocks = bs ++ cs; cells = a_cell c rest; distinct = d; others = others; clear = clear }) first_owner
@@ -280,6 +286,7 @@ moves_same {os} {world} t = record {
   territory = t;
   came = λ k m. inl m;
   grows = omega arith;
+  loses = λ k. omega arith;
   alone = record { bases = λ b x h off far. h; parts = λ l v h other far. h; rows = λ l n r leave far. r; stays = stays_same world };
 }
 
@@ -289,6 +296,7 @@ moves_then {os} {old} {world} {middle} {last} a b = record {
   territory = b.territory;
   came = λ k m. by k (b.came k m);
   grows = omega (arith, a.grows, b.grows);
+  loses = λ k. omega (arith, a.loses k, b.loses k);
   alone = record {
     bases = λ x y h off far. b.alone.bases x y (a.alone.bases x y h off far) off (λ k q m. not_there x y h k q (a.came k m) (λ n. far k q n));
     parts = λ l v h other far. b.alone.parts l v (a.alone.parts l v h other far) other

@@ -12,7 +12,7 @@ use Rattle.holders.specs.Working.{Works, without}
 use Rattle.holders.specs.Running.{Region, IsOutside, Runs}
 use Rattle.holders.specs.Ways.{copies, part_owners, Opens}
 use Rattle.holders.proofs.Moving.{clear_less}
-use Rattle.holders.proofs.Working.{all_at, all_with, all_without, works_front, cells_return}
+use Rattle.holders.proofs.Working.{all_at, all_with, all_without, works_front, cells_return, front_often}
 use Rattle.holders.proofs.Opening.{opening_of, opened, closed_runs}
 
 pub record OpenAt (inner : Region) (ps os : List Owner) (blocks : List ℕ) (world : World) : Type 0 where
@@ -55,6 +55,7 @@ turned inner {os} {o} {world} t i = record { territory = w.territory; closes = c
           };
           own = tt;
           came = λ k n. came k (r.came k (back.order.into k n));
+          loses = λ k. omega (arith, r.loses k, back.order.as_often k, front_often i t k);
           passes = record {
             bases = λ b x h there off far. r.passes.bases b x h there
                 (all_at (λ p. b ≡ p.at.base → ⊥) off i, all_without (λ p. b ≡ p.at.base → ⊥) i off) (λ k e n. far k e (w.within k n));

@@ -7,10 +7,10 @@ use Rattle.nim_meaning.specs.Marks.{Member, Distinct}
 use Rattle.nim_meaning.specs.State.{World}
 use Rattle.holders.specs.Owned.{IsBase, HasPart, whole, MayStore, block_may, Extent, Full, Has, no_sequence, a_sequence, a_row, some_parts}
 use Rattle.holders.specs.Owned.{HasEach, none_more, one_more, HasAll, no_parts, a_part, Apart, Cell}
-use Rattle.holders.specs.Becoming.{taken_in, Strange}
+use Rattle.holders.specs.Becoming.{taken_in, Strange, times}
 use Rattle.holders.specs.Beside.{PartWays, here_apart, further_on, OtherPart, other_base, other_way}
 use Rattle.holders.specs.Territory.{Owner, Cells, no_cells, a_cell, AllOwners, OtherThan, LieApart, ClearOf, Territory, RowAt, IsUnder, LeaveRow}
-use Rattle.holders.specs.Territory.{NoBaseOf, Moves, Among, StandsAt}
+use Rattle.holders.specs.Territory.{NoBaseOf, Among, StandsAt, MovesWith}
 use Rattle.holders.specs.Working.{Back, Works, without}
 use Rattle.holders.specs.Running.{Region, IsOutside, Runs}
 use Rattle.holders.specs.Ways.{copies, part_owners, in_block, Opens, an_object, an_array, a_block}
@@ -23,6 +23,7 @@ use Rattle.holders.proofs.Outward.{assoc}
 use Rattle.holders.proofs.Assigning.{row_has, parts_have}
 use Rattle.holders.proofs.Moving.{clear_less, cells_clear}
 use Rattle.holders.proofs.Working.{all_both, all_so, apart_both, CellsApart, cells_apart, cells_both, works_front, works_then}
+use Rattle.holders.proofs.Ledger.{times_both}
 
 -- ---- the parts of a row
 
@@ -110,6 +111,7 @@ pub record Closed (o : Owner) (bs ks ds : List ℕ) (after : World) : Type 0 whe
   pub blocks : List ℕ
   pub cell : Cell o.form o.at stands_in value blocks after
   pub from : (k : ℕ) → Member k blocks → Member k ds ⊎ (Member k bs × (Member k ks → ⊥))
+  pub sum : (k : ℕ) → times k blocks + times k ks ≡ times k bs + times k ds
 
 -- what holds where its parts may have become others, with those of other cells
 pub record Around (o : Owner) (kids os : List Owner) (bs ks cs given ds : List ℕ) (world after : World) : Type 0 where
@@ -174,6 +176,7 @@ module _ (o : Owner) (os : List Owner) (world : World) (w v : Value) (bs cs : Li
     came : (k : ℕ) → Member k territory.blocks → Member k (bs ++ cs) ⊎ (Member k given ⊎ (taken_in world ≤ k))
     into : (k : ℕ) → Member k territory.blocks → Member k inner ⊎ (Member k (bs ++ cs) × (Member k (op.ks ++ cs) → ⊥))
     without : (k : ℕ) → Member k territory.blocks → Member k (op.ks ++ cs) → Member k inner
+    sum : (k : ℕ) → times k territory.blocks + times k (op.ks ++ cs) ≡ times k (bs ++ cs) + times k inner
 
   record StaysThere (given : List ℕ) (after : World) : Type 0 where
     part : (v : Value) → StandsAt world o.at v → OtherThan o.at (kids ++ os) → Apart o.at.base (given ++ (op.ks ++ cs)) → StandsAt after o.at v
@@ -197,6 +200,15 @@ module _ (o : Owner) (os : List Owner) (world : World) (w v : Value) (bs cs : Li
         (λ q. kids_in k (cl.from k q)) (λ q. inl (subst (λ ds. Member k ds) (sym s.is) (in_second k s.first s.second q)));
     without = λ k a b. subst (λ ds. Member k ds) (sym s.is) (either_block k cl.blocks s.second (Member k (s.first ++ s.second)) a
         (λ q. still_there k b (cl.from k q)) (λ q. in_second k s.first s.second q));
+    sum = λ k. omega (
+      arith,
+      cl.sum k,
+      times_both k cl.blocks s.second,
+      times_both k op.ks cs,
+      times_both k bs cs,
+      ap (times k) s.is,
+      times_both k s.first s.second,
+    );
   }
     where
       s : CellsApart kids os t.blocks after
@@ -261,8 +273,9 @@ module _ (o : Owner) (os : List Owner) (world : World) (w v : Value) (bs cs : Li
       came_all k n = either_block k cl.blocks s.second (Member k (bs ++ cs) ⊎ (Member k given ⊎ (taken_in world ≤ k))) n (λ a. from_kids k (cl.from k a))
           (λ b. wide k (came k (in_second k s.first s.second b)))
 
-  closed_moves : (given : List ℕ) (after : World) → Strange given (bs ++ cs) → ClearOf given (o ∷ os) →
-      (m : Moves (kids ++ os) given (op.ks ++ cs) world after) → Back (o ∷ os) given (bs ++ cs) (op.ks ++ cs) m.territory.blocks world after
+  closed_moves : {comes goes : ℕ → ℕ} (given : List ℕ) (after : World) → Strange given (bs ++ cs) → ClearOf given (o ∷ os) →
+      (m : MovesWith comes goes (kids ++ os) given (op.ks ++ cs) world after) →
+      Back comes goes (o ∷ os) given (bs ++ cs) (op.ks ++ cs) m.territory.blocks world after
   closed_moves given after strange far_given m =
       let z = shut given after strange far_given m.territory m.came (record {
         part = λ v h other far. m.alone.parts o.at v h other far;
@@ -274,6 +287,7 @@ module _ (o : Owner) (os : List Owner) (world : World) (w v : Value) (bs cs : Li
           territory = z.territory;
           came = z.came;
           grows = m.grows;
+          loses = λ k. omega (arith, m.loses k, z.sum k);
           alone = record {
             bases = λ b x h off far. m.alone.bases b x h
                 (all_both (λ p. b ≡ p.at.base → ⊥) kids os (op.no_base b off.0 (λ k e n. far k e (in_second k given (bs ++ cs) (in_first k bs cs n)))) off.1)
@@ -309,6 +323,7 @@ module _ (o : Owner) (os : List Owner) (world : World) (w v : Value) (bs cs : Li
         territory = z.territory;
         own = tt;
         came = z.came;
+        loses = λ k. omega (arith, r.loses k, z.sum k);
         passes = record {
           bases = λ b x h there off far. r.passes.bases b x h there
               (all_both (λ p. b ≡ p.at.base → ⊥) kids os (op.no_base b off.0 (λ k e n. far k e (in_first k bs cs n))) off.1)
@@ -361,6 +376,7 @@ module _ (world : World) (fs : Forms) (f : Form) (l : Location) (w : Value) (all
           apart = a.apart;
         };
         from = λ k m. inl m;
+        sum = λ k. omega arith;
       }
 
   row_opening : Opening (record { form = f; at = l }) (part_owners fs l 0) bs world
@@ -431,6 +447,7 @@ module _ (world : World) (f : Form) (l : Location) (w : Value) (k : ℕ) (all : 
           apart = λ j e m. apart_all j e m;
         };
         from = λ j m. where_from j m;
+        sum = λ j. omega arith;
       }
     where
       base_of : (r : RowAt after (row_of l k) (count all)) → IsBase after (InBlock k) (Parts r.all)

@@ -22,7 +22,7 @@ use Rattle.holders.specs.Owned.{Constant, Has, IsBase}
 use Rattle.holders.specs.Sure.{Comes}
 use Rattle.holders.specs.Territory.{Owner, Cells, a_cell, Territory, first_owner}
 use Rattle.holders.specs.Running.{IsOutside}
-use Rattle.holders.specs.Staging.{Stage, Holding}
+use Rattle.holders.specs.Staging.{Stage, Holding, StageWith}
 use Rattle.holders.specs.Used.{WaitsThere}
 use Rattle.holders.proofs.Owning.{in_first, in_second, distinct_first, distinct_apart, from_full}
 use Rattle.holders.proofs.Bases.{loaded}
@@ -40,9 +40,10 @@ use Rattle.holders.proofs.PartsInTurn.{stage_wider}
 use Rattle.holders.proofs.PartsInTurn.{waits_outside, in_is}
 use Rattle.holders.specs.Claimed.{NoExit, HasValue, ValueSo, HasAim, AimSo, ReadySo}
 use Rattle.holders.proofs.Claims.{behind_value, value_bare, scene_passes}
-use Rattle.holders.proofs.Claims.{none_is_one, nothing_more}
+use Rattle.holders.proofs.Claims.{none_is_one, nothing_more, behind_alone}
 use Rattle.holders.proofs.OperandKinds.{readied_behind, aims_more, Regular, plain_operand, not_lent, lent_none, lent_one, one_hooked, owned_none}
 use Rattle.holders.proofs.OperandKinds.{bare_for}
+use Rattle.holders.proofs.Staging.{hand_stage}
 
 -- ---- a value is ready
 
@@ -118,7 +119,7 @@ module _ (here : Here) (scope : scopes.Here) (limits : Limits) (root : (global :
         own = after.own;
         later = after.later;
         leaves = after.leaves;
-        stage = after.stage;
+        stage = behind_alone here value (uses i) d (λ how. unhooked) h;
         more = λ ks last {h = g} {rest} {xs} kept ready. subst (λ x. Readied_as (after.own ++ ks) last g (ByValue value rest) i (Evaluated x ∷ xs))
             (sym (plain_operand here.facts here.modes value (uses i) here.level (node_of value).number v unhooked))
             (bare_ready (inl (sym (hooked_is here.facts (type_of value)) ∙ unhooked)) (value_bare here value (uses i) unhooked h) ready);
@@ -174,11 +175,11 @@ module _ (here : Here) (scope : scopes.Here) (limits : Limits) (root : (global :
   -- ---- one before others
 
   -- what waits at a node of the first part is the same behind the second
-  pub kept_waiting : {ns one two nodes : List ℕ} {ws : List Wait} {ms ks : List Owner} {middle later : List ℕ} {start mid last : World}
+  pub kept_waiting : {out : ℕ → ℕ} {ns one two nodes : List ℕ} {ws : List Wait} {ms ks : List Owner} {middle later : List ℕ} {start mid last : World}
       (p : First here.level first places ns one two os nodes ws ms middle start mid) →
-      Stage (at_nodes here.level two) ks os first places later (begins_next p).territory.blocks mid last → (node : ℕ) → Member node one → (x : Value) →
+      StageWith out (at_nodes here.level two) ks os first places later (begins_next p).territory.blocks mid last → (node : ℕ) → Member node one → (x : Value) →
       IsBase mid (Waiting here.level node) x → IsBase last (Waiting here.level node) x
-  kept_waiting {ns} {one} {two} p u node m x base =
+  kept_waiting {ns = ns} {one = one} {two = two} p u node m x base =
       u.runs.passes.bases (Waiting here.level node) x base (waits_outside here.level node two (λ q. p.apart node m q))
       (all_so (λ o. IsOutside (at_nodes here.level ns) o.at.base) (λ o. Waiting here.level node ≡ o.at.base → ⊥) os
       (λ o out e. inside (subst (λ c. IsOutside (at_nodes here.level ns) c) (sym e) out)) p.before.outside)
@@ -200,12 +201,6 @@ module _ (here : Here) (scope : scopes.Here) (limits : Limits) (root : (global :
   node_in (Read path) hooked regular = inl refl
   node_in (Early node ty short left right) hooked regular = absurd (false≢true (sym regular ∙ hooked))
   node_in (Choose node ty chooser parts) hooked regular = inl refl
-
-  pub hand_stage : (h : Hand) (ns : List ℕ) {ks : List Owner} {later old : List ℕ} {start now : World} →
-      AtHand h (at_nodes here.level ns) ks os first places later old start now →
-      Stage (at_nodes here.level ns) ks os first places later old start now
-  hand_stage empty ns s = s
-  hand_stage (holds f v) ns s = s.stage
 
   pub hand_next : (h : Hand) (ks : List Owner) (later : List ℕ) (last : World) {ns one two nodes : List ℕ} {ws : List Wait} {ms : List Owner} {middle : List ℕ}
       {start mid : World} (p : First here.level first places ns one two os nodes ws ms middle start mid) →
@@ -262,7 +257,7 @@ module _ (here : Here) (scope : scopes.Here) (limits : Limits) (root : (global :
             hand = r.hand;
             leaves = leaves_next p (λ n m. operands_in here.facts here.modes rest uses (suc i) n m) r.leaves;
             stage = hand_next r.hand r.own r.later last.world p r.stage;
-            ready = l.more r.own last.world (λ hooked x base. kept_waiting p (hand_stage r.hand two r.stage) (node_of value).number
+            ready = l.more r.own last.world (λ hooked x base. kept_waiting p (hand_stage r.hand r.stage) (node_of value).number
                 (node_in value hooked regular) x base)
                 (readied_behind uses l.own r.ready);
           })
@@ -321,7 +316,13 @@ module _ (here : Here) (scope : scopes.Here) (limits : Limits) (root : (global :
   pub holding_last : (ns : List ℕ) {f : Form} {v : Value} {ms : List Owner} {later old : List ℕ} {start now : World} →
       Holding f v (at_nodes here.level ns) ms os first places later old start now →
       Holding f v (at_nodes here.level (ns ++ [])) ms os first places later old start now
-  holding_last ns h = record { stage = stage_wider (ns ++ []) ns (wide_last ns) h.stage; under = h.under; came = h.came }
+  holding_last ns h = record {
+    out = h.out;
+    stage = stage_wider (ns ++ []) ns (wide_last ns) h.stage;
+    under = h.under;
+    came = h.came;
+    out_is = h.out_is;
+  }
 
   pub value_ready : (value : Expr) (i : ℕ) → Regular here.facts value → Distinct (value_nodes value) → {nodes old : List ℕ} {start : World} {v : Value}
       {now : World} → HasValue here first places os value (uses i) nodes old start v now →
@@ -405,7 +406,8 @@ module _ (here : Here) (scope : scopes.Here) (limits : Limits) (root : (global :
       by false unhooked =
           let after = behind_value here value (uses i) d h in
           given (ap (λ c. c && (is_lent (uses i) && not (is_text value))) unhooked)
-          (last_ready value i {h = empty} after.leaves (stage_wider (ns ++ []) ns (wide_last ns) after.stage)
+          (last_ready value i {h = empty} after.leaves
+          (stage_wider (ns ++ []) ns (wide_last ns) (behind_alone here value (uses i) d (λ how. unhooked) h))
           (bare_ready (inl (sym (hooked_is here.facts (type_of value)) ∙ unhooked)) (value_bare here value (uses i) unhooked h) none_ready))
 
   pub value_last : (value : Expr) (i : ℕ) → gets_copy here (uses i) value ≡ false → Regular here.facts value → Distinct (value_nodes value) →

@@ -6,7 +6,7 @@ use Rattle.nim_meaning.specs.Marks.{Member, Distinct}
 use Rattle.nim_meaning.specs.State.{World}
 use Rattle.holders.specs.Owned.{IsBase, At, Full, Has, a_sequence, of_wrapped, HasEach, none_more, one_more, HasAll, no_parts, a_part, Apart}
 use Rattle.holders.specs.Becoming.{taken_in, Becomes}
-use Rattle.holders.specs.Becoming.{Strange}
+use Rattle.holders.specs.Becoming.{Strange, BecomesWith}
 use Rattle.holders.specs.Owned.{PartForm, first_part, next_part}
 use Rattle.holders.proofs.Staying.{stays_then}
 use Rattle.holders.proofs.PathLemmas.{count_with, nth_with, nth_without, put_twice, has_put, put_deeper, put_same}
@@ -14,6 +14,7 @@ use Rattle.holders.proofs.Owning.{in_first, in_second, distinct_first, distinct_
 use Rattle.holders.proofs.Owning.{each_same, all_same}
 use Rattle.holders.proofs.Ending.{row_of, same_number}
 use Rattle.holders.proofs.Copying.{base_below, each_below, distinct_both, either_block}
+use Rattle.holders.proofs.Ledger.{times_middle}
 
 -- ---- lists
 
@@ -126,9 +127,10 @@ all_split {world} (a_part {f = g} {fs = fs} {i = j} {all = all} {bs = first} {cs
 
 -- ---- one step outward
 
-module _ (rest : World → Values → List ℕ → Type 0) (world : World) (f : Form) (i : ℕ) (all : Values) (bs given : List ℕ) (s : Split rest world f i all bs)
-    (d : Distinct bs) (below : (k : ℕ) → Member k bs → k < taken_in world) (strange : Strange given bs) (o : Location) (u : Value) (after : World)
-    (b : Becomes f o u given s.mine world after) (apart : Apart o.base bs) where
+module _ {goes : ℕ → ℕ} (rest : World → Values → List ℕ → Type 0) (world : World) (f : Form) (i : ℕ) (all : Values) (bs given : List ℕ)
+    (s : Split rest world f i all bs) (d : Distinct bs) (below : (k : ℕ) → Member k bs → k < taken_in world) (strange : Strange given bs) (o : Location)
+    (u : Value) (after : World)
+    (b : BecomesWith goes f o u given s.mine world after) (apart : Apart o.base bs) where
   abbrev new_blocks : List ℕ
   new_blocks = s.before ++ (b.blocks ++ s.behind)
 
@@ -192,11 +194,11 @@ module _ (rest : World → Values → List ℕ → Type 0) (world : World) (f : 
       (λ q. either_block k b.blocks s.behind (Member k b.blocks) q (λ z. z) (λ z. absurd (behind_apart k n z)))
 
 -- of a part of a row
-pub part_becomes : (rest : World → Values → List ℕ → Type 0) (g f : Form) (world after : World) (l : Location) (w : Value) (i : ℕ) (all : Values)
+pub part_becomes : {goes : ℕ → ℕ} (rest : World → Values → List ℕ → Type 0) (g f : Form) (world after : World) (l : Location) (w : Value) (i : ℕ) (all : Values)
     (bs given : List ℕ) (s : Split rest world f i all bs) → At world l w → part w l.path ≡ Parts all →
     ((vs : Values) (cs : List ℕ) → count vs ≡ count all → rest after vs cs → Has after Full g (Parts vs) cs) → Distinct bs →
-    ((k : ℕ) → Member k bs → k < taken_in world) → Strange given bs → Apart l.base bs → Becomes f (deeper l i) w given s.mine world after →
-    Becomes g l w given bs world after
+    ((k : ℕ) → Member k bs → k < taken_in world) → Strange given bs → Apart l.base bs →
+    BecomesWith goes f (deeper l i) w given s.mine world after → BecomesWith goes g l w given bs world after
 part_becomes rest g f world after l w i all bs given s at e make d below strange apart b = record {
   now = Parts (with_nth all i b.now);
   blocks = new_blocks rest world f i all bs given s d below strange (deeper l i) w after b apart;
@@ -205,28 +207,29 @@ part_becomes rest g f world after l w i all bs given s at e make d below strange
   distinct = now_distinct rest world f i all bs given s d below strange (deeper l i) w after b apart;
   came = now_came rest world f i all bs given s d below strange (deeper l i) w after b apart;
   grows = b.grows;
+  loses = λ k. omega (arith, b.loses k, times_middle k s.before s.mine s.behind s.is, times_middle k s.before b.blocks s.behind refl);
   is = subst (λ v. IsBase after l.base v) (put_deeper i all b.now at.part e) b.is;
   elsewhere = λ c x h q far. b.elsewhere c x h q
       (λ k e m. far k e (of_mine rest world f i all bs given s d below strange (deeper l i) w after b apart k m));
   stays = b.stays;
 }
 
-pub part_without : (rest : World → Values → List ℕ → Type 0) (g f : Form) (world after : World) (l : Location) (w : Value) (i : ℕ) (all : Values)
+pub part_without : {goes : ℕ → ℕ} (rest : World → Values → List ℕ → Type 0) (g f : Form) (world after : World) (l : Location) (w : Value) (i : ℕ) (all : Values)
     (bs given : List ℕ) (s : Split rest world f i all bs) (at : At world l w) (e : part w l.path ≡ Parts all)
     (make : (vs : Values) (cs : List ℕ) → count vs ≡ count all → rest after vs cs → Has after Full g (Parts vs) cs) (d : Distinct bs)
     (below : (k : ℕ) → Member k bs → k < taken_in world) (strange : Strange given bs) (apart : Apart l.base bs)
-    (b : Becomes f (deeper l i) w given s.mine world after) (k : ℕ) →
+    (b : BecomesWith goes f (deeper l i) w given s.mine world after) (k : ℕ) →
     Member k (part_becomes rest g f world after l w i all bs given s at e make d below strange apart b).blocks → Member k s.mine → Member k b.blocks
 unfolding part_becomes
 part_without rest g f world after l w i all bs given s at e make d below strange apart b k m n =
     now_without rest world f i all bs given s d below strange (deeper l i) w after b apart k m n
 
 -- of an element in the block of a sequence
-module _ (f : Form) (world after : World) (l : Location) (w : Value) (i k : ℕ) (all : Values) (cs given : List ℕ) (at : At world l w)
+module _ {goes : ℕ → ℕ} (f : Form) (world after : World) (l : Location) (w : Value) (i k : ℕ) (all : Values) (cs given : List ℕ) (at : At world l w)
     (e : part w l.path ≡ Handle (count all) (Some k)) (row : IsBase world (InBlock k) (Parts all)) (each : HasEach world Full f (count all) 0 all cs)
     (d : Distinct (k ∷ cs)) (strange : Strange given (k ∷ cs)) (apart : Apart l.base (k ∷ cs))
     (s : Split (λ x vs bs. HasEach x Full f (count all) 0 vs bs) world f i all cs)
-    (b : Becomes f (deeper (row_of l k) i) (Parts all) given s.mine world after) where
+    (b : BecomesWith goes f (deeper (row_of l k) i) (Parts all) given s.mine world after) where
   row_apart : Apart (InBlock k) cs
   row_apart j q m = d.0 (subst (λ i. Member i cs) (sym (same_number k j q)) m)
 
@@ -264,7 +267,7 @@ module _ (f : Form) (world after : World) (l : Location) (w : Value) (i k : ℕ)
       by (inl q) = inl (inr q)
       by (inr q) = inr q
 
-  pub item_becomes : Becomes (elements f) l w given (k ∷ cs) world after
+  pub item_becomes : BecomesWith goes (elements f) l w given (k ∷ cs) world after
   item_becomes = record {
     now = Handle (count all) (Some k);
     blocks = k ∷ element_blocks;
@@ -279,6 +282,7 @@ module _ (f : Form) (world after : World) (l : Location) (w : Value) (i k : ℕ)
     );
     came = came_all;
     grows = b.grows;
+    loses = λ j. omega (arith, b.loses j, times_middle j s.before s.mine s.behind s.is, times_middle j s.before b.blocks s.behind refl);
     is = subst (λ v. IsBase after l.base v) (sym (ap (put_part w l.path) (sym e) ∙ put_same at.part))
         (b.elsewhere l.base w at.base (λ q. apart k q (inl refl)) (λ j q m. apart j q (inr (inside j m))));
     elsewhere = λ c x h q far. b.elsewhere c x h (λ z. far k z (inl refl)) (λ j z m. far j z (inr (inside j m)));
@@ -291,8 +295,8 @@ module _ (f : Form) (world after : World) (l : Location) (w : Value) (i k : ℕ)
   item_without j (inr m) n = now_without (λ x vs bs. HasEach x Full f (count all) 0 vs bs) world f i all cs given s d.1 (λ j m. each_below each j m)
       strange_inside (deeper (row_of l k) i) (Parts all) after b row_apart j m n
 
-pub wrapped_becomes : (f : Form) (l : Location) (w : Value) (given bs : List ℕ) (world after : World) → Becomes f l w given bs world after →
-    Becomes (wrapped f) l w given bs world after
+pub wrapped_becomes : {goes : ℕ → ℕ} (f : Form) (l : Location) (w : Value) (given bs : List ℕ) (world after : World) →
+    BecomesWith goes f l w given bs world after → BecomesWith goes (wrapped f) l w given bs world after
 wrapped_becomes f l w given bs world after b = record {
   now = b.now;
   blocks = b.blocks;
@@ -300,12 +304,14 @@ wrapped_becomes f l w given bs world after b = record {
   distinct = b.distinct;
   came = b.came;
   grows = b.grows;
+  loses = b.loses;
   is = b.is;
   elsewhere = b.elsewhere;
   stays = b.stays;
 }
 
-pub wrapped_without : (f : Form) (l : Location) (w : Value) (given bs : List ℕ) (world after : World) (b : Becomes f l w given bs world after) (k : ℕ) →
+pub wrapped_without : {goes : ℕ → ℕ} (f : Form) (l : Location) (w : Value) (given bs : List ℕ) (world after : World)
+    (b : BecomesWith goes f l w given bs world after) (k : ℕ) →
     Member k (wrapped_becomes f l w given bs world after b).blocks → Member k b.blocks
 unfolding wrapped_becomes
 wrapped_without f l w given bs world after b k m = m
@@ -313,8 +319,8 @@ wrapped_without f l w given bs world after b k m = m
 -- ---- one change after another
 
 -- the location, as it is then
-pub at_next : {f : Form} {l : Location} {w : Value} {given old : List ℕ} {world after : World} → At world l w → (b : Becomes f l w given old world after) →
-    At after l (put_part w l.path b.now)
+pub at_next : {goes : ℕ → ℕ} {f : Form} {l : Location} {w : Value} {given old : List ℕ} {world after : World} → At world l w →
+    (b : BecomesWith goes f l w given old world after) → At after l (put_part w l.path b.now)
 at_next at b = record { base = b.is; part = has_put b.now at.part; may = at.may }
 
 pub becomes_then : {f : Form} {l : Location} {w : Value} {old : List ℕ} {world middle last : World} → At world l w → (b : Becomes f l w [] old world middle) →
@@ -326,6 +332,7 @@ becomes_then {f} {l} {w} {old} {world} {middle} {last} at b c = record {
   distinct = c.distinct;
   came = λ k m. by k (c.came k m);
   grows = omega (arith, b.grows, c.grows);
+  loses = λ k. omega (arith, b.loses k, c.loses k);
   is = subst (λ v. IsBase last l.base v) (put_twice b.now c.now at.part) c.is;
   elsewhere = λ x y h q far. c.elsewhere x y (b.elsewhere x y h q far) q (λ k e m. not_taken x y h k e (b.came k m) far);
   stays = stays_then b.stays c.stays;

@@ -32,6 +32,7 @@ use Rattle.holders.proofs.Working.{same_owner}
 use Rattle.holders.proofs.Separating.{opens_same, separated}
 use Rattle.holders.proofs.Finding.{chain_owns}
 use Rattle.holders.proofs.PlainRows.{cell_moves, none_clear}
+use Rattle.holders.proofs.Ledger.{stored_live, times_middle}
 
 -- ---- forms are finite
 
@@ -269,6 +270,7 @@ becomes_put f l w x new world at h d apart = record {
   distinct = d;
   came = λ k m. inr (inl m);
   grows = omega (arith, stored_length world l.base (put_part (whole_at world l.base) l.path x));
+  loses = λ k. omega (arith, stored_live world k l.base (put_part (whole_at world l.base) l.path x));
   is = is_put l w world at x;
   elsewhere = λ b y is q far. put_elsewhere l w world at x b y is q;
   stays = stored_stays world (put_part (whole_at world l.base) l.path x) at.base;
@@ -297,6 +299,11 @@ module _ (f : Form) (l : Location) (w v : Value) (old : List ℕ) (world : World
       arith,
       stored_length world l.base (put_part (whole_at world l.base) l.path v),
       stored_length once_put l.base (put_part (whole_at once_put l.base) l.path v),
+    );
+    loses = λ k. omega (
+      arith,
+      stored_live world k l.base (put_part (whole_at world l.base) l.path v),
+      stored_live once_put k l.base (put_part (whole_at once_put l.base) l.path v),
     );
     is = subst (λ y. IsBase (store once_put l v) l.base y) (put_twice v v c.at.part) (is_put l (put_part w l.path v) once_put at_once v);
     elsewhere = λ b y is q far. put_elsewhere l (put_part w l.path v) once_put at_once v b y (put_elsewhere l w world c.at v b y is q) q;
@@ -407,6 +414,13 @@ module _ (f : Form) (l r : Location) (blocks : List ℕ) (world : World)
           (row_left d.at first_put leave.1.0 (nothing_apart m.base) h);
       stays = stays_then first_put.stays second_put.stays;
     };
+    loses = λ k. omega (
+      arith,
+      times_middle k two.old two.new [] refl,
+      times_middle k two.new two.old [] refl,
+      stored_live world k r.base (put_part (whole_at world r.base) r.path two.v),
+      stored_live middle k l.base (put_part (whole_at middle l.base) l.path two.x),
+    );
   })
 
   swaps_two : Sure (swapped l r) (λ x after. Moves (record { form = f; at = l } ∷ record { form = f; at = r } ∷ []) [] blocks world after) world

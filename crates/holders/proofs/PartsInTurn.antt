@@ -1,5 +1,5 @@
 -- Parts of an expression, one after another: their nodes, and what waits behind them.
-use Rattle.std.proofs.Common.{◌≡◌, refl, sym, ap, subst, ◌∙◌, ℕ, inl, inr, ◌⊎◌, Bool, true, false, suc, List, [], ◌∷◌, ◌++◌, Option, Some, None}
+use Rattle.std.proofs.Common.{◌≡◌, refl, sym, ap, subst, ◌∙◌, ℕ, inl, inr, ◌⊎◌, Bool, true, false, suc, List, [], ◌∷◌, ◌++◌, Option, Some, None, arith}
 use Rattle.std.specs.Prelude.{nat_eq, ◌||◌, ◌&&◌, if◌then◌else◌}
 use Rattle.std.proofs.lemmas.Bool.{eqb-true, eq-eqb, false≢true, or_left, or_right}
 use Rattle.nim_types.specs.Types.{Ty, Facts}
@@ -20,7 +20,7 @@ use Rattle.nim_meaning.specs.Here.{gives_hooked, form_for}
 use Rattle.nim_meaning.specs.Shapes.{is_read, waits, waits_from}
 use Rattle.holders.specs.Territory.{Owner, AllOwners, first_owner}
 use Rattle.holders.specs.Running.{IsOutside, Wider}
-use Rattle.holders.specs.Staging.{Stage, Holding}
+use Rattle.holders.specs.Staging.{Stage, Holding, StageWith}
 use Rattle.holders.specs.Groups.{without_node, waiting_cell, Ends, no_waits, one_waits, none_waits}
 use Rattle.holders.proofs.Owning.{in_first, in_second}
 use Rattle.holders.proofs.Copying.{either_block}
@@ -321,12 +321,12 @@ module _ {level first places : ℕ} {ns one two : List ℕ} {os : List Owner} {n
   wide = wider_nodes level ns one p.of_one
 
   -- and both are a part of the whole
-  pub stage_next : {later : List ℕ} {ks : List Owner} {last : World} →
-      Stage (at_nodes level two) ks os first places later (begins_next p).territory.blocks mid last →
-      Stage (at_nodes level ns) (ms ++ ks) os first places later p.before.territory.blocks start last
+  pub stage_next : {out : ℕ → ℕ} {later : List ℕ} {ks : List Owner} {last : World} →
+      StageWith out (at_nodes level two) ks os first places later (begins_next p).territory.blocks mid last →
+      StageWith out (at_nodes level ns) (ms ++ ks) os first places later p.before.territory.blocks start last
   stage_next u =
       stage_framed ms [] (wider_nodes level ns two p.of_two) (own_wider wide ms p.stage.runs.own) p.stage.runs.territory p.stage.runs.came
-      (passes_wider [] wide tt (λ k m. m) p.stage.runs.passes)
+      (passes_wider [] wide tt (λ k m. m) p.stage.runs.passes) (λ k. omega (arith, p.stage.runs.loses k))
       (cells_outside level ws two (λ n m q. p.apart n (p.inside n m) q) ms p.leaves.cells) u
 
   pub holding_next : {f : Form} {v : Value} {later : List ℕ} {ks : List Owner} {last : World} →
@@ -335,7 +335,7 @@ module _ {level first places : ℕ} {ns one two : List ℕ} {os : List Owner} {n
   holding_next u =
       holding_framed (at_nodes level ns) (at_nodes level two) ms os p.before.territory.blocks start mid (wider_nodes level ns two p.of_two)
       (own_wider wide ms p.stage.runs.own) p.stage.runs.territory p.stage.runs.came
-      (passes_wider [] wide tt (λ k m. m) p.stage.runs.passes)
+      (passes_wider [] wide tt (λ k m. m) p.stage.runs.passes) (λ k. omega (arith, p.stage.runs.loses k))
       (cells_outside level ws two (λ n m q. p.apart n (p.inside n m) q) ms p.leaves.cells) u
 
   -- what is left behind both
@@ -344,16 +344,17 @@ module _ {level first places : ℕ} {ns one two : List ℕ} {os : List Owner} {n
   leaves_next inside_two a = leaves_then p.leaves a (λ n m q. p.apart n (p.inside n m) (inside_two n q))
 
 -- a part is a part of the whole
-abbrev pub stage_wider : {level first places : ℕ} {os : List Owner} (ns sub : List ℕ) {nodes old : List ℕ} {ms : List Owner} {start now : World} →
-    ((n : ℕ) → Member n sub → Member n ns) → Stage (at_nodes level sub) ms os first places nodes old start now →
-    Stage (at_nodes level ns) ms os first places nodes old start now
-stage_wider {level} ns sub {ms = ms} within s =
+abbrev pub stage_wider : {out : ℕ → ℕ} {level first places : ℕ} {os : List Owner} (ns sub : List ℕ) {nodes old : List ℕ} {ms : List Owner} {start now : World} →
+    ((n : ℕ) → Member n sub → Member n ns) → StageWith out (at_nodes level sub) ms os first places nodes old start now →
+    StageWith out (at_nodes level ns) ms os first places nodes old start now
+stage_wider {level = level} ns sub {ms = ms} within s =
     let w = wider_nodes level ns sub within in
     record {
       runs = record {
         territory = s.runs.territory;
         own = own_wider w ms s.runs.own;
         came = s.runs.came;
+        loses = s.runs.loses;
         passes = passes_wider [] w tt (λ k m. m) s.runs.passes;
       };
       active = s.active;

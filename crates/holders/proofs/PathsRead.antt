@@ -37,11 +37,13 @@ use Rattle.holders.specs.Evaluating.{value_nodes, path_nodes, at_nodes, waits_it
 use Rattle.holders.proofs.PartsInTurn.{begins_part, First, begins_next, stage_next, leaves_next, stage_wider, path_in, waiting_in, ends_then, in_is}
 use Rattle.holders.proofs.PartsInTurn.{nodes_first}
 use Rattle.holders.specs.Claimed.{NoExit, HasValue, ValueSo, HasAim, AimSo}
-use Rattle.holders.proofs.Claims.{Behind, behind_value, value_bare, scene_passes}
+use Rattle.holders.proofs.Claims.{Behind, behind_value, value_bare, scene_passes, out_none, behind_alone}
 use Rattle.holders.proofs.Constants.{hooked_is}
 use Rattle.holders.proofs.OperandCopies.{aim_here}
 use Rattle.holders.proofs.GroupsOver.{ends_none}
 use Rattle.holders.proofs.Applying.{node_off}
+use Rattle.holders.proofs.Staging.{out_as}
+use Rattle.holders.specs.Becoming.{none}
 
 module _ (here : Here) (scope : scopes.Here) (limits : Limits) (root : (global : Bool) → ℕ → ℕ) (first places : ℕ) (os : List Owner) where
   -- ---- a path
@@ -99,16 +101,16 @@ module _ (here : Here) (scope : scopes.Here) (limits : Limits) (root : (global :
   -- ---- `and` and `or`
 
   pub early_so : (node : Node) (ty : Ty) (short : Short) (left right : Expr) (how : Use) → form_for here.facts (Some ty) ≡ plain →
-      Distinct (value_nodes left ++ value_nodes right) → gives_hooked here.facts (type_of right) ≡ false →
+      Distinct (value_nodes left ++ value_nodes right) → gives_hooked here.facts (type_of left) ≡ false → gives_hooked here.facts (type_of right) ≡ false →
       form_for here.facts (type_of right) ≡ plain →
       ValueSo here scope limits root first places os left Owned → ValueSo here scope limits root first places os right Owned →
       ValueSo here scope limits root first places os (Early node ty short left right) how
-  early_so node ty short left right how plain_is d unhooked right_plain left_so right_so nodes s b scene =
+  early_so node ty short left right how plain_is d left_bare unhooked right_plain left_so right_so nodes s b scene =
       comes_then (eval left Owned here) (λ x. at_node node.number points.Chooses (early short (is_true (number_of x)) (eval right Owned here)))
       (HasValue here first places os left Owned nodes b.territory.blocks s.world) Q NoExit (worked 1 s)
       (left_so nodes (worked 1 s) (begins_part (one ++ two) one b (λ n m. in_first n one two m)) scene)
       (λ x mid h. chosen short (is_true (number_of x)) (with_trail (Spot node.number points.Chooses ∷ mid.trail) mid)
-      (behind_value here left Owned (distinct_first one two d) h))
+      (behind_value here left Owned (distinct_first one two d) h) (out_none here left Owned (distinct_first one two d) (λ how. left_bare) h))
     where
       one : List ℕ
       one = value_nodes left
@@ -132,15 +134,17 @@ module _ (here : Here) (scope : scopes.Here) (limits : Limits) (root : (global :
       no_hooks = ap hooked plain_is
 
       -- the right one isn't evaluated
-      stopped : (holds : Bool) {mid : World} → Behind Owned left here first places nodes os b.territory.blocks s.world mid → Q (Number (truth holds)) mid
-      stopped holds {mid} a =
+      stopped : (holds : Bool) {mid : World} (a : Behind Owned left here first places nodes os b.territory.blocks s.world mid) →
+          ((k : ℕ) → none k ≡ a.out k) → Q (Number (truth holds)) mid
+      stopped holds {mid} a same =
           is_bare {later = a.later} (inl no_hooks) (record {
             cells = all_so (λ m. IsWaiting here.level ws m) (λ m. IsWaiting here.level (ws ++ vs) m) a.own
                 (λ m w. record { node = w.node; base = w.base; among = nodes_first w.node ws vs w.among }) a.leaves.cells;
             ends = ends_then (ends_none vs (λ n m q. free n (waiting_in here.facts here.modes right Owned n q) (a.leaves.came n m))) a.leaves.ends;
             distinct = a.leaves.distinct;
             came = λ n m. wide n (a.leaves.came n m);
-          }) refl (stage_wider (one ++ two) one (λ n m. in_first n one two m) a.stage)
+          }) refl (stage_wider (one ++ two) one (λ n m. in_first n one two m)
+          (out_as (at_nodes here.level one) os first places b.territory.blocks s.world same a.stage))
           (λ world. subst (λ f. Has world Constant f (Number (truth holds)) []) (sym plain_is) a_number)
         where
           free : (n : ℕ) → Member n two → Member n nodes ⊎ Member n (nodes_of ws) → ⊥
@@ -151,9 +155,9 @@ module _ (here : Here) (scope : scopes.Here) (limits : Limits) (root : (global :
           wide n (inl m) = inl m
           wide n (inr m) = inr (nodes_first n ws vs m)
 
-      goes_on : (mid : State) → Behind Owned left here first places nodes os b.territory.blocks s.world mid.world →
+      goes_on : (mid : State) (a : Behind Owned left here first places nodes os b.territory.blocks s.world mid.world) → ((k : ℕ) → none k ≡ a.out k) →
           Comes Q NoExit (eval right Owned here mid)
-      goes_on mid a =
+      goes_on mid a same =
           let p : First here.level first places (one ++ two) one two os nodes ws a.own a.later s.world mid.world = record {
             before = b;
             of_one = λ n m. in_first n one two m;
@@ -161,20 +165,21 @@ module _ (here : Here) (scope : scopes.Here) (limits : Limits) (root : (global :
             inside = λ n m. waiting_in here.facts here.modes left Owned n m;
             apart = λ n m q. distinct_apart n one two d m q;
             leaves = a.leaves;
-            stage = a.stage;
+            stage = out_as (at_nodes here.level one) os first places b.territory.blocks s.world same a.stage;
           } in
           comes_weaker (HasValue here first places os right Owned a.later (begins_next p).territory.blocks mid.world) NoExit Q NoExit
           (eval right Owned here mid)
           (right_so a.later mid (begins_next p) (scene_passes one a.stage.runs.passes scene))
           (λ v last h.
           let after = behind_value here right Owned (distinct_second one two d) h in
-          is_bare (inl no_hooks) (leaves_next p (λ n m. waiting_in here.facts here.modes right Owned n m) after.leaves) refl (stage_next p after.stage)
+          is_bare (inl no_hooks) (leaves_next p (λ n m. waiting_in here.facts here.modes right Owned n m) after.leaves) refl
+          (stage_next p (behind_alone here right Owned (distinct_second one two d) (λ how. unhooked) h))
           (λ world. subst (λ f. Has world Constant f v []) (right_plain ∙ sym plain_is)
           (value_bare here right Owned unhooked h world))) (λ way now x. x)
 
-      chosen : (short : Short) (holds : Bool) (mid : State) → Behind Owned left here first places nodes os b.territory.blocks s.world mid.world →
-          Comes Q NoExit (early short holds (eval right Owned here) mid)
-      chosen And true mid a = goes_on mid a
-      chosen And false mid a = stopped false a
-      chosen Or true mid a = stopped true a
-      chosen Or false mid a = goes_on mid a
+      chosen : (short : Short) (holds : Bool) (mid : State) (a : Behind Owned left here first places nodes os b.territory.blocks s.world mid.world) →
+          ((k : ℕ) → none k ≡ a.out k) → Comes Q NoExit (early short holds (eval right Owned here) mid)
+      chosen And true mid a same = goes_on mid a same
+      chosen And false mid a same = stopped false a same
+      chosen Or true mid a same = stopped true a same
+      chosen Or false mid a same = goes_on mid a same

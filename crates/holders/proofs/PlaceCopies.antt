@@ -85,6 +85,7 @@ module _ (r : Region) (gs : List Owner) (first places : ℕ) (nodes old : List �
               territory = c.territory;
               own = (inside, s.runs.own);
               came = λ k m. from k (c.from k m) (λ q. t.fresh k q);
+              loses = λ k. omega (arith, s.runs.loses k, t.loses k, c.sum k);
               passes = passes_then s.runs.passes s.runs.came (passes_apace r gs inside a
                   (λ i m to h out. t.once.stays.frames.names i m to (filled.names i m to h (λ e q. another i m e q out)))
                   (λ i f p ns less h. t.once.stays.frames.active i f p ns (filled.active i f p ns h)) (t.once.stays.frames.count ∙ filled.count));
@@ -132,6 +133,7 @@ stage_named {r} {gs} {ms} {first} {places} {nodes} {old} {start} {now} n l s le 
         territory = territory_apace a no_place off s.runs.territory;
         own = s.runs.own;
         came = s.runs.came;
+        loses = λ k. omega (arith, s.runs.loses k);
         passes = passes_then s.runs.passes s.runs.came (passes_apace r gs inside a
             (λ i m to h out. filled.names i m to h (λ e q. another i m e q out)) (λ i f p ns below h. filled.active i f p ns h) filled.count);
       };

@@ -13,7 +13,7 @@ use Rattle.nim_program.specs.Kinds as kind
 use Rattle.nim_program.specs.Kinds.{TypeKind, kind_if, is_int, is_bool, is_text, is_sequence, is_resized, has_length, is_of}
 use Rattle.nim_program.specs.Fitting.{fits}
 use Rattle.nim_meaning.specs.Values.{Value, Number, nothing, number_of, length_of, bytes, Location, Operand, Given, At, number}
-use Rattle.nim_meaning.specs.State.{World, load, text_of, is_full_at}
+use Rattle.nim_meaning.specs.State.{World, load, text_of, is_full_at, bytes_left}
 use Rattle.nim_meaning.specs.Heap.{Characters}
 use Rattle.nim_meaning.specs.Texts.{are_seen, shown}
 use Rattle.nim_meaning.specs.Here.{gives_hooked, any_hooked, form_for}
@@ -156,8 +156,8 @@ module _ (facts : Facts) (r : Region) (ms os : List Owner) (first places : ℕ) 
         (bool_type facts ty simple parts.0)
         (operated facts r ms os first places nodes old start O.ReadLineInto ty (a ∷ []) (At l ∷ []) (Numbers facts r ms os first places nodes old start) now
         (λ q. seen)
-        (λ q. sure_weaker (line_into l now.input) (λ x after. Has after Full plain x [] × MovesHere after)
-        (Numbers facts r ms os first places nodes old start) now (reads_line s.runs.territory now.input (text_chain e))
+        (λ q. sure_weaker (line_into l (bytes_left now)) (λ x after. Has after Full plain x [] × MovesHere after)
+        (Numbers facts r ms os first places nodes old start) now (reads_line s.runs.territory (bytes_left now) (text_chain e))
         (λ x after h. (stage_moves r os first places old start s h.1, λ world. plain_anywhere world Constant refl (from_full h.0))))
         (λ q. no_bare ty [] (has_hooks facts r ms os first places nodes old start a e refl) q))
 

@@ -15,7 +15,7 @@ use Rattle.nim_meaning.specs.Places.{put, fetched, changes}
 use Rattle.nim_meaning.specs.Table.{updated}
 use Rattle.holders.specs.Owned.{IsBase, in_text, At, a_character as reaches_character, Full, Constant, Has, no_text, a_text, Apart, Cell}
 use Rattle.holders.specs.Sure.{Sure}
-use Rattle.holders.specs.Becoming.{Becomes}
+use Rattle.holders.specs.Becoming.{Becomes, times}
 use Rattle.holders.specs.Territory.{Owner, ClearOf, Territory, Moves, Owns}
 use Rattle.holders.specs.Ways.{Step}
 use Rattle.holders.specs.Finding.{Found, in_cell, a_character, to_be_read, Read, Fetched}
@@ -24,10 +24,11 @@ use Rattle.holders.proofs.Bases.{whole_is, loaded, block_filled, stored_elsewher
 use Rattle.holders.proofs.Staying.{stored_stays}
 use Rattle.holders.proofs.PathLemmas.{put_same}
 use Rattle.holders.proofs.Copying.{stored_length, length_set}
-use Rattle.holders.proofs.Owning.{plain_anywhere, from_full}
+use Rattle.holders.proofs.Owning.{plain_anywhere, from_full, plain_none}
 use Rattle.holders.proofs.Guards.{sure_takes, sure_changes, part_is_there, read_at}
 use Rattle.holders.proofs.Sinking.{is_put, put_elsewhere}
 use Rattle.holders.proofs.Finding.{character_has, chain_owns}
+use Rattle.holders.proofs.Ledger.{stored_live}
 
 -- ---- a value is put
 
@@ -45,6 +46,7 @@ bare_put f l w v0 v old bs world bare c h =
       distinct = tt;
       came = λ k m. elim m [ ];
       grows = omega (arith, stored_length world l.base (put_part (whole_at world l.base) l.path v));
+      loses = λ k. omega (arith, ap (times k) (plain_none bare c.has), stored_live world k l.base (put_part (whole_at world l.base) l.path v));
       is = is_put l w world c.at v;
       elsewhere = λ b y is q far. put_elsewhere l w world c.at v b y is q;
       stays = stored_stays world (put_part (whole_at world l.base) l.path v) c.at.base;
@@ -88,6 +90,7 @@ character_stays m w v x bs world c j le = by v bs c.at c.is c.has c.distinct c.a
             distinct = d;
             came = λ i q. inl q;
             grows = omega (arith, stored_length world (InBlock k) (Fixed new));
+            loses = λ i. omega (arith, stored_live world i (InBlock k) (Fixed new));
             is = subst (λ y. IsBase (stored world (InBlock k) (Fixed new)) m.base y) (sym (ap (put_part w m.path) (sym e) ∙ put_same at.part)) base_is;
             elsewhere = λ b y is q far. stored_elsewhere world (Fixed new) (λ z. far k z (inl refl)) there is;
             stays = stored_stays world (Fixed new) there;

@@ -13,7 +13,7 @@ use Rattle.holders.specs.Holders.{held_by, held_in_contents}
 use Rattle.holders.specs.Owned.{IsBase, at_place, at_node, in_hand, in_row, in_text, in_program, At, Full, Has, Apart}
 use Rattle.holders.specs.Sure.{Sure}
 use Rattle.holders.specs.Becoming.{taken_in}
-use Rattle.holders.specs.Becoming.{Turns}
+use Rattle.holders.specs.Becoming.{Turns, times}
 use Rattle.holders.proofs.Staying.{stays_then, stored_stays, freed_stays, taken_stays, frames_same}
 use Rattle.holders.proofs.HolderCounts.{taken_counts, freed_counts}
 use Rattle.holders.proofs.Bases.{block_filled, block_elsewhere}
@@ -26,6 +26,7 @@ use Rattle.holders.proofs.Ending.{Found, found_block, same_number}
 use Rattle.holders.proofs.Copying.{base_below, fresh_then, stored_length}
 use Rattle.holders.proofs.Sinking.{is_put, put_elsewhere}
 use Rattle.holders.proofs.Growing.{changed_length, one_more_length, freed_length}
+use Rattle.nim_meaning.specs.Kept.{one_if_same}
 
 -- ---- a block gets other contents
 
@@ -52,6 +53,7 @@ pub record Filling (f : Form) (n : ℕ) (contents : Contents) (cs given old : Li
   pub has : (after : World) (k : ℕ) → IsBase after (InBlock k) (object_in contents) → Stay world after cs → Has after Full f (Handle n (Some k)) (k ∷ cs)
   pub empty : n ≡ 0 → (after : World) → Has after Full f (Handle 0 None) []
   pub nothing_in : n ≡ 0 → (j : ℕ) → held_in_contents j contents ≡ 0
+  pub none_in : n ≡ 0 → (j : ℕ) → times j cs ≡ 0
   pub from : (j : ℕ) → Member j cs → Member j old ⊎ Member j given
   pub distinct : Distinct cs
   pub below : (j : ℕ) → Member j cs → j < taken_in world
@@ -111,7 +113,8 @@ module _ (f : Form) (l : Location) (w : Value) (n bytes : ℕ) (contents : Conte
 
   -- ---- of what has no block yet
 
-  module _ (e : part w l.path ≡ Handle 0 None) (balance : (j : ℕ) → held_in_contents j contents + goes j ≡ comes j) where
+  module _ (e : part w l.path ≡ Handle 0 None) (balance : (j : ℕ) → held_in_contents j contents + goes j ≡ comes j)
+      (in_all : (j : ℕ) → times j cs ≡ times j given + times j old) where
     still_empty : n ≡ 0 → Sure (sets l (Handle n None)) Q world
     still_empty zero_is =
         sure_sets (Handle n None) Q at (
@@ -122,6 +125,12 @@ module _ (f : Form) (l : Location) (w : Value) (n bytes : ℕ) (contents : Conte
             distinct = tt;
             came = λ k m. elim m [ ];
             grows = omega (arith, stored_length world l.base (put_part (whole_at world l.base) l.path (Handle n None)));
+            loses = λ j. omega (
+              arith,
+              in_all j,
+              c.none_in zero_is j,
+              stored_live world j l.base (put_part (whole_at world l.base) l.path (Handle n None)),
+            );
             is = is_put l w world at (Handle n None);
             elsewhere = λ b y h d far. put_elsewhere l w world at (Handle n None) b y h d;
             stays = stored_stays world (put_part (whole_at world l.base) l.path (Handle n None)) at.base;
@@ -150,6 +159,12 @@ module _ (f : Form) (l : Location) (w : Value) (n bytes : ℕ) (contents : Conte
           arith,
           stored_length (taken_world class) l.base (put_part (whole_at (taken_world class) l.base) l.path (Handle n (Some (new class)))),
           one_more_length world.heap.blocks (Some (record { class = class; contents = contents })),
+        );
+        loses = λ j. omega (
+          arith,
+          in_all j,
+          stored_live (taken_world class) j l.base (put_part (whole_at (taken_world class) l.base) l.path (Handle n (Some (new class)))),
+          taken_live world j class contents,
         );
         is = is_put l w (taken_world class) (at_taken class) (Handle n (Some (new class)));
         elsewhere = λ b y h d far. held_elsewhere class b y h d;
@@ -191,7 +206,8 @@ module _ (f : Form) (l : Location) (w : Value) (n bytes : ℕ) (contents : Conte
 
   module _ (m k : ℕ) (e : part w l.path ≡ Handle m (Some k)) (y0 : Value) (there : IsBase world (InBlock k) y0) (in_old : Member k old)
       (not_in : Member k cs → ⊥) (apart : l.base ≡ InBlock k → ⊥)
-      (balance : (j : ℕ) → held_in_contents j contents + goes j ≡ held_by j y0 + comes j) where
+      (balance : (j : ℕ) → held_in_contents j contents + goes j ≡ held_by j y0 + comes j)
+      (in_all : (j : ℕ) → one_if_same k j + times j cs ≡ times j given + times j old) where
     abbrev it : Found world k y0
     it = found_block there
 
@@ -225,6 +241,12 @@ module _ (f : Form) (l : Location) (w : Value) (n bytes : ℕ) (contents : Conte
           arith,
           stored_length (refilled_world world k contents) l.base (put_part (whole_at (refilled_world world k contents) l.base) l.path (Handle n (Some k))),
           changed_length (Refills k contents) world,
+        );
+        loses = λ j. omega (
+          arith,
+          in_all j,
+          same_there j k world.heap.blocks contents,
+          stored_live (refilled_world world k contents) j l.base (put_part (whole_at (refilled_world world k contents) l.base) l.path (Handle n (Some k))),
         );
         is = is_put l w (refilled_world world k contents) at_refilled (Handle n (Some k));
         elsewhere = λ b y h d far. kept_elsewhere b y h d (λ q. far k q in_old);
@@ -280,6 +302,13 @@ module _ (f : Form) (l : Location) (w : Value) (n bytes : ℕ) (contents : Conte
                 stored_length (taken_world class) l.base (put_part (whole_at (taken_world class) l.base) l.path (Handle n (Some (new class)))),
                 one_more_length world.heap.blocks (Some (record { class = class; contents = contents })),
                 freed_length (held_world class) k (block_at (held_world class).heap k),
+              );
+              loses = λ j. omega (
+                arith,
+                in_all j,
+                stored_live (taken_world class) j l.base (put_part (whole_at (taken_world class) l.base) l.path (Handle n (Some (new class)))),
+                taken_live world j class contents,
+                freed_live (held_world class) j k found.found found.there,
               );
               is = moved_stays (is_put l w (taken_world class) (at_taken class) (Handle n (Some (new class)))) apart;
               elsewhere = λ b y h d far. moved_stays (held_elsewhere class b y h d) (λ q. far k q in_old);

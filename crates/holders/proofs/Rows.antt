@@ -1,5 +1,5 @@
 -- What operations do with the cells of a territory, and with values that are under way.
-use Rattle.std.proofs.Common.{◌≡◌, sym, subst, arith, ℕ, suc, ◌<◌, ◌≤◌, inl, inr, ◌⊎◌, List, [], ◌∷◌, length, Some}
+use Rattle.std.proofs.Common.{◌≡◌, sym, subst, arith, ℕ, suc, ◌<◌, ◌≤◌, inl, inr, ◌⊎◌, List, [], ◌∷◌, length, Some, ◌+◌}
 use Rattle.std.specs.Prelude.{slice_get}
 use Rattle.std.proofs.lemmas.Option.{none-some}
 use Rattle.nim_types.specs.Forms.{Form, plain, block, elements}
@@ -14,9 +14,9 @@ use Rattle.nim_meaning.specs.Places.{exchanged}
 use Rattle.holders.specs.Holders.{held_by, held_in}
 use Rattle.holders.specs.Owned.{IsBase, in_hand, Full, Has, HasEach, Apart, HasBlocksAlone}
 use Rattle.holders.specs.Sure.{Sure}
-use Rattle.holders.specs.Becoming.{taken_in, Becomes, Gives, KeepsHolders, Strange, Turns, none}
+use Rattle.holders.specs.Becoming.{taken_in, Becomes, Gives, KeepsHolders, Strange, Turns, none, times, BecomesWith}
 use Rattle.holders.specs.Walks.{Popped}
-use Rattle.holders.specs.Territory.{Owner, AllOwners, ClearOf, Territory, Alone, Moves, Owns}
+use Rattle.holders.specs.Territory.{Owner, AllOwners, ClearOf, Territory, Alone, Moves, Owns, MovesWith}
 use Rattle.holders.specs.Ways.{Chain}
 use Rattle.holders.specs.Finding.{Read}
 use Rattle.holders.specs.Handing.{UnderWay, HandsOut}
@@ -41,7 +41,8 @@ module _ {os : List Owner} {world : World} (t : Territory os world) where
   units (o ∷ os) = (tt, units os)
 
   -- where all that stood somewhere still does
-  pub all_stays_there : {f : Form} {x : Value} {given : List ℕ} {after : World} → Gives f x given world after → Moves os [] t.blocks world after
+  pub all_stays_there : {f : Form} {x : Value} {given : List ℕ} {after : World} → (g : Gives f x given world after) →
+      MovesWith (λ k. times k given) (λ k. times k g.blocks) os [] t.blocks world after
   all_stays_there {f} {x} {given} {after} g =
       let al : Alone [] [] world after = record {
         bases = λ b y h off far. g.elsewhere b y h;
@@ -76,6 +77,7 @@ module _ {os : List Owner} {world : World} (t : Territory os world) where
           rows = λ l n r leave far. al.rows l n r tt (λ k e m. elim m [ ]);
           stays = g.stays;
         };
+        loses = λ k. omega (arith, g.loses k);
       }
 
   too_far : (k : ℕ) → k < taken_in world → taken_in world ≤ k → ⊥
@@ -86,6 +88,7 @@ module _ {os : List Owner} {world : World} (t : Territory os world) where
       HandsOut f os given t.blocks world x after
   unfolding all_stays_there
   comes_to_be {f} {x} {given} {after} g far far_clear = record {
+    goes = λ k. times k g.blocks;
     moves = all_stays_there g;
     value = record {
       given = g.blocks;
@@ -95,6 +98,7 @@ module _ {os : List Owner} {world : World} (t : Territory os world) where
       clear = cells_clear os t.blocks [] given g.blocks t.cells (none_clear os) far_clear (λ k m. wide k (g.came k m));
     };
     came = λ k m. inr (g.came k m);
+    goes_is = λ k. omega arith;
   }
     where
       by : (k : ℕ) → Member k t.blocks → Member k given ⊎ (taken_in world ≤ k) → ⊥
@@ -225,6 +229,7 @@ module _ {os : List Owner} {world : World} (t : Territory os world) where
         distinct = under.distinct;
         came = λ k m. inr (inl m);
         grows = r.1;
+        loses = λ k. omega (arith, r.0.loses k);
         is = r.0.there;
         elsewhere = λ b y h off away. r.0.elsewhere b y h off away;
         stays = r.0.stays;
@@ -244,15 +249,17 @@ module _ {os : List Owner} {world : World} (t : Territory os world) where
   -- ---- a value comes out
 
   -- of fewer blocks than were there
-  fewer : {f : Form} {l : Location} {w : Value} {given kept old : List ℕ} {after : World} → ((k : ℕ) → Member k kept → Member k old) →
-      Becomes f l w given kept world after → Becomes f l w given old world after
-  fewer {given = given} {kept = kept} {old = old} within b = record {
+  fewer : {f : Form} {l : Location} {w : Value} {given old : List ℕ} {after : World} (taken kept : List ℕ) → ((k : ℕ) → Member k kept → Member k old) →
+      ((k : ℕ) → times k taken + times k kept ≡ times k old) → Becomes f l w given kept world after →
+      BecomesWith (λ k. times k taken) f l w given old world after
+  fewer {given = given} {old = old} taken kept within were b = record {
     now = b.now;
     blocks = b.blocks;
     has = b.has;
     distinct = b.distinct;
     came = λ k m. wide k (b.came k m);
     grows = b.grows;
+    loses = λ k. omega (arith, b.loses k, were k);
     is = b.is;
     elsewhere = λ c y h off far. b.elsewhere c y h off (λ k e m. far k e (within k m));
     stays = b.stays;
@@ -265,14 +272,15 @@ module _ {os : List Owner} {world : World} (t : Territory os world) where
   module _ {f g : Form} {l : Location} (c : Chain os world (record { form = f; at = l })) {x : Value} {after : World} (taken kept : List ℕ)
       (h : Has after Full g x taken) (d : Distinct taken) (taken_were : (k : ℕ) → Member k taken → Member k (chain_owns t c).mine)
       (kept_were : (k : ℕ) → Member k kept → Member k (chain_owns t c).mine) (apart : (k : ℕ) → Member k taken → Member k kept → ⊥)
-      (b : Becomes f l (chain_owns t c).stands_in [] kept world after) where
+      (were : (k : ℕ) → times k taken + times k kept ≡ times k (chain_owns t c).mine) (b : Becomes f l (chain_owns t c).stands_in [] kept world after) where
     pub comes_out : HandsOut g os [] t.blocks world x after
     unfolding fewer
     comes_out =
         let o = chain_owns t c in
-        let wide = fewer kept_were b in
+        let wide = fewer taken kept kept_were were b in
         let none_far : Strange [] t.blocks = λ k m n. elim m [ ] in
         record {
+          goes = λ k. times k taken;
           moves = o.moves [] after none_far (none_clear os) wide;
           value = record {
             given = taken;
@@ -282,6 +290,7 @@ module _ {os : List Owner} {world : World} (t : Territory os world) where
             clear = clear_less t.blocks taken os (λ k m. o.within k (taken_were k m)) t.clear;
           };
           came = λ k m. inl (o.within k (taken_were k m));
+          goes_is = λ k. omega arith;
         }
       where
         lost : (k : ℕ) → Member k taken → Member k kept ⊎ (Member k [] ⊎ (taken_in world ≤ k)) → ⊥
@@ -299,7 +308,7 @@ module _ {os : List Owner} {world : World} (t : Territory os world) where
       (exchanges f l o.stands_in o.value x o.mine [] world o.cell.at o.cell.is o.cell.has h tt (λ k e m. elim m [ ]))
       (λ y after r. subst (λ z. HandsOut f os [] t.blocks world z after) (sym r.0)
       (comes_out c o.mine [] (has_stays world after (λ k z m is. r.1.0.elsewhere (InBlock k) z is (λ e. o.cell.apart k (sym e) m)
-      (λ j e n. elim n [ ])) o.cell.has) o.cell.distinct (λ k m. m) (λ k m. elim m [ ]) (λ k m n. elim n [ ]) r.1.0))
+      (λ j e n. elim n [ ])) o.cell.has) o.cell.distinct (λ k m. m) (λ k m. elim m [ ]) (λ k m n. elim n [ ]) (λ k. omega arith) r.1.0))
 
   -- a sequence loses its last element
   pub pops_from : {f : Form} {l : Location} (n : ℕ) (c : Chain os world (record { form = elements f; at = l })) → length_of (chain_owns t c).value ≡ suc n →
@@ -308,4 +317,4 @@ module _ {os : List Owner} {world : World} (t : Territory os world) where
       let o = chain_owns t c in
       sure_weaker (shortened f (suc n) l world) (λ x after. Popped f l o.stands_in o.mine world x after) (HandsOut f os [] t.blocks world) world
       (pops f n l o.stands_in o.value o.mine world o.cell.at o.cell.is o.cell.has o.cell.distinct o.cell.apart e)
-      (λ x after p. comes_out c p.taken p.kept p.has p.distinct p.taken_were p.kept_were p.apart p.turns.0)
+      (λ x after p. comes_out c p.taken p.kept p.has p.distinct p.taken_were p.kept_were p.apart p.were p.turns.0)

@@ -4,7 +4,7 @@ use Rattle.nim_types.specs.Forms.{Form}
 use Rattle.nim_meaning.specs.Values.{Value, Parts, Values, nth, with_nth, part, put_part, Location}
 use Rattle.nim_meaning.specs.State.{World, whole_at}
 use Rattle.holders.specs.Owned.{IsBase, At, HasPart, whole, row_part, Apart}
-use Rattle.holders.specs.Becoming.{Becomes}
+use Rattle.holders.specs.Becoming.{BecomesWith}
 use Rattle.holders.specs.Beside.{OtherPart, other_base, other_way}
 use Rattle.holders.specs.Territory.{RowAt, IsUnder}
 use Rattle.holders.proofs.Bases.{whole_is}
@@ -27,8 +27,8 @@ has_above (j ∷ path) i further x (row_part {all = outer} le h) =
 
 -- ---- a row
 
-pub row_left : {f : Form} {to l : Location} {w : Value} {given old : List ℕ} {n : ℕ} {world after : World} → At world to w →
-    Becomes f to w given old world after → OtherPart to l ⊎ IsUnder to l → Apart l.base old → RowAt world l n → RowAt after l n
+pub row_left : {goes : ℕ → ℕ} {f : Form} {to l : Location} {w : Value} {given old : List ℕ} {n : ℕ} {world after : World} → At world to w →
+    BecomesWith goes f to w given old world after → OtherPart to l ⊎ IsUnder to l → Apart l.base old → RowAt world l n → RowAt after l n
 row_left {l = l} at b (inl (other_base d)) far r = record {
   whole = r.whole;
   base = b.elsewhere l.base r.whole r.base d far;

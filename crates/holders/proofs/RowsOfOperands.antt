@@ -40,6 +40,7 @@ use Rattle.holders.proofs.Settling.{HandThere, all_are_seen}
 use Rattle.holders.proofs.Table.{OutOf, unary, binary, compare, join, show, new_elements, echo, quit, let_go, default_row}
 use Rattle.holders.proofs.PlaceRows.{measure, read_into, append, set_length, pop, update, assign_bare, assign_copy, assign_held, move, swap}
 use Rattle.holders.proofs.Converting.{convert_bare, convert_held}
+use Rattle.holders.proofs.Staging.{hand_stage, hand_alone, IsHeld}
 
 abbrev use_number : Use → ℕ
 use_number Owned = 0
@@ -154,10 +155,6 @@ module _ (here : Here) (scope : scopes.Here) (limits : Limits) (root : (global :
   abbrev Gives : Option Ty → Value → World → Type 0
   Gives ty v after = OutOf here.facts r ms os first places nodes old start ty v after
 
-  abbrev pub stage_at : (h : Hand) → HandAt h → Stage r ms os first places nodes old start now
-  stage_at empty s = s
-  stage_at (holds f v) s = s.stage
-
   hand_there : (h : Hand) → HandAt h → HandThere now h
   hand_there empty s = tt
   hand_there (holds f v) s = (s.under.given, s.under.has)
@@ -166,9 +163,30 @@ module _ (here : Here) (scope : scopes.Here) (limits : Limits) (root : (global :
   seen_by : (uses : (position : ℕ) → Use) (args : Args) {h : Hand} {xs : List Operand} → ((j : ℕ) → uses j ≡ Held → ⊥) → HandAt h →
       SettledBy uses h args 0 xs → are_seen now xs ≡ true
   seen_by uses args {h} none s settled =
-      all_are_seen here scope limits root uses ms os now (stage_at h s).runs.territory none (hand_there h s) settled
+      all_are_seen here scope limits root uses ms os now (hand_stage h s).runs.territory none (hand_there h s) settled
 
   -- the operand of one value
+  -- where all of them are looked at, or lent, nothing is under way
+  hand_free : (uses : (position : ℕ) → Use) {h : Hand} {args : Args} {i : ℕ} {xs : List Operand} → ((j : ℕ) → uses j ≡ Owned → ⊥) →
+      ((j : ℕ) → uses j ≡ ToPlace → ⊥) → SettledBy uses h args i xs → IsHeld h → ⊥
+  hand_free uses a b none_settled q = q
+  hand_free uses a b (bare which h more) q = hand_free uses a b more q
+  hand_free uses a b (held purpose hooks c stands more) q = hand_free uses a b more q
+  hand_free uses a b (lent purpose hooks own c more) q = hand_free uses a b more q
+  hand_free uses a b (found f w more) q = hand_free uses a b more q
+  hand_free uses a b (seen purpose h) q = q
+  hand_free uses a b (copied purpose hooks f) q = q
+  hand_free uses a b (in_hand {i = i} (inl e) hooks) q = a i e
+  hand_free uses a b (in_hand {i = i} (inr e) hooks) q = b i e
+
+  looked_at : {h : Hand} {args : Args} {xs : List Operand} → SettledBy (λ j. Looked) h args 0 xs → HandAt h → Stage r ms os first places nodes old start now
+  looked_at {h} settled s =
+      hand_alone h (hand_free (λ j. Looked) (λ j e. other_use e (λ q. omega (arith, q))) (λ j e. other_use e (λ q. omega (arith, q))) settled) s
+
+  lent_alone : {h : Hand} {args : Args} {xs : List Operand} → SettledBy (λ j. Lent) h args 0 xs → HandAt h → Stage r ms os first places nodes old start now
+  lent_alone {h} settled s =
+      hand_alone h (hand_free (λ j. Lent) (λ j e. other_use e (λ q. omega (arith, q))) (λ j e. other_use e (λ q. omega (arith, q))) settled) s
+
   record One (xs : List Operand) : Type 0 where
     operand : Operand
     is : xs ≡ operand ∷ []
@@ -206,31 +224,31 @@ module _ (here : Here) (scope : scopes.Here) (limits : Limits) (root : (global :
   row_so {h} at O.Default ty (ByPath path rest) takes simple act asked typed placed settled = absurd (false≢true typed)
   row_so {h} at (O.Unary o) ty operands {xs} takes simple act asked typed placed settled =
       unary here.facts r ms os first places nodes old start o ty (types_in operands) xs now simple typed
-      (seen_by (λ j. Looked) operands (λ j e. other_use e (λ q. omega (arith, q))) at settled) (stage_at h at)
+      (seen_by (λ j. Looked) operands (λ j e. other_use e (λ q. omega (arith, q))) at settled) (looked_at settled at)
   row_so {h} at (O.Binary o) ty operands {xs} takes simple act asked typed placed settled =
       binary here.facts r ms os first places nodes old start o ty (types_in operands) xs now simple typed
-      (seen_by (λ j. Looked) operands (λ j e. other_use e (λ q. omega (arith, q))) at settled) (stage_at h at)
+      (seen_by (λ j. Looked) operands (λ j e. other_use e (λ q. omega (arith, q))) at settled) (looked_at settled at)
   row_so {h} at (O.Compare c) ty operands {xs} takes simple act asked typed placed settled =
       compare here.facts r ms os first places nodes old start c ty (types_in operands) xs now simple typed
-      (seen_by (λ j. Lent) operands (λ j e. other_use e (λ q. omega (arith, q))) at settled) (stage_at h at)
+      (seen_by (λ j. Lent) operands (λ j e. other_use e (λ q. omega (arith, q))) at settled) (lent_alone settled at)
   row_so {h} at O.Join ty operands {xs} takes simple act asked typed placed settled =
       join here.facts r ms os first places nodes old start ty (types_in operands) xs now simple typed
-      (seen_by (λ j. Lent) operands (λ j e. other_use e (λ q. omega (arith, q))) at settled) (stage_at h at)
+      (seen_by (λ j. Lent) operands (λ j e. other_use e (λ q. omega (arith, q))) at settled) (lent_alone settled at)
   row_so {h} at O.Show ty operands {xs} takes simple act asked typed placed settled =
       show here.facts r ms os first places nodes old start ty (types_in operands) xs now simple typed
-      (seen_by (λ j. Looked) operands (λ j e. other_use e (λ q. omega (arith, q))) at settled) (stage_at h at)
+      (seen_by (λ j. Looked) operands (λ j e. other_use e (λ q. omega (arith, q))) at settled) (looked_at settled at)
   row_so {h} at O.NewSequence ty operands {xs} takes simple act asked typed placed settled =
       new_elements here.facts r ms os first places nodes old start ty (types_in operands) xs now simple typed
-      (seen_by (λ j. Looked) operands (λ j e. other_use e (λ q. omega (arith, q))) at settled) (stage_at h at)
+      (seen_by (λ j. Looked) operands (λ j e. other_use e (λ q. omega (arith, q))) at settled) (looked_at settled at)
   row_so {h} at O.Echo ty operands {xs} takes simple act asked typed placed settled =
       echo here.facts r ms os first places nodes old start ty (types_in operands) xs now typed
-      (seen_by (λ j. Lent) operands (λ j e. other_use e (λ q. omega (arith, q))) at settled) (stage_at h at)
+      (seen_by (λ j. Lent) operands (λ j e. other_use e (λ q. omega (arith, q))) at settled) (lent_alone settled at)
   row_so {h} at O.Quit ty operands {xs} takes simple act asked typed placed settled =
       quit here.facts r ms os first places nodes old start ty (types_in operands) xs now
       (seen_by (λ j. Looked) operands (λ j e. other_use e (λ q. omega (arith, q))) at settled)
   row_so {h} at O.Discard ty operands {xs} takes simple act asked typed placed settled =
       let_go here.facts r ms os first places nodes old start ty (types_in operands) xs now typed
-      (seen_by (λ j. Looked) operands (λ j e. other_use e (λ q. omega (arith, q))) at settled) (stage_at h at)
+      (seen_by (λ j. Looked) operands (λ j e. other_use e (λ q. omega (arith, q))) at settled) (looked_at settled at)
   -- of one value
   row_so at O.Convert ty (ByValue value NoArg) takes simple act asked typed placed (bare (inl unhooked) b none_settled) =
       convert_bare here.facts r ms os first places nodes old start now ty (type_of value) simple (value_type value asked.0) typed unhooked
@@ -314,7 +332,8 @@ module _ (here : Here) (scope : scopes.Here) (limits : Limits) (root : (global :
   row_so {h} at (O.Update o) (Some ty) (ByPath path (ByValue value NoArg)) takes simple act asked typed placed settled = absurd (false≢true typed)
   row_so {h} at (O.Update o) None (ByPath path (ByValue value NoArg)) takes simple act asked typed placed (found {l = l} {xs = ys} f w more) =
       let seen = seen_by (λ j. Looked) (ByPath path (ByValue value NoArg)) (λ j e. other_use e (λ q. omega (arith, q))) at (found f w more) in
-      update here.facts r ms os first places nodes old start now (stage_at h at) (type_at path) (written act.0 f) o (type_of value ∷ []) ys
+      update here.facts r ms os first places nodes old start now (looked_at {args = ByPath path (ByValue value NoArg)} (found f w more) at) (type_at path)
+      (written act.0 f) o (type_of value ∷ []) ys
       (path_type path asked.0)
       (and_parts (is_int (kind_if here.facts (type_at path))) (is_int (kind_if here.facts (type_of value)))
       (and_parts (is_updated o) (is_int (kind_if here.facts (type_at path)) && is_int (kind_if here.facts (type_of value))) typed).1).0 seen
@@ -337,7 +356,8 @@ module _ (here : Here) (scope : scopes.Here) (limits : Limits) (root : (global :
       let y = one_operand (λ j. Lent) more in
       let seen = seen_by (λ j. Lent) (ByPath path (ByValue value NoArg)) (λ j e. other_use e (λ q. omega (arith, q))) at (found f w more) in
       subst (λ zs. Sure (operates O.Append here.facts None (type_at path ∷ type_of value ∷ []) (At l ∷ zs)) (Gives None) now) (sym y.is)
-      (append here.facts r ms os first places nodes old start now (stage_at h at) (type_at path) (written act.0 f) (type_of value) y.operand
+      (append here.facts r ms os first places nodes old start now (lent_alone {args = ByPath path (ByValue value NoArg)} (found f w more) at) (type_at path)
+      (written act.0 f) (type_of value) y.operand
       (path_type path asked.0)
       (and_parts (is_text (kind_if here.facts (type_at path))) (is_joined (kind_if here.facts (type_of value))) typed).0
       (subst (λ zs. are_seen now (At l ∷ zs) ≡ true) y.is seen))
@@ -353,7 +373,8 @@ module _ (here : Here) (scope : scopes.Here) (limits : Limits) (root : (global :
       let y = one_operand (λ j. Looked) more in
       let seen = seen_by (λ j. Looked) (ByPath path (ByValue value NoArg)) (λ j e. other_use e (λ q. omega (arith, q))) at (found f w more) in
       subst (λ zs. Sure (operates O.SetLength here.facts None (type_at path ∷ type_of value ∷ []) (At l ∷ zs)) (Gives None) now) (sym y.is)
-      (set_length here.facts r ms os first places nodes old start now (stage_at h at) (type_at path) (written act.0 f) (type_of value) y.operand
+      (set_length here.facts r ms os first places nodes old start now (looked_at {args = ByPath path (ByValue value NoArg)} (found f w more) at) (type_at path)
+      (written act.0 f) (type_of value) y.operand
       (path_type path asked.0)
       (and_parts (is_resized (kind_if here.facts (type_at path))) (is_int (kind_if here.facts (type_of value))) typed).0
       (subst (λ zs. are_seen now (At l ∷ zs) ≡ true) y.is seen))

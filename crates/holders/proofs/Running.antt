@@ -6,16 +6,17 @@ use Rattle.nim_meaning.specs.Marks.{Member}
 use Rattle.nim_meaning.specs.State.{World}
 use Rattle.nim_meaning.specs.Deeds.{Opens, Waits, changed}
 use Rattle.holders.specs.Owned.{IsBase, whole, MayStore, place_may, node_may, Apart, IsName, Active}
-use Rattle.holders.specs.Becoming.{taken_in}
+use Rattle.holders.specs.Becoming.{taken_in, times}
 use Rattle.holders.specs.Beside.{OtherPart, other_base}
 use Rattle.holders.specs.Territory.{Owner, Cells, no_cells, a_cell, OtherThan, ClearOf, Territory, StandsAt, RowAt, IsUnder, LeaveRow}
-use Rattle.holders.specs.Territory.{NoBaseOf, Alone, Moves}
+use Rattle.holders.specs.Territory.{NoBaseOf, Alone, MovesWith}
 use Rattle.holders.specs.Handing.{UnderWay}
-use Rattle.holders.specs.Running.{Region, IsOutside, Passes, AreOwn, Runs}
+use Rattle.holders.specs.Running.{Region, IsOutside, Passes, AreOwn, Runs, RunsWith}
 use Rattle.holders.proofs.Owning.{has_stays}
 use Rattle.holders.proofs.Copying.{base_below, distinct_both, either_block}
 use Rattle.holders.proofs.Working.{all_both, all_so}
 use Rattle.holders.proofs.FrameChanges.{place_opened, value_waits}
+use Rattle.holders.proofs.Ledger.{times_both}
 
 -- ---- one part after another
 
@@ -65,6 +66,7 @@ runs_then {old = old} {world = world} {middle = middle} a b = record {
   own = b.own;
   came = λ k m. by k (b.came k m);
   passes = passes_then a.passes a.came b.passes;
+  loses = λ k. omega (arith, a.loses k, b.loses k);
 }
   where
     further : (k : ℕ) → taken_in middle ≤ k → taken_in world ≤ k
@@ -106,13 +108,14 @@ alone_passes r ms gs own al grows = record {
   count = al.stays.frames.count;
 }
 
-abbrev pub moves_run : (r : Region) (ms gs : List Owner) {given old : List ℕ} {world after : World} → AreOwn r ms → Moves (ms ++ gs) given old world after →
-    Runs r ms gs given old world after
+abbrev pub moves_run : {comes goes : ℕ → ℕ} (r : Region) (ms gs : List Owner) {given old : List ℕ} {world after : World} → AreOwn r ms →
+    MovesWith comes goes (ms ++ gs) given old world after → RunsWith comes goes r ms gs given old world after
 moves_run r ms gs own m = record {
   territory = m.territory;
   own = own;
   came = m.came;
   passes = alone_passes r ms gs own m.alone m.grows;
+  loses = m.loses;
 }
 
 -- ---- a cell comes
@@ -121,6 +124,7 @@ moves_run r ms gs own m = record {
 pub record HasCell (os : List Owner) (given blocks : List ℕ) (world : World) : Type 0 where
   pub territory : Territory os world
   pub from : (k : ℕ) → Member k territory.blocks → Member k given ⊎ Member k blocks
+  pub sum : (k : ℕ) → times k territory.blocks ≡ times k given + times k blocks
 
 -- a value that was under way stands at a base of its own then
 pub with_cell : {os : List Owner} {world : World} {f : Form} {x : Value} (t : Territory os world) (b : Base) (under : UnderWay f x os t.blocks world) →
@@ -128,6 +132,7 @@ pub with_cell : {os : List Owner} {world : World} {f : Form} {x : Value} (t : Te
     HasCell (record { form = f; at = at_base b } ∷ os) under.given t.blocks world
 with_cell {os} {world} {f} {x} t b under base may off no_block = record {
   from = from;
+  sum = λ k. times_both k under.given t.blocks;
   territory = record {
     blocks = under.given ++ t.blocks;
     cells = a_cell {w = x} {v = x} {bs = under.given} (record {
@@ -259,6 +264,7 @@ module _ (r : Region) (gs : List Owner) where
           territory = has.territory;
           own = (inside_place n mine, own);
           came = λ k m. turned k u.given t.blocks (has.from k m);
+          loses = λ k. omega (arith, has.sum k);
           passes = passes_apace (inside_place n mine) a
               (λ l m to h there. filled.names l m to h (λ e q. another l m e q there))
               (λ l first places nodes less h. filled.active l first places nodes h) filled.count;
@@ -290,6 +296,7 @@ module _ (r : Region) (gs : List Owner) where
           territory = has.territory;
           own = (inside_node node mine, own);
           came = λ k m. turned k u.given t.blocks (has.from k m);
+          loses = λ k. omega (arith, has.sum k);
           passes = passes_apace (inside_node node mine) a (λ l m to h there. now.change.names l m to h)
               (λ l first places nodes less h. now.change.active l first places nodes h (λ e. not_same l less e)) now.change.count;
         }

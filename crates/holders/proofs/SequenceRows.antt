@@ -22,13 +22,13 @@ use Rattle.holders.specs.Holders.{held_by, held_in}
 use Rattle.holders.specs.Owned.{IsBase, in_row, here, in_part, At, whole, block_may, Full, Has, no_sequence, a_sequence, HasEach, Apart}
 use Rattle.holders.specs.Sure.{Sure}
 use Rattle.holders.specs.Becoming.{taken_in, none}
-use Rattle.holders.specs.Becoming.{Strange, Turns}
+use Rattle.holders.specs.Becoming.{Strange, Turns, times}
 use Rattle.holders.specs.Owned.{HasBlocksAlone}
 use Rattle.holders.specs.Walks.{Popped}
 use Rattle.holders.proofs.Staying.{stays_then, stored_stays, frames_same}
 use Rattle.holders.proofs.Bases.{loaded, block_filled}
 use Rattle.holders.proofs.Sure.{sure_then, sure_weaker}
-use Rattle.holders.proofs.Ledger.{stored_counts, stored_live, same_there, filled_counts}
+use Rattle.holders.proofs.Ledger.{stored_counts, stored_live, same_there, filled_counts, times_both, none_in_none}
 use Rattle.holders.proofs.Owning.{in_first, in_second, distinct_first, distinct_second, distinct_apart, Stay, each_stays, has_stays}
 use Rattle.holders.proofs.Owning.{each_none}
 use Rattle.holders.proofs.Owning.{has_none}
@@ -55,6 +55,7 @@ row_filling f n vs cs given old base world same each d from apart = record {
       (a_sequence is (subst (λ m. HasEach after Full f m 0 vs cs) (sym same) (each_stays world after stay each)));
   empty = λ z after. no_sequence;
   nothing_in = λ z j. none_in j vs (same ∙ z);
+  none_in = λ z j. none_in_none each z j;
   from = from;
   distinct = d;
   below = each_below each;
@@ -82,7 +83,7 @@ sequence_joined f ws ds n l w v old world at e h d apart each dd strange far sam
     by _ _ e no_sequence d apart strange same =
         resizes_empty (elements f) l w n (n * size f) (Elements ws) ds ds [] (λ j. held_in j ws) none world at
         (row_filling f n ws ds ds [] l.base world (omega (arith, same)) (subst (λ m. HasEach world Full f m 0 ws ds) (omega (arith, same)) each) dd
-        (λ j m. inr m) far) (none_of_size n f) (size_of_none n f) e (λ j. omega arith)
+        (λ j m. inr m) far) (none_of_size n f) (size_of_none n f) e (λ j. omega arith) (λ j. omega arith)
     by _ _ e (a_sequence {k = k} {all = all} {bs = bs} b inside) d apart strange same =
         let vs = joined all ws in
         let all_distinct = distinct_both bs ds d.1 dd (λ j m q. strange j q (inr m)) in
@@ -97,7 +98,7 @@ sequence_joined f ws ds n l w v old world at e h d apart each dd strange far sam
         (λ j q m. either_block j bs ds ⊥ m (λ z. apart j q (inr z)) (λ z. far j q z)))
         (none_of_size n f) (size_of_none n f) (count all) k e (Parts all) b (inl refl)
         (λ m. either_block k bs ds ⊥ m (λ z. d.0 z) (λ z. strange k z (inl refl)))
-        (λ q. apart k q (inl refl)) (λ j. omega (arith, held_joined j all ws)))
+        (λ q. apart k q (inl refl)) (λ j. omega (arith, held_joined j all ws)) (λ j. omega (arith, times_both j bs ds)))
 
 -- one more
 pub adds : (f : Form) (x : Value) (ds : List ℕ) (l : Location) (w v : Value) (old : List ℕ) (world : World) → At world l w → part w l.path ≡ v →
@@ -188,7 +189,7 @@ pops f n l w v old world at e h d apart same =
         (omega (arith, same, count_first n all (omega (arith, same)))))
         (distinct_first c.first c.rest cut_distinct) (λ j m. inl (inr m)) (λ j q m. apart j q (inr (of_first j m)))) (none_of_size n f) (size_of_none n f)
         (count all) k e (Parts all) b (inl refl) (λ m. d.0 (of_first k m)) (λ q. apart k q (inl refl))
-        (λ j. omega (arith, held_last j n all same)))
+        (λ j. omega (arith, held_last j n all same)) (λ j. omega arith))
         (λ u after t. record {
           taken = o.blocks;
           kept = k ∷ c.first;
@@ -198,6 +199,7 @@ pops f n l w v old world at e h d apart same =
           taken_were = λ j m. inr (of_rest j (of_last j m));
           kept_were = λ j m. kept_in j m;
           apart = λ j m z. not_kept j j (of_last j m) refl z;
+          were = λ j. omega (arith, ap (times j) c.is, times_both j c.first c.rest, ap (times j) o.is, times_both j o.blocks []);
           turns = t;
         })))))
       where
@@ -239,6 +241,7 @@ set_turns f l w v x new world at e h d apart = (
     distinct = d;
     came = λ k m. inr (inl m);
     grows = omega (arith, stored_length world l.base (put_part (whole_at world l.base) l.path x));
+    loses = λ j. omega (arith, stored_live world j l.base (put_part (whole_at world l.base) l.path x));
     is = is_put l w world at x;
     elsewhere = λ b y is q far. put_elsewhere l w world at x b y is q;
     stays = stored_stays world (put_part (whole_at world l.base) l.path x) at.base;
@@ -322,6 +325,14 @@ module _ (f : Form) (n k : ℕ) (all : Values) (bs : List ℕ) (l : Location) (w
               grown_by,
               stored_length world l.base (put_part (whole_at world l.base) l.path (Handle n (Some k))),
               changed_length (Refills k (Elements (first_of n t.now))) middle,
+            );
+            loses = λ j. omega (
+              arith,
+              t.loses j,
+              ap (times j) c.is,
+              times_both j c.first c.rest,
+              stored_live world j l.base (put_part (whole_at world l.base) l.path (Handle n (Some k))),
+              same_there j k middle.heap.blocks (Elements (first_of n t.now)),
             );
             is = to_last l.base (put_part w l.path (Handle n (Some k))) (is_put l w world at (Handle n (Some k))) (λ q. apart k q (inl refl))
                 (λ j q z. apart j q (inr (of_rest j z)));

@@ -17,11 +17,12 @@ use Rattle.holders.proofs.Staying.{stays_then, stored_stays}
 use Rattle.holders.proofs.Bases.{whole_is, stored_there, stored_elsewhere}
 use Rattle.holders.proofs.Sure.{sure_then, sure_weaker}
 use Rattle.holders.proofs.PathLemmas.{count_with, nth_with, nth_without, part_of_put, put_twice, has_put, put_deeper, put_same}
-use Rattle.holders.proofs.Ledger.{keeps_none, keeps_then, stored_counts, stored_live}
+use Rattle.holders.proofs.Ledger.{keeps_none, keeps_then, stored_counts, stored_live, times_both}
 use Rattle.holders.proofs.Owning.{in_first, in_second, distinct_first, distinct_second}
 use Rattle.holders.proofs.Owning.{distinct_apart, Stay, has_stays, each_stays, all_stays, each_same, all_same, from_full, has_none, plain_none, plain_anywhere}
 use Rattle.holders.proofs.Guards.{sure_sees, sure_takes, sure_sets, read_at}
 use Rattle.holders.proofs.Ending.{Row, same_number, at_part, part_is, may_deeper, ends}
+use Rattle.holders.specs.Becoming.{times, none, LosesNone}
 
 -- all else but two bases and these blocks
 abbrev pub ElsewhereTwo : (world after : World) → (to from : Base) → List ℕ → Type 0
@@ -36,6 +37,7 @@ pub record Sunk (f : Form) (to from : Location) (w u v : Value) (old new : List 
   pub there : IsBase after to.base (put_part w to.path v)
   pub behind : IsBase after from.base (put_part u from.path left)
   pub elsewhere : ElsewhereTwo world after to.base from.base old
+  pub loses : LosesNone (λ k. times k old) none world after
   pub once : KeepsOnce world after
 
 -- the blocks of both are apart, and neither base is one of them
@@ -136,6 +138,12 @@ module _ (f : Form) (to from : Location) (w u v0 v : Value) (old new : List ℕ)
             there = t.elsewhere to.base (put_part w to.path v) to_in_second clear.two (λ k q m. clear.to_old k q m);
             behind = subst (λ z. IsBase after from.base z) (put_twice v0 t.now at_from.part) t.is;
             elsewhere = λ b x is d c far. t.elsewhere b x (traded_elsewhere b x is d c) c far;
+            loses = λ k. omega (
+              arith,
+              t.loses k,
+              stored_live world k to.base (put_part (whole_at world to.base) to.path v),
+              stored_live first_world k from.base (put_part (whole_at first_world from.base) from.path v0),
+            );
             once = keeps_then traded_once t.once;
           })
 
@@ -160,6 +168,7 @@ plainly_sunk f to from w u v0 v old new world at at_from e0 e bare h0 h two =
       behind = subst (λ z. IsBase (store world to v) from.base z) (sym (ap (put_part u from.path) (sym e) ∙ put_same at_from.part))
           (put_elsewhere to w world at v from.base u at_from.base (λ q. two (sym q)));
       elsewhere = λ b x is d c far. put_elsewhere to w world at v b x is d;
+      loses = λ k. omega (arith, ap (times k) (plain_none bare h0), stored_live world k to.base (put_part (whole_at world to.base) to.path v));
       once = record {
         held = λ others is k. omega (
           arith,
@@ -197,6 +206,7 @@ record SunkParts (nothing : World → Values → Type 0) (i bound : ℕ) (o s : 
     moved : (j : ℕ) → i ≤ j → j < bound → nth now j ≡ nth src j
     left : nothing after rest
     elsewhere : ElsewhereTwo world after o.base s.base old
+    loses : LosesNone (λ k. times k old) none world after
     once : KeepsOnce world after
 
 abbrev EachNothing : Form → ℕ → ℕ → World → Values → Type 0
@@ -219,6 +229,7 @@ nothing_sunk nothing i bound o s w u all src world r q e h = record {
   moved = λ j le less. absurd (no_more i bound j e le less);
   left = h;
   elsewhere = λ b x is d c far. is;
+  loses = λ k. omega arith;
   once = keeps_none world;
 }
   where
@@ -321,6 +332,7 @@ module _ (f : Form) (i bound : ℕ) (o s : Location) (w u : Value) (all src : Va
         (has_stays after last (λ k x m h. elim m [ ]) t.nothing) z.left;
     elsewhere = λ b x h d c far.
         z.elsewhere b x (t.elsewhere b x h d c (λ k e m. far k e (in_first k bs cs m))) d c (λ k e m. far k e (in_second k bs cs m));
+    loses = λ k. omega (arith, t.loses k, z.loses k, times_both k bs cs);
     once = keeps_then t.once z.once;
   }
     where
@@ -420,6 +432,7 @@ sunk_row f nothing bound to from w u all src old new world after same end has go
       (same_values z.now src (z.now_count ∙ same) (λ j le. z.moved j (omega arith) (omega (arith, le, z.now_count, same, end)))) z.there;
   behind = z.behind;
   elsewhere = z.elsewhere;
+  loses = z.loses;
   once = z.once;
 }
 
@@ -481,6 +494,7 @@ wrapped_sinks f sinks to from w u v0 v old new world at at_from e0 e (of_wrapped
       there = z.there;
       behind = z.behind;
       elsewhere = z.elsewhere;
+      loses = z.loses;
       once = z.once;
     })
 

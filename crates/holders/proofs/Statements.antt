@@ -1,5 +1,5 @@
 -- What statements are put together of: nodes, places that are filled, loops.
-use Rattle.std.proofs.Common.{◌≡◌, refl, sym, subst, ℕ, suc, ◌+◌, ◌<◌, ◌≤◌, Bool, true, false, List, [], ◌∷◌, ◌++◌}
+use Rattle.std.proofs.Common.{◌≡◌, refl, sym, subst, ℕ, suc, ◌+◌, ◌<◌, ◌≤◌, Bool, true, false, List, [], ◌∷◌, ◌++◌, arith}
 use Rattle.std.specs.Prelude.{ℤ, pos, ◌+ℤ◌, int_lt, nat_lt}
 use Rattle.nim_types.specs.Forms.{Form, hooked}
 use Rattle.arc_base.specs.BigStep.{Turn}
@@ -28,6 +28,7 @@ use Rattle.holders.proofs.Owning.{plain_anywhere}
 use Rattle.holders.proofs.PlainRows.{none_clear}
 use Rattle.holders.proofs.Staging.{stage_declares}
 use Rattle.holders.proofs.Coming.{comes_weaker, comes_then, comes_loop, comes_again, Turned}
+use Rattle.holders.specs.Becoming.{none}
 
 -- a value without blocks is under way anywhere
 pub plain_under : {os : List Owner} {blocks : List ℕ} {world : World} {f : Form} {v : Value} {bs : List ℕ} → hooked f ≡ false → Has world Constant f v bs →
@@ -44,7 +45,7 @@ pub plain_held : {r : Region} {ms gs : List Owner} {first places : ℕ} {nodes o
     hooked f ≡ false → Has now Constant f v bs → Stage r ms gs first places nodes old start now →
     Holding f v r ms gs first places nodes old start now
 unfolding plain_under
-plain_held bare h s = record { stage = s; under = plain_under bare h; came = λ k m. elim m [ ] }
+plain_held bare h s = record { out = none; stage = s; under = plain_under bare h; came = λ k m. elim m [ ]; out_is = λ k. omega arith }
 
 -- ---- places
 

@@ -1,5 +1,5 @@
 -- The rows of operations that take nothing from where it waits, by types and by what their operands are.
-use Rattle.std.proofs.Common.{◌≡◌, refl, sym, ap, subst, ◌∙◌, ℕ, Bool, true, false, List, [], ◌∷◌, ◌++◌, Option, Some, None}
+use Rattle.std.proofs.Common.{◌≡◌, refl, sym, ap, subst, ◌∙◌, ℕ, Bool, true, false, List, [], ◌∷◌, ◌++◌, Option, Some, None, arith}
 use Rattle.std.specs.Prelude.{◌&&◌, ◌||◌, ℤ, pos, ◌*◌}
 use Rattle.std.proofs.lemmas.Bool.{false≢true, and_parts, or_left}
 use Rattle.nim_types.specs.Types.{Ty, Facts}
@@ -38,11 +38,12 @@ use Rattle.holders.proofs.ElementLists.{blank_has}
 use Rattle.holders.proofs.PlainRows.{none_clear}
 use Rattle.holders.proofs.Rows.{text_comes}
 use Rattle.holders.proofs.Operations.{guarded, new_sequence}
-use Rattle.holders.proofs.Staging.{stage_hands, no_given}
+use Rattle.holders.proofs.Staging.{stage_hands, no_given, bare_stage}
 use Rattle.holders.specs.Asked.{IfSimple}
 use Rattle.holders.specs.Evaluating.{Bare}
 use Rattle.holders.proofs.Constants.{hooked_is, not_hooked, int_type, bool_type}
 use Rattle.holders.proofs.FormKinds.{text_form, sequence_form}
+use Rattle.holders.specs.Becoming.{none}
 
 -- what a row gives: a value without hooks, or one that is under way
 abbrev pub Out : (hooks : Bool) → Form → (r : Region) (ms os : List Owner) (first places : ℕ) (nodes old : List ℕ) (start : World) → Value → World → Type 0
@@ -111,12 +112,18 @@ module _ (facts : Facts) (r : Region) (ms os : List Owner) (first places : ℕ) 
           out_bare ty deed now e
           (sure_weaker deed (λ v after. Holding (form_for facts ty) v r ms os first places nodes old start after)
           (λ v after. At_stage after × Bare (form_for facts ty) v) now h
-          (λ v after g. (g.stage, λ world. plain_anywhere world Constant (sym (hooked_is facts ty) ∙ e) (from_full g.under.has))))
+          (λ v after g. (
+            bare_stage r os first places old start (sym (hooked_is facts ty) ∙ e) g,
+            λ world. plain_anywhere world Constant
+                (sym (hooked_is facts ty) ∙ e) (from_full g.under.has),
+          )))
 
   -- a value without blocks is under way
   pub hold_bare : {f : Form} {v : Value} {now : World} → At_stage now → Has now Full f v [] → Holding f v r ms os first places nodes old start now
   hold_bare s h = record {
+    out = none;
     stage = s;
+    out_is = λ k. omega arith;
     under = record { given = []; has = h; distinct = tt; strange = λ k m n. elim m [ ]; clear = none_clear (ms ++ os) };
     came = λ k m. elim m [ ];
   }

@@ -37,6 +37,7 @@ use Rattle.holders.proofs.OperandKinds.{Regular, AllRegular}
 use Rattle.holders.proofs.Settling.{settle_so}
 use Rattle.holders.proofs.WaitingTaken.{own_numbers}
 use Rattle.holders.proofs.TakingUp.{AllTaken, take_all}
+use Rattle.holders.specs.Becoming.{none}
 
 abbrev use_number : Use → ℕ
 use_number Owned = 0
@@ -110,7 +111,7 @@ module _ (here : Here) (scope : scopes.Here) (limits : Limits) (root : (global :
       Leaves here.level nodes (waiting_all here.facts here.modes operands (use_of here.modes act) 0) ms later →
       (st : Stage (at_nodes here.level (node.number ∷ operand_nodes operands)) ms os first places later b.territory.blocks start world) →
       AllTaken here scope limits root (use_of here.modes act) os first places (node.number ∷ operand_nodes operands) b.territory.blocks start lent
-      operands 0 xs st.runs.territory.blocks ms later world s.world →
+      none operands 0 xs st.runs.territory.blocks ms later world s.world →
       Comes (HasValue here first places os (Apply node ty act operands) how nodes b.territory.blocks start) NoExit
       (carried here node.number act how ty operands xs s)) →
       ValueSo here scope limits root first places os (Apply node ty act operands) how

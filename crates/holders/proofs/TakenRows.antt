@@ -27,11 +27,11 @@ use Rattle.nim_meaning.specs.Texts.{are_seen}
 use Rattle.nim_meaning.specs.Here.{Here, form_for}
 use Rattle.holders.specs.Owned.{Extent, Full, Has, HasEach, none_more, one_more, HasAll, no_parts, a_part, a_row, some_parts}
 use Rattle.holders.specs.Sure.{Sure}
-use Rattle.holders.specs.Becoming.{taken_in, Strange}
+use Rattle.holders.specs.Becoming.{taken_in, Strange, times}
 use Rattle.holders.specs.Territory.{Owner, ClearOf, Territory}
 use Rattle.holders.specs.Handing.{HandsOut}
 use Rattle.holders.specs.Running.{Region}
-use Rattle.holders.specs.Staging.{Stage, Holding}
+use Rattle.holders.specs.Staging.{Holding, StageWith}
 use Rattle.holders.proofs.Sure.{sure_weaker}
 use Rattle.holders.proofs.Owning.{plain_anywhere}
 use Rattle.holders.proofs.Copying.{distinct_both, either_block}
@@ -181,7 +181,7 @@ module _ {here : Here} {limits : Limits} {root : (global : Bool) → ℕ → ℕ
 -- ---- rows
 
 module _ (here : Here) (limits : Limits) (root : (global : Bool) → ℕ → ℕ) (r : Region) (ms os : List Owner) (first places : ℕ) (nodes old : List ℕ)
-    (start now : World) (s : Stage r ms os first places nodes old start now) {args : Args} {xs : List Operand} {given : List ℕ}
+    (start now : World) {given : List ℕ} (s : StageWith (λ k. times k given) r ms os first places nodes old start now) {args : Args} {xs : List Operand}
     (taken : Taken here limits root (λ j. Held) ms os s.runs.territory.blocks now args 0 xs given)
     (came : (k : ℕ) → Member k given → Member k old ⊎ (taken_in start ≤ k)) where
   abbrev Out_here : Option Ty → Value → World → Type 0
@@ -228,7 +228,13 @@ module _ (here : Here) (limits : Limits) (root : (global : Bool) → ℕ → ℕ
   holds_all : {f : Form} {v : Value} → Has now Full f v given → Holding f v r ms os first places nodes old start now
   holds_all h =
       let t = taken_together taken in
-      record { stage = s; under = record { given = given; has = h; distinct = t.distinct; strange = t.strange; clear = t.clear }; came = came }
+      record {
+        out = λ k. times k given;
+        stage = s;
+        under = record { given = given; has = h; distinct = t.distinct; strange = t.strange; clear = t.clear };
+        came = came;
+        out_is = λ k. omega arith;
+      }
 
   pub make_row : (ty : Option Ty) → IfSimple here.facts ty → fits here.facts O.Make ty (types_in args) ≡ true → are_placed 0 args ≡ true →
       Sure (operates O.Make here.facts ty (types_in args) xs) (Out_here ty) now

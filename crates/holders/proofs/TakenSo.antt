@@ -24,16 +24,16 @@ use Rattle.nim_meaning.specs.Table.{acts, operates}
 use Rattle.nim_meaning.specs.OwnedRows.{added, element_of as element_form_of}
 use Rattle.holders.specs.Owned.{Full}
 use Rattle.holders.specs.Sure.{Sure}
-use Rattle.holders.specs.Becoming.{taken_in}
+use Rattle.holders.specs.Becoming.{taken_in, times}
 use Rattle.holders.specs.Territory.{Owner, Moves}
 use Rattle.holders.specs.Ways.{Step}
 use Rattle.holders.specs.Finding.{Found}
 use Rattle.holders.specs.Running.{Region}
-use Rattle.holders.specs.Staging.{Stage, Holding}
+use Rattle.holders.specs.Staging.{Holding, StageWith}
 use Rattle.holders.proofs.Sure.{sure_weaker, sure_answer}
 use Rattle.holders.proofs.Owning.{in_first, plain_anywhere}
 use Rattle.holders.proofs.Operations.{adds_element}
-use Rattle.holders.proofs.Staging.{stage_takes}
+use Rattle.holders.proofs.Staging.{stage_takes, out_as}
 use Rattle.holders.specs.Asked.{Limits, IfSimple, ActAsked, AllAsked, AllWrite}
 use Rattle.holders.specs.Evaluating.{operand_nodes, at_nodes}
 use Rattle.holders.proofs.PartsInTurn.{in_is, operands_in}
@@ -49,6 +49,7 @@ use Rattle.holders.proofs.WholeOperations.{apply_waits}
 use Rattle.holders.proofs.WaitingTaken.{Taken, none_taken, bare_taken, held_taken, lent_taken, place_taken}
 use Rattle.holders.proofs.TakenRows.{sequence_row, make_row, taken_seen}
 use Rattle.holders.proofs.TakenOperations.{taken_so}
+use Rattle.holders.proofs.Ledger.{times_both}
 
 abbrev use_number : Use → ℕ
 use_number Owned = 0
@@ -89,39 +90,46 @@ module _ (here : Here) (limits : Limits) (root : (global : Bool) → ℕ → ℕ
       (λ x after m. (stage_takes r os first places old start h m.0, m.1)))))
       (λ z. absurd (false≢true (sym z ∙ or_left (gives_hooked here.facts a) (any_hooked here.facts (b ∷ [])) hooks)))
 
-  add_of : (s : Stage r ms os first places nodes old start now) (ty : Option Ty) (args : Args) {xs : List Operand} {given : List ℕ} →
+  add_of : {out : ℕ → ℕ} (s : StageWith out r ms os first places nodes old start now) (ty : Option Ty) (args : Args) {xs : List Operand} {given : List ℕ} →
       ((path : Path) (rest : Args) → args ≡ ByPath path rest → IfSimple here.facts (type_at path)) →
       fits here.facts O.Add ty (types_in args) ≡ true → are_placed 1 args ≡ true → are_seen now xs ≡ true →
       Taken here limits root (λ j. Held) ms os s.runs.territory.blocks now args 0 xs given →
-      ((k : ℕ) → Member k given → Member k old ⊎ (taken_in start ≤ k)) →
+      ((k : ℕ) → Member k given → Member k old ⊎ (taken_in start ≤ k)) → ((k : ℕ) → times k given ≡ out k) →
       Sure (operates O.Add here.facts ty (types_in args) xs) (OutOf here.facts r ms os first places nodes old start ty) now
-  add_of s (Some ty) args simple typed placed seen taken came = absurd (false≢true typed)
-  add_of s None NoArg simple typed placed seen taken came = absurd (false≢true typed)
-  add_of s None (ByValue value rest) simple typed placed seen taken came = absurd (false≢true placed)
-  add_of s None (ByPath path NoArg) simple typed placed seen taken came = absurd (false≢true typed)
-  add_of s None (ByPath path (ByPath other rest)) simple typed placed seen taken came = absurd (false≢true placed)
-  add_of s None (ByPath path (ByValue value (ByValue other rest))) simple typed placed seen taken came = absurd (false≢true typed)
-  add_of s None (ByPath path (ByValue value (ByPath other rest))) simple typed placed seen taken came = absurd (false≢true typed)
-  add_of s None (ByPath path (ByValue value NoArg)) simple typed placed seen (place_taken f e (bare_taken (inl unhooked) b none_taken)) came =
+  add_of s (Some ty) args simple typed placed seen taken came is = absurd (false≢true typed)
+  add_of s None NoArg simple typed placed seen taken came is = absurd (false≢true typed)
+  add_of s None (ByValue value rest) simple typed placed seen taken came is = absurd (false≢true placed)
+  add_of s None (ByPath path NoArg) simple typed placed seen taken came is = absurd (false≢true typed)
+  add_of s None (ByPath path (ByPath other rest)) simple typed placed seen taken came is = absurd (false≢true placed)
+  add_of s None (ByPath path (ByValue value (ByValue other rest))) simple typed placed seen taken came is = absurd (false≢true typed)
+  add_of s None (ByPath path (ByValue value (ByPath other rest))) simple typed placed seen taken came is = absurd (false≢true typed)
+  add_of s None (ByPath path (ByValue value NoArg)) simple typed placed seen (place_taken f e (bare_taken (inl unhooked) b none_taken)) came is =
       add_holding (type_at path) (type_of value) (simple path (ByValue value NoArg) refl) typed
-      seen f (hold_bare here.facts r ms os first places nodes old start s (plain_anywhere now Full unhooked (b now)))
-  add_of s None (ByPath path (ByValue value NoArg)) simple typed placed seen (place_taken f e (bare_taken (inr (inl q)) b none_taken)) came =
+      seen f (hold_bare here.facts r ms os first places nodes old start
+      (out_as r os first places old start (λ k. omega (arith, is k)) s) (plain_anywhere now Full unhooked (b now)))
+  add_of s None (ByPath path (ByValue value NoArg)) simple typed placed seen (place_taken f e (bare_taken (inr (inl q)) b none_taken)) came is =
       other_use q.0 (λ z. omega (arith, z))
-  add_of s None (ByPath path (ByValue value NoArg)) simple typed placed seen (place_taken f e (bare_taken (inr (inr q)) b none_taken)) came =
+  add_of s None (ByPath path (ByValue value NoArg)) simple typed placed seen (place_taken f e (bare_taken (inr (inr q)) b none_taken)) came is =
       other_use q (λ z. omega (arith, z))
-  add_of s None (ByPath path (ByValue value NoArg)) simple typed placed seen (place_taken f e (lent_taken q hooks own a none_taken)) came =
+  add_of s None (ByPath path (ByValue value NoArg)) simple typed placed seen (place_taken f e (lent_taken q hooks own a none_taken)) came is =
       other_use q (λ z. omega (arith, z))
-  add_of s None (ByPath path (ByValue value NoArg)) simple typed placed seen (place_taken f e (held_taken purpose u none_taken apart)) came =
+  add_of s None (ByPath path (ByValue value NoArg)) simple typed placed seen (place_taken f e (held_taken purpose u none_taken apart)) came is =
       add_holding (type_at path) (type_of value) (simple path (ByValue value NoArg) refl) typed
-      seen f (record { stage = s; under = u; came = λ k m. came k (in_first k u.given [] m) })
+      seen f (record {
+        out = _;
+        stage = s;
+        under = u;
+        came = λ k m. came k (in_first k u.given [] m);
+        out_is = λ k. omega (arith, is k, times_both k u.given []);
+      })
 
-  add_row : (s : Stage r ms os first places nodes old start now) (ty : Option Ty) (args : Args) {xs : List Operand} {given : List ℕ} →
+  add_row : {out : ℕ → ℕ} (s : StageWith out r ms os first places nodes old start now) (ty : Option Ty) (args : Args) {xs : List Operand} {given : List ℕ} →
       ((path : Path) (rest : Args) → args ≡ ByPath path rest → IfSimple here.facts (type_at path)) →
       fits here.facts O.Add ty (types_in args) ≡ true → are_placed 1 args ≡ true →
       Taken here limits root (λ j. Held) ms os s.runs.territory.blocks now args 0 xs given →
-      ((k : ℕ) → Member k given → Member k old ⊎ (taken_in start ≤ k)) →
+      ((k : ℕ) → Member k given → Member k old ⊎ (taken_in start ≤ k)) → ((k : ℕ) → times k given ≡ out k) →
       Sure (operates O.Add here.facts ty (types_in args) xs) (OutOf here.facts r ms os first places nodes old start ty) now
-  add_row s ty args simple typed placed taken came = add_of s ty args simple typed placed (taken_seen os s.runs.territory taken) taken came
+  add_row s ty args simple typed placed taken came is = add_of s ty args simple typed placed (taken_seen os s.runs.territory taken) taken came is
 
 -- ---- all of them
 
@@ -137,7 +145,7 @@ module _ (here : Here) (scope : scopes.Here) (limits : Limits) (root : (global :
       Distinct (node.number ∷ operand_nodes operands) → AllRegular here.facts operands → AllWrite limits operands →
       ReadySo here scope limits root first places os (λ j. use_by operation) operands 0 →
       ((ms : List Owner) (later old : List ℕ) (start now : World) (xs : List Operand) (given : List ℕ)
-      (s : Stage (at_nodes here.level (node.number ∷ operand_nodes operands)) ms os first places later old start now) →
+      (s : StageWith (λ k. times k given) (at_nodes here.level (node.number ∷ operand_nodes operands)) ms os first places later old start now) →
       Taken here limits root (λ j. use_by operation) ms os s.runs.territory.blocks now operands 0 xs given →
       ((k : ℕ) → Member k given → Member k old ⊎ (taken_in start ≤ k)) →
       Sure (operates operation here.facts ty (types_in operands) xs)
@@ -154,7 +162,9 @@ module _ (here : Here) (scope : scopes.Here) (limits : Limits) (root : (global :
       (in_is node.number (node.number ∷ operand_nodes operands) (inl refl))
       (node_off (waiting_all here.facts here.modes operands (λ j. use_by operation) 0) t.own node.number b (inl refl)
       (λ m. d.0 (operands_in here.facts here.modes operands (λ j. use_by operation) 0 node.number m)) left.cells)
-      (row t.own t.later b.territory.blocks start s.world xs t.given t.stage t.taken (λ k m. simple b.territory.blocks start k (st.runs.came k (t.were k m)))))
+      (row t.own t.later b.territory.blocks start s.world xs t.given
+      (out_as R os first places b.territory.blocks start (λ k. omega (arith, t.out_is k)) t.stage) t.taken
+      (λ k m. simple b.territory.blocks start k (st.runs.came k (t.were k m)))))
     where
       simple : (old : List ℕ) (start : World) (k : ℕ) → Member k old ⊎ (Member k [] ⊎ (taken_in start ≤ k)) → Member k old ⊎ (taken_in start ≤ k)
       simple old start k (inl m) = inl m
@@ -181,7 +191,7 @@ module _ (here : Here) (scope : scopes.Here) (limits : Limits) (root : (global :
       one_so node ty O.Add operands how (λ j. refl) d regular act ready
       (λ ms later old start now xs given s taken came.
       add_row here limits root (at_nodes here.level (node.number ∷ operand_nodes operands)) ms os first places later old start now s ty operands
-      (λ path rest e. asked_at here.facts limits OfCall path (subst (λ z. AllAsked here.facts limits OfCall z) e asked).0) typed placed taken came)
+      (λ path rest e. asked_at here.facts limits OfCall path (subst (λ z. AllAsked here.facts limits OfCall z) e asked).0) typed placed taken came (λ k. refl))
   taken_operation_so node ty O.Default operands how takes simple act asked regular typed placed d ready = absurd (false≢true takes)
   taken_operation_so node ty (O.Unary o) operands how takes simple act asked regular typed placed d ready = absurd (false≢true takes)
   taken_operation_so node ty (O.Binary o) operands how takes simple act asked regular typed placed d ready = absurd (false≢true takes)

@@ -23,7 +23,7 @@ use Rattle.holders.specs.Working.{without}
 use Rattle.holders.specs.Ways.{Step}
 use Rattle.holders.specs.Finding.{Found}
 use Rattle.holders.specs.Running.{Region}
-use Rattle.holders.specs.Staging.{Stage}
+use Rattle.holders.specs.Staging.{StageWith}
 use Rattle.holders.specs.Groups.{without_node}
 use Rattle.nim_meaning.specs.Waiting.{Wait}
 use Rattle.holders.proofs.Owning.{has_stays}
@@ -41,6 +41,8 @@ use Rattle.holders.proofs.WaitingTaken.{Carries}
 use Rattle.holders.proofs.WaitingTaken.{carried_under, StepUp, no_node, step_up, leaves_left, none_taken, bare_taken, held_taken, lent_taken, place_taken}
 use Rattle.holders.specs.Evaluating.{IsBare}
 use Rattle.holders.specs.Finding.{AtCell}
+use Rattle.holders.specs.Becoming.{times}
+use Rattle.holders.proofs.Ledger.{times_both}
 
 abbrev use_number : Use → ℕ
 use_number Owned = 0
@@ -67,8 +69,8 @@ module _ (here : Here) (scope : scopes.Here) (limits : Limits) (root : (global :
       by (inr q) = absurd (b (ap use_number (sym e ∙ q)))
 
   -- the others, where one was taken up
-  settled_left : {ms : List Owner} {now : World} {nodes : List ℕ} {args : Args} {i : ℕ} {xs : List Operand} {f : Form} (node : ℕ)
-      (a : Among ms (record { form = f; at = at_base (Waiting here.level node) })) (s : Stage R ms os first places nodes old start now) →
+  settled_left : {out : ℕ → ℕ} {ms : List Owner} {now : World} {nodes : List ℕ} {args : Args} {i : ℕ} {xs : List Operand} {f : Form} (node : ℕ)
+      (a : Among ms (record { form = f; at = at_base (Waiting here.level node) })) (s : StageWith out R ms os first places nodes old start now) →
       NoBaseOf (Waiting here.level node) os → (Member node (own_numbers here args) → ⊥) → AllWrite limits args → Settled_at ms now args i xs →
       Settled_at (without a) (changed (LeavesNode here.level node) now) args i xs
   settled_left node a s off apart write none_settled = none_settled
@@ -84,7 +86,8 @@ module _ (here : Here) (scope : scopes.Here) (limits : Limits) (root : (global :
       let differ : node ≡ (node_of value).number →
       ⊥ = λ e. apart (subst (λ n. Member n (own_numbers here (ByValue value rest))) (sym e) (own_first here value rest hooks)) in
       lent purpose hooks own (among_others a j (apart_cells a j differ)) (settled_left node a s off (λ m. apart (own_rest here value rest node m)) write more)
-  settled_left {ms} {now} {nodes} node a s off apart write (found {path = path} {rest = rest} {n = n} {steps = steps} {l = l} there at more) =
+  settled_left {ms = ms} {now = now} {nodes = nodes} node a s off apart write
+      (found {path = path} {rest = rest} {n = n} {steps = steps} {l = l} there at more) =
       let facts = at write.0 in
       let kept = found_kept (Waiting here.level node) (λ k e. no_node here.level node k e)
       (λ c x h d. (value_leaves now here.level first places node nodes s.active).elsewhere c x h d) ms (without a) os (root_at root path)
@@ -103,11 +106,14 @@ module _ (here : Here) (scope : scopes.Here) (limits : Limits) (root : (global :
   settled_left node a s off apart write (copied {i = i} e hooks f) = not_other i e (λ q. omega (arith, q)) (λ q. omega (arith, q))
 
   -- what was taken
-  pub record AllTaken (args : Args) (i : ℕ) (xs : List Operand) (blocks : List ℕ) (ms : List Owner) (nodes : List ℕ) (world now : World) : Type 0 where
+  pub record AllTaken (before : ℕ → ℕ) (args : Args) (i : ℕ) (xs : List Operand) (blocks : List ℕ) (ms : List Owner) (nodes : List ℕ) (world now : World) :
+      Type 0 where
     pub own : List Owner
     pub later : List ℕ
     pub given : List ℕ
-    pub stage : Stage R own os first places later old start now
+    pub out : ℕ → ℕ
+    pub stage : StageWith out R own os first places later old start now
+    pub out_is : (k : ℕ) → out k ≡ before k + times k given
     pub taken : Taken here limits root uses own os stage.runs.territory.blocks now args i xs given
     pub were : (k : ℕ) → Member k given → Member k blocks
     pub carries : Carries (ms ++ os) blocks world (own ++ os) stage.runs.territory.blocks now
@@ -119,18 +125,20 @@ module _ (here : Here) (scope : scopes.Here) (limits : Limits) (root : (global :
     pub places_kept : (m : ℕ) {steps : List Step} {f : Form} {l : Location} → Found (ms ++ os) world true (length ms + m) steps f l →
         Found (own ++ os) now true (length own + m) steps f l
 
-  pub take_all : (args : Args) {i : ℕ} {xs : List Operand} (ms : List Owner) (nodes : List ℕ) (s : State)
-      (st : Stage R ms os first places nodes old start s.world) →
+  pub take_all : (args : Args) {out : ℕ → ℕ} {i : ℕ} {xs : List Operand} (ms : List Owner) (nodes : List ℕ) (s : State)
+      (st : StageWith out R ms os first places nodes old start s.world) →
       Settled_at ms s.world args i xs → Distinct (own_numbers here args) → ((n : ℕ) → Member n (own_numbers here args) → Member n ns) →
       ((n : ℕ) → Member n ns → NoBaseOf (Waiting here.level n) os) → AllWrite limits args → (act : Does Value) (Q : Value → World → Type 0) →
-      ((now : State) → AllTaken args i xs st.runs.territory.blocks ms nodes s.world now.world → Comes Q NoExit (act now)) →
+      ((now : State) → AllTaken out args i xs st.runs.territory.blocks ms nodes s.world now.world → Comes Q NoExit (act now)) →
       Comes Q NoExit (taking_up here (held_from here.facts here.modes args uses i) act s)
-  take_all NoArg ms nodes s st none_settled d within off write act Q h =
+  take_all NoArg {out = out} ms nodes s st none_settled d within off write act Q h =
       h s (record {
         own = ms;
         later = nodes;
         given = [];
+        out = out;
         stage = st;
+        out_is = λ k. omega arith;
         taken = none_taken;
         were = λ k m. elim m [ ];
         carries = record { has = λ x. x; fewer = λ k m. m; clear = λ given c. c };
@@ -147,7 +155,9 @@ module _ (here : Here) (scope : scopes.Here) (limits : Limits) (root : (global :
         own = t.own;
         later = t.later;
         given = t.given;
+        out = t.out;
         stage = t.stage;
+        out_is = t.out_is;
         taken = bare_taken which b t.taken;
         were = t.were;
         carries = t.carries;
@@ -170,7 +180,9 @@ module _ (here : Here) (scope : scopes.Here) (limits : Limits) (root : (global :
         own = t.own;
         later = t.later;
         given = t.given;
+        out = t.out;
         stage = t.stage;
+        out_is = t.out_is;
         taken = lent_taken purpose hooks own (t.keeps (node_of value).number (distinct_one here value rest hooks d) a) t.taken;
         were = t.were;
         carries = t.carries;
@@ -187,7 +199,9 @@ module _ (here : Here) (scope : scopes.Here) (limits : Limits) (root : (global :
         own = t.own;
         later = t.later;
         given = t.given;
+        out = t.out;
         stage = t.stage;
+        out_is = t.out_is;
         taken = place_taken (t.places_kept (root_at root path)
             (subst (λ m. Found (ms ++ os) s.world true m steps (form_for here.facts (type_at path)) l) facts.0
             (subst (λ b. Found (ms ++ os) s.world b n steps (form_for here.facts (type_at path)) l) write.0 there))) (
@@ -204,7 +218,7 @@ module _ (here : Here) (scope : scopes.Here) (limits : Limits) (root : (global :
       }))
   take_all _ ms nodes s st (seen {i = i} e b) d within off write act Q h = not_other i e (λ q. omega (arith, q)) (λ q. omega (arith, q))
   take_all _ ms nodes s st (copied {i = i} e hooks f) d within off write act Q h = not_other i e (λ q. omega (arith, q)) (λ q. omega (arith, q))
-  take_all (ByValue value rest) {i = i} ms nodes s st (held {v = v} {xs = xs} purpose hooks a stands more) d within off write act Q h =
+  take_all (ByValue value rest) {out = out} {i = i} ms nodes s st (held {v = v} {xs = xs} purpose hooks a stands more) d within off write act Q h =
       subst (λ c. Comes Q NoExit (taking_up here (held_if c node (held_from here.facts here.modes rest uses (suc i))) act s))
       (sym (ap₂ (λ m n. m && n) hooks (ap is_held_use purpose)))
       (take_all rest (without a) (without_node nodes node) after step.stage
@@ -223,7 +237,7 @@ module _ (here : Here) (scope : scopes.Here) (limits : Limits) (root : (global :
       mine : Member node ns
       mine = within node (own_first here value rest hooks)
 
-      step : StepUp f node R (without a) os first places nodes old st.runs.territory.blocks start s.world after.world
+      step : StepUp out f node R (without a) os first places nodes old st.runs.territory.blocks start s.world after.world
       step = step_up R ms os first places nodes old start s.world node (in_is node ns mine) a st
 
       same : step.value ≡ v
@@ -232,14 +246,17 @@ module _ (here : Here) (scope : scopes.Here) (limits : Limits) (root : (global :
       keeps : (c : Base) (x : Value) → IsBase s.world c x → (c ≡ Waiting here.level node → ⊥) → IsBase after.world c x
       keeps c x b apart = (value_leaves s.world here.level first places node nodes st.active).elsewhere c x b apart
 
-      taken_too : (now : World) → AllTaken rest (suc i) xs step.stage.runs.territory.blocks (without a) (without_node nodes node) after.world now →
-          AllTaken (ByValue value rest) i (Given v ∷ xs) st.runs.territory.blocks ms nodes s.world now
+      taken_too : (now : World) → AllTaken step.left_out rest (suc i) xs step.stage.runs.territory.blocks (without a) (without_node nodes node)
+          after.world now →
+          AllTaken out (ByValue value rest) i (Given v ∷ xs) st.runs.territory.blocks ms nodes s.world now
       taken_too now t =
           record {
             own = t.own;
             later = t.later;
             given = step.under.given ++ t.given;
+            out = t.out;
             stage = t.stage;
+            out_is = λ k. omega (arith, t.out_is k, step.out_is k, times_both k step.under.given t.given);
             taken = held_so now t same;
             were = λ k m. either_block k step.under.given t.given (Member k st.runs.territory.blocks) m (λ q. step.were k q) (λ q. step.within k (t.were k q));
             carries = record {
@@ -259,7 +276,8 @@ module _ (here : Here) (scope : scopes.Here) (limits : Limits) (root : (global :
                 st.runs.territory (off node mine) x refl);
           }
         where
-          held_so : (now : World) (t : AllTaken rest (suc i) xs step.stage.runs.territory.blocks (without a) (without_node nodes node) after.world now)
+          held_so : (now : World) (t : AllTaken step.left_out rest (suc i) xs step.stage.runs.territory.blocks (without a) (without_node nodes node)
+              after.world now)
               → {x : Value} → step.value ≡ x →
               Taken here limits root uses t.own os t.stage.runs.territory.blocks now (ByValue value rest) i (Given x ∷ xs) (step.under.given ++ t.given)
           held_so now t {x} e =

@@ -23,6 +23,7 @@ text_filling n t old l world same = record {
   has = λ after k is stay. a_text same is;
   empty = λ z after. no_text;
   nothing_in = λ z j. refl;
+  none_in = λ z j. refl;
   from = λ j m. elim m [ ];
   distinct = tt;
   below = λ j m. elim m [ ];
@@ -43,9 +44,10 @@ text_resized n t same l w v old world at e h apart =
         (fresh n n (Characters t) >>= (λ new. sets l new >> frees (block_of v))))) (λ u after. Turns none none block l w [] old world after) world
     by _ _ e no_text apart =
         resizes_empty block l w n n (Characters t) [] [] [] none none world at (text_filling n t [] l world same) (λ z. z) (λ z. z) e (λ j. omega arith)
+        (λ j. omega arith)
     by _ _ e (a_text {n = m} {k = k} {t = t0} q b) apart =
         resizes_full block l w n n (Characters t) [] [] (k ∷ []) none none world at (text_filling n t (k ∷ []) l world same) (λ z. z) (λ z. z) m k e (Fixed t0)
-        b (inl refl) (λ m. elim m [ ]) (λ q. apart k q (inl refl)) (λ j. omega arith)
+        b (inl refl) (λ m. elim m [ ]) (λ q. apart k q (inl refl)) (λ j. omega arith) (λ j. omega arith)
 
 -- its characters are as many as it says
 pub text_length : {world : World} {v : Value} {bs : List ℕ} → Has world Full block v bs → length (text_of world v) ≡ length_of v

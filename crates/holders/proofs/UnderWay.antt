@@ -17,7 +17,7 @@ use Rattle.holders.proofs.Guards.{sure_takes}
 use Rattle.holders.specs.Owned as owned
 use Rattle.holders.proofs.BaseChanges.{pushed_there, pushed_elsewhere, popped_elsewhere}
 use Rattle.holders.proofs.Sure.{sure_then}
-use Rattle.holders.specs.Becoming.{taken_in, Becomes, Gives, HeldOnce, KeepsHolders, none}
+use Rattle.holders.specs.Becoming.{taken_in, Becomes, Gives, HeldOnce, KeepsHolders, none, times, LosesNone}
 use Rattle.holders.proofs.Owning.{has_stays, has_none}
 use Rattle.holders.proofs.Ending.{ends}
 use Rattle.holders.proofs.Copying.{Copied, copies, vacant_none}
@@ -102,6 +102,7 @@ gives_up f v bs world h d =
       elsewhere = λ b x is far.
           popped_stays world after v t.now t.is t.once.stays.hand b x
           (t.elsewhere b x (pushed_elsewhere world v is) (not_next world b x is) far) (not_next world b x is);
+      loses = λ k. omega (arith, t.loses k);
       once = λ others q k. omega (
         arith,
         has_none refl t.has k,
@@ -132,6 +133,7 @@ copy_given f from u v bs world source h =
         distinct = t.distinct;
         came = λ k m. inr (t.fresh k m);
         grows = t.grows;
+        loses = λ k. omega (arith, t.loses k);
         elsewhere = λ b y is. popped_stays world after (vacant f) t.now t.is t.once.stays.hand b y
             (t.elsewhere b y (pushed_elsewhere world (vacant f) is) (not_next world b y is)) (not_next world b y is);
         stays = record { hand = popped_hand world after (vacant f) t.now t.is t.once.stays.hand; frames = t.once.stays.frames };
@@ -160,6 +162,7 @@ under_way_gives f v becomes world h =
         distinct = t.0.distinct;
         came = λ k m. new_one k (t.0.came k m);
         grows = t.0.grows;
+        loses = λ k. omega (arith, t.0.loses k);
         elsewhere = λ b y is. popped_stays world after v t.0.now t.0.is t.0.stays.hand b y
             (t.0.elsewhere b y (pushed_elsewhere world v is) (not_next world b y is) (λ k e m. elim m [ ])) (not_next world b y is);
         stays = record { hand = popped_hand world after v t.0.now t.0.is t.0.stays.hand; frames = t.0.stays.frames };
@@ -178,6 +181,7 @@ pub record Assigned (f : Form) (to : Location) (w v : Value) (old new : List ℕ
   pub has : Has after Full f v new
   pub there : IsBase after to.base (put_part w to.path v)
   pub elsewhere : (b : Base) (x : Value) → IsBase world b x → (b ≡ to.base → ⊥) → ((k : ℕ) → b ≡ InBlock k → Member k old → ⊥) → IsBase after b x
+  pub loses : LosesNone (λ k. times k old) none world after
   pub once : (others : ℕ → ℕ) → HeldOnce (λ k. held_by k v + others k) world → HeldOnce others after
   pub stays : Stays world after
 
@@ -197,6 +201,7 @@ assigns_given f to w v0 v old new world at e h0 h clear =
       there = popped_stays world after v t.left t.behind t.once.stays.hand to.base (put_part w to.path v) t.there clear.two;
       elsewhere = λ b x is d far. popped_stays world after v t.left t.behind t.once.stays.hand b x
           (t.elsewhere b x (pushed_elsewhere world v is) d (not_next world b x is) far) (not_next world b x is);
+      loses = λ k. omega (arith, t.loses k);
       once = λ others q k. omega (
         arith,
         has_none refl t.nothing k,

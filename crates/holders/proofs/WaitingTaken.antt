@@ -14,18 +14,18 @@ use Rattle.nim_meaning.specs.Here.{Here, gives_hooked, form_for}
 use Rattle.nim_meaning.specs.Waiting.{held_if}
 use Rattle.nim_meaning.specs.Shapes.{is_text}
 use Rattle.holders.specs.Owned.{Full, Has, IsBase, PartForm}
-use Rattle.holders.specs.Becoming.{Strange}
+use Rattle.holders.specs.Becoming.{Strange, times}
 use Rattle.holders.specs.Territory.{Owner, NoBaseOf, ClearOf, Territory, Among, first_owner, later_owner}
 use Rattle.holders.specs.Working.{number, without}
 use Rattle.holders.specs.Ways.{Step, Opens, an_object, an_array, a_block, Way, arrived, a_step, Chain}
 use Rattle.holders.specs.Finding.{Found, in_cell, a_character}
 use Rattle.holders.specs.Handing.{UnderWay}
 use Rattle.holders.specs.Running.{Region, IsOutside}
-use Rattle.holders.specs.Staging.{Stage}
+use Rattle.holders.specs.Staging.{StageWith}
 use Rattle.holders.specs.Groups.{without_node, waiting_cell, Ends, no_waits, one_waits, none_waits}
 use Rattle.nim_meaning.specs.Waiting.{Wait}
 use Rattle.holders.proofs.Bases.{loaded}
-use Rattle.holders.proofs.Working.{all_at, all_without, works_front, among_first, among_second, number_second, among_others, same_owner}
+use Rattle.holders.proofs.Working.{all_at, all_without, works_front, among_first, among_second, number_second, among_others, same_owner, front_often}
 use Rattle.holders.proofs.Finding.{chain_owns}
 use Rattle.holders.proofs.Running.{passes_then}
 use Rattle.holders.proofs.Calling.{takes_up}
@@ -204,15 +204,19 @@ without_first gs (later_owner {p = p} i) = ap (λ (ps : List Owner). p ∷ ps) (
 pub record Turned (ps : List Owner) (blocks : List ℕ) (now : World) : Type 0 where
   pub territory : Territory ps now
   pub within : (k : ℕ) → Member k territory.blocks → Member k blocks
+  pub as_often : (k : ℕ) → times k territory.blocks ≡ times k blocks
 
-pub record StepUp (f : Form) (node : ℕ) (r : Region) (ms os : List Owner) (first places : ℕ) (nodes old blocks : List ℕ) (start now after : World) :
+pub record StepUp (out : ℕ → ℕ) (f : Form) (node : ℕ) (r : Region) (ms os : List Owner) (first places : ℕ) (nodes old blocks : List ℕ)
+    (start now after : World) :
     Type 0 where
   pub value : Value
   pub base : IsBase now (Waiting r.level node) value
-  pub stage : Stage r ms os first places (without_node nodes node) old start after
+  pub left_out : ℕ → ℕ
+  pub stage : StageWith left_out r ms os first places (without_node nodes node) old start after
   pub under : UnderWay f value (ms ++ os) stage.runs.territory.blocks after
   pub within : (k : ℕ) → Member k stage.runs.territory.blocks → Member k blocks
   pub were : (k : ℕ) → Member k under.given → Member k blocks
+  pub out_is : (k : ℕ) → left_out k ≡ out k + times k under.given
 
 pub no_node : (level node k : ℕ) → InBlock k ≡ Waiting level node → ⊥
 no_node level node k e = subst is_block e tt
@@ -221,23 +225,31 @@ no_node level node k e = subst is_block e tt
     is_block (InBlock j) = Unit {0}
     is_block b = ⊥
 
-pub step_up : {f : Form} (r : Region) (ms os : List Owner) (first places : ℕ) (nodes old : List ℕ) (start now : World) (node : ℕ) → r.nodes node ≡ true →
-    (i : Among ms (record { form = f; at = at_base (Waiting r.level node) })) (s : Stage r ms os first places nodes old start now) →
-    StepUp f node r (without i) os first places nodes old s.runs.territory.blocks start now (changed (LeavesNode r.level node) now)
-step_up {f} r ms os first places nodes old start now node mine i s =
+pub step_up : {out : ℕ → ℕ} {f : Form} (r : Region) (ms os : List Owner) (first places : ℕ) (nodes old : List ℕ) (start now : World) (node : ℕ) →
+    r.nodes node ≡ true →
+    (i : Among ms (record { form = f; at = at_base (Waiting r.level node) })) (s : StageWith out r ms os first places nodes old start now) →
+    StepUp out f node r (without i) os first places nodes old s.runs.territory.blocks start now (changed (LeavesNode r.level node) now)
+step_up {out = out} {f = f} r ms os first places nodes old start now node mine i s =
     let cell : Owner = record { form = f; at = at_base (Waiting r.level node) } in
     let w = works_front (among_first os i) s.runs.territory in
-    let turned = subst (λ ps. Turned (cell ∷ ps) s.runs.territory.blocks now) (without_first os i) (record { territory = w.territory; within = w.within }) in
+    let turned = subst (λ ps. Turned (cell ∷ ps) s.runs.territory.blocks now) (without_first os i) (record {
+      territory = w.territory;
+      within = w.within;
+      as_often = λ k. front_often (among_first os i) s.runs.territory k;
+    }) in
     let u = takes_up r node mine (without i) os turned.territory s.active in
     record {
       value = u.value;
       base = u.base;
+      left_out = λ k. out k + times k u.under.given;
+      out_is = λ k. omega arith;
       stage = record {
         runs = record {
           territory = u.territory;
           own = all_without (λ m. IsOutside r m.at.base → ⊥) i s.runs.own;
           came = λ k m. s.runs.came k (turned.within k (u.within k m));
           passes = passes_then s.runs.passes (λ k m. s.runs.came k (turned.within k m)) u.passes;
+          loses = λ k. omega (arith, s.runs.loses k, turned.as_often k, u.loses k);
         };
         active = (value_leaves now r.level first places node nodes s.active).here first places nodes s.active;
       };

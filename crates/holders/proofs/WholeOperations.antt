@@ -27,7 +27,6 @@ use Rattle.nim_meaning.specs.Steps.{at_node, taking_up, carried}
 use Rattle.nim_meaning.specs.Meaning.{ready_all}
 use Rattle.holders.specs.Sure.{Comes}
 use Rattle.holders.specs.Territory.{Owner}
-use Rattle.holders.specs.Staging.{Stage}
 use Rattle.holders.proofs.Coming.{comes_then}
 use Rattle.holders.specs.Asked.{Limits, IfSimple, ActAsked, AllAsked}
 use Rattle.holders.specs.Evaluating.{operand_nodes, at_nodes, Leaves, Hand, empty, holds, AtHand, Settled, AllReady}
@@ -37,6 +36,7 @@ use Rattle.holders.proofs.Claims.{scene_passes}
 use Rattle.holders.proofs.Settling.{settle_so}
 use Rattle.holders.proofs.RowsOfOperands.{takes_held, row_so}
 use Rattle.holders.proofs.Applying.{node_off, OwnWaits, row_valued, held_none}
+use Rattle.holders.proofs.Staging.{hand_stage}
 
 -- how the value of a node waits, which is no literal text
 pub apply_waits : (here : Here) (node : Node) (ty : Option Ty) (act : Act) (operands : Args) → ((how : Use) → waits_from act how ≡ waits how) →
@@ -58,7 +58,13 @@ module _ (here : Here) (scope : scopes.Here) (limits : Limits) (root : (global :
   hand_wider : (h : Hand) (ns sub : List ℕ) (ms : List Owner) (nodes old : List ℕ) (start now : World) → ((n : ℕ) → Member n sub → Member n ns) →
       AtHand h (at_nodes here.level sub) ms os first places nodes old start now → AtHand h (at_nodes here.level ns) ms os first places nodes old start now
   hand_wider empty ns sub ms nodes old start now within s = stage_wider ns sub within s
-  hand_wider (holds f v) ns sub ms nodes old start now within s = record { stage = stage_wider ns sub within s.stage; under = s.under; came = s.came }
+  hand_wider (holds f v) ns sub ms nodes old start now within s = record {
+    out = s.out;
+    stage = stage_wider ns sub within s.stage;
+    under = s.under;
+    came = s.came;
+    out_is = s.out_is;
+  }
 
   -- ---- operations that take nothing from where it waits
 
@@ -92,12 +98,6 @@ module _ (here : Here) (scope : scopes.Here) (limits : Limits) (root : (global :
 
       Q : Value → World → Type 0
       Q = HasValue here first places os (Apply node ty act operands) how nodes b.territory.blocks s.world
-
-      hand_stage : (h : Hand) {ms : List Owner} {later : List ℕ} {now : World} →
-          AtHand h (at_nodes here.level ns) ms os first places later b.territory.blocks s.world now →
-          Stage (at_nodes here.level ns) ms os first places later b.territory.blocks s.world now
-      hand_stage empty t = t
-      hand_stage (holds f v) t = t.stage
 
       settled : (ready : List Ready) (mid : State) → All ready mid.world → Comes Q NoExit ((settle ready >>= does_it) mid)
       settled ready mid a =

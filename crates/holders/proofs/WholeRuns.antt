@@ -40,7 +40,11 @@ use Rattle.lending_laws.specs.Writing.{lent_params}
 use Rattle.lending_laws.specs.Apart.{BlockLends, HandsUnnamed, IfBody, InProcs, AreLentApart}
 use Rattle.holders.specs.Owned.{HasBlocksAlone}
 use Rattle.holders.specs.Sure.{Comes}
-use Rattle.holders.specs.Territory.{Owner, no_cells}
+use Rattle.holders.specs.Territory.{Owner, Cells, no_cells}
+use Rattle.holders.specs.Becoming.{times, live_at}
+use Rattle.holders.specs.Released.{IsReleased, LeavesNoBlock}
+use Rattle.nim_meaning.specs.Heap.{Block, block_at}
+use Rattle.nim_meaning.specs.Kept.{IsKept, IsAlways, IsOnce, one_if_there}
 use Rattle.holders.specs.Called.{LeftBy}
 use Rattle.holders.specs.Asked.{Limits, Simple, AskedBlock, FactsOfTheirSort}
 use Rattle.holders.specs.BodyParts.{PartBegins, Sights, Over as PartOver, PartSo}
@@ -456,20 +460,22 @@ module _ (program : Program) (plan : Plan) (typed : IsTyped program) (numbered :
     abbrev Any : {A : Type 0} → A → World → Type 0
     Any x after = Unit {0}
 
-    start_comes : (n : ℕ) → Comes Any Any (goes_through program plan (at_first program heap input n))
+    abbrev O : World → Type 0
+    O after = PartOver top program.start.first program.start.places start_scope start_limits (numbers_of (block_places program.start.stmts))
+        (block_nodes program.start.stmts) [] [] [] first_world after
+
+    start_over : (n : ℕ) → Comes (λ u after. O after) (LeftBy O) (goes_through program plan (at_first program heap input n))
     unfolding begins
-    start_comes n =
-        comes_at_exit (exec_all program.start.stmts top) reported Any Any Any Any
+    start_over n =
+        comes_at_exit (exec_all program.start.stmts top) reported (λ u after. O after) (LeftBy O) (λ u after. O after) (LeftBy O)
         (worked (body_sum facts program.globals [] program.start) (at_first program heap input n))
-        (comes_weaker (λ u after. O after) (LeftBy O) Any Any
-        (exec_all program.start.stmts top (worked (body_sum facts program.globals [] program.start) (at_first program heap input n)))
-        (start_part [] [] (worked (body_sum facts program.globals [] program.start) (at_first program heap input n)) begins sights) (λ u now e. tt)
-        (λ way now e. tt))
-        (λ u now e. tt) (λ way now e. tt)
-      where
-        O : World → Type 0
-        O after = PartOver top program.start.first program.start.places start_scope start_limits (numbers_of (block_places program.start.stmts))
-            (block_nodes program.start.stmts) [] [] [] first_world after
+        (start_part [] [] (worked (body_sum facts program.globals [] program.start) (at_first program heap input n)) begins sights)
+        (λ u now e. e) (λ way now e. e)
+
+    start_comes : (n : ℕ) → Comes Any Any (goes_through program plan (at_first program heap input n))
+    start_comes n =
+        comes_weaker (λ u after. O after) (LeftBy O) Any Any (goes_through program plan (at_first program heap input n)) (start_over n) (λ u now e. tt)
+        (λ way now e. tt)
 
     -- whatever comes is an end, or goes on
     never : (r : Res State (Outcome (Unit {0}))) → Comes Any Any r → (p : Phase) → IsBad p →
@@ -485,3 +491,28 @@ module _ (program : Program) (plan : Plan) (typed : IsTyped program) (numbered :
       no_fault = λ n e. never (goes_through program plan (at_first program heap input n)) (start_comes n) Faulted tt e;
       right = λ n e. never (goes_through program plan (at_first program heap input n)) (start_comes n) IsWrong tt e;
     }
+
+    -- ---- what is left at a normal end
+
+    no_blocks : {now : World} (bs : List ℕ) → Cells now [] bs → (k : ℕ) → times k bs ≡ 0
+    no_blocks _ no_cells k = refl
+
+    none_live : (now : World) → O now → (k : ℕ) → live_at now k ≡ 0
+    none_live now e k = omega (arith, e.stage.runs.loses k, no_blocks e.stage.runs.territory.blocks e.stage.runs.territory.cells k)
+
+    none_there : (b : Option Block) → one_if_there b ≡ 0 → b ≡ None
+    none_there None e = refl
+    none_there (Some block) e = absurd (omega (arith, e))
+
+    none_left : (now : World) → O now → IsOnce now → IsReleased now
+    none_left now e once k = (none_there (block_at now.heap k) (none_live now e k), omega (arith, once.1 k, none_live now e k))
+
+    released_at : (r : Res State (Outcome (Unit {0}))) → Comes (λ u after. O after) (LeftBy O) r → IsAlways IsOnce r → IsKept (λ flow. IsReleased) r
+    released_at (Got (On u) s) h once = none_left s.world h once
+    released_at (Got (Out way) s) h once = none_left s.world h.1 once
+    released_at (Over status l s) h once = tt
+    released_at (Going s) h once = tt
+    released_at (Wrong s) h once = elim h [ ]
+
+    pub is_released : ((n : ℕ) → IsAlways IsOnce (goes_through program plan (at_first program heap input n))) → LeavesNoBlock program plan heap input
+    is_released once n = released_at (goes_through program plan (at_first program heap input n)) (start_over n) (once n)

@@ -4,16 +4,17 @@ use Rattle.nim_meaning.specs.Values.{InBlock}
 use Rattle.nim_meaning.specs.Marks.{Member, Distinct}
 use Rattle.nim_meaning.specs.State.{World}
 use Rattle.holders.specs.Owned.{Apart}
-use Rattle.holders.specs.Becoming.{taken_in, Strange}
+use Rattle.holders.specs.Becoming.{taken_in, Strange, times}
 use Rattle.holders.specs.Beside.{OtherPart}
 use Rattle.holders.specs.Territory.{Owner, Cells, no_cells, a_cell, AllOwners, OtherThan, LieApart, ClearOf, Territory, Alone}
-use Rattle.holders.specs.Territory.{Moves, IsUnder, Among, first_owner, later_owner}
+use Rattle.holders.specs.Territory.{IsUnder, Among, first_owner, later_owner, MovesWith}
 use Rattle.holders.specs.Working.{Back, Works, number, without}
 use Rattle.holders.proofs.Owning.{in_first, in_second, distinct_first, distinct_second, distinct_apart, has_stays}
 use Rattle.holders.proofs.Ending.{same_number}
 use Rattle.holders.proofs.Copying.{distinct_both, either_block}
 use Rattle.holders.proofs.Outward.{assoc}
 use Rattle.holders.proofs.Moving.{other_back, clear_less, cells_below, cells_clear}
+use Rattle.holders.proofs.Ledger.{times_both, times_middle}
 
 -- ---- all of some owners
 
@@ -167,9 +168,10 @@ works_then {os} {ms} {ns} {blocks} {world} a b = record {
     joined new middle k first (inl q) = onward new k (first q)
     joined new middle k first (inr q) = inr (q.0, λ z. q.1 (b.within k z))
 
-    both : (given : List ℕ) (after : World) (far : Strange given blocks) (c : ClearOf given os) (m : Moves ns given b.territory.blocks world after) →
-        Back ms given a.territory.blocks b.territory.blocks m.territory.blocks world after →
-        Back os given blocks b.territory.blocks m.territory.blocks world after
+    both : {comes goes : ℕ → ℕ} (given : List ℕ) (after : World) (far : Strange given blocks) (c : ClearOf given os)
+        (m : MovesWith comes goes ns given b.territory.blocks world after) →
+        Back comes goes ms given a.territory.blocks b.territory.blocks m.territory.blocks world after →
+        Back comes goes os given blocks b.territory.blocks m.territory.blocks world after
     both given after far c m r =
         let s = a.back given after far c r.moves in
         record {
@@ -207,8 +209,8 @@ module _ (os qs : List Owner) (world : World) (t : Territory (os ++ qs) world) w
     clear = clear_less t.blocks pieces.first os in_first_of (all_first (λ o. Apart o.at.base t.blocks) os qs t.clear);
   }
 
-  first_moves : (given : List ℕ) (after : World) → Strange given t.blocks → ClearOf given (os ++ qs) → (m : Moves os given pieces.first world after) →
-      Back (os ++ qs) given t.blocks pieces.first m.territory.blocks world after
+  first_moves : {comes goes : ℕ → ℕ} (given : List ℕ) (after : World) → Strange given t.blocks → ClearOf given (os ++ qs) →
+      (m : MovesWith comes goes os given pieces.first world after) → Back comes goes (os ++ qs) given t.blocks pieces.first m.territory.blocks world after
   first_moves given after strange c m = record {
     moves = record {
       territory = record {
@@ -227,6 +229,13 @@ module _ (os qs : List Owner) (world : World) (t : Territory (os ++ qs) world) w
       };
       came = came_all;
       grows = m.grows;
+      loses = λ k. omega (
+        arith,
+        m.loses k,
+        ap (times k) pieces.is,
+        times_both k pieces.first pieces.second,
+        times_both k m.territory.blocks pieces.second,
+      );
       alone = record {
         bases = λ b x h off far. m.alone.bases b x h (all_first (λ o. b ≡ o.at.base → ⊥) os qs off) (λ k e n. far k e (wide_in k n));
         parts = λ l v h other far. m.alone.parts l v h (all_first (λ o. OtherPart o.at l) os qs other) (λ k e n. far k e (wide_in k n));
@@ -275,6 +284,7 @@ works_first os qs {world} t = record {
 -- the same blocks, in another order
 pub record Rearranged (bs cs : List ℕ) : Type 0 where
   pub into : (k : ℕ) → Member k cs → Member k bs
+  pub as_often : (k : ℕ) → times k cs ≡ times k bs
   pub distinct : Distinct bs → Distinct cs
 
 record Front (os : List Owner) (o : Owner) (rest : List Owner) (bs : List ℕ) (world : World) : Type 0 where
@@ -286,6 +296,7 @@ rearranged : (ds bs cs : List ℕ) → Rearranged (ds ++ (bs ++ cs)) (bs ++ (ds 
 rearranged ds bs cs = record {
   into = λ k m. either_block k bs (ds ++ cs) (Member k (ds ++ (bs ++ cs))) m (λ q. in_second k ds (bs ++ cs) (in_first k bs cs q))
       (λ q. either_block k ds cs (Member k (ds ++ (bs ++ cs))) q (λ z. in_first k ds (bs ++ cs) z) (λ z. in_second k ds (bs ++ cs) (in_second k bs cs z)));
+  as_often = λ k. omega (arith, times_middle k ds bs cs refl, times_middle k bs ds cs refl);
   distinct = λ d. distinct_both bs (ds ++ cs) (distinct_first bs cs (distinct_second ds (bs ++ cs) d))
       (distinct_both ds cs (distinct_first ds (bs ++ cs) d) (distinct_second bs cs (distinct_second ds (bs ++ cs) d))
       (λ k m n. distinct_apart k ds (bs ++ cs) d m (in_second k bs cs n)))
@@ -296,15 +307,20 @@ rearranged ds bs cs = record {
 behind : (ds : List ℕ) {bs cs : List ℕ} → Rearranged bs cs → Rearranged (ds ++ bs) (ds ++ cs)
 behind ds {bs} {cs} r = record {
   into = λ k m. either_block k ds cs (Member k (ds ++ bs)) m (λ q. in_first k ds bs q) (λ q. in_second k ds bs (r.into k q));
+  as_often = λ k. omega (arith, times_both k ds bs, times_both k ds cs, r.as_often k);
   distinct = λ d. distinct_both ds cs (distinct_first ds bs d) (r.distinct (distinct_second ds bs d))
       (λ k m n. distinct_apart k ds bs d m (r.into k n));
 }
 
 arranged_then : {ds bs cs : List ℕ} → Rearranged ds bs → Rearranged bs cs → Rearranged ds cs
-arranged_then a b = record { into = λ k m. a.into k (b.into k m); distinct = λ d. b.distinct (a.distinct d) }
+arranged_then a b = record {
+  into = λ k m. a.into k (b.into k m);
+  as_often = λ k. omega (arith, a.as_often k, b.as_often k);
+  distinct = λ d. b.distinct (a.distinct d);
+}
 
 cells_front : {world : World} {os : List Owner} {o : Owner} (i : Among os o) (bs : List ℕ) → Cells world os bs → Front os o (without i) bs world
-cells_front first_owner bs c = record { blocks = bs; cells = c; order = record { into = λ k m. m; distinct = λ d. d } }
+cells_front first_owner bs c = record { blocks = bs; cells = c; order = record { into = λ k m. m; as_often = λ k. refl; distinct = λ d. d } }
 cells_front {world} {o = o} (later_owner {p = p} {os = os} i) _ (a_cell {bs = bs} {cs = cs} c rest) = by (cells_front i cs rest)
   where
     by : Front os o (without i) cs world → Front (p ∷ os) o (p ∷ without i) (bs ++ cs) world
@@ -323,7 +339,7 @@ pub record Return (os : List Owner) (bs : List ℕ) (world : World) : Type 0 whe
   pub order : Rearranged bs blocks
 
 pub cells_return : {world : World} {os : List Owner} {o : Owner} (i : Among os o) (bs : List ℕ) → Cells world (o ∷ without i) bs → Return os bs world
-cells_return first_owner bs c = record { blocks = bs; cells = c; order = record { into = λ k m. m; distinct = λ d. d } }
+cells_return first_owner bs c = record { blocks = bs; cells = c; order = record { into = λ k m. m; as_often = λ k. refl; distinct = λ d. d } }
 cells_return (later_owner i) _ (a_cell {bs = mine} c (a_cell {bs = bp} {cs = others} cp more)) =
     let r = cells_return i (mine ++ others) (a_cell c more) in
     record { blocks = bp ++ r.blocks; cells = a_cell cp r.cells; order = arranged_then (rearranged mine bp others) (behind bp r.order) }
@@ -342,8 +358,8 @@ module _ {os : List Owner} {o : Owner} (i : Among os o) (world : World) (t : Ter
         (all_at (λ o. Apart o.at.base t.blocks) t.clear i, all_without (λ o. Apart o.at.base t.blocks) i t.clear);
   }
 
-  front_moves : (given : List ℕ) (after : World) → (m : Moves (o ∷ without i) given fronted.blocks world after) →
-      Back os given t.blocks fronted.blocks m.territory.blocks world after
+  front_moves : {comes goes : ℕ → ℕ} (given : List ℕ) (after : World) → (m : MovesWith comes goes (o ∷ without i) given fronted.blocks world after) →
+      Back comes goes os given t.blocks fronted.blocks m.territory.blocks world after
   front_moves given after m =
       let r = cells_return i m.territory.blocks m.territory.cells in
       let clear = clear_less m.territory.blocks r.blocks (o ∷ without i) r.order.into m.territory.clear in
@@ -358,6 +374,7 @@ module _ {os : List Owner} {o : Owner} (i : Among os o) (world : World) (t : Ter
           };
           came = λ k n. came k (m.came k (r.order.into k n));
           grows = m.grows;
+          loses = λ k. omega (arith, m.loses k, fronted.order.as_often k, r.order.as_often k);
           alone = record {
             bases = λ b x h off far. m.alone.bases b x h (all_at (λ o. b ≡ o.at.base → ⊥) off i, all_without (λ o. b ≡ o.at.base → ⊥) i off)
                 (λ k e n. far k e (wide_in k n));
@@ -389,6 +406,17 @@ works_front i {world} t = record {
   clear = λ given far c. (all_at (λ o. Apart o.at.base given) c i, all_without (λ o. Apart o.at.base given) i c);
   back = λ given after far c m. front_moves i world t given after m;
 }
+
+-- the blocks are the same
+front_same : {os : List Owner} {o : Owner} (i : Among os o) {world : World} (t : Territory os world) (k : ℕ) →
+    times k (front_territory i world t).blocks ≡ times k t.blocks
+unfolding front_territory
+front_same i {world} t k = (fronted i world t).order.as_often k
+
+pub front_often : {os : List Owner} {o : Owner} (i : Among os o) {world : World} (t : Territory os world) (k : ℕ) →
+    times k (works_front i t).territory.blocks ≡ times k t.blocks
+unfolding works_front
+front_often i t k = front_same i t k
 
 -- ---- two of them
 

@@ -8,8 +8,8 @@ use Rattle.nim_meaning.specs.State.{World}
 use Rattle.nim_meaning.specs.Acts.{Exit, Raised}
 use Rattle.nim_meaning.specs.Here.{Here}
 use Rattle.holders.specs.Owned.{IsName}
-use Rattle.holders.specs.Becoming.{taken_in}
-use Rattle.holders.specs.Territory.{Owner, Moves, Among}
+use Rattle.holders.specs.Becoming.{taken_in, times}
+use Rattle.holders.specs.Territory.{Owner, Moves, Among, MovesWith}
 use Rattle.holders.specs.Working.{without}
 use Rattle.holders.specs.Handing.{UnderWay, HandsOut}
 use Rattle.holders.specs.Running.{Region}
@@ -47,5 +47,6 @@ LeftBy P way after = NotRaised way × P after
 -- what a call that was given values with these blocks leaves, of all cells
 pub data CallGives (os : List Owner) (given blocks : List ℕ) (world : World) (v : Value) (after : World) : Option Form → Type 0 where
   gives_nothing : Moves os given blocks world after → v ≡ nothing → CallGives os given blocks world v after None
-  gives_value : {f : Form} (m : Moves os given blocks world after) (u : UnderWay f v os m.territory.blocks after) →
-      ((k : ℕ) → Member k u.given → Member k blocks ⊎ (Member k given ⊎ (taken_in world ≤ k))) → CallGives os given blocks world v after (Some f)
+  gives_value : {f : Form} {goes : ℕ → ℕ} (m : MovesWith (λ k. times k given) goes os given blocks world after) (u : UnderWay f v os m.territory.blocks after) →
+      ((k : ℕ) → Member k u.given → Member k blocks ⊎ (Member k given ⊎ (taken_in world ≤ k))) → ((k : ℕ) → times k u.given ≡ goes k) →
+      CallGives os given blocks world v after (Some f)

@@ -23,3 +23,4 @@ pub mod Claimed
 pub mod Procedures
 pub mod BodyParts
 pub mod Numbered
+pub mod Released

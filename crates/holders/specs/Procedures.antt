@@ -14,7 +14,7 @@ use Rattle.nim_meaning.specs.Here.{Here, Calls}
 use Rattle.nim_meaning.specs.Meaning.{exec_all, calls, from_level}
 use Rattle.holders.specs.Owned.{Constant, Has, IsName, Active}
 use Rattle.holders.specs.Sure.{Comes}
-use Rattle.holders.specs.Becoming.{Strange}
+use Rattle.holders.specs.Becoming.{Strange, times}
 use Rattle.holders.specs.Territory.{Owner, AllOwners, Territory, Among}
 use Rattle.holders.specs.Working.{number}
 use Rattle.holders.specs.Ways.{Differ}
@@ -102,6 +102,7 @@ form_given facts (Some ty) = Some (form_of facts ty)
 pub record Returns (gs : List Owner) (ty : Option Ty) (facts : Facts) (given blocks : List ℕ) (world : World) (v : Value) (after : World) : Type 0 where
   pub old : List ℕ
   pub into : (k : ℕ) → Member k old → Member k given ⊎ Member k blocks
+  pub sum : (k : ℕ) → times k old ≡ times k given + times k blocks
   pub back : CameBack gs old world v after (form_given facts ty)
 
 -- ---- in a program

@@ -1,10 +1,10 @@
 -- What a part of a body does: it works on cells of its own, which come and go, and on those that it was given. All else is as it was.
-use Rattle.std.specs.Prelude.{◌≡◌, Bool, true, ◌<◌, ◌≤◌, ◌⊎◌, ℕ, List, ◌++◌, length}
+use Rattle.std.specs.Prelude.{◌≡◌, Bool, true, ◌<◌, ◌+◌, ◌≤◌, ◌⊎◌, ℕ, List, ◌++◌, length}
 use Rattle.nim_meaning.specs.Values.{Value, Base, Standing, Waiting, Location}
 use Rattle.nim_meaning.specs.Marks.{Member}
 use Rattle.nim_meaning.specs.State.{World}
 use Rattle.holders.specs.Owned.{IsBase, Apart, IsName, Active}
-use Rattle.holders.specs.Becoming.{taken_in}
+use Rattle.holders.specs.Becoming.{taken_in, times, none, LosesNone}
 use Rattle.holders.specs.Territory.{Owner, AllOwners, OtherThan, Territory, StandsAt, RowAt, LeaveRow, NoBaseOf}
 
 -- what isn't of calls from a level on
@@ -46,8 +46,12 @@ abbrev pub AreOwn : Region → List Owner → Type 0
 AreOwn r ms = AllOwners (λ m. IsOutside r m.at.base → ⊥) ms
 
 -- The part has these cells of its own then, and those that it was given; blocks of theirs were there, or were given with a value, or are new.
-pub record Runs (r : Region) (ms gs : List Owner) (given old : List ℕ) (world after : World) : Type 0 where
+pub record RunsWith (comes goes : ℕ → ℕ) (r : Region) (ms gs : List Owner) (given old : List ℕ) (world after : World) : Type 0 where
   pub territory : Territory (ms ++ gs) after
   pub own : AreOwn r ms
   pub came : (k : ℕ) → Member k territory.blocks → Member k old ⊎ (Member k given ⊎ (taken_in world ≤ k))
   pub passes : Passes r gs (given ++ old) world after
+  pub loses : LosesNone (λ k. comes k + times k old) (λ k. times k territory.blocks + goes k) world after
+
+abbrev pub Runs : Region → (ms gs : List Owner) → (given old : List ℕ) → (world after : World) → Type 0
+Runs r ms gs given old world after = RunsWith (λ k. times k given) none r ms gs given old world after

@@ -1,11 +1,11 @@
 -- What a call may touch: cells that lie apart from one another. All else is as it was.
-use Rattle.std.specs.Prelude.{◌≡◌, ℕ, ◌≤◌, ◌⊎◌, List, [], ◌∷◌, ◌++◌}
+use Rattle.std.specs.Prelude.{◌≡◌, ℕ, ◌+◌, ◌≤◌, ◌⊎◌, List, [], ◌∷◌, ◌++◌}
 use Rattle.nim_types.specs.Forms.{Form}
 use Rattle.nim_meaning.specs.Values.{Value, Parts, Values, count, Base, Location, part}
 use Rattle.nim_meaning.specs.Marks.{Member, Distinct}
 use Rattle.nim_meaning.specs.State.{World}
 use Rattle.holders.specs.Owned.{IsBase, HasPart, At, Cell, Apart, Stays}
-use Rattle.holders.specs.Becoming.{taken_in, Becomes, Strange}
+use Rattle.holders.specs.Becoming.{taken_in, times, none, LosesNone, BecomesWith, Strange}
 use Rattle.holders.specs.Beside.{OtherPart}
 
 -- a location that holds values of a form
@@ -77,12 +77,18 @@ pub record Alone (os : List Owner) (old : List ℕ) (world after : World) : Type
   pub rows : (l : Location) (n : ℕ) → RowAt world l n → LeaveRow l os → Apart l.base old → RowAt after l n
   pub stays : Stays world after
 
--- The cells may have other values then, some of them given. All else stays, but for what the cells and these had in blocks.
-pub record Moves (os : List Owner) (given old : List ℕ) (world after : World) : Type 0 where
+-- The cells may have other values then, some of them given. All else stays, but for what the cells and these had in blocks. Blocks came from elsewhere,
+-- and some went there.
+pub record MovesWith (comes goes : ℕ → ℕ) (os : List Owner) (given old : List ℕ) (world after : World) : Type 0 where
   pub territory : Territory os after
   pub came : (k : ℕ) → Member k territory.blocks → Member k old ⊎ (Member k given ⊎ (taken_in world ≤ k))
   pub grows : taken_in world ≤ taken_in after
   pub alone : Alone os (given ++ old) world after
+  pub loses : LosesNone (λ k. comes k + times k old) (λ k. times k territory.blocks + goes k) world after
+
+-- all that was given came to the cells
+abbrev pub Moves : (os : List Owner) → (given old : List ℕ) → (world after : World) → Type 0
+Moves os given old world after = MovesWith (λ k. times k given) none os given old world after
 
 -- one of the cells, and what becomes of it
 pub data Among : List Owner → Owner → Type 0 where
@@ -95,8 +101,8 @@ pub record Owns (os : List Owner) (blocks : List ℕ) (o : Owner) (world : World
   pub mine : List ℕ
   pub cell : Cell o.form o.at stands_in value mine world
   pub within : (k : ℕ) → Member k mine → Member k blocks
-  pub moves : (given : List ℕ) (after : World) → Strange given blocks → ClearOf given os → Becomes o.form o.at stands_in given mine world after →
-      Moves os given blocks world after
-  pub without : (given : List ℕ) (after : World) (far : Strange given blocks) (clear : ClearOf given os)
-      (b : Becomes o.form o.at stands_in given mine world after) (k : ℕ) → Member k (moves given after far clear b).territory.blocks → Member k mine →
+  pub moves : {goes : ℕ → ℕ} (given : List ℕ) (after : World) → Strange given blocks → ClearOf given os →
+      BecomesWith goes o.form o.at stands_in given mine world after → MovesWith (λ k. times k given) goes os given blocks world after
+  pub without : {goes : ℕ → ℕ} (given : List ℕ) (after : World) (far : Strange given blocks) (clear : ClearOf given os)
+      (b : BecomesWith goes o.form o.at stands_in given mine world after) (k : ℕ) → Member k (moves given after far clear b).territory.blocks → Member k mine →
       Member k b.blocks

@@ -1,4 +1,4 @@
-//! What the meaning of a whole program is never.
+//! What the meaning of a whole program is never, and what it leaves.
 
 ghost use Rattle.std.specs.Prelude.{◌≡◌, ℕ, List, true, None};
 ghost use Rattle.arc_base.specs.Behaviour.{Sound};
@@ -11,8 +11,10 @@ ghost use Rattle.nim_program.specs.Typed.{IsTyped};
 ghost use Rattle.nim_meaning.specs.LeftOut.{first_left_out};
 ghost use Rattle.nim_meaning.specs.Meaning.{meaning};
 ghost use Rattle.lending_laws.specs.Apart.{AreLentApart};
+ghost use Rattle.holders.specs.Released.{LeavesNoBlock};
 
 use decl_rules::names_found;
+use nim_meaning::meanings;
 
 /// A typed program without hooks of its own that lends no place twice is never at a fault, nor
 /// wrong, whatever it reads, and however large its heap is.
@@ -23,4 +25,15 @@ pub fn sound()
         Sound (meaning program plan heap input) }
 {
     names_found();
+}
+
+/// Where its start code comes to its end no block is live: each that it took was given back, once.
+pub fn released()
+    ensures { (program : Program) (table : List TypeDef) → program.facts ≡ facts_in table →
+        IsTyped program → is_numbered_program program ≡ true → AreLentApart program →
+        first_left_out program ≡ None → (plan : Plan) (heap : ℕ) (input : List ℕ) →
+        LeavesNoBlock program plan heap input }
+{
+    names_found();
+    meanings();
 }

@@ -7,7 +7,8 @@ ghost use Rattle.nim_types.specs.Forms.{Form, plain, block, elements, hooked, Fo
 ghost use Rattle.nim_types.specs.Forms.{HasForm};
 ghost use Rattle.nim_program.specs.Kinds.{kind_of, field_at, element_of, is_held};
 ghost use Rattle.nim_program.specs.Kinds.{is_declared_as};
-ghost use Rattle.nim_program.specs.Program.{Declared, Param, Body, Expr, Path, Do, type_at, node_at};
+ghost use Rattle.nim_program.specs.Program.{Declared, Param, Body, Expr, Path, Do};
+ghost use Rattle.nim_program.specs.Program.{type_of, type_at, node_at};
 ghost use Rattle.nim_program.specs.Typed.{is_typed, is_typed_path};
 ghost use Rattle.nim_program.specs.Folds.{lists, node_numbers, total};
 ghost use Rattle.nim_program.specs.Numbering.{rise_to};
@@ -33,7 +34,7 @@ ghost use Rattle.nim_meaning.specs.Steps.{all_end};
 ghost use Rattle.nim_meaning.specs.Meaning.{place_ends, scoped, fill, fill_from, result_gets, exec, exec_all, frame_of, entered_body};
 ghost use Rattle.holders.specs.Owned.{IsBase, Full, Constant, Has, HasEach, HasBlocksAlone};
 ghost use Rattle.holders.specs.Sure.{Sure, Answered, Comes};
-ghost use Rattle.holders.specs.Becoming.{Strange};
+ghost use Rattle.holders.specs.Becoming.{Strange, times};
 ghost use Rattle.holders.specs.Beside.{PartWays};
 ghost use Rattle.holders.specs.Territory.{Owner, AllOwners, ClearOf, NoBaseOf, Territory, Moves};
 ghost use Rattle.holders.specs.Territory.{Among, Owns};
@@ -275,7 +276,7 @@ pub fn expressions()
         (root : (global : Bool) → ℕ → ℕ) (own_places own_nodes : ℕ → Bool) (first places : ℕ)
         (ks gs : List Owner) (nodes old : List ℕ) (start : World) (value : Expr) →
         ValueSo here scope limits root first places (ks ++ gs) value Owned →
-        Distinct (value_nodes value) →
+        Distinct (value_nodes value) → gives_hooked here.facts (type_of value) ≡ false →
         ((n : ℕ) → Member n (value_nodes value) → own_nodes n ≡ true) →
         ((n : ℕ) → Member n nodes → Member n (value_nodes value) → ⊥) →
         AllOwners (λ o. IsOutside (at_nodes here.level (value_nodes value)) o.at.base) (ks ++ gs) →
@@ -322,5 +323,6 @@ pub fn brought_back()
         (w : Works os ms t.blocks world) (f : Option Form) (given old : List ℕ) (v : Value)
         (after : World) → Strange given t.blocks → ClearOf given os →
         ((k : ℕ) → Member k old → Member k given ⊎ Member k w.territory.blocks) →
+        ((k : ℕ) → times k old ≡ times k given + times k w.territory.blocks) →
         CameBack ms old world v after f → CallGives os given t.blocks world v after f }
 {}

@@ -9,7 +9,6 @@ mod HookRankings
 mod HookRanks
 mod HookRuns
 mod HookShapes
-mod HookSizes
 mod Kept
 mod Known
 mod LineRuns

@@ -1,5 +1,5 @@
 -- What a table of types has to be for its hooks to keep their promises, and how deep calls of hooks go.
-use Rattle.std.specs.Prelude.{◌≡◌, ◌<◌, ◌≤◌, ℕ, ◌+◌, ◌*◌, ◌^◌, true, zero, suc, ◌-◌, ◌%◌, ◌/◌, nat_lt, if◌then◌else◌, List, [], ◌∷◌, length, Option, Some}
+use Rattle.std.specs.Prelude.{◌≡◌, ◌<◌, ◌≤◌, ℕ, ◌+◌, ◌*◌, ◌^◌, true, zero, suc, ◌-◌, ◌%◌, ◌/◌, nat_lt, if◌then◌else◌, List, ◌∷◌, Option, Some}
 use Rattle.std.specs.Prelude.{slice_get}
 use Rattle.nim_types.specs.declared.types.TypeDef.{TypeDef}
 use Rattle.nim_types.specs.declared.types.TypeDef.TheVariants as D
@@ -15,7 +15,7 @@ use Rattle.hook_lifting.specs.declared.lifted.Hook.{Hook}
 use Rattle.hook_lifting.specs.declared.lifted.Hook.TheVariants.{Copies, Assigns, Sinks, Ends}
 use Rattle.hook_lifting.specs.declared.procedures.TheConstants.{MOST_LEVELS}
 use Rattle.hook_lifting.specs.Weights.{is_built}
-use Rattle.hook_lifting.specs.Lifted.{has_hooks, is_lifted, lines_of, cut_lines}
+use Rattle.hook_lifting.specs.Lifted.{has_hooks, lines_of, cut_lines}
 use Rattle.hook_code.specs.declared.numbers.TheConstants.{HOOKS_EACH}
 use Rattle.hook_code.specs.HookCode.{bytes_at, hook_number, cut_number, hook_proc, cut_proc}
 
@@ -55,29 +55,6 @@ AreShort table = (ty n of : ℕ) → slice_get table ty ≡ Some (D.Array n of) 
 -- elements of sequences have sizes of 32 bits
 abbrev pub HaveSmallElements : List TypeDef → Type 0
 HaveSmallElements table = (ty of : ℕ) → slice_get table ty ≡ Some (D.Seq of) → bytes_at table of < 2 ^ 32
-
--- how many parts tuples and objects have
-abbrev pub parts_count : TypeDef → ℕ
-parts_count (D.Tuple names parts) = length parts
-parts_count (D.Object name at of fields own parts) = length parts
-parts_count d = 0
-
--- how many hooks there may be, with those of parts, by each entry from one on whose hooks are lifted
-abbrev pub lifted_parts : List TypeDef → List TypeDef → (ty : ℕ) → ℕ
-lifted_parts table [] ty = 0
-lifted_parts table (d ∷ ds) ty = (if is_lifted table ty then suc (parts_count d) else 0) + lifted_parts table ds (suc ty)
-
-abbrev pub sequence_count : TypeDef → ℕ
-sequence_count (D.Seq of) = 1
-sequence_count d = 0
-
-abbrev pub sequences_count : List TypeDef → ℕ
-sequences_count [] = 0
-sequences_count (d ∷ ds) = sequence_count d + sequences_count ds
-
--- by so many parts the hooks of a table weigh; there are none where no type has hooks
-abbrev pub hook_parts : List TypeDef → ℕ
-hook_parts table = lifted_parts table table 0 + sequences_count table
 
 -- how many calls of hooks stand in a chain from one on
 abbrev pub chain_of : Hook → (rank : ℕ) → ℕ

@@ -1,18 +1,17 @@
 // The laws of hooks as word code.
-ghost use Rattle.std.specs.Prelude.{◌≡◌, ◌≤◌, ◌<◌, ◌*◌, ◌++◌, ℕ, List, true};
+ghost use Rattle.std.specs.Prelude.{◌≡◌, ◌≤◌, ◌<◌, ◌++◌, ℕ, List, true};
 ghost use Rattle.nim_types.specs.declared.types.TypeDef.{TypeDef as Entry};
 ghost use Rattle.nim_types.specs.Table.{IsTable};
 ghost use Rattle.nim_program.specs.Sizes.{HaveForms};
 ghost use Rattle.word_code.specs.declared.routine.TheConstants.{COPY};
 ghost use Rattle.word_code.specs.declared.word.WordProc.{WordProc as Procedure};
 ghost use Rattle.word_code.specs.Words.{are_procs, have_no_hooks};
-ghost use Rattle.word_code.specs.Sizes.{AreRanked, word_weight};
+ghost use Rattle.word_code.specs.Sizes.{AreRanked};
 ghost use Rattle.word_code.specs.Joined.{IsFree, all_moved};
 ghost use Rattle.heap_memory.specs.declared.numbers.TheConstants.{RELEASE, TEXT_COPY, SEQ_NEW};
 ghost use Rattle.hook_code.specs.HookCode.{procs_in};
 ghost use Rattle.hook_code.specs.Kept.{IsOrdered, AreShort, Ranks, rank_in, hook_ranks};
-ghost use Rattle.hook_code.specs.Kept.{hook_parts, AreThere, CutsAreThere};
-ghost use Rattle.hook_code.specs.declared.numbers.TheConstants.{HOOK_WEIGHT};
+ghost use Rattle.hook_code.specs.Kept.{AreThere, CutsAreThere};
 
 /// The procedures of all hooks of a table of types, with numbers from one on: they are well formed,
 /// none is a user's hook, and they weigh so much for each type with hooks and each part of it.
@@ -21,8 +20,6 @@ ghost use Rattle.hook_code.specs.declared.numbers.TheConstants.{HOOK_WEIGHT};
 pub fn hook_procedures()
     ensures formed { (table : List Entry) (first : ℕ) → are_procs (procs_in table first) ≡ true }
     ensures unhooked { (table : List Entry) (first : ℕ) → have_no_hooks (procs_in table first) ≡ true }
-    ensures weight { (table : List Entry) (first : ℕ) →
-        word_weight (procs_in table first) ≤ HOOK_WEIGHT * hook_parts table }
     // Each is found by its number, behind procedures with other numbers, wherever their data begin.
     ensures there { (table : List Entry) (first shift : ℕ) (before after : List Procedure) →
         ((number : ℕ) → first ≤ number → IsFree number before) →

@@ -14,7 +14,5 @@ pub use arrays::arrays_are_short;
 pub use code::{cut_number, hook_number};
 pub use elements::elements_are_small;
 pub use laws::{hook_levels, hook_procedures};
-pub use numbers::{
-    ADDRESS, COUNT, HOOK_VARIABLES, HOOK_WEIGHT, HOOKS_EACH, ONE, OTHER, PLACES_BEHIND,
-};
+pub use numbers::{ADDRESS, COUNT, HOOK_VARIABLES, HOOKS_EACH, ONE, OTHER, PLACES_BEHIND};
 pub use procs::put_hooks;

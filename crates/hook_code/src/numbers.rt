@@ -20,6 +20,3 @@ pub const PLACES_BEHIND: u32 = 3;
 
 /// How many variables a hook has.
 pub const HOOK_VARIABLES: u32 = 16;
-
-/// How much hooks weigh for each type that has them, and for each of its parts.
-pub const HOOK_WEIGHT: u32 = 764;

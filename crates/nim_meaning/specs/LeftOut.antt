@@ -1,5 +1,5 @@
 -- Programs that are built whole. Left out of them are refs, exceptions, objects with hooks of their own, calls with types for type parameters, and
--- what a ref or such an object is in: a value of that type, a place, an operand. So are `readLine`, a character of a text as a place, the text of a
+-- what a ref or such an object is in: a value of that type, a place, an operand. So are `readLine(stdin)`, a character of a text as a place, the text of a
 -- literal as a place, a constant of a type with texts or sequences in it, but for one text, and the message of an exception. Of these the meaning,
 -- which is total, says nothing (`from_heap`, `from_exceptions`).
 use Rattle.std.specs.Prelude.{◌≡◌, ℕ, Bool, true, false, not, ◌||◌, nat_lt, List, [], ◌∷◌, ◌++◌, map, Option, Some, None, option_map}
@@ -27,7 +27,6 @@ is_built (O.Compare comparison) facts of = not (any_unbuilt facts of)
 is_built (O.Measure measure) facts of = not (any_unbuilt facts of)
 is_built O.IsNil facts of = false
 is_built O.ReadLine facts of = false
-is_built O.ReadLineInto facts of = false
 is_built O.Destroy facts of = false
 is_built O.Blank facts of = false
 is_built _ facts of = true

@@ -11,7 +11,7 @@ use Rattle.nim_program.specs.Ints.{compared, truth}
 use Rattle.nim_meaning.specs.Values.{Value, Number, Handle, Nil, More, nothing, first_of, joined, length_of, block_of, is_handle, repeated, blank}
 use Rattle.nim_meaning.specs.Values.{Location, item_of, Operand, operand, value, number, location, values_in}
 use Rattle.nim_meaning.specs.Heap.{Characters, Elements}
-use Rattle.nim_meaning.specs.State.{World, load, text_of, elements_of}
+use Rattle.nim_meaning.specs.State.{World, load, text_of, elements_of, bytes_left}
 use Rattle.nim_meaning.specs.Texts.{shown}
 use Rattle.nim_meaning.specs.Here.{form_for}
 use Rattle.nim_meaning.specs.Deeds.{Deed, Reads, does, give, ◌>>=◌, ◌>>◌, branch, costs, looks, unless_gone, sees, takes, sets, refills, stop}
@@ -146,7 +146,7 @@ owned O.Show facts ty of xs otherwise = looks λ world. fresh_text (shown facts 
 owned O.Sequence facts ty of xs otherwise = fresh_sequence (element_of (form_for facts ty)) (values_in xs)
 owned O.NewSequence facts ty of xs otherwise =
     counted (number xs 0) (λ n. fresh n (n * size (element_of (form_for facts ty))) (Elements (repeated n (blank (element_of (form_for facts ty))))))
-owned O.ReadLineInto facts ty of xs otherwise = looks λ world. line_into (location xs 0) world.input
+owned O.ReadLineInto facts ty of xs otherwise = looks λ world. line_into (location xs 0) (bytes_left world)
 owned O.Assign facts ty of xs otherwise = assigns (form_for facts (operand_type of 0)) (location xs 0) (operand xs 1)
 owned O.Add facts ty of xs otherwise = added (element_of (form_for facts (operand_type of 0))) (value xs 1) (location xs 0) >> give nothing
 owned O.Append facts ty of xs otherwise = looks λ world. appended (shown facts world (operand_type of 1) (operand xs 1)) (location xs 0) >> give nothing

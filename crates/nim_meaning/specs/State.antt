@@ -1,6 +1,6 @@
 -- The state of a run.
-use Rattle.std.specs.Prelude.{ℕ, ◌-◌, nat_eq, nat_lt, Bool, true, false, ◌&&◌, if◌then◌else◌, List, [], ◌∷◌, ◌++◌, length, take, drop}
-use Rattle.std.specs.Prelude.{Option, Some, None, option_map, slice_get, slice_set}
+use Rattle.std.specs.Prelude.{ℕ, ◌-◌, ◌%◌, nat_eq, nat_lt, Bool, true, false, ◌&&◌, if◌then◌else◌, List, [], ◌∷◌, ◌++◌, length, take, drop}
+use Rattle.std.specs.Prelude.{map, Option, Some, None, option_map, slice_get, slice_set}
 use Rattle.arc_base.specs.Event.{Event}
 use Rattle.arc_base.specs.Behaviour.{Live, no_objects}
 use Rattle.arc_base.specs.BigStep.{Meter}
@@ -142,6 +142,10 @@ pushed world v = record world { hand = world.hand ++ v ∷ [] }
 
 abbrev pub popped : World → World
 popped world = record world { hand = take (length world.hand - 1) world.hand }
+
+-- what is left of the input: of its numbers, which are any, each is read as a byte, modulo 256
+abbrev pub bytes_left : World → List ℕ
+bytes_left world = map (λ n. n % 256) world.input
 
 abbrev pub reading_on : World → (bytes : ℕ) → World
 reading_on world n = record world { input = drop n world.input }

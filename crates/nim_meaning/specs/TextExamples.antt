@@ -418,5 +418,6 @@ nested_turns =
     takes 32 ∷ takes 16 ∷ takes 16 ∷ takes 16 ∷ gives 3 ∷ gives 2 ∷ takes 16 ∷ takes 16 ∷ takes 32 ∷ takes 16 ∷ takes 16 ∷ takes 16
     ∷ takes 16 ∷ gives 10 ∷ gives 9 ∷ gives 4 ∷ gives 5 ∷ gives 8 ∷ gives 7 ∷ gives 6 ∷ gives 1 ∷ gives 0 ∷ []
 
+-- 353 is the byte of `a`
 abbrev pub lines_read : List ℕ
-lines_read = 97 ∷ 13 ∷ 10 ∷ 10 ∷ codes "0123456789"
+lines_read = 353 ∷ 13 ∷ 10 ∷ 10 ∷ codes "0123456789"

@@ -140,7 +140,7 @@ pub fn left_out_examples()
     ensures comparing_texts { IsBuilt out.comparing_texts }
     ensures case_of_text { IsBuilt out.case_of_text }
     ensures adding { IsBuilt out.adding }
-    ensures reading_into { LeftOutAt 2 out.reading_into }
+    ensures reading_into { IsBuilt out.reading_into }
     ensures reading { LeftOutAt 2 out.reading }
     ensures discarding { LeftOutAt 4 out.discarding }
     ensures comparing { LeftOutAt 2 out.comparing }

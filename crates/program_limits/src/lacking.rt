@@ -61,11 +61,7 @@ fn is_built(known: &Known, operation: Operation, operands: &Vec<Operand>) -> boo
 {
     match operation {
         Operation::Compare(_) | Operation::Measure(_) => !any_unbuilt(known, operands),
-        Operation::IsNil
-        | Operation::ReadLine
-        | Operation::ReadLineInto
-        | Operation::Destroy
-        | Operation::Blank => false,
+        Operation::IsNil | Operation::ReadLine | Operation::Destroy | Operation::Blank => false,
         Operation::Join
         | Operation::Show
         | Operation::Sequence
@@ -81,6 +77,7 @@ fn is_built(known: &Known, operation: Operation, operands: &Vec<Operand>) -> boo
         | Operation::Make
         | Operation::Echo
         | Operation::Quit
+        | Operation::ReadLineInto
         | Operation::Assign
         | Operation::Update(_)
         | Operation::Move

@@ -9,6 +9,7 @@ use Rattle.std.proofs.Math.Seq.{take-append_seam, drop-append_seam, drop-append-
 use Rattle.nim_program.specs.Traps.{OutOfMemory}
 use Rattle.nim_types.specs.declared.blocks.TheConstants.{LEAST_BLOCK}
 use Rattle.nim_meaning.specs.Heap.{demand, sizes_from, size_count, heap_of}
+use Rattle.rv32_isa.specs.Regions.{as_bytes}
 use Rattle.rv32_isa.specs.declared.micro_op.Size.TheVariants.{Word}
 use Rattle.rv32_isa.specs.declared.machine.FaultKind.TheVariants.{Misaligned}
 use Rattle.rv32_isa.specs.Image.{statics_at, heap_at}
@@ -315,10 +316,10 @@ module _ (law : MemoryLaw) (live : Lives) (others : WordCode) where
   all_kept PopsElement = λ u s to rest calling sized may. seq_pop_comes law live procs 0 u s to rest _ refl calling sized may
   all_kept ResizesText = λ u s to rest calling sized may. text_resize_comes law live procs 0 resizes_there u s to rest _ refl calling sized may
 
-  reads_there : (input : List ℕ) → IsKeptOn live procs input (reads_line own_data_at input)
+  reads_there : (input : List ℕ) → IsKeptOn live procs input (reads_line own_data_at (as_bytes input))
   reads_there input = read_kept law live procs 0 grows_there _ refl input
 
-  reads_texts_there : (input : List ℕ) → IsKeptOn live procs input (reads_text own_data_at input)
+  reads_texts_there : (input : List ℕ) → IsKeptOn live procs input (reads_text own_data_at (as_bytes input))
   reads_texts_there input = text_read_kept law live procs 0 reads_there releases_there _ refl input
 
 -- those on handles, and the one that joins

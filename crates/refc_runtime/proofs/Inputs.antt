@@ -5,7 +5,7 @@ use Rattle.std.proofs.lemmas.Bool.{eq-eqb, cond-true}
 use Rattle.rv32_isa.specs.declared.micro_op.Size.TheVariants.{Byte}
 use Rattle.rv32_isa.specs.declared.machine.FaultKind.TheVariants.{Misaligned}
 use Rattle.rv32_isa.specs.Machine.{Lives}
-use Rattle.rv32_isa.specs.Regions.{AreBytes, HasRegions}
+use Rattle.rv32_isa.specs.Regions.{AreBytes, HasRegions, as_bytes}
 use Rattle.rv32_isa.specs.State.{State, readable, filled}
 use Rattle.rv32_isa.specs.Steps.{number_of}
 use Rattle.word_code.specs.declared.word.WordInstr.{WordInstr}
@@ -62,7 +62,7 @@ module _ (live : Lives) (procs : List WordProc) (c : Within) (m : Memory) (k : L
   pub run_read : {a : ℕ} (to address len : ℕ) (count : ℕ) → v address ≡ Some a → v len ≡ Some 1 → min 1 (length c.input) ≡ count
       → may_fill m a 1 ≡ true
       → Runs live procs 1 (state_at c m (Read to address len ∷ k) v g)
-      (state_at (leaving (drop count c.input)) (with_bytes m a (take count c.input)) k (put v to count) g)
+      (state_at (leaving (drop count c.input)) (with_bytes m a (as_bytes (take count c.input))) k (put v to count) g)
   run_read {a} to address len count e f few may =
       let s : WordState = state_at c m (Read to address len ∷ k) v g in
       let x : WordScene = scene_of s in
@@ -76,13 +76,13 @@ module _ (live : Lives) (procs : List WordProc) (c : Within) (m : Memory) (k : L
       → Runs live procs 1 (state_at c m (Read to address len ∷ k) v g) (state_at (leaving []) m k (put v to 0) g)
   run_read_none {a} to address len e f none may =
       subst (λ i. Runs live procs 1 (state_at c m (Read to address len ∷ k) v g)
-      (state_at (leaving (drop 0 i)) (with_bytes m a (take 0 i)) k (put v to 0) g)) none
+      (state_at (leaving (drop 0 i)) (with_bytes m a (as_bytes (take 0 i))) k (put v to 0) g)) none
       (run_read to address len 0 e f (ap (λ i. min 1 (length i)) none) may)
 
-  -- one is read
+  -- one is read, as a byte
   pub run_read_one : {a : ℕ} (to address len d : ℕ) (ds : List ℕ) → v address ≡ Some a → v len ≡ Some 1 → c.input ≡ d ∷ ds → may_fill m a 1 ≡ true
-      → Runs live procs 1 (state_at c m (Read to address len ∷ k) v g) (state_at (leaving ds) (with_bytes m a (d ∷ [])) k (put v to 1) g)
+      → Runs live procs 1 (state_at c m (Read to address len ∷ k) v g) (state_at (leaving ds) (with_bytes m a (d % 256 ∷ [])) k (put v to 1) g)
   run_read_one {a} to address len d ds e f some may =
       subst (λ i. Runs live procs 1 (state_at c m (Read to address len ∷ k) v g)
-      (state_at (leaving (drop 1 i)) (with_bytes m a (take 1 i)) k (put v to 1) g)) some
+      (state_at (leaving (drop 1 i)) (with_bytes m a (as_bytes (take 1 i))) k (put v to 1) g)) some
       (run_read to address len 1 e f (ap (λ i. min 1 (length i)) some ∙ min_one (length ds)) may)

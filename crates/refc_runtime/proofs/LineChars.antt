@@ -39,7 +39,7 @@ use Rattle.heap_memory.proofs.ForCallers.{still_heap}
 use Rattle.refc_runtime.proofs.LineStages.{Stage, growth, may_be_longer, kept_text, holds_same, grows_same, work_same, next_stage}
 
 module _ (law : MemoryLaw) (live : Lives) (procs : List WordProc) (n : ℕ) (grow_kept : IsKeptThere live procs (grows (own_data_at + n))) (u : Reading)
-    (s : WordState) (to : ℕ) (rest : List WordInstr) (sized : Sized s.memory) (input : List ℕ) (may : MayRead (own_data_at + n) input u s.memory)
+    (s : WordState) (to : ℕ) (rest : List WordInstr) (sized : Sized s.memory) (may : MayRead (own_data_at + n) u s.memory)
   where
     abbrev pub own : ℕ
     own = own_data_at + n

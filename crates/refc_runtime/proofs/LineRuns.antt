@@ -1,5 +1,5 @@
 -- What the routine does that reads a line, from the first character on.
-use Rattle.std.proofs.Common.{◌≡◌, ℕ, suc, ◌+◌, ◌^◌, ◌<◌, ◌≤◌, ◌⊎◌, inl, inr, List, [], ◌∷◌, ◌++◌, length, take, Some}
+use Rattle.std.proofs.Common.{◌≡◌, ℕ, suc, ◌+◌, ◌%◌, ◌^◌, ◌<◌, ◌≤◌, ◌⊎◌, inl, inr, List, [], ◌∷◌, ◌++◌, length, take, Some}
 use Rattle.std.proofs.Common.{Bool, true, false, refl, sym, ap, subst, ◌∙◌, arith, not, append_assoc, append-nil}
 use Rattle.std.specs.Prelude.{nat_eq, if◌then◌else◌}
 use Rattle.std.proofs.lemmas.Bool.{eq-eqb, ne_eqb, cases_Bool, cases_eq}
@@ -7,6 +7,7 @@ use Rattle.std.proofs.Math.Seq.{take-append_seam}
 use Rattle.arc_base.specs.Event.{writes}
 use Rattle.arc_base.specs.declared.outside.Stream.TheVariants.{Err}
 use Rattle.nim_program.specs.Traps.{OutOfMemory}
+use Rattle.rv32_isa.specs.Regions.{as_bytes}
 use Rattle.rv32_isa.specs.declared.micro_op.Size.TheVariants.{Byte}
 use Rattle.rv32_isa.specs.Machine.{Lives}
 use Rattle.word_code.specs.declared.word.Test.TheVariants as test
@@ -20,7 +21,6 @@ use Rattle.word_code.proofs.ForCallers.{MemoryLaw, Sized, AlwaysStops, none, sto
 use Rattle.word_code.proofs.ForCallers.{run_constant, run_copy, run_load, run_past, run_off, run_jump, got}
 use Rattle.nim_meaning.specs.Heap.{one_more, at_class}
 use Rattle.heap_memory.specs.HeapRoutines.{class_of, IsKeptThere}
-use Rattle.heap_memory.specs.TextRoutines.{AreBytes}
 use Rattle.heap_memory.specs.GrowRoutine.{grows}
 use Rattle.heap_memory.specs.LineRoutine.{UnderWay, has_capacity, without_class, one_longer, may_get, all_fit, longer, char_work, line_work, Reading, MayRead}
 use Rattle.refc_runtime.specs.InputCode.{line_end_lines, char_lines, line_lines}
@@ -29,22 +29,22 @@ use Rattle.refc_runtime.proofs.LineChars as chars
 use Rattle.refc_runtime.proofs.LineTexts.{line_from, behind_line}
 
 module _ (law : MemoryLaw) (live : Lives) (procs : List WordProc) (n : ℕ) (grow_kept : IsKeptThere live procs (grows (own_data_at + n))) (u : Reading)
-    (s : WordState) (to : ℕ) (rest : List WordInstr) (sized : Sized s.memory) (input : List ℕ) (may : MayRead (own_data_at + n) input u s.memory)
+    (s : WordState) (to : ℕ) (rest : List WordInstr) (sized : Sized s.memory) (may : MayRead (own_data_at + n) u s.memory)
   where
     abbrev cl : List ℕ → ℕ → Within
-    cl left awaits = chars.cl law live procs n grow_kept u s to rest sized input may left awaits
+    cl left awaits = chars.cl law live procs n grow_kept u s to rest sized may left awaits
 
     abbrev StageAt : UnderWay → List ℕ → Memory → ℕ → Type 0
-    StageAt w text m place = chars.StageAt law live procs n grow_kept u s to rest sized input may w text m place
+    StageAt w text m place = chars.StageAt law live procs n grow_kept u s to rest sized may w text m place
 
     abbrev BesideText : Memory → Type 0
-    BesideText m = chars.BesideText law live procs n grow_kept u s to rest sized input may m
+    BesideText m = chars.BesideText law live procs n grow_kept u s to rest sized may m
 
     abbrev Vs : Vars → (place long : ℕ) → Type 0
-    Vs v place long = chars.Vs law live procs n grow_kept u s to rest sized input may v place long
+    Vs v place long = chars.Vs law live procs n grow_kept u s to rest sized may v place long
 
     abbrev Stopped : UnderWay → List ℕ → (most : ℕ) → WordState → Type 0
-    Stopped w text most from = chars.Stopped law live procs n grow_kept u s to rest sized input may w text most from
+    Stopped w text most from = chars.Stopped law live procs n grow_kept u s to rest sized may w text most from
 
     -- ---- the rest of the line
 
@@ -66,7 +66,7 @@ module _ (law : MemoryLaw) (live : Lives) (procs : List WordProc) (n : ℕ) (gro
       pub is : take w.length all ≡ text
       pub stopped : Stopped w text most from
 
-    -- the text chars.gets law live procs n grow_kept u s to rest sized input may so many characters, or as many as fit
+    -- the text chars.gets law live procs n grow_kept u s to rest sized may so many characters, or as many as fit
     abbrev pub Outcome : UnderWay → (text line left : List ℕ) → (most : ℕ) → (from : WordState) → Type 0
     Outcome w text line left most from =
         ((all_fit u.room (length line) w ≡ true) × Reached (longer u.room (length line) w) (text ++ line) left most from)
@@ -277,13 +277,13 @@ module _ (law : MemoryLaw) (live : Lives) (procs : List WordProc) (n : ℕ) (gro
         to_char_last =
             then_runs live procs (no_feed [] awaits m v ch five differ) (then_runs live procs
             (run_read_none live procs (cl [] awaits) m q5 (put v 7 10) no_words 4 0 3 has.zero_is has.three_is refl
-            (chars.may_read_byte law live procs n grow_kept u s to rest sized input may m beside))
+            (chars.may_read_byte law live procs n grow_kept u s to rest sized may m beside))
             (run_off live procs (cl [] awaits) m q6 z1 no_words test.Equal 4 8 2 char_lines refl has.eight_is refl refl))
 
         last_char : Outcome w text (ch ∷ []) [] (work_for w (ch ∷ [])) from_last
         last_char = elim (cases_Bool (may_get u.room w)) [
           | inl does ↦
-              let y = chars.gets law live procs n grow_kept u s to rest sized input may w text ch small m place x beside [] awaits z1 has_z1 five does in
+              let y = chars.gets law live procs n grow_kept u s to rest sized may w text ch small m place x beside [] awaits z1 has_z1 five does in
               let few = y.few in
               then_others w text ch [] [] from_last does (5 + (y.count + 1)) (state_at (cl [] 1) y.memory line_end_lines y.vars no_words)
               (then_runs live procs to_char_last (then_runs live procs y.runs
@@ -295,36 +295,42 @@ module _ (law : MemoryLaw) (live : Lives) (procs : List WordProc) (n : ℕ) (gro
               (state_at (cl [] 1) y.memory line_end_lines y.vars no_words) (stay (state_at (cl [] 1) y.memory line_end_lines y.vars no_words)))
           | inr out ↦
               then_stops w text ch [] [] from_last out 5 (state_at (cl [] awaits) m char_lines z1 no_words) to_char_last (omega arith) x.long
-              (chars.stops_there law live procs n grow_kept u s to rest sized input may w text ch small m place x beside [] awaits z1 has_z1 five out)
+              (chars.stops_there law live procs n grow_kept u s to rest sized may w text ch small m place x beside [] awaits z1 has_z1 five out)
         ]
 
     -- ---- the routine's lines where one more byte is left
 
-    module _ (ch : ℕ) (small : ch < 256) (d : ℕ) (d_small : d < 256) (ds : List ℕ) (w : UnderWay) (text : List ℕ) (m : Memory) (place : ℕ)
+    module _ (ch : ℕ) (small : ch < 256) (next : ℕ) (ds : List ℕ) (w : UnderWay) (text : List ℕ) (m : Memory) (place : ℕ)
         (x : StageAt w text m place) (beside : BesideText m) (v : Vars) (has : Vs v place w.length) (five : v 5 ≡ Some ch) (awaits : ℕ)
         (differ : ch ≡ 10 → ⊥)
       where
+        abbrev d : ℕ
+        d = next % 256
+
+        d_small : d < 256
+        d_small = omega arith
+
         abbrev from_more : WordState
-        from_more = state_at (cl (d ∷ ds) awaits) m line_lines v no_words
+        from_more = state_at (cl (next ∷ ds) awaits) m line_lines v no_words
 
         abbrev m2 : Memory
         m2 = with_bytes m u.to (d ∷ [])
 
         regions2 : Sized m2
         regions2 =
-            bytes_sized law m x.regions u.to (d ∷ []) (chars.may_read_byte law live procs n grow_kept u s to rest sized input may m beside) (d_small, tt)
+            bytes_sized law m x.regions u.to (d ∷ []) (chars.may_read_byte law live procs n grow_kept u s to rest sized may m beside) (d_small, tt)
 
         written2 : IsRewritten m m2 (u.to + 0) 1
         written2 =
             let e : u.to ≡ u.to + 0 = omega arith in
             subst (λ a. IsRewritten m m2 a 1) e (bytes_written law m x.regions u.to (d ∷ [])
-            (chars.may_read_byte law live procs n grow_kept u s to rest sized input may m beside) (d_small, tt))
+            (chars.may_read_byte law live procs n grow_kept u s to rest sized may m beside) (d_small, tt))
 
         stage2 : StageAt w text m2 place
-        stage2 = chars.stage_then law live procs n grow_kept u s to rest sized input may w text m m2 place 0 1 (omega arith) x beside regions2 written2
+        stage2 = chars.stage_then law live procs n grow_kept u s to rest sized may w text m m2 place 0 1 (omega arith) x beside regions2 written2
 
         beside2 : BesideText m2
-        beside2 = chars.text_then law live procs n grow_kept u s to rest sized input may m m2 0 1 (omega arith) beside written2
+        beside2 = chars.text_then law live procs n grow_kept u s to rest sized may m m2 0 1 (omega arith) beside written2
 
         abbrev y1 : Vars
         y1 = put (put v 7 10) 4 1
@@ -358,13 +364,13 @@ module _ (law : MemoryLaw) (live : Lives) (procs : List WordProc) (n : ℕ) (gro
 
         to_next_test : Runs live procs 6 from_more (state_at (cl ds awaits) m2 q7 y2 no_words)
         to_next_test =
-            then_runs live procs (no_feed (d ∷ ds) awaits m v ch five differ) (then_runs live procs
-            (run_read_one live procs (cl (d ∷ ds) awaits) m q5 (put v 7 10) no_words 4 0 3 d ds has.zero_is has.three_is refl
-            (chars.may_read_byte law live procs n grow_kept u s to rest sized input may m beside))
+            then_runs live procs (no_feed (next ∷ ds) awaits m v ch five differ) (then_runs live procs
+            (run_read_one live procs (cl (next ∷ ds) awaits) m q5 (put v 7 10) no_words 4 0 3 next ds has.zero_is has.three_is refl
+            (chars.may_read_byte law live procs n grow_kept u s to rest sized may m beside))
             (then_runs live procs (run_past live procs (cl ds awaits) m2 q6 y1 no_words test.Equal 4 8 2 refl has.eight_is refl)
             (run_load live procs (cl ds awaits) m2 q7 y1 no_words 6 0 Byte has.zero_is
             (byte_read m2 u.to d (bytes_there law m x.regions u.to (d ∷ [])
-            (chars.may_read_byte law live procs n grow_kept u s to rest sized input may m beside) (d_small, tt))))))
+            (chars.may_read_byte law live procs n grow_kept u s to rest sized may m beside) (d_small, tt))))))
 
         -- the character comes to the text, and the next one is looked at
         module _ (line left : List ℕ) (z : Vars) (has_z : Vs z place w.length) (five_z : z 5 ≡ Some ch) (four_z : z 4 ≡ Some 1) (six_z : z 6 ≡ Some d) (l : ℕ)
@@ -376,7 +382,7 @@ module _ (law : MemoryLaw) (live : Lives) (procs : List WordProc) (n : ℕ) (gro
             one_char : Outcome w text (ch ∷ line) left (work_for w (ch ∷ line)) from_more
             one_char = elim (cases_Bool (may_get u.room w)) [
               | inl does ↦
-                  let y = chars.gets law live procs n grow_kept u s to rest sized input may w text ch small m2 place stage2 beside2 ds awaits z has_z
+                  let y = chars.gets law live procs n grow_kept u s to rest sized may w text ch small m2 place stage2 beside2 ds awaits z has_z
                   five_z does in
                   let few1 = y.few in
                   let v5 : Vars = put y.vars 5 d in
@@ -397,7 +403,7 @@ module _ (law : MemoryLaw) (live : Lives) (procs : List WordProc) (n : ℕ) (gro
                   (goes y.memory y.place y.stage y.beside v5 (has_longer w v5 y.place has5) (got d (omega (arith, d_small))))
               | inr out ↦
                   then_stops w text ch line left from_more out l (state_at (cl ds awaits) m2 char_lines z no_words) to_char few x.long
-                  (chars.stops_there law live procs n grow_kept u s to rest sized input may w text ch small m2 place stage2 beside2 ds awaits z has_z
+                  (chars.stops_there law live procs n grow_kept u s to rest sized may w text ch small m2 place stage2 beside2 ds awaits z has_z
                   five_z out)
             ]
 
@@ -436,30 +442,35 @@ module _ (law : MemoryLaw) (live : Lives) (procs : List WordProc) (n : ℕ) (gro
 
     -- ---- the whole line
 
+    -- a character was read, and behind it this input is left
     abbrev pub LineOutcome : UnderWay → List ℕ → ℕ → List ℕ → WordState → Type 0
-    LineOutcome w text ch cs from = Outcome w text (line_from ch cs) (behind_line ch cs) (work_for w (line_from ch cs)) from
+    LineOutcome w text ch left from =
+        Outcome w text (line_from ch (as_bytes left)) (behind_line ch left) (work_for w (line_from ch (as_bytes left))) from
 
-    word_of_byte : (d : ℕ) → d < 256 → d < 2 ^ 32
-    word_of_byte d h = omega (arith, h)
+    word_of_byte : (next : ℕ) → next % 256 < 2 ^ 32
+    word_of_byte next = omega arith
 
     -- by what the first two are
-    module _ (ch d : ℕ) (ds : List ℕ) (w : UnderWay) (text : List ℕ) (from : WordState) where
+    module _ (ch next : ℕ) (ds : List ℕ) (w : UnderWay) (text : List ℕ) (from : WordState) where
+      abbrev second : ℕ
+      second = next % 256
+
       abbrev line_by : Bool → Bool → List ℕ
-      line_by b e = if b then [] else if e then (if nat_eq ch 13 then [] else ch ∷ []) else ch ∷ line_from d ds
+      line_by b e = if b then [] else if e then (if nat_eq ch 13 then [] else ch ∷ []) else ch ∷ line_from second (as_bytes ds)
 
       abbrev left_by : Bool → Bool → List ℕ
-      left_by b e = if b then d ∷ ds else if e then ds else behind_line d ds
+      left_by b e = if b then next ∷ ds else if e then ds else behind_line second ds
 
-      as_line : (b e : Bool) → nat_eq ch 10 ≡ b → nat_eq d 10 ≡ e → Outcome w text (line_by b e) (left_by b e) (work_for w (line_by b e)) from
-          → LineOutcome w text ch (d ∷ ds) from
+      as_line : (b e : Bool) → nat_eq ch 10 ≡ b → nat_eq second 10 ≡ e → Outcome w text (line_by b e) (left_by b e) (work_for w (line_by b e)) from
+          → LineOutcome w text ch (next ∷ ds) from
       as_line b e is_b is_e outcome =
-          subst (λ b. Outcome w text (line_by b (nat_eq d 10)) (left_by b (nat_eq d 10)) (work_for w (line_by b (nat_eq d 10))) from) (sym is_b)
+          subst (λ b. Outcome w text (line_by b (nat_eq second 10)) (left_by b (nat_eq second 10)) (work_for w (line_by b (nat_eq second 10))) from) (sym is_b)
           (subst (λ e. Outcome w text (line_by b e) (left_by b e) (work_for w (line_by b e)) from) (sym is_e) outcome)
 
-    pub reads_on : (cs : List ℕ) (ch : ℕ) → ch < 256 → AreBytes cs → (w : UnderWay) (text : List ℕ) (m : Memory) (place : ℕ) → StageAt w text m place
+    pub reads_on : (left : List ℕ) (ch : ℕ) → ch < 256 → (w : UnderWay) (text : List ℕ) (m : Memory) (place : ℕ) → StageAt w text m place
         → BesideText m → (v : Vars) → Vs v place w.length → v 5 ≡ Some ch → (awaits : ℕ)
-        → LineOutcome w text ch cs (state_at (cl cs awaits) m line_lines v no_words)
-    reads_on [] ch small are w text m place x beside v has five awaits = elim (cases_eq ch 10) [
+        → LineOutcome w text ch left (state_at (cl left awaits) m line_lines v no_words)
+    reads_on [] ch small w text m place x beside v has five awaits = elim (cases_eq ch 10) [
       | inl feed ↦
           subst (λ l. Outcome w text l [] (work_for w l) (state_at (cl [] awaits) m line_lines v no_words))
           (sym (ap (λ b. if b then [] else ch ∷ []) (eq-eqb ch 10 feed)))
@@ -475,27 +486,27 @@ module _ (law : MemoryLaw) (live : Lives) (procs : List WordProc) (n : ℕ) (gro
           (sym (ap (λ b. if b then [] else ch ∷ []) (ne_eqb ch 10 differ)))
           (last_char ch small w text m place x beside v has five awaits differ)
     ]
-    reads_on (d ∷ ds) ch small are w text m place x beside v has five awaits = elim (cases_eq ch 10) [
+    reads_on (next ∷ ds) ch small w text m place x beside v has five awaits = elim (cases_eq ch 10) [
       | inl feed ↦
-          as_line ch d ds w text (state_at (cl (d ∷ ds) awaits) m line_lines v no_words) true (nat_eq d 10) (eq-eqb ch 10 feed) refl
-          (over w text (d ∷ ds) m place x beside (put v 7 10) (record {
+          as_line ch next ds w text (state_at (cl (next ∷ ds) awaits) m line_lines v no_words) true (nat_eq (next % 256) 10) (eq-eqb ch 10 feed) refl
+          (over w text (next ∷ ds) m place x beside (put v 7 10) (record {
             zero_is = has.zero_is;
             one_is = has.one_is;
             two_is = has.two_is;
             three_is = has.three_is;
             eight_is = has.eight_is;
-          }) awaits 3 (omega arith) (state_at (cl (d ∷ ds) awaits) m line_lines v no_words) (at_feed (d ∷ ds) awaits m v ch five feed))
-      | inr differ ↦ elim (cases_eq d 10) [
+          }) awaits 3 (omega arith) (state_at (cl (next ∷ ds) awaits) m line_lines v no_words) (at_feed (next ∷ ds) awaits m v ch five feed))
+      | inr differ ↦ elim (cases_eq (next % 256) 10) [
         | inl end ↦
-            as_line ch d ds w text (state_at (cl (d ∷ ds) awaits) m line_lines v no_words) false true (ne_eqb ch 10 differ) (eq-eqb d 10 end)
-            (at_end ch small d are.0 ds w text m place x beside v has five awaits differ end)
+            as_line ch next ds w text (state_at (cl (next ∷ ds) awaits) m line_lines v no_words) false true (ne_eqb ch 10 differ) (eq-eqb (next % 256) 10 end)
+            (at_end ch small next ds w text m place x beside v has five awaits differ end)
         | inr no_end ↦
-            as_line ch d ds w text (state_at (cl (d ∷ ds) awaits) m line_lines v no_words) false false (ne_eqb ch 10 differ) (ne_eqb d 10 no_end)
-            (one_char ch small d are.0 ds w text m place x beside v has five awaits differ (line_from d ds) (behind_line d ds)
-            (put (put (put v 7 10) 4 1) 6 d)
-            (has_y2 ch small d are.0 ds w text m place x beside v has five awaits differ) five refl (got d (word_of_byte d are.0)) 7 (omega arith)
-            (to_char_more ch small d are.0 ds w text m place x beside v has five awaits differ no_end)
+            as_line ch next ds w text (state_at (cl (next ∷ ds) awaits) m line_lines v no_words) false false (ne_eqb ch 10 differ) (ne_eqb (next % 256) 10 no_end)
+            (one_char ch small next ds w text m place x beside v has five awaits differ (line_from (next % 256) (as_bytes ds)) (behind_line (next % 256) ds)
+            (put (put (put v 7 10) 4 1) 6 (next % 256))
+            (has_y2 ch small next ds w text m place x beside v has five awaits differ) five refl (got (next % 256) (word_of_byte next)) 7 (omega arith)
+            (to_char_more ch small next ds w text m place x beside v has five awaits differ no_end)
             (λ m3 place3 stage3 beside3 v3 has3 five3.
-            reads_on ds d are.0 are.1 (one_longer w) (text ++ ch ∷ []) m3 place3 stage3 beside3 v3 has3 five3 1))
+            reads_on ds (next % 256) (omega arith) (one_longer w) (text ++ ch ∷ []) m3 place3 stage3 beside3 v3 has3 five3 1))
       ]
     ]

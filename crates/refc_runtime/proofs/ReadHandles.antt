@@ -9,6 +9,7 @@ use Rattle.arc_base.specs.Event.{writes}
 use Rattle.arc_base.specs.declared.outside.Stream.TheVariants.{Err}
 use Rattle.nim_program.specs.Traps.{OutOfMemory}
 use Rattle.nim_meaning.specs.OwnedRows.{up_to_feed, next_line}
+use Rattle.rv32_isa.specs.Regions.{as_bytes}
 use Rattle.rv32_isa.specs.declared.micro_op.Size.TheVariants.{Word as whole}
 use Rattle.rv32_isa.specs.declared.machine.FaultKind.TheVariants.{Misaligned}
 use Rattle.rv32_isa.specs.Steps.{number_of}
@@ -79,7 +80,7 @@ line_small own r w text m place sized x = by w.class x.has x.there x.heap
         (omega (arith, l, few, high, most), omega (arith, high, most))
 
 module _ (law : MemoryLaw) (live : Lives) (procs : List WordProc) (n : ℕ)
-    (read_kept : (input : List ℕ) → IsKeptOn live procs input (reads_line (own_data_at + n) input))
+    (read_kept : (input : List ℕ) → IsKeptOn live procs input (reads_line (own_data_at + n) (as_bytes input)))
     (release_kept : IsKeptThere live procs (releases (own_data_at + n))) (u : ReadingText) (s : WordState) (to : ℕ) (rest : List WordInstr)
     (others : List WordProc) (stands : from_proc TEXT_READ procs ≡ later n TEXT_READ 1 7 text_read_lines ∷ others)
     (calling : IsCalling TEXT_READ (u.to ∷ []) to rest s) (sized : Sized s.memory)
@@ -148,21 +149,24 @@ module _ (law : MemoryLaw) (live : Lives) (procs : List WordProc) (n : ℕ)
     abbrev g1 : Vars
     g1 = put no_words 0 r.to
 
-    module _ (input : List ℕ) (is : s.input ≡ input) (may : MayReadText own input u s.memory) where
+    module _ (all : List ℕ) (is : s.input ≡ all) (may : MayReadText own u s.memory) where
+      -- as bytes
+      abbrev input : List ℕ
+      input = as_bytes all
+
       abbrev row : Type 0
       row = Comes live procs (reads_text own input) u s to rest ((reads_text own input).ends u)
 
       low : own + HEAP_DATA < 2 ^ 32
       low = let l = scratch_low own u.classes u.stands s.memory may.heap sized in omega (arith, l)
 
-      may_read : MayRead own input r s.memory
+      may_read : MayRead own r s.memory
       may_read = record {
         heap = may.heap;
         all = may.all;
         cells = scratch_words own u.classes u.stands s.memory may.heap sized;
         elsewhere = scratch_elsewhere own u.classes u.stands s.memory may.heap sized r.to 8 (omega arith) (omega arith);
         unused = may.unused;
-        are = may.are;
       }
 
       old_small : old < 2 ^ 32
@@ -195,7 +199,7 @@ module _ (law : MemoryLaw) (live : Lives) (procs : List WordProc) (n : ℕ)
       reads_it : Comes live procs (reads_line own input) r before 5 k5 ((reads_line own input).ends r)
       reads_it =
           let l = low in
-          read_kept input r before 5 k5 is (record { next = refl; given = (got r.to (omega (arith, l)), tt) }) sized may_read
+          read_kept all r before 5 k5 is (record { next = refl; given = (got r.to (omega (arith, l)), tt) }) sized may_read
 
       -- what is left of the input
       abbrev left : List ℕ
@@ -237,7 +241,7 @@ module _ (law : MemoryLaw) (live : Lives) (procs : List WordProc) (n : ℕ)
 
     -- ---- no byte is left
 
-    none_left : s.input ≡ [] → MayReadText own [] u s.memory → Comes live procs (reads_text own []) u s to rest None
+    none_left : s.input ≡ [] → MayReadText own u s.memory → Comes live procs (reads_text own []) u s to rest None
     none_left is may =
         let x : ComesBack live procs (reads_line own []) r (before [] is may) 5 k5 = reads_it [] is may in
         let few = x.few in
@@ -249,7 +253,14 @@ module _ (law : MemoryLaw) (live : Lives) (procs : List WordProc) (n : ℕ)
 
     -- ---- a line is left
 
-    module _ (ch : ℕ) (cs : List ℕ) (is : s.input ≡ ch ∷ cs) (may : MayReadText own (ch ∷ cs) u s.memory) where
+    module _ (first : ℕ) (behind : List ℕ) (is : s.input ≡ first ∷ behind) (may : MayReadText own u s.memory) where
+      -- as bytes
+      abbrev ch : ℕ
+      ch = first % 256
+
+      abbrev cs : List ℕ
+      cs = as_bytes behind
+
       abbrev w : UnderWay
       w = line_then (ch ∷ cs) r
 
@@ -277,7 +288,7 @@ module _ (law : MemoryLaw) (live : Lives) (procs : List WordProc) (n : ℕ)
       word_of : (m other : Memory) (a : ℕ) → bytes_at other a 4 ≡ bytes_at m a 4 → number_at other a whole ≡ number_at m a whole
       word_of m other a same = ap (λ o. if a % 4 == 0 then number_of o else Failed Misaligned) same
 
-      module _ (x : ComesBack live procs (reads_line own (ch ∷ cs)) r (before (ch ∷ cs) is may) 5 k5) (fits : line_fits (ch ∷ cs) r ≡ true) where
+      module _ (x : ComesBack live procs (reads_line own (ch ∷ cs)) r (before (first ∷ behind) is may) 5 k5) (fits : line_fits (ch ∷ cs) r ≡ true) where
         abbrev m1 : Memory
         m1 = x.memory
 
@@ -307,11 +318,11 @@ module _ (law : MemoryLaw) (live : Lives) (procs : List WordProc) (n : ℕ)
         }
 
         abbrev at_release : WordState
-        at_release = state_at (c (left (ch ∷ cs) is may) 5) m1 k8 y5 (put no_words 0 old)
+        at_release = state_at (c (left (first ∷ behind) is may) 5) m1 k8 y5 (put no_words 0 old)
 
         released : ComesBack live procs (releases own) releasing at_release 6 k9
         released =
-            release_kept releasing at_release 6 k9 (record { next = refl; given = (got old (old_small (ch ∷ cs) is may), tt) }) sized1
+            release_kept releasing at_release 6 k9 (record { next = refl; given = (got old (old_small (first ∷ behind) is may), tt) }) sized1
             (record {
               heap = line.stands.heap;
               present = still_present u may.unused w place line.stands.payload line.stands.has may.present;
@@ -347,7 +358,7 @@ module _ (law : MemoryLaw) (live : Lives) (procs : List WordProc) (n : ℕ)
           m3 = with_handle law m2 sized2 u.to (length text) place has2 smalls.0 smalls.1
 
           abbrev d : Within
-          d = c (left (ch ∷ cs) is may) 6
+          d = c (left (first ∷ behind) is may) 6
 
           abbrev y6 : Vars
           y6 = put y5 6 y.word
@@ -371,45 +382,45 @@ module _ (law : MemoryLaw) (live : Lives) (procs : List WordProc) (n : ℕ)
           puts_line =
               let few1 = x.few in
               let few2 = y.few in
-              let l = low (ch ∷ cs) is may in
-              back (ch ∷ cs) is may x fits 1 m3 (subst (λ b. LineLeaves b own u w text s.memory m3) (sym fits) is_line_put) refl
+              let l = low (first ∷ behind) is may in
+              back (first ∷ behind) is may x fits 1 m3 (subst (λ b. LineLeaves b own u w text s.memory m3) (sym fits) is_line_put) refl
               (5 + (x.lines + 1) + (1 + (1 + (y.lines + (3 + (3 + 2)))))) (omega (arith, few1, few2))
-              (then_runs live procs (to_branch (ch ∷ cs) is may x fits) (then_runs live procs
-              (run_past live procs (c (left (ch ∷ cs) is may) 5) m1 k7 y5 no_words test.Equal 5 4 0 five_is refl refl) (then_runs live procs
-              (run_argument live procs (c (left (ch ∷ cs) is may) 5) m1 k8 y5 no_words 0 6 (got old (old_small (ch ∷ cs) is may))) (then_runs live procs
-              (call_runs live procs (releases own) releasing (c (left (ch ∷ cs) is may) 5) m1 y5 (put no_words 0 old) 6 k9 refl refl y) (then_runs live procs
+              (then_runs live procs (to_branch (first ∷ behind) is may x fits) (then_runs live procs
+              (run_past live procs (c (left (first ∷ behind) is may) 5) m1 k7 y5 no_words test.Equal 5 4 0 five_is refl refl) (then_runs live procs
+              (run_argument live procs (c (left (first ∷ behind) is may) 5) m1 k8 y5 no_words 0 6 (got old (old_small (first ∷ behind) is may))) (then_runs live procs
+              (call_runs live procs (releases own) releasing (c (left (first ∷ behind) is may) 5) m1 y5 (put no_words 0 old) 6 k9 refl refl y) (then_runs live procs
               (run_handle live procs d m2 sized2 (put_handle_lines k10) y6 no_words r.to (length text) place handle 2 3 1 (got r.to (omega (arith, l)))
               (got r.to (omega (arith, l))) refl) (then_runs live procs
               (run_put_handle law m2 sized2 u.to (length text) place has2 smalls.0 smalls.1 live procs d k10 y7 calling.given.0 (got (length text) smalls.0)
-              (got place smalls.1)) (returns (ch ∷ cs) is may x fits m3 (put y7 4 (u.to + 4)) 6 1 five_is)))))))
+              (got place smalls.1)) (returns (first ∷ behind) is may x fits m3 (put y7 4 (u.to + 4)) 6 1 five_is)))))))
 
       some_left : Coming
       some_left = elim (cases_Bool (line_fits (ch ∷ cs) r)) [
         | inl fits ↦
-            let x : ComesBack live procs (reads_line own (ch ∷ cs)) r (before (ch ∷ cs) is may) 5 k5
-            = subst (λ b. Comes live procs (reads_line own (ch ∷ cs)) r (before (ch ∷ cs) is may) 5 k5 (if b then None else Some 1)) fits
-            (reads_it (ch ∷ cs) is may) in
+            let x : ComesBack live procs (reads_line own (ch ∷ cs)) r (before (first ∷ behind) is may) 5 k5
+            = subst (λ b. Comes live procs (reads_line own (ch ∷ cs)) r (before (first ∷ behind) is may) 5 k5 (if b then None else Some 1)) fits
+            (reads_it (first ∷ behind) is may) in
             puts_line x fits (released x fits)
         | inr out ↦
-            let x : EndsProgram live procs (reads_line own (ch ∷ cs)) r (before (ch ∷ cs) is may) 1
-            = subst (λ b. Comes live procs (reads_line own (ch ∷ cs)) r (before (ch ∷ cs) is may) 5 k5 (if b then None else Some 1)) out
-            (reads_it (ch ∷ cs) is may) in
+            let x : EndsProgram live procs (reads_line own (ch ∷ cs)) r (before (first ∷ behind) is may) 1
+            = subst (λ b. Comes live procs (reads_line own (ch ∷ cs)) r (before (first ∷ behind) is may) 5 k5 (if b then None else Some 1)) out
+            (reads_it (first ∷ behind) is may) in
             let shown : (reads_line own (ch ∷ cs)).shows r ≡ writes Err (trap_line OutOfMemory)
             = ap (λ b. if b then [] else writes Err (trap_line OutOfMemory)) out in
-            let stops : AlwaysStops (step live procs) (before (ch ∷ cs) is may) (writes Err (trap_line OutOfMemory)) ((reads_line own (ch ∷ cs)).lines r) 1
+            let stops : AlwaysStops (step live procs) (before (first ∷ behind) is may) (writes Err (trap_line OutOfMemory)) ((reads_line own (ch ∷ cs)).lines r) 1
             (live (as_state x.memory))
-            = subst (λ es. AlwaysStops (step live procs) (before (ch ∷ cs) is may) es ((reads_line own (ch ∷ cs)).lines r) 1 (live (as_state x.memory))) shown
+            = subst (λ es. AlwaysStops (step live procs) (before (first ∷ behind) is may) es ((reads_line own (ch ∷ cs)).lines r) 1 (live (as_state x.memory))) shown
             x.stops in
             ends_behind live procs s to rest (reads_text own (ch ∷ cs)) u calling.next 1 (ap (λ b. if b then None else Some 1) out) x.memory
             (subst (λ b. LineLeaves b own u w text s.memory x.memory) (sym out) (beside_data x.memory x.leaves.0, x.leaves.1)) 5
-            ((reads_line own (ch ∷ cs)).lines r) (omega arith) (before (ch ∷ cs) is may) (to_read (ch ∷ cs) is may) (writes Err (trap_line OutOfMemory))
+            ((reads_line own (ch ∷ cs)).lines r) (omega arith) (before (first ∷ behind) is may) (to_read (first ∷ behind) is may) (writes Err (trap_line OutOfMemory))
             (ap (λ b. if b then [] else writes Err (trap_line OutOfMemory)) out) stops
       ]
 
 pub text_read_kept : (law : MemoryLaw) (live : Lives) (procs : List WordProc) (n : ℕ)
-    → ((input : List ℕ) → IsKeptOn live procs input (reads_line (own_data_at + n) input)) → IsKeptThere live procs (releases (own_data_at + n))
+    → ((input : List ℕ) → IsKeptOn live procs input (reads_line (own_data_at + n) (as_bytes input))) → IsKeptThere live procs (releases (own_data_at + n))
     → (others : List WordProc) → from_proc TEXT_READ procs ≡ later n TEXT_READ 1 7 text_read_lines ∷ others
-    → (input : List ℕ) → IsKeptOn live procs input (reads_text (own_data_at + n) input)
+    → (input : List ℕ) → IsKeptOn live procs input (reads_text (own_data_at + n) (as_bytes input))
 text_read_kept law live procs n read_kept release_kept others stands [] u s to rest is calling sized may =
     none_left law live procs n read_kept release_kept u s to rest others stands calling sized is may
 text_read_kept law live procs n read_kept release_kept others stands (ch ∷ cs) u s to rest is calling sized may =

@@ -8,7 +8,7 @@ use Rattle.arc_base.specs.Event.{writes}
 use Rattle.arc_base.specs.declared.outside.Stream.TheVariants.{Err}
 use Rattle.nim_program.specs.Traps.{OutOfMemory}
 use Rattle.nim_meaning.specs.OwnedRows.{up_to_feed, next_line}
-use Rattle.rv32_isa.specs.Regions.{AreBytes}
+use Rattle.rv32_isa.specs.Regions.{AreBytes, as_bytes}
 use Rattle.rv32_isa.specs.declared.micro_op.Size.TheVariants.{Byte, Word as whole}
 use Rattle.rv32_isa.specs.declared.machine.FaultKind.TheVariants.{Misaligned}
 use Rattle.rv32_isa.specs.State.{writable}
@@ -87,35 +87,46 @@ module _ (law : MemoryLaw) (live : Lives) (procs : List WordProc) (n : ℕ) (gro
         (run_constant live procs (c s.input 0) s.memory (Constant 8 0 ∷ k5) (put (put v0 1 0) 2 0) no_words 3 1)
         (run_constant live procs (c s.input 0) s.memory k5 (put (put (put v0 1 0) 2 0) 3 1) no_words 8 0))))
 
-    module _ (input : List ℕ) (is : s.input ≡ input) (may : MayRead own input u s.memory) where
+    module _ (may : MayRead own u s.memory) where
       beside_none : IsBesideText own u s.memory s.memory
       beside_none = record { sizes = sizes_same s.memory; beside = λ b k words heap cell. refl }
 
       may_byte : may_fill s.memory u.to 1 ≡ true
-      may_byte = may_read_byte law live procs n grow_kept u s to rest sized input may s.memory beside_none
+      may_byte = may_read_byte law live procs n grow_kept u s to rest sized may s.memory beside_none
 
       -- no byte is left
-      none_left : input ≡ [] → Comes live procs (reads_line own []) u s to rest (if line_fits [] u then None else Some 1)
+      none_left : s.input ≡ [] → Comes live procs (reads_line own []) u s to rest (if line_fits [] u then None else Some 1)
       none_left empty =
           comes_back live procs s to rest (reads_line own []) u calling.next refl refl 0 s.memory refl refl 8 (omega arith)
           (subst (λ i. Runs live procs 8 (calling_state live procs s to rest (reads_line own []) u calling.next) (goes_on s to 0 rest s.memory i))
-          (sym (ap (drop 0) (is ∙ empty)))
+          (sym (ap (drop 0) empty))
           (then_runs live procs (to_read []) (then_runs live procs
-          (run_read_none live procs (c s.input 0) s.memory k6 v4 no_words 4 0 3 calling.given.0 refl (is ∙ empty) may_byte) (then_runs live procs
+          (run_read_none live procs (c s.input 0) s.memory k6 v4 no_words 4 0 3 calling.given.0 refl empty may_byte) (then_runs live procs
           (run_past live procs (c [] 0) s.memory k7 (put v4 4 0) no_words test.Unequal 4 8 0 refl refl refl)
           (returns_before live procs (left_with []) to rest k8 p refl s.memory (put v4 4 0) 4 0 refl)))))
 
     -- ---- a line is left
 
-    module _ (ch : ℕ) (cs : List ℕ) (is : s.input ≡ ch ∷ cs) (may : MayRead own (ch ∷ cs) u s.memory) where
+    module _ (first : ℕ) (behind : List ℕ) (is : s.input ≡ first ∷ behind) (may : MayRead own u s.memory) where
+      -- as bytes
+      abbrev ch : ℕ
+      ch = first % 256
+
+      abbrev cs : List ℕ
+      cs = as_bytes behind
+
+      -- what is left behind the line
+      abbrev behind_it : List ℕ
+      behind_it = behind_line ch behind
+
       abbrev beside0 : IsBesideText own u s.memory s.memory
       beside0 = record { sizes = sizes_same s.memory; beside = λ b k words heap cell. refl }
 
       byte_small : AreBytes (ch ∷ [])
-      byte_small = (may.are.0, tt)
+      byte_small = (omega arith, tt)
 
       byte_open : may_fill s.memory u.to 1 ≡ true
-      byte_open = may_read_byte law live procs n grow_kept u s to rest sized (ch ∷ cs) may s.memory beside0
+      byte_open = may_read_byte law live procs n grow_kept u s to rest sized may s.memory beside0
 
       abbrev m1 : Memory
       m1 = with_bytes s.memory u.to (ch ∷ [])
@@ -131,7 +142,7 @@ module _ (law : MemoryLaw) (live : Lives) (procs : List WordProc) (n : ℕ) (gro
           let e : u.to ≡ u.to + 0 = omega arith in
           subst (λ a. IsRewritten s.memory m1 a 1) e (bytes_written law s.memory sized u.to (ch ∷ []) byte_open byte_small)
 
-      stage0 : StageAt law live procs n grow_kept u s to rest sized (ch ∷ cs) may w0 [] s.memory 0
+      stage0 : StageAt law live procs n grow_kept u s to rest sized may w0 [] s.memory 0
       stage0 = record {
         regions = sized;
         all = may.all;
@@ -144,35 +155,35 @@ module _ (law : MemoryLaw) (live : Lives) (procs : List WordProc) (n : ℕ) (gro
         heap = may.heap;
       }
 
-      stage1 : StageAt law live procs n grow_kept u s to rest sized (ch ∷ cs) may w0 [] m1 0
+      stage1 : StageAt law live procs n grow_kept u s to rest sized may w0 [] m1 0
       stage1 =
-          stage_then law live procs n grow_kept u s to rest sized (ch ∷ cs) may w0 [] s.memory m1 0 0 1 (omega arith) stage0 beside0
+          stage_then law live procs n grow_kept u s to rest sized may w0 [] s.memory m1 0 0 1 (omega arith) stage0 beside0
           (bytes_sized law s.memory sized u.to (ch ∷ []) byte_open byte_small) written1
 
-      beside1 : BesideText law live procs n grow_kept u s to rest sized (ch ∷ cs) may m1
-      beside1 = text_then law live procs n grow_kept u s to rest sized (ch ∷ cs) may s.memory m1 0 1 (omega arith) beside0 written1
+      beside1 : BesideText law live procs n grow_kept u s to rest sized may m1
+      beside1 = text_then law live procs n grow_kept u s to rest sized may s.memory m1 0 1 (omega arith) beside0 written1
 
       abbrev v6 : Vars
       v6 = put (put v4 4 1) 5 ch
 
       ch_small : ch < 2 ^ 32
-      ch_small = let h = may.are.0 in omega (arith, h)
+      ch_small = omega arith
 
       abbrev from : WordState
-      from = state_at (c cs 0) m1 line_lines v6 no_words
+      from = state_at (c behind 0) m1 line_lines v6 no_words
 
       to_line : Runs live procs 9 (calling_state live procs s to rest (reads_line own (ch ∷ cs)) u calling.next) from
       to_line =
           then_runs live procs (to_read (ch ∷ cs)) (then_runs live procs
-          (run_read_one live procs (c s.input 0) s.memory k6 v4 no_words 4 0 3 ch cs calling.given.0 refl is byte_open) (then_runs live procs
-          (run_off live procs (c cs 0) m1 k7 (put v4 4 1) no_words test.Unequal 4 8 0 k8 refl refl refl refl) (then_runs live procs
-          (run_label live procs (c cs 0) m1 k9 (put v4 4 1) no_words 0)
-          (run_load live procs (c cs 0) m1 line_lines (put v4 4 1) no_words 5 0 Byte calling.given.0
+          (run_read_one live procs (c s.input 0) s.memory k6 v4 no_words 4 0 3 first behind calling.given.0 refl is byte_open) (then_runs live procs
+          (run_off live procs (c behind 0) m1 k7 (put v4 4 1) no_words test.Unequal 4 8 0 k8 refl refl refl refl) (then_runs live procs
+          (run_label live procs (c behind 0) m1 k9 (put v4 4 1) no_words 0)
+          (run_load live procs (c behind 0) m1 line_lines (put v4 4 1) no_words 5 0 Byte calling.given.0
           (byte_read m1 u.to ch (bytes_there law s.memory sized u.to (ch ∷ []) byte_open byte_small))))))
 
-      outcome : LineOutcome law live procs n grow_kept u s to rest sized (ch ∷ cs) may w0 [] ch cs from
+      outcome : LineOutcome law live procs n grow_kept u s to rest sized may w0 [] ch behind from
       outcome =
-          reads_on law live procs n grow_kept u s to rest sized (ch ∷ cs) may cs ch may.are.0 may.are.1 w0 [] m1 0 stage1 beside1 v6
+          reads_on law live procs n grow_kept u s to rest sized may behind ch (omega arith) w0 [] m1 0 stage1 beside1 v6
           (record { zero_is = calling.given.0; one_is = refl; two_is = refl; three_is = refl; eight_is = refl }) (got ch ch_small) 0
 
       abbrev Coming : Type 0
@@ -213,7 +224,7 @@ module _ (law : MemoryLaw) (live : Lives) (procs : List WordProc) (n : ℕ) (gro
       all_of (x ∷ xs) (suc i) e = ap (λ ys. x ∷ ys) (all_of xs i (omega (arith, e)))
 
       -- the line stands there
-      module _ (x : Reached law live procs n grow_kept u s to rest sized (ch ∷ cs) may (longer u.room (length L) w0) L (behind_line ch cs)
+      module _ (x : Reached law live procs n grow_kept u s to rest sized may (longer u.room (length L) w0) L behind_it
           (line_work u.room (length L) w0 + 9) from)
         where
           abbrev w : UnderWay
@@ -233,11 +244,11 @@ module _ (law : MemoryLaw) (live : Lives) (procs : List WordProc) (n : ℕ) (gro
               let e : u.to ≡ u.to + 0 = omega arith in
               subst (λ a. IsRewritten x.memory a1 a 4) e (store_rewritten law x.memory u.to whole w.length x.stage.regions (may_word x.memory x.beside))
 
-          besides1 : BesideText law live procs n grow_kept u s to rest sized (ch ∷ cs) may a1
-          besides1 = text_then law live procs n grow_kept u s to rest sized (ch ∷ cs) may x.memory a1 0 4 (omega arith) x.beside put1
+          besides1 : BesideText law live procs n grow_kept u s to rest sized may a1
+          besides1 = text_then law live procs n grow_kept u s to rest sized may x.memory a1 0 4 (omega arith) x.beside put1
 
-          staged1 : StageAt law live procs n grow_kept u s to rest sized (ch ∷ cs) may w L a1 x.place
-          staged1 = stage_then law live procs n grow_kept u s to rest sized (ch ∷ cs) may w L x.memory a1 x.place 0 4 (omega arith) x.stage x.beside
+          staged1 : StageAt law live procs n grow_kept u s to rest sized may w L a1 x.place
+          staged1 = stage_then law live procs n grow_kept u s to rest sized may w L x.memory a1 x.place 0 4 (omega arith) x.stage x.beside
               regions1 put1
 
           regions2 : Sized a2
@@ -246,11 +257,11 @@ module _ (law : MemoryLaw) (live : Lives) (procs : List WordProc) (n : ℕ) (gro
           put2 : IsRewritten a1 a2 (u.to + 4) 4
           put2 = store_rewritten law a1 (u.to + 4) whole x.place regions1 (may_second a1 besides1)
 
-          besides2 : BesideText law live procs n grow_kept u s to rest sized (ch ∷ cs) may a2
-          besides2 = text_then law live procs n grow_kept u s to rest sized (ch ∷ cs) may a1 a2 4 4 (omega arith) besides1 put2
+          besides2 : BesideText law live procs n grow_kept u s to rest sized may a2
+          besides2 = text_then law live procs n grow_kept u s to rest sized may a1 a2 4 4 (omega arith) besides1 put2
 
-          staged2 : StageAt law live procs n grow_kept u s to rest sized (ch ∷ cs) may w L a2 x.place
-          staged2 = stage_then law live procs n grow_kept u s to rest sized (ch ∷ cs) may w L a1 a2 x.place 4 4 (omega arith) staged1 besides1 regions2 put2
+          staged2 : StageAt law live procs n grow_kept u s to rest sized may w L a2 x.place
+          staged2 = stage_then law live procs n grow_kept u s to rest sized may w L a1 a2 x.place 4 4 (omega arith) staged1 besides1 regions2 put2
 
           length_small : w.length < 2 ^ 32
           length_small = let h = (may_be_longer own u may.unused w L x.memory x.place x.stage).word in omega (arith, h)
@@ -275,18 +286,18 @@ module _ (law : MemoryLaw) (live : Lives) (procs : List WordProc) (n : ℕ) (gro
           e3 = Store 7 1 whole ∷ Return 3 ∷ []
 
           abbrev d : Within
-          d = c (behind_line ch cs) x.awaits
+          d = c behind_it x.awaits
 
           second_at : put x.vars 7 (u.to + 4) 7 ≡ Some (u.to + 4)
           second_at = got (u.to + 4) text_low
 
-          last_lines : Runs live procs 5 (state_at d x.memory line_end_lines x.vars no_words) (goes_on s to 1 rest a2 (behind_line ch cs))
+          last_lines : Runs live procs 5 (state_at d x.memory line_end_lines x.vars no_words) (goes_on s to 1 rest a2 behind_it)
           last_lines =
               then_runs live procs (run_label live procs d x.memory e1 x.vars no_words 3) (then_runs live procs
               (run_store live procs d x.memory e2 x.vars no_words 0 2 whole x.has.zero_is x.has.two_is (may_word x.memory x.beside)) (then_runs live procs
               (run_sum live procs d a1 e3 x.vars no_words 7 0 4 x.has.zero_is) (then_runs live procs
               (run_store live procs d a1 (Return 3 ∷ []) (put x.vars 7 (u.to + 4)) no_words 7 1 whole second_at x.has.one_is (may_second a1 besides1))
-              (returns_awaiting live procs (left_with (behind_line ch cs)) to rest x.awaits [] p refl a2 (put x.vars 7 (u.to + 4)) 3 1 x.has.three_is))))
+              (returns_awaiting live procs (left_with behind_it) to rest x.awaits [] p refl a2 (put x.vars 7 (u.to + 4)) 3 1 x.has.three_is))))
 
           comes_with : all_fit u.room (length L) w0 ≡ true → Coming
           comes_with fit =
@@ -315,7 +326,7 @@ module _ (law : MemoryLaw) (live : Lives) (procs : List WordProc) (n : ℕ) (gro
                       (subst (λ t. Stage own u may.unused w t a2 x.place) (sym cut) staged2);
                 },
               ) in
-              let left : drop (up_to_feed (ch ∷ cs)) s.input ≡ behind_line ch cs = ap (drop (up_to_feed (ch ∷ cs))) is ∙ behind_is ch cs in
+              let left : drop (up_to_feed (ch ∷ cs)) s.input ≡ behind_it = ap (drop (up_to_feed (ch ∷ cs))) is ∙ behind_is first behind in
               comes_back live procs s to rest (reads_line own (ch ∷ cs)) u calling.next (ap (λ b. if b then None else Some 1) fits)
               (ap (λ b. if b then [] else writes Err (trap_line OutOfMemory)) fits) 1 a2
               (subst (λ l. IsBesideText own u s.memory a2 × IsPart own u (longer u.room (length l) w0) l a2) (sym (line_is ch cs)) leaves)
@@ -326,7 +337,7 @@ module _ (law : MemoryLaw) (live : Lives) (procs : List WordProc) (n : ℕ) (gro
 
       -- the heap is full
       stops_with : all_fit u.room (length L) w0 ≡ false
-          → Part law live procs n grow_kept u s to rest sized (ch ∷ cs) may (longer u.room (length L) w0) L (line_work u.room (length L) w0 + 9) from → Coming
+          → Part law live procs n grow_kept u s to rest sized may (longer u.room (length L) w0) L (line_work u.room (length L) w0 + 9) from → Coming
       stops_with out x =
           let full : line_fits (ch ∷ cs) u ≡ false = fits_is false out in
           let y = x.stopped in
@@ -352,8 +363,8 @@ module _ (law : MemoryLaw) (live : Lives) (procs : List WordProc) (n : ℕ) (gro
 
 pub read_kept : (law : MemoryLaw) (live : Lives) (procs : List WordProc) (n : ℕ) → IsKeptThere live procs (grows (own_data_at + n))
     → (others : List WordProc) → from_proc READ_LINE procs ≡ later n READ_LINE 1 9 read_lines ∷ others
-    → (input : List ℕ) → IsKeptOn live procs input (reads_line (own_data_at + n) input)
+    → (input : List ℕ) → IsKeptOn live procs input (reads_line (own_data_at + n) (as_bytes input))
 read_kept law live procs n grow_kept others stands [] u s to rest is calling sized may =
-    none_left law live procs n grow_kept others stands u s to rest calling sized [] is may refl
+    none_left law live procs n grow_kept others stands u s to rest calling sized may is
 read_kept law live procs n grow_kept others stands (ch ∷ cs) u s to rest is calling sized may =
     one_left law live procs n grow_kept others stands u s to rest calling sized ch cs is may

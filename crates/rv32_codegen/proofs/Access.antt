@@ -11,6 +11,7 @@ use Rattle.arc_base.specs.Behaviour.{Live, Ended}
 use Rattle.arc_base.specs.Stepping.{Next, Goes, Ends, seen}
 use Rattle.arc_base.specs.Simulation.{Stops}
 use Rattle.arc_base.proofs.ForCallers.{steps_one, steps_on, stops_one}
+use Rattle.rv32_isa.specs.Regions.{as_bytes}
 use Rattle.rv32_isa.specs.declared.instr.Instr.TheVariants.{Addi, Ecall}
 use Rattle.rv32_isa.specs.declared.micro_op.Size.{Size}
 use Rattle.rv32_isa.specs.declared.micro_op.Size.TheVariants.{Byte, Half, Word}
@@ -27,6 +28,7 @@ use Rattle.rv32_isa.specs.Steps as leads
 use Rattle.rv32_isa.specs.Machine.{Answers, answered, stream_of}
 use Rattle.rv32_isa.specs.LabelsMeaning.{LabelRun, did, led, replied, step}
 use Rattle.rv32_logic.specs.Registers.{put}
+use Rattle.rv32_isa.proofs.ForCallers.{as_many_read}
 use Rattle.rv32_logic.proofs.ForCallers.{plain_address, signed12_small}
 use Rattle.word_code.specs.declared.word.TheConstants.{MOST_ARGUMENTS}
 use Rattle.word_code.specs.declared.word.WordInstr.{WordInstr}
@@ -414,9 +416,9 @@ module _ (g : Setting) where
       let x = ask_goes t (l ∷ rest) regs ws j f address len a n 0 63 k (omega arith) (omega arith) lives also e d in
       let q = x.2 in
       let count = min n (length t.input) in
-      let bytes = take count t.input in
+      let bytes = as_bytes (take count t.input) in
       let left = drop count t.input in
-      let long : length bytes ≡ count = length-take-le count t.input (omega arith) in
+      let long : length bytes ≡ count = as_many_read (take count t.input) ∙ length-take-le count t.input (omega arith) in
       let may : writable (as_state m) a (length bytes) ≡ true = may_less (as_state m) a n (length bytes) (omega (arith, long)) h in
       let m' = memory_of (filled (as_state m) a bytes) in
       let mid = run_at x.0 m ws t.input (Do Ecall ∷ k) in

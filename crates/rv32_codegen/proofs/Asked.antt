@@ -7,6 +7,7 @@ use Rattle.std.proofs.lemmas.Bool.{cond-true}
 use Rattle.arc_base.specs.declared.outside.Stream.{Stream}
 use Rattle.arc_base.specs.declared.outside.Stream.TheVariants.{Out, Err as ErrStream}
 use Rattle.arc_base.specs.Event.{writes as write_events}
+use Rattle.rv32_isa.specs.Regions.{as_bytes}
 use Rattle.rv32_isa.specs.declared.machine.FaultKind.TheVariants.{OutOfRange, BadCall}
 use Rattle.rv32_isa.specs.State.{State, reg, readable, writable, filled}
 use Rattle.rv32_isa.specs.Machine.{Reply, Answers, Exits, Fails, answered, stream_of, write_bytes, write_call, read_call, call}
@@ -35,7 +36,7 @@ exit_is s input status number status_is =
 abbrev read_at : State → List ℕ → (at n : ℕ) → Reply
 read_at s input at n =
     let count = min n (length input) in
-    Answers (answered (filled s at (take count input)) count) (drop count input) []
+    Answers (answered (filled s at (as_bytes (take count input))) count) (drop count input) []
 
 pub read_is : (s : State) (input : List ℕ) (at n : ℕ) → reg s 17 ≡ 63 → reg s 10 ≡ 0 → reg s 11 ≡ at → reg s 12 ≡ n →
     writable s at n ≡ true →

@@ -1,5 +1,5 @@
 -- How many bytes the label code of word code has at most, where all branches are laid out as too far.
-use Rattle.std.proofs.Common.{◌≡◌, ℕ, suc, ◌+◌, ◌*◌, ◌≤◌, List, [], ◌∷◌, length, arith}
+use Rattle.std.proofs.Common.{◌≡◌, ℕ, ◌+◌, ◌*◌, ◌≤◌, List, [], ◌∷◌, length, arith}
 use Rattle.std.proofs.lemmas.Bool.{cond_both}
 use Rattle.rv32_isa.specs.declared.instr.Instr.{Instr}
 use Rattle.rv32_isa.specs.declared.instr.Instr.TheVariants.{Sw, Addi, Jalr, Ecall, Ebreak}
@@ -15,7 +15,8 @@ use Rattle.rv32_codegen.specs.Code.{does, negative, constant, datum, sum, shift,
 use Rattle.rv32_codegen.specs.Code.{left_of, right_of, argument_at, place_at, datum_at, compare, bring_both, move_range, keep, line_code, lines_code}
 use Rattle.rv32_codegen.specs.Code.{is_leaf, restore, leave_code, proc_code, homes_code, code_of}
 use Rattle.rv32_codegen.specs.Layout.{all_far, size}
-use Rattle.rv32_codegen.specs.Lowering.{AllHomes, is_near_proc, proc_bytes, procs_bytes, most_bytes}
+use Rattle.rv32_codegen.specs.Lowering.{AllHomes}
+use Rattle.rv32_codegen.specs.LineBytes.{line_bytes, lines_bytes, bytes_by, is_near_proc, proc_bytes, procs_bytes, most_bytes}
 use Rattle.rv32_codegen.proofs.Chunks.{Few, few_constant, few_datum, few_sum, few_save, few_restore}
 use Rattle.rv32_codegen.proofs.Reaches.{Reaches, near, far, bring_within, move_within, settle_within, give_within}
 
@@ -61,16 +62,16 @@ module _ (n : ℕ) (h : Homes) (p : WordProc) (r : Reaches n h p) where
   keep_bytes : (m to : ℕ) (is : List Instr) (k : List LabelLine) → Few m is → size all_far (does is (keep h to k)) ≤ 4 * m + (4 * n + size all_far k)
   keep_bytes m to is k few = omega (arith, few, bytes-does is (keep h to k), bytes-does (settle (home_of h to)) k, few_settle to)
 
-  line_bytes : (l : WordInstr) (k : List LabelLine) → size all_far (line_code h p l k) ≤ 12 + 12 * n + size all_far k
-  line_bytes (word.Label name) k = omega arith
-  line_bytes word.Spend k = omega arith
-  line_bytes (word.SpendIf test left right) k = omega arith
-  line_bytes (word.Constant to value) k = omega (arith, keep_bytes 2 to (constant (target h to) value) k (few_constant (target h to) value))
-  line_bytes (word.Copy to from) k = omega (arith, keep_bytes n to (move (target h to) (home_of h from)) k (few_move (target h to) from))
-  line_bytes (word.Compute to o left right) k =
+  line_most : (l : WordInstr) (k : List LabelLine) → size all_far (line_code h p l k) ≤ line_bytes n l + size all_far k
+  line_most (word.Label name) k = omega arith
+  line_most word.Spend k = omega arith
+  line_most (word.SpendIf test left right) k = omega arith
+  line_most (word.Constant to value) k = omega (arith, keep_bytes 2 to (constant (target h to) value) k (few_constant (target h to) value))
+  line_most (word.Copy to from) k = omega (arith, keep_bytes n to (move (target h to) (home_of h from)) k (few_move (target h to) from))
+  line_most (word.Compute to o left right) k =
       let rest = Do (operate o (target h to) (left_of h left) (right_of h right)) ∷ keep h to k in
       omega (arith, both_bytes left right rest, bytes-does (settle (home_of h to)) k, few_settle to)
-  line_bytes (word.Sum to from value) k =
+  line_most (word.Sum to from value) k =
       let rest = does (sum (target h to) (right_of h from) value) (keep h to k) in
       omega (
         arith,
@@ -78,18 +79,18 @@ module _ (n : ℕ) (h : Homes) (p : WordProc) (r : Reaches n h p) where
         few_bring 6 from,
         keep_bytes 3 to (sum (target h to) (right_of h from) value) k (few_sum (target h to) (right_of h from) value),
       )
-  line_bytes (word.Place to a) k =
+  line_most (word.Place to a) k =
       omega (arith, keep_bytes 3 to (sum (target h to) 3 (place_at p a)) k (few_sum (target h to) 3 (place_at p a)))
-  line_bytes (word.Datum to a) k =
+  line_most (word.Datum to a) k =
       omega (arith, keep_bytes 2 to (datum (target h to) (datum_at p a)) k (few_datum (target h to) (datum_at p a)))
-  line_bytes (word.Load to a size) k =
+  line_most (word.Load to a size) k =
       let rest = Do (fetch size (left_of h a)) ∷ does (give 5 (home_of h to)) k in
       omega (arith, bytes-does (bring 5 (home_of h a)) rest, few_bring 5 a, bytes-does (give 5 (home_of h to)) k, few_give 5 to)
-  line_bytes (word.Store a from size) k = omega (arith, both_bytes a from (Do (store size (left_of h a) (right_of h from)) ∷ k))
-  line_bytes (word.Jump to) k = omega arith
-  line_bytes (word.Branch test left right to) k =
+  line_most (word.Store a from size) k = omega (arith, both_bytes a from (Do (store size (left_of h a) (right_of h from)) ∷ k))
+  line_most (word.Jump to) k = omega arith
+  line_most (word.Branch test left right to) k =
       omega (arith, both_bytes left right (Branch (compare test) (left_of h left) (right_of h right) (Inner p.number to) ∷ k))
-  line_bytes (word.Argument index from) k =
+  line_most (word.Argument index from) k =
       let offset = argument_at index in
       omega (
         arith,
@@ -98,8 +99,8 @@ module _ (n : ℕ) (h : Homes) (p : WordProc) (r : Reaches n h p) where
         few_bring 5 from,
         few_save (left_of h from) offset,
       )
-  line_bytes (word.Call to callee) k = omega (arith, bytes-does (give 10 (home_of h to)) k, few_give 10 to)
-  line_bytes (word.Return from) k =
+  line_most (word.Call to callee) k = omega (arith, bytes-does (give 10 (home_of h to)) k, few_give 10 to)
+  line_most (word.Return from) k =
       let back = restore (is_leaf p.lines) in
       let rest = Do (Jalr 0 1 0) ∷ k in
       let places = shift 3 (negative p.room) in
@@ -114,7 +115,7 @@ module _ (n : ℕ) (h : Homes) (p : WordProc) (r : Reaches n h p) where
         bytes-does places rest,
         r.room_down,
       )
-  line_bytes (word.Read to a len) k =
+  line_most (word.Read to a len) k =
       let after = does (give 10 (home_of h to)) k in
       omega (
         arith,
@@ -122,11 +123,11 @@ module _ (n : ℕ) (h : Homes) (p : WordProc) (r : Reaches n h p) where
         bytes-does (give 10 (home_of h to)) k,
         few_give 10 to,
       )
-  line_bytes (word.Write stream a len) k = omega (arith, range_bytes a len (Do (Addi 10 0 (stream_number stream)) ∷ Do (Addi 17 0 64) ∷ Do Ecall ∷ k))
-  line_bytes (word.Exit status) k = omega (arith, bytes-does (move 10 (home_of h status)) (Do (Addi 17 0 93) ∷ Do Ecall ∷ k), few_move 10 status)
+  line_most (word.Write stream a len) k = omega (arith, range_bytes a len (Do (Addi 10 0 (stream_number stream)) ∷ Do (Addi 17 0 64) ∷ Do Ecall ∷ k))
+  line_most (word.Exit status) k = omega (arith, bytes-does (move 10 (home_of h status)) (Do (Addi 17 0 93) ∷ Do Ecall ∷ k), few_move 10 status)
 
-  -- what is around the lines of a procedure takes no more than one of them
-  around_bytes : (k : List LabelLine) → size all_far (proc_code h p k) ≤ 8 + 12 * n + size all_far (lines_code h p p.lines (Do Ebreak ∷ k))
+  -- what is around the lines of a procedure
+  around_bytes : (k : List LabelLine) → size all_far (proc_code h p k) ≤ 4 + 8 * n + size all_far (lines_code h p p.lines (Do Ebreak ∷ k))
   around_bytes k =
       let last = Do (Sw 2 1 0) ∷ lines_code h p p.lines (Do Ebreak ∷ k) in
       omega (
@@ -139,21 +140,18 @@ module _ (n : ℕ) (h : Homes) (p : WordProc) (r : Reaches n h p) where
 
 -- ---- procedures
 
-near_lines : (h : Homes) (p : WordProc) → Reaches 1 h p → (lines : List WordInstr) (k : List LabelLine) →
-    size all_far (lines_code h p lines k) ≤ 24 * length lines + size all_far k
-near_lines h p r [] k = omega arith
-near_lines h p r (l ∷ lines) k = omega (arith, line_bytes 1 h p r l (lines_code h p lines k), near_lines h p r lines k)
+all_lines : (n : ℕ) (h : Homes) (p : WordProc) → Reaches n h p → (lines : List WordInstr) (k : List LabelLine) →
+    size all_far (lines_code h p lines k) ≤ lines_bytes n lines + size all_far k
+all_lines n h p r [] k = omega arith
+all_lines n h p r (l ∷ lines) k = omega (arith, line_most n h p r l (lines_code h p lines k), all_lines n h p r lines k)
 
-far_lines : (h : Homes) (p : WordProc) (lines : List WordInstr) (k : List LabelLine) →
-    size all_far (lines_code h p lines k) ≤ 48 * length lines + size all_far k
-far_lines h p [] k = omega arith
-far_lines h p (l ∷ lines) k = omega (arith, line_bytes 3 h p (far h p) l (lines_code h p lines k), far_lines h p lines k)
+by_reach : (n : ℕ) (h : Homes) (p : WordProc) → Reaches n h p → (k : List LabelLine) → size all_far (proc_code h p k) ≤ bytes_by n p + size all_far k
+by_reach n h p r k = omega (arith, around_bytes n h p r k, all_lines n h p r p.lines (Do Ebreak ∷ k))
 
 proc_most : (h : Homes) (p : WordProc) → IsHomes p h → (k : List LabelLine) → size all_far (proc_code h p k) ≤ proc_bytes p + size all_far k
 proc_most h p is k =
-    cond_both (is_near_proc p) (24 * suc (length p.lines)) (48 * suc (length p.lines)) (λ most. size all_far (proc_code h p k) ≤ most + size all_far k)
-    (λ small. let r = near h p is small in omega (arith, around_bytes 1 h p r k, near_lines h p r p.lines (Do Ebreak ∷ k)))
-    (λ large. omega (arith, around_bytes 3 h p (far h p) k, far_lines h p p.lines (Do Ebreak ∷ k)))
+    cond_both (is_near_proc p) (bytes_by 1 p) (bytes_by 3 p) (λ most. size all_far (proc_code h p k) ≤ most + size all_far k)
+    (λ small. by_reach 1 h p (near h p is small) k) (λ large. by_reach 3 h p (far h p) k)
 
 procs_most : (procs : List WordProc) (homes : List Homes) → AllHomes procs homes → size all_far (homes_code procs homes) ≤ procs_bytes procs
 procs_most [] homes all = omega arith

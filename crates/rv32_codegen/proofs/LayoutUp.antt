@@ -6,6 +6,7 @@ use Rattle.std.specs.Prelude.{nat_le, ◌==◌, if◌then◌else◌}
 use Rattle.std.proofs.lemmas.Bool.{lt-leb, leb-true, and_parts, and_left, and_right, true≢false, cases_Bool, cond-true, cond-false}
 use Rattle.arc_base.specs.declared.outside.Stream.{Stream}
 use Rattle.arc_base.specs.Stepping as steps
+use Rattle.rv32_isa.specs.Regions.{as_bytes}
 use Rattle.rv32_isa.specs.declared.instr.Instr.{Instr}
 use Rattle.rv32_isa.specs.declared.instr.Instr.TheVariants.{Lui, Auipc, Jal, Jalr, Beq, Bne, Blt, Bge, Bltu, Bgeu, Lb, Lh, Lw, Lbu, Lhu, Sb, Sh, Sw}
 use Rattle.rv32_isa.specs.declared.instr.Instr.TheVariants.{Addi, Slti, Sltiu, Xori, Ori, Andi, Slli, Srli, Srai, Add, Sub, Sll, Slt, Sltu, Xor, Srl}
@@ -215,8 +216,8 @@ module _ (code : List ℕ) (small : length code ≤ 524288) where
       let count = min (reg s 12) (length input) in
       reply_if pc s (writable s (reg s 11) (reg s 12)) _ _ _ _
       (λ may. (
-        ap (λ t. Answers (answered t count) (drop count input) []) (filled_up pc s (reg s 11) (take count input)),
-        filled_code s (reg s 11) (take count input),
+        ap (λ t. Answers (answered t count) (drop count input) []) (filled_up pc s (reg s 11) (as_bytes (take count input))),
+        filled_code s (reg s 11) (as_bytes (take count input)),
       ))
       (λ e. tt)
 

@@ -9,7 +9,7 @@ use Rattle.reg_scan.specs.declared.homes.Home.TheVariants.{Reg, Frame}
 use Rattle.reg_scan.specs.declared.homes.Homes.{Homes}
 use Rattle.reg_scan.specs.Homes.{or_none, home_of, IsPlace, IsHomes}
 use Rattle.rv32_codegen.specs.Code.{is_near, negative, sum, shift, load, save, bring, move, settle, give}
-use Rattle.rv32_codegen.specs.Lowering.{is_near_proc}
+use Rattle.rv32_codegen.specs.LineBytes.{is_near_proc}
 use Rattle.rv32_codegen.proofs.Chunks.{Few, few_sum, few_shift, few_load, few_save}
 
 -- a home is read and written by so many instructions

@@ -1,7 +1,7 @@
 -- What the label code of word code does.
 --
 --     word code ──code──> label code ──lay_out──> image
-use Rattle.std.specs.Prelude.{◌≡◌, ◌≤◌, ◌<◌, ℕ, suc, ◌+◌, ◌*◌, ◌%◌, ◌^◌, nat_le, if◌then◌else◌, Bool, true, false, not, ◌&&◌}
+use Rattle.std.specs.Prelude.{◌≡◌, ◌≤◌, ◌<◌, ℕ, ◌+◌, ◌*◌, ◌%◌, ◌^◌, Bool, true, false, not, ◌&&◌}
 use Rattle.std.specs.Prelude.{List, [], ◌∷◌, ◌++◌, map, length, Option, Some, None}
 use Rattle.arc_base.specs.Behaviour.{Agrees, Sound}
 use Rattle.arc_base.specs.Pace.{Paced}
@@ -26,8 +26,7 @@ use Rattle.word_code.specs.Sizes.{word_line_count, has_no_circle}
 use Rattle.word_code.specs.Words.{Fresh, from_proc, first_of, has_number, word_meaning}
 use Rattle.reg_scan.specs.declared.homes.Homes.{Homes}
 use Rattle.reg_scan.specs.Homes.{IsHomes}
-use Rattle.rv32_codegen.specs.declared.label_code.TheConstants.{CODE_PACE, LINES_OF_LINE, LINES_OF_PROC, LINES_OF_START, BYTES_OF_LINE}
-use Rattle.rv32_codegen.specs.declared.label_code.TheConstants.{BYTES_OF_NEAR_LINE, BYTES_OF_START, NEAR_BYTES}
+use Rattle.rv32_codegen.specs.declared.label_code.TheConstants.{CODE_PACE, LINES_OF_LINE, LINES_OF_PROC, LINES_OF_START}
 use Rattle.rv32_codegen.specs.Stack.{frame_for, stack_need}
 
 -- homes for each procedure, in order
@@ -145,18 +144,3 @@ pub record MakeFrames (lines : List LabelLine) (procs : List WordProc) (homes : 
 -- so many lines at most
 abbrev pub most_lines : List WordProc → ℕ
 most_lines procs = LINES_OF_START + (LINES_OF_PROC * length procs + LINES_OF_LINE * word_line_count procs)
-
--- one instruction reaches each word of a frame, and makes the frame and the places
-abbrev pub is_near_proc : WordProc → Bool
-is_near_proc p = nat_le (4 * suc p.vars) NEAR_BYTES && nat_le p.room NEAR_BYTES
-
--- So many bytes at most, where all branches are laid out as too far: by the lines and by the frame. The rest of a procedure takes no more than a line.
-abbrev pub proc_bytes : WordProc → ℕ
-proc_bytes p = if is_near_proc p then BYTES_OF_NEAR_LINE * suc (length p.lines) else BYTES_OF_LINE * suc (length p.lines)
-
-abbrev pub procs_bytes : List WordProc → ℕ
-procs_bytes [] = 0
-procs_bytes (p ∷ procs) = proc_bytes p + procs_bytes procs
-
-abbrev pub most_bytes : List WordProc → ℕ
-most_bytes procs = BYTES_OF_START + procs_bytes procs

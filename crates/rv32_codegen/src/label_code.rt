@@ -6,7 +6,8 @@ ghost use Rattle.word_code.specs.Words.{have_no_hooks, is_word_code};
 ghost use Rattle.rv32_codegen.specs.Code as spec;
 ghost use Rattle.rv32_codegen.specs.Layout.{all_far, enters_no_hook, size};
 ghost use Rattle.rv32_codegen.specs.Lowering.{AllHomes, AlwaysDoes, MakeFrames};
-ghost use Rattle.rv32_codegen.specs.Lowering.{most_lines, most_bytes};
+ghost use Rattle.rv32_codegen.specs.Lowering.{most_lines};
+ghost use Rattle.rv32_codegen.specs.LineBytes.{most_bytes};
 
 use crate::lines::emit_lines;
 use crate::pieces::{emit, emit_shift, emit_sum, negative, push};
@@ -29,12 +30,9 @@ pub const LINES_OF_PROC: u32 = 9;
 /// So many lines stand in front of all procedures.
 pub const LINES_OF_START: u32 = 5;
 
-/// A line of word code, and the rest of a procedure, have at most so many bytes where all branches
-/// are laid out as too far.
-pub const BYTES_OF_LINE: u32 = 48;
-
-/// The same of a procedure whose frame and places are near: `NEAR_BYTES` at most each.
-pub const BYTES_OF_NEAR_LINE: u32 = 24;
+/// A line of word code that doesn't read the input, and the rest of a procedure, have at most so many
+/// bytes where all branches are laid out as too far.
+pub const BYTES_OF_LINE: u32 = 44;
 
 /// One instruction reaches so many bytes from a register, up and down.
 pub const NEAR_BYTES: u32 = 2_047;

@@ -7,6 +7,7 @@ use Rattle.std.proofs.Math.Seq.{take-append_seam, drop-append-add}
 use Rattle.arc_base.specs.declared.outside.Stream.{Stream}
 use Rattle.arc_base.specs.declared.outside.Stream.TheVariants.{Out, Err}
 use Rattle.arc_base.specs.Event.{writes}
+use Rattle.rv32_isa.specs.Regions.{as_bytes}
 use Rattle.rv32_isa.specs.declared.machine.FaultKind.{FaultKind}
 use Rattle.rv32_isa.specs.declared.machine.FaultKind.TheVariants.{BadCall, OutOfRange}
 use Rattle.rv32_isa.specs.State.{State, reg, readable, writable, filled}
@@ -128,17 +129,17 @@ module _ (s : State) (due : outcome s ≡ Calls) where
   -- the bytes that are given come first in the input
   reads_on : (given rest : List ℕ) → reg s 17 ≡ 63 → reg s 10 ≡ 0 → writable s (reg s 11) (reg s 12) ≡ true →
       min (reg s 12) (length (given ++ rest)) ≡ length given →
-      advance (on s (given ++ rest)) ≡ On (on (answered (filled s (reg s 11) given) (length given)) rest) []
+      advance (on s (given ++ rest)) ≡ On (on (answered (filled s (reg s 11) (as_bytes given)) (length given)) rest) []
   reads_on given rest number first may count =
       let input = given ++ rest in
       let size = reg s 12 in
       let taken : take (length given) input ≡ given = take-append_seam given rest in
       let left : drop (length given) input ≡ rest = ap (λ k. drop k input) (sym (add-zero (length given))) ∙ drop-append-add given rest 0 in
-      advance_is input (Answers (answered (filled s (reg s 11) given) (length given)) rest [])
+      advance_is input (Answers (answered (filled s (reg s 11) (as_bytes given)) (length given)) rest [])
       (read_is input number first
       ∙ cond-true (writable s (reg s 11) size) (read_bytes s input (min size (length input))) (Fails OutOfRange) may
       ∙ ap (read_bytes s input) count
-      ∙ ap₂ (λ bytes after. Answers (answered (filled s (reg s 11) bytes) (length given)) after []) taken left)
+      ∙ ap₂ (λ bytes after. Answers (answered (filled s (reg s 11) (as_bytes bytes)) (length given)) after []) taken left)
 
 -- a range is full, or no more comes
 count_all : (size : ℕ) (given rest : List ℕ) → length given ≤ size → (length given ≡ size) ⊎ (rest ≡ []) → min size (length (given ++ rest)) ≡ length given
@@ -237,8 +238,8 @@ ran_read s input new out err Spent t due number first (may, (count, (m, (h, next
     let p = h.part in
     let fits : length p.given ≤ reg s 12 = subst (λ k. k ≤ reg s 12) (sym p.counted) h.bound in
     let full : (length p.given ≡ reg s 12) ⊎ NoMore new = subst (λ k. (k ≡ reg s 12) ⊎ NoMore new) (sym p.counted) h.all in
-    let is : answered (filled s (reg s 11) p.given) (length p.given) ≡ t =
-    ap (answered (filled s (reg s 11) p.given)) p.counted ∙ ap (λ u. answered u count) (sym p.state) ∙ sym next in
+    let is : answered (filled s (reg s 11) (as_bytes p.given)) (length p.given) ≡ t =
+    ap (answered (filled s (reg s 11) (as_bytes p.given))) p.counted ∙ ap (λ u. answered u count) (sym p.state) ∙ sym next in
     let reads : (rest : List ℕ) → MayGive new.left new.ended rest → advance (on s (p.given ++ rest)) ≡ On (on t rest) [] =
     λ rest h. reads_on s due p.given rest number first may (count_all (reg s 12) p.given rest fits (at_rest {P = MayGive new.left new.ended} rest h full))
     ∙ ap (λ u. On (on u rest) []) is in

@@ -7,7 +7,8 @@ use Rattle.std.proofs.lemmas.List.{length-take-le, take-append-le, drop-drop}
 use Rattle.std.proofs.Math.Seq.{drop-append-add, take-append-add, take-append_seam}
 use Rattle.rv32_isa.specs.Image.{statics_at, heap_at, stack_at}
 use Rattle.rv32_isa.specs.State.{State, lies_in, writable, put_bytes, filled}
-use Rattle.rv32_isa.specs.Regions.{HasRegions, KeepsSizes}
+use Rattle.rv32_isa.specs.Regions.{HasRegions, KeepsSizes, as_bytes}
+use Rattle.rv32_isa.proofs.ForCallers.{both_read, as_many_read}
 use Rattle.rv32_isa.specs.Machine.{answered}
 use Rattle.std.specs.Prelude.{Option, Some, None, Ok, Err, IsTrue}
 use Rattle.arc_base.specs.declared.outside.Failed.{Failed}
@@ -264,16 +265,17 @@ part_same s t at b c e gave = record { given = []; counted = refl; gave = gave; 
 
 -- a piece more
 pub part_more : (s t : State) (at size done count : ℕ) (b c d : Feed) (bytes : List ℕ) → HasRegions s → HasRegions t → writable s at size ≡ true →
-    length bytes ≡ count → done + count ≤ size → Gave c d bytes → Part s at b done t c → Part s at b (done + count) (filled t (at + done) bytes) d
+    length bytes ≡ count → done + count ≤ size → Gave c d bytes → Part s at b done t c → Part s at b (done + count) (filled t (at + done) (as_bytes bytes)) d
 part_more s t at size done count b c d bytes r kept may long fits gave p =
-    let counted = p.counted in
-    let all = length-append p.given bytes in
+    let counted = as_many_read p.given ∙ p.counted in
+    let more = as_many_read bytes ∙ long in
     record {
       given = p.given ++ bytes;
-      counted = omega arith;
+      counted = length-append p.given bytes ∙ ap₂ (λ n m. n + m) p.counted long;
       gave = gave_then b c d p.given bytes p.gave gave;
-      state = ap₂ (λ u k. filled u (at + k) bytes) p.state (sym counted) ∙ filled_more s at size p.given bytes r (subst HasRegions p.state kept) may
-          (omega arith);
+      state = ap₂ (λ u k. filled u (at + k) (as_bytes bytes)) p.state (sym counted)
+          ∙ filled_more s at size (as_bytes p.given) (as_bytes bytes) r (subst HasRegions p.state kept) may (omega (arith, counted, more, fits))
+          ∙ ap (filled s at) (sym (both_read p.given bytes));
     }
 
 pub part_then : (s t u : State) (at size done count : ℕ) (b c d : Feed) → HasRegions s → HasRegions t → writable s at size ≡ true → done + count ≤ size →
@@ -319,10 +321,17 @@ front_may s at size count into rest may le fits =
     subst (λ k. writable s at k ≡ true) (sym (front_long count into rest le))
     (subst (λ a. writable s a count ≡ true) (add-zero at) (writable_part s at size 0 count may (omega arith)))
 
-pub front_part : (s t : State) (at count : ℕ) (b c : Feed) (into rest : List ℕ) → count ≤ length into → Gave b c (take count into) →
-    t ≡ filled s at (take count (into ++ rest)) → Part s at b count t c
-front_part s t at count b c into rest le gave e =
-    record { given = take count into; counted = length-take-le count into le; gave = gave; state = e ∙ ap (filled s at) (take-append-le count into rest le) }
+pub front_part : (s t : State) (at count : ℕ) (b c : Feed) (into rest : List ℕ) →
+    as_bytes (take count (into ++ rest)) ≡ take count (into ++ rest) → count ≤ length into →
+    Gave b c (take count into) → t ≡ filled s at (take count (into ++ rest)) → Part s at b count t c
+front_part s t at count b c into rest same le gave e =
+    let front = take-append-le count into rest le in
+    record {
+      given = take count into;
+      counted = length-take-le count into le;
+      gave = gave;
+      state = e ∙ ap (filled s at) (sym (ap as_bytes (sym front) ∙ same));
+    }
 
 pub front_sizes : (s t : State) (at size count : ℕ) (into rest : List ℕ) →
     ((s : State) (at : ℕ) (bytes : List ℕ) → writable s at (length bytes) ≡ true → KeepsSizes s (filled s at bytes)) → writable s at size ≡ true →

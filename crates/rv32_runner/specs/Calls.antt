@@ -2,6 +2,7 @@
 use Rattle.std.specs.Prelude.{◌≡◌, ℕ, List, [], ◌≤◌, ◌<◌, ◌⊎◌, length, Some, None, true, false, Result, Ok, Err}
 use Rattle.arc_base.specs.Outside.{Rose}
 use Rattle.arc_base.specs.declared.outside.Stream.{Stream}
+use Rattle.rv32_isa.specs.Regions.{as_bytes}
 use Rattle.rv32_isa.specs.declared.machine.FaultKind.TheVariants.{OutOfRange}
 use Rattle.rv32_isa.specs.State.{State, reg, readable, writable, filled}
 use Rattle.rv32_isa.specs.Machine.{answered}
@@ -24,7 +25,7 @@ pub record Part (s : State) (at : ℕ) (old : Feed) (count : ℕ) (t : State) (n
   pub given : List ℕ
   pub counted : length given ≡ count
   pub gave : Gave old new given
-  pub state : t ≡ filled s at given
+  pub state : t ≡ filled s at (as_bytes given)
 
 -- no more bytes come
 abbrev pub NoMore : Feed → Type 0

@@ -4,6 +4,7 @@ use Rattle.arc_base.specs.declared.outside.Stream.{Stream}
 use Rattle.arc_base.specs.declared.outside.Stream.TheVariants.{Out, Err}
 use Rattle.arc_base.specs.Event.{Event, writes}
 use Rattle.arc_base.specs.Outside.{Rose}
+use Rattle.rv32_isa.specs.Regions.{as_bytes}
 use Rattle.rv32_isa.specs.declared.image.HookAt.{HookAt}
 use Rattle.rv32_isa.specs.State.{State, reg, readable, writable, filled}
 use Rattle.rv32_isa.specs.Steps.{Calls, outcome}
@@ -54,7 +55,7 @@ pub record ReadFails (s : State) (old : Streams) (t : State) (new : Streams) : T
   pub given : List ℕ
   pub fewer : length given < reg s 12
   pub gave : Gave old.input new.input given
-  pub state : t ≡ filled s (reg s 11) given
+  pub state : t ≡ filled s (reg s 11) (as_bytes given)
   pub rose : Rose old.input.faults new.input.faults
   pub out : new.out ≡ old.out
   pub err : new.err ≡ old.err

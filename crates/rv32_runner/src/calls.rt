@@ -11,7 +11,7 @@ ghost use Rattle.rv32_runner.specs.Runs.{Ran};
 
 use crate::runner::RunEnd;
 use arc_base::{Failed, Sink, Source, Stream, put_all};
-use rv32_isa::{FaultKind, Machine, memories};
+use rv32_isa::{FaultKind, Machine, are_bytes, memories};
 
 // The word of an ecall.
 const ECALL: u32 = 0x73;
@@ -160,6 +160,8 @@ fn fill_front<I: Source>(
     let mut piece = [0; PIECE];
     let room = PIECE.min(len as usize);
     let count = input.take(&mut piece[..room])?;
-    machine.fill(at, &piece[..count]);
+    let given = &piece[..count];
+    are_bytes(given);
+    machine.fill(at, given);
     Ok(count as u32)
 }

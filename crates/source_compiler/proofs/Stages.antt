@@ -36,8 +36,9 @@ use Rattle.core_compiler.specs.Compile.{MembersNamed, IsSoundWhereBuilt}
 use Rattle.source_compiler.specs.Source.{main_module, IsTree, lone, unlisted, read_program, ReadsAlone, RefusesAlone, by_bytes, by_tokens, by_rules}
 use Rattle.source_compiler.specs.Source.{alone, Reads}
 use Rattle.source_compiler.specs.Limits.{Limits}
-use Rattle.source_compiler.specs.Compile.{AreTurnedDown, by_limits}
+use Rattle.source_compiler.specs.Compile.{AreTurnedDown, by_limits, ReleasesWhereBuilt}
 use Rattle.source_compiler.proofs.ReadTokens.{never}
+use Rattle.holders.specs.Released.{LeavesNoBlock}
 
 -- ---- what each step says of its refusal
 
@@ -93,17 +94,31 @@ typing_typed law computed tree read (Err stop) said whole = (tt, tt)
 abbrev pub LentLaw : Type 0
 LentLaw = (types : List Ty) (all : List Module) (program : Program) → AreTyped types all program → AreLentApart program
 
+abbrev pub OfRuns : (Program → Plan → (heap : ℕ) → (input : List ℕ) → Type 0) → Type 0
+OfRuns P = (program : Program) (table : List TypeDef) → program.facts ≡ facts_in table → IsTyped program → is_numbered_program program ≡ true →
+    AreLentApart program → first_left_out program ≡ None → (plan : Plan) (heap : ℕ) (input : List ℕ) → P program plan heap input
+
 abbrev pub NeverWrong : Type 0
-NeverWrong = (program : Program) (table : List TypeDef) → program.facts ≡ facts_in table → IsTyped program → is_numbered_program program ≡ true →
-    AreLentApart program → first_left_out program ≡ None → (plan : Plan) (heap : ℕ) (input : List ℕ) → Sound (meaning program plan heap input)
+NeverWrong = OfRuns (λ program plan heap input. Sound (meaning program plan heap input))
+
+pub typing_runs : (P : Program → Plan → (heap : ℕ) → (input : List ℕ) → Type 0) → TypedLaw → LentLaw → OfRuns P → ProgramsComputed → (tree : Statements) →
+    StatementsRead tree → (result : Result RustProgram Stop) → IsElaborated tree result → IfOk result (IsWhole (lone tree)) →
+    IfOk result (λ p. (plan : Plan) → first_left_out (program_in p) ≡ None → (heap : ℕ) (input : List ℕ) → P (program_in p) plan heap input)
+typing_runs P law lent runs computed tree read (Ok p) said whole =
+    let is = (computed (types_in p.types) (lone tree) (program_in p)).1 (said []) in
+    let typed = typing_typed law computed tree read (Ok p) said whole in
+    λ plan built heap input. runs (program_in p) p.types refl typed.0 typed.1 (lent (types_in p.types) (lone tree) (program_in p) is) built plan heap input
+typing_runs P law lent runs computed tree read (Err stop) said whole = tt
 
 pub typing_sound : TypedLaw → LentLaw → NeverWrong → ProgramsComputed → (tree : Statements) → StatementsRead tree → (result : Result RustProgram Stop) →
     IsElaborated tree result → IfOk result (IsWhole (lone tree)) → IfOk result (λ p. (plan : Plan) → IsSoundWhereBuilt (program_in p) plan)
-typing_sound law lent wrong computed tree read (Ok p) said whole =
-    let is = (computed (types_in p.types) (lone tree) (program_in p)).1 (said []) in
-    let typed = typing_typed law computed tree read (Ok p) said whole in
-    λ plan built heap input. wrong (program_in p) p.types refl typed.0 typed.1 (lent (types_in p.types) (lone tree) (program_in p) is) built plan heap input
-typing_sound law lent wrong computed tree read (Err stop) said whole = tt
+typing_sound = typing_runs (λ program plan heap input. Sound (meaning program plan heap input))
+
+-- and leave no block
+pub typing_released : TypedLaw → LentLaw → OfRuns LeavesNoBlock → ProgramsComputed → (tree : Statements) → StatementsRead tree →
+    (result : Result RustProgram Stop) → IsElaborated tree result → IfOk result (IsWhole (lone tree)) →
+    IfOk result (λ p. (plan : Plan) → ReleasesWhereBuilt (program_in p) plan)
+typing_released = typing_runs LeavesNoBlock
 
 -- ---- names of members
 

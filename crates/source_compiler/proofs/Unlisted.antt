@@ -20,6 +20,8 @@ use Rattle.word_code.specs.Words.{word_meaning}
 use Rattle.core_compiler.specs.declared.program.TheConstants.{IMAGE_PACE, IMAGE_LATE}
 use Rattle.core_compiler.specs.Compile.{live_objects, EndsInTime, HasCode, HasCodeWhereWithin, DoesProgram, HasImageWhereBuilt}
 use Rattle.source_compiler.specs.Source.{unlisted}
+use Rattle.holders.specs.Released.{IsReleased, LeavesNoBlock}
+use Rattle.nim_meaning.specs.Kept.{IsKept}
 
 plain_same : (program : Program) (plan : Plan) → IsPlainPlan program plan → IsPlainPlan (unlisted program) plan
 plain_same program plan is = record { ordered = is.ordered; acts = is.acts; sinks = is.sinks; skips = is.skips }
@@ -45,6 +47,11 @@ module _ (p : Program) (plan : Plan) where
 
   pub sound_same : (heap : ℕ) (input : List ℕ) → Sound (meaning p plan heap input) → Sound (meaning (unlisted p) plan heap input)
   sound_same heap input = subst (λ (means : Behaviour Event). Sound means) (meaning_same heap input)
+
+  pub released_same : (heap : ℕ) (input : List ℕ) → LeavesNoBlock p plan heap input → LeavesNoBlock (unlisted p) plan heap input
+  released_same heap input =
+      subst (λ (more : Calls). (units : ℕ) → IsKept (λ flow. IsReleased) (costs (body_sum p.facts p.globals [] p.start)
+      (at_exit (exec_all p.start.stmts (from_level p plan 0 more p.start)) reported) (at_first p heap input units))) (deeper ACTIVE_CALLS 1)
 
   abbrev code_same : {bytes : ℕ} → HasCode p plan bytes → HasCode (unlisted p) plan bytes
   code_same has = record {

@@ -3,7 +3,7 @@
 --     source ──Reads──> program ──meaning──> behaviour
 --       │                                       │
 --       └─────compile────> file ──machine──> behaviour that agrees
-use Rattle.std.specs.Prelude.{◌≡◌, ◌≤◌, ℕ, List, [], length, ⊤, Result, Ok, Err, IfErr}
+use Rattle.std.specs.Prelude.{◌≡◌, ◌≤◌, ℕ, List, [], length, ⊤, Result, Ok, Err, IfErr, None}
 use Rattle.arc_base.specs.Behaviour.{Agrees, Sound}
 use Rattle.arc_base.specs.Pace.{PacedFrom}
 use Rattle.arc_base.specs.Refusal.{IsRefusal}
@@ -24,10 +24,13 @@ use Rattle.source_compiler.specs.Source.{Module, alone, Reads, Refuses}
 use Rattle.core_compiler.specs.declared.program.TheConstants.{IMAGE_PACE, IMAGE_LATE}
 use Rattle.core_compiler.specs.Compile.{live_objects, EndsInTime, HasCode, HasCodeWhereWithin, image_with}
 use Rattle.source_compiler.specs.Limits.{Limits, build_limits}
+use Rattle.holders.specs.Released.{LeavesNoBlock}
+use Rattle.nim_meaning.specs.LeftOut.{first_left_out}
 
 -- THE HEADLINE. The modules are one typed program, which can be compiled. For every input and every number of steps the machine on the
 -- file's image agrees with the meaning of the program under the file's plan and this heap, in bytes; its work is in proportion, and where
--- the meaning ends the machine has ended in time. No run of the program is wrong or at a fault, under this plan or another, whatever the heap.
+-- the meaning ends the machine has ended in time. No run of the program is wrong or at a fault, under this plan or another, whatever the heap, and where
+-- one comes to its normal end no block is live: each was given back, once.
 -- The image is that of code which does the same, with just the stack that its calls need.
 -- The file is one that can be written, its plan copies at each site of the program, and there are no hooks.
 pub record Compiled (modules : List Module) (heap : ℕ) (file : File) : Type 0 where
@@ -40,11 +43,16 @@ pub record Compiled (modules : List Module) (heap : ℕ) (file : File) : Type 0 
   pub paced : (input : List ℕ) → PacedFrom IMAGE_PACE IMAGE_LATE (machine live_objects file.image input) (meaning program file.plan heap input)
   pub in_time : (input : List ℕ) → EndsInTime (machine live_objects file.image input) (meaning program file.plan heap input)
   pub sound : (plan : Plan) (bytes : ℕ) (input : List ℕ) → Sound (meaning program plan bytes input)
+  pub released : (plan : Plan) (bytes : ℕ) (input : List ℕ) → LeavesNoBlock program plan bytes input
   pub code : HasCode program file.plan (length file.image.code)
   pub made : file.image ≡ image_with heap code
   pub plan : file.plan ≡ plain_plan program
   pub heap_is : file.image.heap ≡ heap
   pub hooks : file.image.hooks ≡ []
+
+-- no block is left where a run ends normally, where all of the program is built
+abbrev pub ReleasesWhereBuilt : Program → Plan → Type 0
+ReleasesWhereBuilt program plan = first_left_out program ≡ None → (heap : ℕ) (input : List ℕ) → LeavesNoBlock program plan heap input
 
 -- Where the modules are a typed program that isn't refused before it has code, code of so many bytes does what that means under its plan.
 abbrev pub HaveCodeWhereWithin : List Module → (bytes : ℕ) → Type 0

@@ -14,13 +14,14 @@ ghost use Rattle.nim_plan.specs.declared.plan.Plan.{Plan as RustPlan};
 ghost use Rattle.source_compiler.specs.Source.{Module, alone, read_program, ReadsAlone, RefusesAlone, Reads, Refuses};
 ghost use Rattle.source_compiler.specs.Limits.{Limits};
 ghost use Rattle.source_compiler.specs.Compile.{IsProgram, IsNoProgram, source_most, OnTooLong, OnRefused, IsOkOrMemory};
+ghost use Rattle.source_compiler.specs.Compile.{ReleasesWhereBuilt};
 
 use crate::compiler::NotCompiled;
 use arc_base::{Memory, Stop};
 use check_decls::elaborate;
 use decl_rules::{one_program, programs_computed};
 use formed_programs::table_forms;
-use holders::sound;
+use holders::{released, sound};
 use indent_scanner::{one_reading, scan};
 use lending_laws::lent_apart;
 use nim_plan::Plan;
@@ -47,6 +48,9 @@ fn read(alloc: Global, source: &[u8]) -> Result<Program, Stop>
     // No run of it is wrong.
     ensures sound { IfOk result (λ program.
         (plan : RustPlan) → IsSoundWhereBuilt (program_in program) plan) }
+    // And none leaves a block.
+    ensures released { IfOk result (λ program.
+        (plan : RustPlan) → ReleasesWhereBuilt (program_in program) plan) }
     ensures refused { IfErr result (λ stop. OnRefusal stop (RefusesAlone source.now)) }
 {
     let tokens = scan(alloc, source, MAIN)?;
@@ -56,6 +60,7 @@ fn read(alloc: Global, source: &[u8]) -> Result<Program, Stop>
     types_sound();
     lent_apart();
     sound();
+    released();
     elaborate(alloc, &[tree], &[MAIN])
 }
 
@@ -72,6 +77,9 @@ pub fn typed(alloc: Global, source: &[u8]) -> Result<Program, NotCompiled>
     // No run of it is wrong.
     ensures sound { IfOk result (λ program.
         (plan : RustPlan) → IsSoundWhereBuilt (program_in program) plan) }
+    // And none leaves a block.
+    ensures released { IfOk result (λ program.
+        (plan : RustPlan) → ReleasesWhereBuilt (program_in program) plan) }
     ensures too_long { IfErr result (λ e. OnTooLong e (source_most < length source.now)) }
     ensures refused { IfErr result (λ e. OnRefused e (λ code at.
         (limits : Limits) (name : List ℕ) → IsNoProgram limits name source.now code at)) }

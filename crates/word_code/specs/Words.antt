@@ -6,6 +6,7 @@ use Rattle.arc_base.specs.declared.outside.Stream.{Stream}
 use Rattle.arc_base.specs.Event.{Event, Hook, writes}
 use Rattle.arc_base.specs.Behaviour.{Behaviour, Faulted}
 use Rattle.arc_base.specs.Stepping.{Next, Goes, Ends, Faults, next_map, seen, behaviour}
+use Rattle.rv32_isa.specs.Regions.{as_bytes}
 use Rattle.rv32_isa.specs.declared.machine.FaultKind.{FaultKind}
 use Rattle.rv32_isa.specs.Image.{stack_at}
 use Rattle.rv32_isa.specs.Machine.{Lives}
@@ -112,7 +113,7 @@ shows x stream (Some bytes) = Passes (writes stream bytes) x
 -- so many bytes of input come to an address
 abbrev pub reads : WordScene → (to at count : ℕ) → WordDid
 reads x to at count =
-    sets (record x { memory = with_bytes x.memory at (take count x.input); input = drop count x.input }) to count
+    sets (record x { memory = with_bytes x.memory at (as_bytes (take count x.input)); input = drop count x.input }) to count
 
 abbrev pub does : WordScene → WordInstr → WordDid
 does x (Label name) = Passes [] x

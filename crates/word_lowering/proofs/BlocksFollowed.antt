@@ -23,13 +23,13 @@ use Rattle.word_code.specs.declared.word.WordCode.{WordCode}
 use Rattle.word_lowering.specs.declared.lowering.TheConstants.{WORD_PACE, MOST_HEAP, WORD_LATE}
 use Rattle.word_lowering.specs.Stored.{HaveForms}
 use Rattle.word_lowering.specs.Layouts.{is_empty}
-use Rattle.word_lowering.specs.LineCode.{all_labels}
-use Rattle.word_lowering.specs.Lowered.{data_of, lowered}
+use Rattle.word_lowering.specs.LineCode.{all_labels, first_hook}
+use Rattle.word_lowering.specs.Lowered.{data_of, lowered, lowered_procs, start_around}
 use Rattle.word_lowering.specs.MayLower.{may_lower}
 use Rattle.word_lowering.specs.Lowers.{HasNoObjects, IsFitting, AreSilent, IsLowered, Lowers, LowersWithRuntime}
 use Rattle.word_lowering.specs.Runtimes.{Runtimes, with_runtimes}
 use Rattle.word_lowering.proofs.HookProcs.{HookLaws, TableBounds}
-use Rattle.word_lowering.proofs.NamedProcs.{all_apart, is_formed}
+use Rattle.word_lowering.proofs.NamedProcs.{all_apart, is_formed, procs_are_quiet}
 use Rattle.word_lowering.proofs.SmallProcs.{are_small, capped_rank, are_ranked, capped_short, unhooked, own_room}
 use Rattle.word_lowering.proofs.DataSizes.{data_whole, data_sized, data_within, defs_within}
 use Rattle.word_lowering.proofs.FirstWrites.{writing}
@@ -51,7 +51,7 @@ use Rattle.rv32_isa.specs.Image.{stack_at}
 use Rattle.arc_base.specs.Simulation.{Does, AreOf, Steps}
 use Rattle.arc_base.specs.Pace.{PacedFrom}
 use Rattle.word_lowering.proofs.Late.{does_more, late_paced}
-use Rattle.word_lowering.proofs.CodeWeights.{weight_is}
+use Rattle.word_lowering.proofs.CodeWeights.{weight_by}
 
 -- ---- code that is never at a fault
 
@@ -282,7 +282,11 @@ module _ (table : List TypeDef) (blocks : Code BlockLine) (is_table : IsTable ta
     apart = all_apart laws table blocks may;
     room = own_room table blocks;
     lowers = lowers_with;
-    weight = weight_is laws table blocks;
+    own = lowered_procs (start_around table blocks.procs) blocks.procs;
+    first = first_hook blocks.procs;
+    procs = refl;
+    quiet = procs_are_quiet laws table blocks may;
+    weight = weight_by table blocks.procs;
     whole = data_whole table blocks;
     data_size = data_sized table blocks;
   }

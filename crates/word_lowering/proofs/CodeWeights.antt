@@ -1,6 +1,6 @@
 -- Word code has no more lines than block code weighs.
 use Rattle.nim_program.specs.declared.expr.Label.TheVariants as C
-use Rattle.std.proofs.Common.{◌≡◌, ℕ, suc, ◌+◌, ◌*◌, ◌≤◌, List, [], ◌∷◌, ◌++◌, length, map, Bool, true, false, not, ◌∙◌}
+use Rattle.std.proofs.Common.{◌≡◌, ℕ, suc, ◌+◌, ◌*◌, ◌≤◌, List, [], ◌∷◌, length, map, Bool, true, false, not, ◌∙◌}
 use Rattle.std.proofs.Common.{Option, Some, None, length-append}
 use Rattle.std.proofs.Common.{refl, ap, subst, arith}
 use Rattle.nim_types.specs.declared.types.TypeDef.{TypeDef}
@@ -11,7 +11,6 @@ use Rattle.nim_program.specs.declared.operation.Operation.{Operation}
 use Rattle.nim_program.specs.declared.operation.Operation.TheVariants as O
 use Rattle.nim_program.specs.Traps.{Trap, Overflow, DivisionByZero, IndexOutOfBounds, OutOfRange, LengthChanged, CallDepth}
 use Rattle.flat_code.specs.declared.block.BlockLine.{BlockLine}
-use Rattle.flat_code.specs.declared.code.Code.{Code}
 use Rattle.flat_code.specs.declared.code.CodeProc.{CodeProc}
 use Rattle.flat_code.specs.declared.line.From.{From}
 use Rattle.flat_code.specs.declared.line.Line.{Line}
@@ -31,17 +30,12 @@ use Rattle.word_lowering.specs.declared.homes.Home.TheVariants.{Variable, Placed
 use Rattle.word_lowering.specs.declared.homes.Housed.{Housed}
 use Rattle.word_lowering.specs.declared.homes.Layout.{Layout}
 use Rattle.word_lowering.specs.declared.homes.Waiter.{Waiter}
-use Rattle.word_lowering.specs.declared.lowering.TheConstants.{START_WEIGHT}
-use Rattle.hook_code.specs.declared.numbers.TheConstants.{HOOK_WEIGHT}
-use Rattle.hook_code.specs.HookCode.{procs_in}
-use Rattle.hook_code.specs.Kept.{hook_parts}
-use Rattle.word_lowering.proofs.HookProcs.{HookLaws}
 use Rattle.word_lowering.specs.declared.spots.Spot.{Spot}
 use Rattle.word_lowering.specs.declared.spots.Spot.TheVariants.{Held, Lies}
 use Rattle.word_lowering.specs.declared.texts.TheConstants.{LINE_END_AT, FIXED_BYTES}
 use Rattle.word_lowering.specs.Aliases.{is_read}
 use Rattle.word_lowering.specs.Layouts.{is_empty, behind_all, layouts, layout_of, params_in, result_in, free_at, holds_address}
-use Rattle.word_lowering.specs.LineCode.{Around, no_layout, proc_number, first_hook, is_copied}
+use Rattle.word_lowering.specs.LineCode.{Around, no_layout, proc_number, is_copied}
 use Rattle.word_lowering.specs.LineCode as lines
 use Rattle.word_lowering.specs.OwnedCode as owned
 use Rattle.word_lowering.specs.RoutineCode.{join_code}
@@ -538,7 +532,7 @@ module _ (table : List TypeDef) (datum : ℕ) where
   last_few none other p [] = few_wait true p
   last_few none other p (q ∷ ps) = last_few (layout_of table false datum p) p q ps
 
-weight_by : (table : List TypeDef) (procs : List (CodeProc BlockLine))
+pub weight_by : (table : List TypeDef) (procs : List (CodeProc BlockLine))
     → word_weight (code.lowered_procs (code.start_around table procs) procs) ≤ code_weight block_plain procs + all_waiting procs + 6
 weight_by table [] = let h = any_weighs (code.start_around table []) [] in omega (arith, h)
 weight_by table (p ∷ ps) =
@@ -547,17 +541,3 @@ weight_by table (p ∷ ps) =
     let h = any_weighs x (map block_plain (last_of code.no_proc (p ∷ ps)).lines) in
     let i = procs_weigh table FIXED_BYTES x 0 code.no_proc p ps in
     omega (arith, few, h, i)
-
-weight_both : (procs others : List WordProc) → word_weight (procs ++ others) ≡ word_weight procs + word_weight others
-weight_both [] others = let e : word_weight others ≡ 0 + word_weight others = omega arith in e
-weight_both (p ∷ procs) others = let e = weight_both procs others in omega (arith, e)
-
-pub weight_is : (laws : HookLaws) (table : List TypeDef) (blocks : Code BlockLine)
-    → word_weight (code.lowered table blocks).procs
-    ≤ code_weight block_plain blocks.procs + all_waiting blocks.procs + START_WEIGHT + HOOK_WEIGHT * hook_parts table
-weight_is laws table blocks =
-    let x : Around = code.start_around table blocks.procs in
-    let both = weight_both (code.lowered_procs x blocks.procs) (procs_in table (first_hook blocks.procs)) in
-    let own = weight_by table blocks.procs in
-    let hooks = laws.weight table (first_hook blocks.procs) in
-    omega (arith, both, own, hooks)

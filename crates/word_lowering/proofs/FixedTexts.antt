@@ -1,5 +1,5 @@
 -- The texts that values have from the data: they stand there as at the start.
-use Rattle.std.proofs.Common.{◌≡◌, inl, inr, ℕ, suc, ◌+◌, ◌^◌, ◌<◌, ◌≤◌, List, [], ◌∷◌, length, get_or, Option, Some, None, Bool, true, refl, sym, ap, ap₂, ◌∙◌}
+use Rattle.std.proofs.Common.{◌≡◌, inl, inr, ℕ, ◌+◌, ◌^◌, ◌<◌, ◌≤◌, List, [], ◌∷◌, length, Option, Some, None, Bool, true, refl, sym, ap, ap₂, ◌∙◌}
 use Rattle.std.proofs.Common.{arith}
 use Rattle.std.specs.Prelude.{nat_eq, nat_le, nat_lt}
 use Rattle.std.proofs.lemmas.Bool.{and_from, and_parts, eq-eqb, eqb-true, leb-true, le-leb, ltb-true, lt-ltb}
@@ -16,11 +16,6 @@ use Rattle.word_lowering.proofs.Sites.{data_end}
 use Rattle.word_lowering.proofs.TextOperands.{FixedThere}
 
 -- ---- what is tested
-
--- numbers that are below 256 wherever they are
-pub bytes_below : (bytes : List ℕ) → ((i : ℕ) → get_or bytes i 0 < 256) → AreBytes bytes
-bytes_below [] h = tt
-bytes_below (b ∷ bytes) h = (h 0, bytes_below bytes (λ i. h (suc i)))
 
 bytes_are : (text : List ℕ) → are_bytes text ≡ true → AreBytes text
 bytes_are [] h = tt

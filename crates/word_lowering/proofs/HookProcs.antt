@@ -1,5 +1,5 @@
 -- The procedures of hooks of types, which stand behind those of block code: by the laws of hook_code they are well formed and found by their numbers.
-use Rattle.std.proofs.Common.{◌≡◌, inr, ℕ, suc, ◌+◌, ◌*◌, ◌<◌, ◌≤◌, Bool, true, false, List, [], ◌∷◌, ◌++◌, Some, refl, subst, arith}
+use Rattle.std.proofs.Common.{◌≡◌, inr, ℕ, suc, ◌+◌, ◌<◌, ◌≤◌, Bool, true, false, List, [], ◌∷◌, ◌++◌, Some, refl, subst, arith}
 use Rattle.std.specs.Prelude.{slice_get, nat_lt, ◌-◌, ◌%◌, ◌/◌, ◌&&◌, if◌then◌else◌}
 use Rattle.std.proofs.lemmas.Bool.{and_parts, cond-true, leb-true, lt-ltb}
 use Rattle.nim_types.specs.declared.types.TypeDef.{TypeDef}
@@ -9,7 +9,7 @@ use Rattle.nim_program.specs.Sizes.{HaveForms}
 use Rattle.word_code.specs.declared.routine.TheConstants.{COPY, PROCS_FROM}
 use Rattle.word_code.specs.declared.word.WordProc.{WordProc}
 use Rattle.word_code.specs.Words.{are_procs, have_no_hooks}
-use Rattle.word_code.specs.Sizes.{AreRanked, word_weight}
+use Rattle.word_code.specs.Sizes.{AreRanked}
 use Rattle.word_code.specs.Joined.{all_moved, IsFree, AreApart, HaveRoom}
 use Rattle.word_code.specs.Runtime.{AreRoutines}
 use Rattle.heap_memory.specs.declared.numbers.TheConstants.{RELEASE, TEXT_COPY, SEQ_NEW}
@@ -18,9 +18,8 @@ use Rattle.hook_lifting.specs.declared.lifted.Hook.TheVariants.{Copies, Assigns,
 use Rattle.hook_lifting.specs.declared.lifted.Lifted.{Lifted}
 use Rattle.hook_lifting.specs.declared.lifted.Cut.{Cut}
 use Rattle.hook_lifting.specs.Lifted.{has_hooks, is_lifted, is_shallow, all_hooks, each_from, hooks_of, of_entry, lifted, cut_if, cut_entry, cuts}
-use Rattle.hook_code.specs.declared.numbers.TheConstants.{HOOK_WEIGHT}
 use Rattle.hook_code.specs.HookCode.{hook_number, hook_procs, cut_procs, procs_in}
-use Rattle.hook_code.specs.Kept.{IsOrdered, AreShort, HaveSmallElements, AreThere, CutsAreThere, Ranks, chain_of, rank_in, rank_by, hook_ranks, hook_parts}
+use Rattle.hook_code.specs.Kept.{IsOrdered, AreShort, HaveSmallElements, AreThere, CutsAreThere, Ranks, chain_of, rank_in, rank_by, hook_ranks}
 use Rattle.word_lowering.specs.Lowers.{IsSmall, AreSmall}
 use Rattle.word_lowering.proofs.JoinedRoutines.{beyond}
 use Rattle.word_lowering.proofs.RankedChains.{HaveRanks}
@@ -29,7 +28,6 @@ use Rattle.word_lowering.proofs.RankedChains.{HaveRanks}
 pub record HookLaws : Type 0 where
   pub formed : (table : List TypeDef) (first : ℕ) → are_procs (procs_in table first) ≡ true
   pub unhooked : (table : List TypeDef) (first : ℕ) → have_no_hooks (procs_in table first) ≡ true
-  pub weight : (table : List TypeDef) (first : ℕ) → word_weight (procs_in table first) ≤ HOOK_WEIGHT * hook_parts table
   pub there : (table : List TypeDef) (first shift : ℕ) (before after : List WordProc) → ((number : ℕ) → first ≤ number → IsFree number before)
       → AreThere table first (before ++ (all_moved shift (procs_in table first) ++ after))
   pub cuts_there : (table : List TypeDef) (first shift : ℕ) (before after : List WordProc) → ((number : ℕ) → first ≤ number → IsFree number before)

@@ -41,6 +41,7 @@ use Rattle.word_lowering.proofs.OperandTexts.{TextsBuilt}
 use Rattle.word_lowering.proofs.OwnedFits.{FitsRow, OwnedRow, fits_row}
 use Rattle.word_lowering.proofs.OwnedLines.{owned_completes}
 use Rattle.word_lowering.proofs.PassedRows.{convert_row, discard_row}
+use Rattle.word_lowering.proofs.ReadTextLines.{read_row}
 use Rattle.word_lowering.proofs.Related.{Both, body_of, high}
 use Rattle.word_lowering.proofs.ShapeFacts.{never}
 use Rattle.word_lowering.proofs.ShowLines.{show_row}
@@ -221,5 +222,6 @@ module _ (x : Basis) (traps : TrapsStop x) (said : Writing x) (texts : TextsBuil
   apply_hooked O.ReadLine other hooks y = never (code_here x g (apply_line x g rest to O.ReadLine how ty of from) rest y)
   apply_hooked O.Destroy other hooks y = never (code_here x g (apply_line x g rest to O.Destroy how ty of from) rest y)
   apply_hooked O.Blank other hooks y = never (code_here x g (apply_line x g rest to O.Blank how ty of from) rest y)
-  apply_hooked O.ReadLineInto other hooks y = never (code_here x g (apply_line x g rest to O.ReadLineInto how ty of from) rest y)
+  apply_hooked O.ReadLineInto other hooks y =
+      by_row x g rest to how ty of from O.ReadLineInto refl refl (read_row x said g rest to how ty of from) hooks y
   apply_hooked O.Echo other hooks y = never (sym other)

@@ -181,9 +181,15 @@ mod LengthLines
 mod LengthRows
 mod LentLocations
 mod LentTexts
+mod LineCame
 mod LineFits
 mod LineFronts
+mod LineHeaps
+mod LineReadRuns
 mod Lines
+mod LinesRead
+mod LineUnderWay
+mod LineWorlds
 mod Located
 mod LocationHouses
 mod MadeRows
@@ -255,6 +261,7 @@ mod PopRuns
 mod ProcCodes
 mod RankedChains
 mod ReadFacts
+mod ReadTextLines
 mod Related
 mod ResizedRows
 mod ResizedWorlds

@@ -1,6 +1,6 @@
--- Word code names variables of its procedure alone.
+-- Word code names variables of its procedure alone, and doesn't read the input.
 use Rattle.std.proofs.Common.{◌≡◌, ℕ, ◌≤◌, ◌<◌, ℤ, List, [], ◌∷◌, ◌++◌, Bool, true, false}
-use Rattle.std.proofs.Common.{refl, if◌then◌else◌, arith}
+use Rattle.std.proofs.Common.{refl, ap, if◌then◌else◌, arith}
 use Rattle.std.proofs.Common.{int_lt, ◌-ℤ◌, unsigned_abs}
 use Rattle.std.specs.Ordering.{int_eq}
 use Rattle.std.proofs.lemmas.Bool.{and_from, lt-ltb}
@@ -29,17 +29,25 @@ use Rattle.word_lowering.specs.declared.homes.Housed.{Housed}
 use Rattle.word_lowering.specs.declared.spots.Spot.{Spot}
 use Rattle.word_lowering.specs.declared.spots.Spot.TheVariants.{Held, Lies}
 use Rattle.word_lowering.specs.Layouts.{holds_address}
+use Rattle.word_lowering.specs.Reads.{is_read, reads_in}
 use Rattle.word_lowering.specs.Spots as code
 use Rattle.word_lowering.specs.Operations as operations
 use Rattle.word_lowering.proofs.LayoutBounds.{IsBelow}
 
 pub data AllNamed (vars : ℕ) : List WordInstr → Type 0 where
   none_named : AllNamed vars []
-  more_named : {line : WordInstr} {k : List WordInstr} → are_named vars line ≡ true → AllNamed vars k → AllNamed vars (line ∷ k)
+  more_named : {line : WordInstr} {k : List WordInstr} → are_named vars line ≡ true → is_read line ≡ false → AllNamed vars k → AllNamed vars (line ∷ k)
 
 pub named_true : {vars : ℕ} {k : List WordInstr} → AllNamed vars k → all_named vars k ≡ true
 named_true none_named = refl
-named_true (more_named e rest) = and_from _ _ e (named_true rest)
+named_true (more_named e quiet rest) = and_from _ _ e (named_true rest)
+
+abbrev one_if : Bool → ℕ
+one_if b = if b then 1 else 0
+
+pub none_read : {vars : ℕ} {k : List WordInstr} → AllNamed vars k → reads_in k ≡ 0
+none_read none_named = refl
+none_read (more_named e quiet rest) = let none = ap one_if quiet in omega (arith, none, none_read rest)
 
 -- a home as a spot is below the bound
 abbrev pub IsSpotBelow : ℕ → Spot → Type 0
@@ -84,65 +92,65 @@ module _ (vars : ℕ) (many : OWN_FROM ≤ vars) where
 
   -- ---- one line before others
   pub label : {name : ℕ} {k : List WordInstr} → AllNamed vars k → AllNamed vars (Label name ∷ k)
-  label rest = more_named refl rest
+  label rest = more_named refl refl rest
 
   pub constant : {to value : ℕ} {k : List WordInstr} → to < vars → AllNamed vars k → AllNamed vars (Constant to value ∷ k)
-  constant t rest = more_named (lt-ltb _ vars t) rest
+  constant t rest = more_named (lt-ltb _ vars t) refl rest
 
   pub copy : {to from : ℕ} {k : List WordInstr} → to < vars → from < vars → AllNamed vars k → AllNamed vars (Copy to from ∷ k)
-  copy t f rest = more_named (and_from _ _ (lt-ltb _ vars t) (lt-ltb _ vars f)) rest
+  copy t f rest = more_named (and_from _ _ (lt-ltb _ vars t) (lt-ltb _ vars f)) refl rest
 
   pub compute : {to left right : ℕ} {operation : WordOperation} {k : List WordInstr} → to < vars → left < vars → right < vars → AllNamed vars k
       → AllNamed vars (Compute to operation left right ∷ k)
-  compute t l r rest = more_named (and_from _ _ (lt-ltb _ vars t) (and_from _ _ (lt-ltb _ vars l) (lt-ltb _ vars r))) rest
+  compute t l r rest = more_named (and_from _ _ (lt-ltb _ vars t) (and_from _ _ (lt-ltb _ vars l) (lt-ltb _ vars r))) refl rest
 
   pub sum : {to from value : ℕ} {k : List WordInstr} → to < vars → from < vars → AllNamed vars k → AllNamed vars (Sum to from value ∷ k)
-  sum t f rest = more_named (and_from _ _ (lt-ltb _ vars t) (lt-ltb _ vars f)) rest
+  sum t f rest = more_named (and_from _ _ (lt-ltb _ vars t) (lt-ltb _ vars f)) refl rest
 
   pub place : {to at : ℕ} {k : List WordInstr} → to < vars → AllNamed vars k → AllNamed vars (Place to at ∷ k)
-  place t rest = more_named (lt-ltb _ vars t) rest
+  place t rest = more_named (lt-ltb _ vars t) refl rest
 
   pub datum : {to at : ℕ} {k : List WordInstr} → to < vars → AllNamed vars k → AllNamed vars (Datum to at ∷ k)
-  datum t rest = more_named (lt-ltb _ vars t) rest
+  datum t rest = more_named (lt-ltb _ vars t) refl rest
 
   pub load : {to address : ℕ} {size : Size} {k : List WordInstr} → to < vars → address < vars → AllNamed vars k
       → AllNamed vars (Load to address size ∷ k)
-  load t a rest = more_named (and_from _ _ (lt-ltb _ vars t) (lt-ltb _ vars a)) rest
+  load t a rest = more_named (and_from _ _ (lt-ltb _ vars t) (lt-ltb _ vars a)) refl rest
 
   pub store : {address from : ℕ} {size : Size} {k : List WordInstr} → address < vars → from < vars → AllNamed vars k
       → AllNamed vars (Store address from size ∷ k)
-  store a f rest = more_named (and_from _ _ (lt-ltb _ vars a) (lt-ltb _ vars f)) rest
+  store a f rest = more_named (and_from _ _ (lt-ltb _ vars a) (lt-ltb _ vars f)) refl rest
 
   pub spend : {k : List WordInstr} → AllNamed vars k → AllNamed vars (Spend ∷ k)
-  spend rest = more_named refl rest
+  spend rest = more_named refl refl rest
 
   pub jump : {to : ℕ} {k : List WordInstr} → AllNamed vars k → AllNamed vars (Jump to ∷ k)
-  jump rest = more_named refl rest
+  jump rest = more_named refl refl rest
 
   pub spend_if : {test : Test} {left right : ℕ} {k : List WordInstr} → left < vars → right < vars → AllNamed vars k
       → AllNamed vars (SpendIf test left right ∷ k)
-  spend_if l r rest = more_named (and_from _ _ (lt-ltb _ vars l) (lt-ltb _ vars r)) rest
+  spend_if l r rest = more_named (and_from _ _ (lt-ltb _ vars l) (lt-ltb _ vars r)) refl rest
 
   pub branch : {test : Test} {left right to : ℕ} {k : List WordInstr} → left < vars → right < vars → AllNamed vars k
       → AllNamed vars (Branch test left right to ∷ k)
-  branch l r rest = more_named (and_from _ _ (lt-ltb _ vars l) (lt-ltb _ vars r)) rest
+  branch l r rest = more_named (and_from _ _ (lt-ltb _ vars l) (lt-ltb _ vars r)) refl rest
 
   pub argument : {index from : ℕ} {k : List WordInstr} → index < MOST_ARGUMENTS → from < vars → AllNamed vars k
       → AllNamed vars (Argument index from ∷ k)
-  argument i f rest = more_named (and_from _ _ (lt-ltb _ MOST_ARGUMENTS i) (lt-ltb _ vars f)) rest
+  argument i f rest = more_named (and_from _ _ (lt-ltb _ MOST_ARGUMENTS i) (lt-ltb _ vars f)) refl rest
 
   pub call : {to callee : ℕ} {k : List WordInstr} → to < vars → AllNamed vars k → AllNamed vars (Call to callee ∷ k)
-  call t rest = more_named (lt-ltb _ vars t) rest
+  call t rest = more_named (lt-ltb _ vars t) refl rest
 
   pub return : {from : ℕ} {k : List WordInstr} → from < vars → AllNamed vars k → AllNamed vars (Return from ∷ k)
-  return f rest = more_named (lt-ltb _ vars f) rest
+  return f rest = more_named (lt-ltb _ vars f) refl rest
 
   pub write : {stream : Stream} {address len : ℕ} {k : List WordInstr} → address < vars → len < vars → AllNamed vars k
       → AllNamed vars (Write stream address len ∷ k)
-  write a l rest = more_named (and_from _ _ (lt-ltb _ vars a) (lt-ltb _ vars l)) rest
+  write a l rest = more_named (and_from _ _ (lt-ltb _ vars a) (lt-ltb _ vars l)) refl rest
 
   pub exit : {status : ℕ} {k : List WordInstr} → status < vars → AllNamed vars k → AllNamed vars (Exit status ∷ k)
-  exit s rest = more_named (lt-ltb _ vars s) rest
+  exit s rest = more_named (lt-ltb _ vars s) refl rest
 
   -- ---- moves
   pub address : (to : ℕ) (home : Home) {k : List WordInstr} → to < vars → IsBelow vars home → AllNamed vars k
@@ -265,4 +273,4 @@ module _ (vars : ℕ) (many : OWN_FROM ≤ vars) where
 -- lines behind lines
 pub named_on : {vars : ℕ} {k l : List WordInstr} → AllNamed vars k → AllNamed vars l → AllNamed vars (k ++ l)
 named_on none_named m = m
-named_on (more_named e rest) m = more_named e (named_on rest m)
+named_on (more_named e quiet rest) m = more_named e quiet (named_on rest m)

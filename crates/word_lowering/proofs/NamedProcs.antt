@@ -43,7 +43,8 @@ use Rattle.word_lowering.proofs.HomesApart.{Each, each_as, grows_all}
 use Rattle.word_lowering.proofs.LayoutBounds.{IsBelow, IsParamBelow, IsGlobalBelow, IfHoused, bound_more}
 use Rattle.word_lowering.proofs.LayoutBounds.{room_whole, all_below, kept_within, params_below, globals_below, result_each}
 use Rattle.word_lowering.proofs.WaiterHomes.{AreBelow, room_whole_behind, waiters_below, waiters_grow}
-use Rattle.word_lowering.proofs.NamedCode.{AllNamed, none_named, named_true, named_on, spot_below, first_is}
+use Rattle.word_lowering.specs.Reads.{all_reads, reads_in}
+use Rattle.word_lowering.proofs.NamedCode.{AllNamed, none_named, none_read, named_true, named_on, spot_below, first_is}
 use Rattle.word_lowering.proofs.NamedCode as named
 use Rattle.word_lowering.proofs.NamedLines.{IsAroundBelow, lines_named}
 
@@ -155,6 +156,16 @@ proc_formed x number p own below vars kind =
     (and_from _ _ (le-leb x.own.free.variable MOST_VARIABLES (omega (arith, vars)))
     (and_from _ _ (eq-eqb (x.own.free.byte % 4) 0 own.whole)
     (and_from _ _ kind (named_true (code_named x.own.free.variable many x (map block_plain p.lines) below)))))
+
+proc_quiet : (x : Around) (number : ℕ) (p : CodeProc BlockLine) → IsLaid x.own → IsAroundBelow x.own.free.variable x
+    → reads_in (code.word_proc x number p).lines ≡ 0
+proc_quiet x number p own below =
+    let many : OWN_FROM ≤ x.own.free.variable = omega (arith, own.many) in
+    none_read (code_named x.own.free.variable many x (map block_plain p.lines) below)
+
+quiet_if : (runs : Bool) (p : WordProc) (procs : List WordProc) → reads_in p.lines ≡ 0 → all_reads procs ≡ 0 → all_reads (code.if_runs runs p procs) ≡ 0
+quiet_if true p procs first rest = omega (arith, first, rest)
+quiet_if false p procs first rest = rest
 
 -- ---- what holds of procedures one by one
 
@@ -283,6 +294,18 @@ module _ (table : List TypeDef) (datum : ℕ) where
       (formed_if own.runs (code.word_proc y (proc_number index) p) (proc_number index) (proc_number (suc index)) (rest ++ others) ok refl (omega arith)
       (procs_formed x shared (suc index) (q ∷ ps) last others (omega (arith, le)) behind_them both.1))
 
+  procs_quiet : (x : Around) → IsShared x → (index : ℕ) (procs : List (CodeProc BlockLine))
+      → all_reads (code.word_procs x index (layouts table datum procs) procs) ≡ 0
+  procs_quiet x shared index [] = refl
+  procs_quiet x shared index (p ∷ []) = refl
+  procs_quiet x shared index (p ∷ q ∷ ps) =
+      let own : Layout = layout_of table false datum p in
+      let behind : ℕ = length (texts_in (q ∷ ps)) in
+      let y : Around = code.with_own x own behind in
+      let is : IsLaid own = laid table false datum p in
+      quiet_if own.runs (code.word_proc y (proc_number index) p) (code.word_procs x (suc index) (layouts table datum (q ∷ ps)) (q ∷ ps))
+      (proc_quiet y (proc_number index) p is (around_below y (shared_with x own behind shared) is)) (procs_quiet x shared (suc index) (q ∷ ps))
+
 -- the start code has the number 0, and the others none of a routine
 module _ (laws : HookLaws) (table : List TypeDef) (blocks : Code BlockLine) (may : may_lower table blocks ≡ true) where
   abbrev procs : List (CodeProc BlockLine)
@@ -320,6 +343,14 @@ module _ (laws : HookLaws) (table : List TypeDef) (blocks : Code BlockLine) (may
       let ok = proc_formed around 0 (last_of code.no_proc procs) own (around_below around shared own)
       (last_vars table FIXED_BYTES no_layout procs (omega arith) each) refl in
       and_from _ _ ok (and_from _ _ (none_there 0 (proc_number 0) _ (omega arith) others_formed.numbers) others_formed.formed)
+
+  -- none of its own reads the input
+  pub procs_are_quiet : all_reads (code.lowered_procs around procs) ≡ 0
+  procs_are_quiet =
+      let own : IsLaid around.own = last_laid table FIXED_BYTES no_layout procs none_laid in
+      let start = proc_quiet around 0 (last_of code.no_proc procs) own (around_below around shared own) in
+      let others = procs_quiet table FIXED_BYTES around shared 0 procs in
+      omega (arith, start, others)
 
   all_beyond : (ps rs : List WordProc) → AreRoutines rs → NumbersFrom (proc_number 0) ps → AreApart ps rs
   all_beyond [] rs are numbers = tt

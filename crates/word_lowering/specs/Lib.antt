@@ -7,6 +7,7 @@ pub mod Survey
 pub mod Lookups
 pub mod Layouts
 pub mod PlaceTable
+pub mod Reads
 pub mod Emission
 pub mod Spots
 pub mod Operations

@@ -3,7 +3,7 @@
 --     block code ──words──> word code ──join──> word code with routines
 --         │ block_meaning                           │ word_meaning
 --         └────────────────── Agrees ───────────────┘        paced by WORD_PACE
-use Rattle.std.specs.Prelude.{◌≡◌, ◌≤◌, ◌+◌, ◌*◌, ◌%◌, ℕ, true, false, List, [], ◌∷◌, length, None}
+use Rattle.std.specs.Prelude.{◌≡◌, ◌≤◌, ◌+◌, ◌*◌, ◌%◌, ℕ, true, false, List, [], ◌∷◌, ◌++◌, length, None}
 use Rattle.arc_base.specs.Behaviour.{Agrees, Sound, no_objects}
 use Rattle.arc_base.specs.Pace.{PacedFrom}
 use Rattle.nim_types.specs.declared.types.TheConstants.{WORD_BYTES, LIST_BYTES}
@@ -26,12 +26,13 @@ use Rattle.word_code.specs.Sizes.{word_weight, AreRanked}
 use Rattle.word_code.specs.Words.{is_counted, have_no_hooks, is_word_code, word_meaning, word_by_units, Fresh}
 use Rattle.word_code.specs.Joined.{joined, AreApart, HaveRoom}
 use Rattle.heap_memory.specs.declared.numbers.TheConstants.{HEAP_DATA}
-use Rattle.hook_code.specs.declared.numbers.TheConstants.{HOOK_VARIABLES, HOOK_WEIGHT}
-use Rattle.hook_code.specs.Kept.{hook_parts}
+use Rattle.hook_code.specs.declared.numbers.TheConstants.{HOOK_VARIABLES}
+use Rattle.hook_code.specs.HookCode.{procs_in}
 use Rattle.word_lowering.specs.declared.lowering.TheConstants.{WORD_LATE, WORD_PACE, MOST_HEAP, MOST_CHAIN, START_WEIGHT, MORE_DATA}
 use Rattle.word_lowering.specs.declared.may_lower.TheConstants.{MOST_ROOM, MOST_VARS, MOST_FRAME, MOST_DATA}
 use Rattle.word_lowering.specs.Lowered.{lowered}
 use Rattle.word_lowering.specs.MayLower.{may_lower}
+use Rattle.word_lowering.specs.Reads.{all_reads}
 use Rattle.word_lowering.specs.Runtimes.{Runtimes, with_runtimes}
 
 -- what doesn't count, a routine or a hook of a type, has few variables and small places
@@ -106,9 +107,13 @@ pub record LowersWithRuntime (table : List TypeDef) (blocks : Code BlockLine) (c
   pub apart : (r : Runtimes) → AreApart r.heap.procs code.procs × AreApart (joined r.heap code).procs r.others.procs
   pub room : HaveRoom HEAP_DATA code.procs
   pub lowers : (r : Runtimes) → Lowers table blocks (with_runtimes r code)
-  -- its own lines, and one for each of its procedures, by what block code weighs, and one for each of its values that may wait, and by the types whose hooks there are
-  pub weight : word_weight code.procs
-      ≤ code_weight block_plain blocks.procs + all_waiting blocks.procs + START_WEIGHT + HOOK_WEIGHT * hook_parts table
+  -- its own procedures, none of which reads the input, and behind them the hooks of types
+  pub own : List WordProc
+  pub first : ℕ
+  pub procs : code.procs ≡ own ++ procs_in table first
+  pub quiet : all_reads own ≡ 0
+  -- its own lines, and one for each of its procedures, by what block code weighs, and one for each of its values that may wait
+  pub weight : word_weight own ≤ code_weight block_plain blocks.procs + all_waiting blocks.procs + START_WEIGHT
   -- its own data is whole words, by what block code's is
   pub whole : length code.statics % 4 ≡ 0
   pub data_size : length code.statics ≤ data_bytes block_plain table blocks.procs + MORE_DATA

@@ -1,6 +1,5 @@
 // From block code to word code.
 ghost use Rattle.std.specs.Prelude.{◌≡◌, ◌<◌, ◌≤◌, ◌∷◌, ◌++◌, true, length, map, IfOk, OnOk};
-ghost use Rattle.rv32_isa.specs.Regions.{AreBytes};
 ghost use Rattle.flat_code.specs.Codes.{block_plain};
 ghost use Rattle.hook_lifting.specs.Lifted.{AreMarked};
 ghost use Rattle.hook_code.specs.HookCode.{procs_in};
@@ -31,7 +30,7 @@ use hook_code::{arrays_are_short, elements_are_small, hook_levels, hook_procedur
 use hook_lifting::lift;
 use nim_program::HookOf;
 use nim_types::TypeTable;
-use rv32_isa::memories;
+use rv32_isa::{are_bytes, memories};
 use std::alloc::Global;
 use word_code::{ProcKind, WordCode, WordInstr, WordProc};
 
@@ -259,13 +258,6 @@ fn push_hooks(
     let first = proc_number(many)?;
     let hooks = lift(alloc, types, shallow)?;
     put_hooks(alloc, all, types, first, &hooks)
-}
-
-// Data are bytes.
-fn are_bytes(data: &[u8])
-    ensures { AreBytes data.now }
-{
-    let _count = data.len();
 }
 
 // The word code of block code whose procedures have these layouts.

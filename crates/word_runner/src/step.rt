@@ -16,7 +16,7 @@ use crate::calls::{begin, end, is_refused};
 use crate::state::{Run, Went};
 use crate::vars::put;
 use arc_base::Stream;
-use rv32_isa::{STATICS_AT, Size};
+use rv32_isa::{STATICS_AT, Size, are_bytes};
 use std::alloc::Global;
 use word_code::{WordInstr, WordProc};
 
@@ -153,8 +153,9 @@ fn read(run: &mut Run, to: u32, address: u32, len: u32, next: usize) -> Went
         Err(_) => Went::Memory,
         Ok(()) => {
             let from = run.input.read;
-            run.space
-                .fill(address, &run.input.taken.as_slice()[from..from + count]);
+            let given = &run.input.taken.as_slice()[from..from + count];
+            are_bytes(given);
+            run.space.fill(address, given);
             run.input.read = from + count;
             run.frame.at = next;
             Went::Goes

@@ -17,9 +17,9 @@ pub returns-clause-scene : goal.returns-clause-scene
 returns-clause-scene c here scope limits ls gs world names globals = has_scene here scope limits names globals
 
 pub returns-clause-statement : goal.returns-clause-statement
-returns-clause-statement c here scope limits root own_places own_nodes first places ks gs nodes old start value so d mine free outside own deepest s
+returns-clause-statement c here scope limits root own_places own_nodes first places ks gs nodes old start value so d unhooked mine free outside own deepest s
     body scene =
-    do_comes here scope limits root own_places own_nodes first places ks gs nodes old start value so d mine free outside own deepest s body scene
+    do_comes here scope limits root own_places own_nodes first places ks gs nodes old start value so d unhooked mine free outside own deepest s body scene
 
 pub returns-clause-distinct : goal.returns-clause-distinct
 returns-clause-distinct c h from to e typed r = value_distinct h from e typed (rises from to (total lists node_numbers e) r)

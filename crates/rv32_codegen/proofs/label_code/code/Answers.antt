@@ -4,7 +4,8 @@ use Rattle.std.proofs.lemmas.Result.{IfOk-weaker}
 use Rattle.rv32_isa.specs.Labels.{AreLines, hooks_lead}
 use Rattle.word_code.specs.Words.{are_procs}
 use Rattle.rv32_codegen.specs.Layout.{all_far, enters_no_hook, size}
-use Rattle.rv32_codegen.specs.Lowering.{AlwaysDoes, MakeFrames, most_lines, most_bytes}
+use Rattle.rv32_codegen.specs.Lowering.{AlwaysDoes, MakeFrames, most_lines}
+use Rattle.rv32_codegen.specs.LineBytes.{most_bytes}
 use Rattle.rv32_codegen.proofs.Taken.{same_long}
 use Rattle.rv32_codegen.proofs.Whole.{always_does, code_leads, code_unhooked, code_long}
 use Rattle.rv32_codegen.proofs.Ranges.{code_fields}

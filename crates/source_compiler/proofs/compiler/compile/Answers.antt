@@ -13,7 +13,7 @@ use Rattle.source_compiler.specs.Source.{alone, read_program}
 use Rattle.source_compiler.proofs.PlainFiles.{plain_file, built_note, all_built, image_is}
 use Rattle.source_compiler.proofs.Taking.{never_refused, down_by_limits, no_long, for_limits, code_read, unread_code, stopped_code}
 use Rattle.source_compiler.proofs.Stages.{limits_down, under_plan}
-use Rattle.source_compiler.proofs.Unlisted.{within_same, does_same, sound_same}
+use Rattle.source_compiler.proofs.Unlisted.{within_same, does_same, sound_same, released_same}
 use Rattle.source_compiler.proofs.compiler.compile.Goals as goal
 
 -- ---- no typed program
@@ -130,6 +130,8 @@ returns-clause-compiled c =
       in_time = λ input. does.in_time input;
       sound = λ other bytes input. sound_same typed other bytes input
           (c.in_ok-program.ensures.sound other (all_built c.in_ok-plan.plan answer.0 typed answer.1) bytes input);
+      released = λ other bytes input. released_same typed other bytes input
+          (c.in_ok-program.ensures.released other (all_built c.in_ok-plan.plan answer.0 typed answer.1) bytes input);
       code = does.code;
       made = does.made;
       plan = plan;

@@ -6,7 +6,8 @@ use Rattle.indent_scanner.specs.Meaning.{IsSpelledIn}
 use Rattle.indent_scanner.specs.Tokens.{Tokens}
 use Rattle.nim_tree.specs.Statements.{tree_of}
 use Rattle.source_compiler.specs.Source.{IsTree}
-use Rattle.source_compiler.proofs.Stages.{refused_bytes, refused_tokens, typing_reads, typing_typed, typing_sound, typing_named, typing_refuses}
+use Rattle.source_compiler.proofs.Stages.{refused_bytes, refused_tokens, typing_reads, typing_typed, typing_sound, typing_released, typing_named}
+use Rattle.source_compiler.proofs.Stages.{typing_refuses}
 use Rattle.source_compiler.proofs.ReadTrees.{trees_read}
 use Rattle.source_compiler.proofs.source.read.Goals as goal
 
@@ -68,6 +69,16 @@ returns-clause-sound c =
     let count = subst (λ (ts : List Token). length ts ≤ length source + 1) (sym c.as_slice.ensures) c.in_ok-tokens.ensures.count in
     let read = trees_read source c.as_slice.result.now tree spelled count c.requires c.in_ok-tree.ensures.reads in
     typing_sound c.typed_programs.ensures c.lent_apart.ensures c.sound.ensures c.programs_computed.ensures.programs tree read c.elaborate.result
+    c.elaborate.ensures.program c.elaborate.ensures.whole
+
+pub returns-clause-released : goal.returns-clause-released
+returns-clause-released c =
+    let source = c.args.source.now in
+    let tree = tree_of c.in_ok-tree.tree in
+    let spelled = subst (λ (ts : List Token). All (IsSpelledIn source) ts) (sym c.as_slice.ensures) c.in_ok-tokens.ensures.spelled in
+    let count = subst (λ (ts : List Token). length ts ≤ length source + 1) (sym c.as_slice.ensures) c.in_ok-tokens.ensures.count in
+    let read = trees_read source c.as_slice.result.now tree spelled count c.requires c.in_ok-tree.ensures.reads in
+    typing_released c.typed_programs.ensures c.lent_apart.ensures c.released.ensures c.programs_computed.ensures.programs tree read c.elaborate.result
     c.elaborate.ensures.program c.elaborate.ensures.whole
 
 pub returns-clause-refused : goal.returns-clause-refused

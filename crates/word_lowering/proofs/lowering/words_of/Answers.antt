@@ -48,7 +48,6 @@ returns c =
     let laws : HookLaws = record {
       formed = c.hook_procedures.ensures.formed;
       unhooked = c.hook_procedures.ensures.unhooked;
-      weight = c.hook_procedures.ensures.weight;
       there = c.hook_procedures.ensures.there;
       cuts_there = c.hook_procedures.ensures.cuts_there;
       ordered = c.hook_levels.ensures.ordered;
@@ -65,7 +64,7 @@ returns c =
     (c.in_ok-statics.ensures ∙ ap (λ ps. padded (data_in c.args.types.now c.in-Some.own.now.free.datum ps)) c.in_ok-texts.ensures)
     c.requires.may in
     -- the data are bytes, and so is each text in them
-    let letters = subst AreBytes (c.as_slice-bytes.ensures ∙ ap (λ (w : WordCode). w.statics) given.is) c.are_bytes.ensures in
+    let letters = subst AreBytes (c.as_slice-bytes.ensures ∙ ap (λ (w : WordCode). w.statics) given.is) c.are_bytes.ensures.below in
     -- a number of 32 bits counts labels
     let few = subst (λ ps. all_labels ps ≤ 4294967295) c.as_slice-procs.ensures c.in_ok-few_labels.ensures in
     lowers_given c.args.types.now c.args.blocks.now (both c.args.types.now c.args.blocks.now all c.in_ok-statics.statics)

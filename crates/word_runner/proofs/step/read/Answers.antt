@@ -1,6 +1,7 @@
 use Rattle.std.proofs.Common.{◌≡◌, ◌<◌, ℕ, ◌+◌, ◌-◌, true, false, List, [], ◌++◌, length, take, drop, refl, sym, ap, ap₂, subst, ◌∙◌, arith, length-drop}
 use Rattle.std.proofs.lemmas.List.{length-take-le}
 use Rattle.std.specs.Prelude.{min}
+use Rattle.rv32_isa.specs.Regions.{as_bytes}
 use Rattle.word_code.specs.Memory.{may_fill, with_bytes}
 use Rattle.word_code.specs.Words.{Vars, reads, scene_of, settled}
 use Rattle.word_runner.specs.View.{proc_in, space_is, state_is}
@@ -46,9 +47,10 @@ returns-in-Ok c =
           let lines = drop c.args.next (proc_in procs run.frame.proc).lines in
           let all : count < c.args.len → rest ≡ [] = λ lt. ends (c.wants.ensures.enough c.if-wants.false lt) in
           let one : i.read + count - i.read ≡ count = omega arith in
-          let bytes : take (i.read + count - i.read) (drop i.read c.as_slice.result.now) ≡ take count (drop i.read i.taken.items ++ rest) =
-          ap₂ (λ (n : ℕ) (l : List ℕ). take n (drop i.read l)) one c.as_slice.ensures.value
-          ∙ sym (given i.taken.items rest i.read c.args.len count there is left all) in
+          let bytes : take (i.read + count - i.read) (drop i.read c.as_slice.result.now) ≡ as_bytes (take count (drop i.read i.taken.items ++ rest)) =
+          sym c.are_bytes.ensures.read
+          ∙ ap as_bytes (ap₂ (λ (n : ℕ) (l : List ℕ). take n (drop i.read l)) one c.as_slice.ensures.value
+          ∙ sym (given i.taken.items rest i.read c.args.len count there is left all)) in
           silent_by s (settled live procs [] s lines (reads (scene_of s) c.args.to c.args.address (min c.args.len (length s.input)))) _ _
           (ap (λ (n : ℕ). settled live procs [] s lines (reads (scene_of s) c.args.to c.args.address n))
           (counted i.taken.items rest i.read c.args.len count there is left all))
