@@ -1,6 +1,7 @@
 """The trees of docs/GRAMMAR.md. Attributes that aren't parameters (`init=False`) are noted by the rules of typing."""
 from __future__ import annotations
 
+import functools
 from dataclasses import dataclass, field, fields
 from typing import TYPE_CHECKING, Any, Iterator, List, NamedTuple, Optional, Tuple, Union
 
@@ -357,6 +358,12 @@ class TypeSection(Statement):
     definitions: List[TypeDefinition]
 
 
+@functools.lru_cache(maxsize=None)
+def _parts_of(kind: type) -> List[str]:
+    """The names of its fields that are given, the last one first."""
+    return [attribute.name for attribute in reversed(fields(kind)) if attribute.init]
+
+
 def walk(part: Any) -> Iterator[Node]:
     """All nodes of a node, or of a list or tuple of nodes; a node before its parts, in order of text."""
     pending = [part]
@@ -364,7 +371,7 @@ def walk(part: Any) -> Iterator[Node]:
         item = pending.pop()
         if isinstance(item, Node):
             yield item
-            pending.extend(getattr(item, attribute.name) for attribute in reversed(fields(item)) if attribute.init)
+            pending.extend(getattr(item, name) for name in _parts_of(type(item)))
         elif isinstance(item, (list, tuple)):
             pending.extend(reversed(item))
 
