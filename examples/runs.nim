@@ -1,20 +1,14 @@
-# Run-length coding: each run of a character becomes its length and the character.
-proc addRun(text: var string, times: int, c: char) =
-  if times > 1:
-    text &= $times
-  if times > 0:
-    text.add(c)
-
+# Run-length coding of each line: a run of a character becomes its length and the character.
 proc packed(text: string): string =
-  var last = ' '
-  var times = 0
-  for c in text:
-    if times > 0 and c != last:
-      addRun(result, times, last)
-      times = 0
-    last = c
-    times += 1
-  addRun(result, times, last)
+  var at = 0
+  while at < text.len:
+    var past = at + 1
+    while past < text.len and text[past] == text[at]:
+      past += 1
+    if past - at > 1:
+      result &= $(past - at)
+    result.add(text[at])
+    at = past
 
 proc unpacked(text: string): string =
   var times = 0
@@ -26,7 +20,8 @@ proc unpacked(text: string): string =
         result.add(c)
       times = 0
 
-for line in @["WWWWWWWWWWWWBWWWWWWWWWWWWBBBWWWWWWWWWW", "abc", "", "aabbbcccc"]:
+var line: string
+while readLine(stdin, line):
   let short = packed(line)
   echo short
   if unpacked(short) != line:

@@ -19,6 +19,8 @@ from type_table import TypeTable
 
 MOST_BYTES = 1_040_384
 WORD_BYTES = 4
+FEW_TEXTS = 512
+"""So many texts and constants count no word more."""
 GIVEN_EXCEPTIONS = (b'CatchableError', b'ValueError', b'IOError', b'OSError', b'KeyError', b'EOFError')
 
 
@@ -30,7 +32,8 @@ def text_bytes(text: bytes) -> int:
 def data_bytes(program: Program) -> int:
     names = [member.encode('latin-1') for declared in program.types.declared.values() for member in declared.members]
     counted = _texts(program) | _read_in_place(program)
-    return _globals(program) + sum(map(text_bytes, [*GIVEN_EXCEPTIONS, *names])) + sum(map(text_bytes, counted))
+    further = WORD_BYTES * max(0, len(counted) - FEW_TEXTS)
+    return _globals(program) + sum(map(text_bytes, [*GIVEN_EXCEPTIONS, *names])) + sum(map(text_bytes, counted)) + further
 
 
 def _globals(program: Program) -> int:
@@ -63,14 +66,15 @@ def _texts_of(value: Any) -> Iterator[bytes]:
 
 
 class _Constants(frames.Sums):
-    """Those that are read in place, by their bytes."""
+    """Those that are read in place, by their bytes, but for texts."""
 
     def __init__(self, types: TypeTable):
         super().__init__(types)
         self.found: Set[bytes] = set()
 
     def constant(self, constant: Constant) -> int:
-        self.found.add(_bytes_of(constant.value))
+        if not isinstance(constant.value, bytes):
+            self.found.add(_bytes_of(constant.value))
         return super().constant(constant)
 
 

@@ -8,17 +8,14 @@ from __future__ import annotations
 
 import argparse
 import sys
-from typing import Any, Iterator, Optional
+from typing import Iterator, Optional
 
 import tree
 from check import RECURSION_LIMIT, Program, check
-from meanings import READ_LINE, BuiltInCall, Constant, DollarCall, Procedure, ProcedureCall
+from meanings import READ_LINE, BuiltInCall, Constant
 from scan import Position
-from tree import place_of, walk, without_parentheses
-from type_table import STRING, TypeTable
-
-LOOKED_AT = ('len', 'high')
-"""They look at their operand in place."""
+from tree import place_of, walk
+from type_table import TypeTable
 
 
 def first_left_out(program: Program) -> Optional[Position]:
@@ -28,12 +25,8 @@ def first_left_out(program: Program) -> Optional[Position]:
 def _left_out(program: Program) -> Iterator[Position]:
     outside = {id(node) for node in nodes_outside(program)}
     for node in walk(program.statements):
-        if id(node) in outside:
-            continue
-        if isinstance(node, tree.For) and node.right is None and is_text(node.left):
-            yield place_of(node.left)
-        elif isinstance(node, tree.Expression):
-            yield from _left_out_at(program.types, node)
+        if id(node) not in outside and isinstance(node, tree.Expression) and is_left_out(program.types, node):
+            yield place_of(node)
 
 
 def nodes_outside(program: Program) -> Iterator[tree.Node]:
@@ -53,43 +46,13 @@ def nodes_of_constants(program: Program) -> Iterator[tree.Node]:
             yield from walk(node.definitions)
 
 
-def _left_out_at(types: TypeTable, node: tree.Expression) -> Iterator[Position]:
-    """Of the form that the node is, without its parts."""
-    if isinstance(node, tree.Index):
-        if node.part is None and types.resolved(node.left.type or 0) == STRING:
-            yield place_of(node)
-    elif isinstance(node, tree.Name):
+def is_left_out(types: TypeTable, node: tree.Expression) -> bool:
+    """Whether the form that the node is has no code, whatever its parts are."""
+    if isinstance(node, tree.Name):
         constant = node.declaration
-        if isinstance(constant, Constant) and not isinstance(constant.value, bytes) and types.owns_blocks(constant.type):
-            yield place_of(node)
-    elif isinstance(node, tree.Unary):
-        if isinstance(node.shown, Procedure) and is_text(node.operand):
-            yield place_of(node)
-    elif isinstance(node, (tree.Call, tree.Dot)):
-        yield from _left_out_call(node, node.meaning)
-
-
-def _left_out_call(node: tree.Expression, meaning: Any) -> Iterator[Position]:
-    if isinstance(meaning, ProcedureCall) and any(map(is_text, meaning.arguments)):
-        yield place_of(node)
-    elif isinstance(meaning, DollarCall) and isinstance(meaning.shown, Procedure) and is_text(meaning.argument):
-        yield place_of(node)
-    elif isinstance(meaning, BuiltInCall):
-        if meaning.name == READ_LINE and len(meaning.arguments) == 1:
-            yield place_of(node)
-        if meaning.name in LOOKED_AT and is_text(meaning.arguments[0]):
-            yield place_of(meaning.arguments[0])
-        for argument, shown in zip(meaning.arguments, meaning.shown):
-            if isinstance(shown, Procedure) and is_text(argument):
-                yield place_of(argument)
-
-
-def is_text(expression: tree.Expression) -> bool:
-    """Whether it is a literal text, or a constant that is one."""
-    inner = without_parentheses(expression)
-    if isinstance(inner, tree.Name):
-        return isinstance(inner.declaration, Constant) and isinstance(inner.declaration.value, bytes)
-    return isinstance(inner, tree.TextLiteral)
+        return isinstance(constant, Constant) and not isinstance(constant.value, bytes) and types.owns_blocks(constant.type)
+    meaning = node.meaning if isinstance(node, (tree.Call, tree.Dot)) else None
+    return isinstance(meaning, BuiltInCall) and meaning.name == READ_LINE and len(meaning.arguments) == 1
 
 
 def main() -> None:

@@ -14,6 +14,7 @@ TYPES_DECLARED: Dict[str, str] = {
     'Mark': 'distinct string',
     'Row': 'distinct seq[int]',
     'Pair': 'tuple[text: string, number: int]',
+    'Cell': 'tuple[letter: char, text: string]',
     'Book': 'tuple[lines: seq[string], by: Pair]',
     'Shelf': 'object\n    books: seq[Book]\n    marks: array[2, seq[int]]\n    last: Book',
 }
@@ -26,13 +27,17 @@ PROCEDURES_OF_TYPES = {
 CONSTANT = 'word'
 CONSTANT_TEXT = 'const word = "const"\n'
 WIDER_FIELDS = {'Book': [('lines', 'seq[string]'), ('by', 'Pair')],
-                'Shelf': [('books', 'seq[Book]'), ('marks', 'array[2, seq[int]]'), ('last', 'Book')]}
+                'Shelf': [('books', 'seq[Book]'), ('marks', 'array[2, seq[int]]'), ('last', 'Book')],
+                'Cell': [('letter', 'char'), ('text', 'string')]}
 WIDER_ELEMENTS = {'seq[Book]': 'Book', 'array[2, seq[int]]': 'seq[int]', 'seq[Team]': 'Team', 'seq[seq[int]]': 'seq[int]',
                   'seq[seq[seq[string]]]': 'seq[seq[string]]', 'array[2, Pair]': 'Pair', 'seq[array[2, seq[int]]]': 'array[2, seq[int]]',
-                  'seq[Mark]': 'Mark'}
+                  'seq[Mark]': 'Mark', 'seq[char]': 'char', 'array[2, char]': 'char', 'seq[Cell]': 'Cell'}
 DEPTH_PARAMETER = 'n'
 MOST_CALLS_DEEP = 4
 WRITTEN_IN_LOOP = .7
+OFTEN_PARAMETERS = [(('var', 'char'), .4), (('', 'string'), .5), (('sink', 'string'), .2)]
+LITERAL_ARGUMENT = .5
+LITERAL_LOOP = .3
 NOTHING = 'discard'
 MOST_STATEMENTS = 12
 """Of a program, but for those that do nothing."""
@@ -63,8 +68,8 @@ def head(text: str) -> str:
 
 
 class BuiltMaker(StatementMaker):
-    """What is left out isn't made: a character by its position, a literal that is handed over, measured or gone through, and
-    constants with strings in them."""
+    """What is left out isn't made: constants with strings in them, but for one that is a string. Literals are handed over, measured,
+    gone through and read by an index."""
 
     def __init__(self, generator: random.Random):
         super().__init__(generator)
@@ -124,7 +129,10 @@ class BuiltMaker(StatementMaker):
         shown = {'Mark': 'string(%s)', 'Row': 'seq[int](%s).len'}.get(type_name, '%s') % path
         return ['echo "%s", %s' % ('[' * (depth + 1), shown)]
 
-    # What is left out
+    # Literals and what is left out
+
+    def literal_text(self) -> str:
+        return self.random.choice([self.text_literal(), self.text_literal(), '"\\xff\\x00"', CONSTANT])
 
     def call(self, scope: Scope, procedure: Procedure, level: int) -> Optional[str]:
         made = self.call_with(scope, procedure, level)
@@ -144,19 +152,9 @@ class BuiltMaker(StatementMaker):
             elif mode == DEPTH_PARAMETER:
                 arguments.append(deeper or str(self.random.randrange(MOST_CALLS_DEEP)))
             else:
-                arguments.append(self.unwritten(self.value(scope, type_name, level + 1), type_name))
+                is_literal = type_name == 'string' and self.random.random() < LITERAL_ARGUMENT
+                arguments.append(self.literal_text() if is_literal else self.value(scope, type_name, level + 1))
         return '%s(%s)' % (procedure.name, ', '.join(arguments)), conditions
-
-    def unwritten(self, value: str, type_name: str) -> str:
-        """A literal text becomes an operand."""
-        is_literal = type_name == 'string' and (value.startswith('"') or value == CONSTANT)
-        return '(%s & "")' % value if is_literal else value
-
-    def steps(self, path: str, type_name: str, wanted: str, guards: List[str], found: list, depth: int) -> None:
-        if type_name != 'string':
-            super().steps(path, type_name, wanted, guards, found, depth)
-        elif wanted == 'string':
-            found.append((path, guards))
 
     def from_fresh_path(self, scope: Scope, wanted: str, level: int) -> Optional[str]:
         inner = lambda type_name: self.value(scope, type_name, level + 1)
@@ -165,6 +163,10 @@ class BuiltMaker(StatementMaker):
                 lambda: '%s.name' % self.person(scope, level), lambda: '(text: %s, n: 1).text' % inner('string'),
                 lambda: '@[%s][0]' % inner('string'), lambda: '[%s, "z"][1]' % inner('string'),
                 lambda: '@[%s, %s].pop()' % (inner('string'), inner('string'))])()
+        if wanted == 'char':
+            return self.random.choice([
+                lambda: '(%s & %s)[0]' % (inner('char'), inner('string')), lambda: '($%s)[0]' % inner('int'),
+                lambda: "(%s & 'z')[%s]" % (inner('string'), inner('int')), lambda: '(letter: %s, text: "a").letter' % inner('char')])()
         return '%s.tags' % self.person(scope, level) if wanted == 'seq[string]' else None
 
     def fresh(self, scope: Scope, wanted: str, level: int) -> Optional[str]:
@@ -173,19 +175,30 @@ class BuiltMaker(StatementMaker):
             return '(lines: %s, by: %s)' % (inner('seq[string]'), inner('Pair'))
         if wanted == 'Shelf':
             return 'Shelf(%s: %s)' % self.random.choice([('books', inner('seq[Book]')), ('last', inner('Book'))])
+        if wanted == 'Cell':
+            return '(letter: %s, text: %s)' % (inner('char'), inner('string'))
         if wanted.startswith('array'):
             return '[%s, %s]' % (inner(ELEMENTS[wanted]), inner(ELEMENTS[wanted]))
         if wanted in SEQUENCES and self.random.random() < .15:
             return 'default(%s)' % wanted
+        if wanted == 'char' and self.random.random() < .4:
+            return self.letter_of_literal()
         return super().fresh(scope, wanted, level)
 
+    def letter_of_literal(self) -> str:
+        text = self.literal_text()
+        if text == '""' and self.random.random() < .9:
+            text = '"a"'
+        return '%s[%s]' % (text, self.random.choice(['0', '%s.high' % text, '%s.len div 2' % text]))
+
     def measured(self, scope: Scope, level: int) -> str:
-        inner = super().measured(scope, level)
-        return '(%s & "")' % inner if inner.startswith('("') or inner == '(%s)' % CONSTANT else inner
+        return self.literal_text() if self.random.random() < .2 else super().measured(scope, level)
 
     def for_value(self, scope: Scope, depth: int) -> Lines:
         type_name = self.random.choice(list(ELEMENTS))
-        return self.loop(scope, depth, self.unwritten(self.value(scope, type_name), type_name), ELEMENTS[type_name])
+        is_literal = type_name == 'string' or self.random.random() < LITERAL_LOOP
+        over, element = (self.literal_text(), 'char') if is_literal else (self.value(scope, type_name), ELEMENTS[type_name])
+        return self.loop(scope, depth, over, element)
 
     # Procedures that call themselves
 
@@ -194,7 +207,10 @@ class BuiltMaker(StatementMaker):
         name = 'f%d' % len(procedures)
         parameters = [(self.random.choice(['', '', 'var', 'sink']), self.random.choice(random_parts.TYPES))
                       for _ in range(self.random.randrange(4))]
-        result = self.random.choice([None, *random_parts.OWNING, 'string', 'string', 'seq[string]', 'int'])
+        for parameter, likely in OFTEN_PARAMETERS:
+            if self.random.random() < likely:
+                parameters.insert(self.random.randrange(len(parameters) + 1), parameter)
+        result = self.random.choice([None, *random_parts.OWNING, 'string', 'string', 'seq[string]', 'int', 'char'])
         variables = [Variable('p%d' % number, type_name, mode != '') for number, (mode, type_name) in enumerate(parameters)]
         heads = ['%s: %s' % (variable.name, (mode + ' ' + type_name).strip())
                  for variable, (mode, type_name) in zip(variables, parameters)]
@@ -245,7 +261,7 @@ class BuiltMaker(StatementMaker):
             return [NOTHING]
         if self.random.random() < .5:
             kinds: List[Callable[[Scope, int], Optional[Lines]]] = [self.own_element, self.own_element, self.own_text, self.own_text,
-                                                                    self.shrunk, self.written_loop]
+                                                                    self.own_letters, self.own_letters, self.shrunk, self.written_loop]
             made = self.random.choice(kinds)(scope, depth)
             if made is not None:
                 return made
@@ -282,6 +298,22 @@ class BuiltMaker(StatementMaker):
         lines = line.replace('q', found[0]).split('\n')
         return lines if not found[1] else ['if %s:' % ' and '.join(found[1]), *indented(lines)]
 
+    def own_letters(self, scope: Scope, _: int) -> Optional[Lines]:
+        """Of a string that is given its own characters."""
+        found = self.path(scope, 'string', True)
+        if found is None:
+            return None
+        line = self.random.choice([
+            'q[0] = q[q.high]', 'q[q.high] = q[0]', 'swap(q[0], q[q.high])', 'swap(q[0], q[0])', 'q[0] = q[0]', 'q[q.high] = q[q.high]',
+            'q[q.len div 2] = move(q[0])', 'q.add(q[0])', 'q &= q[q.high]', 'q = q[0] & q', 'q = $q[q.high]', 'q[0] = (q & "x")[1]',
+            'q[0] = chr(255 - ord(q[0]))', 'q[q.high] = chr(q.len mod 256)', "q[0] = (if q[0] < 'c': 'x' else: q[q.high])", 'q[1] = q[0]',
+            'q[q.len] = q[0]', 'for i in 0..<q.len div 2: swap(q[i], q[q.high - i])',
+            'for i in 1..q.high: q[i] = q[i - 1]', 'for i in 0..q.high: q[i] = chr((ord(q[i]) + i) mod 256)',
+            'for i in 0..q.high: q[i] = (if q[i] < q[0]: q[i] else: q[q.high])',
+            "case q[0]\nof 'a'..'c': q[0] = 'x'\nof 'x': q.setLen(1)\nelse: q[q.high] = 'a'"])
+        lines = line.replace('q', found[0]).split('\n')
+        return ['if %s:' % ' and '.join(found[1] + ['%s.len > 0' % found[0]]), *indented(lines)]
+
     def shrunk(self, scope: Scope, _: int) -> Optional[Lines]:
         """Shrinks a place and lets it grow back."""
         found = self.path(scope, self.random.choice(['string', *SEQUENCES]), True)
@@ -304,8 +336,7 @@ class BuiltMaker(StatementMaker):
         writes = ['Q = Q', 'Q = %s' % self.value(scope, type_name), 'discard Q.len', 'Q = move(Q)']
         if not type_name.startswith('array'):
             writes += ['Q.setLen(Q.len)', 'Q.add(E)', 'Q.setLen(0)']
-        if type_name != 'string':
-            writes += ['Q[0] = E', 'Q[0] = E', 'Q[Q.high] = E', 'Q[Q.high] = Q[0]']
+        writes += ['Q[0] = E', 'Q[0] = E', 'Q[Q.high] = E', 'Q[Q.high] = Q[0]']
         if element == 'string':
             writes += ['Q[0] &= E', 'Q[Q.high].add(E)']
         written = self.random.choice(writes).replace('Q', path).replace('E', name) if self.random.random() < WRITTEN_IN_LOOP else 'discard'

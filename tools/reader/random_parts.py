@@ -37,6 +37,9 @@ OWNING = [*ELEMENTS, *FIELDS, *DISTINCT]
 TYPES = OWNING + ['string'] * 6 + ['seq[string]'] * 4 + ['int', 'bool', 'char']
 LENGTHS = [0, 0, 1, 1, 2, 3, 5, 7, 8, 9, 12, 24, 25, 56, 57]
 COUNTS = [0, 1, 1, 2, 2, 3, 4, 6, 7]
+TEXT_INDEXES = ['P.len - 1', 'P.len div 2']
+WRONG_INDEXES = ['-1']
+LARGEST_CHAR = 255
 MOST_LEVELS = 4
 
 
@@ -113,8 +116,10 @@ class ExpressionMaker:
             self.steps('%s.%s' % (path, field), field_type, wanted, guards, found, depth + 1)
         if type_name in ELEMENTS and (wanted == 'char' or type_name != 'string'):
             index = self.random.choice(['0', '0', '1', '1', path + '.high'])
-            guard = [] if type_name.startswith('array') and index in '01' else \
-                ['%s.len > %s' % (path, '0' if index.endswith('high') else index)]
+            if type_name == 'string':
+                index = self.random.choice([index, index, *TEXT_INDEXES, *WRONG_INDEXES[:self.random.random() < .05]]).replace('P', path)
+            guard = [] if index in WRONG_INDEXES or type_name.startswith('array') and index in '01' else \
+                ['%s.len > %s' % (path, index if index in '01' else '0')]
             self.steps('%s[%s]' % (path, index), ELEMENTS[type_name], wanted, guards + guard, found, depth + 1)
 
     def path(self, scope: Scope, wanted: str, is_written: bool = False) -> Optional[Tuple[str, List[str]]]:
@@ -163,8 +168,8 @@ class ExpressionMaker:
     def from_branches(self, scope: Scope, wanted: str, level: int) -> str:
         first, second = self.value(scope, wanted, level + 1), self.value(scope, wanted, level + 1)
         if self.random.random() < .3:
-            selector = self.value(scope, 'string', level + 1)
-            return '(case %s of "", "a": %s else: %s)' % (selector, first, second)
+            selected, labels = self.random.choice([('string', '"", "a"'), ('char', "'a', 'x'..'z'")])
+            return '(case %s of %s: %s else: %s)' % (self.value(scope, selected, level + 1), labels, first, second)
         return '(if %s: %s else: %s)' % (self.value(scope, 'bool', level + 1), first, second)
 
     def from_fresh_path(self, scope: Scope, wanted: str, level: int) -> Optional[str]:
@@ -229,6 +234,8 @@ class ExpressionMaker:
                 lambda: '(%s + 1)' % inner('int'), lambda: 'ord(%s)' % inner('char')])()
         if wanted == 'bool':
             return self.condition(scope, level)
+        if wanted == 'char' and self.random.random() < .4:
+            return 'chr(%d - ord(%s))' % (LARGEST_CHAR, inner('char'))
         return self.literal(wanted)
 
     def measured(self, scope: Scope, level: int) -> str:
@@ -242,6 +249,7 @@ class ExpressionMaker:
         return self.random.choice([
             lambda: '(%s %s %s)' % (inner('string'), self.random.choice(['==', '!=', '<', '<=', '>', '>=']), inner('string')),
             lambda: '(%s > %s)' % (inner('int'), inner('int')), lambda: '(%s == %s)' % (inner('Mark'), inner('Mark')),
+            lambda: '(%s %s %s)' % (inner('char'), self.random.choice(['==', '<', '>=']), inner('char')),
             lambda: '(%s %s %s)' % (inner('bool'), self.random.choice(['and', 'or', 'xor']), inner('bool')),
             lambda: 'not ' + inner('bool')])()
 

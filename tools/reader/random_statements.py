@@ -129,7 +129,7 @@ class StatementMaker(ExpressionMaker):
         return self.guarded(found[1], '%s.setLen(%s)' % (found[0], count))
 
     def swap(self, scope: Scope) -> Optional[Lines]:
-        type_name = self.random.choice(OWNING)
+        type_name = self.random.choice(OWNING + ['char'] * 4)
         first, second = self.path(scope, type_name, True), self.path(scope, type_name, True)
         if first is None or second is None:
             return None
@@ -168,9 +168,11 @@ class StatementMaker(ExpressionMaker):
         return lines + (['else:', *self.block(scope, depth)] if self.random.random() < .6 else [])
 
     def case(self, scope: Scope, depth: int) -> Lines:
-        lines = ['case %s' % self.value(scope, 'string'), 'of "", "a":', *self.block(scope, depth)]
-        lines += ['of "const", "ab":', *self.block(scope, depth)] if self.random.random() < .5 else []
-        return lines + (['else:', *self.block(scope, depth)] if self.random.random() < .7 else [])
+        type_name, first, second = self.random.choice([('string', '"", "a"', '"const", "ab"'), ('char', "'a'..'c', 'x'", "'d', 'e'")])
+        lines = ['case %s' % self.value(scope, type_name), 'of %s:' % first, *self.block(scope, depth)]
+        lines += ['of %s:' % second, *self.block(scope, depth)] if self.random.random() < .5 else []
+        has_else = type_name == 'char' or self.random.random() < .7
+        return lines + (['else:', *self.block(scope, depth)] if has_else else [])
 
     def loop(self, scope: Scope, depth: int, over: str, element: str) -> Lines:
         name = self.new_name()

@@ -4,9 +4,12 @@ use Rattle.std.specs.Prelude.{IfOk, IfErr}
 use Rattle.arc_base.specs.Event.{Event}
 use Rattle.arc_base.specs.Behaviour.{Behaviour, Agrees, Seen, Sound}
 use Rattle.arc_base.specs.Pace.{PacedFrom}
+use Rattle.nim_types.specs.Table.{IsTable, types_in, facts_in}
+use Rattle.nim_program.specs.Sizes.{HaveForms}
 use Rattle.nim_types.specs.declared.types.TypeDef.{TypeDef}
 use Rattle.nim_plan.specs.declared.plan.Plan.{Plan}
 use Rattle.nim_program.specs.Program.{Program}
+use Rattle.nim_program.specs.Typed.{IsTyped}
 use Rattle.nim_meaning.specs.Meaning.{meaning}
 use Rattle.rv32_isa.specs.Image.{Image}
 use Rattle.rv32_isa.specs.Machine.{machine}
@@ -40,7 +43,6 @@ use Rattle.flat_code.specs.Waits.{AllWaitOnce}
 use Rattle.flattening.specs.Counted.{places_waiting}
 use Rattle.word_lowering.specs.Lowers.{Lowers, LowersWithRuntime, IsFitting, AreSilent, AreSmall, all_waiting}
 use Rattle.core_compiler.specs.Compile.{live_objects, HasCode, DoesProgram}
-use Rattle.core_compiler.specs.declared.program.TheConstants.{BYTES_OF_HOOK}
 use Rattle.core_compiler.specs.Limits.{code_bound, hook_parts}
 use Rattle.rv32_codegen.specs.declared.layout.LayFault.{LayFault}
 use Rattle.rv32_codegen.specs.declared.layout.LayFault.TheVariants.{TooLarge, Memory}
@@ -138,7 +140,7 @@ module _ (law : AgreesLaw) (pace : PaceLaw) where
   -- joined with a runtime
   module _ (table : List TypeDef) (plan : Plan) (flat : Code Line) (owned : Code OwnedLine) (blocks : Code BlockLine) (own : WordCode)
       (r : Runtimes) (injected : IsOwned flat plan owned) (branched : IsBranched owned blocks) (lowered : LowersWithRuntime table blocks own)
-      (owned_so : OwnedLaw) (blocks_so : BlockLaw)
+      (owned_so : OwnedLaw) (blocks_so : BlockLaw) (is_table : IsTable table) (formed : HaveForms table)
     where
       abbrev words : WordCode
       words = with_runtimes r own
@@ -253,7 +255,7 @@ module _ (law : AgreesLaw) (pace : PaceLaw) where
           code_most =
               let most = joined_bytes (length (joined r.heap own).statics) (length r.heap.statics) r.heap.procs own.procs lowered.own
               (procs_in table lowered.first) r.others.procs lowered.procs r.is_heap.routines r.is_others.routines in
-              let hooks = hooks_few table lowered.first (length r.heap.statics) in
+              let hooks = hooks_few table lowered.first (length r.heap.statics) is_table formed in
               let less = kept_bytes is.numbers words.procs in
               let bytes : procs_bytes pruned.procs ≡ procs_bytes (kept is.numbers words.procs) = ap procs_bytes is.procs in
               omega (
@@ -317,11 +319,16 @@ module _ (law : AgreesLaw) (pace : PaceLaw) where
         let upper = top.agrees heap input in
         law _ _ _ (middle.agrees fresh heap stack input few top.fits top.hooks (sound_low upper)) upper
 
-    pub code_most : (bytes : ℕ) → bytes ≤ most_bytes words.procs → bytes ≤ code_bound program plan + BYTES_OF_HOOK * hook_parts table
-    code_most bytes few =
-        let bound = bound_is program plan flat words.procs (hook_parts table) top.weight top.waiting middle.code_most in omega (arith, few, bound)
+    -- the types of the table are those of the program
+    hooks_same : hook_parts (facts_in table) (types_in table) ≡ hook_parts program.facts program.types
+    hooks_same = ap (λ facts. hook_parts facts (types_in table)) top.facts ∙ ap (hook_parts program.facts) top.types
 
-    pub data_most : length words.statics ≤ data_counted program + 4220
+    pub code_most : (bytes : ℕ) → bytes ≤ most_bytes words.procs → bytes ≤ code_bound program plan program.types
+    code_most bytes few =
+        let bound = bound_is program plan flat words.procs (hook_parts (facts_in table) (types_in table)) hooks_same top.weight top.waiting
+        middle.code_most in omega (arith, few, bound)
+
+    pub data_most : length words.statics ≤ data_counted program + 6268
     data_most = let few = middle.data_size in omega (arith, few, top.data_size)
 
     -- with so many units
@@ -352,21 +359,22 @@ module _ (law : AgreesLaw) (pace : PaceLaw) where
         let f = top.within heap input units w.0 in
         omega (arith, w.1, f)
 
-    abbrev pub has_code : (bytes : ℕ) → HasLines words bytes → HasCode program plan bytes
-    has_code bytes has = record {
+    abbrev pub has_code : (bytes : ℕ) → IsTyped program → HasLines words bytes → HasCode program plan bytes
+    has_code bytes typed has = record {
       words = words;
       homes = has.homes;
       lines = has.lines;
       code = has.code;
       agrees = λ fresh heap stack input can. words_do fresh heap stack input can.heap_most;
       size = has.size;
-      types = table;
-      facts = top.facts;
+      types = program.types;
+      own = λ some. refl;
+      typed = typed;
       bound = code_most bytes has.bound;
       data_most = data_most;
     }
 
-    module _ (heap : ℕ) (few : heap ≤ 16777216) (image : Image) (low : IsImageOf words heap image) where
+    module _ (typed : IsTyped program) (heap : ℕ) (few : heap ≤ 16777216) (image : Image) (low : IsImageOf words heap image) where
       does_agree : (input : List ℕ) → Agrees (machine live_objects image input) (meaning program plan heap input)
       does_agree input =
           let d = low.does input in
@@ -386,7 +394,7 @@ module _ (law : AgreesLaw) (pace : PaceLaw) where
         agrees = does_agree;
         paced = does_paced;
         in_time = λ input. in_time live_objects image input (meaning program plan heap input) (does_paced input);
-        code = has_code (length image.code) low.from;
+        code = has_code (length image.code) typed low.from;
         made = low.made;
         heap_is = ap (λ i. i.heap) low.made;
         hooks = low.hooks (middle.hooks top.hooks);

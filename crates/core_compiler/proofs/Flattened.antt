@@ -6,7 +6,6 @@ use Rattle.arc_base.specs.Pace.{Paced}
 use Rattle.nim_plan.specs.declared.plan.Plan.{Plan}
 use Rattle.nim_program.specs.declared.program.Program.{Program as RustProgram}
 use Rattle.nim_program.specs.Sizes.{HaveForms, globals_size}
-use Rattle.nim_program.specs.TextSizes.{all_bytes}
 use Rattle.nim_program.specs.Program.{Program}
 use Rattle.nim_meaning.specs.Meaning.{meaning}
 use Rattle.flat_code.specs.declared.code.Code.{Code}
@@ -17,7 +16,7 @@ use Rattle.flat_code.specs.Fits.{code_fits, start_places}
 use Rattle.flat_code.specs.Lines.{does}
 use Rattle.flat_code.specs.Running.{Proc, ShowsAlike, at_first, runs, run_by}
 use Rattle.flat_code.specs.Scene.{Known, known_in}
-use Rattle.flat_code.specs.Sizes.{code_weight, code_texts, distinct_texts, data_bytes, globals_bytes}
+use Rattle.flat_code.specs.Sizes.{code_weight, code_texts, data_bytes, globals_bytes}
 use Rattle.flat_code.specs.Whole.{label_in}
 use Rattle.program_limits.specs.Data.{data_counted, program_texts, texts_size}
 use Rattle.program_limits.specs.Limits.{program_in}
@@ -113,13 +112,13 @@ module _ (p : RustProgram) (plan : Plan) (flat : Code Line) (procs : flat.procs 
     none : AreNone (hooks_of flat)
     none = subst (λ ps. AreNone (hooks_of (record { procs = ps }))) (sym procs) hooks
 
-    data_most : data_bytes flat_plain p.types flat.procs ≤ data_counted program
+    data_most : data_bytes flat_plain p.types flat.procs ≤ data_counted program + 2048
     data_most =
         let names = names_count p.types in
         let own : globals_bytes known (start_places (flat_procs program plan)) ≤ globals_size program.facts program.globals = globals in
-        let distinct : all_bytes (distinct_texts flat_plain (flat_procs program plan)) ≤ texts_size (program_texts program) =
+        let distinct : texts_size (code_texts flat_plain (flat_procs program plan)) ≤ texts_size (program_texts program) =
         distinct_most program plan texts in
-        subst (λ ps. data_bytes flat_plain p.types ps ≤ data_counted program) (sym procs) (omega (arith, own, names, distinct))
+        subst (λ ps. data_bytes flat_plain p.types ps ≤ data_counted program + 2048) (sym procs) (omega (arith, own, names, distinct))
 
     pub is_flat_of : IsFlatOf p.types program plan flat
     is_flat_of = record {
@@ -151,5 +150,6 @@ module _ (p : RustProgram) (plan : Plan) (flat : Code Line) (procs : flat.procs 
         data_few = let most = data_most in omega (arith, most, few);
       };
       forms = forms;
+      types = refl;
       facts = refl;
     }

@@ -1,6 +1,8 @@
 -- How many bytes the hooks of types take: no more for each sequence, each other type whose hooks are lifted, and each of its parts than a part of a program.
 use Rattle.std.proofs.Common.{◌≡◌, ℕ, suc, ◌+◌, ◌*◌, ◌≤◌, Bool, true, false, List, [], ◌∷◌, ◌++◌, length, None, refl, sym, subst, arith}
 use Rattle.std.specs.Prelude.{if◌then◌else◌, ◌==◌, ◌&&◌}
+use Rattle.nim_types.specs.Table.{IsTable, types_in, facts_in}
+use Rattle.nim_program.specs.Sizes.{HaveForms}
 use Rattle.nim_types.specs.declared.types.TypeDef.{TypeDef}
 use Rattle.nim_types.specs.declared.types.TypeDef.TheVariants as D
 use Rattle.nim_types.specs.declared.types.TheConstants.{WORD_BYTES}
@@ -19,7 +21,8 @@ use Rattle.hook_lifting.specs.Lifted.{has_hooks, is_lifted, is_shallow, is_neede
 use Rattle.hook_lifting.specs.Lifted.{elements_end, loop_lines, each_from, of_entry, cut_entry, lifted, cuts}
 use Rattle.hook_code.specs.HookCode.{part_hook, bits, bytes_at, flat_code, line_code, lines_code, body_code, hook_procs, cut_procs, procs_in}
 use Rattle.rv32_codegen.specs.LineBytes.{lines_bytes, procs_bytes}
-use Rattle.core_compiler.specs.Limits.{parts_count, entry_parts, parts_from, hook_parts}
+use Rattle.core_compiler.proofs.HookForms.{entry_count, entry_parts, parts_from, hooks_by_forms}
+use Rattle.core_compiler.specs.Limits.{hook_parts}
 
 -- ---- lines
 
@@ -191,7 +194,7 @@ module _ (table : List TypeDef) (first k : ℕ) where
       (within table first ty 316 Ends (D.Seq el) (let e = ending_few table first ty el (O.GiveBack ty 0 6 ∷ O.Plain (L.Return None) ∷ []) in omega (arith, e)))
       (omega arith)
 
-  of_type : (ty : ℕ) (d : TypeDef) → Four ty d (1980 * suc (parts_count d))
+  of_type : (ty : ℕ) (d : TypeDef) → Four ty d (1980 * suc (entry_count d))
   of_type ty D.Text =
       four ty D.Text 88 408 264 88 1980 (within table first ty 88 Copies D.Text (omega arith)) (within table first ty 408 Assigns D.Text (omega arith))
       (within table first ty 264 Sinks D.Text (omega arith)) (within table first ty 88 Ends D.Text (omega arith)) (omega arith)
@@ -239,11 +242,11 @@ module _ (table : List TypeDef) (first k : ℕ) where
   abbrev Both_few : (ty : ℕ) → TypeDef → Type 0
   Both_few ty d = of_hooks (of_entry table ty d) + of_cuts (cut_entry table ty d) ≤ 1980 * entry_parts table ty d
 
-  uncut : (ty : ℕ) (d : TypeDef) → of_cuts (cut_entry table ty d) ≡ 0 → entry_parts table ty d ≡ (if is_lifted table ty then suc (parts_count d) else 0)
+  uncut : (ty : ℕ) (d : TypeDef) → of_cuts (cut_entry table ty d) ≡ 0 → entry_parts table ty d ≡ (if is_lifted table ty then suc (entry_count d) else 0)
       → Both_few ty d
   uncut ty d none is =
-      let h = lifted_few ty d (1980 * suc (parts_count d)) (of_type ty d) (is_lifted table ty) in
-      let e = scaled (is_lifted table ty) (suc (parts_count d)) in
+      let h = lifted_few ty d (1980 * suc (entry_count d)) (of_type ty d) (is_lifted table ty) in
+      let e = scaled (is_lifted table ty) (suc (entry_count d)) in
       omega (arith, h, e, none, is)
 
   entry_few : (ty : ℕ) (d : TypeDef) → Both_few ty d
@@ -273,7 +276,7 @@ module _ (table : List TypeDef) (first k : ℕ) where
       let b = cuts_both (cut_entry table ty d) (each_from (cut_entry table) ds (suc ty)) in
       let h = entry_few ty d in let r = entries_few ds (suc ty) in omega (arith, a, b, h, r)
 
-  pub hooks_few : procs_bytes (all_moved k (procs_in table first)) ≤ 1980 * hook_parts table
-  hooks_few =
+  pub hooks_few : IsTable table → HaveForms table → procs_bytes (all_moved k (procs_in table first)) ≤ 1980 * hook_parts (facts_in table) (types_in table)
+  hooks_few is_table formed =
       let e = all_both (hook_procs table first (lifted table)) (cut_procs table first (cuts table)) in
-      let h = entries_few table 0 in omega (arith, e, h)
+      let h = entries_few table 0 in let same = hooks_by_forms table is_table formed in omega (arith, e, h, same)

@@ -9,11 +9,8 @@ use Rattle.nim_types.specs.Forms as form
 use Rattle.nim_types.specs.Forms.{HasForm, hooked, form_of, of_int}
 use Rattle.nim_types.specs.Table.{type_at, types_in, facts_in, IsTable}
 use Rattle.nim_types.specs.Entries.{meant_at, said_at}
-use Rattle.nim_types.proofs.ForCallers.{the_form, count as counted, same_sound, by_entry, said_by}
-use Rattle.nim_meaning.specs.Here.{is_hooked as nim_hooked, gives_hooked}
+use Rattle.nim_types.proofs.ForCallers.{the_form, count as counted, by_entry, said_by}
 use Rattle.nim_meaning.specs.LeftOut.{is_exception_type}
-use Rattle.nim_meaning.specs.Shapes.{is_lent}
-use Rattle.nim_meaning.specs.Values.{Fixed}
 use Rattle.nim_program.specs.Kinds.{is_of, kind_of, kind_if, declared_kind, field_at}
 use Rattle.flat_code.specs.declared.line.From.{From}
 use Rattle.flat_code.specs.declared.line.From.TheVariants as F
@@ -21,16 +18,13 @@ use Rattle.flat_code.specs.declared.line.Owning.{Owning}
 use Rattle.flat_code.specs.declared.line.Owning.TheVariants as W
 use Rattle.flat_code.specs.declared.line.Line.{Line}
 use Rattle.flat_code.specs.declared.line.Line.TheVariants as L
-use Rattle.flat_code.specs.declared.line.Piece.TheVariants as P
 use Rattle.flat_code.specs.declared.place.FlatPlace.{FlatPlace}
 use Rattle.flat_code.specs.declared.place.PlaceKind.{PlaceKind}
 use Rattle.flat_code.specs.declared.place.PlaceKind.TheVariants as K
-use Rattle.flat_code.specs.Fits.{Signature, is_value, is_own, is_declared, place_named, if_type_of, value, location, fits}
-use Rattle.flat_code.specs.Fits.{is_location, may_write, same_base, is_waiting, type_by_kind, all_fit}
-use Rattle.flat_code.specs.Leads.{fills_kind, stands_kind, is_filled, is_stood, may_fill, may_stand, place_hooked, value_hooked, unled}
-use Rattle.flat_code.specs.Leads.{leads_right as right_in_flat, lends_text, leads_to_text, all_lead}
-use Rattle.flat_code.specs.Pieces.{are_one}
-use Rattle.flat_code.specs.Shapes.{shape_of, has_shape}
+use Rattle.flat_code.specs.Fits.{Signature, is_value, is_own, is_declared, place_named, if_type_of, location, fits}
+use Rattle.flat_code.specs.Fits.{is_location, same_base, type_by_kind, all_fit}
+use Rattle.flat_code.specs.Leads.{fills_kind, stands_kind, is_filled, is_stood, may_fill, may_stand, place_hooked, value_hooked}
+use Rattle.flat_code.specs.Leads.{leads_right as right_in_flat, all_lead}
 use Rattle.flat_code.specs.Scene.{known_in}
 use Rattle.word_lowering.specs.declared.homes.Free.{Free}
 use Rattle.word_lowering.specs.declared.homes.Housed.{Housed}
@@ -52,10 +46,6 @@ one e = cc
 untrue : (b : Bool) → not b ≡ true → b ≡ false
 untrue true h = never h
 untrue false h = refl
-
-or_none : (b : Bool) → b || false ≡ true → b ≡ true
-or_none true h = refl
-or_none false h = h
 
 or_true : (a : Bool) {b : Bool} → b ≡ true → a || b ≡ true
 or_true true h = refl
@@ -188,19 +178,18 @@ module _ (table : List TypeDef) (is_table : IsTable table) where
               (and_parts (place_hooked (known_in table) (Some p)) (stands p.number) (and_parts (stands_kind p.kind) _ h).1).1
 
       -- a place to which a line gives a location stands for others
-      stood : (before : Option Line) (lines : List Line) → all_lead (known_in table) places stands before lines ≡ true → (n : ℕ) →
+      stood : (lines : List Line) → all_lead (known_in table) places stands lines ≡ true → (n : ℕ) →
           is_among n (standing lines) ≡ true → stands n ≡ true
-      stood before [] h n among = never among
-      stood before (L.Own (W.PlaceStands place) from ∷ lines) h n among =
-          let q = and_parts (may_stand (known_in table) places stands place || false) _ h in
-          by (nat_eq place n) refl among (stands_at place (or_none _ q.0)) (λ a. stood (Some (L.Own (W.PlaceStands place) from)) lines q.1 n a)
+      stood [] h n among = never among
+      stood (L.Own (W.PlaceStands place) from ∷ lines) h n among =
+          let q = and_parts (may_stand (known_in table) places stands place) _ h in
+          by (nat_eq place n) refl among (stands_at place q.0) (λ a. stood lines q.1 n a)
         where
           by : (b : Bool) → nat_eq place n ≡ b → (b || is_among n (standing lines)) ≡ true → stands place ≡ true →
               (is_among n (standing lines) ≡ true → stands n ≡ true) → stands n ≡ true
           by true same among here rest = subst (λ m. stands m ≡ true) (eqb-true place n same) here
           by false same among here rest = rest among
-      stood before (line ∷ lines) h n among =
-          stood (Some line) lines (and_parts (right line || leads_to_text before line) (all_lead (known_in table) places stands (Some line) lines) h).1 n among
+      stood (line ∷ lines) h n among = stood lines (and_parts (right line) (all_lead (known_in table) places stands lines) h).1 n among
 
       none_lent : (kind : PlaceKind) (hooked among s : Bool) → fills_kind kind s ≡ true → (among ≡ true → s ≡ true) → lent_by kind hooked among ≡ false
       none_lent (K.Param mode) hooked among s f a = never f
@@ -267,7 +256,7 @@ module _ (table : List TypeDef) (is_table : IsTable table) where
       called (W.PlaceCopies place ty) from h = hooked_number ty (and_parts _ (may_fill (known_in table) places stands place) h).0
       called (W.PlaceStands place) from h = refl
       called (W.ResultGets place ty) from h =
-          hooked_number ty (and_parts _ (may_fill (known_in table) places stands place) (and_parts _ (unled places from) h).0).0
+          hooked_number ty (and_parts _ (may_fill (known_in table) places stands place) h).0
 
       -- ---- a location that leads into a value that doesn't wait
 
@@ -306,84 +295,42 @@ module _ (table : List TypeDef) (is_table : IsTable table) where
           by None e h plain = of_none of h
           by (Some p) e h plain = of_kind p p.kind e h plain
 
-      -- a text comes to no counter
-      abbrev FitsIf : List Signature → List FlatPlace → Option Line → Type 0
-      FitsIf procs globals None = Unit {0}
-      FitsIf procs globals (Some line) = fits (known_in table) procs globals places line ≡ true
-
-      no_int : {A : Type 0} (ty : Ty) (text : List ℕ) → has_shape (Fixed text) (shape_of facts ty) ≡ true → is_of (Some int) (Some ty) ≡ true → A
-      no_int ty text s q = never (subst (λ (u : Ty). has_shape (Fixed text) (shape_of facts u) ≡ true) (sym (same_sound int ty q)) s)
-
-      no_counter : {A : Type 0} (procs : List Signature) (globals : List FlatPlace) (before : Option Line) (from : ℕ) → FitsIf procs globals before →
-          lends_text from before ≡ true → value (known_in table) procs globals places from ≡ Some int → A
-      no_counter procs globals (Some (L.Constant t how ty (P.Text text ∷ []))) from f l e =
-          let q = and_parts (are_one (P.Text text ∷ []) 0 && has_shape (Fixed text) (shape_of facts (type_at (types_in table) ty))) _ f in
-          let s = and_parts (are_one (P.Text text ∷ []) 0) _ q.0 in
-          let same = eqb-true t from (and_parts (is_lent how.how) (nat_eq t from) l).1 in
-          let is = ap (value (known_in table) procs globals places) same ∙ e in
-          no_int (type_at (types_in table) ty) text s.1
-          (sym (ap (λ o. is_of o (Some (type_at (types_in table) ty))) is)
-          ∙ (and_parts (is_of (value (known_in table) procs globals places t) (Some (type_at (types_in table) ty))) _ q.1).0)
-      no_counter procs globals before from f l e = never l
-
       -- it has no hooks
-      fresh_bare : (procs : List Signature) (globals : List FlatPlace) (before : Option Line) (to from : ℕ) → FitsIf procs globals before →
-          right (L.Fresh to from None) || leads_to_text before (L.Fresh to from None) ≡ true →
+      fresh_bare : (procs : List Signature) (globals : List FlatPlace) (to from : ℕ) → right (L.Fresh to from None) ≡ true →
           fits (known_in table) procs globals places (L.Fresh to from None) ≡ true → not (is_hooked table (found is_value from homes).ty) ≡ true
-      fresh_bare procs globals before to from fb h f = by (place_named is_value places from) refl h (and_parts _ _ q.1).1
+      fresh_bare procs globals to from h f = by (place_named is_value places from) refl h
         where
-          q : (is_of (location (known_in table) procs globals places to) (value (known_in table) procs globals places from) ≡ true) ×
-              (not (may_write (known_in table) procs globals places to)
-              && is_waiting None (gives_hooked facts (value (known_in table) procs globals places from)) ≡ true)
-          q = and_parts _ _ f
-
-          bare : (p : FlatPlace) → place_named is_value places from ≡ Some p → (kind : PlaceKind) → p.kind ≡ kind →
-              not (place_hooked (known_in table) (Some p)) || leads_to_text before (L.Fresh to from None) ≡ true →
-              not (nim_hooked facts (type_by_kind kind (type_at (types_in table) p.ty))) ≡ true → not (is_hooked table (found is_value from homes).ty) ≡ true
-          bare p e K.Counter k h w = by_hooks (place_hooked (known_in table) (Some p)) refl h
-            where
-              by_hooks : (b : Bool) → place_hooked (known_in table) (Some p) ≡ b → not b || leads_to_text before (L.Fresh to from None) ≡ true →
-                  not (is_hooked table (found is_value from homes).ty) ≡ true
-              by_hooks false u h = ap not (value_there from p e u)
-              by_hooks true hooked h =
-                  no_counter procs globals before from fb (and_parts (nat_eq to from) (lends_text from before) h).1
-                  (ap (if_type_of (known_in table)) e ∙ ap (λ kind. Some (type_by_kind kind (type_at (types_in table) p.ty))) k)
-          bare p e kind k h w = ap not (value_there from p e (untrue (nim_hooked facts (type_at (types_in table) p.ty)) w))
-
-          by : (o : Option FlatPlace) → place_named is_value places from ≡ o →
-              not (place_hooked (known_in table) o) || leads_to_text before (L.Fresh to from None) ≡ true →
-              is_waiting None (gives_hooked facts (if_type_of (known_in table) o)) ≡ true → not (is_hooked table (found is_value from homes).ty) ≡ true
-          by None e h w = some_type (place_named is_value places from) (location (known_in table) procs globals places to) e q.0
-          by (Some p) e h w = bare p e p.kind refl h w
+          by : (o : Option FlatPlace) → place_named is_value places from ≡ o → not (place_hooked (known_in table) o) ≡ true →
+              not (is_hooked table (found is_value from homes).ty) ≡ true
+          by None e h = some_type (place_named is_value places from) (location (known_in table) procs globals places to) e (and_parts _ _ f).0
+          by (Some p) e h = ap not (value_there from p e (untrue (place_hooked (known_in table) (Some p)) h))
 
       -- ---- lines
 
-      module _ (procs : List Signature) (globals : List FlatPlace) (lead : all_lead (known_in table) places stands None whole ≡ true) where
+      module _ (procs : List Signature) (globals : List FlatPlace) (lead : all_lead (known_in table) places stands whole ≡ true) where
         abbrev all : (n : ℕ) → is_among n (standing whole) ≡ true → stands n ≡ true
-        all = stood None whole lead
+        all = stood whole lead
 
-        one_led : (before : Option Line) (line : Line) → right line || leads_to_text before line ≡ true → FitsIf procs globals before →
-            fits (known_in table) procs globals places line ≡ true → ((n : ℕ) → is_among n (standing (line ∷ [])) ≡ true → is_among n (standing whole) ≡ true) →
-            leads_right table homes line ≡ true
-        one_led before (L.Fresh to from None) h b f member = fresh_bare procs globals before to from b h f
-        one_led before (L.Part to from field) h b f member = part_right procs globals to from field f
-        one_led before (L.Fresh to from (Some node)) h b f member = value_right from (or_none _ h)
-        one_led before (L.Fill place from) h b f member = filled all place (or_none _ h)
-        one_led before (L.Blank place ty) h b f member = filled all place (or_none _ h)
-        one_led before (L.Give place from) h b f member = filled all place (or_none _ h)
-        one_led before (L.Own (W.PlaceCopies place ty) from) h b f member =
-            filled all place (and_parts _ (may_fill (known_in table) places stands place) (or_none _ h)).1
-        one_led before (L.Own (W.ResultGets place ty) from) h b f member =
-            filled all place
-            (and_parts _ (may_fill (known_in table) places stands place) (and_parts _ (unled places from) (or_none _ h)).0).1
-        one_led before (L.Own (W.PlaceStands place) from) h b f member =
-            stands_right place (member place (ap (λ b. b || false) (eq-eqb place place refl))) (or_none _ h)
-        one_led before (L.Own (W.Waits node) (F.Value t ∷ [])) h b f member = value_right t (or_none _ h)
-        one_led before line h b f member = refl
+        one_led : (line : Line) → right line ≡ true → fits (known_in table) procs globals places line ≡ true →
+            ((n : ℕ) → is_among n (standing (line ∷ [])) ≡ true → is_among n (standing whole) ≡ true) → leads_right table homes line ≡ true
+        one_led (L.Fresh to from None) h f member = fresh_bare procs globals to from h f
+        one_led (L.Part to from field) h f member = part_right procs globals to from field f
+        one_led (L.Fresh to from (Some node)) h f member = value_right from h
+        one_led (L.Fill place from) h f member = filled all place h
+        one_led (L.Blank place ty) h f member = filled all place h
+        one_led (L.Give place from) h f member = filled all place h
+        one_led (L.Own (W.PlaceCopies place ty) from) h f member =
+            filled all place (and_parts _ (may_fill (known_in table) places stands place) h).1
+        one_led (L.Own (W.ResultGets place ty) from) h f member =
+            filled all place (and_parts _ (may_fill (known_in table) places stands place) h).1
+        one_led (L.Own (W.PlaceStands place) from) h f member =
+            stands_right place (member place (ap (λ b. b || false) (eq-eqb place place refl))) h
+        one_led (L.Own (W.Waits node) (F.Value t ∷ [])) h f member = value_right t h
+        one_led line h f member = refl
 
-        calls : (before : Option Line) (line : Line) → right line || leads_to_text before line ≡ true → CallsHook table line
-        calls before (L.Own what from) h = called what from (or_none _ h)
-        calls before line h = tt
+        calls : (line : Line) → right line ≡ true → CallsHook table line
+        calls (L.Own what from) h = called what from h
+        calls line h = tt
 
         standing_both : (n : ℕ) (line : Line) (lines : List Line) → is_among n (standing (line ∷ [])) ≡ true → is_among n (standing (line ∷ lines)) ≡ true
         standing_both n (L.Own (W.PlaceStands place) from) lines h = by (nat_eq place n) h
@@ -397,17 +344,17 @@ module _ (table : List TypeDef) (is_table : IsTable table) where
         standing_later n (L.Own (W.PlaceStands place) from) lines h = or_true (nat_eq place n) h
         standing_later n line lines h = h
 
-        all_led : (before : Option Line) (lines : List Line) → all_lead (known_in table) places stands before lines ≡ true → FitsIf procs globals before →
+        all_led : (lines : List Line) → all_lead (known_in table) places stands lines ≡ true →
             all_fit (known_in table) procs globals places lines ≡ true → ((n : ℕ) → is_among n (standing lines) ≡ true → is_among n (standing whole) ≡ true) →
             AreLed table homes lines
-        all_led before [] h b f member = tt
-        all_led before (line ∷ lines) h b f member =
-            let q = and_parts (right line || leads_to_text before line) (all_lead (known_in table) places stands (Some line) lines) h in
+        all_led [] h f member = tt
+        all_led (line ∷ lines) h f member =
+            let q = and_parts (right line) (all_lead (known_in table) places stands lines) h in
             let k = and_parts (fits (known_in table) procs globals places line) (all_fit (known_in table) procs globals places lines) f in (
-              one_led before line q.0 b k.0 (λ n a. member n (standing_both n line lines a)),
-              calls before line q.0,
-              all_led (Some line) lines q.1 k.0 k.1 (λ n a. member n (standing_later n line lines a)),
+              one_led line q.0 k.0 (λ n a. member n (standing_both n line lines a)),
+              calls line q.0,
+              all_led lines q.1 k.1 (λ n a. member n (standing_later n line lines a)),
             )
 
         pub led : all_fit (known_in table) procs globals places whole ≡ true → AreLed table homes whole
-        led f = all_led None whole lead tt f (λ n a. a)
+        led f = all_led whole lead f (λ n a. a)

@@ -5,6 +5,7 @@ mod Refusals
 mod Limiting
 mod CodeSizes
 mod HookBytes
+mod HookForms
 mod PrunedWords
 mod Composing
 mod ProgramTexts

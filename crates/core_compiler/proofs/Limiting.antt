@@ -10,5 +10,5 @@ use Rattle.core_compiler.specs.Limits.{code_limits, hook_parts}
 use Rattle.core_compiler.specs.Compile.{HasCode}
 
 pub few_fit : (program : Program) (plan : Plan) (code : ℕ) (has : HasCode program plan code) →
-    program_parts program + program_pairs (modes_of program plan) program + hook_parts has.types ≤ 257 → code_limits code ≡ Ok tt
+    program_parts program + program_pairs (modes_of program plan) program + hook_parts program.facts has.types ≤ 257 → code_limits code ≡ Ok tt
 few_fit program plan code has few = let bound = has.bound in ap unless_large (le-leb code 524288 (omega (arith, bound, few)))

@@ -244,7 +244,7 @@ module _ (plan : Plan) where
   pub blocks_may : (table : List TypeDef) (ps : List (CodeProc Line)) (blocks : Code BlockLine) → blocks.procs ≡ map block_of ps →
       AreBuiltProcs (known_in table) 16384 ps → AllAlike ps → AllLeadRight (known_in table) ps → IsTable table →
       AreNone (map (λ (p : CodeProc Line). p.hook) ps) →
-      code_fits block_plain (known_in table) blocks.procs ≡ true → data_bytes block_plain table blocks.procs ≤ 1040384 → defs_may table ≡ true →
+      code_fits block_plain (known_in table) blocks.procs ≡ true → data_bytes block_plain table blocks.procs ≤ 1042432 → defs_may table ≡ true →
       may_lower table blocks ≡ true
   blocks_may table ps blocks e built alike leads is_table none fits few names =
       let f = (and_parts (are_none (params_at (start_places blocks.procs) ++ results_at (start_places blocks.procs))) _ fits).1 in

@@ -15,12 +15,13 @@ use Rattle.flat_code.specs.Codes.{flat_plain}
 use Rattle.flat_code.specs.declared.line.Piece.{Piece}
 use Rattle.flat_code.specs.declared.line.Piece.TheVariants as P
 use Rattle.flat_code.specs.Pieces.{pieces_of, pieces_of_all, count_of, piece_words, words_bytes, standing_bytes}
-use Rattle.flat_code.specs.Sizes.{piece_texts, pieces_texts, code_texts}
+use Rattle.flat_code.specs.Sizes.{piece_texts, pieces_texts, standing_texts as placed_texts, code_texts}
 use Rattle.flattening.specs.Counted.{label_texts as counted_label, these_texts, branch_texts as counted_branches, chooser_texts as counted_chooser}
 use Rattle.flattening.specs.Counted.{times, part_texts as counted_texts, own_times, body_times, program_times}
 use Rattle.flattening.specs.Given.{flat_procs}
 use Rattle.program_limits.specs.Data.{label_texts, branch_texts, labels_texts, chooser_texts}
-use Rattle.program_limits.specs.Data.{literal_bytes, joined_bytes, literal_texts, all_texts, part_texts, own_texts, body_texts, program_texts, texts_size}
+use Rattle.program_limits.specs.Data.{literal_bytes, joined_bytes, literal_texts, all_texts, standing_texts, part_texts, own_texts, body_texts}
+use Rattle.program_limits.specs.Data.{program_texts, texts_size}
 use Rattle.program_limits.proofs.ForCallers.{texts_most}
 
 -- ---- the texts of one constant, in the same order
@@ -83,6 +84,29 @@ mutual
   joined_are (ALiteral first rest) =
       append_pieces (pieces_of first) (pieces_of_all rest) ∙ ap₂ (λ bs cs. bs ++ cs) (bytes_are first) (joined_are rest)
 
+-- a constant that is read in place is one text, or its bytes and its texts
+
+-- behind others no piece is one text
+bare : (pieces : List Piece) (last : Piece) → placed_texts (last ∷ []) ≡ standing_bytes (last ∷ []) ∷ pieces_texts (last ∷ []) →
+    placed_texts (pieces ++ last ∷ []) ≡ standing_bytes (pieces ++ last ∷ []) ∷ pieces_texts (pieces ++ last ∷ [])
+bare [] last alone = alone
+bare (P.Ordinal z ∷ ps) last alone = refl
+bare (P.Text t ∷ []) last alone = refl
+bare (P.Text t ∷ p ∷ ps) last alone = refl
+bare (P.Nil ∷ ps) last alone = refl
+bare (P.Parts m ∷ ps) last alone = refl
+bare (P.Elements m ∷ ps) last alone = refl
+
+both_are : (l : Literal) → standing_bytes (pieces_of l) ∷ pieces_texts (pieces_of l) ≡ literal_bytes l ∷ literal_texts l
+both_are l = ap₂ (λ bytes ts. bytes ∷ ts) (bytes_are l) (pieces_are l)
+
+standing_are : (l : Literal) → placed_texts (pieces_of l) ≡ standing_texts l
+standing_are (Number z) = both_are (Number z)
+standing_are (Characters text) = refl
+standing_are NoObject = refl
+standing_are (PartsOf all) = bare (pieces_of_all all) (P.Parts (count_of all)) refl ∙ both_are (PartsOf all)
+standing_are (ElementsOf all) = bare (pieces_of_all all) (P.Elements (count_of all)) refl ∙ both_are (ElementsOf all)
+
 -- ---- labels
 
 label_same : (label : Label) → counted_label label ≡ label_texts label
@@ -114,8 +138,7 @@ module _ (text : List ℕ) where
   part_counts : (part : Part) → Counts (part_texts part) (times text (counted_texts part))
   part_counts (Acting (Giving literal)) = ap (times text) (sym (pieces_are literal))
   part_counts (Choosing chooser looked) = ap (times text) (sym (chooser_same chooser))
-  part_counts (Leading read written (Standing literal)) =
-      ap₂ (λ bytes ts. times text (bytes ∷ ts)) (sym (bytes_are literal)) (sym (pieces_are literal))
+  part_counts (Leading read written (Standing literal)) = ap (times text) (sym (standing_are literal))
   part_counts part = refl
 
   counts : Relates lists numbers own_texts (own_times text) Counts

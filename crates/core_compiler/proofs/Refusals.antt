@@ -21,7 +21,7 @@ use Rattle.program_limits.specs.Limits.{unless_left_out, unless_large, data_limi
 use Rattle.flattening.specs.Counted.{program_parts, program_pairs, places_waiting}
 use Rattle.flattening.specs.Flattened.{modes_of}
 use Rattle.rv32_codegen.specs.LineBytes.{most_bytes}
-use Rattle.core_compiler.specs.Limits.{code_bound, code_limits, note_bytes, note_limits, build_limits}
+use Rattle.core_compiler.specs.Limits.{hook_parts, code_bound, code_limits, note_bytes, note_limits, build_limits}
 use Rattle.core_compiler.specs.Limits.{where_built, check_limits}
 use Rattle.core_compiler.specs.Compile.{HasCode, HasCodeWhereWithin, UnlessMemory}
 
@@ -45,14 +45,15 @@ module _ (program : Program) where
         | inr f ↦ f
       ]
 
-  pub bound_is : (plan : Plan) (flat : Code Line) (procs : List WordProc) (hooks : ℕ) →
+  pub bound_is : (plan : Plan) (flat : Code Line) (procs : List WordProc) (hooks : ℕ) → hooks ≡ hook_parts program.facts program.types →
       code_weight flat_plain flat.procs ≤ 44 * program_parts program + 9 * program_pairs (modes_of program plan) program →
       places_waiting (places_of flat) ≤ program_parts program →
       most_bytes procs ≤ 44 * (code_weight flat_plain flat.procs + places_waiting (places_of flat)) + (1980 * hooks + 13412) →
-      most_bytes procs ≤ code_bound program plan + 1980 * hooks
-  bound_is plan flat procs hooks few waiting most =
-      let bound : 1980 * program_parts program + (396 * program_pairs (modes_of program plan) program + 13412) ≤ code_bound program plan = omega arith in
-      omega (arith, few, waiting, most, bound)
+      most_bytes procs ≤ code_bound program plan program.types
+  bound_is plan flat procs hooks same few waiting most =
+      let bound : 1980 * program_parts program + (396 * program_pairs (modes_of program plan) program + 13412)
+      + 1980 * hook_parts program.facts program.types ≤ code_bound program plan program.types = omega arith in
+      omega (arith, same, few, waiting, most, bound)
 
 -- ---- where all of it is built
 

@@ -5,11 +5,10 @@ use Rattle.arc_base.specs.Behaviour.{Live, Ended, Behaviour, Agrees, Sound, no_o
 use Rattle.arc_base.specs.Pace.{PacedFrom}
 use Rattle.arc_base.specs.declared.place.Stop.{Stop}
 use Rattle.arc_base.specs.declared.place.Stop.TheVariants.{Refused, Memory}
-use Rattle.nim_types.specs.declared.types.TypeDef.{TypeDef}
-use Rattle.nim_types.specs.Table.{facts_in}
 use Rattle.nim_types.specs.Types.{Ty, members, Facts, fact_of}
 use Rattle.nim_plan.specs.declared.plan.Plan.{Plan}
 use Rattle.nim_program.specs.Program.{Program}
+use Rattle.nim_program.specs.Typed.{IsTyped}
 use Rattle.nim_meaning.specs.Meaning.{meaning}
 use Rattle.nim_meaning.specs.LeftOut.{first_left_out}
 use Rattle.rv32_isa.specs.declared.label.LabelLine.{LabelLine}
@@ -18,6 +17,8 @@ use Rattle.rv32_isa.specs.Labels.{AreLines}
 use Rattle.rv32_isa.specs.Machine.{Lives, machine}
 use Rattle.word_code.specs.declared.word.WordCode.{WordCode}
 use Rattle.word_code.specs.Words.{word_meaning, Fresh}
+use Rattle.nim_types.specs.declared.types.TheConstants.{WORD_BYTES}
+use Rattle.program_limits.specs.declared.texts.TheConstants.{FEW_TEXTS}
 use Rattle.word_code.specs.declared.routine.TheConstants.{RUNTIME_DATA}
 use Rattle.heap_memory.specs.declared.numbers.TheConstants.{HEAP_DATA}
 use Rattle.program_limits.specs.Data.{data_counted}
@@ -26,9 +27,9 @@ use Rattle.reg_scan.specs.declared.homes.Homes.{Homes}
 use Rattle.rv32_codegen.specs.Layout.{code_size, laid_out}
 use Rattle.rv32_codegen.specs.Lowering.{AllHomes, CanRun, AlwaysDoes, MakeFrames}
 use Rattle.rv32_codegen.specs.Stack.{stack_need}
-use Rattle.core_compiler.specs.declared.program.TheConstants.{IMAGE_PACE, IMAGE_LATE, TIME_PACE, TIME_LATE, BYTES_OF_HOOK}
+use Rattle.core_compiler.specs.declared.program.TheConstants.{IMAGE_PACE, IMAGE_LATE, TIME_PACE, TIME_LATE}
 use Rattle.program_limits.specs.Limits.{tree_limits}
-use Rattle.core_compiler.specs.Limits.{code_bound, hook_parts}
+use Rattle.core_compiler.specs.Limits.{code_bound}
 
 -- a program has no objects yet
 abbrev pub live_objects : Lives
@@ -60,8 +61,9 @@ pub record IsLabelCode (words : WordCode) (homes : List Homes) (lines : List Lab
   pub can : (heap : ℕ) → heap ≤ MOST_HEAP → CanRun words homes heap (stack_need words.procs homes)
 
 -- Code of so many bytes does what the program means under a plan: label code of word code that means the same, with each heap and each stack
--- that a machine may have, whatever bytes new places bring. The bytes are those that the lines have where they are laid out, and no more than the bound for the
--- program under the plan and for the hooks of a table of its types; its data are at most those of the program that count, and 4,220 bytes more.
+-- that a machine may have, whatever bytes new places bring. The bytes are those that the lines have where they are laid out, and no more than the
+-- bound for the program under the plan, with its types by number; a program that is read from a source has no list of these, and then it is one under
+-- which it is typed. Its data are at most those of the program that count, and 6,268 bytes more.
 pub record HasCode (program : Program) (plan : Plan) (bytes : ℕ) : Type 0 where
   pub words : WordCode
   pub homes : List Homes
@@ -70,10 +72,11 @@ pub record HasCode (program : Program) (plan : Plan) (bytes : ℕ) : Type 0 wher
   pub agrees : (fresh : Fresh) (heap stack : ℕ) (input : List ℕ) → CanRun words homes heap stack →
       Agrees (word_meaning live_objects words fresh heap stack input) (meaning program plan heap input)
   pub size : code_size lines ≡ bytes
-  pub types : List TypeDef
-  pub facts : facts_in types ≡ program.facts
-  pub bound : bytes ≤ code_bound program plan + BYTES_OF_HOOK * hook_parts types
-  pub data_most : length words.statics ≤ data_counted program + (HEAP_DATA + MORE_DATA + RUNTIME_DATA)
+  pub types : List Ty
+  pub own : program.types ≢ [] → types ≡ program.types
+  pub typed : IsTyped (record program { types = types })
+  pub bound : bytes ≤ code_bound program plan types
+  pub data_most : length words.statics ≤ data_counted program + (WORD_BYTES * FEW_TEXTS + (HEAP_DATA + MORE_DATA + RUNTIME_DATA))
 
 -- the image of code with such a heap, and with just the stack that it needs
 abbrev pub image_with : {program : Program} {plan : Plan} {bytes : ℕ} → (heap : ℕ) → HasCode program plan bytes → Image

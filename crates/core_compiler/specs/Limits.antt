@@ -1,11 +1,11 @@
 -- Which typed programs a command takes, and how others are refused: by what is said of the program alone (program_limits/specs/Limits.antt: E23,
 -- E21, E25 of its data), and then by the bytes of its code and of its file's note (E25).
-use Rattle.std.specs.Prelude.{ℕ, suc, ◌+◌, ◌*◌, nat_le, if◌then◌else◌, List, [], ◌∷◌, length, Option, Some, None, Result, Ok}
+use Rattle.std.specs.Prelude.{ℕ, suc, ◌+◌, ◌*◌, nat_le, ◌&&◌, if◌then◌else◌, List, [], ◌∷◌, length, Option, Some, None, Result, Ok}
 use Rattle.arc_base.specs.declared.place.Place.{Place}
 use Rattle.arc_base.specs.Refusal.{Refusal, and_then}
-use Rattle.nim_types.specs.declared.types.TypeDef.{TypeDef}
-use Rattle.nim_types.specs.declared.types.TypeDef.TheVariants as D
-use Rattle.hook_lifting.specs.Lifted.{is_lifted}
+use Rattle.nim_types.specs.Types.{Ty, Facts}
+use Rattle.nim_types.specs.Forms.{Form, elements, parts, resource, Forms, no_forms, forms, hooked, levels, form_of}
+use Rattle.hook_lifting.specs.declared.procedures.TheConstants.{MOST_LEVELS}
 use Rattle.nim_plan.specs.declared.plan.Plan.{Plan}
 use Rattle.nim_program.specs.Program.{Program}
 use Rattle.nim_meaning.specs.LeftOut.{first_left_out}
@@ -14,31 +14,33 @@ use Rattle.flattening.specs.Counted.{program_parts, program_pairs}
 use Rattle.flattening.specs.Flattened.{modes_of}
 use Rattle.rv32_codegen.specs.declared.layout.TheConstants.{MOST_CODE_BYTES}
 use Rattle.core_compiler.specs.declared.note.TheConstants.{MOST_NOTE_BYTES}
-use Rattle.core_compiler.specs.declared.program.TheConstants.{BYTES_OF_PART, BYTES_OF_PAIR, BYTES_OF_ALL}
+use Rattle.core_compiler.specs.declared.program.TheConstants.{BYTES_OF_PART, BYTES_OF_PAIR, BYTES_OF_HOOK, BYTES_OF_ALL}
+
+abbrev pub forms_count : Forms → ℕ
+forms_count no_forms = 0
+forms_count (forms f fs) = suc (forms_count fs)
 
 -- how many parts tuples and objects have
-abbrev pub parts_count : TypeDef → ℕ
-parts_count (D.Tuple names parts) = length parts
-parts_count (D.Object name at of fields own parts) = length parts
-parts_count d = 0
+abbrev pub parts_count : Form → ℕ
+parts_count (parts fs) = forms_count fs
+parts_count (resource fs) = forms_count fs
+parts_count f = 0
 
 -- What bounds how much code hooks of types are: sequences, other types of few levels that have hooks, and the parts of these. None counts where no type
 -- has hooks.
-abbrev pub entry_parts : List TypeDef → (ty : ℕ) → TypeDef → ℕ
-entry_parts table ty (D.Seq of) = 1
-entry_parts table ty d = if is_lifted table ty then suc (parts_count d) else 0
+abbrev pub form_parts : Form → ℕ
+form_parts (elements of) = 1
+form_parts f = if hooked f && nat_le (levels f) MOST_LEVELS then suc (parts_count f) else 0
 
--- by each entry from one on
-abbrev pub parts_from : List TypeDef → List TypeDef → (ty : ℕ) → ℕ
-parts_from table [] ty = 0
-parts_from table (d ∷ ds) ty = entry_parts table ty d + parts_from table ds (suc ty)
+abbrev pub hook_parts : Facts → List Ty → ℕ
+hook_parts facts [] = 0
+hook_parts facts (ty ∷ tys) = form_parts (form_of facts ty) + hook_parts facts tys
 
-abbrev pub hook_parts : List TypeDef → ℕ
-hook_parts table = parts_from table table 0
-
--- code under a plan never has more bytes, but for those of hooks
-abbrev pub code_bound : Program → Plan → ℕ
-code_bound program plan = BYTES_OF_PART * program_parts program + (BYTES_OF_PAIR * program_pairs (modes_of program plan) program + BYTES_OF_ALL)
+-- code under a plan, with these types, never has more bytes
+abbrev pub code_bound : Program → Plan → List Ty → ℕ
+code_bound program plan types =
+    BYTES_OF_PART * program_parts program + (BYTES_OF_PAIR * program_pairs (modes_of program plan) program + BYTES_OF_ALL)
+    + BYTES_OF_HOOK * hook_parts program.facts types
 
 -- code has so many bytes
 abbrev pub code_limits : (code : ℕ) → Result (Unit {0}) Refusal

@@ -7,7 +7,7 @@ use Rattle.arc_base.specs.declared.place.Code.TheVariants as code
 use Rattle.arc_base.specs.declared.place.Stop.{Stop}
 use Rattle.arc_base.specs.declared.place.Stop.TheVariants as stop
 use Rattle.nim_types.specs.declared.types.TypeDef.{TypeDef}
-use Rattle.nim_types.specs.Table.{facts_in}
+use Rattle.nim_types.specs.Table.{types_in, facts_in}
 use Rattle.nim_plan.specs.declared.plan.Plan.{Plan}
 use Rattle.nim_program.specs.declared.sizes.TheConstants.{MOST_BYTES}
 use Rattle.nim_program.specs.declared.text_sizes.TheConstants.{MOST_DATA as MOST_DATA_BYTES}
@@ -43,6 +43,8 @@ use Rattle.rv32_codegen.specs.Layout.{code_size, laid_out}
 use Rattle.rv32_codegen.specs.LineBytes.{most_bytes}
 use Rattle.rv32_codegen.specs.Stack.{stack_need}
 use Rattle.reg_scan.specs.declared.homes.Homes.{Homes}
+use Rattle.nim_types.specs.declared.types.TheConstants.{WORD_BYTES}
+use Rattle.program_limits.specs.declared.texts.TheConstants.{FEW_TEXTS}
 use Rattle.word_code.specs.declared.routine.TheConstants.{RUNTIME_DATA}
 use Rattle.heap_memory.specs.declared.numbers.TheConstants.{HEAP_DATA}
 use Rattle.word_lowering.specs.declared.lowering.TheConstants.{WORD_LATE, WORD_PACE, MOST_HEAP, MOST_CHAIN, MORE_DATA}
@@ -76,11 +78,11 @@ pub record MayBeLowered (table : List TypeDef) (flat : Code Line) : Type 0 where
   pub once : AllWaitOnce (places_of flat)
   pub leads : AllLeadRight (known_in table) flat.procs
   pub hooks : AreNone (hooks_of flat)
-  pub data_few : data_bytes flat_plain table flat.procs ≤ MOST_DATA_BYTES
+  pub data_few : data_bytes flat_plain table flat.procs ≤ MOST_DATA_BYTES + WORD_BYTES * FEW_TEXTS
 
 -- The program is never wrong, and flat code does what it means under the plan, and with so many units shows the same after some number of lines and
--- ever after, within so much work; its lines
--- fit the types of its places; it weighs as much as the program's parts and pairs, and has the data that count. No type of the table contains itself.
+-- ever after, within so much work; its lines fit the types of its places; it weighs as much as the program's parts and pairs, and has the data that
+-- count, with a word for the place of each of the first texts. No type of the table contains itself.
 pub record IsFlatOf (table : List TypeDef) (program : Program) (plan : Plan) (flat : Code Line) : Type 0 where
   pub sound : (heap : ℕ) (input : List ℕ) → Sound (meaning program plan heap input)
   pub agrees : (heap : ℕ) (input : List ℕ) → Agrees (flat_meaning table flat plan heap input) (meaning program plan heap input)
@@ -92,9 +94,10 @@ pub record IsFlatOf (table : List TypeDef) (program : Program) (plan : Plan) (fl
   pub fits : FlatFits table flat
   pub weight : code_weight flat_plain flat.procs ≤ NODE_WEIGHT * program_parts program + PAIR_WEIGHT * program_pairs (modes_of program plan) program
   pub waiting : places_waiting (places_of flat) ≤ program_parts program
-  pub data_size : data_bytes flat_plain table flat.procs ≤ data_counted program
+  pub data_size : data_bytes flat_plain table flat.procs ≤ data_counted program + WORD_BYTES * FEW_TEXTS
   pub hooks : AreNone (hooks_of flat)
   pub forms : HaveForms table
+  pub types : types_in table ≡ program.types
   pub facts : facts_in table ≡ program.facts
   pub may : MayBeLowered table flat
 
@@ -127,8 +130,8 @@ pub record AreWordsOf (table : List TypeDef) (plan : Plan) (flat : Code Line) (w
       AreNone (hooks_of flat) → Sound (flat_meaning table flat plan heap input) → (units n : ℕ) → (m : ℕ) ×
       ((word_by_units live_objects words fresh heap stack input units n).work ≤ WORD_PACE * ((flat_within table flat plan units heap input m).work + WORD_LATE))
   pub can : CanLayOut words
-  pub code_most : most_bytes words.procs
-      ≤ BYTES_OF_LINE * (code_weight flat_plain flat.procs + places_waiting (places_of flat)) + (BYTES_OF_HOOK * hook_parts table + BYTES_OF_ALL)
+  pub code_most : most_bytes words.procs ≤ BYTES_OF_LINE * (code_weight flat_plain flat.procs + places_waiting (places_of flat))
+      + (BYTES_OF_HOOK * hook_parts (facts_in table) (types_in table) + BYTES_OF_ALL)
   pub data_size : length words.statics ≤ data_bytes flat_plain table flat.procs + (HEAP_DATA + MORE_DATA + RUNTIME_DATA)
   pub hooks : AreNone (hooks_of flat) → have_no_hooks words.procs ≡ true
 

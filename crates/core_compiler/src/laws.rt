@@ -11,6 +11,7 @@ ghost use Rattle.core_compiler.specs.Limits.{code_limits, hook_parts};
 /// and parts of these, is never too large.
 pub fn code_limits()
     ensures few_parts { (program : Program) (plan : Plan) (code : ℕ) (has : HasCode program plan code) →
-        program_parts program + program_pairs (modes_of program plan) program + hook_parts has.types ≤ 257 →
+        program_parts program + program_pairs (modes_of program plan) program
+        + hook_parts program.facts has.types ≤ 257 →
         code_limits code ≡ Ok tt }
 {}

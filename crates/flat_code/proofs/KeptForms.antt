@@ -5,7 +5,6 @@ use Rattle.std.specs.Prelude.{option_map}
 use Rattle.std.specs.Set.{unique_keys}
 use Rattle.nim_types.specs.Types.{same_text}
 use Rattle.nim_types.specs.declared.types.TypeDef.{TypeDef}
-use Rattle.nim_program.specs.TextSizes.{all_bytes}
 use Rattle.flat_code.specs.declared.code.Code.{Code}
 use Rattle.flat_code.specs.declared.code.CodeProc.{CodeProc}
 use Rattle.flat_code.specs.declared.line.Line.{Line}
@@ -16,7 +15,8 @@ use Rattle.flat_code.specs.Whole.{label_in, target, back_to, falls, is_found, is
 use Rattle.flat_code.specs.Fits.{Signature, signature_of, fits, all_fit, has_lines_for, start_places, in_order, signatures, each_fits, code_fits}
 use Rattle.flat_code.specs.Fits.{are_none, params_at, results_at}
 use Rattle.flat_code.specs.Waits.{waits_right, all_wait_right, AllWaitRight}
-use Rattle.flat_code.specs.Sizes.{summed, weight, proc_weight, texts_in, lines_texts, code_weight, code_texts, data_bytes, globals_bytes, names_bytes}
+use Rattle.flat_code.specs.Sizes.{summed, weight, proc_weight, texts_in, lines_texts, code_weight, code_texts, data_bytes, globals_bytes, handled_bytes}
+use Rattle.flat_code.specs.Sizes.{names_bytes}
 use Rattle.flat_code.specs.Codes.{proc_of, lines_in, each_line, by_lines, KeepsForm}
 use Rattle.flat_code.proofs.LineMaps.{in_proc, before_last_map, label_map}
 use Rattle.flat_code.proofs.ByLines.{procs_by_lines}
@@ -65,7 +65,7 @@ module _ {L M : Type 0} (f : L → M) (plain : L → Line) (plain' : M → Line)
 
   data_same : (table : List TypeDef) (procs : List (CodeProc L)) → data_bytes plain' table (map (each_line f) procs) ≡ data_bytes plain table procs
   data_same table procs =
-      ap₂ (λ places ts. globals_bytes (known_in table) places + (names_bytes table + all_bytes (unique_keys same_text ts))) (starts procs) (texts procs)
+      ap₂ (λ places ts. globals_bytes (known_in table) places + (names_bytes table + handled_bytes (unique_keys same_text ts))) (starts procs) (texts procs)
 
   -- ---- labels
 

@@ -31,7 +31,7 @@ use Rattle.flat_code.specs.declared.line.Piece.{Piece}
 use Rattle.flat_code.specs.declared.place.PlaceKind.{PlaceKind}
 use Rattle.flat_code.specs.declared.place.PlaceKind.TheVariants as K
 use Rattle.flat_code.specs.declared.place.FlatPlace.{FlatPlace}
-use Rattle.nim_meaning.specs.LeftOut.{is_text_type, is_exception_type}
+use Rattle.nim_meaning.specs.LeftOut.{is_exception_type}
 use Rattle.flat_code.specs.Pieces.{value_of, are_one, is_one_text}
 use Rattle.flat_code.specs.Running.{before_last}
 use Rattle.flat_code.specs.Scene.{Known}
@@ -286,12 +286,12 @@ module _ (known : Known) (procs : List Signature) (globals places : List FlatPla
       is_of (location to) (value from) && (not (may_write to) && is_waiting waits (gives_hooked known.facts (value from)))
   fits (L.Standing to ty pieces) =
       is_constant_of ty pieces
-      && (is_of (location to) (Some (type_at known.types ty)) && (not (may_write to) && not (is_hooked known.facts (type_at known.types ty))))
+      && (is_of (location to) (Some (type_at known.types ty))
+      && (not (may_write to) && (is_one_text pieces || not (is_hooked known.facts (type_at known.types ty)))))
   fits (L.Part to from field) =
       is_of (location to) (field_at (kind_at (location from)) field) && (same_base to from && not (is_exception_type (location from)))
   fits (L.Item to from index) =
-      is_of (location to) (element_of (kind_at (location from)))
-      && (is_int (kind_at (value index)) && (same_base to from && not (is_text_type (location from))))
+      is_of (location to) (element_of (kind_at (location from))) && (is_int (kind_at (value index)) && same_base to from)
   fits (L.Object to from) = is_of (location to) (object_of (kind_at (location from))) && may_write to
   fits (L.Pass to from how ty) = same_value (value to) (value from) && passes_as (value to) (if_type known.types ty)
   fits (L.Truth to holds) = is_bool (kind_at (value to))

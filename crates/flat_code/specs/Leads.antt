@@ -1,9 +1,8 @@
 -- Where lines lead: a place of a loop may stand for the elements of a value, and then nothing fills it; hooks are called for types that have some; and
--- a location leads into a value that waits where that has hooks, or into the text of a literal, which no line takes otherwise.
-use Rattle.std.specs.Prelude.{◌≡◌, ℕ, nat_eq, Bool, true, false, not, ◌&&◌, ◌||◌, List, [], ◌∷◌, Option, Some, None}
+-- a location leads into a value that waits where that has hooks.
+use Rattle.std.specs.Prelude.{◌≡◌, ℕ, Bool, true, false, not, ◌&&◌, List, [], ◌∷◌, Option, Some, None}
 use Rattle.nim_types.specs.Table.{type_at}
 use Rattle.nim_meaning.specs.Here.{is_hooked}
-use Rattle.nim_meaning.specs.Shapes.{is_lent}
 use Rattle.flat_code.specs.declared.code.CodeProc.{CodeProc}
 use Rattle.flat_code.specs.declared.line.From.{From}
 use Rattle.flat_code.specs.declared.line.From.TheVariants as F
@@ -11,11 +10,10 @@ use Rattle.flat_code.specs.declared.line.Owning.{Owning}
 use Rattle.flat_code.specs.declared.line.Owning.TheVariants as W
 use Rattle.flat_code.specs.declared.line.Line.{Line}
 use Rattle.flat_code.specs.declared.line.Line.TheVariants as L
-use Rattle.flat_code.specs.declared.line.Piece.TheVariants as P
 use Rattle.flat_code.specs.declared.place.PlaceKind.{PlaceKind}
 use Rattle.flat_code.specs.declared.place.PlaceKind.TheVariants as K
 use Rattle.flat_code.specs.declared.place.FlatPlace.{FlatPlace}
-use Rattle.flat_code.specs.Fits.{is_value, is_location, is_own, is_declared, place_named}
+use Rattle.flat_code.specs.Fits.{is_value, is_own, is_declared, place_named}
 use Rattle.flat_code.specs.Scene.{Known}
 
 -- a place that isn't handed in and, where it is a loop's, stands for no other one
@@ -27,26 +25,6 @@ fills_kind kind stands = true
 abbrev pub stands_kind : PlaceKind → Bool
 stands_kind K.ForVar = true
 stands_kind kind = false
-
--- a line gives a temporary the text of a literal that is lent
-abbrev pub lends_text : ℕ → Option Line → Bool
-lends_text t (Some (L.Constant to how ty (P.Text text ∷ []))) = is_lent how.how && nat_eq to t
-lends_text t line = false
-
--- the location of a literal's text, directly behind the literal and by its number
-abbrev pub leads_to_text : (before : Option Line) → Line → Bool
-leads_to_text before (L.Fresh to from None) = nat_eq to from && lends_text from before
-leads_to_text before line = false
-
--- no value of these operands has a location by its own number, as the text of a literal has that is lent
-abbrev pub is_led : Option FlatPlace → Bool
-is_led None = false
-is_led (Some p) = true
-
-abbrev pub unled : (places : List FlatPlace) → List From → Bool
-unled places [] = true
-unled places (F.Value t ∷ from) = not (is_led (place_named is_location places t)) && unled places from
-unled places (F.Place t ∷ from) = unled places from
 
 -- the type of a place has hooks
 abbrev pub place_hooked : Known → Option FlatPlace → Bool
@@ -81,11 +59,10 @@ module _ (known : Known) (places : List FlatPlace) (stands : ℕ → Bool) where
   owning_leads (W.PlaceEnds place ty) from = type_hooked ty
   owning_leads (W.PlaceCopies place ty) from = type_hooked ty && may_fill place
   owning_leads (W.PlaceStands place) from = may_stand place
-  owning_leads (W.ResultGets place ty) from = (type_hooked ty && may_fill place) && unled places from
+  owning_leads (W.ResultGets place ty) from = type_hooked ty && may_fill place
   owning_leads what from = true
 
   abbrev pub leads_right : Line → Bool
-  leads_right (L.Apply to operation how ty of from) = unled places from
   leads_right (L.Fresh to from None) = not (value_hooked from)
   leads_right (L.Fresh to from (Some node)) = value_hooked from
   leads_right (L.Fill place from) = may_fill place
@@ -94,17 +71,16 @@ module _ (known : Known) (places : List FlatPlace) (stands : ℕ → Bool) where
   leads_right (L.Own what from) = owning_leads what from
   leads_right line = true
 
-  -- lines behind another one
-  abbrev pub all_lead : (before : Option Line) → List Line → Bool
-  all_lead before [] = true
-  all_lead before (line ∷ lines) = (leads_right line || leads_to_text before line) && all_lead (Some line) lines
+  abbrev pub all_lead : List Line → Bool
+  all_lead [] = true
+  all_lead (line ∷ lines) = leads_right line && all_lead lines
 
 -- ---- procedures
 
 pub record LeadsRight (known : Known) (p : CodeProc Line) : Type 0 where
   -- the places that stand for others, by their numbers
   pub stands : ℕ → Bool
-  pub all : all_lead known p.places stands None p.lines ≡ true
+  pub all : all_lead known p.places stands p.lines ≡ true
 
 abbrev pub AllLeadRight : Known → List (CodeProc Line) → Type 0
 AllLeadRight known [] = Unit {0}

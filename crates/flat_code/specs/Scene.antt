@@ -57,7 +57,8 @@ pub record Scene : Type 0 where
   pub level : ℕ
   pub temps : Temps
 
--- A line passes to the next one with what it did; or goes on at a label behind, after so much work; or a turn begins, with these temporaries, at the next line or back
+-- A line passes to the next one with what it did; or goes on at a label behind, after so much work; or a turn begins, with these temporaries, at the
+-- next line or back
 -- at a label before; or it calls, with the slots of parameters; or returns; or it is at a fault.
 pub data Did : Type 0 where
   Passes : (done : Done Temps) → Did

@@ -179,10 +179,15 @@ abbrev pub pieces_texts : List Piece → List (List ℕ)
 pieces_texts [] = []
 pieces_texts (piece ∷ pieces) = piece_texts piece ++ pieces_texts pieces
 
--- the texts of constants, each as often as it stands there; the bytes of a constant that stands in the data are one more
+-- a constant that stands in the data: one text, or its bytes and its texts
+abbrev pub standing_texts : List Piece → List (List ℕ)
+standing_texts (P.Text text ∷ []) = text ∷ []
+standing_texts pieces = standing_bytes pieces ∷ pieces_texts pieces
+
+-- the texts of constants, each as often as it stands there
 abbrev pub texts_in : Line → List (List ℕ)
 texts_in (L.Constant to how ty pieces) = pieces_texts pieces
-texts_in (L.Standing to ty pieces) = standing_bytes pieces ∷ pieces_texts pieces
+texts_in (L.Standing to ty pieces) = standing_texts pieces
 texts_in (L.Fits from (C.Text text) to) = text ∷ []
 texts_in line = []
 
@@ -197,6 +202,10 @@ global_bytes kind value = 0
 abbrev pub globals_bytes : Known → List FlatPlace → ℕ
 globals_bytes known [] = 0
 globals_bytes known (p ∷ places) = global_bytes p.kind (type_bytes known.facts (type_at known.types p.ty)) + globals_bytes known places
+
+-- texts with their handles: beside the word for its length each has one for its place
+abbrev pub handled_bytes : List (List ℕ) → ℕ
+handled_bytes texts = all_bytes texts + WORD_BYTES * length texts
 
 -- the names of the members of enums
 abbrev pub members_bytes : TypeDef → ℕ
@@ -238,4 +247,4 @@ module _ {L : Type 0} (plain : L → Line) where
 
   -- globals are places of the start code
   abbrev pub data_bytes : List TypeDef → List (CodeProc L) → ℕ
-  data_bytes table procs = globals_bytes (known_in table) (start_places procs) + (names_bytes table + all_bytes (distinct_texts procs))
+  data_bytes table procs = globals_bytes (known_in table) (start_places procs) + (names_bytes table + handled_bytes (distinct_texts procs))

@@ -33,7 +33,7 @@ use Rattle.flat_code.specs.Running.{Proc, Waiting, callable, before_last, begin_
 use Rattle.flat_code.specs.Running as running
 use Rattle.flattening.specs.StmtLines.{number_of, body_lines}
 use Rattle.flattening.specs.Flattened.{modes_of, code_of_body, code_of_proc}
-use Rattle.flattening.specs.Formed.{Scope, AtFirst, ResultFormed, ParamsFormed, IsFormed, named_in, params_of, taken_by}
+use Rattle.flattening.specs.Formed.{Scope, AtFirst, ParamsFormed, IsFormed, named_in, params_of, taken_by}
 use Rattle.flattening.proofs.Runs.{Fixed, M, procs, step, spends_at, Runs, Walks, line, line_spending, line_ends_spending, behind, follows_on, spends}
 use Rattle.flattening.proofs.Runs.{unless_wrong}
 use Rattle.flattening.proofs.Worlds.{Since, since_none, since_then, since_call}

@@ -1,6 +1,7 @@
 -- The lines of expressions are paid for by what expressions have: one induction for all that is counted of lines.
 use Rattle.std.proofs.Common.{◌≡◌, ℕ, suc, ◌+◌, ◌≤◌, ◌⊎◌, inl, inr, Bool, true, false, List, [], ◌∷◌, ◌++◌, Option, Some, None, refl, arith, subst, sym}
 use Rattle.std.specs.Prelude.{◌&&◌, if◌then◌else◌}
+use Rattle.std.proofs.lemmas.Bool.{and_parts}
 use Rattle.nim_types.specs.Types.{Ty, Facts}
 use Rattle.nim_types.specs.Forms.{Form}
 use Rattle.nim_program.specs.declared.expr.Node.{Node}
@@ -22,15 +23,18 @@ use Rattle.flat_code.specs.declared.line.UseAt.{UseAt}
 use Rattle.flat_code.specs.declared.line.Owning.TheVariants as W
 use Rattle.flat_code.specs.declared.line.Line.{Line}
 use Rattle.flat_code.specs.declared.line.Line.TheVariants as L
+use Rattle.flat_code.specs.declared.line.Piece.TheVariants as piece
 use Rattle.flat_code.specs.Whole.{label_in, target, back_to}
 use Rattle.flattening.specs.declared.numbers.Purpose.TheVariants.{Arm, End, Next}
 use Rattle.flat_code.specs.Alike.{value_name, location_name, name_of, gives_text}
 use Rattle.flattening.specs.Counted.{all_ends}
-use Rattle.flattening.specs.ExprLines.{use_at, has_hooks, is_copied, is_lent_at, waits_at, froms, lent_line, begin_line, find_lines, settle_lines}
+use Rattle.flattening.specs.ExprLines.{use_at, has_hooks, is_copied, is_lent_at, is_lent_text, is_one_text, waits_at, froms, lent_line, begin_line}
+use Rattle.flattening.specs.ExprLines.{find_lines, settle_lines}
 use Rattle.flattening.specs.ExprLines.{taken_lines, end_lines, written_label, label_tests, value_tests, arm_label, act_line, back_line, none_fits, handed_on}
 use Rattle.flattening.specs.ExprLines.{branch_use, branch_ends, value_ends, lines, aim_lines, copied_lines, ready_lines, choice_lines, select_lines, arm_lines}
-use Rattle.flattening.specs.Numbering.{number_or, if_number, width, width_at, label, looked_count, arm_count, looked_from}
+use Rattle.flattening.specs.Numbering.{type_number, number_or, if_number, width, width_at, label, looked_count, arm_count, looked_from}
 use Rattle.flattening.proofs.Costs.{Front, steps, all_tests, In, Costs, Kept, Paid, ◌>>◌, none_is, one_is}
+use Rattle.flattening.proofs.Literals.{IsText, text_is}
 use Rattle.flattening.proofs.LineNames.{IsQuiet, never, act_text, is_literal, act_name, act_no_text, plain_act, begin_name}
 
 -- ---- what waits
@@ -476,7 +480,29 @@ module _ (types : List Ty) (facts : Facts) (modes : (proc position : ℕ) → Mo
   -- an operand, which is copied or lent
   abbrev operand_lines : Act → Use → Expr → (t : ℕ) → Front
   operand_lines act how e t k =
-      if is_copied facts how e then copied_lines types facts modes e t k else lines types facts modes e how t (lent_line facts act how e t k)
+      if is_copied facts how e then copied_lines types facts modes e t k
+      else if is_lent_text facts act how e then begin_line types facts (constant_in e) e t ∷ k
+      else lines types facts modes e how t (lent_line facts act how e t k)
+
+  -- the text of a literal that is lent
+  lent_text : (e : Expr) (how : Use) (t : ℕ) → IsText e → (z : k.ground.World) →
+      P z (x.spare t + ends (waiting facts modes e how)) (x.of_expr e t) (λ k. begin_line types facts (constant_in e) e t ∷ k)
+  lent_text e how t i z =
+      subst (λ e. P z (x.spare t + ends (waiting facts modes e how)) (x.of_expr e t) (λ k. begin_line types facts (constant_in e) e t ∷ k)) (sym i.is)
+      (most z _ _
+      (omega (
+        arith,
+        x.applies i.node i.ty (Giving (Characters i.text)) NoArg (use_at how i.node.number) t,
+        x.no_operand (suc t),
+        by_type i.ty,
+        ends_one x.ended (gives_hooked facts i.ty && waits_from (Giving (Characters i.text)) how) i.node.number i.ty (form_for facts i.ty),
+      ))
+      (led z (L.Standing t (number_or types i.ty) (piece.Text i.text ∷ [])) t refl (refl, refl, refl)))
+    where
+      by_type : (ty : Option Ty) → x.lead (L.Standing t (number_or types ty) (piece.Text i.text ∷ [])) t ≤ x.lent t
+          + x.line (act_line types facts modes t (Giving (Characters i.text)) (use_at how i.node.number) ty [] [])
+      by_type None = x.lends_text t 0 (use_at how i.node.number) i.text
+      by_type (Some ty) = x.lends_text t (type_number types ty) (use_at how i.node.number) i.text
 
   abbrev Copies : Expr → (how : Use) → (t : ℕ) → Type 0
   Copies e how t = is_copied facts how e ≡ true → (z : k.ground.World) → P z (room e how t) (x.of_expr e t) (copied_lines types facts modes e t)
@@ -486,9 +512,16 @@ module _ (types : List Ty) (facts : Facts) (modes : (proc position : ℕ) → Mo
   operand_paid act e how t go copy z = at (is_copied facts how e) refl
     where
       at : (b : Bool) → is_copied facts how e ≡ b → P z (x.spare t + ends (waiting facts modes e how)) (x.of_expr e t)
-          (λ k. if b then copied_lines types facts modes e t k else lines types facts modes e how t (lent_line facts act how e t k))
+          (λ k. if b then copied_lines types facts modes e t k
+          else if is_lent_text facts act how e then begin_line types facts (constant_in e) e t ∷ k
+          else lines types facts modes e how t (lent_line facts act how e t k))
       at true f = most z _ _ (omega arith) (copy f z)
-      at false f = most z _ _ (omega arith) (go.outer z >> lend z act how e t)
+      at false f = by (is_lent_text facts act how e) refl
+        where
+          by : (b : Bool) → is_lent_text facts act how e ≡ b → P z (x.spare t + ends (waiting facts modes e how)) (x.of_expr e t)
+              (λ k. if b then begin_line types facts (constant_in e) e t ∷ k else lines types facts modes e how t (lent_line facts act how e t k))
+          by true lent = lent_text e how t (text_is e (and_parts (is_lent_at facts act how e) (is_one_text (constant_in e)) lent).1) z
+          by false other = most z _ _ (omega arith) (go.outer z >> lend z act how e t)
 
   mutual
     pub expr : (e : Expr) (how : Use) (t : ℕ) → Told e how t

@@ -7,7 +7,7 @@ use Rattle.nim_program.specs.declared.operation.Use.TheVariants.{Owned, Given, L
 use Rattle.nim_program.specs.declared.program.Mode.{Mode}
 use Rattle.nim_program.specs.declared.stmt.Leaving.{Leaving}
 use Rattle.nim_program.specs.declared.stmt.Leaving.TheVariants as K
-use Rattle.nim_program.specs.Program.{Label, Building, ByConditions, ByLabels, Expr, Args, NoArg, ByValue, ByPath, Path, Declared, type_at}
+use Rattle.nim_program.specs.Program.{Label, Building, ByConditions, ByLabels, Expr, Args, NoArg, ByValue, ByPath, Path, Declared, type_at, constant_in}
 use Rattle.nim_program.specs.Program.{While, Count, Each, Stmt, Do, Idle, Give, Leave, Select, Loop, Raise, Try}
 use Rattle.nim_program.specs.Program.{Stmts, Empty, Then, Declare, Defer, Blocks, Otherwise, Block}
 use Rattle.nim_meaning.specs.Here.{is_hooked}
@@ -20,7 +20,7 @@ use Rattle.flat_code.specs.declared.line.Owning.TheVariants as W
 use Rattle.flat_code.specs.declared.line.Line.{Line}
 use Rattle.flat_code.specs.declared.line.Line.TheVariants as L
 use Rattle.flattening.specs.declared.numbers.Purpose.TheVariants.{Arm, End, Next, Turn}
-use Rattle.flattening.specs.ExprLines.{has_hooks, is_copied, waits_at, find_lines, lines, copied_lines, ready_lines, value_ends}
+use Rattle.flattening.specs.ExprLines.{has_hooks, is_copied, is_one_text, waits_at, begin_line, find_lines, lines, copied_lines, ready_lines, value_ends}
 use Rattle.flattening.specs.Numbering.{type_number, width, width_at, widths, arm_count, width_in, width_of, label, looked_from, behind_selector}
 use Rattle.flattening.specs.StmtLines.{Exits, leaving_by, ending, in_loop, back_lines, block_tests, second, place_end, head_ends, selector_ends, test_ends}
 use Rattle.flattening.specs.StmtLines.{selector_lines, test_lines, look_up, gets_line, give_lines, fill_lines, hooked_element, element_lines, in_scope}
@@ -164,7 +164,10 @@ module _ (types : List Ty) (facts : Facts) (modes : (proc position : ℕ) → Mo
 
   -- what is owned is neither copied nor lent
   owned_operand : (first : Expr) (t : ℕ) (b : Bool) (z : k.ground.World) {r a : ℕ} → M z r a (lines types facts modes first Owned t) →
-      M z r a (λ k. if b && (false && is_read first) then copied_lines types facts modes first t k else lines types facts modes first Owned t
+      M z r a (λ k. if b && (false && is_read first) then copied_lines types facts modes first t k
+      else if (b && (false && (false || not (is_text first)))) && is_one_text (constant_in first)
+      then begin_line types facts (constant_in first) first t ∷ k
+      else lines types facts modes first Owned t
       (if b && (false && (false || not (is_text first))) then L.Fresh t t (waits_at facts first) ∷ k else k))
   owned_operand first t true z p = p
   owned_operand first t false z p = p

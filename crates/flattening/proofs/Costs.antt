@@ -22,6 +22,7 @@ use Rattle.flat_code.specs.declared.line.UseAt.{UseAt}
 use Rattle.flat_code.specs.declared.line.Owning.TheVariants as W
 use Rattle.flat_code.specs.declared.line.Line.{Line}
 use Rattle.flat_code.specs.declared.line.Line.TheVariants as L
+use Rattle.flat_code.specs.declared.line.Piece.TheVariants as P
 use Rattle.flat_code.specs.Whole.{label_in, target, back_to}
 use Rattle.flattening.specs.declared.numbers.Purpose.TheVariants.{Arm, End, Next, Turn}
 use Rattle.flat_code.specs.Alike.{value_name, location_name, name_of, gives_text}
@@ -98,6 +99,8 @@ pub record Costs (types : List Ty) (facts : Facts) (modes : (proc position : ℕ
   pub takes : (node : ℕ) → line (L.Own (W.TakenUp node) []) ≤ taken
   pub ends : (node ty : ℕ) → line (L.Own (W.TemporaryEnds node ty) []) ≤ ended
   pub lends : (t : ℕ) (node : Option ℕ) → lead (L.Fresh t t node) t ≤ lent t
+  pub lends_text : (t ty : ℕ) (how : UseAt) (text : List ℕ) →
+      lead (L.Standing t ty (P.Text text ∷ [])) t ≤ lent t + line (L.Constant t how ty (P.Text text ∷ []))
   -- expressions
   pub applies : (node : Node) (ty : Option Ty) (act : Act) (operands : Args) (how : UseAt) (t : ℕ) →
       spare t + lent t + value t

@@ -37,7 +37,8 @@ use Rattle.flat_code.specs.declared.place.PlaceKind.TheVariants as K
 use Rattle.flat_code.specs.Sizes.{kind_bytes}
 use Rattle.flattening.specs.declared.numbers.Purpose.TheVariants.{End, Next, Arm}
 use Rattle.flattening.specs.Numbering.{number_or, if_number, all_numbers, width, width_at, label, arm_count, looked_from, selector_from}
-use Rattle.flattening.specs.ExprLines.{use_at, has_hooks, is_copied, is_lent_at, waits_at, branch_use, froms, find_lines, settle_lines, label_tests}
+use Rattle.flattening.specs.ExprLines.{use_at, has_hooks, is_copied, is_lent_at, is_one_text, waits_at, branch_use, froms, find_lines, settle_lines}
+use Rattle.flattening.specs.ExprLines.{label_tests}
 use Rattle.flattening.specs.ExprLines.{value_tests, arm_label, act_line, none_fits, handed_on, early_lines, taken_lines, end_lines, value_ends, branch_ends}
 use Rattle.flattening.specs.ExprLines.{back_line, begin_line, lines, aim_lines, copied_lines, ready_lines, choice_lines, select_lines, arm_lines}
 use Rattle.flattening.specs.Places.{waits_by, place, temporary, value_at, read_place, selector_place, expr_places, path_places, operand_places, part_places}
@@ -330,16 +331,24 @@ module _ (types : List Ty) (facts : Facts) (modes : (proc position : ℕ) → Mo
       (covers_most types facts 0 _ (omega arith) (arm true other a ~> (p >> covers_none types facts)))
   arm_then false other a ys n p none q = covers_most types facts 0 _ (omega arith) (arm false other a ~> (p >> q))
 
+  -- places without their lines
+  placed : {xs : List FlatPlace} {r m : ℕ} {F : List Line → List Line} → C xs r m F → C xs r m (λ k. k)
+  placed p = record { built = p.built; lines = λ k h. h; bytes = p.bytes }
+
   -- an operand, from where a place copies it, or where it may be lent
-  handed : (xs ys zs : List FlatPlace) {r m n z : ℕ} (F G H : List Line → List Line) (line : Line) (b c : Bool) → IsBuiltLine (known types facts) line →
-      (c ≡ true → z ≤ r) → C xs r m F → C xs r m H → C zs 0 z (λ k. k) → C ys 0 n G →
-      C (xs ++ ((if c then zs else []) ++ ys)) 0 (m + n) (λ k. if b then H (G k) else F (if c then line ∷ G k else G k))
-  handed xs ys zs F G H line true true built spare p h z q =
+  handed : (xs ys zs : List FlatPlace) {r m n z : ℕ} (F G H T : List Line → List Line) (line : Line) (b c text : Bool) →
+      IsBuiltLine (known types facts) line →
+      (c ≡ true → z ≤ r) → C xs r m F → C xs r m H → C [] 0 0 T → C zs 0 z (λ k. k) → C ys 0 n G →
+      C (xs ++ ((if c then zs else []) ++ ys)) 0 (m + n)
+      (λ k. if b then H (G k) else if c && text then T (G k) else F (if c then line ∷ G k else G k))
+  handed xs ys zs F G H T line true true text built spare p h t z q =
       let l = spare refl in covers_most types facts 0 _ (omega (arith, l)) (h >> (z >> q))
-  handed xs ys zs F G H line true false built spare p h z q = covers_most types facts 0 _ (omega arith) (h >> q)
-  handed xs ys zs F G H line false true built spare p h z q =
+  handed xs ys zs F G H T line true false text built spare p h t z q = covers_most types facts 0 _ (omega arith) (h >> q)
+  handed xs ys zs F G H T line false true true built spare p h t z q =
+      let l = spare refl in covers_most types facts 0 _ (omega (arith, l)) (placed p >> (t ~> (z >> q)))
+  handed xs ys zs F G H T line false true false built spare p h t z q =
       let l = spare refl in covers_most types facts 0 _ (omega (arith, l)) (p >> (silent line built ~> (z >> q)))
-  handed xs ys zs F G H line false false built spare p h z q = covers_most types facts 0 _ (omega arith) (p >> q)
+  handed xs ys zs F G H T line false false text built spare p h t z q = covers_most types facts 0 _ (omega arith) (p >> q)
 
   -- what a `case` chooses by comes to its temporary, before other values
   abbrev Chosen : (parts : Args) (u : ℕ) (front : List Line → List Line) → Type 0
@@ -404,9 +413,9 @@ module _ (types : List Ty) (facts : Facts) (modes : (proc position : ℕ) → Mo
         C (expr_places types facts modes e t) (led_spare e) (2 * W e) front →
         C (expr_places types facts modes e t) (led_spare e) (2 * W e) (copied_lines types facts modes e t)
     copied (Read path) t s p = got (has_node path) path t (suc t) s.0 s.1 (aim path (suc t) s.1)
-    copied (Apply node ty act operands) t s p = record { built = p.built; lines = λ k h. h; bytes = p.bytes }
-    copied (Early node ty short left right) t s p = record { built = p.built; lines = λ k h. h; bytes = p.bytes }
-    copied (Choose node ty chooser parts) t s p = record { built = p.built; lines = λ k h. h; bytes = p.bytes }
+    copied (Apply node ty act operands) t s p = placed p
+    copied (Early node ty short left right) t s p = placed p
+    copied (Choose node ty chooser parts) t s p = placed p
 
     pub ready : (act : Act) (args : Args) (uses : (position : ℕ) → Use) (i t : ℕ) → AreSimple types facts args →
         C (operand_places types facts modes act args uses i t) 0 (2 * WA args) (ready_lines types facts modes act args uses i t)
@@ -416,9 +425,10 @@ module _ (types : List Ty) (facts : Facts) (modes : (proc position : ℕ) → Mo
         covers_most types facts 0 _ (omega arith)
         (handed (expr_places types facts modes e t) (operand_places types facts modes act rest uses (suc i) (t + width e))
         (temporary types facts modes (node_of e) (type_of e) K.Within t) (lines types facts modes e (uses i) t)
-        (ready_lines types facts modes act rest uses (suc i) (t + width e)) (copied_lines types facts modes e t) (L.Fresh t t (waits_at facts e))
-        (is_copied facts (uses i) e) (is_lent_at facts act (uses i) e) tt (λ lent. lent_spare e (and_parts (has_hooks facts e) _ lent).0) comes
-        (copied e t s.0 comes)
+        (ready_lines types facts modes act rest uses (suc i) (t + width e)) (copied_lines types facts modes e t)
+        (λ k. begin_line types facts (constant_in e) e t ∷ k) (L.Fresh t t (waits_at facts e))
+        (is_copied facts (uses i) e) (is_lent_at facts act (uses i) e) (is_one_text (constant_in e)) tt
+        (λ lent. lent_spare e (and_parts (has_hooks facts e) _ lent).0) comes (copied e t s.0 comes) (begins (constant_in e) e t)
         (led_place (node_of e) (type_of e) false t (value_fine e s.0)) (ready act rest uses (suc i) (t + width e) s.1))
     ready act (ByPath path rest) uses i t s =
         covers_most types facts 0 _ (omega arith) (aim path t s.0 >> ready act rest uses (suc i) (t + width_at path) s.1)

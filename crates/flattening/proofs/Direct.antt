@@ -1,6 +1,6 @@
 -- Code without calls that have types for type parameters, and without constants with objects that have hooks of their own: among others that of
 -- programs of which nothing is left out.
-use Rattle.std.proofs.Common.{◌≡◌, zero, suc, Bool, true, false, List, [], ◌∷◌, Option, Some, None, refl, ap, ap₂, ◌∙◌}
+use Rattle.std.proofs.Common.{◌≡◌, zero, suc, Bool, true, false, [], ◌∷◌, Option, Some, None, refl, ap, ap₂, ◌∙◌}
 use Rattle.std.specs.Prelude.{not, ◌&&◌, ◌||◌}
 use Rattle.std.proofs.lemmas.Bool.{both_ways, and_from, or_parts, not-false}
 use Rattle.nim_types.specs.Types.{Ty, Facts}
@@ -8,13 +8,12 @@ use Rattle.nim_types.specs.Forms as form
 use Rattle.nim_types.specs.Forms.{Form, Forms, form_of, has_resource, has_resource_any}
 use Rattle.nim_program.specs.Program.{Literal, Characters, Act, Doing, Building, Giving, Calling, Expr, Apply, Read}
 use Rattle.nim_program.specs.Program.{Early, Choose}
-use Rattle.nim_program.specs.Program.{Path, Variable, Fresh, Field, Element, Deref, Args, NoArg, ByValue, ByPath, node_of, types_in, type_at}
+use Rattle.nim_program.specs.Program.{Path, Variable, Fresh, Field, Element, Deref, Args, NoArg, ByValue, ByPath, types_in, type_at}
 use Rattle.nim_program.specs.Program.{Stmt, Do, Idle, Give, Leave, Select, Loop, Raise, Try, Stmts, Empty, Then, Declare, Defer, Blocks, Otherwise, Block}
 use Rattle.nim_program.specs.Folds.{loop_places}
 use Rattle.nim_meaning.specs.Here.{form_for}
-use Rattle.nim_meaning.specs.Shapes.{is_text}
 use Rattle.nim_meaning.specs.LeftOut.{◌or_then◌, earlier, any_place_unbuilt, left_out_in_stmt, left_out_in_block, left_out_in_blocks}
-use Rattle.nim_meaning.specs.LeftOut.{any_text, is_act_built, is_literal_built, is_text_type, is_exception_type, out_if, first_unbuilt, left_out_in}
+use Rattle.nim_meaning.specs.LeftOut.{is_act_built, is_literal_built, is_exception_type, out_if, first_unbuilt, left_out_in}
 use Rattle.nim_meaning.specs.LeftOut.{left_out_in_path, left_out_in_args}
 use Rattle.nim_meaning.specs.Unbuilt.{has_unbuilt, has_unbuilt_any, is_unbuilt, gives_unbuilt}
 use Rattle.flattening.proofs.Plain.{kept, neither, found, none_earlier}
@@ -23,23 +22,6 @@ use Rattle.flattening.proofs.Plain.{kept, neither, found, none_earlier}
 abbrev pub is_characters : Literal → Bool
 is_characters (Characters text) = true
 is_characters _ = false
-
--- a call is handed the text of a literal
-abbrev pub lends_text : Act → Args → Bool
-lends_text (Calling proc types) operands = any_text operands
-lends_text act operands = false
-
-pub bare_rest : (act : Act) (e : Expr) (rest : Args) → lends_text act (ByValue e rest) ≡ false → lends_text act rest ≡ false
-bare_rest (Doing operation) e rest h = refl
-bare_rest (Building fields) e rest h = refl
-bare_rest (Giving literal) e rest h = refl
-bare_rest (Calling proc types) e rest h = (or_parts (is_text e) (any_text rest) h).1
-
-pub bare_behind : (act : Act) (path : Path) (rest : Args) → lends_text act (ByPath path rest) ≡ false → lends_text act rest ≡ false
-bare_behind (Doing operation) path rest h = refl
-bare_behind (Building fields) path rest h = refl
-bare_behind (Giving literal) path rest h = refl
-bare_behind (Calling proc types) path rest h = h
 
 -- what is built has no object with hooks of its own in it
 mutual
@@ -67,7 +49,6 @@ module _ (facts : Facts) where
   -- of an operation whose operands are such; a constant has none
   abbrev pub of_act : (ty : Option Ty) → Act → Args → Bool → Bool
   of_act ty (Giving literal) operands all = (is_characters literal || not (has_own_hooks ty)) && is_literal_built facts ty literal
-  of_act ty (Calling proc []) operands all = not (any_text operands) && all
   of_act ty (Calling proc (first ∷ types)) operands all = false
   of_act ty act operands all = all
 
@@ -80,9 +61,9 @@ module _ (facts : Facts) where
 
     pub is_direct_path : Path → Bool
     is_direct_path (Variable node ty place global) = true
-    is_direct_path (Fresh value) = not (is_text value) && is_direct value
+    is_direct_path (Fresh value) = is_direct value
     is_direct_path (Field node ty base field) = is_direct_path base && not (is_exception_type (type_at base))
-    is_direct_path (Element node ty base index constant) = is_direct_path base && (is_direct index && not (is_text_type (type_at base)))
+    is_direct_path (Element node ty base index constant) = is_direct_path base && is_direct index
     is_direct_path (Deref ty base) = is_direct_path base
 
     pub are_direct : Args → Bool
@@ -132,7 +113,7 @@ module _ (facts : Facts) where
   acted ty (Giving literal) operands all u b h =
       and_from (is_characters literal || not (has_own_hooks ty)) (is_literal_built facts ty literal)
       (built_right literal (has_own_hooks ty) (own_hooks ty u)) b
-  acted ty (Calling proc []) operands all u b h = and_from (not (any_text operands)) all b h
+  acted ty (Calling proc []) operands all u b h = h
   acted ty (Calling proc (first ∷ types)) operands all u b h = absurd (both_ways false refl b)
 
   mutual
@@ -150,19 +131,14 @@ module _ (facts : Facts) where
 
     pub direct_path : (path : Path) → left_out_in_path facts path ≡ None → is_direct_path path ≡ true
     direct_path (Variable node ty place global) p = refl
-    direct_path (Fresh value) p =
-        let q = neither (out_if (is_text value) (node_of value)) (left_out_in facts value) p in
-        and_from (not (is_text value)) (is_direct value) (ap not (kept _ (node_of value) q.0)) (direct value q.1)
+    direct_path (Fresh value) p = direct value p
     direct_path (Field node ty base field) p =
         let o = neither (out_if (is_unbuilt facts ty || is_exception_type (type_at base)) node) (left_out_in_path facts base) p in
         let t = or_parts (is_unbuilt facts ty) (is_exception_type (type_at base)) (kept _ node o.0) in
         and_from (is_direct_path base) (not (is_exception_type (type_at base))) (direct_path base o.1) (ap not t.1)
     direct_path (Element node ty base index constant) p =
-        let o = neither (out_if (is_unbuilt facts ty || is_text_type (type_at base)) node) _ p in
-        let q = neither (left_out_in_path facts base) (left_out_in facts index) o.1 in
-        let t = or_parts (is_unbuilt facts ty) (is_text_type (type_at base)) (kept _ node o.0) in
-        and_from (is_direct_path base) (is_direct index && not (is_text_type (type_at base))) (direct_path base q.0)
-        (and_from (is_direct index) (not (is_text_type (type_at base))) (direct index q.1) (ap not t.1))
+        let q = neither (left_out_in_path facts base) (left_out_in facts index) (neither (out_if (is_unbuilt facts ty) node) _ p).1 in
+        and_from (is_direct_path base) (is_direct index) (direct_path base q.0) (direct index q.1)
     direct_path (Deref ty base) p = found _ p
 
     pub all_direct : (args : Args) → left_out_in_args facts args ≡ None → are_direct args ≡ true

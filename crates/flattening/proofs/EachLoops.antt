@@ -31,7 +31,6 @@ use Rattle.flattening.specs.Flattened.{modes_of}
 use Rattle.flattening.proofs.Runs.{Runs, pays, spares, unless_wrong}
 use Rattle.flattening.proofs.Worlds.{since_then}
 use Rattle.flattening.proofs.Temps.{kept_then, kept_wide, kept_value, put_same, put_other}
-use Rattle.flattening.proofs.Puts.{◌>>◌}
 use Rattle.flattening.proofs.Spots.{Spot, here_of, there, scene, after, goes, leaps}
 use Rattle.flattening.proofs.Standing.{stands_since}
 use Rattle.flattening.proofs.Acting.{CallsFollow}

@@ -10,7 +10,7 @@ use Rattle.nim_program.specs.declared.program.Mode.{Mode}
 use Rattle.nim_program.specs.Ints.{inside as is_inside}
 use Rattle.nim_program.specs.Traps.{LengthChanged}
 use Rattle.nim_program.specs.Program.{Building, Path, Args, ByPath, Declared, Each, Loop, Stmts, last_of}
-use Rattle.nim_meaning.specs.Values.{Value, Number, nothing, number_of, length_of, bytes, Location, Holds}
+use Rattle.nim_meaning.specs.Values.{Value, Number, number_of, length_of, bytes, Location, Holds}
 use Rattle.nim_meaning.specs.State.{World, State, load, is_seen}
 use Rattle.nim_meaning.specs.ActTree.{Turns, Chooses, Fills, Does as Done_by}
 use Rattle.nim_meaning.specs.Ways.{At as Point}
@@ -21,7 +21,7 @@ use Rattle.nim_meaning.specs.Deeds.{Opens, changed, carry, behind as later_done,
 use Rattle.nim_meaning.specs.Deeds as deeds
 use Rattle.nim_meaning.specs.Here.{Here, is_hooked}
 use Rattle.nim_meaning.specs.Waiting.{Wait, waiting_all}
-use Rattle.nim_meaning.specs.Places.{item_of, item_at, fetched_item}
+use Rattle.nim_meaning.specs.Places.{has_items, item_of, item_at, fetched_item, to_one}
 use Rattle.nim_meaning.specs.Meaning.{is_fresh, element_for, exec_all, fill, scoped, at_node, still, element_at, each_turn}
 use Rattle.nim_meaning.specs.Aims.{Aim, find}
 use Rattle.flat_code.specs.declared.line.Line.{Line}
@@ -362,9 +362,13 @@ module _ (c : Spot) (top : Bool) (room : ℕ → Type 0) (names : (proc place : 
       place_follows i u location last d is seen same leads x few since =
           subst (λ b. Runs c.fixed (Turned EachAt Ends u) 3 6
           (there c (L.Item t place_at counter ∷ hooked_element types facts modes c.result borrows place t ∷ turning) last d.world) d.meter
-          (then_do (then_do (carry (deeds.unless_gone b (deeds.give item)) (with_trail (Point node.number Done_by ∷ d.trail) d)) (onward (opening i))) turn_of))
+          (then_do (then_do (carry (deeds.unless_gone b (to_one (load d.world location) location i)) (with_trail (Point node.number Done_by ∷ d.trail) d))
+          (onward (opening i))) turn_of))
           (sym seen)
-          (goes c 2 1 (omega arith) (item_line c t counter i len location last d.world is seen same leads x.counts)
+          (unless_wrong (has_items (load d.world location) location.base)
+          (λ b. then_do (then_do (carry (deeds.unless_gone b (deeds.give item)) (with_trail (Point node.number Done_by ∷ d.trail) d)) (onward (opening i)))
+          turn_of) (with_trail (Point node.number Done_by ∷ d.trail) d) refl
+          (λ has. goes c 2 1 (omega arith) (item_line c t counter i len location last d.world is seen same leads has x.counts)
           (subst (λ r. Runs c.fixed (Turned EachAt Ends u) 2 6
           (there c (hooked_element types facts modes c.result borrows place t ∷ turning) after_item d.world) d.meter r)
           (sym (do_assoc (element_for here place borrows item d2) (onward (λ done. again acts (suc i))) turn_of))
@@ -372,7 +376,7 @@ module _ (c : Spot) (top : Bool) (room : ℕ → Type 0) (names : (proc place : 
           (opens_element c place f.2.0 borrows t item turning after_item d2
           ((stands_since h since).room_is place.number f.2.1, omega (arith, (stands_since h since).framed))
           (item_fetched c t i location last d.world leads))
-          (λ flow b m1 falls g. on flow b m1 falls g))))
+          (λ flow b m1 falls g. on flow b m1 falls g)))))
         where
           item : Location
           item = item_of (load d.world location) location i

@@ -13,7 +13,7 @@ use Rattle.nim_meaning.specs.State.{World, State, load, is_seen}
 use Rattle.nim_meaning.specs.Deeds.{Deed, behind as later_done, perform, Answers, ◌>>=◌}
 use Rattle.nim_meaning.specs.Deeds as deeds
 use Rattle.nim_meaning.specs.Here.{is_hooked}
-use Rattle.nim_meaning.specs.Places.{item_of, to_item}
+use Rattle.nim_meaning.specs.Places.{has_items, item_of, to_item, to_one}
 use Rattle.nim_meaning.specs.Meaning.{element_for}
 use Rattle.flat_code.specs.declared.line.From.TheVariants as F
 use Rattle.flat_code.specs.declared.line.Line.{Line}
@@ -27,7 +27,7 @@ use Rattle.flattening.specs.Formed.{IsListed}
 use Rattle.flattening.proofs.Runs.{Runs}
 use Rattle.flattening.proofs.Temps.{put_same}
 use Rattle.flattening.proofs.Puts.{Puts, puts_line, ◌>>◌}
-use Rattle.flattening.proofs.Spots.{Spot, here_of, there, scene, does_at, goes}
+use Rattle.flattening.proofs.Spots.{Spot, here_of, there, scene, does_at}
 use Rattle.flattening.proofs.Paths.{Leads, leads_now, led_item}
 use Rattle.flattening.proofs.Filling.{Filled, HasRoom, copies_follow, stands_follow}
 
@@ -97,7 +97,8 @@ module _ (c : Spot) where
   opens_element place listed false t location k now d room fetched = copies_follow c place listed (F.Place t) location k now d room fetched
 
   module _ {lo hi at : ℕ} (t counter i len : ℕ) (location : Location) (last : Temps) (world : World) (is : nat_lt i len ≡ true)
-      (there : is_seen world location ≡ true) (same : length_of (load world location) ≡ len) (leads : Leads lo hi at location last) where
+      (there : is_seen world location ≡ true) (same : length_of (load world location) ≡ len) (leads : Leads lo hi at location last)
+      (has : has_items (load world location) location.base ≡ true) where
     abbrev item : Location
     item = item_of (load world location) location i
 
@@ -113,10 +114,12 @@ module _ (c : Spot) where
         ∙ (ap (λ l. using_number last counter (λ z. does.leads x t leads.place (to_item l z))) (leads_now leads)
         ∙ (ap (λ o. using o (λ v. does.leads x t leads.place (to_item location (number_of v)))) counts
         ∙ (ap (λ b. Passes (later_done [] 1 (perform (deeds.unless_gone b
-        (deeds.branch (is_inside (pos i) (length_of (load world location))) (deeds.give item) (deeds.stop IndexOutOfBounds))
+        (deeds.branch (is_inside (pos i) (length_of (load world location))) (to_one (load world location) location i) (deeds.stop IndexOutOfBounds))
         >>= (λ l. deeds.give (with_place t last (led leads.place l)))) world))) there
-        ∙ ap (λ b. Passes (later_done [] 1 (perform (deeds.branch b (deeds.give item) (deeds.stop IndexOutOfBounds)
-        >>= (λ l. deeds.give (with_place t last (led leads.place l)))) world))) there_is)))
+        ∙ (ap (λ b. Passes (later_done [] 1 (perform (deeds.branch b (to_one (load world location) location i) (deeds.stop IndexOutOfBounds)
+        >>= (λ l. deeds.give (with_place t last (led leads.place l)))) world))) there_is
+        ∙ ap (λ b. Passes (later_done [] 1 (perform (deeds.unless_gone b (deeds.give item)
+        >>= (λ l. deeds.give (with_place t last (led leads.place l)))) world))) has))))
 
   pub item_fetched : {lo hi at : ℕ} (t i : ℕ) (location : Location) (last : Temps) (world : World) (leads : Leads lo hi at location last) →
       let item = item_of (load world location) location i in

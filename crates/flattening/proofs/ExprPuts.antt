@@ -13,7 +13,7 @@ use Rattle.nim_program.specs.declared.operation.Use.{Use}
 use Rattle.nim_program.specs.declared.operation.Use.TheVariants.{Owned}
 use Rattle.nim_program.specs.declared.program.Mode.{Mode}
 use Rattle.nim_program.specs.Program.{Label, Act, Declared, Expr, Apply, Read, Early, Choose, ByConditions, ByLabels, Path, Fresh, Args, NoArg}
-use Rattle.nim_program.specs.Program.{ByValue, ByPath, types_in, type_of, type_at}
+use Rattle.nim_program.specs.Program.{ByValue, ByPath, types_in, type_of, type_at, constant_in}
 use Rattle.nim_program.specs.Uses.{use_of}
 use Rattle.nim_program.specs.View.{expr_of, path_of, operand_before, pick_labels}
 use Rattle.nim_meaning.specs.Shapes.{is_lent, is_text, is_covered, selector_type, is_last_value}
@@ -25,7 +25,8 @@ use Rattle.flat_code.specs.declared.line.Line.{Line}
 use Rattle.flat_code.specs.declared.line.Line.TheVariants as L
 use Rattle.flattening.specs.declared.numbers.Purpose.TheVariants.{End, Next, Arm}
 use Rattle.flattening.specs.Numbering.{width, width_at, looked_from, behind_selector, label}
-use Rattle.flattening.specs.ExprLines.{use_at, has_hooks, is_copied, is_call, waits_at, froms, find_lines, settle_lines, taken_lines, value_tests}
+use Rattle.flattening.specs.ExprLines.{use_at, has_hooks, is_copied, is_call, is_one_text, begin_line, waits_at, froms, find_lines, settle_lines}
+use Rattle.flattening.specs.ExprLines.{taken_lines, value_tests}
 use Rattle.flattening.specs.ExprLines.{act_line, back_line, early_lines, value_ends, lines, aim_lines, copied_lines, ready_lines, choice_lines}
 use Rattle.flattening.specs.ExprLines.{arm_label, arm_lines}
 use Rattle.flattening.specs.StmtLines.{selector_lines}
@@ -74,6 +75,8 @@ module _ (types : List Ty) (facts : Facts) (modes : (proc position : ℕ) → Mo
   ready_alike act act' same (ByValue value rest) uses i t k =
       let all = λ (b : Bool) (l : List Line).
       if is_copied facts (uses i) value then copied_lines types facts modes value t l
+      else if (has_hooks facts value && (is_lent (uses i) && (b || not (is_text value)))) && is_one_text (constant_in value)
+      then begin_line types facts (constant_in value) value t ∷ l
       else lines types facts modes value (uses i) t
       (if has_hooks facts value && (is_lent (uses i) && (b || not (is_text value))) then L.Fresh t t (waits_at facts value) ∷ l else l) in
       ap₂ all (sym same) (ready_alike act act' same rest uses (suc i) (t + width value) k)

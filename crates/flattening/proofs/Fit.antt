@@ -1,7 +1,7 @@
 -- Lines that fit, in front of lines that fit.
-use Rattle.std.proofs.Common.{◌≡◌, ℕ, Bool, true, false, List, [], ◌∷◌, Option, Some, refl}
+use Rattle.std.proofs.Common.{◌≡◌, ℕ, Bool, true, false, List, [], ◌∷◌, refl}
 use Rattle.std.specs.Prelude.{◌&&◌, if◌then◌else◌}
-use Rattle.std.proofs.lemmas.Bool.{and_from, and_parts, or_left, or_right}
+use Rattle.std.proofs.lemmas.Bool.{and_from, and_parts}
 use Rattle.nim_types.specs.Types.{Ty}
 use Rattle.nim_meaning.specs.Waiting.{Wait}
 use Rattle.flat_code.specs.declared.line.Line.{Line}
@@ -12,7 +12,7 @@ use Rattle.flat_code.specs.Scene.{Known}
 use Rattle.flat_code.specs.Codes.{flat_plain}
 use Rattle.flat_code.specs.Fits.{Signature, fits, all_fit}
 use Rattle.flat_code.specs.Waits.{waits_right, all_wait_right}
-use Rattle.flat_code.specs.Leads.{leads_right, leads_to_text, all_lead}
+use Rattle.flat_code.specs.Leads.{leads_right, all_lead}
 use Rattle.flattening.specs.ExprLines.{taken_lines, end_lines}
 use Rattle.flattening.specs.Numbering.{number_or}
 use Rattle.flattening.proofs.Parts.{Each}
@@ -40,8 +40,8 @@ waiting_right x line = leading x line && waits_right x.known x.places line
 abbrev pub all_waiting : Among → List Line → Bool
 all_waiting x lines = all_wait_right flat_plain x.known x.places lines
 
-abbrev pub all_leading : Among → (before : Option Line) → List Line → Bool
-all_leading x before lines = all_lead x.known x.places x.stands before lines
+abbrev pub all_leading : Among → List Line → Bool
+all_leading x lines = all_lead x.known x.places x.stands lines
 
 abbrev pub all_fitting : Among → List Line → Bool
 all_fitting x lines = all_fit x.known x.procs x.globals x.places lines
@@ -50,39 +50,27 @@ all_fitting x lines = all_fit x.known x.procs x.globals x.places lines
 pub record Fit (x : Among) (front : List Line → List Line) : Type 0 where
   pub all : (k : List Line) → all_fitting x k ≡ true → all_fitting x (front k) ≡ true
   pub waits : (k : List Line) → all_waiting x k ≡ true → all_waiting x (front k) ≡ true
-  pub leads : (k : List Line) → ((before : Option Line) → all_leading x before k ≡ true) → (before : Option Line) → all_leading x before (front k) ≡ true
+  pub leads : (k : List Line) → all_leading x k ≡ true → all_leading x (front k) ≡ true
   pub some : (k : List Line) → is_empty k ≡ false → is_empty (front k) ≡ false
 
 pub fit_none : {x : Among} → Fit x (λ k. k)
-fit_none = record { all = λ k h. h; waits = λ k h. h; leads = λ k h before. h before; some = λ k h. h }
+fit_none = record { all = λ k h. h; waits = λ k h. h; leads = λ k h. h; some = λ k h. h }
 
 pub fit_line : {x : Among} (line : Line) → waiting_right x line ≡ true → fitting x line ≡ true → Fit x (λ k. line ∷ k)
 fit_line {x} line right fit =
     let q = and_parts (leading x line) (waits_right x.known x.places line) right in record {
       all = λ k h. and_from (fitting x line) (all_fitting x k) fit h;
       waits = λ k h. and_from (waits_right x.known x.places line) (all_waiting x k) q.1 h;
-      leads = λ k h before. and_from _ (all_leading x (Some line) k) (or_left (leading x line) (leads_to_text before line) q.0) (h (Some line));
+      leads = λ k h. and_from (leading x line) (all_leading x k) q.0 h;
       some = λ k h. refl;
     }
-
--- the location of a literal's text, behind the literal
-pub fit_text : {x : Among} (text line : Line) → Fit x (λ k. text ∷ k) → waits_right x.known x.places line ≡ true → fitting x line ≡ true →
-    leads_to_text (Some text) line ≡ true → Fit x (λ k. text ∷ line ∷ k)
-fit_text {x} text line before waits fit leads = record {
-  all = λ k h. before.all (line ∷ k) (and_from (fitting x line) (all_fitting x k) fit h);
-  waits = λ k h. before.waits (line ∷ k) (and_from (waits_right x.known x.places line) (all_waiting x k) waits h);
-  leads = λ k h first.
-      and_from _ (all_leading x (Some text) (line ∷ k)) (and_parts _ true (before.leads [] (λ b. refl) first)).0
-      (and_from _ (all_leading x (Some line) k) (or_right (leading x line) (leads_to_text (Some text) line) leads) (h (Some line)));
-  some = λ k h. refl;
-}
 
 infixl 10 ◌>>◌
 pub ◌>>◌ : {x : Among} {F G : List Line → List Line} → Fit x F → Fit x G → Fit x (λ k. F (G k))
 ◌>>◌ {x} {F} {G} p q = record {
   all = λ k h. p.all (G k) (q.all k h);
   waits = λ k h. p.waits (G k) (q.waits k h);
-  leads = λ k h before. p.leads (G k) (λ b. q.leads k h b) before;
+  leads = λ k h. p.leads (G k) (q.leads k h);
   some = λ k h. p.some (G k) (q.some k h);
 }
 

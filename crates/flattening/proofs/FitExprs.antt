@@ -1,8 +1,7 @@
 -- The lines of expressions fit.
 use Rattle.std.proofs.Common.{◌≡◌, ℕ, suc, ◌+◌, Bool, true, false, List, [], ◌∷◌, Option, Some, None, refl, sym, ap, ap₂, ◌∙◌}
-use Rattle.std.specs.Prelude.{◌&&◌, ◌||◌, not, if◌then◌else◌}
-use Rattle.std.proofs.lemmas.Bool.{and_parts, or_parts, and_from, not-true, eq-eqb}
-use Rattle.nim_meaning.specs.LeftOut.{any_text}
+use Rattle.std.specs.Prelude.{◌&&◌, not, if◌then◌else◌}
+use Rattle.std.proofs.lemmas.Bool.{and_parts, and_from}
 use Rattle.nim_types.specs.Types.{Ty, Facts}
 use Rattle.nim_program.specs.declared.operation.Short.{Short}
 use Rattle.nim_program.specs.declared.operation.Short.TheVariants.{And, Or}
@@ -10,7 +9,6 @@ use Rattle.nim_program.specs.declared.operation.Use.{Use}
 use Rattle.nim_program.specs.declared.operation.Use.TheVariants.{Owned, Looked}
 use Rattle.nim_program.specs.declared.program.Mode.{Mode}
 use Rattle.nim_program.specs.Ints.{fits as is_int_value}
-use Rattle.nim_program.specs.declared.expr.Node.{Node}
 use Rattle.nim_program.specs.Program.{Number, Characters, NoObject, PartsOf, ElementsOf}
 use Rattle.nim_program.specs.Program.{Act, Doing, Building, Giving, Calling, Literal, Label, Ordinals, Exactly, ByConditions, ByLabels, Expr, Apply, Read}
 use Rattle.nim_program.specs.Program.{Early, Choose}
@@ -21,30 +19,28 @@ use Rattle.nim_program.specs.Kinds.{TypeKind, kind_of, kind_if, is_bool, is_ordi
 use Rattle.nim_program.specs.Fitting.{building_fits, are_distinct, are_fields, early_fits, label_fits, labels_fit, has_label, are_labels, are_enough}
 use Rattle.nim_program.specs.Fitting.{conditions_fit, values_fit, chooser_fits}
 use Rattle.nim_program.specs.Scopes.{Placed, Here}
-use Rattle.nim_program.specs.Typed.{are_typed, act_fits, are_placed, is_selector, choice_is_placed}
+use Rattle.nim_program.specs.Typed.{is_typed, are_typed, act_fits, are_placed, is_selector, choice_is_placed}
 use Rattle.nim_program.specs.Uses.{use_of}
-use Rattle.nim_meaning.specs.Here.{is_hooked, gives_hooked}
-use Rattle.nim_meaning.specs.Shapes.{is_covered, is_last_value, waits as are_kept, is_text as is_literal_text, is_lent}
+use Rattle.nim_meaning.specs.Here.{gives_hooked}
+use Rattle.nim_meaning.specs.Shapes.{is_covered, is_last_value, waits as are_kept, is_text as is_literal_text}
 use Rattle.nim_meaning.specs.Waiting.{waiting, held_from, held_if, reads_kept}
 use Rattle.nim_program.specs.declared.expr.Label.TheVariants as C
 use Rattle.flat_code.specs.declared.line.UseAt.{UseAt}
 use Rattle.flat_code.specs.declared.line.Line.{Line}
 use Rattle.flat_code.specs.declared.line.Line.TheVariants as L
-use Rattle.flat_code.specs.declared.line.Piece.TheVariants as P
 use Rattle.flat_code.specs.declared.place.FlatPlace.{FlatPlace}
 use Rattle.flat_code.specs.Scene.{Known}
 use Rattle.flat_code.specs.Fits.{Signature, needs_no_type, is_waiting}
-use Rattle.flat_code.specs.Leads.{leads_to_text}
-use Rattle.flat_code.specs.Waits.{used_at, led_at}
+use Rattle.flat_code.specs.Waits.{used_at}
 use Rattle.flattening.specs.declared.numbers.Purpose.TheVariants.{End, Next, Arm}
 use Rattle.flattening.specs.Formed.{IfListed}
-use Rattle.flattening.specs.Numbering.{type_number, if_number, width, width_at, arm_count, looked_from, label}
-use Rattle.flattening.specs.ExprLines.{find_lines, label_tests, value_tests, arm_label, none_fits, handed_on, early_lines, is_call}
+use Rattle.flattening.specs.Numbering.{if_number, width, width_at, arm_count, looked_from, label}
+use Rattle.flattening.specs.ExprLines.{find_lines, label_tests, value_tests, arm_label, none_fits, handed_on, early_lines}
 use Rattle.flattening.specs.ExprLines.{lines, aim_lines, copied_lines, ready_lines, choice_lines, arm_lines, branch_use, branch_ends, value_ends}
-use Rattle.flattening.specs.ExprLines.{use_at, lent_line, froms, act_line, has_hooks, is_copied, is_lent_at, waits_at}
+use Rattle.flattening.specs.ExprLines.{use_at, begin_line, lent_line, froms, act_line, has_hooks, is_copied, is_lent_at, is_lent_text, is_one_text, waits_at}
 use Rattle.flattening.proofs.Acting.{type_is}
-use Rattle.flattening.proofs.Direct.{lends_text, are_direct}
-use Rattle.flattening.proofs.Fit.{Among, Fit, Ends, fitting, fit_none, fit_line, ◌>>◌, fit_if, fit_by, fit_text, fit_taken, fit_ends}
+use Rattle.flattening.proofs.Direct.{are_direct}
+use Rattle.flattening.proofs.Fit.{Among, Fit, Ends, fitting, fit_none, fit_line, ◌>>◌, fit_if, fit_by, fit_taken, fit_ends}
 use Rattle.flattening.proofs.FitParts.{value_turned, never, of_same, itself, both_are}
 use Rattle.flattening.proofs.FitParts as parts
 use Rattle.flattening.proofs.FitPaths as paths
@@ -53,6 +49,10 @@ use Rattle.flattening.proofs.Listed.{the_bool}
 use Rattle.flattening.proofs.Parts.{Each}
 use Rattle.flattening.proofs.FitWaits as waits
 use Rattle.flattening.proofs.FitWaits.{HasType}
+
+not_both : (a b : Bool) → a ≡ true → a && b ≡ false → b ≡ false
+not_both true b h none = none
+not_both false b h none = never h
 
 module _ (types : List Ty) (facts : Facts) (modes : (proc position : ℕ) → Mode) (procs : List Proc) (globals : List Placed) (sigs : List Signature)
     (start whole : List FlatPlace) (stands_for : ℕ → Bool)
@@ -84,6 +84,16 @@ module _ (types : List Ty) (facts : Facts) (modes : (proc position : ℕ) → Mo
 
   value_is : (e : Expr) (t : ℕ) → Stood e t → value t ≡ type_of e
   value_is = parts.value_is types facts modes procs globals sigs start whole stands_for filled places dest
+
+  abbrev led : ℕ → Option Ty
+  led = parts.led types facts modes procs globals sigs start whole stands_for
+
+  abbrev may_write : ℕ → Bool
+  may_write = parts.may_write types facts modes procs globals sigs start whole stands_for
+
+  lent_leads : (act : Act) (uses : (position : ℕ) → Use) (i : ℕ) (e : Expr) (rest : Args) (t : ℕ) → is_lent_at facts act (uses i) e ≡ true →
+      AllStood act uses i (ByValue e rest) t → (led t ≡ type_of e) × (may_write t ≡ false)
+  lent_leads = parts.lent_leads types facts modes procs globals sigs start whole stands_for filled places dest
 
   find_fits : (read : Bool) (path : Path) (t : ℕ) → PathStood read path t → Fit around (find_lines types facts path t)
   find_fits = paths.find_fits types facts modes procs globals sigs start whole stands_for grounds filled places dest sees
@@ -212,83 +222,52 @@ module _ (types : List Ty) (facts : Facts) (modes : (proc position : ℕ) → Mo
   hooked_there None h = never h
   hooked_there (Some ty) h = refl
 
-  -- an operand, and where it is lent its location: that of a literal leads to its text
-  abbrev WithLent : (act : Act) (e : Expr) (how : Use) (t : ℕ) → Type 0
-  WithLent act e how t = Fit around (lines types facts modes e how t) →
-      (is_lent_at facts act how e ≡ true → fitting around (L.Fresh t t (waits_at facts e)) ≡ true) →
-      Fit around (λ k. lines types facts modes e how t (lent_line facts act how e t k))
+  -- the text of a literal that is lent stands in the data
+  text_fits : (constant : Option Literal) (e : Expr) (t : ℕ) → constant_in e ≡ constant → is_one_text constant ≡ true → Stood e t → led t ≡ type_of e →
+      may_write t ≡ false → Fit around (λ k. begin_line types facts constant e t ∷ k)
+  text_fits None e t is text s type writes = never text
+  text_fits (Some literal) e t is text s type writes =
+      fit_line (begin_line types facts (Some literal) e t) refl
+      (paths.standing_right types facts modes procs globals sigs start whole stands_for grounds filled places dest sees e literal t is s.typed s.direct
+      (parts.value_listed types facts modes procs globals sigs start whole stands_for e s.listed) type writes)
 
-  lent_text : (act : Act) (node : Node) (ty : Ty) (text : List ℕ) (how : Use) (t : ℕ) →
-      WithLent act (Apply node (Some ty) (Giving (Characters text)) NoArg) how t
-  lent_text act node ty text how t fit right = by (is_lent_at facts act how e) refl
+  -- and nothing else is one
+  no_text : (e : Expr) → is_typed here e ≡ true → is_one_text (constant_in e) ≡ false → is_literal_text e ≡ false
+  no_text (Apply node ty (Giving (Characters text)) NoArg) h none = never (sym none)
+  no_text (Apply node ty (Giving (Characters text)) (ByValue e rest)) h none = never (and_parts false (are_typed here (ByValue e rest)) h).0
+  no_text (Apply node ty (Giving (Characters text)) (ByPath path rest)) h none = never (and_parts false (are_typed here (ByPath path rest)) h).0
+  no_text (Apply node ty (Giving (Number z)) operands) h none = refl
+  no_text (Apply node ty (Giving NoObject) operands) h none = refl
+  no_text (Apply node ty (Giving (PartsOf all)) operands) h none = refl
+  no_text (Apply node ty (Giving (ElementsOf all)) operands) h none = refl
+  no_text (Apply node ty (Doing operation) operands) h none = refl
+  no_text (Apply node ty (Building fields) operands) h none = refl
+  no_text (Apply node ty (Calling proc given) operands) h none = refl
+  no_text (Read path) h none = refl
+  no_text (Early node ty short left right) h none = refl
+  no_text (Choose node ty chooser parts) h none = refl
+
+  -- any other value that is lent has a location where it waits
+  lent_fits : (act : Act) (e : Expr) (how : Use) (t : ℕ) (text : Bool) → is_literal_text e ≡ text → Stood e t →
+      (is_lent_at facts act how e ≡ true → (text ≡ false) × (led t ≡ type_of e) × (may_write t ≡ false)) → Fit around (lent_line facts act how e t)
+  lent_fits act e how t text is s leads = fit_by (is_lent_at facts act how e) there (λ unlent. fit_none)
     where
-      e : Expr
-      e = Apply node (Some ty) (Giving (Characters text)) NoArg
+      waits_lent : (n : ℕ) (h text : Bool) → text ≡ false → is_waiting (if h && not text then Some n else None) h ≡ true
+      waits_lent n true true none = never (sym none)
+      waits_lent n true false none = refl
+      waits_lent n false text none = refl
 
-      nowhere : (b : Bool) → (if b && false then Some node.number else None) ≡ None
-      nowhere true = refl
-      nowhere false = refl
-
-      none : waits_at facts e ≡ None
-      none = nowhere (is_hooked facts ty)
-
-      by : (b : Bool) → is_lent_at facts act how e ≡ b →
-          Fit around (λ k. lines types facts modes e how t (if b then L.Fresh t t (waits_at facts e) ∷ k else k))
-      by false h = fit
-      by true lent =
-          fit_text (L.Constant t (use_at how node.number) (type_number types ty) (P.Text text ∷ [])) (L.Fresh t t (waits_at facts e)) fit
-          (ap (λ o. led_at known whole t o) none) (right lent)
-          (ap (λ o. leads_to_text (Some (L.Constant t (use_at how node.number) (type_number types ty) (P.Text text ∷ []))) (L.Fresh t t o)) none
-          ∙ and_from _ _ (eq-eqb t t refl) (and_from _ _ (and_parts (is_lent how) _ (and_parts (has_hooks facts e) _ lent).1).0 (eq-eqb t t refl)))
-
-  lent_value : (act : Act) (e : Expr) (how : Use) (t : ℕ) → Stood e t → is_literal_text e ≡ false → WithLent act e how t
-  lent_value act e how t s no_text fit right =
-      fit
-      >> fit_by (is_lent_at facts act how e)
-      (λ lent. let hooked = (and_parts (has_hooks facts e) _ lent).0 in
-      fit_line (L.Fresh t t (waits_at facts e))
-      (waits.fresh_right types facts modes procs globals sigs start whole stands_for filled places dest e t t (has_hooks facts e && not (is_literal_text e))
-      (hooked ∙ sym (and_from _ _ hooked (ap not no_text))) s)
-      (right lent))
-      (λ not_lent. fit_none)
-
-  with_lent : (act : Act) (e : Expr) (how : Use) (t : ℕ) → Stood e t → WithLent act e how t
-  with_lent act (Apply node (Some ty) (Giving (Characters text)) NoArg) how t s fit right = lent_text act node ty text how t fit right
-  with_lent act (Apply node None (Giving (Characters text)) NoArg) how t s fit right = fit
-  with_lent act (Apply node ty (Giving (Characters text)) (ByValue e rest)) how t s fit right =
-      never (and_parts false (are_typed here (ByValue e rest)) s.typed).0
-  with_lent act (Apply node ty (Giving (Characters text)) (ByPath path rest)) how t s fit right =
-      never (and_parts false (are_typed here (ByPath path rest)) s.typed).0
-  with_lent act (Apply node ty (Giving (Number z)) operands) how t s fit right =
-      lent_value act (Apply node ty (Giving (Number z)) operands) how t s refl fit right
-  with_lent act (Apply node ty (Giving NoObject) operands) how t s fit right = lent_value act (Apply node ty (Giving NoObject) operands) how t s refl fit right
-  with_lent act (Apply node ty (Giving (PartsOf all)) operands) how t s fit right =
-      lent_value act (Apply node ty (Giving (PartsOf all)) operands) how t s refl fit right
-  with_lent act (Apply node ty (Giving (ElementsOf all)) operands) how t s fit right =
-      lent_value act (Apply node ty (Giving (ElementsOf all)) operands) how t s refl fit right
-  with_lent act (Apply node ty (Doing operation) operands) how t s fit right = lent_value act (Apply node ty (Doing operation) operands) how t s refl fit right
-  with_lent act (Apply node ty (Building fields) operands) how t s fit right = lent_value act (Apply node ty (Building fields) operands) how t s refl fit right
-  with_lent act (Apply node ty (Calling proc given) operands) how t s fit right =
-      lent_value act (Apply node ty (Calling proc given) operands) how t s refl fit right
-  with_lent act (Read path) how t s fit right = lent_value act (Read path) how t s refl fit right
-  with_lent act (Early node ty short left right') how t s fit right = lent_value act (Early node ty short left right') how t s refl fit right
-  with_lent act (Choose node ty chooser parts') how t s fit right = lent_value act (Choose node ty chooser parts') how t s refl fit right
-
-  waits_lent : (n : ℕ) (h text : Bool) → text ≡ false → is_waiting (if h && not text then Some n else None) h ≡ true
-  waits_lent n true true none = never (sym none)
-  waits_lent n true false none = refl
-  waits_lent n false text none = refl
-
-  -- no text of a literal is lent
-  bare_lent : (act : Act) (how : Use) (e : Expr) (rest : Args) → lends_text act (ByValue e rest) ≡ false → is_lent_at facts act how e ≡ true →
-      is_literal_text e ≡ false
-  bare_lent act how e rest bare lent = by act bare (and_parts (is_lent how) _ (and_parts (has_hooks facts e) _ lent).1).1
-    where
-      by : (x : Act) → lends_text x (ByValue e rest) ≡ false → is_call facts x || not (is_literal_text e) ≡ true → is_literal_text e ≡ false
-      by (Doing operation) b l = not-true (is_literal_text e) l
-      by (Building fields) b l = not-true (is_literal_text e) l
-      by (Giving literal) b l = not-true (is_literal_text e) l
-      by (Calling proc types) b l = (or_parts (is_literal_text e) (any_text rest) b).0
+      there : is_lent_at facts act how e ≡ true → Fit around (λ k. L.Fresh t t (waits_at facts e) ∷ k)
+      there lent =
+          let l = leads lent in
+          let hooked = (and_parts (has_hooks facts e) _ lent).0 in
+          fit_line (L.Fresh t t (waits_at facts e))
+          (waits.fresh_right types facts modes procs globals sigs start whole stands_for filled places dest e t t (has_hooks facts e && not (is_literal_text e))
+          (hooked ∙ sym (and_from _ _ hooked (ap not (is ∙ l.0)))) s)
+          (and_from _ _ (parts.both_some _ _ (type_of e) (hooked_there (type_of e) hooked) l.1 (value_is e t s))
+          (and_from _ _ (ap not l.2)
+          (ap (λ o. is_waiting (waits_at facts e) (gives_hooked facts o)) (value_is e t s)
+          ∙ waits_lent (node_of e).number (has_hooks facts e) (is_literal_text e) (is ∙ l.0))))
 
   -- what is done for a value that a path begins with, which isn't a constant
   fit_begun : {F : List Line → List Line} (constant : Option Literal) → (constant ≡ None → Fit around F) → Fit around (λ k. if_constant constant k (F k))
@@ -310,9 +289,7 @@ module _ (types : List Ty) (facts : Facts) (modes : (proc position : ℕ) → Mo
         (waits.all_taken types facts modes procs globals sigs start whole stands_for filled places dest act (use_of modes act) operands 0 (suc t) all)
         >> (fit_line (act_line types facts modes t act (use_at how node.number) ty (types_in operands) (froms facts act operands (use_of modes act) 0 (suc t)))
         (waits.act_waits types facts modes procs globals sigs start whole stands_for t act (use_at how node.number) ty (types_in operands)
-        (froms facts act operands (use_of modes act) 0 (suc t))
-        (parts.unled_all types facts modes procs globals sigs start whole stands_for filled places dest act (use_of modes act) 0 operands (suc t) all)
-        (acted_type ty act operands fits) listed keeps)
+        (froms facts act operands (use_of modes act) 0 (suc t)) (acted_type ty act operands fits) listed keeps)
         (acts.act_right types facts modes procs globals sigs start whole stands_for grounds filled places dest sees t act (use_at how node.number)
         ty operands (are_direct facts operands) e.direct fits listed
         (parts.all_listed types facts modes procs globals sigs start whole stands_for operands all.listed) is all)
@@ -433,13 +410,16 @@ module _ (types : List Ty) (facts : Facts) (modes : (proc position : ℕ) → Mo
         let behind = ready_fits act rest uses (suc i) (t + width e)
         (parts.rest_stood types facts modes procs globals sigs start whole stands_for filled places dest act uses i e rest t all) in
         fit_if (is_copied facts (uses i) e) (copied_fits e t s >> behind)
-        (with_lent act e (uses i) t s (expr_fits e (uses i) t s)
-        (λ lent. let l = parts.lent_leads types facts modes procs globals sigs start whole stands_for filled places dest act uses i e rest t lent all in
-        and_from _ _ (parts.both_some _ _ (type_of e) (hooked_there (type_of e) (and_parts (has_hooks facts e) _ lent).0) l.0 (value_is e t s))
-        (and_from _ _ (ap not l.1)
-        (ap (λ o. is_waiting (waits_at facts e) (gives_hooked facts o)) (value_is e t s)
-        ∙ waits_lent (node_of e).number (has_hooks facts e) (is_literal_text e) (bare_lent act (uses i) e rest all.bare lent))))
-        >> behind)
+        (fit_by (is_lent_text facts act (uses i) e)
+        (λ stands.
+        let q = and_parts (is_lent_at facts act (uses i) e) _ stands in
+        let l = lent_leads act uses i e rest t q.0 all in
+        text_fits (constant_in e) e t refl q.1 s l.0 l.1 >> behind)
+        (λ other.
+        expr_fits e (uses i) t s
+        >> (lent_fits act e (uses i) t (is_literal_text e) refl s
+        (λ lent. let l = lent_leads act uses i e rest t lent all in (no_text e s.typed (not_both _ _ lent other), l.0, l.1))
+        >> behind)))
     ready_fits act (ByPath path rest) uses i t all =
         aim_fits false path t (parts.first_path types facts modes procs globals sigs start whole stands_for filled places dest act uses i path rest t all)
         >> ready_fits act rest uses (suc i) (t + width_at path)

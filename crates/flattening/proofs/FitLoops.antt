@@ -32,8 +32,6 @@ use Rattle.flattening.proofs.Fit.{Among, Fit, fitting, waiting_right, fit_line, 
 use Rattle.flattening.proofs.FitBlocks.{the_int}
 use Rattle.flattening.proofs.FitBlocks as blocks
 use Rattle.flattening.proofs.FitExprs as exprs
-use Rattle.nim_types.proofs.ForCallers.{same_sound}
-use Rattle.nim_meaning.specs.LeftOut.{is_text_type}
 use Rattle.flattening.proofs.FitParts.{turned, never, both_some}
 use Rattle.flattening.proofs.FitParts as parts
 use Rattle.flattening.proofs.FitPaths as paths
@@ -295,12 +293,6 @@ module _ (types : List Ty) (facts : Facts) (modes : (proc position : ℕ) → Mo
     count_fits inclusive (ByValue first (ByValue last (ByPath path rest))) s body_fits = never (and_parts _ false (and_parts _ _ (and_parts _ _ s.typed).0).0).1
 
     -- the place of the loop gets the element, or stands for it
-    -- the elements of a text have no hooks
-    no_text : (o : Option Ty) (ty : Ty) → is_of (element_of (kind_if facts o)) (Some ty) ≡ true → is_hooked facts ty ≡ true
-        → not (is_text_type o) ≡ true
-    no_text (Some type.text) ty of hooked = never (ap (is_hooked facts) (same_sound type.char ty of) ∙ hooked)
-    no_text _ ty of hooked = refl
-
     hooked_right : (borrows : Bool) (at : ℕ) → IsListed types variable.of → Held variable →
         parts.led types facts modes procs globals sigs start whole stands_for at ≡ Some variable.of →
         fitting around (hooked_element types facts modes result borrows variable at) ≡ true
@@ -362,8 +354,7 @@ module _ (types : List Ty) (facts : Facts) (modes : (proc position : ℕ) → Mo
         >> (fit_by (is_hooked facts variable.of)
         (λ hooked. let e = owned.element_led known modes whole node variable path NoArg t _ _ (omega arith) s.listed.0 s.owns hooked in
         fit_line (L.Item t u (suc t)) refl (and_from _ _ (ap₂ (λ v o. is_of v (element_of (kind_if facts o))) e.0 led.type ∙ of)
-        (and_from _ _ number (and_from _ _ (both_same _ _ (is_written path) e.1 led.writes)
-        (ap (λ o. not (is_text_type o)) led.type ∙ no_text (type_at path) variable.of i.1 hooked))))
+        (and_from _ _ number (both_same _ _ (is_written path) e.1 led.writes)))
         >> fit_line (hooked_element types facts modes result (is_fresh head) variable t) (hooked_waits (is_fresh head) t s.marks.0 s.listed.0 hooked)
         (hooked_right (is_fresh head) t s.listed.0 s.held.0 e.0))
         (λ unhooked. let e = owned.element_value known modes whole node variable path NoArg t _ _ (omega arith) s.listed.0 s.owns unhooked in

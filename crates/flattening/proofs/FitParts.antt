@@ -1,8 +1,8 @@
 -- What is known of typed parts where they stand: their types are those of the table, and their temporaries have them.
 use Rattle.std.proofs.Common.{◌≡◌, ℕ, suc, ◌+◌, ◌≤◌, Bool, true, false, List, [], ◌∷◌, ◌++◌, Option, Some, None, refl, sym, ap, ap₂, ◌∙◌, arith}
 use Rattle.std.proofs.Common.{subst}
-use Rattle.std.specs.Prelude.{◌&&◌, ◌||◌, not, ℤ, slice_get, take, if◌then◌else◌}
-use Rattle.std.proofs.lemmas.Bool.{both_ways, and_parts, and_from, not-true}
+use Rattle.std.specs.Prelude.{◌&&◌, ◌||◌, not, ℤ, slice_get, take}
+use Rattle.std.proofs.lemmas.Bool.{both_ways, and_parts}
 use Rattle.nim_types.specs.Types.{Ty, Facts}
 use Rattle.nim_types.proofs.ForCallers.{same_sound, same_refl}
 use Rattle.nim_program.specs.declared.expr.Node.{Node}
@@ -20,20 +20,19 @@ use Rattle.nim_program.specs.Program.{is_written}
 use Rattle.nim_program.specs.Typed.{own_types, type_if, act_types, is_typed, is_typed_path, are_typed, is_whole, is_read, is_fresh, act_fits}
 use Rattle.nim_program.specs.Uses.{use_for, use_of}
 use Rattle.nim_meaning.specs.Here.{is_hooked, gives_hooked}
-use Rattle.nim_meaning.specs.Shapes.{has_node, is_lent, is_given, is_text as is_literal_text}
+use Rattle.nim_meaning.specs.Shapes.{has_node, is_lent, is_given}
 use Rattle.nim_meaning.specs.Values.{literal_value}
 use Rattle.flat_code.specs.declared.place.FlatPlace.{FlatPlace}
 use Rattle.flat_code.specs.Fits.{Taken, Signature, is_var, is_value, any_place, place_named}
-use Rattle.flat_code.specs.declared.line.From.TheVariants as F
-use Rattle.flat_code.specs.Leads.{place_hooked, is_led, unled}
+use Rattle.flat_code.specs.Leads.{place_hooked}
 use Rattle.flat_code.specs.Scene.{Known}
 use Rattle.flat_code.specs.Shapes.{shape_of, has_shape}
-use Rattle.flattening.specs.ExprLines.{has_hooks, is_copied, is_lent_at, froms}
+use Rattle.flattening.specs.ExprLines.{has_hooks, is_copied, is_lent_at}
 use Rattle.flattening.specs.Formed.{IsListed, IfListed, AreListed}
 use Rattle.flattening.specs.Numbering.{width, width_at, widths, arm_count, looked_from, selector_from}
 use Rattle.flattening.specs.Places.{temporary, value_at, path_places, operand_places, part_places, selector_place}
-use Rattle.nim_meaning.specs.LeftOut.{is_text_type, is_exception_type, any_text}
-use Rattle.flattening.proofs.Direct.{is_characters, lends_text, bare_rest, bare_behind, has_own_hooks, of_act, is_direct, is_direct_path, are_direct}
+use Rattle.nim_meaning.specs.LeftOut.{is_exception_type}
+use Rattle.flattening.proofs.Direct.{is_characters, has_own_hooks, of_act, is_direct, is_direct_path, are_direct}
 use Rattle.flattening.proofs.Fit.{Among}
 use Rattle.flattening.proofs.Numbered.{Owns, owns_first, owns_second, owns_later}
 use Rattle.flattening.proofs.Owned as owned
@@ -213,7 +212,6 @@ module _ (types : List Ty) (facts : Facts) (modes : (proc position : ℕ) → Mo
     pub record AllStood (act : Act) (uses : (position : ℕ) → Use) (i : ℕ) (args : Args) (t : ℕ) : Type 0 where
       pub typed : are_typed here args ≡ true
       pub direct : are_direct facts args ≡ true
-      pub bare : lends_text act args ≡ false
       pub listed : Listed (totals lists own_types args)
       pub owns : AllOwned act args uses i t
 
@@ -236,7 +234,6 @@ module _ (types : List Ty) (facts : Facts) (modes : (proc position : ℕ) → Mo
       rest_stood e rest t all = record {
         typed = (and_parts (is_typed here e) (are_typed here rest) all.typed).1;
         direct = (and_parts (is_direct facts e) (are_direct facts rest) all.direct).1;
-        bare = bare_rest act e rest all.bare;
         listed = (apart (IsListed types) (total lists own_types e) (totals lists own_types rest) all.listed).1;
         owns = owned.behind_owned known modes whole act uses i e rest t all.owns;
       }
@@ -254,7 +251,6 @@ module _ (types : List Ty) (facts : Facts) (modes : (proc position : ℕ) → Mo
       behind_path path rest t all = record {
         typed = (and_parts (is_whole facts path && is_typed_path here path) (are_typed here rest) all.typed).1;
         direct = (and_parts (is_direct_path facts path) (are_direct facts rest) all.direct).1;
-        bare = bare_behind act path rest all.bare;
         listed = (apart (IsListed types) (total_at lists own_types false path) (totals lists own_types rest) all.listed).1;
         owns = owned.behind_path_owned known modes whole act uses i path rest t all.owns;
       }
@@ -272,7 +268,7 @@ module _ (types : List Ty) (facts : Facts) (modes : (proc position : ℕ) → Mo
         let h = and_parts (is_fresh e && is_there (type_of e)) (is_typed here e) p.typed in
         record {
           typed = h.1;
-          direct = (and_parts (not (is_literal_text e)) (is_direct facts e) p.direct).1;
+          direct = p.direct;
           listed = begun_listed (constant_in e) read e none p.listed;
           owns = owned.fresh_owned known modes whole e t none p.owns;
         }
@@ -295,20 +291,12 @@ module _ (types : List Ty) (facts : Facts) (modes : (proc position : ℕ) → Mo
         PathStood read (Element node ty base index constant) t → PathStood false base (suc t) × Stood index (suc t + width_at base)
     row_stood read node ty base index constant t p =
         let h = and_parts (is_typed_path here base) (is_typed here index) (and_parts _ _ p.typed).1 in
-        let b = and_parts (is_direct_path facts base) (is_direct facts index && not (is_text_type (type_at base))) p.direct in
-        let i = and_parts (is_direct facts index) (not (is_text_type (type_at base))) b.1 in
+        let b = and_parts (is_direct_path facts base) (is_direct facts index) p.direct in
         let l = apart (IsListed types) (total_at lists own_types false base) (total lists own_types index) p.listed.1 in
         let o = owned.row_owned known modes whole node ty base index constant t p.owns in (
           record { typed = h.0; direct = b.0; listed = l.0; owns = o.0 },
-          record { typed = h.1; direct = i.0; listed = l.1; owns = o.1 },
+          record { typed = h.1; direct = b.1; listed = l.1; owns = o.1 },
         )
-
-    -- what has elements is no text
-    pub row_no_text : (read : Bool) (node : Node) (ty : Ty) (base : Path) (index : Expr) (constant : Option ℤ) (t : ℕ) →
-        PathStood read (Element node ty base index constant) t → not (is_text_type (type_at base)) ≡ true
-    row_no_text read node ty base index constant t p =
-        (and_parts (is_direct facts index) (not (is_text_type (type_at base)))
-        (and_parts (is_direct_path facts base) (is_direct facts index && not (is_text_type (type_at base))) p.direct).1).1
 
     pub object_stood : (read : Bool) (ty : Ty) (base : Path) (t : ℕ) → PathStood read (Deref ty base) t → PathStood false base (suc t)
     object_stood read ty base t p = record {
@@ -320,14 +308,13 @@ module _ (types : List Ty) (facts : Facts) (modes : (proc position : ℕ) → Mo
 
     -- operands of what is done with them
     direct_operands : (ty : Option Ty) (act : Act) (operands : Args) → act_fits here ty act operands ≡ true →
-        of_act facts ty act operands (are_direct facts operands) ≡ true → (are_direct facts operands ≡ true) × (lends_text act operands ≡ false)
-    direct_operands ty (Doing operation) operands h d = (d, refl)
-    direct_operands ty (Building fields) operands h d = (d, refl)
-    direct_operands ty (Giving literal) NoArg h d = (refl, refl)
+        of_act facts ty act operands (are_direct facts operands) ≡ true → are_direct facts operands ≡ true
+    direct_operands ty (Doing operation) operands h d = d
+    direct_operands ty (Building fields) operands h d = d
+    direct_operands ty (Giving literal) NoArg h d = refl
     direct_operands ty (Giving literal) (ByValue e rest) h d = never h
     direct_operands ty (Giving literal) (ByPath path rest) h d = never h
-    direct_operands ty (Calling proc []) operands h d =
-        let q = and_parts (not (any_text operands)) (are_direct facts operands) d in (q.1, not-true (any_text operands) q.0)
+    direct_operands ty (Calling proc []) operands h d = d
     direct_operands ty (Calling proc (first ∷ more)) operands h d = never d
 
     pub operands_stood : (node : Node) (ty : Option Ty) (act : Act) (operands : Args) (t : ℕ) → Stood (Apply node ty act operands) t →
@@ -336,8 +323,7 @@ module _ (types : List Ty) (facts : Facts) (modes : (proc position : ℕ) → Mo
         let h = and_parts (act_fits here ty act operands) (are_typed here operands) e.typed in
         record {
           typed = h.1;
-          direct = (direct_operands ty act operands h.0 e.direct).0;
-          bare = (direct_operands ty act operands h.0 e.direct).1;
+          direct = direct_operands ty act operands h.0 e.direct;
           listed = (apart (IsListed types) (type_if ty ++ act_types act) (totals lists own_types operands) e.listed).1;
           owns = owned.behind_node known modes whole true node ty t (suc t + widths operands)
               (operand_places types facts modes act operands (use_of modes act) 0 (suc t)) (omega arith) (omega arith) e.owns;
@@ -373,7 +359,6 @@ module _ (types : List Ty) (facts : Facts) (modes : (proc position : ℕ) → Mo
     conditions_stood node ty parts t e = record {
       typed = (and_parts _ (are_typed here parts) e.typed).1;
       direct = e.direct;
-      bare = refl;
       listed = chosen_listed ty parts e.listed;
       owns = owned.parts_as_operands known modes whole parts 0 (suc t)
           (owned.behind_node known modes whole true node ty t (suc t + widths parts) (part_places types facts modes parts (suc t)) (omega arith) (omega arith)
@@ -385,7 +370,6 @@ module _ (types : List Ty) (facts : Facts) (modes : (proc position : ℕ) → Mo
     selected_stood node ty labels parts t e = record {
       typed = (and_parts _ (are_typed here parts) e.typed).1;
       direct = e.direct;
-      bare = refl;
       listed = chosen_listed ty parts e.listed;
       owns = owned.parts_as_operands known modes whole parts 0 (selector_from parts (suc t + arm_count (ByLabels labels)))
           (owned.parts_owned known modes whole parts (suc t + arm_count (ByLabels labels))
@@ -461,23 +445,6 @@ module _ (types : List Ty) (facts : Facts) (modes : (proc position : ℕ) → Mo
         owned.hooked_found known modes whole true node ty t
         (selector_place types facts modes parts s ++ part_places types facts modes parts (selector_from parts s)) (omega arith)
         (value_listed (Choose node ty (ByLabels labels) parts) e.listed) (owned.none_at_choice known modes whole parts t s (omega arith)) e.owns
-
-    -- operands that aren't lent lead nowhere by their own numbers
-    pub unled_all : (act : Act) (uses : ℕ → Use) (i : ℕ) (args : Args) (t : ℕ) → AllStood act uses i args t →
-        unled whole (froms facts act args uses i t) ≡ true
-    unled_all act uses i NoArg t all = refl
-    unled_all act uses i (ByValue e rest) t all =
-        by (is_copied facts (uses i) e) (is_lent_at facts act (uses i) e) refl
-        (unled_all act uses (suc i) rest (t + width e) (rest_stood act uses i e rest t all))
-      where
-        by : (b c : Bool) → is_lent_at facts act (uses i) e ≡ c → unled whole (froms facts act rest uses (suc i) (t + width e)) ≡ true →
-            unled whole ((if b then F.Place (suc t) else if c then F.Place t else F.Value t) ∷ froms facts act rest uses (suc i) (t + width e)) ≡ true
-        by true c lent behind = behind
-        by false true lent behind = behind
-        by false false unlent behind =
-            and_from _ _ (ap (λ o. not (is_led o)) (owned.lent_none known modes whole act uses i e rest t unlent all.owns)) behind
-    unled_all act uses i (ByPath path rest) t all =
-        unled_all act uses (suc i) rest (t + width_at path) (behind_path act uses i path rest t all)
 
     -- the value of a selector that is read in place
     pub selector_is : (path : Path) (rest : Args) (s : ℕ) → owned.ChoiceOwned known modes whole (ByPath path rest) s →

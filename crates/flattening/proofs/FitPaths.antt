@@ -1,16 +1,15 @@
 -- The lines that look paths up fit, and operands are as their types say.
 use Rattle.std.proofs.Common.{◌≡◌, ℕ, zero, suc, ◌+◌, Bool, true, false, List, [], ◌∷◌, Option, Some, None, refl, sym, ap, ap₂, ◌∙◌, subst}
 use Rattle.std.specs.Prelude.{◌&&◌, ◌||◌, not, if◌then◌else◌, map}
-use Rattle.std.proofs.lemmas.Bool.{and_parts, and_from, not-true}
+use Rattle.std.proofs.lemmas.Bool.{and_parts, and_from}
 use Rattle.nim_meaning.specs.Here.{gives_hooked, is_hooked}
-use Rattle.nim_program.specs.declared.expr.Node.{Node}
 use Rattle.nim_types.specs.Types.{Ty, Facts}
 use Rattle.nim_program.specs.declared.operation.Operation.{Operation}
 use Rattle.nim_program.specs.declared.operation.Operation.TheVariants as O
 use Rattle.nim_program.specs.declared.operation.Use.{Use}
 use Rattle.nim_program.specs.declared.program.Mode.{Mode}
 use Rattle.nim_program.specs.Program.{Act, Literal, Doing, Building, Giving, Calling, Expr, Apply, Read, Early, Choose, Path, Variable, Fresh, Field, Element}
-use Rattle.nim_program.specs.Program.{node_of, Characters, NoObject, PartsOf, ElementsOf, Number}
+use Rattle.nim_program.specs.Program.{node_of}
 use Rattle.nim_program.specs.Program.{Deref, Args, NoArg, ByValue, ByPath, Proc, type_of, type_at, types_in, constant_in}
 use Rattle.nim_program.specs.Kinds.{kind_if, is_int, field_at, element_of, object_of, is_of, is_there, is_constant}
 use Rattle.nim_program.specs.Scopes.{Placed, Here, type_in}
@@ -23,8 +22,8 @@ use Rattle.flat_code.specs.declared.line.Line.TheVariants as L
 use Rattle.flat_code.specs.declared.place.FlatPlace.{FlatPlace}
 use Rattle.flat_code.specs.Fits as fit
 use Rattle.flat_code.specs.Fits.{Signature, same_bool, writes, taken, are_of, are_values, may_write_first, is_waiting}
-use Rattle.nim_meaning.specs.LeftOut.{is_literal_built, is_text_type, is_exception_type}
-use Rattle.flat_code.specs.Pieces.{pieces_of}
+use Rattle.nim_meaning.specs.LeftOut.{is_literal_built, is_exception_type}
+use Rattle.flat_code.specs.Pieces.{is_one_text, pieces_of}
 use Rattle.flat_code.specs.Shapes.{has_shape, shape_of}
 use Rattle.flattening.specs.Formed.{IsListed, IfListed}
 use Rattle.flattening.specs.Numbering.{type_number, width, width_at}
@@ -36,7 +35,7 @@ use Rattle.flattening.proofs.FitParts as parts
 use Rattle.flattening.proofs.FitWaits as waits
 use Rattle.flattening.proofs.Literals.{pieces_value}
 use Rattle.flattening.proofs.OnePiece.{is_one}
-use Rattle.flattening.proofs.BuiltPieces.{literal_plain}
+use Rattle.flattening.proofs.BuiltPieces.{pieces_built}
 
 same_itself : (b : Bool) → same_bool b b ≡ true
 same_itself true = refl
@@ -96,18 +95,11 @@ module _ (types : List Ty) (facts : Facts) (modes : (proc position : ℕ) → Mo
       and_from _ _ (is_one literal)
       (ap₂ (λ v u. has_shape v (shape_of facts u)) (pieces_value literal) listed ∙ grounds.constants ty literal listed direct is)
 
-  no_characters : (node : Node) (ty : Option Ty) (l : Literal) → is_literal_text (Apply node ty (Giving l) NoArg) ≡ false → is_characters l ≡ false
-  no_characters node ty (Number z) h = refl
-  no_characters node ty (Characters characters) h = h
-  no_characters node ty NoObject h = refl
-  no_characters node ty (PartsOf all) h = refl
-  no_characters node ty (ElementsOf all) h = refl
-
-  standing_right : (value : Expr) (literal : Literal) (t : ℕ) → constant_in value ≡ Some literal → is_typed here value ≡ true →
-      is_direct facts value ≡ true → is_literal_text value ≡ false → IfListed types (type_of value) → led t ≡ type_of value → may_write t ≡ false →
+  pub standing_right : (value : Expr) (literal : Literal) (t : ℕ) → constant_in value ≡ Some literal → is_typed here value ≡ true →
+      is_direct facts value ≡ true → IfListed types (type_of value) → led t ≡ type_of value → may_write t ≡ false →
       fitting around (begin_line types facts (Some literal) value t) ≡ true
-  standing_right (Apply node None (Giving l) NoArg) literal t e typed direct bare listed is writes = never (and_parts false true typed).0
-  standing_right (Apply node (Some ty) (Giving l) NoArg) literal t e typed direct bare listed is writes =
+  standing_right (Apply node None (Giving l) NoArg) literal t e typed direct listed is writes = never (and_parts false true typed).0
+  standing_right (Apply node (Some ty) (Giving l) NoArg) literal t e typed direct listed is writes =
       let same : l ≡ literal = cc in
       let d = and_parts (is_characters l || not (has_own_hooks facts (Some ty))) (is_literal_built facts (Some ty) l) direct in
       and_from _ _
@@ -115,15 +107,16 @@ module _ (types : List Ty) (facts : Facts) (modes : (proc position : ℕ) → Mo
       (pieces_of x) ≡ true)
       same (constant_right ty l listed d.0 (and_parts (is_constant facts ty l) true typed).0))
       (and_from _ _ (both_some _ _ (Some ty) refl is (ap Some listed))
-      (and_from _ _ (ap not writes) (ap (λ u. not (is_hooked facts u)) listed ∙ literal_plain facts ty l d.1 (no_characters node (Some ty) l bare))))
-  standing_right (Apply node ty (Giving l) (ByValue value rest)) literal t e typed direct bare listed is writes = absurd cc
-  standing_right (Apply node ty (Giving l) (ByPath path rest)) literal t e typed direct bare listed is writes = absurd cc
-  standing_right (Apply node ty (Doing operation) operands) literal t e typed direct bare listed is writes = absurd cc
-  standing_right (Apply node ty (Building fields) operands) literal t e typed direct bare listed is writes = absurd cc
-  standing_right (Apply node ty (Calling proc of) operands) literal t e typed direct bare listed is writes = absurd cc
-  standing_right (Read path) literal t e typed direct bare listed is writes = absurd cc
-  standing_right (Early node ty short left right) literal t e typed direct bare listed is writes = absurd cc
-  standing_right (Choose node ty chooser parts) literal t e typed direct bare listed is writes = absurd cc
+      (and_from _ _ (ap not writes)
+      (ap₂ (λ x u. is_one_text (pieces_of x) || not (is_hooked facts u)) (sym same) listed ∙ pieces_built facts ty l d.1)))
+  standing_right (Apply node ty (Giving l) (ByValue value rest)) literal t e typed direct listed is writes = absurd cc
+  standing_right (Apply node ty (Giving l) (ByPath path rest)) literal t e typed direct listed is writes = absurd cc
+  standing_right (Apply node ty (Doing operation) operands) literal t e typed direct listed is writes = absurd cc
+  standing_right (Apply node ty (Building fields) operands) literal t e typed direct listed is writes = absurd cc
+  standing_right (Apply node ty (Calling proc of) operands) literal t e typed direct listed is writes = absurd cc
+  standing_right (Read path) literal t e typed direct listed is writes = absurd cc
+  standing_right (Early node ty short left right) literal t e typed direct listed is writes = absurd cc
+  standing_right (Choose node ty chooser parts) literal t e typed direct listed is writes = absurd cc
 
   -- ---- paths
 
@@ -143,9 +136,7 @@ module _ (types : List Ty) (facts : Facts) (modes : (proc position : ℕ) → Mo
       ∙ waits_begun (node_of value).number (has_hooks facts value)))
   begun_right (Some literal) read value t e p =
       let l = leads read (Fresh value) t p in
-      let d = and_parts (not (is_literal_text value)) (is_direct facts value) p.direct in
-      standing_right value literal t e (and_parts (is_fresh value && is_there (type_of value)) (is_typed here value) p.typed).1 d.1
-      (not-true (is_literal_text value) d.0)
+      standing_right value literal t e (and_parts (is_fresh value && is_there (type_of value)) (is_typed here value) p.typed).1 p.direct
       (parts.path_listed types facts modes procs globals sigs start whole stands_for read (Fresh value) p.listed) l.type l.writes
 
   pub find_fits : (read : Bool) (path : Path) (t : ℕ) → PathStood read path t → Fit around (find_lines types facts path t)
@@ -179,9 +170,7 @@ module _ (types : List Ty) (facts : Facts) (modes : (proc position : ℕ) → Mo
       >> fit_line (L.Item t (suc t) (suc t + width_at base)) refl
       (and_from _ _ (ap₂ (λ q o. is_of q (element_of (kind_if facts o))) l.type k.type ∙ turned (element_of (kind_if facts (type_at base))) (Some ty) h.0)
       (and_from _ _ (ap (λ o. is_int (kind_if facts o)) (value_is index (suc t + width_at base) b.1) ∙ h.1)
-      (and_from _ _ (both_same _ _ (is_written base) l.writes k.writes)
-      (ap (λ o. not (is_text_type o)) k.type
-      ∙ parts.row_no_text types facts modes procs globals sigs start whole stands_for filled places dest read node ty base index constant t p))))
+      (both_same _ _ (is_written base) l.writes k.writes)))
   find_fits read (Deref ty base) t p =
       let l = leads read (Deref ty base) t p in
       let b = parts.object_stood types facts modes procs globals sigs start whole stands_for filled places dest read ty base t p in

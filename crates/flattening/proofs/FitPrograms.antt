@@ -257,7 +257,7 @@ module _ (program : Program) (plan : Plan) where
             fit.waits (param_ends types facts params last) (exits_fit.returns.waits [] refl),
             record {
               stands = stands_for;
-              all = fit.leads (param_ends types facts params last) (λ before. exits_fit.returns.leads [] (λ b. refl) before) None;
+              all = fit.leads (param_ends types facts params last) (exits_fit.returns.leads [] refl);
             },
           )
 

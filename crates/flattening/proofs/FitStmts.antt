@@ -37,7 +37,7 @@ use Rattle.flattening.proofs.Parts.{Each, EachIn, apart, taking_turns}
 use Rattle.flattening.proofs.StoodPlaces.{Mark, marks_in, marks_of}
 use Rattle.flattening.proofs.PlaceNumbers.{selector_begins, expr_numbers}
 use Rattle.flattening.proofs.PlaceNumbers.{stmt_numbers, block_numbers, branch_numbers, arm_numbers}
-use Rattle.flattening.proofs.Widths.{some_width, width_of_blocks, turn_width}
+use Rattle.flattening.proofs.Widths.{width_of_blocks, turn_width}
 use Rattle.flattening.proofs.FitTests as standing
 use Rattle.flattening.proofs.FitLoops as loops
 
@@ -97,11 +97,9 @@ module _ (types : List Ty) (facts : Facts) (modes : (proc position : ℕ) → Mo
         let q = and_parts (is_of (type_of e) by.gives && (not back || by.returns)) (is_typed (here filled places dest) e) s.typed in
         let r = and_parts (is_of (type_of e) by.gives) (not back || by.returns) q.0 in
         let o = owns_inner (suc t) (suc t + width e) (omega arith) (omega arith) (omega arith) s.owns in
-        let w = some_width e in
         let v = standing.value_stood types facts modes procs globals sigs start whole stands_for result grounds filled places dest sees e (suc t) q.1 s.direct
         s.listed o in
-        standing.give_fits types facts modes procs globals sigs start whole stands_for result grounds filled places dest sees e (suc t) by.gives gives r.0
-        (owned.value_unled (parts.known types facts modes procs globals sigs start whole stands_for) modes whole e (suc t) (omega (arith, w)) o) v
+        standing.give_fits types facts modes procs globals sigs start whole stands_for result grounds filled places dest sees e (suc t) by.gives gives r.0 v
         >> (exprs.value_ends_fit types facts modes procs globals sigs start whole stands_for grounds filled places dest sees e Given (suc t) v >>
         standing.back_fits
         types facts

@@ -1,6 +1,6 @@
 -- What the lines of statements stand on: ways out, tests and selectors.
 use Rattle.std.proofs.Common.{◌≡◌, ℕ, suc, ◌+◌, Bool, true, false, List, [], ◌∷◌, Option, Some, None, refl, sym, ap, ap₂, ◌∙◌, subst, append-nil}
-use Rattle.std.specs.Prelude.{◌&&◌, ◌||◌, not}
+use Rattle.std.specs.Prelude.{◌&&◌, ◌||◌}
 use Rattle.std.proofs.lemmas.Bool.{and_parts, and_from}
 use Rattle.nim_types.specs.Types.{Ty, Facts}
 use Rattle.nim_types.specs.Table.{type_at as type_at_number}
@@ -26,8 +26,8 @@ use Rattle.flat_code.specs.declared.line.Line.{Line}
 use Rattle.flat_code.specs.declared.line.Line.TheVariants as L
 use Rattle.flat_code.specs.declared.place.FlatPlace.{FlatPlace}
 use Rattle.flat_code.specs.Scene.{Known}
-use Rattle.flat_code.specs.Fits.{Signature, is_location, place_named, taken}
-use Rattle.flat_code.specs.Leads.{may_fill, is_led, unled}
+use Rattle.flat_code.specs.Fits.{Signature, taken}
+use Rattle.flat_code.specs.Leads.{may_fill}
 use Rattle.flattening.specs.declared.numbers.Purpose.TheVariants.{End, Next, Arm}
 use Rattle.flattening.specs.Formed.{IsListed}
 use Rattle.flattening.specs.Numbering.{type_number, width, widths, looked_from, width_in, width_of, label}
@@ -130,16 +130,16 @@ module _ (types : List Ty) (facts : Facts) (modes : (proc position : ℕ) → Mo
   taken_from = taken known sigs start whole
 
   pub gets_fits : (place : Option Declared) (hooked : Bool) (from : From) (gives of : Option Ty) → ResultFits place gives → taken_from from ≡ of →
-      is_of of gives ≡ true → (hooked ≡ true → gives_hooked facts of ≡ true) → unled whole (from ∷ []) ≡ true →
+      is_of of gives ≡ true → (hooked ≡ true → gives_hooked facts of ≡ true) →
       Fit around (gets_line types facts modes result place hooked from)
-  gets_fits None hooked from gives of fits e h has un = fit_none
-  gets_fits (Some place) true from gives of fits e h has un =
+  gets_fits None hooked from gives of fits e h has = fit_none
+  gets_fits (Some place) true from gives of fits e h has =
       fit_line _
-      (and_from _ _ (and_from _ _ (and_from _ _ (type_hooked place.of of fits.2 (of_same of gives h ∙ fits.1) (has refl)) fits.3) un) refl)
+      (and_from _ _ (and_from _ _ (type_hooked place.of of fits.2 (of_same of gives h ∙ fits.1) (has refl)) fits.3) refl)
       (and_from _ _ (both_some _ _ (Some place.of) refl fits.0 (ap Some fits.2)) (ap₂ is_of e (ap Some fits.2 ∙ sym fits.1) ∙ h))
-  gets_fits (Some place) false (F.Value from) gives of fits e h has un =
+  gets_fits (Some place) false (F.Value from) gives of fits e h has =
       fit_line (L.Give place.number from) (and_from _ _ fits.3 refl) (ap₂ is_of (fits.0 ∙ sym fits.1) e ∙ turned of gives h)
-  gets_fits (Some place) false (F.Place from) gives of fits e h has un = fit_none
+  gets_fits (Some place) false (F.Place from) gives of fits e h has = fit_none
 
   -- nothing behind the one value
   pub owns_nothing : {hi : ℕ} (e : Expr) (t : ℕ) → Owns whole (expr_places types facts modes e t) t t hi →
@@ -187,7 +187,7 @@ module _ (types : List Ty) (facts : Facts) (modes : (proc position : ℕ) → Mo
     pub parts_stood : (args : Args) (t : ℕ) → are_typed at args ≡ true → are_direct facts args ≡ true → Listed (totals lists own_types args) →
         Owns whole (part_places types facts modes args t) t t (t + widths args) → PartsStood 0 args t
     parts_stood args t typed direct listed owns =
-        record { typed = typed; direct = direct; bare = refl; listed = listed; owns = owned.parts_as_operands known modes whole args 0 t owns }
+        record { typed = typed; direct = direct; listed = listed; owns = owned.parts_as_operands known modes whole args 0 t owns }
 
     -- the one value of a head and the like
     pub one_value : (e : Expr) (t : ℕ) → are_typed at (ByValue e NoArg) ≡ true → are_direct facts (ByValue e NoArg) ≡ true →
@@ -197,15 +197,14 @@ module _ (types : List Ty) (facts : Facts) (modes : (proc position : ℕ) → Mo
 
     -- the result gets a value, or a copy
     pub give_fits : (e : Expr) (t : ℕ) (gives : Option Ty) → ResultFits result gives → is_of (type_of e) gives ≡ true →
-        place_named is_location whole t ≡ None → Stood e t → Fit around (give_lines types facts modes result e t)
-    give_fits e t gives fits h none s =
+        Stood e t → Fit around (give_lines types facts modes result e t)
+    give_fits e t gives fits h s =
         fit_by (is_copied facts Given e)
         (λ copied. exprs.copied_fits types facts modes procs globals sigs start whole stands_for grounds filled places dest sees e t s
         >> gets_fits result true (F.Place (suc t)) gives (type_of e) fits
         (parts.copied_leads types facts modes procs globals sigs start whole stands_for filled places dest Given e t copied s) h
-        (λ is. (and_parts (has_hooks facts e) _ copied).0) refl)
-        (λ not_copied. expr_fits e Given t s >> gets_fits result (has_hooks facts e) (F.Value t) gives (type_of e) fits (value_is e t s) h (λ is. is)
-        (and_from _ _ (ap (λ o. not (is_led o)) none) refl))
+        (λ is. (and_parts (has_hooks facts e) _ copied).0))
+        (λ not_copied. expr_fits e Given t s >> gets_fits result (has_hooks facts e) (F.Value t) gives (type_of e) fits (value_is e t s) h (λ is. is))
 
     -- a declared place is filled with a value, or with a copy
     pub fill_fits : (place : Declared) (e : Expr) (t : ℕ) → IsListed types place.of → Held place → may_fill known whole stands_for place.number ≡ true →

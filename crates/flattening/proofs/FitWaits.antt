@@ -24,7 +24,6 @@ use Rattle.flat_code.specs.declared.line.Line.TheVariants as L
 use Rattle.flat_code.specs.declared.place.FlatPlace.{FlatPlace}
 use Rattle.flat_code.specs.Fits.{Signature}
 use Rattle.flat_code.specs.Pieces.{pieces_of}
-use Rattle.flat_code.specs.Leads.{unled}
 use Rattle.flat_code.specs.Waits.{constant_waits, waits_in, used_at}
 use Rattle.flat_code.specs.Scene.{Known}
 use Rattle.flattening.specs.ExprLines.{has_hooks, begin_line, act_line}
@@ -72,15 +71,15 @@ module _ (types : List Ty) (facts : Facts) (modes : (proc position : ℕ) → Mo
       by true true kept = kept refl
 
   -- what is done with operands, whose value has a place that is there where it has a type
-  pub act_waits : (t : ℕ) (act : Act) (how : UseAt) (ty : Option Ty) (of : List (Option Ty)) (from : List From) → unled whole from ≡ true →
+  pub act_waits : (t : ℕ) (act : Act) (how : UseAt) (ty : Option Ty) (of : List (Option Ty)) (from : List From) →
       HasType act ty → IfListed types ty → Kept t how.node ty → waiting_right around (act_line types facts modes t act how ty of from) ≡ true
-  act_waits t (Doing operation) how ty of from un has listed kept = and_from _ _ un (used_right (waits how.how) t how ty listed kept)
-  act_waits t (Building fields) how None of from un has listed kept = absurd has
-  act_waits t (Building fields) how (Some ty) of from un has listed kept = used_right (waits how.how) t how (Some ty) listed kept
-  act_waits t (Giving literal) how None of from un has listed kept = absurd has
-  act_waits t (Giving literal) how (Some ty) of from un has listed kept =
+  act_waits t (Doing operation) how ty of from has listed kept = used_right (waits how.how) t how ty listed kept
+  act_waits t (Building fields) how None of from has listed kept = absurd has
+  act_waits t (Building fields) how (Some ty) of from has listed kept = used_right (waits how.how) t how (Some ty) listed kept
+  act_waits t (Giving literal) how None of from has listed kept = absurd has
+  act_waits t (Giving literal) how (Some ty) of from has listed kept =
       used_right (constant_waits (pieces_of literal) how.how) t how (Some ty) listed kept
-  act_waits t (Calling proc given) how ty of from un has listed kept = refl
+  act_waits t (Calling proc given) how ty of from has listed kept = refl
 
   module _ (filled : ℕ) (places : List Placed) (dest : Option ℕ) where
     abbrev Stood : Expr → ℕ → Type 0

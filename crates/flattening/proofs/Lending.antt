@@ -1,5 +1,5 @@
 -- Operands are evaluated from left to right: each by value, by where it waits, or by where its place copies from.
-use Rattle.std.proofs.Common.{◌≡◌, ℕ, suc, ◌+◌, ◌<◌, ◌≤◌, Bool, true, false, List, [], ◌∷◌, length, Some, None, refl, sym, ap, ◌∙◌, subst, arith}
+use Rattle.std.proofs.Common.{◌≡◌, ℕ, suc, ◌+◌, ◌<◌, ◌≤◌, Bool, true, false, List, [], ◌∷◌, length, Option, Some, None, refl, sym, ap, ◌∙◌, subst, arith}
 use Rattle.std.specs.Prelude.{◌&&◌, ◌||◌, not, if◌then◌else◌}
 use Rattle.std.proofs.lemmas.Bool.{and_parts}
 use Rattle.arc_base.specs.Event.{Event}
@@ -7,33 +7,45 @@ use Rattle.arc_base.specs.BigStep.{Meter, Res}
 use Rattle.nim_types.specs.Types.{Ty, Facts}
 use Rattle.nim_program.specs.declared.operation.Use.{Use}
 use Rattle.nim_program.specs.declared.program.Mode.{Mode}
-use Rattle.nim_program.specs.Program.{Act, Expr, Path, Args, ByValue, ByPath, node_of, type_of}
-use Rattle.nim_meaning.specs.Values.{Value, Made, Waiting, at_base, Location, Operand, Given, At as AtPlace}
+use Rattle.nim_program.specs.declared.expr.Node.{Node}
+use Rattle.nim_program.specs.declared.operation.Use.TheVariants.{Owned, Given as ToPlace, Held, Lent, Looked}
+use Rattle.nim_program.specs.Program.{Characters, Act, Giving, Expr, Apply, Path, Args, NoArg, ByValue, ByPath, node_of, type_of, constant_in}
+use Rattle.nim_meaning.specs.Values.{Value, Fixed, Made, Waiting, at_base, Location, Operand, Given, At as AtPlace}
 use Rattle.nim_meaning.specs.State.{State, World}
 use Rattle.nim_meaning.specs.Shapes.{is_read, is_given, is_held, is_lent, is_text}
-use Rattle.nim_meaning.specs.Here.{Here, gives_hooked}
-use Rattle.nim_meaning.specs.Acts.{Outcome, Does, give, branch, ◌>>=◌}
+use Rattle.nim_meaning.specs.Here.{Here, gives_hooked, form_for}
+use Rattle.nim_meaning.specs.ActTree.{Does as Done_by}
+use Rattle.nim_meaning.specs.Ways.{At as Point}
+use Rattle.nim_meaning.specs.Acts.{Outcome, Does, give, branch, ◌>>=◌, with_trail}
+use Rattle.nim_meaning.specs.Deeds as deeds
+use Rattle.nim_meaning.specs.Deeds.{carry, costs, ◌>>=◌ as ◌>>>◌}
+use Rattle.nim_meaning.specs.Table.{constant_for}
+use Rattle.nim_meaning.specs.Places.{made_by}
 use Rattle.nim_meaning.specs.Waiting.{held_if, held_from}
 use Rattle.nim_meaning.specs.Aims.{Ready, Evaluated, Aimed, operand_for, standing, is_lent_own, is_lent_literal}
-use Rattle.nim_meaning.specs.Meaning.{eval, source, ready_all, aimed}
+use Rattle.nim_meaning.specs.Meaning.{eval, source, ready_all, aimed, destination}
 use Rattle.flat_code.specs.declared.line.From.{From}
 use Rattle.flat_code.specs.declared.line.From.TheVariants as F
 use Rattle.flat_code.specs.declared.line.Line.{Line}
 use Rattle.flat_code.specs.declared.line.Line.TheVariants as L
+use Rattle.flat_code.specs.declared.line.Piece.TheVariants as P
 use Rattle.flat_code.specs.Scene.{Where, Located, Within, Temps, with_place, location_at}
 use Rattle.flat_code.specs.Lines.{using, fresh_at}
 use Rattle.flat_code.specs.Lines as does
-use Rattle.flattening.specs.Numbering.{width, width_at, widths}
-use Rattle.flattening.specs.ExprLines.{is_copied, is_call, is_lent_at, lines, aim_lines, copied_lines, lent_line, ready_lines}
+use Rattle.flattening.specs.Numbering.{number_or, width, width_at, widths}
+use Rattle.flattening.specs.ExprLines.{is_copied, is_call, is_lent_at, is_lent_text, is_one_text, begin_line, lines, aim_lines, copied_lines, lent_line}
+use Rattle.flattening.specs.ExprLines.{ready_lines}
 use Rattle.flattening.specs.Flattened.{modes_of}
 use Rattle.flattening.specs.Formed.{Scope}
 use Rattle.flattening.proofs.Runs.{M, Runs}
 use Rattle.flattening.proofs.Worlds.{Since, since_then}
 use Rattle.flattening.proofs.Temps.{Kept, kept_none, kept_then, kept_wide, kept_place, put_same, value_before, place_before}
-use Rattle.flattening.proofs.Spots.{Spot, here_of, there, scene, Lands, after, answers, goes}
+use Rattle.flattening.proofs.Spots.{Spot, here_of, there, scene, Lands, after, answers, goes, performs_ticked}
 use Rattle.flattening.proofs.Standing.{Stands, stands_since}
 use Rattle.flattening.proofs.Groups.{ExprFollows}
 use Rattle.flattening.proofs.Paths.{Leads, Aims, aims_kept, aim_gain}
+use Rattle.flattening.proofs.LineNames.{never}
+use Rattle.flattening.proofs.Literals.{IsText, text_is}
 use Rattle.flattening.proofs.Operands.{IsAt, is_at_later, lent_as, Readies}
 use Rattle.flattening.proofs.Widths.{some_width}
 
@@ -74,11 +86,11 @@ module _ (c : Spot) (top : Bool) (room : ℕ → Type 0) (names : (proc place : 
   -- ---- a value that is lent
 
   -- what stands for it: h of hooks, l lent, x a literal text, a an argument of a call
-  module _ (node t hi : ℕ) (v : Value) (now : Temps) (less : t < hi) (has : now.values t ≡ Some v) where
-    abbrev Is : (h l x a : Bool) → Temps → Type 0
-    Is h l x a last = IsAt t hi (if h && (l && (a || not x)) then F.Place t else F.Value t)
-        (standing (a && (h && (l && x))) (operand_for (h && (l && not x)) c.level node v)) last
+  abbrev Is : (node t hi : ℕ) (v : Value) (h l x a : Bool) → Temps → Type 0
+  Is node t hi v h l x a last = IsAt t hi (if h && (l && (a || not x)) then F.Place t else F.Value t)
+      (standing (a && (h && (l && x))) (operand_for (h && (l && not x)) c.level node v)) last
 
+  module _ (node t hi : ℕ) (v : Value) (now : Temps) (less : t < hi) (has : now.values t ≡ Some v) where
     abbrev fresh_line : (h l x a : Bool) → List Line → List Line
     fresh_line h l x a k = if h && (l && (a || not x)) then L.Fresh t t (if h && not x then Some node else None) ∷ k else k
 
@@ -128,7 +140,7 @@ module _ (c : Spot) (top : Bool) (room : ℕ → Type 0) (names : (proc place : 
 
     pub lends : {A : Type 0} {Good : Outcome A → State → M → Type 0} {p q : ℕ} {r : Res State (Outcome A)} (h l x a : Bool) (k : List Line) (world : World)
         (meter : Meter Event) →
-        ((last : Temps) → Is h l x a last → Kept t hi now last → Runs c.fixed Good p q (there c k last world) meter r) →
+        ((last : Temps) → Is node t hi v h l x a last → Kept t hi now last → Runs c.fixed Good p q (there c k last world) meter r) →
         Runs c.fixed Good p q (there c (fresh_line h l x a k) now world) meter r
     lends false l x true k world meter go = go now as_value (kept_none t hi now)
     lends false l x false k world meter go = go now as_value (kept_none t hi now)
@@ -138,6 +150,45 @@ module _ (c : Spot) (top : Bool) (room : ℕ → Type 0) (names : (proc place : 
     lends true true false false k world meter go = waits_line k world meter (go _ at_node (placed _))
     lends true true true true k world meter go = own_line k world meter (go _ by_itself (placed _))
     lends true true true false k world meter go = go now as_value (kept_none t hi now)
+
+  -- ---- the text of a literal that is lent, where it stands
+
+  abbrev StandsThere : (t hi : ℕ) → Value → Temps → Type 0
+  StandsThere t hi v now = IsAt t hi (F.Place t) (AtPlace (at_base (Made v))) now
+
+  as_lent : (node t hi : ℕ) (v : Value) (h l x a : Bool) (last : Temps) → h && (l && (a || not x)) ≡ true → x ≡ true → StandsThere t hi v last →
+      Is node t hi v h l x a last
+  as_lent node t hi v true true true true last lent text there = there
+  as_lent node t hi v true true true false last lent text there = never lent
+  as_lent node t hi v true true false a last lent text there = never text
+  as_lent node t hi v true false x a last lent text there = never lent
+  as_lent node t hi v false l x a last lent text there = never lent
+
+  module _ (node : Node) (ty : Option Ty) (text : List ℕ) where
+    abbrev literal : Expr
+    literal = Apply node ty (Giving (Characters text)) NoArg
+
+    -- what it is as it is evaluated
+    abbrev evaluated : (hooked : Bool) (how : Use) → Does Value
+    evaluated hooked how = carry (costs 1 (constant_for hooked (form_for facts ty) 0 (Fixed text)) >>> made_by hooked (destination here how node.number))
+
+    text_follows : (hooked : Bool) (how : Use) → hooked ≡ true → is_lent how ≡ true → (t hi : ℕ) → t < hi → (k : List Line) (temps : Temps) (s : State) →
+        Runs c.fixed (Lands c k t hi temps s.world (StandsThere t hi)) 0 2
+        (there c (L.Standing t (number_or types ty) (P.Text text ∷ []) ∷ k) temps s.world) s.meter (evaluated hooked how s)
+    text_follows true Lent hooked lent t hi less k temps s =
+        performs_ticked c (λ v. with_place t temps (Located (at_base (Made v)))) (deeds.give (Fixed text)) s (omega arith) (
+          at_base (Made (Fixed text)),
+          refl,
+          record { place = Located (at_base (Made (Fixed text))); is = put_same temps.places t _; at = λ later h. refl },
+          omega arith,
+          less,
+        )
+        (λ v. kept_place t (Located (at_base (Made v))) (omega arith) less (kept_none t hi temps)) refl
+    text_follows false how hooked lent t hi less k temps s = never hooked
+    text_follows true Owned hooked lent t hi less k temps s = never lent
+    text_follows true ToPlace hooked lent t hi less k temps s = never lent
+    text_follows true Held hooked lent t hi less k temps s = never lent
+    text_follows true Looked hooked lent t hi less k temps s = never lent
 
   -- ---- one operand, and those behind it
 
@@ -202,8 +253,9 @@ module _ (c : Spot) (top : Bool) (room : ℕ → Type 0) (names : (proc place : 
 
     by_copy : (b : Bool) → is_copied facts how value ≡ b →
         Runs c.fixed (Lands c k t hi temps s.world Ends) 0 gain
-        (there c (if b then copied_lines types facts modes value t behind_it else lines types facts modes value how t
-        (lent_line facts act how value t behind_it))
+        (there c (if b then copied_lines types facts modes value t behind_it else if is_lent_text facts act how value
+        then begin_line types facts (constant_in value) value t ∷ behind_it
+        else lines types facts modes value how t (lent_line facts act how value t behind_it))
         temps s.world) s.meter (branch b copies gives s)
     by_copy true e =
         let read = (and_parts (is_given how) (is_read value) (and_parts (gives_hooked facts (type_of value)) (is_given how && is_read value) e).1).1 in
@@ -212,15 +264,42 @@ module _ (c : Spot) (top : Bool) (room : ℕ → Type 0) (names : (proc place : 
         rest_follows true e (AtPlace l) now d
         (subst (λ x. IsAt t u (F.Place (suc t)) x now) (sym (at_is (is_call facts act && is_lent_literal facts how value) l))
         (l, refl, leads.0, omega arith, leads.1)) kept since)
-    by_copy false e =
-        let w = some_width value in
-        let n = (node_of value).number in
-        after 2 (omega arith) (omega arith) (follows how t (lent_line facts act how value t behind_it) temps s h)
-        (λ v d now has kept since.
-        lends n t u v now (omega (arith, w)) has (gives_hooked facts (type_of value)) (is_lent how) (is_text value) (is_call facts act) behind_it
-        d.world d.meter
-        (λ last is kept2.
-        rest_follows false e (operand_for (is_lent_own facts how value) c.level n v) last d is (kept_then kept kept2) since))
+    by_copy false e = by_text (is_lent_text facts act how value) refl
+      where
+        n : ℕ
+        n = (node_of value).number
+
+        by_text : (x : Bool) → is_lent_text facts act how value ≡ x →
+            Runs c.fixed (Lands c k t hi temps s.world Ends) 0 gain
+            (there c (if x then begin_line types facts (constant_in value) value t ∷ behind_it
+            else lines types facts modes value how t (lent_line facts act how value t behind_it))
+            temps s.world) s.meter (gives s)
+        by_text true x =
+            let w = some_width value in
+            let q = and_parts (is_lent_at facts act how value) (is_one_text (constant_in value)) x in
+            let l = and_parts (gives_hooked facts (type_of value)) _ q.0 in
+            after 2 (omega arith) (omega arith) (stands_follows (text_is value q.1) l.0 (and_parts (is_lent how) _ l.1).0 (omega (arith, w)))
+            (λ v d now is kept since.
+            rest_follows false e (operand_for (is_lent_own facts how value) c.level n v) now d
+            (as_lent n t u v (gives_hooked facts (type_of value)) (is_lent how) (is_text value) (is_call facts act) now q.0
+            (ap is_text (text_is value q.1).is) is) kept since)
+          where
+            stands_follows : (i : IsText value) → gives_hooked facts (type_of value) ≡ true → is_lent how ≡ true → t < u →
+                Runs c.fixed (Lands c behind_it t u temps s.world (StandsThere t u)) 0 2
+                (there c (begin_line types facts (constant_in value) value t ∷ behind_it) temps s.world) s.meter (eval value how here s)
+            stands_follows i hooked lent less =
+                subst (λ v. Runs c.fixed (Lands c behind_it t u temps s.world (StandsThere t u)) 0 2
+                (there c (begin_line types facts (constant_in v) v t ∷ behind_it) temps s.world) s.meter (eval v how here s)) (sym i.is)
+                (text_follows i.node i.ty i.text (gives_hooked facts i.ty) how (sym (ap (λ v. gives_hooked facts (type_of v)) i.is) ∙ hooked) lent t u less
+                behind_it temps (with_trail (Point i.node.number Done_by ∷ s.trail) s))
+        by_text false x =
+            let w = some_width value in
+            after 2 (omega arith) (omega arith) (follows how t (lent_line facts act how value t behind_it) temps s h)
+            (λ v d now has kept since.
+            lends n t u v now (omega (arith, w)) has (gives_hooked facts (type_of value)) (is_lent how) (is_text value) (is_call facts act) behind_it
+            d.world d.meter
+            (λ last is kept2.
+            rest_follows false e (operand_for (is_lent_own facts how value) c.level n v) last d is (kept_then kept kept2) since))
 
     pub value_follows : Runs c.fixed (Lands c k t hi temps s.world Ends) 0 gain
         (there c (ready_lines types facts modes act (ByValue value rest) uses i t k) temps s.world) s.meter (ready_all (ByValue value rest) uses i here s)

@@ -1,11 +1,16 @@
--- The pieces of a constant make its value.
-use Rattle.std.proofs.Common.{◌≡◌, ℕ, suc, ◌+◌, List, [], ◌∷◌, ◌++◌, refl, sym, ap, ◌∙◌, append_assoc, append-nil, arith}
+-- The pieces of a constant make its value; and which constants are one text.
+use Rattle.std.proofs.Common.{◌≡◌, ℕ, suc, ◌+◌, List, [], ◌∷◌, ◌++◌, Option, true, refl, sym, ap, ◌∙◌, append_assoc, append-nil, arith}
+use Rattle.nim_types.specs.Types.{Ty}
+use Rattle.nim_program.specs.declared.expr.Node.{Node}
 use Rattle.nim_program.specs.Program.{Literal, Number as Ordinal, Characters, NoObject, PartsOf, ElementsOf, Literals, NoLiteral, ALiteral}
+use Rattle.nim_program.specs.Program.{Doing, Building, Giving, Calling, Expr, Apply, Read, Early, Choose, NoArg, ByValue, ByPath, constant_in}
 use Rattle.nim_meaning.specs.Values.{Value, Parts, Values, Nil, More, bytes, literal_value, literal_values}
 use Rattle.nim_meaning.specs.Table.{literal_bytes}
 use Rattle.flat_code.specs.declared.line.Piece.{Piece}
 use Rattle.flat_code.specs.declared.line.Piece.TheVariants as P
 use Rattle.flat_code.specs.Pieces.{gathered, read_on, last_read, value_of, pieces_bytes, count_of, pieces_of, pieces_of_all}
+use Rattle.flattening.specs.ExprLines.{is_one_text}
+use Rattle.flattening.proofs.LineNames.{never}
 
 -- the values of some, read one after another
 abbrev stacked : Literals → List Value → List Value
@@ -85,3 +90,26 @@ pieces_cost (Characters text) = refl
 pieces_cost NoObject = refl
 pieces_cost (PartsOf all) = parts_built (pieces_of_all all) (count_of all) ∙ ap (λ v. bytes v) (pieces_value (PartsOf all))
 pieces_cost (ElementsOf all) = elements_built (pieces_of_all all) (count_of all) ∙ ap (λ v. bytes v) (pieces_value (ElementsOf all))
+
+-- ---- one text
+
+pub record IsText (e : Expr) : Type 0 where
+  pub node : Node
+  pub ty : Option Ty
+  pub text : List ℕ
+  pub is : e ≡ Apply node ty (Giving (Characters text)) NoArg
+
+pub text_is : (e : Expr) → is_one_text (constant_in e) ≡ true → IsText e
+text_is (Apply node ty (Giving (Characters text)) NoArg) h = record { node = node; ty = ty; text = text; is = refl }
+text_is (Apply node ty (Giving (Ordinal z)) NoArg) h = never h
+text_is (Apply node ty (Giving NoObject) NoArg) h = never h
+text_is (Apply node ty (Giving (PartsOf all)) NoArg) h = never h
+text_is (Apply node ty (Giving (ElementsOf all)) NoArg) h = never h
+text_is (Apply node ty (Giving literal) (ByValue e rest)) h = never h
+text_is (Apply node ty (Giving literal) (ByPath path rest)) h = never h
+text_is (Apply node ty (Doing operation) operands) h = never h
+text_is (Apply node ty (Building fields) operands) h = never h
+text_is (Apply node ty (Calling proc types) operands) h = never h
+text_is (Read path) h = never h
+text_is (Early node ty short left right) h = never h
+text_is (Choose node ty chooser parts) h = never h

@@ -19,6 +19,7 @@ use Rattle.flat_code.specs.declared.line.UseAt.{UseAt}
 use Rattle.flat_code.specs.declared.line.Owning.TheVariants as W
 use Rattle.flat_code.specs.declared.line.Line.{Line}
 use Rattle.flat_code.specs.declared.line.Line.TheVariants as L
+use Rattle.flat_code.specs.declared.line.Piece.TheVariants as P
 use Rattle.flat_code.specs.Pieces.{pieces_of}
 use Rattle.flat_code.specs.Sizes.{summed}
 use Rattle.flattening.specs.declared.numbers.Purpose.TheVariants.{End, Next, Arm, Turn}
@@ -60,6 +61,8 @@ pub record Bounds (types : List Ty) (facts : Facts) (modes : (proc position : �
   pub ends : (node ty : ℕ) → m (L.Own (W.TemporaryEnds node ty) []) ≤ each
   pub place_ends : (place ty : ℕ) → m (L.Own (W.PlaceEnds place ty) []) ≤ each
   pub lends : (t from : ℕ) (node : Option ℕ) → m (L.Fresh t from node) ≤ one
+  pub lends_text : (t ty : ℕ) (how : UseAt) (text : List ℕ) →
+      m (L.Standing t ty (P.Text text ∷ [])) ≤ one + m (L.Constant t how ty (P.Text text ∷ []))
   pub root : (t place : ℕ) (global : Bool) → 2 * m (L.Root t place global) + get + operand ≤ part
   pub fresh : 2 * one + get + operand ≤ part
   pub in_place : (t ty : ℕ) (literal : Literal) → 2 * m (L.Standing t ty (pieces_of literal)) + get + operand ≤ part + standing literal
@@ -220,6 +223,7 @@ module _ (types : List Ty) (facts : Facts) (modes : (proc position : ℕ) → Mo
     takes = b.takes;
     ends = b.ends;
     lends = λ t node. b.lends t t node;
+    lends_text = b.lends_text;
     applies = λ node ty act operands how t. omega (arith, b.act t act how ty operands);
     reads = λ path how t. omega (arith, b.got t (suc t) how (if_number types (type_at path)), read_counted path);
     looks = λ s t. b.looked s t;

@@ -80,6 +80,7 @@ module _ (types : List Ty) (facts : Facts) (modes : (proc position : ℕ) → Mo
     takes = λ node. omega arith;
     ends = λ node ty. omega arith;
     lends = λ t node. omega arith;
+    lends_text = λ t ty how text. omega arith;
     applies = λ node ty act operands how t.
         omega (arith, names t, more (suc t + widths operands) (t + width (Apply node ty act operands)) (omega arith));
     reads = λ path how t. omega (arith, names t, more (suc t + width_at path) (t + width (Read path)) (omega (arith, read_width path)));

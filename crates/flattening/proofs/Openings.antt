@@ -1,5 +1,5 @@
 -- What comes of deeds: no change closes a place, so behind a deed all places are open that were. Of its answers something holds.
-use Rattle.std.proofs.Common.{◌≡◌, ℕ, Bool, true, false, List, [], length}
+use Rattle.std.proofs.Common.{ℕ, Bool, true, false, List, [], length}
 use Rattle.arc_base.specs.Event.{Event}
 use Rattle.nim_meaning.specs.Heap.{has_room}
 use Rattle.nim_meaning.specs.State.{World}

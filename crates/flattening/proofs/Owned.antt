@@ -273,10 +273,6 @@ module _ (known : Known) (modes : (proc position : ℕ) → Mode) (whole : List 
       by_lent true = by_type (type_of value)
       by_lent false = refl
 
-  pub value_unled : {hi : ℕ} (value : Expr) (t : ℕ) → t < hi → Owns whole (expr_places types facts modes value t) t t hi →
-      place_named is_location whole t ≡ None
-  value_unled value t less owns = owns.locations t (omega arith) less ∙ none_at_value value t
-
   module _ (act : Act) (uses : (position : ℕ) → Use) (i : ℕ) where
     pub first_owned : (value : Expr) (rest : Args) (t : ℕ) → AllOwned act (ByValue value rest) uses i t → Owned value t
     first_owned value rest t owns =
@@ -305,17 +301,6 @@ module _ (known : Known) (modes : (proc position : ℕ) → Mode) (whole : List 
         owns_second t mid hi (omega arith) (omega arith) (omega arith) (lent_number types facts modes act (uses i) value t (omega arith) (omega (arith, w)))
         (owns_second {ys = Lends act (uses i) value t ++ operand_places types facts modes act rest uses (suc i) mid} t mid hi (omega arith) (omega arith)
         (omega arith) (expr_numbers types facts modes value t) owns)
-
-    -- what isn't lent leads nowhere by its own number
-    pub lent_none : (value : Expr) (rest : Args) (t : ℕ) → is_lent_at facts act (uses i) value ≡ false → AllOwned act (ByValue value rest) uses i t →
-        place_named is_location whole t ≡ None
-    lent_none value rest t unlent owns =
-        let w = some_width value in
-        let others = operand_places types facts modes act rest uses (suc i) (t + width value) in
-        owns.locations t (omega arith) (omega (arith, w))
-        ∙ named_behind is_location (expr_places types facts modes value t) _ t (none_at_value value t)
-        ∙ ap (λ b. place_named is_location ((if b then temporary types facts modes (node_of value) (type_of value) K.Within t else []) ++ others) t) unlent
-        ∙ (operand_numbers types facts modes act rest uses (suc i) (t + width value)).locations t (λ m. absurd (omega (arith, m, w)))
 
     -- what is lent leads to a value that no place holds
     pub lent_found : (value : Expr) (rest : Args) (t : ℕ) → is_lent_at facts act (uses i) value ≡ true → is_there (type_of value) ≡ true →

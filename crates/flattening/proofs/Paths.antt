@@ -12,7 +12,7 @@ use Rattle.nim_meaning.specs.State.{State, load, is_seen}
 use Rattle.nim_meaning.specs.Acts.{branch as choose}
 use Rattle.nim_meaning.specs.Here.{gives_hooked}
 use Rattle.nim_meaning.specs.Deeds.{Deed, Gives, Looks, give, branch, unless_gone, sees, stop}
-use Rattle.nim_meaning.specs.Places.{place_at, item_of, rooted, to_part, to_item, to_object, made, root_of}
+use Rattle.nim_meaning.specs.Places.{place_at, has_items, item_of, to_one, rooted, to_part, to_item, to_object, made, root_of}
 use Rattle.nim_meaning.specs.Aims.{Aim, Root, PartOf, ItemOf, ObjectOf, fresh_root, find}
 use Rattle.flat_code.specs.declared.line.Line.{Line}
 use Rattle.flat_code.specs.declared.line.Line.TheVariants as L
@@ -218,21 +218,22 @@ module _ (c : Spot) (top : Bool) (room : ℕ → Type 0) (names : (proc place : 
 
   -- the element of a number, which is one of those that are there
   abbrev item_by : Location → ℤ → Deed Location
-  item_by location z = sees location (λ world v. branch (inside z (length_of v)) (give (item_of v location (unsigned_abs z))) (stop IndexOutOfBounds))
+  item_by location z = sees location (λ world v. branch (inside z (length_of v)) (to_one v location (unsigned_abs z)) (stop IndexOutOfBounds))
 
   item_answers : (Q : Location → Type 0) (location : Location) (z : ℤ) → ((v : Value) → Q (item_of v location (unsigned_abs z))) →
       Answering Q (item_by location z)
   item_answers Q location z q =
       λ world. let v = load world location in
-      seen_or (is_seen world location) _ (inside_or (inside z (length_of v)) (item_of v location (unsigned_abs z)) (q v))
+      seen_or (is_seen world location) _ (inside_or (inside z (length_of v)) (has_items v location.base) (item_of v location (unsigned_abs z)) (q v))
     where
       seen_or : (b : Bool) (deed : Deed Location) → Answering Q deed → Answering Q (unless_gone b deed)
       seen_or true deed a = a
       seen_or false deed a = tt
 
-      inside_or : (b : Bool) (item : Location) → Q item → Answering Q (branch b (give item) (stop IndexOutOfBounds))
-      inside_or true item q = q
-      inside_or false item q = tt
+      inside_or : (b c : Bool) (item : Location) → Q item → Answering Q (branch b (unless_gone c (give item)) (stop IndexOutOfBounds))
+      inside_or true true item q = q
+      inside_or true false item q = tt
+      inside_or false c item q = tt
 
   pub find_follows : (path : Path) → PathFormed (grounded c top room names) Open path → FindFollows (find_gain path) path
   find_follows (Variable node ty place global) f t k temps aim a s h =

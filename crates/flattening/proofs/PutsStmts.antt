@@ -7,7 +7,7 @@ use Rattle.nim_program.specs.declared.stmt.Leaving.TheVariants as K
 use Rattle.nim_program.specs.Program.{Act, Label, ByLabels, Expr, Apply, Read, Early, Choose, Path, Args, Declared}
 use Rattle.nim_program.specs.Program.{Stmt, Stmts, Blocks, Otherwise, Block}
 use Rattle.flattening.specs.declared.numbers.Purpose.TheVariants.{Arm}
-use Rattle.flattening.specs.ExprLines.{aim_lines, ready_lines, copied_lines, lines}
+use Rattle.flattening.specs.ExprLines.{aim_lines, ready_lines, copied_lines}
 use Rattle.flattening.specs.StmtLines.{Exits, selector_lines, block_tests, lines_in, lines_of, branch_lines, arm_blocks}
 use Rattle.flattening.specs.Numbering.{width, width_at, widths, arm_count, width_in, width_of, label, behind_selector}
 use Rattle.flattening.proofs.Puts.{Puts, puts_none, puts_wide, ◌>>◌}

@@ -8,7 +8,7 @@ use Rattle.nim_program.specs.Kinds.{is_among_types}
 use Rattle.nim_program.specs.Program.{Label, Chooser, ByConditions, ByLabels, Expr, Apply, Read, Early, Choose}
 use Rattle.nim_program.specs.Program.{Path, Variable, Fresh, Field, Element, Deref}
 use Rattle.nim_program.specs.Program.{Args, NoArg, ByValue, ByPath, Kind, While, Count, Each, Stmt, Do, Idle, Give, Leave, Select, Loop, Raise, Try}
-use Rattle.nim_program.specs.Program.{Stmts, Empty, Then, Declare, Defer, Blocks, Otherwise, Block, types_in, type_at}
+use Rattle.nim_program.specs.Program.{Stmts, Empty, Then, Declare, Defer, Blocks, Otherwise, Block, type_at}
 use Rattle.nim_program.specs.Sizes.{type_bytes}
 use Rattle.nim_program.specs.Typed.{is_fresh, is_located, behind_first}
 use Rattle.nim_meaning.specs.LeftOut.{is_act_built}

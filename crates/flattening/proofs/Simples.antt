@@ -2,7 +2,6 @@
 use Rattle.std.proofs.Common.{◌≡◌, ℕ, suc, Bool, true, false, List, [], ◌∷◌, ◌++◌, Option, Some, None, refl, sym, subst, ◌≤◌, arith}
 use Rattle.std.specs.Prelude.{not, ◌&&◌, ◌||◌, slice_get}
 use Rattle.std.proofs.lemmas.Bool.{and_parts, or_parts, not-false}
-use Rattle.nim_meaning.specs.Shapes.{is_text}
 use Rattle.nim_types.specs.Types.{Ty, Fact, Facts, fact_of}
 use Rattle.nim_types.specs.Types as type
 use Rattle.nim_program.specs.Program as P
@@ -20,7 +19,7 @@ use Rattle.nim_program.specs.Typed.{is_selector, behind_first, is_one, are_block
 use Rattle.nim_program.specs.Typed.{Around, module_code, looping, is_empty, chooses, head_fits, with_places, starts}
 use Rattle.nim_program.specs.Typed.{is_typed_stmt, is_typed_block, are_typed_blocks, is_next, is_typed_code, is_read, is_located}
 use Rattle.nim_program.proofs.ForCallers.{in_fresh}
-use Rattle.nim_meaning.specs.LeftOut.{◌or_then◌, out_if, is_text_type, is_exception_type, is_act_built, first_unbuilt, any_place_unbuilt}
+use Rattle.nim_meaning.specs.LeftOut.{◌or_then◌, out_if, is_exception_type, is_act_built, first_unbuilt, any_place_unbuilt}
 use Rattle.nim_meaning.specs.LeftOut.{left_out_in, left_out_in_path, left_out_in_args, left_out_in_stmt, left_out_in_block, left_out_in_blocks}
 use Rattle.nim_meaning.specs.Unbuilt.{is_unbuilt, gives_unbuilt}
 use Rattle.flat_code.proofs.ForCallers.{AreSorted}
@@ -197,15 +196,12 @@ module _ (types : List Ty) (facts : Facts) (sorted : AreSorted facts) (procs : L
 
       built_path : (path : Path) → is_typed_path here path ≡ true → left_out_in_path facts path ≡ None → gives_unbuilt facts (type_at path) ≡ false
       built_path (P.Variable node ty place global) h p = kept _ node p
-      built_path (P.Fresh value) h p = built value (and_parts (is_fresh value && is_there (type_of value)) (is_typed here value) h).1
-          (neither (out_if (is_text value) (node_of value)) (left_out_in facts value) p).1
+      built_path (P.Fresh value) h p = built value (and_parts (is_fresh value && is_there (type_of value)) (is_typed here value) h).1 p
       built_path (P.Field node ty base field) h p =
           (or_parts (is_unbuilt facts ty) (is_exception_type (type_at base))
           (kept _ node (neither (out_if (is_unbuilt facts ty || is_exception_type (type_at base)) node) (left_out_in_path facts base) p).0)).0
       built_path (P.Element node ty base index constant) h p =
-          (or_parts (is_unbuilt facts ty) (is_text_type (type_at base))
-          (kept _ node (neither (out_if (is_unbuilt facts ty || is_text_type (type_at base)) node) (left_out_in_path facts base or_then left_out_in facts index)
-          p).0)).0
+          kept _ node (neither (out_if (is_unbuilt facts ty) node) (left_out_in_path facts base or_then left_out_in facts index) p).0
       built_path (P.Deref ty base) h p = found _ p
 
     built_act : (ty : Option Ty) (act : Act) (operands : Args) → gives_unbuilt facts ty || not (is_act_built act facts ty operands) ≡ false →
@@ -279,10 +275,7 @@ module _ (types : List Ty) (facts : Facts) (sorted : AreSorted facts) (procs : L
       simple_path read (P.Variable node ty place global) h p l = (l.0, kept _ node p)
       simple_path read (P.Fresh value) h p l =
           let t = and_parts (is_fresh value && is_there (type_of value)) (is_typed here value) h in
-          let k = value_types read value l in (
-            (and_parts (is_fresh value) (is_there (type_of value)) t.0).0,
-            simple value t.1 (neither (out_if (is_text value) (node_of value)) (left_out_in facts value) p).1 k,
-          )
+          let k = value_types read value l in ((and_parts (is_fresh value) (is_there (type_of value)) t.0).0, simple value t.1 p k)
       simple_path read (P.Field node ty base field) h p l =
           let t = and_parts (is_of (field_at (kind_if facts (type_at base)) field) (Some ty)) (is_typed_path here base) h in
           let q = neither (out_if (is_unbuilt facts ty || is_exception_type (type_at base)) node) (left_out_in_path facts base) p in
@@ -291,11 +284,10 @@ module _ (types : List Ty) (facts : Facts) (sorted : AreSorted facts) (procs : L
       simple_path read (P.Element node ty base index constant) h p l =
           let t = and_parts _ (is_typed_path here base && is_typed here index) h in
           let u = and_parts (is_typed_path here base) (is_typed here index) t.1 in
-          let q = neither (out_if (is_unbuilt facts ty || is_text_type (type_at base)) node) _ p in
+          let q = neither (out_if (is_unbuilt facts ty) node) _ p in
           let r = neither (left_out_in_path facts base) (left_out_in facts index) q.1 in
-          let b = or_parts (is_unbuilt facts ty) (is_text_type (type_at base)) (kept _ node q.0) in
           let k = apart (IsListed types facts) (total_at lists shown_types false base) (total lists shown_types index) l.1 in
-          ((l.0, b.0), simple_path false base u.0 r.0 k.0, simple index u.1 r.1 k.1)
+          ((l.0, kept _ node q.0), simple_path false base u.0 r.0 k.0, simple index u.1 r.1 k.1)
       simple_path read (P.Deref ty base) h p l = found _ p
 
       pub simples : (args : Args) → are_typed here args ≡ true → left_out_in_args facts args ≡ None → Among (totals lists shown_types args) →

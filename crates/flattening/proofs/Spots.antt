@@ -22,7 +22,7 @@ use Rattle.flattening.proofs.Runs.{Fixed, M, did, procs, step, spends_at, Runs, 
 use Rattle.flattening.proofs.Runs.{Walks, line, line_spending, line_ends, behind, lands, follows_on, spends, pays}
 use Rattle.flattening.proofs.Deeds.{from, performed, answer_map, mapped, behind_none}
 use Rattle.flattening.proofs.Worlds.{Since, since_then}
-use Rattle.flattening.proofs.Openings.{Answering, SinceDone, since_done, answering_all}
+use Rattle.flattening.proofs.Openings.{Answering, SinceDone, since_done}
 use Rattle.flattening.proofs.Temps.{Kept, kept_then, kept_wide}
 
 -- What stays as it is while a call runs: all lines of its procedure, its level, how many more calls may be active, who waits, and the place of

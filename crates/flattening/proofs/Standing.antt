@@ -1,6 +1,6 @@
 -- What is known where a part of a body begins: which places are open, that of the result among them, and that the call's frame is there and has room for
 -- its places.
-use Rattle.std.proofs.Common.{◌≡◌, ℕ, suc, ◌≤◌, Bool, true, false, List, [], ◌∷◌, length, Option, Some, None, ◌∙◌, arith}
+use Rattle.std.proofs.Common.{◌≡◌, ℕ, suc, ◌≤◌, Bool, true, false, length, Some, ◌∙◌, arith}
 use Rattle.nim_program.specs.Program.{Declared}
 use Rattle.nim_meaning.specs.State.{World, slot_at}
 use Rattle.flat_code.specs.Lines.{level_at, is_there}

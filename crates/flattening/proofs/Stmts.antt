@@ -17,7 +17,7 @@ use Rattle.nim_meaning.specs.State.{World, State, slot_at}
 use Rattle.nim_meaning.specs.ActTree.{Begins, Does as Done_by, Leaves}
 use Rattle.nim_meaning.specs.Ways.{At as Point}
 use Rattle.nim_meaning.specs.Shapes.{is_read, is_given}
-use Rattle.nim_meaning.specs.Acts.{Broke, Continued, Returned, Outcome, On, Out, Does, onward, as_before, left_as, branch, give, ◌>>=◌, ◌>>◌, worked}
+use Rattle.nim_meaning.specs.Acts.{Broke, Continued, Returned, Outcome, On, Out, Does, onward, as_before, left_as, branch, ◌>>=◌, ◌>>◌, worked}
 use Rattle.nim_meaning.specs.Acts.{with_trail}
 use Rattle.nim_meaning.specs.Deeds.{Deed, Opens, changed, carry, perform, behind as later_done, Done, Answers, Finishes, Fails, costs as deed_costs}
 use Rattle.nim_meaning.specs.Deeds as deeds

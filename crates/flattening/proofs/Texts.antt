@@ -18,7 +18,7 @@ use Rattle.flat_code.specs.declared.code.CodeProc.{CodeProc}
 use Rattle.flat_code.specs.declared.line.Line.{Line}
 use Rattle.flat_code.specs.Codes.{flat_plain}
 use Rattle.flat_code.specs.Sizes.{texts_in, lines_texts, summed, code_texts}
-use Rattle.flattening.specs.Counted.{times, label_texts, these_texts, branch_texts, built_texts, standing_texts, part_texts, own_times, body_times}
+use Rattle.flattening.specs.Counted.{times, label_texts, these_texts, branch_texts, built_texts, placed_texts, part_texts, own_times, body_times}
 use Rattle.flattening.specs.Counted.{program_times}
 use Rattle.flattening.proofs.Amounts.{act_counted, labels_counted, branches_counted, part_counted, own_counted, block_counted, no_pairs}
 use Rattle.flattening.specs.ExprLines.{none_fits, froms, act_line, written_label}
@@ -34,7 +34,7 @@ module _ (text : List ℕ) where
   built literal = times text (built_texts literal)
 
   abbrev standing : Literal → ℕ
-  standing literal = 2 * times text (standing_texts literal)
+  standing literal = 2 * times text (placed_texts literal)
 
   abbrev said : Label → ℕ
   said label = times text (label_texts label)
@@ -124,6 +124,7 @@ module _ (text : List ℕ) where
       ends = λ node ty. omega arith;
       place_ends = λ place ty. omega arith;
       lends = λ t from node. omega arith;
+      lends_text = λ t ty how text. omega arith;
       root = λ t place global. omega arith;
       fresh = omega arith;
       in_place = λ t ty literal. omega arith;

@@ -1,5 +1,5 @@
 -- No more values may wait in a program than it has parts: one for each node at most.
-use Rattle.std.proofs.Common.{◌≡◌, ℕ, suc, ◌+◌, ◌≤◌, Bool, true, false, List, [], ◌∷◌, ◌++◌, Option, Some, None, map, refl, ap, arith}
+use Rattle.std.proofs.Common.{◌≡◌, ℕ, suc, ◌+◌, ◌≤◌, Bool, true, false, List, [], ◌∷◌, ◌++◌, Option, Some, None, map, ap, arith}
 use Rattle.std.specs.Prelude.{if◌then◌else◌}
 use Rattle.nim_types.specs.Types.{Ty, Facts}
 use Rattle.nim_program.specs.declared.expr.Node.{Node}
@@ -27,7 +27,7 @@ use Rattle.flattening.specs.Counted.{part_parts, own_parts, body_parts, program_
 use Rattle.flattening.specs.ExprLines.{is_lent_at}
 use Rattle.flattening.specs.Flattened.{modes_of}
 use Rattle.flattening.specs.Given.{flat_body, flat_proc, flat_of}
-use Rattle.flattening.specs.Numbering.{type_number, width, width_at, widths, arm_count, selector_from, behind_selector, width_in, width_of}
+use Rattle.flattening.specs.Numbering.{width, width_at, widths, arm_count, selector_from, behind_selector, width_in, width_of}
 use Rattle.flattening.specs.Places.{kind_of_path, head_from, temporary, value_at, location, lent_place, selector_place, expr_places, path_places}
 use Rattle.flattening.specs.Places.{operand_places, part_places, loop_places, value_places, behind_value, stmt_places, block_places, branch_places, arm_places}
 use Rattle.flattening.specs.Places.{own_declared, param_places, result_places, body_places, waits_by}

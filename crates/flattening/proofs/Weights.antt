@@ -114,6 +114,7 @@ module _ (types : List Ty) (facts : Facts) (modes : (proc position : ℕ) → Mo
     ends = λ node ty. omega arith;
     place_ends = λ place ty. omega arith;
     lends = λ t from node. omega arith;
+    lends_text = λ t ty how text. omega arith;
     root = λ t place global. omega arith;
     fresh = omega arith;
     in_place = λ t ty literal. omega arith;

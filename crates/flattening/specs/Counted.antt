@@ -16,8 +16,8 @@ use Rattle.nim_meaning.specs.Here.{is_hooked}
 use Rattle.nim_meaning.specs.Waiting.{Wait, waiting_all, waiting_first}
 use Rattle.flat_code.specs.declared.place.FlatPlace.{FlatPlace}
 use Rattle.flat_code.specs.Codes.{waiting_in}
-use Rattle.flat_code.specs.Pieces.{pieces_of, standing_bytes}
-use Rattle.flat_code.specs.Sizes.{pieces_texts}
+use Rattle.flat_code.specs.Pieces.{pieces_of}
+use Rattle.flat_code.specs.Sizes.{pieces_texts, standing_texts}
 
 -- what isn't zero in a constant
 abbrev mutual
@@ -158,12 +158,12 @@ abbrev pub times : (text : List ℕ) → List (List ℕ) → ℕ
 times text [] = 0
 times text (other ∷ others) = (if same_text text other then 1 else 0) + times text others
 
--- the texts of a constant that is built, and of one that is read where it stands: its bytes are one more
+-- the texts of a constant that is built, and of one that is read where it stands
 abbrev pub built_texts : Literal → List (List ℕ)
 built_texts literal = pieces_texts (pieces_of literal)
 
-abbrev pub standing_texts : Literal → List (List ℕ)
-standing_texts literal = standing_bytes (pieces_of literal) ∷ built_texts literal
+abbrev pub placed_texts : Literal → List (List ℕ)
+placed_texts literal = standing_texts (pieces_of literal)
 
 -- and of labels, which a selector is compared with
 abbrev pub label_texts : Label → List (List ℕ)
@@ -186,7 +186,7 @@ chooser_texts (ByLabels labels) = branch_texts labels
 abbrev pub part_texts : Part → List (List ℕ)
 part_texts (Acting (Giving literal)) = built_texts literal
 part_texts (Choosing chooser looked) = chooser_texts chooser
-part_texts (Leading read written (Standing literal)) = standing_texts literal
+part_texts (Leading read written (Standing literal)) = placed_texts literal
 part_texts part = []
 
 abbrev pub own_times : (text : List ℕ) → Seen → ℕ

@@ -7,7 +7,7 @@ use Rattle.nim_program.specs.declared.operation.Short.TheVariants.{And, Or}
 use Rattle.nim_program.specs.declared.operation.Use.{Use}
 use Rattle.nim_program.specs.declared.operation.Use.TheVariants.{Owned, Held, Looked}
 use Rattle.nim_program.specs.declared.program.Mode.{Mode}
-use Rattle.nim_program.specs.Program.{Literal, Label, Ordinals, Exactly, Act, Doing, Building, Giving, Calling, ByConditions, ByLabels}
+use Rattle.nim_program.specs.Program.{Literal, Characters, Label, Ordinals, Exactly, Act, Doing, Building, Giving, Calling, ByConditions, ByLabels}
 use Rattle.nim_program.specs.Program.{Expr, Apply, Read, Early, Choose, Path, Variable, Fresh, Field, Element, Deref, Args, NoArg, ByValue, ByPath}
 use Rattle.nim_program.specs.Program.{type_of, type_at, node_of, node_at, types_in, constant_in}
 use Rattle.nim_program.specs.Folds.{if_constant}
@@ -32,6 +32,10 @@ use Rattle.flattening.specs.Numbering.{type_number, number_or, if_number, all_nu
 abbrev pub use_at : Use → (node : ℕ) → UseAt
 use_at how node = record { how = how; node = node }
 
+abbrev pub is_one_text : Option Literal → Bool
+is_one_text (Some (Characters text)) = true
+is_one_text constant = false
+
 module _ (facts : Facts) where
   abbrev pub has_hooks : Expr → Bool
   has_hooks value = gives_hooked facts (type_of value)
@@ -40,13 +44,17 @@ module _ (facts : Facts) where
   abbrev pub is_copied : Use → Expr → Bool
   is_copied how value = has_hooks value && (is_given how && is_read value)
 
-  -- what is lent has a location: where it waits. A row takes the text of a literal as it is.
+  -- what is lent has a location: where it waits, or where the text of a literal stands. A row takes such a text as it is.
   abbrev pub is_call : Act → Bool
   is_call (Calling proc types) = true
   is_call act = false
 
   abbrev pub is_lent_at : Act → Use → Expr → Bool
   is_lent_at act how value = has_hooks value && (is_lent how && (is_call act || not (is_text value)))
+
+  -- the text of a literal stands in the data, where a call is lent it
+  abbrev pub is_lent_text : Act → Use → Expr → Bool
+  is_lent_text act how value = is_lent_at act how value && is_one_text (constant_in value)
 
   -- the node at which a value with hooks waits; nobody owns the text of a literal
   abbrev pub waits_at : Expr → Option ℕ
@@ -198,6 +206,8 @@ module _ (types : List Ty) (facts : Facts) (modes : (proc position : ℕ) → Mo
     ready_lines act NoArg uses i t k = k
     ready_lines act (ByValue value rest) uses i t k = if is_copied facts (uses i) value
         then copied_lines value t (ready_lines act rest uses (suc i) (t + width value) k)
+        else if is_lent_text facts act (uses i) value
+        then begin_line types facts (constant_in value) value t ∷ ready_lines act rest uses (suc i) (t + width value) k
         else lines value (uses i) t (lent_line facts act (uses i) value t (ready_lines act rest uses (suc i) (t + width value) k))
     ready_lines act (ByPath path rest) uses i t k = aim_lines path t (ready_lines act rest uses (suc i) (t + width_at path) k)
 

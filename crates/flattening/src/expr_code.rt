@@ -12,8 +12,8 @@ use crate::acts::{
     put_call, put_constant, put_get, put_handed_on, put_none_fits, put_object, put_operation,
 };
 use crate::around::{Around, Uses};
-use crate::finds::add_found;
-use crate::known::{branch_use, is_copied, is_last, use_at};
+use crate::finds::{add_found, put_begun};
+use crate::known::{branch_use, is_copied, is_last, is_lent_text, use_at};
 use crate::labels::{may_close, put_value_tests};
 use crate::marks::{put_arm_label, put_early, put_jump, put_label, put_unless};
 use crate::numbers::Purpose;
@@ -301,6 +301,9 @@ fn add_operand(
         Operand::Value(value) => {
             if is_copied(around, how, value) {
                 return add_copied(alloc, code, around, value, t);
+            }
+            if is_lent_text(around, uses, how, value) {
+                return put_begun(alloc, code, around, value, t);
             }
             add_expr(alloc, code, around, value, how, t);
             put_lent(code, around, value, uses, how, t)

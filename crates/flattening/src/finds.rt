@@ -68,8 +68,8 @@ pub fn add_found(alloc: Global, code: &mut Written<Line>, around: &Around, path:
     }
 }
 
-// What a path begins with: a constant where it stands, or another value.
-fn put_begun(alloc: Global, code: &mut Written<Line>, around: &Around, value: &Expr, t: u32)
+/// What a path begins with: a constant where it stands, or another value.
+pub fn put_begun(alloc: Global, code: &mut Written<Line>, around: &Around, value: &Expr, t: u32)
     ensures { IsPut code.old code.new (find_lines (types_of around.now)
         (facts_of around.now) (Fresh (expr_of (types_of around.now) value.now)) t) }
 {

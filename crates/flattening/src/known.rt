@@ -3,11 +3,13 @@
 ghost use Rattle.std.specs.Prelude.{◌≡◌, ◌≤◌, ◌<◌, true, false, List, Some};
 ghost use Rattle.nim_types.specs.Types.{Ty, int, same};
 ghost use Rattle.nim_types.specs.Table.{type_at, types_in, meant};
+ghost use Rattle.nim_program.specs.Program.{constant_in};
 ghost use Rattle.nim_program.specs.View.{expr_of, path_of, if_type, param_of};
 ghost use Rattle.nim_program.specs.Uses.{use_by};
 ghost use Rattle.nim_meaning.specs.Here.{is_hooked, gives_hooked};
 ghost use Rattle.nim_meaning.specs.Shapes.{has_node, is_read, is_text, waits, is_sink, mode_of, is_covered};
-ghost use Rattle.flattening.specs.ExprLines.{has_hooks, is_copied, is_lent_at, waits_at, branch_use};
+ghost use Rattle.flattening.specs.ExprLines.{has_hooks, is_copied, is_lent_at, is_one_text, is_lent_text};
+ghost use Rattle.flattening.specs.ExprLines.{waits_at, branch_use};
 ghost use Rattle.flattening.specs.Numbering.{type_number, if_number};
 ghost use Rattle.flattening.specs.Views.{types_of, facts_of, modes_of, uses_of, act_of};
 
@@ -101,7 +103,8 @@ fn is_read(value: &Expr) -> bool
 }
 
 fn is_text(value: &Expr) -> bool
-    ensures { (ts : List Ty) → is_text (expr_of ts value.now) ≡ result }
+    ensures read { (ts : List Ty) → is_text (expr_of ts value.now) ≡ result }
+    ensures constant { (ts : List Ty) → is_one_text (constant_in (expr_of ts value.now)) ≡ result }
 {
     match value {
         Expr::Constant { value, .. } => matches!(value, Literal::Text(_)),
@@ -130,6 +133,14 @@ pub fn is_lent_at(around: &Around, uses: Uses, how: Use, value: &Expr) -> bool
 {
     has_hooks(around, value)
         && (matches!(how, Use::Lent) && (matches!(uses, Uses::OfParams(_)) || !is_text(value)))
+}
+
+/// Whether a value is the text of a literal that a call is lent, which stands in the data.
+pub fn is_lent_text(around: &Around, uses: Uses, how: Use, value: &Expr) -> bool
+    ensures { result ≡ is_lent_text (facts_of around.now) (act_of uses) how
+        (expr_of (types_of around.now) value.now) }
+{
+    is_lent_at(around, uses, how, value) && is_text(value)
 }
 
 /// The node at which a value with hooks waits. Nobody owns the text of a literal.

@@ -35,9 +35,6 @@ use Rattle.holders.proofs.PartsInTurn.{leaves_none, begins_part, First, begins_n
 use Rattle.holders.specs.Claimed.{NoExit, From, Sees, HasValue, ValueSo, HasAim, AimSo}
 use Rattle.holders.proofs.Claims.{behind_value, value_bare, scene_passes, aims_first, behind_alone}
 use Rattle.holders.proofs.Constants.{no_ref}
-use Rattle.holders.specs.Finding.{IsWhole}
-use Rattle.nim_program.specs.Kinds.{is_text}
-use Rattle.holders.proofs.FormsOfTypes.{no_text_form}
 
 -- ---- steps, by types
 
@@ -55,17 +52,6 @@ module _ (facts : Facts) {os : List Owner} {world : World} {b : Bool} {n : ℕ} 
   element_aim z None ty simple typed a = absurd (false≢true typed)
   element_aim z (Some t) ty simple typed a =
       aim_element simple.has (of_type typed) (subst (λ g. AimsAt os world b n aim g) (the_form simple.has) a)
-
-module _ (facts : Facts) {os : List Owner} {world : World} {b : Bool} {n : ℕ} {aim : Aim} where
-  whole_field : (field : ℕ) (o : Option Ty) (ty : Ty) (simple : IfSimple facts o) (held : keeps_values (kind_if facts o) ≡ true)
-      (typed : is_of (field_at (kind_if facts o) field) (Some ty) ≡ true)
-      (a : AimsAt os world b n aim (form_for facts o)) → IsWhole (PartOf aim field) (field_aim facts field o ty simple held typed a)
-  whole_field field o ty simple held typed a = tt
-
-  whole_element : (z : ℤ) (o : Option Ty) (ty : Ty) (simple : IfSimple facts o) (typed : is_of (element_of (kind_if facts o)) (Some ty) ≡ true)
-      (a : AimsAt os world b n aim (form_for facts o)) → is_text (kind_if facts o) ≡ false → IsWhole (ItemOf aim z) (element_aim facts z o ty simple typed a)
-  whole_element z None ty simple typed a no_text = absurd (false≢true typed)
-  whole_element z (Some t) ty simple typed a no_text = no_text_form simple.has (of_type typed) no_text
 
 pub no_object : (facts : Facts) (o : Option Ty) (ty : Ty) → IfSimple facts o → is_of (object_of (kind_if facts o)) (Some ty) ≡ true → ⊥
 no_object facts None ty simple typed = false≢true typed
@@ -88,7 +74,7 @@ module _ (here : Here) (scope : scopes.Here) (limits : Limits) (root : (global :
     later = nodes;
     leaves = leaves_none b.distinct;
     stage = stage_begins b.territory tt b.active;
-    aims = at_place (λ world sees. at_root (sees.place global place ty named (of_type typed))) (refl, λ no_text world sees. tt) tt;
+    aims = at_place (λ world sees. at_root (sees.place global place ty named (of_type typed))) refl tt;
   }
 
   field_aims : {ms : List Owner} {aim : Aim} (node : Node) (ty : Ty) (base : Path) (field : ℕ) → IfSimple here.facts (type_at base) →
@@ -96,10 +82,8 @@ module _ (here : Here) (scope : scopes.Here) (limits : Limits) (root : (global :
       Aims_to ms base aim →
       Aims_to ms (Field node ty base field) (PartOf aim field)
   field_aims node ty base field simple held typed (at_place h steps fresh) =
-      at_place (λ world sees. field_aim here.facts field (type_at base) ty simple held typed (h world sees)) (
-        ap (λ (ss : List Step). ss ++ to_field field ∷ []) steps.0,
-        λ no_text world sees. whole_field here.facts field (type_at base) ty simple held typed (h world sees),
-      ) tt
+      at_place (λ world sees. field_aim here.facts field (type_at base) ty simple held typed (h world sees))
+      (ap (λ (ss : List Step). ss ++ to_field field ∷ []) steps) tt
   field_aims node ty base field simple held typed (at_made unwritten h fresh) =
       at_made unwritten (λ world. field_aim here.facts field (type_at base) ty simple held typed (h world)) tt
 
@@ -123,10 +107,8 @@ module _ (here : Here) (scope : scopes.Here) (limits : Limits) (root : (global :
       IfSimple here.facts (type_at base) → is_of (element_of (kind_if here.facts (type_at base))) (Some ty) ≡ true → Aims_to ms base aim →
       Aims_to (ms ++ ks) (Element node ty base index constant) (ItemOf aim z)
   element_aims ks z node ty base index constant simple typed (at_place h steps fresh) =
-      at_place (λ world sees. element_aim here.facts z (type_at base) ty simple typed (h world sees)) (
-        ap (λ (ss : List Step). ss ++ to_element ∷ []) steps.0,
-        λ no_text world sees. whole_element here.facts z (type_at base) ty simple typed (h world sees) no_text,
-      ) tt
+      at_place (λ world sees. element_aim here.facts z (type_at base) ty simple typed (h world sees))
+      (ap (λ (ss : List Step). ss ++ to_element ∷ []) steps) tt
   element_aims ks z node ty base index constant simple typed (at_made unwritten h fresh) =
       at_made unwritten (λ world. element_aim here.facts z (type_at base) ty simple typed (aims_first ks (h world))) tt
 

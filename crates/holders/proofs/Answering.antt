@@ -22,7 +22,7 @@ use Rattle.holders.proofs.BaseChanges.{taken_elsewhere, taken_text, taken_row}
 use Rattle.holders.proofs.Sure.{sure_then, sure_weaker}
 use Rattle.holders.proofs.Ledger.{taken_live, none_in_none}
 use Rattle.holders.proofs.Owning.{each_stays}
-use Rattle.holders.proofs.Guards.{sure_takes, sure_sees, sure_changes, read_at}
+use Rattle.holders.proofs.Guards.{sure_takes, sure_sees, sure_changes, read_at, lies_at}
 use Rattle.holders.proofs.Copying.{each_below}
 use Rattle.holders.proofs.Growing.{one_more_length}
 use Rattle.holders.proofs.UnderWay.{at_hand, under_way_gives}
@@ -188,5 +188,6 @@ exchanges f l w v x old new world at e h0 h d apart =
     let Q : Value → World → Type 0 = λ y after. (y ≡ v) × Turns (λ k. held_by k x) (λ k. held_by k v) f l w new [] world after in
     sure_takes (λ world old. changes l x >> give old) Q (read_at at e) tt h0
     (sure_then (changes l x) (λ u. give v) (λ u after. Turns (λ k. held_by k x) (λ k. held_by k v) f l w new [] world after) Q world
-    (sure_changes x (λ u after. Turns (λ k. held_by k x) (λ k. held_by k v) f l w new [] world after) at (set_turns f l w v x new world at e h d apart))
+    (sure_changes x (λ u after. Turns (λ k. held_by k x) (λ k. held_by k v) f l w new [] world after) (lies_at at)
+    (set_turns f l w v x new world at e h d apart))
     (λ u after t. (refl, t)))

@@ -9,7 +9,7 @@ use Rattle.nim_program.specs.declared.expr.Node.{Node}
 use Rattle.nim_program.specs.declared.operation.Operation.{Operation}
 use Rattle.nim_program.specs.declared.operation.Operation.TheVariants as O
 use Rattle.nim_program.specs.Program.{Act, Doing, Building, Giving, Calling, Expr, Apply, Read, Early, Choose, Path, Variable, Fresh, Field, Element, Deref}
-use Rattle.nim_program.specs.Program.{Args, NoArg, ByValue, ByPath, type_of, type_at, types_in, node_of, node_at}
+use Rattle.nim_program.specs.Program.{Args, NoArg, ByValue, ByPath, type_of, type_at, types_in, node_at}
 use Rattle.nim_program.specs.Folds.{lists, total, total_at, totals}
 use Rattle.nim_program.specs.Kinds.{kind_of, kind_if, is_bool, is_of, is_int, is_there, is_among_types, are_among_types, are_declared, is_declared_as}
 use Rattle.nim_program.specs.Kinds.{field_at, element_of}
@@ -18,15 +18,14 @@ use Rattle.nim_program.specs.Scopes as scopes
 use Rattle.nim_program.specs.Typed.{own_types, type_if, act_types, act_fits, is_typed, is_typed_path, are_typed, is_read, is_whole, is_fresh, choice_is_placed}
 use Rattle.nim_program.proofs.ForCallers.{in_fresh}
 use Rattle.nim_meaning.specs.LeftOut.{out_if, earlier, ◌or_then◌, is_act_built, is_built, first_unbuilt, left_out_in, left_out_in_path}
-use Rattle.nim_meaning.specs.LeftOut.{left_out_in_args, is_text_type, is_exception_type}
-use Rattle.nim_meaning.specs.Shapes.{is_text as is_literal_text}
+use Rattle.nim_meaning.specs.LeftOut.{left_out_in_args, is_exception_type}
 use Rattle.nim_meaning.specs.Unbuilt.{has_unbuilt, has_unbuilt_any, is_unbuilt, gives_unbuilt}
 use Rattle.decl_rules.specs.Occurrences.{Occurrence, in_expr, in_path, in_args, calls_if, callee, hands_by}
 use Rattle.lending_laws.specs.Apart.{ActLends, ExprLends, PathLends, ArgsLend}
 use Rattle.holders.specs.Owned.{HasBlocksAlone, HaveBlocksAlone}
-use Rattle.holders.specs.Asked.{Limits, is_character, NoCharacter, Simple, IfSimple, ActAsked, Asked, AskedAt, AllAsked}
+use Rattle.holders.specs.Asked.{Limits, Simple, IfSimple, ActAsked, Asked, AskedAt, AllAsked}
 use Rattle.holders.specs.Procedures.{SiteSo}
-use Rattle.holders.proofs.FormKinds.{same_type, held_of, no_text_at}
+use Rattle.holders.proofs.FormKinds.{same_type, held_of}
 use Rattle.holders.proofs.Claims.{asked_at}
 use Rattle.holders.proofs.SitesAsked.{AllOccur, occur_first, occur_second, no_refs, DoingMay, doing_may, calling_may, site_so}
 
@@ -116,24 +115,6 @@ declared_there facts (t ∷ ts) d ty e =
     by true s e one rest = subst (λ u. is_declared_as u (kind_of facts u) ≡ true) (sym (same_sound ty t s)) one
     by false s e one rest = rest e
 
--- ---- characters of texts
-
-not_character : (facts : Facts) (path : Path) → left_out_in_path facts path ≡ None → is_character facts path ≡ false
-not_character facts (Variable node ty place global) out = refl
-not_character facts (Fresh value) out = refl
-not_character facts (Field node ty base field) out = refl
-not_character facts (Element node ty base index constant) out =
-    no_text_at facts (type_at base)
-    (or_false (is_unbuilt facts ty) (is_text_type (type_at base)) (stays_in (is_unbuilt facts ty || is_text_type (type_at base)) node
-    (neither (out_if (is_unbuilt facts ty || is_text_type (type_at base)) node) (left_out_in_path facts base or_then left_out_in facts index) out).0)).1
-not_character facts (Deref ty base) out = refl
-
-none_handed : (facts : Facts) (args : Args) → left_out_in_args facts args ≡ None → NoCharacter facts args
-none_handed facts NoArg out = tt
-none_handed facts (ByValue value rest) out = none_handed facts rest (neither (left_out_in facts value) (left_out_in_args facts rest) out).1
-none_handed facts (ByPath path rest) out =
-    let o = neither (left_out_in_path facts path) (left_out_in_args facts rest) out in (not_character facts path o.0, none_handed facts rest o.1)
-
 -- ---- expressions
 
 module _ (types : List Ty) (facts : Facts) (has_forms : (ty : Ty) → is_among_types types ty ≡ true → (f : Form) × HasForm facts ty f)
@@ -187,14 +168,13 @@ module _ (types : List Ty) (facts : Facts) (has_forms : (ty : Ty) → is_among_t
       built_path : (path : Path) → is_typed_path scope path ≡ true → left_out_in_path facts path ≡ None → gives_unbuilt facts (type_at path) ≡ false
       built_path (Variable node ty place global) typed out = stays_in (is_unbuilt facts ty) node out
       built_path (Fresh value) typed out =
-          built value (and_parts (is_fresh value && is_there (type_of value)) (is_typed scope value) typed).1
-          (neither (out_if (is_literal_text value) (node_of value)) (left_out_in facts value) out).1
+          built value (and_parts (is_fresh value && is_there (type_of value)) (is_typed scope value) typed).1 out
       built_path (Field node ty base field) typed out =
           (or_false (is_unbuilt facts ty) (is_exception_type (type_at base)) (stays_in (is_unbuilt facts ty || is_exception_type (type_at base)) node
           (neither (out_if (is_unbuilt facts ty || is_exception_type (type_at base)) node) (left_out_in_path facts base) out).0)).0
       built_path (Element node ty base index constant) typed out =
-          (or_false (is_unbuilt facts ty) (is_text_type (type_at base)) (stays_in (is_unbuilt facts ty || is_text_type (type_at base)) node
-          (neither (out_if (is_unbuilt facts ty || is_text_type (type_at base)) node) (left_out_in_path facts base or_then left_out_in facts index) out).0)).0
+          stays_in (is_unbuilt facts ty) node
+          (neither (out_if (is_unbuilt facts ty) node) (left_out_in_path facts base or_then left_out_in facts index) out).0
       built_path (Deref ty base) typed out = some_node (node_at base) out
 
     -- ---- acts
@@ -210,21 +190,21 @@ module _ (types : List Ty) (facts : Facts) (has_forms : (ty : Ty) → is_among_t
     no_types proc (t ∷ ts) ty operands e = absurd (false≢true e)
 
     act_asked : (ty : Option Ty) (act : Act) (operands : Args) → act_fits scope ty act operands ≡ true → are_typed scope operands ≡ true →
-        is_act_built act facts ty operands ≡ true → ActLends limits.kept act operands → NoCharacter facts operands →
+        is_act_built act facts ty operands ≡ true → ActLends limits.kept act operands →
         Occur (calls_if (callee act) ++ in_args (callee act) operands) → AllAsked facts limits (OfCall limits) operands →
         ActAsked facts limits (OfCall limits) act operands
-    act_asked ty (Doing operation) operands fits typed is_built lends none occur asked =
+    act_asked ty (Doing operation) operands fits typed is_built lends occur asked =
         doing_asked operation (types_in operands) operands is_built
         (doing_may scope limits no_dest operation ty operands fits (no_refs scope limits (OfCall limits) operands typed (at_scope operands asked)) lends.1)
       where
         at_scope : (args : Args) → AllAsked facts limits (OfCall limits) args → AllAsked scope.facts limits (OfCall limits) args
         at_scope args a = subst (λ fs. AllAsked fs limits (OfCall limits) args) (sym facts_are) a
-    act_asked ty (Building fields) operands fits typed is_built lends none occur asked = tt
-    act_asked ty (Giving literal) operands fits typed is_built lends none occur asked = tt
-    act_asked ty (Calling proc ts) operands fits typed is_built lends none occur asked =
+    act_asked ty (Building fields) operands fits typed is_built lends occur asked = tt
+    act_asked ty (Giving literal) operands fits typed is_built lends occur asked = tt
+    act_asked ty (Calling proc ts) operands fits typed is_built lends occur asked =
         let refs = no_refs scope limits (OfCall limits) operands typed (subst (λ fs. AllAsked fs limits (OfCall limits) operands) (sym facts_are) asked) in (
           no_types proc ts ty operands is_built,
-          (calling_may scope limits proc ts ty operands fits refs lends.1, (none, site_so named (limits.seen true) proc operands refs lends.0 occur)),
+          (calling_may scope limits proc ts ty operands fits refs lends.1, site_so named (limits.seen true) proc operands refs lends.0 occur),
         )
 
     -- ---- the induction
@@ -242,8 +222,7 @@ module _ (types : List Ty) (facts : Facts) (has_forms : (ty : Ty) → is_among_t
           lends.1 (occur_second named (limits.seen true) (calls_if (callee act)) (in_args (callee act) operands) occur) in (
             simple_if ty (act_types act) own b.0,
             (
-              act_asked ty act operands t.0 t.1 (not_false (is_act_built act facts ty operands) b.1) lends.0 (none_handed facts operands o.1) occur
-                  asked,
+              act_asked ty act operands t.0 t.1 (not_false (is_act_built act facts ty operands) b.1) lends.0 occur asked,
               asked,
             ),
           )
@@ -276,8 +255,8 @@ module _ (types : List Ty) (facts : Facts) (has_forms : (ty : Ty) → is_among_t
       path_asked read (Variable node ty place false) typed out among lends occur =
           (simple_type ty among.0 (stays_in (is_unbuilt facts ty) node out), own_seen place)
       path_asked read (Fresh value) typed out among lends occur =
-          expr_asked value (and_parts (is_fresh value && is_there (type_of value)) (is_typed scope value) typed).1
-          (neither (out_if (is_literal_text value) (node_of value)) (left_out_in facts value) out).1 (among_fresh types read value among) lends occur
+          expr_asked value (and_parts (is_fresh value && is_there (type_of value)) (is_typed scope value) typed).1 out
+          (among_fresh types read value among) lends occur
       path_asked read (Field node ty base field) typed out among lends occur =
           let o = neither (out_if (is_unbuilt facts ty || is_exception_type (type_at base)) node) (left_out_in_path facts base) out in
           let b = or_false (is_unbuilt facts ty) (is_exception_type (type_at base))
@@ -292,11 +271,9 @@ module _ (types : List Ty) (facts : Facts) (has_forms : (ty : Ty) → is_among_t
           let q = and_parts (is_typed_path scope base) (is_typed scope index)
           (and_parts (is_of (element_of (kind_if scope.facts (type_at base))) (Some ty) && is_int (kind_if scope.facts (type_of index)))
           (is_typed_path scope base && is_typed scope index) typed).1 in
-          let o = neither (out_if (is_unbuilt facts ty || is_text_type (type_at base)) node)
-          (left_out_in_path facts base or_then left_out_in facts index) out in
-          let b = or_false (is_unbuilt facts ty) (is_text_type (type_at base)) (stays_in (is_unbuilt facts ty || is_text_type (type_at base)) node o.0) in
+          let o = neither (out_if (is_unbuilt facts ty) node) (left_out_in_path facts base or_then left_out_in facts index) out in
           let u = neither (left_out_in_path facts base) (left_out_in facts index) o.1 in (
-            simple_type ty among.0 b.0,
+            simple_type ty among.0 (stays_in (is_unbuilt facts ty) node o.0),
             (
               path_asked false base q.0 u.0 (among_first types (total_at lists own_types false base) (total lists own_types index) among.1) lends.0
                   (occur_first named (limits.seen true) (in_path base) (in_expr index) occur),

@@ -4,12 +4,12 @@ use Rattle.std.proofs.Common.{Option, Some, None, inl, inr, ◌⊎◌}
 use Rattle.std.specs.Prelude.{slice_get, slice_set, nat_eq}
 use Rattle.std.proofs.lemmas.Option.{none-some, same_Some}
 use Rattle.std.proofs.lemmas.Bool.{eqb-true, eqb-false}
-use Rattle.nim_meaning.specs.Values.{Value, Parts, Slot, Holds, part, put_part, parts_of, Base, Standing, Waiting, InBlock, InHand, InException}
+use Rattle.nim_meaning.specs.Values.{Value, Parts, Fixed, Slot, Holds, part, put_part, parts_of, text_in, Base, Standing, Waiting, InBlock, InHand, InException}
 use Rattle.nim_meaning.specs.Values.{Made, Location}
-use Rattle.nim_meaning.specs.Heap.{Contents, Elements, Block, flat, block_at, with_contents, refilled}
+use Rattle.nim_meaning.specs.Heap.{Contents, Characters, Elements, Block, flat, block_at, with_contents, refilled}
 use Rattle.nim_meaning.specs.State.{Temporary, Frame, World, frame_in, frame_at, with_frame_at, with_slot_of, temporary_in, with_temporary_in}
 use Rattle.nim_meaning.specs.State.{load, whole_at, stored, held, awaited, joined, slot_of, hand_value, contents_value, object_in, with_value_in, new_contents}
-use Rattle.holders.specs.Owned.{IsBase, at_place, at_node, in_hand, in_row, in_text, in_program, HasPart, whole, row_part, MayStore}
+use Rattle.holders.specs.Owned.{IsBase, at_place, at_node, in_hand, in_row, in_text, in_program, whole, row_part, MayStore, MayBecome, in_rows, a_letter}
 
 -- ---- lists
 
@@ -104,7 +104,7 @@ pub block_elsewhere : (world : World) (k other : ℕ) (contents : Contents) → 
 block_elsewhere world k other contents d = ap flat (get_other world.heap.blocks k other (refilled (block_at world.heap k) contents) d)
 
 module _ (world : World) where
-  pub stored_there : {base : Base} {w : Value} {path : List ℕ} (v : Value) → IsBase world base w → HasPart w path → MayStore base path →
+  pub stored_there : {base : Base} {w : Value} {path : List ℕ} (v : Value) → IsBase world base w → MayBecome w path → MayStore base path →
       IsBase (stored world base (put_part w path v)) base (put_part w path v)
   stored_there {w = w} {path = path} v (at_place {level = level} {n = n} frame e le f) h may =
       let new = put_part w path v in
@@ -116,13 +116,18 @@ module _ (world : World) where
       (frame_there world level frame (λ x. record x { temporaries = with_temporary_in x.temporaries node (Holds new) }) e)
       (temporary_set frame.temporaries node (Holds w) (Holds new) f)
   stored_there {w = w} {path = path} v (in_hand {i = i} e) h may = in_hand (get_set world.hand i w (put_part w path v) e)
-  stored_there v (in_row {k = k} {all = all} block e f) (row_part {i = i} {path = path} le h) may =
+  stored_there v (in_row {k = k} {all = all} block e f) (in_rows (row_part {i = i} {path = path} le h)) may =
       let new = put_part (Parts all) (i ∷ path) v in
       subst (λ (b : Option Block). IsBase (record world { heap = with_value_in world.heap k b new }) (InBlock k) new) (sym e)
       (subst (λ (c : Contents). IsBase (record world { heap = with_contents world.heap k (new_contents c new) }) (InBlock k) new) (sym f)
       (in_row (record block { contents = Elements (parts_of new) }) (block_filled world k block (Elements (parts_of new)) e) refl))
-  stored_there v (in_row block e f) whole may = elim may [ ]
-  stored_there v (in_text block e f) whole may = elim may [ ]
+  stored_there v (in_text {k = k} {t = t} block e f) (a_letter {i = i} le) may =
+      let new = put_part (Fixed t) (i ∷ []) v in
+      subst (λ (b : Option Block). IsBase (record world { heap = with_value_in world.heap k b new }) (InBlock k) new) (sym e)
+      (subst (λ (c : Contents). IsBase (record world { heap = with_contents world.heap k (new_contents c new) }) (InBlock k) new) (sym f)
+      (in_text (record block { contents = Characters (text_in new) }) (block_filled world k block (Characters (text_in new)) e) refl))
+  stored_there v (in_row block e f) (in_rows whole) may = elim may [ ]
+  stored_there v (in_text block e f) (in_rows whole) may = elim may [ ]
   stored_there v in_program h may = elim may [ ]
 
   -- elsewhere all is as it was

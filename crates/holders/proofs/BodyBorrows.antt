@@ -17,11 +17,11 @@ use Rattle.nim_meaning.specs.Values.{Value, Base, Standing, Waiting, InBlock, In
 use Rattle.nim_meaning.specs.Marks.{Member}
 use Rattle.nim_meaning.specs.State.{World, State, frame_in, slot_at, slot_of, joined}
 use Rattle.nim_meaning.specs.Acts.{Does, branch, loop, with_trail, ◌>>=◌}
-use Rattle.nim_meaning.specs.Deeds.{Opens, changed, carry, stop}
+use Rattle.nim_meaning.specs.Deeds.{Opens, changed, carry, stop, unless_gone}
 use Rattle.nim_meaning.specs.Deeds as deeds
 use Rattle.nim_meaning.specs.Lifted.{slot_ends}
 use Rattle.nim_meaning.specs.Here.{Here, is_hooked, form_for}
-use Rattle.nim_meaning.specs.Places.{place_at, length_at, item_at, as_long}
+use Rattle.nim_meaning.specs.Places.{place_at, length_at, item_at, as_long, to_one}
 use Rattle.nim_meaning.specs.Aims.{Aim, Root, Value_of, Waits_at, PartOf, ItemOf, ObjectOf, Ready, Aimed, find}
 use Rattle.nim_meaning.specs.Steps.{at_node, waits_in}
 use Rattle.nim_meaning.specs.Meaning.{each_turn, loop_over, ready_aim, still, place_ends, scoped, element_for}
@@ -31,7 +31,7 @@ use Rattle.holders.specs.Territory.{Owner, no_cells, Territory, Among, NoBaseOf}
 use Rattle.holders.specs.Working.{number, without}
 use Rattle.holders.specs.Running.{Region}
 use Rattle.holders.specs.Ways.{Step, to_element}
-use Rattle.holders.specs.Finding.{Found, in_cell, a_character, to_be_read, PlaceOf, a_name_of, of_constant, AimsAt, at_constant, at_value, at_waiting, ItemForm}
+use Rattle.holders.specs.Finding.{Found, in_cell, to_be_read, PlaceOf, a_name_of, of_constant, AimsAt, at_constant, at_value, at_waiting, ItemForm}
 use Rattle.holders.specs.Finding.{steps_of}
 use Rattle.holders.specs.Called.{LeftBy}
 use Rattle.holders.specs.Asked.{Limits, AllAsked, FactsOfTheirSort, may_write_at, within}
@@ -41,7 +41,7 @@ use Rattle.holders.specs.BodyParts.{part_region, PartBegins, Sights, Pending, Ov
 use Rattle.holders.specs.Numbered.{Numbered}
 use Rattle.holders.proofs.Owning.{has_stays}
 use Rattle.holders.proofs.Sure.{sure_weaker}
-use Rattle.holders.proofs.Guards.{sure_reads}
+use Rattle.holders.proofs.Guards.{full_items, sure_reads}
 use Rattle.holders.proofs.Coming.{comes_then, comes_weaker, comes_answered, comes_carried}
 use Rattle.holders.proofs.FrameChanges.{place_opened}
 use Rattle.holders.proofs.Finding.{finds, items_there}
@@ -251,7 +251,6 @@ module _ (here : Here) (first places : ℕ) (scope : scopes.Here) (limits : Limi
 
     stands : (m : Location) (now : World) {h : Form} {root : ℕ} {steps : List Step} → h ≡ g → Found [] now false root steps h m → MayStand m now
     stands m now same (in_cell c goes) = absurd (none c.at)
-    stands m now same (a_character j c e le) = absurd (none c.at)
     stands m now same (to_be_read {u = u} {v = v} made from h) =
         λ after stays name. record {
           root = 0;
@@ -348,7 +347,9 @@ module _ (here : Here) (first places : ℕ) (scope : scopes.Here) (limits : Limi
         let le = ltb-true i len less in
         comes_carried IsItem (LeftBy J) (item_at m i) now
         (subst (λ x. Sure (item_at x i) IsItem now.world) (sym k.is)
-        (sure_reads (λ world v. deeds.give (item_of v l i)) IsItem k.at.from tt k.at.has (k.over, k.at.items k.long i (omega (arith, le)))))
+        (sure_reads (λ world v. to_one v l i) IsItem k.at.from tt k.at.has
+        (subst (λ b. Sure (unless_gone b (deeds.give (item_of k.at.value l i))) IsItem now.world) (sym (full_items l.base k.at.has))
+        (k.over, k.at.items k.long i (omega (arith, le))))))
 
     pub waiting_loop : Comes (λ u after. J after) (LeftBy J) (rest node waits s)
     waiting_loop =

@@ -16,11 +16,11 @@ use Rattle.nim_meaning.specs.Values.{Value, Number, Standing, Location, length_o
 use Rattle.nim_meaning.specs.Marks.{Member}
 use Rattle.nim_meaning.specs.State.{World, State}
 use Rattle.nim_meaning.specs.Acts.{Exit, Does, branch, loop, ◌>>=◌}
-use Rattle.nim_meaning.specs.Deeds.{carry, stop}
+use Rattle.nim_meaning.specs.Deeds.{carry, stop, unless_gone}
 use Rattle.nim_meaning.specs.Deeds as deeds
 use Rattle.nim_meaning.specs.Here.{Here, is_hooked, gives_hooked}
 use Rattle.nim_meaning.specs.Waiting.{Wait}
-use Rattle.nim_meaning.specs.Places.{as_long, item_at, fetched_item, fetched}
+use Rattle.nim_meaning.specs.Places.{as_long, item_at, fetched_item, fetched, to_one}
 use Rattle.nim_meaning.specs.Aims.{Aim, Ready, find}
 use Rattle.nim_meaning.specs.Steps.{grouped, waits_in, ended_value}
 use Rattle.nim_meaning.specs.Meaning.{eval, fill, fill_from, scoped, count_turn, each_turn, while_turn, head_values, still, element_at, element_for}
@@ -33,7 +33,7 @@ use Rattle.holders.specs.Running.{Region}
 use Rattle.holders.specs.Staging.{Stage}
 use Rattle.holders.specs.Called.{LeftBy}
 use Rattle.holders.specs.Asked.{Limits, AllAsked, Asked, FactsOfTheirSort, may_write_at}
-use Rattle.holders.specs.Evaluating.{operand_nodes, Hand, holds, AllReady, AllLast}
+use Rattle.holders.specs.Evaluating.{operand_nodes, Hand, AllReady, AllLast}
 use Rattle.holders.specs.Evaluating.{Readied, none_ready, bare_ready, held_ready, lent_ready, aim_ready, seen_ready, copy_ready, hand_ready}
 use Rattle.holders.specs.Claimed.{NoExit, InBody, known_at}
 use Rattle.holders.specs.BodyParts.{part_region, PartBegins, own_cell, Sights, Pending, Over, PartSo}
@@ -101,8 +101,9 @@ module _ {os : List Owner} {world : World} {may : Bool} {root : ℕ} {steps : Li
 
   pub item_so : (i : ℕ) → i < length_of e.value → Sure (item_at l i) (λ m after. (after ≡ world) × Found os world may root (steps ++ to_element ∷ []) g m) world
   item_so i less =
-      sure_reads (λ world v. deeds.give (item_of v l i)) (λ m after. (after ≡ world) × Found os world may root (steps ++ to_element ∷ []) g m) e.from e.whole
-      e.has (refl, e.items i less)
+      sure_reads (λ world v. to_one v l i) (λ m after. (after ≡ world) × Found os world may root (steps ++ to_element ∷ []) g m) e.from e.whole e.has
+      (subst (λ b. Sure (unless_gone b (deeds.give (item_of e.value l i))) (λ m after. (after ≡ world) × Found os world may root (steps ++ to_element ∷ []) g m)
+      world) (sym e.places) (refl, e.items i less))
 
   fetched_so : Territory os world → (i : ℕ) → i < length_of e.value → Sure (fetched_item l i) (Fetched g world) world
   fetched_so t i less =

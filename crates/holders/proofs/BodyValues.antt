@@ -23,8 +23,8 @@ use Rattle.nim_meaning.specs.Meaning.{aimed, source, fill, fill_from, result_get
 use Rattle.holders.specs.Owned.{Constant}
 use Rattle.holders.specs.Sure.{Comes}
 use Rattle.holders.specs.Territory.{Owner, AllOwners, Among, NoBaseOf, Moves}
-use Rattle.holders.specs.Ways.{Step, Way, arrived, a_step, an_object, an_array, a_block, Chain, goes_nowhere}
-use Rattle.holders.specs.Finding.{Found, in_cell, a_character, to_be_read, steps_of}
+use Rattle.holders.specs.Ways.{Step, Way, arrived, a_step, an_object, an_array, a_block, letters, Chain, goes_nowhere}
+use Rattle.holders.specs.Finding.{Found, in_cell, to_be_read, steps_of}
 use Rattle.holders.specs.Running.{Region, IsOutside, Wider}
 use Rattle.holders.specs.Staging.{Stage, Holding}
 use Rattle.holders.specs.Groups.{AllMine}
@@ -67,6 +67,7 @@ way_base arrived b off no_block e = off (sym e)
 way_base (a_step an_object p w) b off no_block e = way_base w b off no_block e
 way_base (a_step an_array p w) b off no_block e = way_base w b off no_block e
 way_base (a_step (a_block {k = k} q) p w) b off no_block e = way_base w b (λ g. no_block k g) no_block e
+way_base (a_step (letters {k = k} q) p w) b off no_block e = way_base w b (λ g. no_block k g) no_block e
 
 among_at : (P : Owner → Type 0) {os : List Owner} {o : Owner} → AllOwners P os → Among os o → P o
 among_at P h i = Rattle.holders.proofs.Working.all_at P h i
@@ -82,7 +83,6 @@ pub found_elsewhere : {os : List Owner} {world : World} {may : Bool} {root : ℕ
     Found os world may root steps f l → NoBaseOf (Standing level n) os → l.base ≡ Standing level n → ⊥
 found_elsewhere level n (in_cell c goes) off e =
     way_base c.way (Standing level n) (among_at (λ o. Standing level n ≡ o.at.base → ⊥) off c.at) (λ k q. no_block_place level n k q) e
-found_elsewhere level n (a_character {k = k} j c q le) off e = no_block_place level n k (sym e)
 found_elsewhere level n (to_be_read made from h) off e = subst is_made (sym made ∙ e) tt
   where
     is_made : Base → Type 0

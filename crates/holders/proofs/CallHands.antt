@@ -26,7 +26,7 @@ use Rattle.holders.specs.Working.{Works}
 use Rattle.holders.specs.Ways.{targets_of}
 use Rattle.holders.specs.Finding.{PlaceOf, own_place, a_name_of}
 use Rattle.holders.specs.Handing.{UnderWay}
-use Rattle.holders.specs.Asked.{Limits, NoCharacter}
+use Rattle.holders.specs.Asked.{Limits}
 use Rattle.holders.specs.Evaluating.{IsBare, Bare, root_at, path_steps, seen_of}
 use Rattle.holders.specs.Procedures.{Arrives, none_arrive, value_arrives, cell_arrives, constant_arrives, GlobalsSo}
 use Rattle.holders.proofs.PlainRows.{none_clear}
@@ -242,49 +242,46 @@ module _ (here : Here) (limits : Limits) (root : (global : Bool) → ℕ → ℕ
 
     pub arrive_so : (params : List Param) {args : Args} {i : ℕ} {xs : List Operand} {given : List ℕ} (d : ℕ) → ((j : ℕ) → (uses j ≡ Held) ⊎ (uses j ≡ Lent)) →
         KeptAt uses kept i params → are_taken [] params args ≡ true →
-        (t : Taken here limits root uses ms os blocks world args i xs given) (no_text : NoCharacter here.facts args) →
-        FromTarget d (targets_in t no_text ++ gl) →
-        Come params (slots_for (handed_over here.facts args uses i xs)) given (length (targets_in t no_text ++ gl))
-    arrive_so [] d lent keeps typed none_taken no_text h = none_arrive
-    arrive_so [] d lent keeps typed (bare_taken which b more) no_text h = absurd (false≢true typed)
-    arrive_so [] d lent keeps typed (held_taken purpose u more apart) no_text h = absurd (false≢true typed)
-    arrive_so [] d lent keeps typed (lent_taken purpose hooks own a more) no_text h = absurd (false≢true typed)
-    arrive_so [] d lent keeps typed (place_taken f e more) no_text h = absurd (false≢true typed)
-    arrive_so (param ∷ params) d lent keeps typed none_taken no_text h = absurd (false≢true typed)
-    arrive_so (param ∷ params) d lent keeps typed (bare_taken {value = value} {rest = rest} {i = i} {v = v} {xs = xs} which b more) no_text h =
+        (t : Taken here limits root uses ms os blocks world args i xs given) → FromTarget d (targets_in t ++ gl) →
+        Come params (slots_for (handed_over here.facts args uses i xs)) given (length (targets_in t ++ gl))
+    arrive_so [] d lent keeps typed none_taken h = none_arrive
+    arrive_so [] d lent keeps typed (bare_taken which b more) h = absurd (false≢true typed)
+    arrive_so [] d lent keeps typed (held_taken purpose u more apart) h = absurd (false≢true typed)
+    arrive_so [] d lent keeps typed (lent_taken purpose hooks own a more) h = absurd (false≢true typed)
+    arrive_so [] d lent keeps typed (place_taken f e more) h = absurd (false≢true typed)
+    arrive_so (param ∷ params) d lent keeps typed none_taken h = absurd (false≢true typed)
+    arrive_so (param ∷ params) d lent keeps typed (bare_taken {value = value} {rest = rest} {i = i} {v = v} {xs = xs} which b more) h =
         let q = value_parts param params value rest typed in
         bare_comes param params value rest i v xs lent keeps.0 (not_var param.mode q.0) (argument_form param (type_of value) q.1.0) which b
-        (arrive_so params d lent keeps.1 q.1.1 more no_text h)
-    arrive_so (param ∷ params) d lent keeps typed (held_taken {value = value} {rest = rest} {i = i} {v = v} {xs = xs} {given = given} purpose u more apart)
-        no_text h =
+        (arrive_so params d lent keeps.1 q.1.1 more h)
+    arrive_so (param ∷ params) d lent keeps typed (held_taken {value = value} {rest = rest} {i = i} {v = v} {xs = xs} {given = given} purpose u more apart) h =
         let q = value_parts param params value rest typed in
         let same = argument_form param (type_of value) q.1.0 in
         subst (λ c. Come (param ∷ params) (slot_for (standing c (Given v)) ∷ slots_for (handed_over here.facts rest uses (suc i) xs)) (u.given ++ given)
-        (length (targets_in more no_text ++ gl)))
+        (length (targets_in more ++ gl)))
         (sym (and_right (gives_hooked here.facts (type_of value)) (is_lent (uses i) && is_text value)
         (and_left (is_lent (uses i)) (is_text value) (ap is_lent purpose))))
-        (held_arrives (under_as same u) (arrive_so params d lent keeps.1 q.1.1 more no_text h) apart)
-    arrive_so (param ∷ params) d lent keeps typed (lent_taken {value = value} {rest = rest} {i = i} {xs = xs} {given = given} purpose hooks own a more)
-        no_text h =
+        (held_arrives (under_as same u) (arrive_so params d lent keeps.1 q.1.1 more h) apart)
+    arrive_so (param ∷ params) d lent keeps typed (lent_taken {value = value} {rest = rest} {i = i} {xs = xs} {given = given} purpose hooks own a more) h =
         let q = value_parts param params value rest typed in
         let same = argument_form param (type_of value) q.1.0 in
         let l : Location = at_base (Waiting here.level (node_of value).number) in
         let first = target_first d (lent_target here.level ms os world (form_for here.facts (type_of value)) (node_of value).number a)
-        (targets_in more no_text ++ gl) h in
-        let there = subst (λ f. Second gs (record { form = f; at = l }) (length (targets_in more no_text ++ gl))) same first in
+        (targets_in more ++ gl) h in
+        let there = subst (λ f. Second gs (record { form = f; at = l }) (length (targets_in more ++ gl))) same first in
         subst (λ c. Come (param ∷ params) (slot_for (standing c (At l)) ∷ slots_for (handed_over here.facts rest uses (suc i) xs)) given
-        (suc (length (targets_in more no_text ++ gl))))
+        (suc (length (targets_in more ++ gl))))
         (sym (ap₂ (λ m n. m && n) hooks (and_right (is_lent (uses i)) (is_text value) own)))
-        (cell_arrives there.at there.is (arrive_so params (suc d) lent keeps.1 q.1.1 more no_text (targets_next d
-        (lent_target here.level ms os world (form_for here.facts (type_of value)) (node_of value).number a) (targets_in more no_text ++ gl) h)))
-    arrive_so (param ∷ params) d lent keeps typed (place_taken {path = path} {rest = rest} {i = i} {l = l} {xs = xs} f e more) no_text h =
+        (cell_arrives there.at there.is (arrive_so params (suc d) lent keeps.1 q.1.1 more (targets_next d
+        (lent_target here.level ms os world (form_for here.facts (type_of value)) (node_of value).number a) (targets_in more ++ gl) h)))
+    arrive_so (param ∷ params) d lent keeps typed (place_taken {path = path} {rest = rest} {i = i} {l = l} {xs = xs} f e more) h =
         let q = path_parts param params path rest typed in
         let same = argument_form param (type_at path) q.0 in
-        let first = target_first d (place_target here.level ms os world (root_at root path) (path_steps path) (e.1 no_text.0) e.0)
-        (targets_in more no_text.1 ++ gl) h in
-        let there = subst (λ g. Second gs (record { form = g; at = l }) (length (targets_in more no_text.1 ++ gl))) same first in
-        cell_arrives there.at there.is (arrive_so params (suc d) lent keeps.1 q.1 more no_text.1 (targets_next d
-        (place_target here.level ms os world (root_at root path) (path_steps path) (e.1 no_text.0) e.0) (targets_in more no_text.1 ++ gl) h))
+        let first = target_first d (place_target here.level ms os world (root_at root path) (path_steps path) f e)
+        (targets_in more ++ gl) h in
+        let there = subst (λ g. Second gs (record { form = g; at = l }) (length (targets_in more ++ gl))) same first in
+        cell_arrives there.at there.is (arrive_so params (suc d) lent keeps.1 q.1 more (targets_next d
+        (place_target here.level ms os world (root_at root path) (path_steps path) f e) (targets_in more ++ gl) h))
 
     -- ---- the globals
 

@@ -15,7 +15,7 @@ use Rattle.nim_meaning.specs.State.{World}
 use Rattle.nim_meaning.specs.Here.{Here}
 use Rattle.holders.specs.Territory.{Owner}
 use Rattle.holders.specs.Ways.{Differ}
-use Rattle.holders.specs.Asked.{Limits, may_write_at, may_write, AllWrite, NoCharacter, AskedAt, AllAsked}
+use Rattle.holders.specs.Asked.{Limits, may_write_at, may_write, AllWrite, AskedAt, AllAsked}
 use Rattle.holders.specs.Evaluating.{root_at, path_steps, seen_of, Scene}
 use Rattle.holders.specs.Procedures.{BeginsAt, PathsPart, AllPaths, EachPart}
 use Rattle.holders.proofs.FormKinds.{same_type}
@@ -180,22 +180,22 @@ module _ {here : Here} {scope : scopes.Here} {limits : Limits} {root : (global :
 
   parts_in : {uses : (position : ℕ) → Use} {ms : List Owner} {blocks : List ℕ} {now : World} {args : Args} {i : ℕ} {xs : List Operand} {given : List ℕ} →
       AllPaths Root_of args → EachPart args → Distinct (own_numbers here args) →
-      (t : Taken here limits root uses ms os blocks now args i xs given) (no_text : NoCharacter here.facts args) → AllKeysPart (targets_in t no_text)
-  parts_in roots part d none_taken no_text = tt
-  parts_in roots part d (bare_taken {value = value} {rest = rest} which b more) no_text = parts_in roots part (distinct_rest here value rest d) more no_text
-  parts_in roots part d (held_taken {value = value} {rest = rest} purpose u more apart) no_text =
-      parts_in roots part (distinct_rest here value rest d) more no_text
-  parts_in roots part d (lent_taken {value = value} {rest = rest} purpose hooks own a more) no_text = (
+      (t : Taken here limits root uses ms os blocks now args i xs given) → AllKeysPart (targets_in t)
+  parts_in roots part d none_taken = tt
+  parts_in roots part d (bare_taken {value = value} {rest = rest} which b more) = parts_in roots part (distinct_rest here value rest d) more
+  parts_in roots part d (held_taken {value = value} {rest = rest} purpose u more apart) =
+      parts_in roots part (distinct_rest here value rest d) more
+  parts_in roots part d (lent_taken {value = value} {rest = rest} purpose hooks own a more) = (
     all_in (λ k. KeysPart (at_node _) k)
         (λ n m e. distinct_one here value rest hooks d (subst (λ j. Member j (own_numbers here rest)) (sym e) m))
-        (every_path (λ path. Unit {0}) rest (λ path. tt)) more no_text,
-    parts_in roots part (distinct_rest here value rest d) more no_text,
+        (every_path (λ path. Unit {0}) rest (λ path. tt)) more,
+    parts_in roots part (distinct_rest here value rest d) more,
   )
-  parts_in {ms = ms} {now = now} roots part d (place_taken {path = path} {rest = rest} f e more) no_text = (
+  parts_in {ms = ms} {now = now} roots part d (place_taken {path = path} {rest = rest} f e more) = (
     all_in (λ k. KeysPart (at_root (root_at root path) (path_steps path)) k) (λ n m. tt)
         (all_paths_two Root_of (λ other. PathsPart path other) (λ other. root_at root path ≡ root_at root other → Differ (path_steps path) (path_steps other))
-        rest (λ other q apart e. paths_differ path other roots.0 q apart e) roots.1 part.0) more no_text.1,
-    parts_in roots.1 part.1 d more no_text.1,
+        rest (λ other q apart e. paths_differ path other roots.0 q apart e) roots.1 part.0) more,
+    parts_in roots.1 part.1 d more,
   )
 
   -- with the globals
@@ -225,12 +225,12 @@ module _ {here : Here} {scope : scopes.Here} {limits : Limits} {root : (global :
 
     pub all_part : {uses : (position : ℕ) → Use} {ms : List Owner} {blocks : List ℕ} {now : World} {args : Args} {i : ℕ} {xs : List Operand}
         {given : List ℕ} → AllPaths Root_of args → EachPart args → AllPaths (λ path. (g : ℕ) → BeginsAt path true g → named g ≡ true → ⊥) args →
-        Distinct (own_numbers here args) → (t : Taken here limits root uses ms os blocks now args i xs given) (no_text : NoCharacter here.facts args)
+        Distinct (own_numbers here args) → (t : Taken here limits root uses ms os blocks now args i xs given)
         (ps : List Placed)
         (all : AllPlaced (At_global now) ps) → AllPlaced Known ps → Distinct (numbers_in ps) →
-        AllKeysPart (targets_in t no_text ++ global_targets here.level here.facts (root true) ms os now ps all)
-    all_part {ms = ms} {now = now} {args = args} roots part unnamed d t no_text ps all known distinct =
-        part_both (targets_in t no_text) (global_targets here.level here.facts (root true) ms os now ps all) (parts_in roots part d t no_text)
+        AllKeysPart (targets_in t ++ global_targets here.level here.facts (root true) ms os now ps all)
+    all_part {ms = ms} {now = now} {args = args} roots part unnamed d t ps all known distinct =
+        part_both (targets_in t) (global_targets here.level here.facts (root true) ms os now ps all) (parts_in roots part d t)
         (globals_part ms now ps all known distinct)
         (all_in (λ k. AllKeys (λ l. KeysPart k l) (global_targets here.level here.facts (root true) ms os now ps all))
         (λ n m. all_globals here.level here.facts (root true) ms os now (λ l. KeysPart (at_node n) l) ps all (every_place (λ p. Unit {0}) ps (λ p. tt)))
@@ -239,7 +239,7 @@ module _ {here : Here} {scope : scopes.Here} {limits : Limits} {root : (global :
         (global_targets here.level here.facts (root true) ms os now ps all)) args
         (λ path r off. all_globals here.level here.facts (root true) ms os now (λ l. KeysPart (at_root (root_at root path) (path_steps path)) l) ps all
         (all_placed_so Known (λ p. root_at root path ≡ root true p.number → Differ (path_steps path) []) ps (λ p k e. absurd (never path r off p k e)) known))
-        roots unnamed) t no_text)
+        roots unnamed) t)
       where
         never : (path : Path) → Root_of path → ((g : ℕ) → BeginsAt path true g → named g ≡ true → ⊥) → (p : Placed) → Known p →
             root_at root path ≡ root true p.number → ⊥

@@ -11,12 +11,12 @@ use Rattle.nim_meaning.specs.Deeds.{Leaves, changed}
 use Rattle.nim_meaning.specs.Lifted.{ends_at, slot_ends}
 use Rattle.nim_meaning.specs.Meaning.{place_ends}
 use Rattle.nim_meaning.specs.Places.{place_at}
-use Rattle.holders.specs.Owned.{IsBase, at_place, at_node, in_hand, in_row, in_text, in_program, Apart, IsName, a_name, Active, Stays}
+use Rattle.holders.specs.Owned.{IsBase, at_place, at_node, in_hand, in_row, in_text, in_program, whole, At, Apart, IsName, a_name, Active, Stays, Lies}
 use Rattle.holders.specs.Sure.{Sure}
 use Rattle.holders.specs.Becoming.{taken_in, times, none, LosesNone}
 use Rattle.holders.specs.Walks.{Ended}
 use Rattle.holders.specs.Beside.{PartWays, OtherPart, other_base, other_way}
-use Rattle.holders.specs.Territory.{Owner, Cells, no_cells, a_cell, AllOwners, OtherThan, LieApart, ClearOf, Territory, StandsAt, RowAt}
+use Rattle.holders.specs.Territory.{Owner, Cells, no_cells, a_cell, AllOwners, OtherThan, LieApart, ClearOf, Territory, StandsAt, Shape, RowAt}
 use Rattle.holders.specs.Territory.{NoBaseOf, MovesWith}
 use Rattle.holders.specs.Handing.{UnderWay}
 use Rattle.holders.specs.Running.{IsBelow, Region, IsOutside, Passes}
@@ -132,6 +132,10 @@ takes_up {f} {first} {places} {nodes} r node mine ms gs {world} t active =
 
 -- ---- a value ends where it stands
 
+-- no character stands at a base
+at_its_base : {b : Base} {w : Value} {world : World} → Lies world (at_base b) w → At world (at_base b) w
+at_its_base at = record { base = at.base; part = whole; may = at.may }
+
 -- the other cells stay
 pub record EndsAlone (f : Form) (b : Base) (os : List Owner) (old : List ℕ) (world after : World) : Type 0 where
   pub territory : Territory os after
@@ -153,7 +157,7 @@ ends_alone {f} {b} {os} {world} t no_block = by t.blocks t.cells t.distinct t.ot
         sure_weaker (ends_at f (at_base b)) (λ u after. Ended f (at_base b) w bs world after × (taken_in world ≤ taken_in after))
         (λ u after. EndsAlone f b os (bs ++ cs) world after) world
         (sure_grows (ends_at f (at_base b)) (λ u after. Ended f (at_base b) w bs world after) world
-        (ends f (at_base b) w v bs world c.at c.is c.has c.distinct c.apart))
+        (ends f (at_base b) w v bs world (at_its_base c.at) c.is c.has c.distinct c.apart))
         (λ u after e. record {
           territory = record {
             blocks = cs;
@@ -203,9 +207,7 @@ ended_passes {b = b} {world = world} {after = after} r out e = record {
     whole = h.whole;
     base = e.bases l.base h.whole h.base (λ q. out (subst (λ d. IsOutside r d) q below)) far;
     part_there = h.part_there;
-    all = h.all;
     is = h.is;
-    count_is = h.count_is;
   };
   grows = e.grows;
   hand = e.stays.hand;
@@ -328,9 +330,7 @@ returns {gs = gs} {old = old} {world = world} {last = last} r frame e below t ca
         whole = h.whole;
         base = frame_more frame h.base;
         part_there = h.part_there;
-        all = h.all;
         is = h.is;
-        count_is = h.count_is;
       }) (outside l.base (all_below r.level e h.base)) leave far);
       stays = record {
         hand = p.hand;
@@ -359,14 +359,12 @@ returns {gs = gs} {old = old} {world = world} {last = last} r frame e below t ca
       is = s.is;
     }
 
-    row_below : {l : Location} {n : ℕ} → IsBelow r.level l.base → RowAt last l n → RowAt (down_to r.level last) l n
+    row_below : {l : Location} {shape : Shape} → IsBelow r.level l.base → RowAt last l shape → RowAt (down_to r.level last) l shape
     row_below under h = record {
       whole = h.whole;
       base = base_below_level r.level under h.base;
       part_there = h.part_there;
-      all = h.all;
       is = h.is;
-      count_is = h.count_is;
     }
 
     name_back : (l n : ℕ) (to : Location) → IsName world.frames l n to → IsName (down_to r.level last).frames l n to

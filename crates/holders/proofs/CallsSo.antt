@@ -39,7 +39,7 @@ use Rattle.holders.specs.Ways.{targets_of}
 use Rattle.holders.specs.Running.{IsBelow, Region}
 use Rattle.holders.specs.Staging.{Holding, StageWith}
 use Rattle.holders.specs.Called.{CallGives, gives_nothing, gives_value}
-use Rattle.holders.specs.Asked.{Limits, AllWrite, NoCharacter, Asked, AskedAt, AllAsked, FactsOfTheirSort}
+use Rattle.holders.specs.Asked.{Limits, AllWrite, Asked, AskedAt, AllAsked, FactsOfTheirSort}
 use Rattle.holders.specs.Evaluating.{value_nodes, path_nodes, operand_nodes, at_nodes, seen_of, Scene, Leaves}
 use Rattle.holders.specs.Claimed.{NoExit, From, HasValue, ValueSo, AimSo, ReadySo}
 use Rattle.holders.specs.Procedures.{AllPaths, SiteSo, Handing, Returns, form_given, globals_before, CallsGive}
@@ -239,7 +239,6 @@ module _ (program : Program) (named : (proc g : ℕ) → Bool) (kept : List Para
       (b : From H S limits root first places os (node.number ∷ operand_nodes operands) nodes start) (own : List Owner) (xs : List Operand) (s : State)
       (st : StageWith (λ k. times k given) (at_nodes level (node.number ∷ operand_nodes operands)) own os first places later b.territory.blocks start s.world)
       (taken : Taken H limits root (use_of H.modes (Calling proc [])) own os st.runs.territory.blocks s.world operands 0 xs given)
-      (no_text : NoCharacter H.facts operands)
       (came : (k : ℕ) → Member k given → Member k b.territory.blocks ⊎ (taken_in start ≤ k))
       (leaves : Leaves level nodes (waiting_all H.facts H.modes operands (use_of H.modes (Calling proc [])) 0) own later)
       (scene : Scene H S limits root os s.world) where
@@ -264,7 +263,7 @@ module _ (program : Program) (named : (proc g : ℕ) → Bool) (kept : List Para
         (λ p k. scene.place true p.number p.of k.seen k.there) globals_are
 
     abbrev firsts : List (Target level (length own) (own ++ os) s.world)
-    firsts = targets_in taken no_text
+    firsts = targets_in taken
 
     abbrev lasts : List (Target level (length own) (own ++ os) s.world)
     lasts = global_targets level program.facts (root true) own os s.world its_globals of_globals
@@ -279,7 +278,7 @@ module _ (program : Program) (named : (proc g : ℕ) → Bool) (kept : List Para
     works =
         separated (length all_targets) st.runs.territory (chain_at all_targets)
         (chains_part all_targets
-        (all_part {here = H} scene (named proc) roots site.part site.unnamed (own_distinct H operands regular distinct.1) taken no_text its_globals of_globals
+        (all_part {here = H} scene (named proc) roots site.part site.unnamed (own_distinct H operands regular distinct.1) taken its_globals of_globals
         globals_are (globals_distinct (named proc) (before program found.body.first) (map placed program.globals) known.distinct)))
 
     frames_are : length s.world.frames ≡ suc level
@@ -305,7 +304,7 @@ module _ (program : Program) (named : (proc g : ℕ) → Bool) (kept : List Para
       arrives = arrive_so H limits root uses own os st.runs.territory.blocks s.world (kept found.p.params) all_targets works lasts found.p.params 0
           (λ j. lent_or_held (H.modes proc j))
           (kept_at plan.sinks uses (kept found.p.params) 0 found.p.params (known.kept_so found.p.params)
-          (λ j. ap uses (behind_first j) ∙ ap use_for (modes_found plan.sinks program.procs proc found.p j found.there))) found.taken taken no_text
+          (λ j. ap uses (behind_first j) ∙ ap use_for (modes_found plan.sinks program.procs proc found.p j found.there))) found.taken taken
           ((λ i. ap (λ n. owner_at all_targets n) (behind_first i)), behind_first (length all_targets));
       names = globals_so H limits root uses own os st.runs.territory.blocks s.world (kept found.p.params) all_targets works lasts (root true) (named proc)
           (globals_before program named kept found.body)
@@ -368,19 +367,19 @@ module _ (program : Program) (named : (proc g : ℕ) → Bool) (kept : List Para
   simple_came old start k (inr (inr le)) = inr le
 
   at_none : ProgramSo program kept → CallsGive program named kept calls (suc level) → (node : Node) (ty : Option Ty) (proc : ℕ) (operands : Args)
-      (how : Use) → AllWrite limits operands → NoCharacter H.facts operands → Site proc operands → AllAsked H.facts limits Site operands →
+      (how : Use) → AllWrite limits operands → Site proc operands → AllAsked H.facts limits Site operands →
       AllRegular H.facts operands →
       act_fits S ty (Calling proc []) operands ≡ true → are_typed S operands ≡ true → Distinct (node.number ∷ operand_nodes operands) →
       ReadySo H S limits root first places os (use_of H.modes (Calling proc [])) operands 0 →
       ValueSo H S limits root first places os (Apply node ty (Calling proc []) operands) how
-  at_none known gives node ty proc operands how write no_text site asked regular fit typed d ready =
+  at_none known gives node ty proc operands how write site asked regular fit typed d ready =
       let found = call_found program filled in_scope dest proc ty operands fit in
       let roots = roots_so S limits root H.facts Site operands typed asked write in
       taken_so H S limits root first places os node ty (Calling proc []) operands how (λ j. lent_or_held (H.modes proc j)) d regular write ready
       (λ nodes later start world xs ms s b scene leaves st t.
       call_row known gives node ty proc operands how found site roots regular d nodes t.later t.given start b t.own xs s
       (out_as (at_nodes level (node.number ∷ operand_nodes operands)) os first places b.territory.blocks start (λ k. omega (arith, t.out_is k)) t.stage)
-      t.taken no_text
+      t.taken
       (λ k m. simple_came b.territory.blocks start k (st.runs.came k (t.were k m)))
       (t.leaves nodes (waiting_all H.facts H.modes operands (use_of H.modes (Calling proc [])) 0) leaves)
       (scene_passes (node.number ∷ operand_nodes operands) t.stage.runs.passes scene))
@@ -390,7 +389,7 @@ module _ (program : Program) (named : (proc g : ℕ) → Bool) (kept : List Para
   calls_so known gives node ty proc types operands how simple act asked regular fit typed d ready =
       subst (λ ts. act_fits S ty (Calling proc ts) operands ≡ true → ReadySo H S limits root first places os (use_of H.modes (Calling proc ts)) operands 0 →
       ValueSo H S limits root first places os (Apply node ty (Calling proc ts) operands) how) (sym act.0)
-      (λ fit ready. at_none known gives node ty proc operands how act.1.0 act.1.1.0 act.1.1.1 asked regular fit typed d ready) fit ready
+      (λ fit ready. at_none known gives node ty proc operands how act.1.0 act.1.1 asked regular fit typed d ready) fit ready
 
   -- ---- expressions with calls
 

@@ -17,7 +17,7 @@ use Rattle.nim_meaning.specs.Acts.{branch}
 use Rattle.nim_meaning.specs.Deeds.{Deed, with_block, give, costs, sets, ◌>>◌, ◌>>=◌}
 use Rattle.nim_meaning.specs.Lifted.{walk, walk_all, each_part, each_element, copying, bits, fresh, fresh_text, copied_elements}
 use Rattle.holders.specs.Owned.{IsBase, in_row, in_text, whole, block_may, At, From, Reaches, here, in_part, a_character, HasNone, Extent, Full, Constant}
-use Rattle.holders.specs.Owned.{Has}
+use Rattle.holders.specs.Owned.{Has, in_rows}
 use Rattle.holders.specs.Owned.{a_number, no_number, no_text, a_text, gone_text, constant_text, no_sequence, a_sequence, gone_sequence, constant_sequence}
 use Rattle.holders.specs.Owned.{a_row, gone_row, some_parts, gone_parts, of_wrapped, HasEach, none_more, one_more, HasAll, no_parts, a_part, Apart}
 use Rattle.holders.specs.Sure.{Sure}
@@ -151,7 +151,7 @@ module _ (to : Location) (w : Value) (world : World) (at : At world to w) (none 
   is_put : IsBase put_world to.base (put_part w to.path x)
   is_put =
       subst (λ y. IsBase (stored world to.base (put_part y to.path x)) to.base (put_part w to.path x)) (sym (whole_is world to.base w at.base))
-      (stored_there world x at.base at.part at.may)
+      (stored_there world x at.base (in_rows at.part) at.may)
 
   put_elsewhere : (b : Base) (y : Value) → IsBase world b y → (b ≡ to.base → ⊥) → IsBase put_world b y
   put_elsewhere b y h d = stored_elsewhere world (put_part (whole_at world to.base) to.path x) d at.base h

@@ -15,7 +15,7 @@ use Rattle.nim_meaning.specs.Deeds.{Deed, freed, give, costs, unless_gone, sets,
 use Rattle.nim_meaning.specs.Lifted.{walk, walk_all, each_part, each_element, ending, left_vacant}
 use Rattle.holders.specs.Owned.{IsBase, in_row, in_text, HasPart, whole, MayStore, place_may, node_may, hand_may, block_may, At, HasNone, Full, Gaps, Has}
 use Rattle.holders.specs.Owned.{no_text, a_text, gone_text, no_sequence, a_sequence, gone_sequence, a_row, some_parts}
-use Rattle.holders.specs.Owned.{of_wrapped, HasEach, none_more, one_more, HasAll, no_parts, a_part, Apart, Elsewhere}
+use Rattle.holders.specs.Owned.{of_wrapped, HasEach, none_more, one_more, HasAll, no_parts, a_part, Apart, Elsewhere, in_rows}
 use Rattle.holders.specs.Sure.{Sure}
 use Rattle.holders.specs.Holders.{held_by, held_in_contents}
 use Rattle.holders.specs.Walks.{Ended, KeepsOnce}
@@ -59,7 +59,7 @@ module _ (l : Location) (w : Value) (world : World) (at : At world l w) where
   is_vacant : IsBase vacant_world l.base (put_part w l.path Vacant)
   is_vacant =
       subst (λ x. IsBase (stored world l.base (put_part x l.path Vacant)) l.base (put_part w l.path Vacant)) (sym (whole_is world l.base w at.base))
-      (stored_there world Vacant at.base at.part at.may)
+      (stored_there world Vacant at.base (in_rows at.part) at.may)
 
   vacant_elsewhere : (b : Base) (x : Value) → IsBase world b x → (b ≡ l.base → ⊥) → IsBase vacant_world b x
   vacant_elsewhere b x h d = stored_elsewhere world (put_part (whole_at world l.base) l.path Vacant) d at.base h

@@ -11,23 +11,23 @@ use Rattle.nim_meaning.specs.Values.{length_of, item_of, deeper}
 use Rattle.nim_meaning.specs.Values.{nth_part}
 use Rattle.nim_meaning.specs.State.{Frame, World, State, load, frame_in, joined, slot_of}
 use Rattle.nim_meaning.specs.Acts.{branch}
-use Rattle.nim_meaning.specs.Deeds.{carry, stop}
+use Rattle.nim_meaning.specs.Deeds.{carry, stop, unless_gone}
 use Rattle.nim_meaning.specs.Deeds as deeds
-use Rattle.nim_meaning.specs.Places.{root_of, rooted, made, through_slot, to_part, to_item}
+use Rattle.nim_meaning.specs.Places.{has_items, root_of, rooted, made, through_slot, to_one, to_part, to_item}
 use Rattle.nim_meaning.specs.Aims.{Aim, find}
 use Rattle.holders.specs.Owned.{IsBase, at_place, in_program, From, Reaches, here, in_part, a_character as reaches_character, Extent, Full}
-use Rattle.holders.specs.Owned.{Constant, Has, no_text, a_text, constant_text, a_number, no_sequence, a_sequence, constant_sequence, a_row, some_parts, HasEach}
+use Rattle.holders.specs.Owned.{Constant, Has, no_text, a_text, constant_text, no_sequence, a_sequence, constant_sequence, a_row, some_parts, HasEach}
 use Rattle.holders.specs.Owned.{none_more}
 use Rattle.holders.specs.Owned.{one_more, HasAll, no_parts, a_part, IsName, a_name, PartForm, first_part, next_part}
 use Rattle.holders.specs.Sure.{Sure, Answered}
 use Rattle.holders.specs.Territory.{Owner, Territory, Among, first_owner, Owns}
-use Rattle.holders.specs.Finding.{Found, in_cell, a_character, to_be_read, ItemForm, of_sequence, of_array, of_text, PlaceOf, own_place, a_name_of}
+use Rattle.holders.specs.Finding.{Found, in_cell, to_be_read, ItemForm, of_sequence, of_array, of_text, PlaceOf, own_place, a_name_of}
 use Rattle.holders.specs.Finding.{of_constant, AimsAt, at_root, at_constant, at_value, at_waiting, at_field, at_element, steps_of}
 use Rattle.holders.specs.Working.{number, Works}
-use Rattle.holders.specs.Ways.{Step, to_field, to_element, copies, Opens, an_object, an_array, a_block, Way, arrived, a_step, Chain, Goes}
+use Rattle.holders.specs.Ways.{Step, to_field, to_element, copies, Opens, an_object, an_array, a_block, letters, Way, arrived, a_step, Chain, Goes}
 use Rattle.holders.specs.Ways.{goes_nowhere, goes_field, goes_element}
 use Rattle.holders.proofs.Owning.{same_or_later, first_empty, second_empty}
-use Rattle.holders.proofs.Guards.{sure_reads, read_at, IsWhole as HasNoGaps}
+use Rattle.holders.proofs.Guards.{sure_reads, full_items, made_items, read_there, IsWhole as HasNoGaps}
 use Rattle.holders.proofs.Ending.{part_is}
 use Rattle.holders.proofs.Copying.{reaches_deeper}
 use Rattle.holders.proofs.SureRuns.{sure_runs, answered_then}
@@ -35,9 +35,7 @@ use Rattle.holders.proofs.PathLemmas.{part_deeper}
 use Rattle.holders.proofs.Moving.{owns}
 use Rattle.holders.proofs.Separating.{separated}
 use Rattle.holders.proofs.Bases.{loaded}
-use Rattle.holders.specs.Finding.{AtCell, IsWhole}
-use Rattle.nim_meaning.specs.Acts.{Outcome, On, Out}
-use Rattle.arc_base.specs.BigStep.{Res, Got, Over, Going, Errs as Wrong}
+use Rattle.holders.proofs.Letters.{character_has}
 
 -- ---- numbers
 
@@ -82,11 +80,6 @@ not_none e = subst some e tt
     some (k ∷ ks) = Unit {0}
 
 -- ---- characters
-
-pub character_has : {world : World} {x : Extent} (t : List ℕ) (i : ℕ) → i < length t → Has world x plain (nth (characters t) i) []
-character_has [] i less = absurd (omega (arith, less))
-character_has (c ∷ t) zero less = a_number
-character_has (c ∷ t) (suc i) less = character_has t i (omega (arith, less))
 
 character_of : {u : Value} {path : List ℕ} (t : List ℕ) (i : ℕ) → i < length t → Reaches u path → part u path ≡ Fixed t → Reaches u (path ++ i ∷ [])
 character_of t i le here e = subst (λ v. Reaches v (i ∷ [])) (sym e) (reaches_character le)
@@ -167,15 +160,17 @@ module _ {os : List Owner} {world : World} where
           let one = all_nth h none p i (omega arith) in
           to_be_read made (record { base = from.base; there = reaches_deeper i all from.there from.is one.there; is = part_is i m u all from.is }) one.has
 
-  item_inside : {may : Bool} {root : ℕ} {steps : List Step} {g : Form} (m : Location) (z : ℤ) (v : Value) →
+  item_inside : {may : Bool} {root : ℕ} {steps : List Step} {g : Form} (m : Location) (z : ℤ) (v : Value) → has_items v m.base ≡ true →
       ((i : ℕ) → i < length_of v → Found os world may root steps g (item_of v m i)) →
-      Sure (branch (inside z (length_of v)) (deeds.give (item_of v m (unsigned_abs z))) (stop IndexOutOfBounds))
+      Sure (branch (inside z (length_of v)) (to_one v m (unsigned_abs z)) (stop IndexOutOfBounds))
       (λ l after. (after ≡ world) × Found os world may root steps g l) world
-  item_inside {may} {root} {steps} {g} m z v found = by (inside z (length_of v)) refl
+  item_inside {may} {root} {steps} {g} m z v has found = by (inside z (length_of v)) refl
     where
-      by : (b : Bool) → inside z (length_of v) ≡ b → Sure (branch b (deeds.give (item_of v m (unsigned_abs z))) (stop IndexOutOfBounds))
+      by : (b : Bool) → inside z (length_of v) ≡ b → Sure (branch b (to_one v m (unsigned_abs z)) (stop IndexOutOfBounds))
           (λ l after. (after ≡ world) × Found os world may root steps g l) world
-      by true e = (refl, found (unsigned_abs z) (inside_less z (length_of v) e))
+      by true e =
+          subst (λ b. Sure (unless_gone b (deeds.give (item_of v m (unsigned_abs z)))) (λ l after. (after ≡ world) × Found os world may root steps g l) world)
+          (sym has) (refl, found (unsigned_abs z) (inside_less z (length_of v) e))
       by false e = tt
 
   -- in a cell
@@ -197,7 +192,9 @@ module _ {os : List Owner} {world : World} where
           in_cell (record { from = c.from; at = c.at; path = c.path ++ i ∷ []; way = way_further c.way an_array (copies_part n i f (omega (arith, same, le))) })
           (goes_to_element i goes)
       by _ of_text c goes no_text e le = absurd (omega (arith, le))
-      by _ of_text c goes (a_text same there) e le = a_character i c e le
+      by _ of_text c goes (a_text {n = n} same there) e le =
+          in_cell (record { from = c.from; at = c.at; path = c.path ++ i ∷ []; way = way_further c.way (letters e) (copies_part n i plain le) })
+          (goes_to_element i goes)
 
   -- a character of a text
   character_read : {root : ℕ} {steps : List Step} {v u constant : Value} {bs : List ℕ} (m : Location) → m.base ≡ Made constant → From world m u v →
@@ -228,13 +225,13 @@ module _ {os : List Owner} {world : World} where
       Found os world may root steps f m → Sure (to_item m z) (λ l after. (after ≡ world) × Found os world may root (steps ++ to_element ∷ []) g l) world
   item_found {may} {steps = steps} {f = f} {g = g} t m z item (in_cell c goes) =
       let own = chain_owns t c in
-      sure_reads (λ world v. branch (inside z (length_of v)) (deeds.give (item_of v m (unsigned_abs z))) (stop IndexOutOfBounds))
-      (λ l after. (after ≡ world) × Found os world may (number c.at) (steps ++ to_element ∷ []) g l) (read_at own.cell.at own.cell.is) tt own.cell.has
-      (item_inside m z own.value (items_of t m item c goes))
-  item_found t m z item (a_character j c e le) = elim item [ ]
+      sure_reads (λ world v. branch (inside z (length_of v)) (to_one v m (unsigned_abs z)) (stop IndexOutOfBounds))
+      (λ l after. (after ≡ world) × Found os world may (number c.at) (steps ++ to_element ∷ []) g l) (read_there own.cell.at own.cell.is) tt own.cell.has
+      (item_inside m z own.value (full_items m.base own.cell.has) (items_of t m item c goes))
   item_found {root = root} {steps = steps} {f = f} {g = g} t m z item (to_be_read {v = v} made from h) =
-      sure_reads (λ world v. branch (inside z (length_of v)) (deeds.give (item_of v m (unsigned_abs z))) (stop IndexOutOfBounds))
-      (λ l after. (after ≡ world) × Found os world false root (steps ++ to_element ∷ []) g l) from tt h (item_inside m z v (items_read m item made from h refl))
+      sure_reads (λ world v. branch (inside z (length_of v)) (to_one v m (unsigned_abs z)) (stop IndexOutOfBounds))
+      (λ l after. (after ≡ world) × Found os world false root (steps ++ to_element ∷ []) g l) from tt h
+      (item_inside m z v (ap (has_items v) made ∙ made_items v _) (items_read m item made from h refl))
 
 -- ---- all elements of what was found
 
@@ -244,6 +241,7 @@ pub record ItemsThere (os : List Owner) (world : World) (may : Bool) (root : ℕ
   pub extent : Extent
   pub blocks : List ℕ
   pub whole : HasNoGaps extent
+  pub places : has_items value l.base ≡ true
   pub from : From world l stands_in value
   pub has : Has world extent f value blocks
   pub items : (i : ℕ) → i < length_of value → Found os world may root (steps ++ to_element ∷ []) g (item_of value l i)
@@ -258,17 +256,18 @@ items_there {l = l} t item (in_cell c goes) =
       extent = Full;
       blocks = own.mine;
       whole = tt;
-      from = read_at own.cell.at own.cell.is;
+      places = full_items l.base own.cell.has;
+      from = read_there own.cell.at own.cell.is;
       has = own.cell.has;
       items = λ i less. items_of t l item c goes i less;
     }
-items_there t item (a_character j c e le) = elim item [ ]
 items_there {l = l} t item (to_be_read {u = u} {v = v} made from h) = record {
   stands_in = u;
   value = v;
   extent = Constant;
   blocks = [];
   whole = tt;
+  places = ap (has_items v) made ∙ made_items v _;
   from = from;
   has = h;
   items = λ i less. items_read l item made from h refl i less;
@@ -321,99 +320,3 @@ finds {os} s t (at_element {b = may} {root = root} {aim = aim} {z = z} {f = g} {
     (λ m now h. sure_runs (to_item m z) (λ m after. (after ≡ s.world) × Found os s.world may root (steps_of aim ++ to_element ∷ []) f m) now
     (subst (λ w. Sure (to_item m z) (λ m after. (after ≡ s.world) × Found os s.world may root (steps_of aim ++ to_element ∷ []) f m) w) (sym h.0)
     (item_found t m z item h.1)))
-
--- ---- what is found is all of a cell
-
-cell_itself : {os : List Owner} {world : World} {o : Owner} (i : Among os o) → AtCell os world (number i) [] o.form o.at
-cell_itself {o = o} i = record { chain = record { from = o; at = i; path = []; way = arrived }; goes = goes_nowhere; is = refl }
-
-root_cell : {os : List Owner} {may : Bool} {world : World} {level n : ℕ} {f : Form} {root : ℕ} → Territory os world → PlaceOf os world level n f may root →
-    may ≡ true → AtCell os world root [] f (root_of (Standing level n) world)
-root_cell {os} {world = world} {f = f} t (own_place i) e =
-    subst (λ l. AtCell os world (number i) [] f l) (sym (own_root (owns t i).cell.at.base)) (cell_itself i)
-root_cell {os} {world = world} {f = f} t (a_name_of name i) e =
-    subst (λ l. AtCell os world (number i) [] f l) (sym (name_root world name)) (cell_itself i)
-root_cell t (of_constant name made from h) e = absurd (false≢true e)
-
-module _ {os : List Owner} {world : World} where
-  field_cell : {may : Bool} {root : ℕ} {steps : List Step} {fs : Forms} {f : Form} {i : ℕ} (m : Location) → PartForm fs i f →
-      Found os world may root steps (parts fs) m → may ≡ true → AtCell os world root (steps ++ to_field i ∷ []) f (deeper m i)
-  field_cell {i = i} m p (in_cell c g) e = record {
-    chain = record { from = c.from; at = c.at; path = c.path ++ i ∷ []; way = way_further c.way an_object p };
-    goes = goes_to_field i g;
-    is = refl;
-  }
-  field_cell m p (to_be_read made from h) e = absurd (false≢true e)
-
-  items_cell : {steps : List Step} {f g : Form} (t : Territory os world) (m : Location) → ItemForm f g → (f ≡ block → ⊥) →
-      (c : Chain os world (record { form = f; at = m })) → Goes steps c.path → (i : ℕ) → i < length_of (chain_owns t c).value →
-      AtCell os world (number c.at) (steps ++ to_element ∷ []) g (item_of (chain_owns t c).value m i)
-  items_cell {steps} {f} {g} t m item whole c goes i le =
-      by own.value item whole c goes own.cell.has (loaded world m own.stands_in own.cell.at.base ∙ own.cell.is) le
-    where
-      own : Owns os t.blocks (record { form = f; at = m }) world
-      own = chain_owns t c
-
-      by : {f g : Form} (v : Value) {bs : List ℕ} → ItemForm f g → (f ≡ block → ⊥) → (c : Chain os world (record { form = f; at = m })) → Goes steps c.path →
-          Has world Full f v bs → load world m ≡ v → i < length_of v → AtCell os world (number c.at) (steps ++ to_element ∷ []) g (item_of v m i)
-      by _ of_sequence whole c goes no_sequence e le = absurd (omega (arith, le))
-      by _ (of_sequence {f = f}) whole c goes (a_sequence {k = k} {all = all} there each) e le = record {
-        chain = record { from = c.from; at = c.at; path = c.path ++ i ∷ []; way = way_further c.way (a_block e) (copies_part (count all) i f le) };
-        goes = goes_to_element i goes;
-        is = refl;
-      }
-      by _ (of_array {n = n} {f = f}) whole c goes (a_row same each) e le = record {
-        chain = record { from = c.from; at = c.at; path = c.path ++ i ∷ []; way = way_further c.way an_array (copies_part n i f (omega (arith, same, le))) };
-        goes = goes_to_element i goes;
-        is = refl;
-      }
-      by v of_text whole c goes h e le = absurd (whole refl)
-
-  cell_inside : {root : ℕ} {steps : List Step} {g : Form} (m : Location) (z : ℤ) (v : Value) →
-      ((i : ℕ) → i < length_of v → AtCell os world root steps g (item_of v m i)) →
-      Sure (branch (inside z (length_of v)) (deeds.give (item_of v m (unsigned_abs z))) (stop IndexOutOfBounds))
-      (λ l after. AtCell os world root steps g l) world
-  cell_inside {root} {steps} {g} m z v cells = by (inside z (length_of v)) refl
-    where
-      by : (b : Bool) → inside z (length_of v) ≡ b → Sure (branch b (deeds.give (item_of v m (unsigned_abs z))) (stop IndexOutOfBounds))
-          (λ l after. AtCell os world root steps g l) world
-      by true e = cells (unsigned_abs z) (inside_less z (length_of v) e)
-      by false e = tt
-
-  item_cell : {may : Bool} {root : ℕ} {steps : List Step} {f g : Form} (t : Territory os world) (m : Location) (z : ℤ) → ItemForm f g → (f ≡ block → ⊥) →
-      Found os world may root steps f m → may ≡ true → Sure (to_item m z) (λ l after. AtCell os world root (steps ++ to_element ∷ []) g l) world
-  item_cell {steps = steps} {g = g} t m z item whole (in_cell c goes) e =
-      let own = chain_owns t c in
-      sure_reads (λ world v. branch (inside z (length_of v)) (deeds.give (item_of v m (unsigned_abs z))) (stop IndexOutOfBounds))
-      (λ l after. AtCell os world (number c.at) (steps ++ to_element ∷ []) g l) (read_at own.cell.at own.cell.is) tt own.cell.has
-      (cell_inside m z own.value (items_cell t m item whole c goes))
-  item_cell t m z item whole (a_character j c e le) q = elim item [ ]
-  item_cell t m z item whole (to_be_read made from h) e = absurd (false≢true e)
-
-pub finds_cell : {os : List Owner} (s : State) (t : Territory os s.world) {may : Bool} {aim : Aim} {f : Form} {root : ℕ}
-    (a : AimsAt os s.world may root aim f) →
-    may ≡ true → IsWhole aim a → Answered (λ m after. AtCell os s.world root (steps_of aim) f m) (find aim s)
-finds_cell {os} s t (at_root {root = root} {level = level} {n = n} {f = f} place) e whole =
-    sure_runs (rooted (Standing level n)) (λ m after. AtCell os s.world root [] f m) s (root_cell t place e)
-finds_cell s t (at_constant h) e whole = absurd (false≢true e)
-finds_cell s t (at_value h) e whole = absurd (false≢true e)
-finds_cell s t (at_waiting i) e whole = cell_itself i
-finds_cell {os} s t (at_field {b = may} {root = root} {aim = aim} {i = i} {fs = fs} {f = f} from p) e whole =
-    answered_then (find aim) (λ m. carry (to_part m i)) (λ m after. (after ≡ s.world) × Found os s.world may root (steps_of aim) (parts fs) m)
-    (λ m after. AtCell os s.world root (steps_of aim ++ to_field i ∷ []) f m) s (finds s t from)
-    (λ m now h. sure_runs (to_part m i) (λ m after. AtCell os s.world root (steps_of aim ++ to_field i ∷ []) f m) now (field_cell m p h.1 e))
-finds_cell {os} s t (at_element {b = may} {root = root} {aim = aim} {z = z} {f = g} {g = f} from item) e whole =
-    answered_then (find aim) (λ m. carry (to_item m z)) (λ m after. (after ≡ s.world) × Found os s.world may root (steps_of aim) g m)
-    (λ m after. AtCell os s.world root (steps_of aim ++ to_element ∷ []) f m) s (finds s t from)
-    (λ m now h. sure_runs (to_item m z) (λ m after. AtCell os s.world root (steps_of aim ++ to_element ∷ []) f m) now
-    (subst (λ w. Sure (to_item m z) (λ m after. AtCell os s.world root (steps_of aim ++ to_element ∷ []) f m) w) (sym h.0)
-    (item_cell t m z item whole h.1 e)))
-
--- two things of one answer, the second where something holds
-pub answered_with : {A E : Type 0} (P Q : A → World → Type 0) (r : Res State (Outcome A)) → Answered P r → (E → Answered Q r) →
-    Answered (λ x after. P x after × (E → Q x after)) r
-answered_with P Q (Got (On x) s) h g = (h, g)
-answered_with P Q (Got (Out way) s) h g = elim h [ ]
-answered_with P Q (Over status live s) h g = tt
-answered_with P Q (Going s) h g = tt
-answered_with P Q (Wrong s) h g = elim h [ ]

@@ -1,7 +1,6 @@
 -- What the form of a type is, by its kind.
-use Rattle.std.proofs.Common.{◌≡◌, refl, sym, ap, ◌∙◌, true, false, Option, Some, None}
+use Rattle.std.proofs.Common.{◌≡◌, refl, sym, ap, ◌∙◌, true, Option, Some, None}
 use Rattle.std.proofs.lemmas.Bool.{false≢true}
-use Rattle.nim_types.specs.Types as type
 use Rattle.nim_types.specs.Types.{Ty, enum, object, distinct, exception}
 use Rattle.nim_types.specs.Types.{Fact, members, fields, base, below, Facts, fact_of}
 use Rattle.nim_types.specs.Forms.{Form, block, elements, form_of, HasForm}
@@ -10,7 +9,6 @@ use Rattle.nim_types.specs.Forms.{of_object, of_distinct, of_ref, of_exception}
 use Rattle.nim_types.proofs.ForCallers.{the_form, same_sound}
 use Rattle.nim_program.specs.Kinds.{kind_of, kind_if, declared_kind, element_of, is_text, is_sequence, is_held, is_of, same_value}
 use Rattle.nim_meaning.specs.Here.{form_for}
-use Rattle.nim_meaning.specs.LeftOut.{is_text_type}
 use Rattle.lending_laws.specs.Apart.{has_fields}
 use Rattle.holders.specs.Owned.{HasBlocksAlone}
 use Rattle.holders.specs.Asked.{IfSimple}
@@ -43,29 +41,6 @@ text_has {facts} (of_exception {key = key}) e = no_text (fact_of facts (exceptio
 pub text_form : (facts : Facts) (o : Option Ty) → IfSimple facts o → is_text (kind_if facts o) ≡ true → form_for facts o ≡ block
 text_form facts None simple e = absurd (false≢true e)
 text_form facts (Some ty) simple e = the_form simple.has ∙ text_has simple.has e
-
-no_text_kind : (x : Option Fact) → is_text (declared_kind x) ≡ false
-no_text_kind None = refl
-no_text_kind (Some (members names)) = refl
-no_text_kind (Some (fields all own)) = refl
-no_text_kind (Some (base s)) = refl
-no_text_kind (Some (below p)) = refl
-
-pub no_text_at : (facts : Facts) (o : Option Ty) → is_text_type o ≡ false → is_text (kind_if facts o) ≡ false
-no_text_at facts None e = refl
-no_text_at facts (Some type.int) e = refl
-no_text_at facts (Some type.bool) e = refl
-no_text_at facts (Some type.char) e = refl
-no_text_at facts (Some type.text) e = e
-no_text_at facts (Some (type.sequence t)) e = refl
-no_text_at facts (Some (type.array n t)) e = refl
-no_text_at facts (Some (type.tuple names ts)) e = refl
-no_text_at facts (Some (type.parameter n)) e = refl
-no_text_at facts (Some (type.ref name t)) e = refl
-no_text_at facts (Some (type.enum key)) e = no_text_kind (fact_of facts (enum key))
-no_text_at facts (Some (type.object key arguments)) e = no_text_kind (fact_of facts (object key arguments))
-no_text_at facts (Some (type.distinct key)) e = no_text_kind (fact_of facts (distinct key))
-no_text_at facts (Some (type.exception key)) e = no_text_kind (fact_of facts (exception key))
 
 -- ---- a sequence
 

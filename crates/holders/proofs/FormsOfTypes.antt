@@ -16,7 +16,6 @@ use Rattle.nim_meaning.specs.State.{World}
 use Rattle.nim_meaning.specs.Aims.{Aim, PartOf, ItemOf}
 use Rattle.holders.specs.Territory.{Owner}
 use Rattle.holders.specs.Finding.{ItemForm, of_sequence as of_elements, of_array as of_row, of_text as of_characters, AimsAt, at_field, at_element}
-use Rattle.nim_program.specs.Kinds.{is_text}
 
 -- ---- what a type is
 
@@ -124,31 +123,6 @@ element_form {facts} (of_object {key = key} {arguments = arguments} q h) e = no_
 element_form {facts} (of_distinct {key = key} q h) e = no_elements (fact_of facts (distinct key)) e
 element_form of_ref e = not_message e
 element_form {facts} (of_exception {key = key}) e = no_elements (fact_of facts (exception key)) e
-
--- what has elements and is no text
-abbrev is_block : Form → Bool
-is_block block = true
-is_block f = false
-
-no_block : {f : Form} → is_block f ≡ false → f ≡ block → ⊥
-no_block e q = false≢true (sym e ∙ ap is_block q)
-
-pub no_text_form : {facts : Facts} {ty t : Ty} {f : Form} → HasForm facts ty f → element_of (kind_of facts ty) ≡ Some t →
-    is_text (kind_of facts ty) ≡ false → f ≡ block → ⊥
-no_text_form of_int e n = not_message e
-no_text_form of_bool e n = not_message e
-no_text_form of_char e n = not_message e
-no_text_form of_text e n = absurd (false≢true (sym n))
-no_text_form (of_sequence q h) e n = no_block refl
-no_text_form (of_any_sequence q) e n = absurd (false≢true (sym q))
-no_text_form (of_array h) e n = no_block refl
-no_text_form (of_tuple h) e n = not_message e
-no_text_form of_parameter e n = not_message e
-no_text_form {facts} (of_enum {key = key}) e n = no_elements (fact_of facts (enum key)) e
-no_text_form {facts} (of_object {key = key} {arguments = arguments} q h) e n = no_elements (fact_of facts (object key arguments)) e
-no_text_form {facts} (of_distinct {key = key} q h) e n = no_elements (fact_of facts (distinct key)) e
-no_text_form of_ref e n = not_message e
-no_text_form {facts} (of_exception {key = key}) e n = no_elements (fact_of facts (exception key)) e
 
 -- ---- paths
 

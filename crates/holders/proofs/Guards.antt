@@ -5,14 +5,16 @@ use Rattle.std.specs.Prelude.{slice_get}
 use Rattle.std.proofs.lemmas.Bool.{eq-eqb, lt-ltb}
 use Rattle.nim_types.specs.Forms.{Form, Forms}
 use Rattle.nim_meaning.specs.Heap.{Contents, Block, block_at}
-use Rattle.nim_meaning.specs.Values.{Value, Values, Nil, More, Base, InBlock, Location, count, nth, part, is_full, all_full}
+use Rattle.nim_meaning.specs.Values.{Value, Number, Parts, Handle, Fixed, Ref, Resource, Gone, Vacant, Values, Nil, More}
+use Rattle.nim_meaning.specs.Values.{Base, InBlock, Made, Location, count, nth, part, is_full, all_full}
 use Rattle.nim_meaning.specs.State.{World, load, is_so_in, has_as_many, has_item, is_live, is_whole, leads_from, is_there, is_seen, is_full_at}
 use Rattle.nim_meaning.specs.Deeds.{Stores, Frees, Refills, Deed, changed, does, sees, takes, sets, frees, refills, unless_gone}
-use Rattle.nim_meaning.specs.Places.{may_change, changes}
+use Rattle.nim_meaning.specs.Places.{has_items, may_change, changes}
 use Rattle.holders.specs.Owned.{IsBase, at_place, at_node, in_hand, in_row, in_text, in_program, HasPart, whole, row_part, Reaches, here, in_part, a_character}
-use Rattle.holders.specs.Owned.{At, From, Extent, Gaps, Has, HasEach, none_more, one_more, HasAll, no_parts, a_part}
+use Rattle.holders.specs.Owned.{At, From, Extent, Full, Gaps, Has, HasEach, none_more, one_more, HasAll, no_parts, a_part}
 use Rattle.holders.specs.Owned.{a_number, no_number, no_text, a_text, gone_text, constant_text, no_sequence, a_sequence, gone_sequence, constant_sequence}
 use Rattle.holders.specs.Owned.{a_row, gone_row, some_parts, gone_parts, of_wrapped, MayStore, place_may, node_may, hand_may, block_may}
+use Rattle.holders.specs.Owned.{MayBecome, in_rows, a_letter, Lies}
 use Rattle.holders.specs.Sure.{Sure}
 use Rattle.holders.proofs.Bases.{block_position, loaded, same_or_not}
 
@@ -44,8 +46,13 @@ part_is_there {world} l {w} base there = by l.base w l.path base there
     by _ _ _ (in_text {k = k} {t = t} block e f) (a_character {i = i} le) =
         so_there world k block (has_item (i ∷ [])) e (ap (has_item (i ∷ [])) f ∙ lt-ltb i (length t) le)
 
-pub at_is_there : {world : World} {l : Location} {w : Value} → At world l w → is_there world l ≡ true
-at_is_there {l = l} at = part_is_there l at.base (reached at.part)
+-- what stands in a cell, and what may become another value besides
+pub lies_at : {world : World} {l : Location} {w : Value} → At world l w → Lies world l w
+lies_at at = record { base = at.base; part = in_rows at.part; may = at.may }
+
+pub reached_so : {w : Value} {path : List ℕ} → MayBecome w path → Reaches w path
+reached_so (in_rows h) = reached h
+reached_so (a_letter le) = a_character le
 
 -- it has no gaps
 abbrev pub IsWhole : Extent → Type 0
@@ -123,6 +130,27 @@ pub seen_from : {world : World} {l : Location} {u v : Value} {x : Extent} {f : F
 seen_from {world} {l} {u} from fine has =
     ap₂ (λ a b. a && b) (part_is_there l from.base from.there) (ap (is_whole world) (loaded world l u from.base ∙ from.is) ∙ has_whole fine has)
 
+-- a value that is all there, or is the program's own, has places for its elements
+pub full_items : {world : World} {f : Form} {v : Value} {bs : List ℕ} (b : Base) → Has world Full f v bs → has_items v b ≡ true
+full_items b a_number = refl
+full_items b no_text = refl
+full_items b (a_text same there) = refl
+full_items b no_sequence = refl
+full_items b (a_sequence there each) = refl
+full_items b (a_row same each) = refl
+full_items b (some_parts all) = refl
+full_items b (of_wrapped h) = full_items b h
+
+pub made_items : (v constant : Value) → has_items v (Made constant) ≡ true
+made_items (Number z) constant = refl
+made_items (Parts all) constant = refl
+made_items (Handle n k) constant = refl
+made_items (Fixed text) constant = refl
+made_items (Ref object) constant = refl
+made_items (Resource all identity) constant = refl
+made_items (Gone v final) constant = refl
+made_items Vacant constant = refl
+
 -- what is read is there
 pub sure_reads : {A : Type 0} {world : World} {l : Location} {u v : Value} {x : Extent} {f : Form} {bs : List ℕ} (go : World → Value → Deed A)
     (P : A → World → Type 0) → From world l u v → IsWhole x → Has world x f v bs → Sure (go world v) P world → Sure (sees l go) P world
@@ -142,16 +170,24 @@ sure_takes {A} {world} {l} {u} go P from fine has h =
     subst (λ b. Sure (unless_gone b (go world (load world l))) P world) (sym (full_from from fine has))
     (subst (λ v. Sure (go world v) P world) (sym (loaded world l u from.base ∙ from.is)) h)
 
+pub read_there : {world : World} {l : Location} {w v : Value} → Lies world l w → part w l.path ≡ v → From world l w v
+read_there at e = record { base = at.base; there = reached_so at.part; is = e }
+
 pub read_at : {world : World} {l : Location} {w v : Value} → At world l w → part w l.path ≡ v → From world l w v
-read_at at e = record { base = at.base; there = reached at.part; is = e }
+read_at at e = read_there (lies_at at) e
 
 pub sure_sees : {A : Type 0} {world : World} {l : Location} {w v : Value} {x : Extent} {f : Form} {bs : List ℕ} (go : World → Value → Deed A)
     (P : A → World → Type 0) → At world l w → part w l.path ≡ v → IsWhole x → Has world x f v bs → Sure (go world v) P world → Sure (sees l go) P world
 sure_sees go P at e fine has h = sure_reads go P (read_at at e) fine has h
 
+pub sure_puts : {world : World} {l : Location} {w : Value} (v : Value) (P : Unit {0} → World → Type 0) → Lies world l w →
+    P tt (changed (Stores l v) world) → Sure (sets l v) P world
+sure_puts {world} {l} v P at h =
+    subst (λ b. Sure (unless_gone b (does (Stores l v))) P world) (sym (part_is_there l at.base (reached_so at.part))) h
+
 pub sure_sets : {world : World} {l : Location} {w : Value} (v : Value) (P : Unit {0} → World → Type 0) → At world l w →
     P tt (changed (Stores l v) world) → Sure (sets l v) P world
-sure_sets {world} {l} v P at h = subst (λ b. Sure (unless_gone b (does (Stores l v))) P world) (sym (at_is_there at)) h
+sure_sets v P at h = sure_puts v P (lies_at at) h
 
 -- what is no constant may be changed
 may_changed : {b : Base} {path : List ℕ} → MayStore b path → may_change b ≡ true
@@ -160,9 +196,13 @@ may_changed node_may = refl
 may_changed hand_may = refl
 may_changed block_may = refl
 
-pub sure_changes : {world : World} {l : Location} {w : Value} (v : Value) (P : Unit {0} → World → Type 0) → At world l w →
+pub sure_changing : {A : Type 0} {world : World} {l : Location} {w : Value} (deed : Deed A) (P : A → World → Type 0) → Lies world l w →
+    Sure deed P world → Sure (unless_gone (may_change l.base) deed) P world
+sure_changing {world = world} deed P at h = subst (λ b. Sure (unless_gone b deed) P world) (sym (may_changed at.may)) h
+
+pub sure_changes : {world : World} {l : Location} {w : Value} (v : Value) (P : Unit {0} → World → Type 0) → Lies world l w →
     P tt (changed (Stores l v) world) → Sure (changes l v) P world
-sure_changes {world} {l} v P at h = subst (λ b. Sure (unless_gone b (sets l v)) P world) (sym (may_changed at.may)) (sure_sets v P at h)
+sure_changes {l = l} v P at h = sure_changing (sets l v) P at (sure_puts v P at h)
 
 pub sure_frees : {world : World} {k : ℕ} {x : Value} (P : Unit {0} → World → Type 0) → IsBase world (InBlock k) x → P tt (changed (Frees k) world) →
     Sure (frees (Some k)) P world

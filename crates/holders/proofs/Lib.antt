@@ -7,6 +7,7 @@ mod PathLemmas
 mod Ledger
 mod Owning
 mod Guards
+mod Letters
 mod Ending
 mod Copying
 mod Sinking
@@ -25,9 +26,11 @@ mod Leading
 mod Moving
 mod Finding
 mod Opening
+mod Openings
 mod OpenedAt
 mod Unfolding
 mod PlainRows
+mod BareCells
 mod RowsLeft
 mod Working
 mod Separating
@@ -82,7 +85,6 @@ mod NodesRise
 mod BuildingRows
 mod WholeExpressions
 mod WaitingTaken
-mod Trading
 mod ScenesOfBodies
 mod InBodies
 mod CameBack
@@ -116,3 +118,7 @@ mod AskedStmts
 mod GlobalNumbers
 mod SortedFacts
 mod WholeRuns
+mod LookedThrough
+mod OthersStay
+mod NamedPlaces
+mod NamedAlone

@@ -4,7 +4,7 @@ use Rattle.nim_types.specs.Forms.{Form}
 use Rattle.nim_meaning.specs.Values.{Value, part, put_part, Base, InBlock, Location}
 use Rattle.nim_meaning.specs.Marks.{Member, Distinct}
 use Rattle.nim_meaning.specs.State.{World, whole_at}
-use Rattle.holders.specs.Owned.{IsBase, At, HasPart, Cell, Apart}
+use Rattle.holders.specs.Owned.{IsBase, Apart, MayBecome, Lies, Keeps}
 use Rattle.holders.specs.Becoming.{taken_in, Strange, times, BecomesWith}
 use Rattle.holders.specs.Beside.{OtherPart, other_base, other_way}
 use Rattle.holders.specs.Territory.{Owner, Cells, no_cells, a_cell, OtherThan, LieApart, ClearOf, Territory, StandsAt, NoBaseOf, Moves, Among}
@@ -12,11 +12,12 @@ use Rattle.holders.specs.Territory.{first_owner, later_owner, Owns, IsUnder, Lea
 use Rattle.holders.proofs.RowsLeft.{row_left}
 use Rattle.holders.proofs.Bases.{whole_is}
 use Rattle.holders.proofs.Staying.{stays_same, stays_then}
-use Rattle.holders.proofs.PathLemmas.{part_of_put, part_beside, has_beside, ways_back}
+use Rattle.holders.proofs.PathLemmas.{ways_back}
+use Rattle.holders.proofs.Letters.{may_beside, beside_is, may_put, stands_then}
 use Rattle.holders.proofs.Owning.{in_first, in_second, distinct_second, distinct_apart, has_stays}
 use Rattle.holders.proofs.Ending.{same_number}
 use Rattle.holders.proofs.Copying.{base_below, has_below, either_block}
-use Rattle.holders.proofs.Outward.{assoc, middle_distinct, at_next}
+use Rattle.holders.proofs.Outward.{assoc, middle_distinct}
 use Rattle.holders.proofs.Ledger.{times_middle}
 
 -- ---- one location beside another
@@ -25,7 +26,7 @@ pub other_back : {to from : Location} → OtherPart to from → OtherPart from t
 other_back (other_base d) = other_base (λ e. d (sym e))
 other_back (other_way e w) = other_way (sym e) (ways_back w)
 
-pub becomes_beside : {goes : ℕ → ℕ} {f : Form} {to l : Location} {w v : Value} {given old : List ℕ} {world after : World} → At world to w →
+pub becomes_beside : {goes : ℕ → ℕ} {f : Form} {to l : Location} {w v : Value} {given old : List ℕ} {world after : World} → Lies world to w →
     BecomesWith goes f to w given old world after → OtherPart to l → Apart l.base old → StandsAt world l v → StandsAt after l v
 becomes_beside {l = l} at b (other_base d) far s = record {
   whole = s.whole;
@@ -38,19 +39,19 @@ becomes_beside {to = to} {l = l} {w = w} {world = world} {after = after} at b (o
       whole = put_part w to.path b.now;
       at = record {
         base = subst (λ x. IsBase after x (put_part w to.path b.now)) (sym e) b.is;
-        part = has_beside b.now at.part ways (subst (λ x. HasPart x l.path) same s.at.part);
+        part = may_beside b.now at.part ways (subst (λ x. MayBecome x l.path) same s.at.part);
         may = s.at.may;
       };
-      is = part_beside b.now at.part ways ∙ sym (ap (λ x. part x l.path) same) ∙ s.is;
+      is = beside_is b.now at.part ways ∙ sym (ap (λ x. part x l.path) same) ∙ s.is;
     }
 
 record CellThen (g : Form) (l : Location) (v : Value) (bs : List ℕ) (after : World) : Type 0 where
   whole : Value
-  cell : Cell g l whole v bs after
+  cell : Keeps g l whole v bs after
 
-cell_beside : {goes : ℕ → ℕ} {f g : Form} {to l : Location} {w u v : Value} {given old bs : List ℕ} {world after : World} → At world to w →
+cell_beside : {goes : ℕ → ℕ} {f g : Form} {to l : Location} {w u v : Value} {given old bs : List ℕ} {world after : World} → Lies world to w →
     BecomesWith goes f to w given old world after →
-    OtherPart to l → Apart l.base old → Apart to.base bs → ((k : ℕ) → Member k bs → Member k old → ⊥) → Cell g l u v bs world → CellThen g l v bs after
+    OtherPart to l → Apart l.base old → Apart to.base bs → ((k : ℕ) → Member k bs → Member k old → ⊥) → Keeps g l u v bs world → CellThen g l v bs after
 cell_beside {u = u} {old = old} {bs = bs} {world = world} {after = after} at b other far to_far both c =
     let s = becomes_beside at b other far (record { whole = u; at = c.at; is = c.is }) in
     record {
@@ -88,7 +89,7 @@ clear_at bs h first_owner = h.0
 clear_at bs h (later_owner i) = clear_at bs h.1 i
 
 -- the others stay
-cells_beside : {goes : ℕ → ℕ} {f : Form} {to : Location} {w : Value} {given old : List ℕ} {world after : World} → At world to w →
+cells_beside : {goes : ℕ → ℕ} {f : Form} {to : Location} {w : Value} {given old : List ℕ} {world after : World} → Lies world to w →
     BecomesWith goes f to w given old world after → (os : List Owner) (cs : List ℕ) → OtherThan to os → ClearOf old os → Apart to.base cs →
     ((k : ℕ) → Member k cs → Member k old → ⊥) →
     Cells world os cs → Cells after os cs
@@ -126,16 +127,17 @@ record Picked (os : List Owner) (all : List ℕ) (o : Owner) (world : World) : T
   mine : List ℕ
   behind : List ℕ
   is : all ≡ before ++ (mine ++ behind)
-  cell : Cell o.form o.at stands_in value mine world
+  cell : Keeps o.form o.at stands_in value mine world
   put : {goes : ℕ → ℕ} (given : List ℕ) (after : World) → ClearOf given os → (b : BecomesWith goes o.form o.at stands_in given mine world after) →
       Cells after os (before ++ (b.blocks ++ behind))
 
-new_cell : {goes : ℕ → ℕ} {f : Form} {l : Location} {w v : Value} {given mine : List ℕ} {world after : World} → Cell f l w v mine world →
-    (b : BecomesWith goes f l w given mine world after) → Apart l.base given → Cell f l (put_part w l.path b.now) b.now b.blocks after
+new_cell : {goes : ℕ → ℕ} {f : Form} {l : Location} {w v : Value} {given mine : List ℕ} {world after : World} → Keeps f l w v mine world →
+    (b : BecomesWith goes f l w given mine world after) → Apart l.base given →
+    Keeps f l (put_part w l.path b.now) (part (put_part w l.path b.now) l.path) b.blocks after
 new_cell {l = l} {w = w} {given = given} {mine = mine} {world = world} c b far = record {
-  at = at_next c.at b;
-  is = part_of_put b.now c.at.part;
-  has = b.has;
+  at = record { base = b.is; part = may_put b.now c.at.part; may = c.at.may };
+  is = refl;
+  has = stands_then c.at.part c.is c.has b.has;
   distinct = b.distinct;
   apart = λ k q m. by k q (b.came k m);
 }
@@ -149,7 +151,7 @@ new_cell {l = l} {w = w} {given = given} {mine = mine} {world = world} c b far =
     by k q (inr (inr le)) = too_far k (subst (λ b. IsBase world b w) q c.at.base) le
 
 -- the first one
-head_picked : {world : World} {o : Owner} {os : List Owner} {w v : Value} {bs cs : List ℕ} → Cell o.form o.at w v bs world → Cells world os cs →
+head_picked : {world : World} {o : Owner} {os : List Owner} {w v : Value} {bs cs : List ℕ} → Keeps o.form o.at w v bs world → Cells world os cs →
     LieApart (o ∷ os) → ClearOf (bs ++ cs) (o ∷ os) → Distinct (bs ++ cs) → Picked (o ∷ os) (bs ++ cs) o world
 head_picked {world} {o} {os} {w} {v} {bs} {cs} c rest others clear d = record {
   stands_in = w;
@@ -254,7 +256,7 @@ picked_without t i s given after far clear b k m n =
     (λ q. either_block k b.blocks s.behind (Member k b.blocks) q (λ z. z)
     (λ z. absurd (distinct_apart k s.mine s.behind (distinct_second s.before (s.mine ++ s.behind) split) n z)))
 
-pub head_moves : {goes : ℕ → ℕ} {world : World} {o : Owner} {os : List Owner} {w v : Value} {bs cs : List ℕ} → Cell o.form o.at w v bs world →
+pub head_moves : {goes : ℕ → ℕ} {world : World} {o : Owner} {os : List Owner} {w v : Value} {bs cs : List ℕ} → Keeps o.form o.at w v bs world →
     Cells world os cs →
     LieApart (o ∷ os) → ClearOf (bs ++ cs) (o ∷ os) → Distinct (bs ++ cs) → (given : List ℕ) (after : World) → Strange given (bs ++ cs) →
     ClearOf given (o ∷ os) → BecomesWith goes o.form o.at w given bs world after →

@@ -13,7 +13,8 @@ use Rattle.holders.specs.Running.{Region, IsOutside, Runs}
 use Rattle.holders.specs.Ways.{copies, part_owners, Opens}
 use Rattle.holders.proofs.Moving.{clear_less}
 use Rattle.holders.proofs.Working.{all_at, all_with, all_without, works_front, cells_return, front_often}
-use Rattle.holders.proofs.Opening.{opening_of, opened, closed_runs}
+use Rattle.holders.proofs.Openings.{opening_of}
+use Rattle.holders.proofs.Opening.{opened, closed_runs}
 
 pub record OpenAt (inner : Region) (ps os : List Owner) (blocks : List ℕ) (world : World) : Type 0 where
   pub territory : Territory ps world

@@ -1,106 +1,21 @@
 -- A cell is worked on by its parts.
-use Rattle.std.proofs.Common.{◌≡◌, refl, sym, ap, subst, ◌∙◌, arith, ℕ, zero, suc, ◌+◌, ◌<◌, ◌≤◌, inl, inr, ◌⊎◌, List, [], ◌∷◌, ◌++◌, Some}
-use Rattle.std.proofs.lemmas.Option.{none-some, same_Some}
-use Rattle.nim_types.specs.Forms.{Form, elements, row, parts, Forms, no_forms, forms}
-use Rattle.nim_meaning.specs.Values.{Value, Handle, Parts, Values, nth, count, length_of, block_of, part, Base, InBlock, Location, deeper}
+use Rattle.std.proofs.Common.{◌≡◌, sym, ap, subst, arith, ℕ, ◌+◌, ◌<◌, ◌≤◌, inl, inr, ◌⊎◌, List, [], ◌∷◌, ◌++◌}
+use Rattle.nim_meaning.specs.Values.{Value, Base, InBlock, Location}
 use Rattle.nim_meaning.specs.Marks.{Member, Distinct}
 use Rattle.nim_meaning.specs.State.{World}
-use Rattle.holders.specs.Owned.{IsBase, HasPart, whole, MayStore, block_may, Extent, Full, Has, no_sequence, a_sequence, a_row, some_parts}
-use Rattle.holders.specs.Owned.{HasEach, none_more, one_more, HasAll, no_parts, a_part, Apart, Cell}
+use Rattle.holders.specs.Owned.{Apart, Keeps}
 use Rattle.holders.specs.Becoming.{taken_in, Strange, times}
-use Rattle.holders.specs.Beside.{PartWays, here_apart, further_on, OtherPart, other_base, other_way}
-use Rattle.holders.specs.Territory.{Owner, Cells, no_cells, a_cell, AllOwners, OtherThan, LieApart, ClearOf, Territory, RowAt, IsUnder, LeaveRow}
-use Rattle.holders.specs.Territory.{NoBaseOf, Among, StandsAt, MovesWith}
-use Rattle.holders.specs.Working.{Back, Works, without}
+use Rattle.holders.specs.Beside.{OtherPart}
+use Rattle.holders.specs.Territory.{Owner, Cells, a_cell, AllOwners, OtherThan, LieApart, ClearOf, Territory, Shape, RowAt, IsUnder, LeaveRow}
+use Rattle.holders.specs.Territory.{NoBaseOf, StandsAt, MovesWith}
+use Rattle.holders.specs.Working.{Back, Works}
 use Rattle.holders.specs.Running.{Region, IsOutside, Runs}
-use Rattle.holders.specs.Ways.{copies, part_owners, in_block, Opens, an_object, an_array, a_block}
-use Rattle.holders.proofs.Bases.{whole_is, loaded}
-use Rattle.holders.proofs.PathLemmas.{has_deeper}
 use Rattle.holders.proofs.Owning.{in_first, in_second, distinct_first, distinct_second, distinct_apart}
-use Rattle.holders.proofs.Ending.{row_of, part_is, may_deeper, same_number}
-use Rattle.holders.proofs.Copying.{base_below, has_below, distinct_both, either_block}
-use Rattle.holders.proofs.Outward.{assoc}
-use Rattle.holders.proofs.Assigning.{row_has, parts_have}
+use Rattle.holders.proofs.Ending.{row_of}
+use Rattle.holders.proofs.Copying.{has_below, distinct_both, either_block}
 use Rattle.holders.proofs.Moving.{clear_less, cells_clear}
-use Rattle.holders.proofs.Working.{all_both, all_so, apart_both, CellsApart, cells_apart, cells_both, works_front, works_then}
+use Rattle.holders.proofs.Working.{all_both, apart_both, CellsApart, cells_apart, cells_both}
 use Rattle.holders.proofs.Ledger.{times_both}
-
--- ---- the parts of a row
-
-abbrev pub count_forms : Forms → ℕ
-count_forms no_forms = 0
-count_forms (forms f fs) = suc (count_forms fs)
-
-pub all_parts : (P : Owner → Type 0) (l : Location) (fs : Forms) (i : ℕ) → ((f : Form) (j : ℕ) → i ≤ j → P (record { form = f; at = deeper l j })) →
-    AllOwners P (part_owners fs l i)
-all_parts P l no_forms i h = tt
-all_parts P l (forms f fs) i h = (h f i (omega arith), all_parts P l fs (suc i) (λ g j le. h g j (omega (arith, le))))
-
-module _ (world : World) (l : Location) (w : Value) (all : Values) (base : IsBase world l.base w) (e : part w l.path ≡ Parts all) where
-  part_cells : {fs : Forms} {i : ℕ} {bs : List ℕ} → HasPart w l.path → ((i : ℕ) → MayStore l.base (l.path ++ i ∷ [])) → HasAll world Full fs i all bs →
-      Distinct bs → Apart l.base bs → Cells world (part_owners fs l i) bs
-  part_cells there may (no_parts q) d apart = no_cells
-  part_cells there may (a_part {i = i} {bs = bs} {cs = cs} at h more) d apart =
-      a_cell {w = w} {v = nth all i} {bs = bs} {cs = cs} (record {
-        at = record { base = base; part = has_deeper i all there e at; may = may i };
-        is = part_is i l w all e;
-        has = h;
-        distinct = distinct_first bs cs d;
-        apart = λ k q m. apart k q (in_first k bs cs m);
-      }) (part_cells there may more (distinct_second bs cs d) (λ k q m. apart k q (in_second k bs cs m)))
-
-  parts_joined : (fs : Forms) (i : ℕ) (bs : List ℕ) → Cells world (part_owners fs l i) bs → count all ≡ i + count_forms fs → HasAll world Full fs i all bs
-  parts_joined no_forms i _ no_cells q = no_parts (omega (arith, q))
-  parts_joined (forms f fs) i _ (a_cell {w = u} {v = v} {bs = bs} {cs = cs} c rest) q =
-      let same : u ≡ w = sym (whole_is world l.base u c.at.base) ∙ whole_is world l.base w base in
-      a_part {bs = bs} {cs = cs} (omega (arith, q))
-      (subst (λ x. Has world Full f x bs) (sym c.is ∙ ap (λ x. part x (l.path ++ i ∷ [])) same ∙ part_is i l w all e) c.has)
-      (parts_joined fs (suc i) cs rest (omega (arith, q)))
-
-count_copies : (n : ℕ) (f : Form) → count_forms (copies n f) ≡ n
-count_copies zero f = refl
-count_copies (suc n) f = ap suc (count_copies n f)
-
-each_all : {world : World} {x : Extent} {f : Form} {n i : ℕ} {all : Values} {bs : List ℕ} → HasEach world x f n i all bs → i + n ≡ count all →
-    HasAll world x (copies n f) i all bs
-each_all none_more q = no_parts (omega (arith, q))
-each_all (one_more at h more) q = a_part at h (each_all more (omega (arith, q)))
-
-all_each : {world : World} {x : Extent} {f : Form} {all : Values} {bs : List ℕ} (n i : ℕ) → HasAll world x (copies n f) i all bs → HasEach world x f n i all bs
-all_each zero i (no_parts q) = none_more
-all_each (suc n) i (a_part at h more) = one_more at h (all_each n (suc i) more)
-
--- ---- where they lie
-
-ways_longer : {path other : List ℕ} (j : ℕ) → PartWays path other → PartWays (path ++ j ∷ []) other
-ways_longer j (here_apart d) = here_apart d
-ways_longer j (further_on w) = further_on (ways_longer j w)
-
-ways_here : (path : List ℕ) (i j : ℕ) → (j ≡ i → ⊥) → PartWays (path ++ i ∷ []) (path ++ j ∷ [])
-ways_here [] i j d = here_apart d
-ways_here (p ∷ path) i j d = further_on (ways_here path i j d)
-
-pub other_deeper : {l m : Location} (j : ℕ) → OtherPart l m → OtherPart (deeper l j) m
-other_deeper j (other_base d) = other_base d
-other_deeper j (other_way e w) = other_way e (ways_longer j w)
-
-under_deeper : {l m : Location} (j : ℕ) → IsUnder l m → IsUnder (deeper l j) m
-under_deeper {l} {m} j u = record {
-  base = u.base;
-  position = u.position;
-  further = u.further ++ j ∷ [];
-  path = ap (λ p. p ++ j ∷ []) u.path ∙ assoc m.path (u.position ∷ u.further) (j ∷ []);
-}
-
-parts_apart : (l : Location) (fs : Forms) (i : ℕ) → LieApart (part_owners fs l i)
-parts_apart l no_forms i = tt
-parts_apart l (forms f fs) i = (
-  all_parts (λ o. OtherPart o.at (deeper l i)) l fs (suc i) (λ g j le. other_way refl (ways_here l.path j i (λ e. not_same j le e))),
-  parts_apart l fs (suc i),
-)
-  where
-    not_same : (j : ℕ) → suc i ≤ j → i ≡ j → ⊥
-    not_same j le e = omega (arith, le, e)
 
 -- ---- a cell is opened
 
@@ -109,16 +24,16 @@ pub record Closed (o : Owner) (bs ks ds : List ℕ) (after : World) : Type 0 whe
   pub stands_in : Value
   pub value : Value
   pub blocks : List ℕ
-  pub cell : Cell o.form o.at stands_in value blocks after
+  pub cell : Keeps o.form o.at stands_in value blocks after
   pub from : (k : ℕ) → Member k blocks → Member k ds ⊎ (Member k bs × (Member k ks → ⊥))
   pub sum : (k : ℕ) → times k blocks + times k ks ≡ times k bs + times k ds
 
 -- what holds where its parts may have become others, with those of other cells
 pub record Around (o : Owner) (kids os : List Owner) (bs ks cs given ds : List ℕ) (world after : World) : Type 0 where
   pub part_stays : (v : Value) → StandsAt world o.at v → OtherThan o.at (kids ++ os) → Apart o.at.base (given ++ (ks ++ cs)) → StandsAt after o.at v
-  pub row_stays : (n : ℕ) → RowAt world o.at n → LeaveRow o.at (kids ++ os) → Apart o.at.base (given ++ (ks ++ cs)) → RowAt after o.at n
-  pub block_stays : (k n : ℕ) → RowAt world (row_of o.at k) n → LeaveRow (row_of o.at k) (kids ++ os) → Apart (InBlock k) (given ++ (ks ++ cs)) →
-      RowAt after (row_of o.at k) n
+  pub row_stays : (shape : Shape) → RowAt world o.at shape → LeaveRow o.at (kids ++ os) → Apart o.at.base (given ++ (ks ++ cs)) → RowAt after o.at shape
+  pub block_stays : (k : ℕ) (shape : Shape) → RowAt world (row_of o.at k) shape → LeaveRow (row_of o.at k) (kids ++ os) →
+      Apart (InBlock k) (given ++ (ks ++ cs)) → RowAt after (row_of o.at k) shape
   pub other : OtherThan o.at os
   pub clear : ClearOf bs os
   pub both : (k : ℕ) → Member k bs → Member k cs → ⊥
@@ -150,7 +65,7 @@ pub all_two : (P Q R : Owner → Type 0) (os : List Owner) → ((o : Owner) → 
 all_two P Q R [] g a b = tt
 all_two P Q R (o ∷ os) g a b = (g o a.0 b.0, all_two P Q R os g a.1 b.1)
 
-module _ (o : Owner) (os : List Owner) (world : World) (w v : Value) (bs cs : List ℕ) (c : Cell o.form o.at w v bs world) (rest : Cells world os cs)
+module _ (o : Owner) (os : List Owner) (world : World) (w v : Value) (bs cs : List ℕ) (c : Keeps o.form o.at w v bs world) (rest : Cells world os cs)
     (d : Distinct (bs ++ cs)) (others : LieApart (o ∷ os)) (clear : ClearOf (bs ++ cs) (o ∷ os)) (kids : List Owner) (op : Opening o kids bs world) where
   pub kept_within : (k : ℕ) → Member k (op.ks ++ cs) → Member k (bs ++ cs)
   kept_within k m = either_block k op.ks cs (Member k (bs ++ cs)) m (λ q. in_first k bs cs (op.within k q)) (λ q. in_second k bs cs q)
@@ -180,9 +95,9 @@ module _ (o : Owner) (os : List Owner) (world : World) (w v : Value) (bs cs : Li
 
   record StaysThere (given : List ℕ) (after : World) : Type 0 where
     part : (v : Value) → StandsAt world o.at v → OtherThan o.at (kids ++ os) → Apart o.at.base (given ++ (op.ks ++ cs)) → StandsAt after o.at v
-    row : (n : ℕ) → RowAt world o.at n → LeaveRow o.at (kids ++ os) → Apart o.at.base (given ++ (op.ks ++ cs)) → RowAt after o.at n
-    block : (k n : ℕ) → RowAt world (row_of o.at k) n → LeaveRow (row_of o.at k) (kids ++ os) → Apart (InBlock k) (given ++ (op.ks ++ cs)) →
-        RowAt after (row_of o.at k) n
+    row : (shape : Shape) → RowAt world o.at shape → LeaveRow o.at (kids ++ os) → Apart o.at.base (given ++ (op.ks ++ cs)) → RowAt after o.at shape
+    block : (k : ℕ) (shape : Shape) → RowAt world (row_of o.at k) shape → LeaveRow (row_of o.at k) (kids ++ os) →
+        Apart (InBlock k) (given ++ (op.ks ++ cs)) → RowAt after (row_of o.at k) shape
 
   shut : (given : List ℕ) (after : World) → Strange given (bs ++ cs) → ClearOf given (o ∷ os) → (t : Territory (kids ++ os) after) →
       ((k : ℕ) → Member k t.blocks → Member k (op.ks ++ cs) ⊎ (Member k given ⊎ (taken_in world ≤ k))) → StaysThere given after → Shut given after t.blocks
@@ -349,204 +264,3 @@ module _ (o : Owner) (os : List Owner) (world : World) (w v : Value) (bs cs : Li
     clear = λ given far c. all_both (λ p. Apart p.at.base given) kids os (op.given_clear given (λ k m n. far k m (in_first k bs cs n)) c.0) c.1;
     back = λ given after far c m. closed_moves given after far c m;
   }
-
--- ---- a row, or an object
-
-module _ (world : World) (fs : Forms) (f : Form) (l : Location) (w : Value) (all : Values) (bs : List ℕ) (c : Cell f l w (Parts all) bs world)
-    (h : HasAll world Full fs 0 all bs) (same : count all ≡ count_forms fs)
-    (make : (after : World) (vs : Values) (ds : List ℕ) → count vs ≡ count all → HasAll after Full fs 0 vs ds → Has after Full f (Parts vs) ds) where
-  row_closed : (os : List Owner) (cs given ds : List ℕ) (after : World) →
-      Around (record { form = f; at = l }) (part_owners fs l 0) os bs bs cs given ds world after →
-      Closed (record { form = f; at = l }) bs bs ds after
-  row_closed os cs given ds after a =
-      let r = a.row_stays (count all) (record { whole = w; base = c.at.base; part_there = c.at.part; all = all; is = c.is; count_is = refl })
-      (all_both (λ p. OtherPart p.at l ⊎ IsUnder p.at l) (part_owners fs l 0) os
-      (all_parts (λ p. OtherPart p.at l ⊎ IsUnder p.at l) l fs 0
-      (λ g j le. inr (record { base = refl; position = j; further = []; path = refl })))
-      (all_so (λ p. OtherPart p.at l) (λ p. OtherPart p.at l ⊎ IsUnder p.at l) os (λ p q. inl q) a.other)) a.far in
-      record {
-        stands_in = r.whole;
-        value = Parts r.all;
-        blocks = ds;
-        cell = record {
-          at = record { base = r.base; part = r.part_there; may = c.at.may };
-          is = r.is;
-          has = make after r.all ds r.count_is (parts_joined after l r.whole r.all r.base r.is fs 0 ds a.cells (omega (arith, r.count_is, same)));
-          distinct = a.distinct;
-          apart = a.apart;
-        };
-        from = λ k m. inl m;
-        sum = λ k. omega arith;
-      }
-
-  row_opening : Opening (record { form = f; at = l }) (part_owners fs l 0) bs world
-  unfolding row_closed
-  row_opening = record {
-    ks = bs;
-    cells = part_cells world l w all c.at.base c.is c.at.part (λ i. may_deeper i c.at.may) h c.distinct c.apart;
-    distinct = c.distinct;
-    within = λ k m. m;
-    lie = parts_apart l fs 0;
-    other = λ m o far. all_parts (λ p. OtherPart p.at m) l fs 0 (λ g j le. other_deeper j o);
-    leave = λ m o far. all_parts (λ p. OtherPart p.at m ⊎ IsUnder p.at m) l fs 0 (λ g j le. leaves m j o);
-    no_base = λ b off far. all_parts (λ p. b ≡ p.at.base → ⊥) l fs 0 (λ g j le. off);
-    clear = λ cs far both. all_parts (λ p. Apart p.at.base (bs ++ cs)) l fs 0 (λ g j le. far);
-    given_clear = λ given far apart. all_parts (λ p. Apart p.at.base given) l fs 0 (λ g j le. apart);
-    close = row_closed;
-  }
-    where
-      leaves : (m : Location) (j : ℕ) → OtherPart l m ⊎ IsUnder l m → OtherPart (deeper l j) m ⊎ IsUnder (deeper l j) m
-      leaves m j (inl o) = inl (other_deeper j o)
-      leaves m j (inr u) = inr (under_deeper j u)
-
--- ---- a sequence
-
-module _ (world : World) (f : Form) (l : Location) (w : Value) (k : ℕ) (all : Values) (ks : List ℕ)
-    (c : Cell (elements f) l w (Handle (count all) (Some k)) (k ∷ ks) world) (there : IsBase world (InBlock k) (Parts all))
-    (h : HasEach world Full f (count all) 0 all ks) where
-  block_row : Location
-  block_row = row_of l k
-
-  no_own : Apart (InBlock k) ks
-  no_own j q m = c.distinct.0 (subst (λ i. Member i ks) (sym (same_number k j q)) m)
-
-  -- what isn't in the block
-  off_block : (b : Base) → Apart b (k ∷ ks) → b ≡ InBlock k → ⊥
-  off_block b far q = far k q (inl refl)
-
-  sequence_closed : (os : List Owner) (cs given ds : List ℕ) (after : World) →
-      Around (record { form = elements f; at = l }) (part_owners (copies (count all) f) (row_of l k) 0) os (k ∷ ks) ks cs given ds world after →
-      Closed (record { form = elements f; at = l }) (k ∷ ks) ks ds after
-  sequence_closed os cs given ds after a =
-      let kids = part_owners (copies (count all) f) (row_of l k) 0 in
-      let r = a.block_stays k (count all)
-      (record { whole = Parts all; base = there; part_there = whole; all = all; is = refl; count_is = refl })
-      (all_both (λ p. OtherPart p.at (row_of l k) ⊎ IsUnder p.at (row_of l k)) kids os
-      (all_parts (λ p. OtherPart p.at (row_of l k) ⊎ IsUnder p.at (row_of l k)) (row_of l k) (copies (count all) f) 0
-      (λ g j le. inr (record { base = refl; position = j; further = []; path = refl })))
-      (all_so (λ p. Apart p.at.base (k ∷ ks)) (λ p. OtherPart p.at (row_of l k) ⊎ IsUnder p.at (row_of l k)) os
-      (λ p q. inl (other_base (λ e. off_block p.at.base q (sym e)))) a.clear))
-      (λ j e m. either_block j given (ks ++ cs) ⊥ m (λ g. a.strange j g (inl (sym (same_number k j e))))
-      (λ q. either_block j ks cs ⊥ q (λ n. no_own j e n) (λ n. a.both k (inl refl) (subst (λ i. Member i cs) (sym (same_number k j e)) n)))) in
-      let s = a.part_stays (Handle (count all) (Some k)) (record { whole = w; at = c.at; is = c.is })
-      (all_both (λ p. OtherPart p.at l) kids os
-      (all_parts (λ p. OtherPart p.at l) (row_of l k) (copies (count all) f) 0 (λ g j le. other_base (off_block l.base c.apart))) a.other) a.far in
-      let made : Has after Full (elements f) (Handle (count r.all) (Some k)) (k ∷ ds) =
-      a_sequence (base_of r) (all_each (count r.all) 0 (subst (λ n. HasAll after Full (copies n f) 0 r.all ds) (sym r.count_is)
-      (parts_joined after (row_of l k) r.whole r.all r.base r.is (copies (count all) f) 0 ds a.cells
-      (omega (arith, r.count_is, count_copies (count all) f))))) in
-      record {
-        stands_in = s.whole;
-        value = Handle (count all) (Some k);
-        blocks = k ∷ ds;
-        cell = record {
-          at = s.at;
-          is = s.is;
-          has = subst (λ n. Has after Full (elements f) (Handle n (Some k)) (k ∷ ds)) r.count_is made;
-          distinct = (λ m. not_there (a.came k m), a.distinct);
-          apart = λ j e m. apart_all j e m;
-        };
-        from = λ j m. where_from j m;
-        sum = λ j. omega arith;
-      }
-    where
-      base_of : (r : RowAt after (row_of l k) (count all)) → IsBase after (InBlock k) (Parts r.all)
-      base_of r = subst (λ x. IsBase after (InBlock k) x) r.is r.base
-
-      too_far : k < taken_in world → taken_in world ≤ k → ⊥
-      too_far less le = omega (arith, less, le)
-
-      not_there : Member k (ks ++ cs) ⊎ (Member k given ⊎ (taken_in world ≤ k)) → ⊥
-      not_there (inl m) = either_block k ks cs ⊥ m (λ n. c.distinct.0 n) (λ n. a.both k (inl refl) n)
-      not_there (inr (inl g)) = a.strange k g (inl refl)
-      not_there (inr (inr le)) = too_far (base_below there) le
-
-      apart_all : (j : ℕ) → l.base ≡ InBlock j → Member j (k ∷ ds) → ⊥
-      apart_all j e (inl q) = c.apart j e (inl q)
-      apart_all j e (inr m) = a.apart j e m
-
-      where_from : (j : ℕ) → Member j (k ∷ ds) → Member j ds ⊎ (Member j (k ∷ ks) × (Member j ks → ⊥))
-      where_from j (inl q) = inr (inl q, λ m. c.distinct.0 (subst (λ i. Member i ks) q m))
-      where_from j (inr m) = inl m
-
-  sequence_opening : Opening (record { form = elements f; at = l }) (part_owners (copies (count all) f) (row_of l k) 0) (k ∷ ks) world
-  unfolding sequence_closed
-  sequence_opening = record {
-    ks = ks;
-    cells = part_cells world (row_of l k) (Parts all) all there refl whole (λ i. block_may) (each_all h (omega arith)) c.distinct.1 no_own;
-    distinct = c.distinct.1;
-    within = λ j m. inr m;
-    lie = parts_apart (row_of l k) (copies (count all) f) 0;
-    other = λ m o far. all_parts (λ p. OtherPart p.at m) (row_of l k) (copies (count all) f) 0 (λ g j le. other_base (off_block m.base far));
-    leave = λ m o far. all_parts (λ p. OtherPart p.at m ⊎ IsUnder p.at m) (row_of l k) (copies (count all) f) 0
-        (λ g j le. inl (other_base (off_block m.base far)));
-    no_base = λ b off far. all_parts (λ p. b ≡ p.at.base → ⊥) (row_of l k) (copies (count all) f) 0 (λ g j le. off_block b far);
-    clear = λ cs far both. all_parts (λ p. Apart p.at.base (ks ++ cs)) (row_of l k) (copies (count all) f) 0
-        (λ g j le i e m. either_block i ks cs ⊥ m (λ n. no_own i e n) (λ n. both k (inl refl) (subst (λ x. Member x cs) (sym (same_number k i e)) n)));
-    given_clear = λ given far apart. all_parts (λ p. Apart p.at.base given) (row_of l k) (copies (count all) f) 0
-        (λ g j le i e m. far i m (inl (sym (same_number k i e))));
-    close = sequence_closed;
-  }
-
--- ---- each of them
-
-count_all : {world : World} {x : Extent} {fs : Forms} {i : ℕ} {all : Values} {bs : List ℕ} → HasAll world x fs i all bs → count all ≡ i + count_forms fs
-count_all (no_parts q) = omega (arith, q)
-count_all (a_part at h more) = omega (arith, count_all more)
-
-count_all_from : {world : World} {x : Extent} {fs : Forms} {all : Values} {bs : List ℕ} → HasAll world x fs 0 all bs → count all ≡ count_forms fs
-count_all_from h = omega (arith, count_all h)
-
-record HasBlock (world : World) (f : Form) (n k : ℕ) (bs : List ℕ) : Type 0 where
-  all : Values
-  ks : List ℕ
-  length_is : count all ≡ n
-  blocks_are : bs ≡ k ∷ ks
-  there : IsBase world (InBlock k) (Parts all)
-  each : HasEach world Full f (count all) 0 all ks
-
-block_has : {world : World} {f : Form} {n k : ℕ} {v : Value} {bs : List ℕ} → Has world Full (elements f) v bs → v ≡ Handle n (Some k) → HasBlock world f n k bs
-block_has {k = k} no_sequence e = absurd (none-some k (ap block_of e))
-block_has {world} {f} {n} {k} (a_sequence {k = j} {all = all} {bs = ks} there each) e =
-    let same : j ≡ k = same_Some j k (ap block_of e) in
-    record {
-      all = all;
-      ks = ks;
-      length_is = ap length_of e;
-      blocks_are = ap (λ i. i ∷ ks) same;
-      there = subst (λ i. IsBase world (InBlock i) (Parts all)) same there;
-      each = each;
-    }
-
-pub opening_of : {world : World} {o : Owner} {fs : Forms} {from : Location} {w v : Value} {bs : List ℕ} → Opens world o fs from →
-    Cell o.form o.at w v bs world →
-    Opening o (part_owners fs from 0) bs world
-opening_of {world} {w = w} {v = v} {bs = bs} (an_object {fs = fs} {l = l}) c =
-    let h = parts_have c.has in
-    row_opening world fs (parts fs) l w h.all bs (subst (λ x. Cell (parts fs) l w x bs world) h.is c) h.parts (count_all_from h.parts)
-    (λ after vs ds q all. some_parts all)
-opening_of {world} {w = w} {v = v} {bs = bs} (an_array {n = n} {f = f} {l = l}) c =
-    let h = row_has c.has in
-    row_opening world (copies n f) (row n f) l w h.all bs (subst (λ x. Cell (row n f) l w x bs world) h.is c) (each_all h.each (omega (arith, h.same)))
-    (h.same ∙ sym (count_copies n f)) (λ after vs ds q all. a_row (q ∙ h.same) (all_each n 0 all))
-opening_of {world} {w = w} {v = v} {bs = bs} (a_block {n = n} {k = k} {f = f} {l = l} e) c =
-    let is : v ≡ Handle n (Some k) = sym c.is ∙ sym (loaded world l w c.at.base) ∙ e in
-    let h = block_has c.has is in
-    let o : Owner = record { form = elements f; at = l } in
-    subst (λ ds. Opening o (part_owners (copies n f) (in_block l k) 0) ds world) (sym h.blocks_are)
-    (subst (λ m. Opening o (part_owners (copies m f) (in_block l k) 0) (k ∷ h.ks) world) h.length_is
-    (sequence_opening world f l w k h.all h.ks
-    (subst (λ m. Cell (elements f) l w (Handle m (Some k)) (k ∷ h.ks) world) (sym h.length_is)
-    (subst (λ x. Cell (elements f) l w x (k ∷ h.ks) world) is (subst (λ ds. Cell (elements f) l w v ds world) h.blocks_are c))) h.there h.each))
-
--- the parts of one of the cells in its place
-pub works_open : {os : List Owner} {o : Owner} {world : World} {fs : Forms} {from : Location} (t : Territory os world) (i : Among os o) →
-    Opens world o fs from → Works os (part_owners fs from 0 ++ without i) t.blocks world
-works_open {os} {o} {world} {fs} {from} t i opens =
-    let front = works_front i t in
-    works_then front (by front.territory.blocks front.territory.cells front.territory.distinct front.territory.others front.territory.clear)
-  where
-    by : (bs : List ℕ) → Cells world (o ∷ without i) bs → Distinct bs → LieApart (o ∷ without i) → ClearOf bs (o ∷ without i) →
-        Works (o ∷ without i) (part_owners fs from 0 ++ without i) bs world
-    by _ (a_cell {w = w} {v = v} {bs = bs} {cs = cs} c rest) d others clear =
-        works_opened o (without i) world w v bs cs c rest d others clear (part_owners fs from 0) (opening_of opens c)

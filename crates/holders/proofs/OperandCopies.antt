@@ -21,7 +21,7 @@ use Rattle.nim_meaning.specs.Meaning.{eval, aimed, source}
 use Rattle.holders.specs.Sure.{Comes}
 use Rattle.holders.specs.Territory.{Owner}
 use Rattle.holders.specs.Ways.{Step}
-use Rattle.holders.specs.Finding.{Found, in_cell, a_character, to_be_read, AimsAt, steps_of}
+use Rattle.holders.specs.Finding.{Found, in_cell, to_be_read, AimsAt, steps_of}
 use Rattle.holders.proofs.Owning.{in_first}
 use Rattle.holders.proofs.Finding.{finds}
 use Rattle.holders.proofs.Coming.{comes_then, comes_answered}
@@ -33,43 +33,36 @@ use Rattle.holders.proofs.PartsInTurn.{begins_part, stage_wider}
 use Rattle.holders.specs.Claimed.{NoExit, HasAim, AimSo, ReadySo}
 use Rattle.holders.proofs.Claims.{scene_passes}
 use Rattle.holders.proofs.Claims.{aims_first, nothing_more, none_itself}
-use Rattle.holders.proofs.OperandKinds.{aims_second, whole_second, owned_none}
-use Rattle.holders.specs.Finding.{IsWhole}
-use Rattle.holders.specs.Asked.{is_character}
-use Rattle.nim_types.specs.Types.{Facts}
+use Rattle.holders.proofs.OperandKinds.{aims_second, owned_none}
 
 -- ---- a place gets a copy
 
 pub found_read : {os : List Owner} {world : World} {b : Bool} {n : ℕ} {steps : List Step} {f : Form} {l : Location} → Found os world b n steps f l →
     Found os world false n steps f l
 found_read (in_cell c goes) = in_cell c goes
-found_read (a_character j c e le) = a_character j c e le
 found_read (to_be_read made from h) = to_be_read made from h
 
 -- where an aim leads among all cells
-pub record AimHere (facts : Facts) (limits : Limits) (root : (global : Bool) → ℕ → ℕ) (ms os : List Owner) (world : World) (path : Path) (f : Form) (aim : Aim)
+pub record AimHere (limits : Limits) (root : (global : Bool) → ℕ → ℕ) (ms os : List Owner) (world : World) (path : Path) (f : Form) (aim : Aim)
     : Type 0 where
   pub position : ℕ
   pub aims : AimsAt (ms ++ os) world (may_write limits path) position aim f
   pub written : may_write limits path ≡ true → (position ≡ length ms + root_at root path) × (steps_of aim ≡ path_steps path)
-  pub whole : may_write limits path ≡ true → is_character facts path ≡ false → IsWhole aim aims
 
 pub aim_here : {here : Here} {scope : scopes.Here} {limits : Limits} {root : (global : Bool) → ℕ → ℕ} {ms os : List Owner} {world : World} {path : Path}
     {f : Form} {aim : Aim} → Scene here scope limits root os world → Aims here scope limits root ms os path f aim →
-    AimHere here.facts limits root ms os world path f aim
+    AimHere limits root ms os world path f aim
 aim_here {root = root} {ms = ms} {world = world} {path = path} scene (at_place h steps fresh) =
     record {
       position = length ms + root_at root path;
       aims = aims_second ms (h world scene);
-      written = λ e. (refl, steps.0);
-      whole = λ e no_text. whole_second ms (h world scene) (steps.1 no_text world scene);
+      written = λ e. (refl, steps);
     }
 aim_here {ms = ms} {os = os} {world = world} {f = f} {aim = aim} scene (at_made {n = n} unwritten h fresh) =
     record {
       position = n;
       aims = subst (λ b. AimsAt (ms ++ os) world b n aim f) (sym unwritten) (aims_first os (h world));
       written = λ e. absurd (false≢true (sym unwritten ∙ e));
-      whole = λ e no_text. absurd (false≢true (sym unwritten ∙ e));
     }
 
 module _ (here : Here) (scope : scopes.Here) (limits : Limits) (root : (global : Bool) → ℕ → ℕ) (first places : ℕ) (os : List Owner)

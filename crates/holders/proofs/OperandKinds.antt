@@ -3,7 +3,7 @@ use Rattle.std.proofs.Common.{◌≡◌, refl, sym, ap, subst, ◌∙◌, ℕ, �
 use Rattle.std.specs.Prelude.{◌&&◌, not}
 use Rattle.std.proofs.lemmas.Bool.{false≢true, and_left, and_right, and_parts}
 use Rattle.nim_types.specs.Types.{Ty, Facts}
-use Rattle.nim_types.specs.Forms.{Form, plain}
+use Rattle.nim_types.specs.Forms.{Form}
 use Rattle.nim_program.specs.declared.expr.Node.{Node}
 use Rattle.nim_program.specs.declared.operation.Use.{Use}
 use Rattle.nim_program.specs.declared.operation.Use.TheVariants.{Lent, Looked}
@@ -11,7 +11,7 @@ use Rattle.nim_program.specs.declared.program.Mode.{Mode}
 use Rattle.nim_program.specs.Program.{Act, Doing, Building, Giving, Calling, Number as ANumber, Characters, NoObject, PartsOf, ElementsOf}
 use Rattle.nim_program.specs.Program.{Expr, Apply, Read, Early, Choose, Path, Args, NoArg, ByValue, ByPath, type_of, type_at, node_at}
 use Rattle.nim_program.specs.Scopes as scopes
-use Rattle.nim_meaning.specs.Values.{Value, InBlock, Location, Given}
+use Rattle.nim_meaning.specs.Values.{Value, Location, Given}
 use Rattle.nim_meaning.specs.State.{World}
 use Rattle.nim_meaning.specs.Here.{Here, gives_hooked, form_for}
 use Rattle.nim_meaning.specs.Waiting.{Wait, wait_if, waiting, reads_kept}
@@ -19,7 +19,7 @@ use Rattle.nim_meaning.specs.Shapes.{has_node, is_read, is_text, is_lent, is_hel
 use Rattle.nim_meaning.specs.Aims.{Aim, Waits_at, Ready, is_lent_own, operand_for}
 use Rattle.holders.specs.Territory.{Owner}
 use Rattle.holders.specs.Ways.{Step}
-use Rattle.holders.specs.Finding.{Found, in_cell, a_character, to_be_read, AimsAt, at_root, at_constant, at_value, at_waiting, at_field, at_element}
+use Rattle.holders.specs.Finding.{Found, in_cell, to_be_read, AimsAt, at_root, at_constant, at_value, at_waiting, at_field, at_element}
 use Rattle.holders.proofs.Working.{among_second, number_second}
 use Rattle.holders.proofs.Scenes.{place_second}
 use Rattle.holders.specs.Asked.{Limits}
@@ -30,7 +30,6 @@ use Rattle.holders.proofs.Claims.{aims_first, none_is_one}
 use Rattle.holders.specs.Evaluating.{IsBare}
 use Rattle.holders.proofs.Constants.{hooked_is}
 use Rattle.nim_types.specs.Forms.{hooked}
-use Rattle.holders.specs.Finding.{IsWhole}
 
 -- ---- among more cells
 
@@ -48,24 +47,11 @@ aims_second ms {ks} {world} {b} {f = f} (at_waiting {level = level} {node = node
 aims_second ms (at_field a p) = at_field (aims_second ms a) p
 aims_second ms (at_element a p) = at_element (aims_second ms a) p
 
-pub whole_second : (ms : List Owner) {ks : List Owner} {world : World} {b : Bool} {n : ℕ} {aim : Aim} {f : Form} (a : AimsAt ks world b n aim f) →
-    IsWhole aim a → IsWhole aim (aims_second ms a)
-unfolding aims_second
-whole_second ms (at_root p) whole = tt
-whole_second ms (at_constant h) whole = tt
-whole_second ms (at_value h) whole = tt
-whole_second ms (at_waiting i) whole = tt
-whole_second ms (at_field a p) whole = tt
-whole_second ms (at_element a p) whole = whole
-
 pub found_second : (ms : List Owner) {ks : List Owner} {world : World} {b : Bool} {n : ℕ} {steps : List Step} {f : Form} {l : Location} →
     Found ks world b n steps f l → Found (ms ++ ks) world b (length ms + n) steps f l
 found_second ms {ks} {world} {b} {steps = steps} {f = f} {l = l} (in_cell c goes) =
     subst (λ n. Found (ms ++ ks) world b n steps f l) (number_second ms c.at)
     (in_cell (record { from = c.from; at = among_second ms c.at; path = c.path; way = c.way }) goes)
-found_second ms {ks} {world} {b} {steps = steps} {l = l} (a_character {m = m} {k = k} j c e le) =
-    subst (λ n. Found (ms ++ ks) world b n steps plain (record m { base = InBlock k; path = j ∷ [] })) (number_second ms c.at)
-    (a_character j (record { from = c.from; at = among_second ms c.at; path = c.path; way = c.way }) e le)
 found_second ms (to_be_read made from h) = to_be_read made from h
 
 module _ {here : Here} {scope : scopes.Here} {limits : Limits} {root : (global : Bool) → ℕ → ℕ} {os : List Owner} where

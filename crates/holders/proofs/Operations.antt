@@ -1,7 +1,6 @@
 -- The rows of operations on values with blocks, by the forms of their operands.
 use Rattle.std.proofs.Common.{◌≡◌, refl, sym, ap, ap₂, subst, ◌∙◌, ℕ, zero, suc, List, [], ◌∷◌, Bool, true, false, ◌&&◌}
 use Rattle.std.specs.Prelude.{ℤ, pos, int_lt, unsigned_abs, ◌*◌, ◌-◌}
-use Rattle.std.proofs.lemmas.Bool.{false≢true}
 use Rattle.nim_types.specs.Forms.{Form, plain, block, elements, hooked, size}
 use Rattle.nim_program.specs.Traps.{Trap, OutOfRange}
 use Rattle.nim_program.specs.declared.operation.Comparison.{Comparison}
@@ -14,20 +13,21 @@ use Rattle.nim_meaning.specs.Texts.{are_seen}
 use Rattle.nim_meaning.specs.Deeds.{Deed, give, stop, costs, branch, unless_gone, ◌>>◌}
 use Rattle.nim_meaning.specs.Lifted.{assigned, assigns, fresh, fresh_sequence, resized}
 use Rattle.nim_meaning.specs.OwnedRows.{appended, added, shortened, counted, length_to, text_to, sequence_to, compared_texts}
-use Rattle.nim_meaning.specs.Places.{length_at}
+use Rattle.nim_meaning.specs.Places.{length_at, may_change}
 use Rattle.holders.specs.Owned.{Full, Has, a_number, HasEach, HasBlocksAlone}
 use Rattle.holders.specs.Sure.{Sure}
 use Rattle.holders.specs.Becoming.{Strange}
 use Rattle.holders.specs.Territory.{Owner, ClearOf, Territory, Moves}
 use Rattle.holders.specs.Ways.{Step, Chain}
-use Rattle.holders.specs.Finding.{Found, in_cell, a_character, to_be_read, Read}
+use Rattle.holders.specs.Finding.{Found, in_cell, to_be_read, Read}
 use Rattle.holders.specs.Handing.{UnderWay, HandsOut}
 use Rattle.holders.proofs.Sure.{sure_then}
 use Rattle.holders.proofs.Bases.{loaded}
-use Rattle.holders.proofs.Guards.{sure_reads, has_whole, part_is_there}
+use Rattle.holders.proofs.Guards.{sure_reads, sure_changing, has_whole, part_is_there}
 use Rattle.holders.proofs.ElementLists.{each_repeated, count_repeated, blank_has}
 use Rattle.holders.proofs.TextRows.{text_gets_length}
 use Rattle.holders.proofs.Moving.{moves_same}
+use Rattle.holders.proofs.Letters.{hooked_cell}
 use Rattle.holders.proofs.Finding.{chain_owns}
 use Rattle.holders.proofs.PlainRows.{none_clear}
 use Rattle.holders.proofs.Pairs.{copies_over, constant_over}
@@ -137,9 +137,10 @@ module _ {os : List Owner} {world : World} (t : Territory os world) where
   pub text_length : (n : ℕ) {l : Location} → Chain os world (record { form = block; at = l }) → Sure (length_to block n l) (Done []) world
   text_length n {l} c =
       let own = chain_owns t c in
+      let d = hooked_cell refl own.cell in
       let deed = costs (n - length_of (load world l)) (resized n n (Characters (text_to n (text_of world (load world l)))) l) in
       sure_then deed (λ u. give nothing) (λ u after. Moves os [] t.blocks world after) (Done []) world
-      (turns_in_place t c deed (text_gets_length n l own.stands_in own.value own.mine world own.cell.at own.cell.is own.cell.has own.cell.apart))
+      (turns_in_place t c deed (text_gets_length n l own.stands_in own.value own.mine world d.at d.is d.has d.apart))
       (λ u after m. m)
 
   pub sequence_length : {f : Form} → HasBlocksAlone f → (n : ℕ) {l : Location} → Chain os world (record { form = elements f; at = l }) →
@@ -149,6 +150,11 @@ module _ {os : List Owner} {world : World} (t : Territory os world) where
       (λ u after m. m)
 
   -- ---- assignment
+
+  -- what is led to is no constant
+  pub sure_assigns : {f : Form} {l : Location} → Chain os world (record { form = f; at = l }) → (deed : Deed Value) (P : Value → World → Type 0) →
+      Sure deed P world → Sure (unless_gone (may_change l.base) deed) P world
+  sure_assigns c deed P h = sure_changing deed P (chain_owns t c).cell.at h
 
   pub assigns_value : {f : Form} {x : Value} {l : Location} → Chain os world (record { form = f; at = l }) → (under : UnderWay f x os t.blocks world) →
       Sure (assigns f l (Given x)) (Done under.given) world
@@ -161,11 +167,7 @@ module _ {os : List Owner} {world : World} (t : Territory os world) where
       Chain os world (record { form = f; at = to }) → Found os world may root steps f from →
       Sure (assigned f to (Place from)) (λ u after. Moves os [] t.blocks world after) world
   copied_to is_hooked c (in_cell b goes) = copies_over t c b
-  copied_to is_hooked c (a_character j b e le) = absurd (no_hook is_hooked)
-    where
-      no_hook : false ≡ true → ⊥
-      no_hook e = false≢true e
-  copied_to is_hooked c (to_be_read made source h) = constant_over t c made source h
+  copied_to is_hooked c (to_be_read made source h) = constant_over t c is_hooked made source h
 
   pub assigns_copy : {may : Bool} {root : ℕ} {steps : List Step} {f : Form} {to from : Location} → hooked f ≡ true →
       Chain os world (record { form = f; at = to }) →

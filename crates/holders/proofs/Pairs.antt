@@ -1,6 +1,6 @@
 -- Two places: one gets a copy of what stands in the other, or they trade.
-use Rattle.std.proofs.Common.{◌≡◌, refl, sym, ap, subst, ◌∙◌, arith, ℕ, zero, suc, ◌+◌, ◌<◌, ◌≤◌, inl, inr, ◌⊎◌, List, [], ◌∷◌, ◌++◌}
-use Rattle.nim_types.specs.Forms.{Form, plain, reference, block, elements, row, parts, resource, wrapped, Forms, no_forms, forms}
+use Rattle.std.proofs.Common.{◌≡◌, refl, sym, ap, subst, ◌∙◌, arith, ℕ, zero, suc, ◌+◌, ◌<◌, ◌≤◌, inl, inr, ◌⊎◌, Bool, true, false, List, [], ◌∷◌, ◌++◌}
+use Rattle.nim_types.specs.Forms.{Form, plain, reference, block, elements, row, parts, resource, wrapped, Forms, no_forms, forms, hooked}
 use Rattle.nim_meaning.specs.Values.{Value, nothing, part, put_part, Base, InBlock, Made, Location, deeper, At as Place}
 use Rattle.nim_meaning.specs.Marks.{Member, Distinct}
 use Rattle.nim_meaning.specs.State.{World, whole_at, store}
@@ -8,22 +8,22 @@ use Rattle.nim_meaning.specs.Deeds.{takes, give, ◌>>◌}
 use Rattle.nim_meaning.specs.Lifted.{assigned, walk, assigning}
 use Rattle.nim_meaning.specs.Places.{exchanged, changes}
 use Rattle.nim_meaning.specs.Table.{swapped}
-use Rattle.holders.specs.Owned.{IsBase, MayStore, place_may, node_may, hand_may, block_may, At, From, Full, Constant, Has, Apart, Cell, PartForm, first_part}
-use Rattle.holders.specs.Owned.{next_part}
+use Rattle.holders.specs.Owned.{IsBase, MayStore, place_may, node_may, hand_may, block_may, From, Full, Constant, Has, Apart, PartForm, first_part}
+use Rattle.holders.specs.Owned.{next_part, Lies, Keeps}
 use Rattle.holders.specs.Sure.{Sure}
 use Rattle.holders.specs.Becoming.{Becomes, Turns, none}
 use Rattle.holders.specs.Beside.{PartWays, here_apart, further_on, OtherPart, other_base}
-use Rattle.holders.specs.Territory.{Owner, Cells, no_cells, a_cell, LieApart, ClearOf, Territory, StandsAt, Moves}
+use Rattle.holders.specs.Territory.{Owner, Cells, no_cells, a_cell, LieApart, ClearOf, Territory, StandsAt, Moves, Owns}
 use Rattle.holders.specs.Working.{number, Works}
-use Rattle.holders.specs.Ways.{copies, Opens, an_object, an_array, a_block, Way, arrived, a_step, Chain, ChainsPart}
+use Rattle.holders.specs.Ways.{copies, Opens, an_object, an_array, a_block, letters, Way, arrived, a_step, Chain, ChainsPart}
 use Rattle.holders.proofs.Bases.{same_or_not}
 use Rattle.holders.proofs.Sure.{sure_then, sure_weaker}
-use Rattle.holders.proofs.Guards.{sure_takes, sure_changes, read_at}
+use Rattle.holders.proofs.Guards.{sure_takes, sure_changes, read_at, read_there}
 use Rattle.holders.proofs.Staying.{stays_then, stored_stays}
-use Rattle.holders.proofs.PathLemmas.{part_of_put, put_twice, has_put, ways_back}
+use Rattle.holders.proofs.PathLemmas.{ways_back}
+use Rattle.holders.proofs.Letters.{may_put, may_twice, put_there, put_aside, hooked_cell, stands_then}
 use Rattle.holders.proofs.Owning.{in_first, in_second, has_stays, from_full, distinct_apart}
 use Rattle.holders.proofs.Copying.{stored_length, distinct_both, either_block}
-use Rattle.holders.proofs.Sinking.{is_put, put_elsewhere}
 use Rattle.holders.proofs.Assigning.{assigns_self}
 use Rattle.holders.proofs.AssigningBeside.{assigns_beside}
 use Rattle.holders.proofs.Moving.{other_back, becomes_beside, head_moves}
@@ -31,7 +31,8 @@ use Rattle.holders.proofs.RowsLeft.{row_left}
 use Rattle.holders.proofs.Working.{same_owner}
 use Rattle.holders.proofs.Separating.{opens_same, separated}
 use Rattle.holders.proofs.Finding.{chain_owns}
-use Rattle.holders.proofs.PlainRows.{cell_moves, none_clear}
+use Rattle.holders.proofs.PlainRows.{becomes_put, cell_moves, none_clear}
+use Rattle.holders.proofs.BareCells.{bare_copied}
 use Rattle.holders.proofs.Ledger.{stored_live, times_middle}
 
 -- ---- forms are finite
@@ -40,7 +41,7 @@ abbrev mutual
   pub depth : Form → ℕ
   depth plain = 0
   depth reference = 0
-  depth block = 0
+  depth block = 1
   depth (elements f) = suc (depth f)
   depth (row n f) = suc (depth f)
   depth (parts fs) = suc (depth_all fs)
@@ -65,6 +66,7 @@ opens_depth : {world : World} {o : Owner} {fs : Forms} {from : Location} {i : �
 opens_depth an_object p = omega (arith, part_depth p)
 opens_depth (an_array {n = n}) p = omega (arith, ap depth (copies_form n p))
 opens_depth (a_block {n = n} e) p = omega (arith, ap depth (copies_form n p))
+opens_depth (letters {n = n} e) p = omega (arith, ap depth (copies_form n p))
 
 way_depth : {world : World} {o m : Owner} {path : List ℕ} → Way world o m path → depth m.form ≤ depth o.form
 way_depth arrived = omega arith
@@ -147,11 +149,11 @@ pub record Two (m n : Owner) (blocks : List ℕ) (world : World) : Type 0 where
   pub u : Value
   pub v : Value
   pub old : List ℕ
-  pub first : Cell m.form m.at u v old world
+  pub first : Keeps m.form m.at u v old world
   pub w : Value
   pub x : Value
   pub new : List ℕ
-  pub second : Cell n.form n.at w x new world
+  pub second : Keeps n.form n.at w x new world
   pub apart : TwoApart m n old new
   pub is : blocks ≡ old ++ (new ++ [])
   pub others : LieApart (m ∷ n ∷ [])
@@ -184,10 +186,64 @@ two_there {m} {n} {world} t = by t.blocks t.cells t.distinct t.others t.clear
 
 -- ---- a place gets a copy of another one
 
+module _ {os : List Owner} {world : World} {f : Form} {to : Location} (t : Territory os world) (a : Chain os world (record { form = f; at = to })) where
+  abbrev own : Owns os t.blocks (record { form = f; at = to }) world
+  own = chain_owns t a
+
+  abbrev Copied_over : World → Type 0
+  Copied_over after = Moves os [] t.blocks world after
+
+  -- bits alone
+  bare_over : {from : Location} {u v : Value} {bs : List ℕ} → hooked f ≡ false → From world from u v → Has world Constant f v bs →
+      Sure (assigned f to (Place from)) (λ x after. Copied_over after) world
+  bare_over {from} {u} {v} {bs} bare source h =
+      sure_weaker (assigned f to (Place from)) (λ x after. Becomes f to own.stands_in [] own.mine world after) (λ x after. Copied_over after) world
+      (bare_copied f to own.stands_in own.value v own.mine bs bare from u world own.cell source h) (λ x after b. cell_moves own b)
+
+  itself_over : hooked f ≡ true → Sure (assigned f to (Place to)) (λ x after. Copied_over after) world
+  itself_over hooks =
+      let c = hooked_cell hooks own.cell in
+      sure_weaker (walk assigning f to to) (λ x after. Turns none none f to own.stands_in [] own.mine world after) (λ x after. Copied_over after) world
+      (assigns_self f to own.stands_in own.value own.mine world c.at c.is c.has c.distinct c.apart) (λ x after s. cell_moves own s.0)
+
+  -- of a constant
+  pub constant_over : {from : Location} {u v constant : Value} → hooked f ≡ true → from.base ≡ Made constant → From world from u v → Has world Constant f v [] →
+      Sure (assigned f to (Place from)) (λ x after. Copied_over after) world
+  constant_over {from} {u} {v} hooks made source h =
+      let c = hooked_cell hooks own.cell in
+      sure_weaker (walk assigning f to from) (λ x after. Turns none none f to own.stands_in [] own.mine world after) (λ x after. Copied_over after) world
+      (assigns_beside f to from own.stands_in u own.value v own.mine [] world c.at c.is c.has c.distinct c.apart source h (record {
+        ways = other_base (λ e. not_made to.base to.path c.at.may (sym e ∙ made));
+        both = λ k m n. elim n [ ];
+        to_bs = λ k e m. elim m [ ];
+        from_old = λ k e m. no_block k (sym made ∙ e);
+      }))
+      (λ x after s. cell_moves own s.0)
+    where
+      not_made : (b : Base) (path : List ℕ) {w : Value} → MayStore b path → b ≡ Made w → ⊥
+      not_made b path may e = by may (subst is_made (sym e) tt)
+        where
+          is_made : Base → Type 0
+          is_made (Made w) = Unit {0}
+          is_made b = ⊥
+
+          by : {b : Base} {path : List ℕ} → MayStore b path → is_made b → ⊥
+          by place_may h = h
+          by node_may h = h
+          by hand_may h = h
+          by block_may h = h
+
+      no_block : {w : Value} (k : ℕ) → Made w ≡ InBlock k → ⊥
+      no_block k e = subst is_made e tt
+        where
+          is_made : Base → Type 0
+          is_made (Made w) = Unit {0}
+          is_made b = ⊥
+
 pub copies_over : {os : List Owner} {world : World} {f : Form} {to from : Location} (t : Territory os world)
     (a : Chain os world (record { form = f; at = to })) (b : Chain os world (record { form = f; at = from })) →
     Sure (assigned f to (Place from)) (λ x after. Moves os [] t.blocks world after) world
-copies_over {os} {world} {f} {to} {from} t a b = by (chains_compared a b refl)
+copies_over {os} {world} {f} {to} {from} t a b = by (hooked f) refl
   where
     here : Owner
     here = record { form = f; at = to }
@@ -195,104 +251,52 @@ copies_over {os} {world} {f} {to} {from} t a b = by (chains_compared a b refl)
     there : Owner
     there = record { form = f; at = from }
 
-    itself : Sure (assigned f to (Place to)) (λ x after. Moves os [] t.blocks world after) world
-    itself =
-        let own = chain_owns t a in
-        let c = own.cell in
-        sure_weaker (walk assigning f to to) (λ x after. Turns none none f to own.stands_in [] own.mine world after)
-        (λ x after. Moves os [] t.blocks world after)
-        world (assigns_self f to own.stands_in own.value own.mine world c.at c.is c.has c.distinct c.apart) (λ x after s. cell_moves own s.0)
-
-    beside : (works : Works os (here ∷ there ∷ []) t.blocks world) → Two here there works.territory.blocks world →
+    beside : hooked f ≡ true → (works : Works os (here ∷ there ∷ []) t.blocks world) → Two here there works.territory.blocks world →
         Sure (assigned f to (Place from)) (λ x after. Moves os [] t.blocks world after) world
-    beside works two =
-        let c = two.first in
-        let d = two.second in
+    beside hooks works two =
+        let c = hooked_cell hooks two.first in
+        let d = hooked_cell hooks two.second in
         sure_weaker (walk assigning f to from) (λ x after. Turns none none f to two.u [] two.old world after)
         (λ x after. Moves os [] t.blocks world after) world
         (assigns_beside f to from two.u two.w two.v two.x two.old two.new world c.at c.is c.has c.distinct c.apart (read_at d.at d.is) (from_full d.has)
         (record { ways = other_back two.apart.ways; both = two.apart.both; to_bs = two.apart.m_new; from_old = two.apart.n_old }))
         (λ x after s. (works.back [] after (λ k m n. elim m [ ]) (none_clear os) (two.moves after s.0)).moves)
 
-    by : (here ≡ there) ⊎ ChainsPart a b → Sure (assigned f to (Place from)) (λ x after. Moves os [] t.blocks world after) world
-    by (inl e) = subst (λ (l : Location). Sure (assigned f to (Place l)) (λ x after. Moves os [] t.blocks world after) world)
-        (ap (λ (o : Owner). o.at) e) itself
-    by (inr part) =
+    compared : hooked f ≡ true → (here ≡ there) ⊎ ChainsPart a b → Sure (assigned f to (Place from)) (λ x after. Moves os [] t.blocks world after) world
+    compared hooks (inl e) = subst (λ (l : Location). Sure (assigned f to (Place l)) (λ x after. Moves os [] t.blocks world after) world)
+        (ap (λ (o : Owner). o.at) e) (itself_over t a hooks)
+    compared hooks (inr part) =
         let works = two_cells t b a (λ e. ways_back (part (sym e))) in
-        beside works (two_there works.territory)
+        beside hooks works (two_there works.territory)
 
--- of a constant
-pub constant_over : {os : List Owner} {world : World} {f : Form} {to from : Location} {u v constant : Value} (t : Territory os world)
-    (a : Chain os world (record { form = f; at = to })) → from.base ≡ Made constant → From world from u v → Has world Constant f v [] →
-    Sure (assigned f to (Place from)) (λ x after. Moves os [] t.blocks world after) world
-constant_over {os} {world} {f} {to} {from} {u} {v} t a made source h =
-    let own = chain_owns t a in
-    let c = own.cell in
-    sure_weaker (walk assigning f to from) (λ x after. Turns none none f to own.stands_in [] own.mine world after) (λ x after. Moves os [] t.blocks world after)
-    world
-    (assigns_beside f to from own.stands_in u own.value v own.mine [] world c.at c.is c.has c.distinct c.apart source h (record {
-      ways = other_base (λ e. not_made to.base to.path c.at.may (sym e ∙ made));
-      both = λ k m n. elim n [ ];
-      to_bs = λ k e m. elim m [ ];
-      from_old = λ k e m. no_block k (sym made ∙ e);
-    }))
-    (λ x after s. cell_moves own s.0)
-  where
-    not_made : (b : Base) (path : List ℕ) {w : Value} → MayStore b path → b ≡ Made w → ⊥
-    not_made b path may e = by may (subst is_made (sym e) tt)
-      where
-        is_made : Base → Type 0
-        is_made (Made w) = Unit {0}
-        is_made b = ⊥
-
-        by : {b : Base} {path : List ℕ} → MayStore b path → is_made b → ⊥
-        by place_may h = h
-        by node_may h = h
-        by hand_may h = h
-        by block_may h = h
-
-    no_block : {w : Value} (k : ℕ) → Made w ≡ InBlock k → ⊥
-    no_block k e = subst is_made e tt
-      where
-        is_made : Base → Type 0
-        is_made (Made w) = Unit {0}
-        is_made b = ⊥
+    by : (c : Bool) → hooked f ≡ c → Sure (assigned f to (Place from)) (λ x after. Moves os [] t.blocks world after) world
+    by false e =
+        let source = chain_owns t b in
+        bare_over t a e (read_there source.cell.at source.cell.is) (from_full source.cell.has)
+    by true e = compared e (chains_compared a b refl)
 
 -- ---- two places trade
 
--- another value is put in a place
-pub becomes_put : (f : Form) (l : Location) (w x : Value) (new : List ℕ) (world : World) → At world l w → Has world Full f x new → Distinct new →
-    Apart l.base new → Becomes f l w new [] world (store world l x)
-becomes_put f l w x new world at h d apart = record {
-  now = x;
-  blocks = new;
-  has = has_stays world (store world l x) (λ k y m is. put_elsewhere l w world at x (InBlock k) y is (λ q. apart k (sym q) m)) h;
-  distinct = d;
-  came = λ k m. inr (inl m);
-  grows = omega (arith, stored_length world l.base (put_part (whole_at world l.base) l.path x));
-  loses = λ k. omega (arith, stored_live world k l.base (put_part (whole_at world l.base) l.path x));
-  is = is_put l w world at x;
-  elsewhere = λ b y is q far. put_elsewhere l w world at x b y is q;
-  stays = stored_stays world (put_part (whole_at world l.base) l.path x) at.base;
-}
-
--- the same value is put there
-module _ (f : Form) (l : Location) (w v : Value) (old : List ℕ) (world : World) (c : Cell f l w v old world) where
+-- the value that stands there is put there once more, as it stands then
+module _ (f : Form) (l : Location) (w v : Value) (old : List ℕ) (world : World) (c : Keeps f l w v old world) where
   abbrev once_put : World
   once_put = store world l v
 
-  at_once : At once_put l (put_part w l.path v)
-  at_once = record { base = is_put l w world c.at v; part = has_put v c.at.part; may = c.at.may }
+  stay_once : {g : Form} {y : Value} → Has world Full g y old → Has once_put Full g y old
+  stay_once h = has_stays world once_put (λ k y m is. put_aside l w world c.at v (InBlock k) y is (λ q. c.apart k (sym q) m)) h
 
-  has_once : Has once_put Full f v old
-  has_once = has_stays world once_put (λ k y m is. put_elsewhere l w world c.at v (InBlock k) y is (λ q. c.apart k (sym q) m)) c.has
+  at_once : Lies once_put l (put_part w l.path v)
+  at_once = record { base = put_there l w world c.at v; part = may_put v c.at.part; may = c.at.may }
+
+  has_once : Has once_put Full f (part (put_part w l.path v) l.path) old
+  has_once = stands_then c.at.part c.is c.has (stay_once c.has)
 
   put_again : Becomes f l w [] old world (store once_put l v)
   put_again = record {
     now = v;
     blocks = old;
-    has = has_stays once_put (store once_put l v) (λ k y m is. put_elsewhere l (put_part w l.path v) once_put at_once v (InBlock k) y is
-        (λ q. c.apart k (sym q) m)) has_once;
+    has = has_stays once_put (store once_put l v) (λ k y m is. put_aside l (put_part w l.path v) once_put at_once v (InBlock k) y is
+        (λ q. c.apart k (sym q) m)) (stay_once c.has);
     distinct = c.distinct;
     came = λ k m. inl m;
     grows = omega (
@@ -305,8 +309,8 @@ module _ (f : Form) (l : Location) (w v : Value) (old : List ℕ) (world : World
       stored_live world k l.base (put_part (whole_at world l.base) l.path v),
       stored_live once_put k l.base (put_part (whole_at once_put l.base) l.path v),
     );
-    is = subst (λ y. IsBase (store once_put l v) l.base y) (put_twice v v c.at.part) (is_put l (put_part w l.path v) once_put at_once v);
-    elsewhere = λ b y is q far. put_elsewhere l (put_part w l.path v) once_put at_once v b y (put_elsewhere l w world c.at v b y is q) q;
+    is = subst (λ y. IsBase (store once_put l v) l.base y) (may_twice v v c.at.part) (put_there l (put_part w l.path v) once_put at_once v);
+    elsewhere = λ b y is q far. put_aside l (put_part w l.path v) once_put at_once v b y (put_aside l w world c.at v b y is q) q;
     stays = stays_then (stored_stays world (put_part (whole_at world l.base) l.path v) c.at.base)
         (stored_stays once_put (put_part (whole_at once_put l.base) l.path v) at_once.base);
   }
@@ -315,25 +319,26 @@ module _ (f : Form) (l : Location) (w v : Value) (old : List ℕ) (world : World
   swaps_itself =
       let Q : Value → World → Type 0 = λ x after. Becomes f l w [] old world after in
       let R : Value → World → Type 0 = λ x after. (x ≡ v) × (after ≡ once_put) in
+      let again : Value = part (put_part w l.path v) l.path in
       sure_then (takes l (λ world v. exchanged l v)) (λ v. exchanged l v >> give nothing) R Q world
-      (sure_takes (λ world v. exchanged l v) R (read_at c.at c.is) tt c.has
-      (sure_takes (λ world old. changes l v >> give old) R (read_at c.at c.is) tt c.has
+      (sure_takes (λ world v. exchanged l v) R (read_there c.at c.is) tt c.has
+      (sure_takes (λ world old. changes l v >> give old) R (read_there c.at c.is) tt c.has
       (sure_then (changes l v) (λ u. give v) (λ u after. after ≡ once_put) R world (sure_changes v (λ u after. after ≡ once_put) c.at refl)
       (λ u after is. (refl, is)))))
       (λ x after r. subst (λ y. Sure (exchanged l y >> give nothing) Q after) (sym r.0) (subst (λ m. Sure (exchanged l v >> give nothing) Q m) (sym r.1)
       (sure_then (exchanged l v) (λ u. give nothing) (λ y last. last ≡ store once_put l v) Q once_put
-      (sure_takes (λ world old. changes l v >> give old) (λ y last. last ≡ store once_put l v) (read_at at_once (part_of_put v c.at.part)) tt has_once
-      (sure_then (changes l v) (λ u. give v) (λ u last. last ≡ store once_put l v) (λ y last. last ≡ store once_put l v) once_put
+      (sure_takes (λ world old. changes l v >> give old) (λ y last. last ≡ store once_put l v) (read_there at_once refl) tt has_once
+      (sure_then (changes l v) (λ u. give again) (λ u last. last ≡ store once_put l v) (λ y last. last ≡ store once_put l v) once_put
       (sure_changes v (λ u last. last ≡ store once_put l v) at_once refl) (λ u last is. is)))
       (λ y last is. subst (λ m. Becomes f l w [] old world m) (sym is) put_again))))
 
 -- two that lie apart
 module _ (f : Form) (l r : Location) (blocks : List ℕ) (world : World)
     (two : Two (record { form = f; at = l }) (record { form = f; at = r }) blocks world) where
-  abbrev c : Cell f l two.u two.v two.old world
+  abbrev c : Keeps f l two.u two.v two.old world
   c = two.first
 
-  abbrev d : Cell f r two.w two.x two.new world
+  abbrev d : Keeps f r two.w two.x two.new world
   d = two.second
 
   abbrev middle : World
@@ -349,7 +354,7 @@ module _ (f : Form) (l r : Location) (blocks : List ℕ) (world : World)
   left_there = becomes_beside d.at first_put two.apart.ways (nothing_apart l.base) (record { whole = two.u; at = c.at; is = c.is })
 
   stay_first : {g : Form} {y : Value} {bs : List ℕ} → Apart r.base bs → Has world Full g y bs → Has middle Full g y bs
-  stay_first far h = has_stays world middle (λ k y m is. put_elsewhere r two.w world d.at two.v (InBlock k) y is (λ q. far k (sym q) m)) h
+  stay_first far h = has_stays world middle (λ k y m is. put_aside r two.w world d.at two.v (InBlock k) y is (λ q. far k (sym q) m)) h
 
   abbrev last : World
   last = store middle l two.x
@@ -358,15 +363,28 @@ module _ (f : Form) (l r : Location) (blocks : List ℕ) (world : World)
   second_put = becomes_put f l left_there.whole two.x two.new middle left_there.at (stay_first d.apart d.has) d.distinct two.apart.m_new
 
   stay_second : {g : Form} {y : Value} {bs : List ℕ} → Apart l.base bs → Has middle Full g y bs → Has last Full g y bs
-  stay_second far h = has_stays middle last (λ k y m is. put_elsewhere l left_there.whole middle left_there.at two.x (InBlock k) y is
+  stay_second far h = has_stays middle last (λ k y m is. put_aside l left_there.whole middle left_there.at two.x (InBlock k) y is
       (λ q. far k (sym q) m)) h
 
-  right_there : StandsAt last r two.v
+  -- as they stand then
+  abbrev right_value : Value
+  right_value = part (put_part two.w r.path two.v) r.path
+
+  abbrev left_value : Value
+  left_value = part (put_part left_there.whole l.path two.x) l.path
+
+  right_there : StandsAt last r right_value
   right_there = becomes_beside left_there.at second_put (other_back two.apart.ways) (nothing_apart r.base) (record {
     whole = put_part two.w r.path two.v;
-    at = record { base = is_put r two.w world d.at two.v; part = has_put two.v d.at.part; may = d.at.may };
-    is = part_of_put two.v d.at.part;
+    at = record { base = put_there r two.w world d.at two.v; part = may_put two.v d.at.part; may = d.at.may };
+    is = refl;
   })
+
+  right_has : Has last Full f right_value two.old
+  right_has = stay_second c.apart (stands_then d.at.part d.is (stay_first d.apart d.has) (stay_first two.apart.n_old c.has))
+
+  left_has : Has last Full f left_value two.new
+  left_has = stands_then left_there.at.part left_there.is (stay_first two.apart.n_old c.has) (stay_second two.apart.m_new (stay_first d.apart d.has))
 
   -- the same blocks, in another order
   came_over : (k : ℕ) → Member k (two.new ++ (two.old ++ [])) → Member k (two.old ++ (two.new ++ []))
@@ -381,16 +399,16 @@ module _ (f : Form) (l r : Location) (blocks : List ℕ) (world : World)
   traded = subst (λ bs. Moves (record { form = f; at = l } ∷ record { form = f; at = r } ∷ []) [] bs world last) (sym two.is) (record {
     territory = record {
       blocks = two.new ++ (two.old ++ []);
-      cells = a_cell {w = put_part left_there.whole l.path two.x} {v = two.x} {bs = two.new} (record {
-        at = record { base = is_put l left_there.whole middle left_there.at two.x; part = has_put two.x left_there.at.part; may = left_there.at.may };
-        is = part_of_put two.x left_there.at.part;
-        has = stay_second two.apart.m_new (stay_first d.apart d.has);
+      cells = a_cell {w = put_part left_there.whole l.path two.x} {v = left_value} {bs = two.new} (record {
+        at = record { base = put_there l left_there.whole middle left_there.at two.x; part = may_put two.x left_there.at.part; may = left_there.at.may };
+        is = refl;
+        has = left_has;
         distinct = d.distinct;
         apart = two.apart.m_new;
-      }) (a_cell {w = right_there.whole} {v = two.v} {bs = two.old} (record {
+      }) (a_cell {w = right_there.whole} {v = right_value} {bs = two.old} (record {
         at = right_there.at;
         is = right_there.is;
-        has = stay_second c.apart (stay_first two.apart.n_old c.has);
+        has = right_has;
         distinct = c.distinct;
         apart = two.apart.n_old;
       }) no_cells);
@@ -406,8 +424,8 @@ module _ (f : Form) (l r : Location) (blocks : List ℕ) (world : World)
       stored_length middle l.base (put_part (whole_at middle l.base) l.path two.x),
     );
     alone = record {
-      bases = λ b y h off far. put_elsewhere l left_there.whole middle left_there.at two.x b y
-          (put_elsewhere r two.w world d.at two.v b y h off.1.0) off.0;
+      bases = λ b y h off far. put_aside l left_there.whole middle left_there.at two.x b y
+          (put_aside r two.w world d.at two.v b y h off.1.0) off.0;
       parts = λ m y h other far. becomes_beside left_there.at second_put other.0 (nothing_apart m.base)
           (becomes_beside d.at first_put other.1.0 (nothing_apart m.base) h);
       rows = λ m n h leave far. row_left left_there.at second_put leave.0 (nothing_apart m.base)
@@ -428,14 +446,15 @@ module _ (f : Form) (l r : Location) (blocks : List ℕ) (world : World)
       let Q : Value → World → Type 0 = λ x after. Moves (record { form = f; at = l } ∷ record { form = f; at = r } ∷ []) [] blocks world after in
       let R : Value → World → Type 0 = λ x after. (x ≡ two.x) × (after ≡ middle) in
       sure_then (takes l (λ world v. exchanged r v)) (λ v. exchanged l v >> give nothing) R Q world
-      (sure_takes (λ world v. exchanged r v) R (read_at c.at c.is) tt c.has
-      (sure_takes (λ world old. changes r two.v >> give old) R (read_at d.at d.is) tt d.has
+      (sure_takes (λ world v. exchanged r v) R (read_there c.at c.is) tt c.has
+      (sure_takes (λ world old. changes r two.v >> give old) R (read_there d.at d.is) tt d.has
       (sure_then (changes r two.v) (λ u. give two.x) (λ u after. after ≡ middle) R world (sure_changes two.v (λ u after. after ≡ middle) d.at refl)
       (λ u after is. (refl, is)))))
       (λ x after q. subst (λ y. Sure (exchanged l y >> give nothing) Q after) (sym q.0)
       (subst (λ m. Sure (exchanged l two.x >> give nothing) Q m) (sym q.1)
       (sure_then (exchanged l two.x) (λ u. give nothing) (λ y end. end ≡ last) Q middle
-      (sure_takes (λ world old. changes l two.x >> give old) (λ y end. end ≡ last) (read_at left_there.at left_there.is) tt (stay_first two.apart.n_old c.has)
+      (sure_takes (λ world old. changes l two.x >> give old) (λ y end. end ≡ last) (read_there left_there.at left_there.is) tt
+      (stay_first two.apart.n_old c.has)
       (sure_then (changes l two.x) (λ u. give two.v) (λ u end. end ≡ last) (λ y end. end ≡ last) middle
       (sure_changes two.x (λ u end. end ≡ last) left_there.at refl) (λ u end is. is)))
       (λ y end is. subst (λ m. Moves (record { form = f; at = l } ∷ record { form = f; at = r } ∷ []) [] blocks world m) (sym is) traded))))

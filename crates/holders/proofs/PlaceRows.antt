@@ -1,6 +1,6 @@
 -- The rows of operations on places.
 use Rattle.std.proofs.Common.{◌≡◌, refl, sym, ap, ap₂, subst, ◌∙◌, ℕ, Bool, true, false, inl, inr, ◌⊎◌, List, [], ◌∷◌, ◌++◌, length, Option, Some, None}
-use Rattle.std.specs.Prelude.{◌||◌, ◌-◌, ℤ}
+use Rattle.std.specs.Prelude.{◌&&◌, ◌||◌, ◌-◌, ℤ}
 use Rattle.std.proofs.lemmas.Bool.{false≢true, and_parts, or_left, or_right}
 use Rattle.nim_types.specs.Types.{Ty, Facts}
 use Rattle.nim_types.specs.Forms.{Form, plain, block, elements, hooked, form_of}
@@ -12,22 +12,22 @@ use Rattle.nim_program.specs.Ints.{Checked, Fine, Trapped, applied}
 use Rattle.nim_program.specs.Kinds as kind
 use Rattle.nim_program.specs.Kinds.{TypeKind, kind_if, is_int, is_bool, is_text, is_sequence, is_resized, has_length, is_of}
 use Rattle.nim_program.specs.Fitting.{fits}
-use Rattle.nim_meaning.specs.Values.{Value, Number, nothing, number_of, length_of, bytes, Location, Operand, Given, At, number}
-use Rattle.nim_meaning.specs.State.{World, load, text_of, is_full_at, bytes_left}
+use Rattle.nim_meaning.specs.Values.{Value, Number, nothing, number_of, length_of, bytes, Location, Operand, Given, At, location_of, number}
+use Rattle.nim_meaning.specs.State.{World, load, text_of, is_full_at, is_seen, bytes_left}
 use Rattle.nim_meaning.specs.Heap.{Characters}
 use Rattle.nim_meaning.specs.Texts.{are_seen, shown}
 use Rattle.nim_meaning.specs.Here.{gives_hooked, any_hooked, form_for}
 use Rattle.nim_meaning.specs.Deeds as deeds
 use Rattle.nim_meaning.specs.Deeds.{Deed, Gives, Ends, Errs, Works, Says, Looks, Changes, Takes, changed, with_block, give, looks, takes, ◌>>=◌, ◌>>◌}
 use Rattle.nim_meaning.specs.Lifted.{assigned, assigns, resized}
-use Rattle.nim_meaning.specs.Places.{put, exchanged, changes}
+use Rattle.nim_meaning.specs.Places.{put, put_over, exchanged, changes, may_change}
 use Rattle.nim_meaning.specs.Table.{does, operates, operate, outcome, updated, swapped, default_for, step_by, measured}
 use Rattle.nim_meaning.specs.OwnedRows.{counted, appended, shortened, length_to, line_into, is_text_form, text_to, sequence_to, element_of as element_form_of}
 use Rattle.holders.specs.Owned.{Full, Constant, Has, a_number, HasBlocksAlone}
 use Rattle.holders.specs.Sure.{Sure}
 use Rattle.holders.specs.Territory.{Owner, Moves}
 use Rattle.holders.specs.Ways.{Step, Chain}
-use Rattle.holders.specs.Finding.{Found, in_cell, a_character, Read}
+use Rattle.holders.specs.Finding.{Found, in_cell, Read}
 use Rattle.holders.specs.Handing.{HandsOut}
 use Rattle.holders.specs.Running.{Region}
 use Rattle.holders.specs.Staging.{Stage, Holding}
@@ -37,7 +37,7 @@ use Rattle.holders.proofs.ElementLists.{blank_has}
 use Rattle.holders.proofs.Guards.{sure_reads, sure_takes}
 use Rattle.holders.proofs.PlainRows.{read_found, puts, updates}
 use Rattle.holders.proofs.Rows.{reads_line, gives_away}
-use Rattle.holders.proofs.Operations.{appends_text, text_length, sequence_length, pops_element, counted_sure, assigns_value, assigns_copy}
+use Rattle.holders.proofs.Operations.{appends_text, text_length, sequence_length, pops_element, counted_sure, sure_assigns, assigns_value, assigns_copy}
 use Rattle.holders.proofs.Staging.{stage_moves, stage_takes, stage_hands, no_given}
 use Rattle.holders.specs.Asked.{IfSimple}
 use Rattle.holders.specs.Evaluating.{Bare}
@@ -45,7 +45,7 @@ use Rattle.holders.proofs.Constants.{hooked_is, int_type, bool_type}
 use Rattle.holders.proofs.FormKinds.{text_form, sequence_form, same_type}
 use Rattle.holders.proofs.Table.{OutOf, At_stage, Numbers, out_bare, out_number, out_none, out_either, operated, one_row, has_hooks}
 use Rattle.holders.proofs.Sure.{sure_answer}
-use Rattle.holders.proofs.Trading.{places_trade}
+use Rattle.holders.proofs.Pairs.{swaps}
 
 -- ---- what is answered behind a deed
 
@@ -83,12 +83,11 @@ then_answer (Looks deed) rest P world h = then_answer (deed world) rest P world 
 then_answer (Changes change deed) rest P world h = then_answer deed rest P (changed change world) h
 then_answer (Takes class contents deed) rest P world h = then_answer (deed (length world.heap.blocks)) rest P (with_block class contents world) h
 
--- ---- a place with hooks is a cell
+-- ---- a place that may be written stands in a cell
 
-pub found_chain : {os : List Owner} {world : World} {n : ℕ} {steps : List Step} {f : Form} {l : Location} → hooked f ≡ true →
-    Found os world true n steps f l → Chain os world (record { form = f; at = l })
-found_chain h (in_cell c goes) = c
-found_chain h (a_character j c e le) = absurd (false≢true h)
+pub found_chain : {os : List Owner} {world : World} {n : ℕ} {steps : List Step} {f : Form} {l : Location} → Found os world true n steps f l →
+    Chain os world (record { form = f; at = l })
+found_chain (in_cell c goes) = c
 
 module _ (facts : Facts) (r : Region) (ms os : List Owner) (first places : ℕ) (nodes old : List ℕ) (start now : World)
     (s : Stage r ms os first places nodes old start now) where
@@ -138,7 +137,7 @@ module _ (facts : Facts) (r : Region) (ms os : List Owner) (first places : ℕ) 
 
   module _ {n : ℕ} {steps : List Step} (a : Option Ty) {l : Location} (found : Found (ms ++ os) now true n steps (form_for facts a) l) where
     text_chain : form_for facts a ≡ block → Chain (ms ++ os) now (record { form = block; at = l })
-    text_chain e = found_chain refl (subst (λ f. Found (ms ++ os) now true n steps f l) e found)
+    text_chain e = found_chain (subst (λ f. Found (ms ++ os) now true n steps f l) e found)
 
     any_first : (of : List (Option Ty)) → gives_hooked facts a ≡ true → any_hooked facts (a ∷ of) ≡ true
     any_first of e = or_left (gives_hooked facts a) (any_hooked facts of) e
@@ -214,14 +213,14 @@ module _ (facts : Facts) (r : Region) (ms os : List Owner) (first places : ℕ) 
         by (inr e) =
             let q = sequence_form facts a simple e in
             length_row (elements q.form) q.is refl
-            (λ m. sequence_length s.runs.territory q.blocks m (found_chain refl (subst (λ f. Found (ms ++ os) now true n steps f l) q.is found))) b y seen
+            (λ m. sequence_length s.runs.territory q.blocks m (found_chain (subst (λ f. Found (ms ++ os) now true n steps f l) q.is found))) b y seen
 
     pub pop : (ty : Option Ty) → IfSimple facts a → fits facts O.Pop ty (a ∷ []) ≡ true → are_seen now (At l ∷ []) ≡ true →
         Sure (operates O.Pop facts ty (a ∷ []) (At l ∷ [])) (OutHere ty) now
     pop ty simple typed seen =
         let parts = and_parts (is_sequence (kind_if facts a)) (is_of (kind.element_of (kind_if facts a)) ty) typed in
         let q = sequence_form facts a simple parts.0 in
-        let c = found_chain refl (subst (λ f. Found (ms ++ os) now true n steps f l) q.is found) in
+        let c = found_chain (subst (λ f. Found (ms ++ os) now true n steps f l) q.is found) in
         let popped : Form → Deed Value = λ f. shortened (element_form_of f) (length_of (load now l)) l now in
         operated facts r ms os first places nodes old start O.Pop ty (a ∷ []) (At l ∷ []) (OutHere ty) now (λ e. seen)
         (λ e. subst (λ f. Sure (popped f) (OutHere ty) now) (sym q.is)
@@ -259,8 +258,10 @@ module _ (facts : Facts) (r : Region) (ms os : List Owner) (first places : ℕ) 
         ap₂ (λ m k. m || (k || false)) (hooked_is facts a ∙ bare) (hooked_is facts b ∙ (ap hooked same ∙ bare)) in
         operated facts r ms os first places nodes old start O.Assign None (a ∷ b ∷ []) (At l ∷ Given v ∷ []) (OutHere None) now (λ q. seen)
         (λ q. absurd (false≢true (sym none ∙ q)))
-        (λ q. moved_none (put l v) (sure_answer (changes l v) nothing nothing MovesHere now
-        (puts s.runs.territory bare found (subst (λ f. Has now Constant f v []) same (h now)))))
+        (λ q. moved_none (put_over l v) (subst (λ c. Sure (deeds.unless_gone c (put l v)) (λ x after. MovesHere after × (x ≡ nothing)) now)
+        (sym (and_parts (is_seen now l) (is_seen now (location_of (Given v)) && true) seen).0)
+        (sure_answer (changes l v) nothing nothing MovesHere now
+        (puts s.runs.territory bare found (subst (λ f. Has now Constant f v []) same (h now))))))
 
     pub assign_copy : (b : Option Ty) {m : ℕ} {ss : List Step} {from : Location} → is_of b a ≡ true → hooked (form_for facts a) ≡ true →
         Found (ms ++ os) now false m ss (form_for facts b) from → are_seen now (At l ∷ At from ∷ []) ≡ true →
@@ -268,9 +269,10 @@ module _ (facts : Facts) (r : Region) (ms os : List Owner) (first places : ℕ) 
     assign_copy b {m} {ss} {from} typed hooks h seen =
         let same = ap (form_for facts) (same_type typed) in
         operated facts r ms os first places nodes old start O.Assign None (a ∷ b ∷ []) (At l ∷ At from ∷ []) (OutHere None) now (λ q. seen)
-        (λ q. moved_none (assigns (form_for facts a) l (At from))
+        (λ q. moved_none (deeds.unless_gone (may_change l.base) (assigns (form_for facts a) l (At from)))
+        (sure_assigns s.runs.territory (found_chain found) (assigns (form_for facts a) l (At from)) (λ x after. MovesHere after × (x ≡ nothing))
         (sure_answer (assigned (form_for facts a) l (At from)) nothing nothing MovesHere now
-        (assigns_copy s.runs.territory hooks (found_chain hooks found) (subst (λ f. Found (ms ++ os) now false m ss f from) same h))))
+        (assigns_copy s.runs.territory hooks (found_chain found) (subst (λ f. Found (ms ++ os) now false m ss f from) same h)))))
         (λ q. no_bare None (b ∷ []) (hooked_is facts a ∙ hooks) q)
 
     -- ---- a value is taken away
@@ -291,7 +293,7 @@ module _ (facts : Facts) (r : Region) (ms os : List Owner) (first places : ℕ) 
         by : (b : Bool) → hooked (form_for facts a) ≡ b → Sure (exchanged l (default_for facts ty)) (OutHere ty) now
         by true e =
             handed_out ty (exchanged l (default_for facts ty)) same
-            (gives_away s.runs.territory (found_chain e found) (subst (λ f. Has now Full f (default_for facts ty) []) same (blank_so ty simple)))
+            (gives_away s.runs.territory (found_chain found) (subst (λ f. Has now Full f (default_for facts ty) []) same (blank_so ty simple)))
         by false e =
             let read = read_found s.runs.territory found in
             let x = default_for facts ty in
@@ -316,7 +318,8 @@ module _ (facts : Facts) (r : Region) (ms os : List Owner) (first places : ℕ) 
         one_row facts r ms os first places nodes old start O.Swap None (a ∷ b ∷ []) (At l ∷ At right ∷ []) (OutHere None) now (λ d. refl) seen
         (moved_none (swapped l right)
         (then_answer (takes l (λ world v. exchanged right v)) (λ v. exchanged l v) MovesHere now
-        (places_trade s.runs.territory found (subst (λ f. Found (ms ++ os) now true m ss f right) (ap (form_for facts) (sym (same_type typed))) h))))
+        (swaps s.runs.territory (found_chain found)
+        (found_chain (subst (λ f. Found (ms ++ os) now true m ss f right) (ap (form_for facts) (sym (same_type typed))) h)))))
 
 -- a place gets what is under way
 pub assign_held : (facts : Facts) (r : Region) (ms os : List Owner) (first places : ℕ) (nodes old : List ℕ) (start now : World) {n : ℕ} {steps : List Step}
@@ -329,9 +332,10 @@ assign_held facts r ms os first places nodes old start now a b {l} {v} found typ
     let P : World → Type 0 = λ after. Moves (ms ++ os) h.under.given h.stage.runs.territory.blocks now after in
     operated facts r ms os first places nodes old start O.Assign None (a ∷ b ∷ []) (At l ∷ Given v ∷ []) (OutOf facts r ms os first places nodes old start None)
     now (λ q. seen)
-    (λ q. out_none facts r ms os first places nodes old start (assigns f l (Given v)) now
-    (sure_weaker (assigns f l (Given v)) (λ x after. P after × (x ≡ nothing))
+    (λ q. out_none facts r ms os first places nodes old start (deeds.unless_gone (may_change l.base) (assigns f l (Given v))) now
+    (sure_weaker (deeds.unless_gone (may_change l.base) (assigns f l (Given v))) (λ x after. P after × (x ≡ nothing))
     (λ x after. At_stage facts r ms os first places nodes old start after × (x ≡ nothing)) now
-    (sure_answer (assigned f l (Given v)) nothing nothing P now (assigns_value h.stage.runs.territory (found_chain hooks found) h.under))
+    (sure_assigns h.stage.runs.territory (found_chain found) (assigns f l (Given v)) (λ x after. P after × (x ≡ nothing))
+    (sure_answer (assigned f l (Given v)) nothing nothing P now (assigns_value h.stage.runs.territory (found_chain found) h.under)))
     (λ x after m. (stage_takes r os first places old start h m.0, m.1))))
     (λ q. absurd (false≢true (sym q ∙ or_left (gives_hooked facts a) (any_hooked facts (b ∷ [])) (hooked_is facts a ∙ hooks))))

@@ -1,16 +1,16 @@
 -- What operations do with the cells of a territory, and with values that are under way.
-use Rattle.std.proofs.Common.{◌≡◌, sym, subst, arith, ℕ, suc, ◌<◌, ◌≤◌, inl, inr, ◌⊎◌, List, [], ◌∷◌, length, Some, ◌+◌}
+use Rattle.std.proofs.Common.{◌≡◌, refl, sym, subst, Bool, true, false, arith, ℕ, suc, ◌<◌, ◌≤◌, inl, inr, ◌⊎◌, List, [], ◌∷◌, length, Some, ◌+◌}
 use Rattle.std.specs.Prelude.{slice_get}
 use Rattle.std.proofs.lemmas.Option.{none-some}
-use Rattle.nim_types.specs.Forms.{Form, plain, block, elements}
+use Rattle.nim_types.specs.Forms.{Form, plain, block, elements, hooked}
 use Rattle.nim_meaning.specs.Values.{Value, count, Values, length_of, Base, InBlock, InHand, Location, Given}
 use Rattle.nim_meaning.specs.Heap.{Elements}
 use Rattle.nim_meaning.specs.Marks.{Member, Distinct}
 use Rattle.nim_meaning.specs.State.{World}
-use Rattle.nim_meaning.specs.Deeds.{Deed}
+use Rattle.nim_meaning.specs.Deeds.{Deed, give, ◌>>◌}
 use Rattle.nim_meaning.specs.Lifted.{assigned, copied, fresh, fresh_text}
 use Rattle.nim_meaning.specs.OwnedRows.{appended, added, shortened, sequence_to, line_into}
-use Rattle.nim_meaning.specs.Places.{exchanged}
+use Rattle.nim_meaning.specs.Places.{exchanged, changes}
 use Rattle.holders.specs.Holders.{held_by, held_in}
 use Rattle.holders.specs.Owned.{IsBase, in_hand, Full, Has, HasEach, Apart, HasBlocksAlone}
 use Rattle.holders.specs.Sure.{Sure}
@@ -20,18 +20,21 @@ use Rattle.holders.specs.Territory.{Owner, AllOwners, ClearOf, Territory, Alone,
 use Rattle.holders.specs.Ways.{Chain}
 use Rattle.holders.specs.Finding.{Read}
 use Rattle.holders.specs.Handing.{UnderWay, HandsOut}
-use Rattle.holders.proofs.Sure.{sure_weaker}
+use Rattle.holders.proofs.Sure.{sure_then, sure_weaker}
 use Rattle.holders.proofs.Growing.{sure_grows}
-use Rattle.holders.proofs.Owning.{has_stays}
+use Rattle.holders.proofs.Owning.{has_stays, plain_none}
 use Rattle.holders.proofs.UnderWay.{Assigned, assigns_given, copy_given, no_block}
 use Rattle.holders.proofs.TextRows.{appends}
 use Rattle.holders.proofs.SequenceRows.{adds, pops, sequence_gets_length}
-use Rattle.holders.proofs.Answering.{text_made, sequence_made, line_goes_into, exchanges}
+use Rattle.holders.proofs.Answering.{text_made, sequence_made, line_goes_into}
 use Rattle.holders.proofs.Moving.{clear_less, cells_clear, cells_below}
 use Rattle.holders.proofs.Working.{cells_stay}
 use Rattle.holders.proofs.Separating.{separated}
 use Rattle.holders.proofs.Finding.{chain_owns}
-use Rattle.holders.proofs.PlainRows.{cell_moves, none_clear}
+use Rattle.holders.proofs.PlainRows.{becomes_put, cell_moves, none_clear}
+use Rattle.holders.proofs.BareCells.{bare_given}
+use Rattle.holders.proofs.Letters.{hooked_cell}
+use Rattle.holders.proofs.Guards.{sure_takes, sure_changes, read_there}
 
 -- ---- a value comes to be
 
@@ -55,9 +58,7 @@ module _ {os : List Owner} {world : World} (t : Territory os world) where
           whole = r.whole;
           base = g.elsewhere l.base r.whole r.base;
           part_there = r.part_there;
-          all = r.all;
           is = r.is;
-          count_is = r.count_is;
         };
         stays = g.stays;
       } in
@@ -172,68 +173,44 @@ module _ {os : List Owner} {world : World} (t : Territory os world) where
       Sure (appended more l) (λ u after. Moves os [] t.blocks world after) world
   appends_to more {l} c =
       let o = chain_owns t c in
-      turns_in_place c (appended more l) (appends more l o.stands_in o.value o.mine world o.cell.at o.cell.is o.cell.has o.cell.apart)
+      let d = hooked_cell refl o.cell in
+      turns_in_place c (appended more l) (appends more l o.stands_in o.value o.mine world d.at d.is d.has d.apart)
 
   pub sets_length : {f : Form} → HasBlocksAlone f → (n : ℕ) {l : Location} → Chain os world (record { form = elements f; at = l }) →
       Sure (sequence_to f n l world) (λ u after. Moves os [] t.blocks world after) world
   sets_length {f} simple n {l} c =
       let o = chain_owns t c in
+      let d = hooked_cell refl o.cell in
       turns_in_place c (sequence_to f n l world)
-      (sequence_gets_length f simple n l o.stands_in o.value o.mine world o.cell.at o.cell.is o.cell.has o.cell.distinct o.cell.apart)
+      (sequence_gets_length f simple n l o.stands_in o.value o.mine world d.at d.is d.has d.distinct d.apart)
 
   pub reads_line : (input : List ℕ) {l : Location} → Chain os world (record { form = block; at = l }) →
       Sure (line_into l input) (λ x after. Has after Full plain x [] × Moves os [] t.blocks world after) world
   reads_line input {l} c =
       let o = chain_owns t c in
+      let d = hooked_cell refl o.cell in
       in_place c (line_into l input) (λ x after. Has after Full plain x [])
       (sure_weaker (line_into l input) (λ x after. Has after Full plain x [] × Turns none none block l o.stands_in [] o.mine world after)
       (λ x after. Has after Full plain x [] × Becomes block l o.stands_in [] o.mine world after) world
-      (line_goes_into input l o.stands_in o.value o.mine world o.cell.at o.cell.is o.cell.has o.cell.distinct o.cell.apart) (λ x after r. (r.0, r.1.0)))
+      (line_goes_into input l o.stands_in o.value o.mine world d.at d.is d.has d.distinct d.apart) (λ x after r. (r.0, r.1.0)))
 
   -- an element comes behind those that are there
   pub adds_to : {f : Form} {x : Value} {l : Location} (c : Chain os world (record { form = elements f; at = l })) (under : UnderWay f x os t.blocks world) →
       Sure (added f x l) (λ u after. Moves os under.given t.blocks world after) world
   adds_to {f} {x} {l} c under =
       let o = chain_owns t c in
+      let d = hooked_cell refl o.cell in
       goes_in c under (added f x l)
       (sure_weaker (added f x l) (λ u after. Turns (λ j. held_by j x) none (elements f) l o.stands_in under.given o.mine world after)
       (λ u after. Becomes (elements f) l o.stands_in under.given o.mine world after) world
-      (adds f x under.given l o.stands_in o.value o.mine world o.cell.at o.cell.is o.cell.has o.cell.distinct o.cell.apart under.has under.distinct
+      (adds f x under.given l o.stands_in o.value o.mine world d.at d.is d.has d.distinct d.apart under.has under.distinct
       (strange_here c under) (apart_here c under)) (λ u after r. r.0))
 
   -- a place gets a value that was under way
   pub takes_value : {f : Form} {x : Value} {l : Location} (c : Chain os world (record { form = f; at = l })) (under : UnderWay f x os t.blocks world) →
       Sure (assigned f l (Given x)) (λ u after. Moves os under.given t.blocks world after) world
   takes_value {f} {x} {l} c under =
-      let o = chain_owns t c in
-      let far = strange_here c under in
-      let apart = apart_here c under in
-      goes_in c under (assigned f l (Given x))
-      (sure_weaker (assigned f l (Given x)) (λ u after. Assigned f l o.stands_in x o.mine under.given world after × (taken_in world ≤ taken_in after))
-      (λ u after. Becomes f l o.stands_in under.given o.mine world after) world
-      (sure_grows (assigned f l (Given x)) (λ u after. Assigned f l o.stands_in x o.mine under.given world after) world
-      (assigns_given f l o.stands_in o.value x o.mine under.given world o.cell.at o.cell.is o.cell.has under.has (record {
-        two = λ e. not_in_hand l.base o.stands_in e o.cell.at.base;
-        old_once = o.cell.distinct;
-        new_once = under.distinct;
-        both = λ k m n. far k n m;
-        to_old = o.cell.apart;
-        to_new = apart;
-        from_old = λ k e m. no_block (length world.hand) k e;
-        from_new = λ k e m. no_block (length world.hand) k e;
-      })))
-      (λ u after r. record {
-        now = x;
-        blocks = under.given;
-        has = r.0.has;
-        distinct = under.distinct;
-        came = λ k m. inr (inl m);
-        grows = r.1;
-        loses = λ k. omega (arith, r.0.loses k);
-        is = r.0.there;
-        elsewhere = λ b y h off away. r.0.elsewhere b y h off away;
-        stays = r.0.stays;
-      }))
+      goes_in c under (assigned f l (Given x)) (by (hooked f) refl)
     where
       -- nothing is in hand yet at the next position
       beyond : {A : Type 0} (xs : List A) (x : A) → slice_get xs (length xs) ≡ Some x → ⊥
@@ -245,6 +222,43 @@ module _ {os : List Owner} {world : World} (t : Territory os world) where
         where
           at : IsBase world (InHand (length world.hand)) w → ⊥
           at (in_hand q) = beyond world.hand w q
+
+      by : (b : Bool) → hooked f ≡ b → Sure (assigned f l (Given x)) (λ u after. Becomes f l (chain_owns t c).stands_in under.given (chain_owns t c).mine world
+          after) world
+      by false e =
+          let o = chain_owns t c in
+          subst (λ ds. Sure (assigned f l (Given x)) (λ u after. Becomes f l o.stands_in ds o.mine world after) world) (sym (plain_none e under.has))
+          (bare_given f l o.stands_in o.value x o.mine under.given e world o.cell under.has)
+      by true e =
+          let o = chain_owns t c in
+          let d = hooked_cell e o.cell in
+          let far = strange_here c under in
+          let apart = apart_here c under in
+          sure_weaker (assigned f l (Given x)) (λ u after. Assigned f l o.stands_in x o.mine under.given world after × (taken_in world ≤ taken_in after))
+          (λ u after. Becomes f l o.stands_in under.given o.mine world after) world
+          (sure_grows (assigned f l (Given x)) (λ u after. Assigned f l o.stands_in x o.mine under.given world after) world
+          (assigns_given f l o.stands_in o.value x o.mine under.given world d.at d.is d.has under.has (record {
+            two = λ q. not_in_hand l.base o.stands_in q d.at.base;
+            old_once = d.distinct;
+            new_once = under.distinct;
+            both = λ k m n. far k n m;
+            to_old = d.apart;
+            to_new = apart;
+            from_old = λ k q m. no_block (length world.hand) k q;
+            from_new = λ k q m. no_block (length world.hand) k q;
+          })))
+          (λ u after r. record {
+            now = x;
+            blocks = under.given;
+            has = r.0.has;
+            distinct = under.distinct;
+            came = λ k m. inr (inl m);
+            grows = r.1;
+            loses = λ k. omega (arith, r.0.loses k);
+            is = r.0.there;
+            elsewhere = λ b y h off away. r.0.elsewhere b y h off away;
+            stays = r.0.stays;
+          })
 
   -- ---- a value comes out
 
@@ -303,18 +317,19 @@ module _ {os : List Owner} {world : World} (t : Territory os world) where
       Sure (exchanged l x) (HandsOut f os [] t.blocks world) world
   gives_away {f} {x} {l} c h =
       let o = chain_owns t c in
-      sure_weaker (exchanged l x) (λ y after. (y ≡ o.value) × Turns (λ k. held_by k x) (λ k. held_by k o.value) f l o.stands_in [] [] world after)
-      (HandsOut f os [] t.blocks world) world
-      (exchanges f l o.stands_in o.value x o.mine [] world o.cell.at o.cell.is o.cell.has h tt (λ k e m. elim m [ ]))
-      (λ y after r. subst (λ z. HandsOut f os [] t.blocks world z after) (sym r.0)
-      (comes_out c o.mine [] (has_stays world after (λ k z m is. r.1.0.elsewhere (InBlock k) z is (λ e. o.cell.apart k (sym e) m)
-      (λ j e n. elim n [ ])) o.cell.has) o.cell.distinct (λ k m. m) (λ k m. elim m [ ]) (λ k m n. elim n [ ]) (λ k. omega arith) r.1.0))
+      let P : World → Type 0 = λ after. Becomes f l o.stands_in [] [] world after in
+      sure_takes (λ world old. changes l x >> give old) (HandsOut f os [] t.blocks world) (read_there o.cell.at o.cell.is) tt o.cell.has
+      (sure_then (changes l x) (λ u. give o.value) (λ u after. P after) (HandsOut f os [] t.blocks world) world
+      (sure_changes x (λ u after. P after) o.cell.at (becomes_put f l o.stands_in x [] world o.cell.at h tt (λ k e m. elim m [ ])))
+      (λ u after b. comes_out c o.mine [] (has_stays world after (λ k z m is. b.elsewhere (InBlock k) z is (λ e. o.cell.apart k (sym e) m)
+      (λ j e n. elim n [ ])) o.cell.has) o.cell.distinct (λ k m. m) (λ k m. elim m [ ]) (λ k m n. elim n [ ]) (λ k. omega arith) b))
 
   -- a sequence loses its last element
   pub pops_from : {f : Form} {l : Location} (n : ℕ) (c : Chain os world (record { form = elements f; at = l })) → length_of (chain_owns t c).value ≡ suc n →
       Sure (shortened f (suc n) l world) (HandsOut f os [] t.blocks world) world
   pops_from {f} {l} n c e =
       let o = chain_owns t c in
+      let d = hooked_cell refl o.cell in
       sure_weaker (shortened f (suc n) l world) (λ x after. Popped f l o.stands_in o.mine world x after) (HandsOut f os [] t.blocks world) world
-      (pops f n l o.stands_in o.value o.mine world o.cell.at o.cell.is o.cell.has o.cell.distinct o.cell.apart e)
+      (pops f n l o.stands_in o.value o.mine world d.at d.is d.has d.distinct d.apart e)
       (λ x after p. comes_out c p.taken p.kept p.has p.distinct p.taken_were p.kept_were p.apart p.were p.turns.0)

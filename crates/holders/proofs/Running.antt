@@ -5,10 +5,10 @@ use Rattle.nim_meaning.specs.Values.{Value, Holds, Base, Standing, Waiting, InBl
 use Rattle.nim_meaning.specs.Marks.{Member}
 use Rattle.nim_meaning.specs.State.{World}
 use Rattle.nim_meaning.specs.Deeds.{Opens, Waits, changed}
-use Rattle.holders.specs.Owned.{IsBase, whole, MayStore, place_may, node_may, Apart, IsName, Active}
+use Rattle.holders.specs.Owned.{IsBase, whole, MayStore, place_may, node_may, Apart, IsName, Active, in_rows}
 use Rattle.holders.specs.Becoming.{taken_in, times}
 use Rattle.holders.specs.Beside.{OtherPart, other_base}
-use Rattle.holders.specs.Territory.{Owner, Cells, no_cells, a_cell, OtherThan, ClearOf, Territory, StandsAt, RowAt, IsUnder, LeaveRow}
+use Rattle.holders.specs.Territory.{Owner, Cells, no_cells, a_cell, OtherThan, ClearOf, Territory, StandsAt, Shape, RowAt, IsUnder, LeaveRow}
 use Rattle.holders.specs.Territory.{NoBaseOf, Alone, MovesWith}
 use Rattle.holders.specs.Handing.{UnderWay}
 use Rattle.holders.specs.Running.{Region, IsOutside, Passes, AreOwn, Runs, RunsWith}
@@ -136,7 +136,7 @@ with_cell {os} {world} {f} {x} t b under base may off no_block = record {
   territory = record {
     blocks = under.given ++ t.blocks;
     cells = a_cell {w = x} {v = x} {bs = under.given} (record {
-      at = record { base = base; part = whole; may = may };
+      at = record { base = base; part = in_rows whole; may = may };
       is = refl;
       has = under.has;
       distinct = under.distinct;
@@ -172,14 +172,13 @@ stands_apace {l = l} a d s = record {
   is = s.is;
 }
 
-pub row_apace : {b : Base} {world after : World} {l : Location} {n : ℕ} → Apace b world after → (l.base ≡ b → ⊥) → RowAt world l n → RowAt after l n
+pub row_apace : {b : Base} {world after : World} {l : Location} {shape : Shape} → Apace b world after → (l.base ≡ b → ⊥) → RowAt world l shape →
+    RowAt after l shape
 row_apace {l = l} a d r = record {
   whole = r.whole;
   base = a.bases l.base r.whole r.base d;
   part_there = r.part_there;
-  all = r.all;
   is = r.is;
-  count_is = r.count_is;
 }
 
 pub cells_apace : {b : Base} {world after : World} → Apace b world after → ((k : ℕ) → InBlock k ≡ b → ⊥) → (os : List Owner) (cs : List ℕ) → NoBaseOf b os →

@@ -2,7 +2,7 @@
 use Rattle.std.proofs.Common.{◌≡◌, refl, sym, ap, subst, ◌∙◌, arith, ℕ, zero, suc, ◌+◌, ◌<◌, ◌≤◌, inl, inr, ◌⊎◌, List, [], ◌∷◌, ◌++◌, length, Some}
 use Rattle.std.proofs.lemmas.Option.{same_Some}
 use denote.Struct.Props.{props}
-use Rattle.nim_types.specs.Forms.{Form, Forms, forms}
+use Rattle.nim_types.specs.Forms.{Form, plain, Forms, forms}
 use Rattle.nim_meaning.specs.Values.{Handle, Location, deeper, length_of, block_of}
 use Rattle.nim_meaning.specs.State.{World}
 use Rattle.holders.specs.Owned.{PartForm, first_part, next_part}
@@ -10,11 +10,11 @@ use Rattle.holders.specs.Territory.{Owner, Territory, Among, first_owner, later_
 use Rattle.holders.specs.Working.{number, Works, without}
 use Rattle.holders.specs.Beside.{PartWays, here_apart, further_on}
 use Rattle.holders.specs.Ways.{Step, Differ, another_field, further_differ, Goes, goes_field, goes_element, copies, in_block}
-use Rattle.holders.specs.Ways.{Opens, an_object, an_array, a_block, Way, arrived, a_step, Chain, part_owners, ChainsPart, Chains, AllPart, targets_of}
+use Rattle.holders.specs.Ways.{Opens, an_object, an_array, a_block, letters, Way, arrived, a_step, Chain, part_owners, ChainsPart, Chains, AllPart, targets_of}
 use Rattle.holders.proofs.Bases.{same_or_not}
 use Rattle.holders.proofs.Working.{works_same, works_then, works_front, works_first, among_others, others_two, same_owner, among_first, among_second}
 use Rattle.holders.proofs.Working.{number_first, number_second, number_below, without_second}
-use Rattle.holders.proofs.Opening.{works_open}
+use Rattle.holders.proofs.Openings.{works_open}
 
 -- ---- which part of a row
 
@@ -40,6 +40,9 @@ opens_same an_array an_array = record { forms_are = refl; same_at = refl }
 opens_same (a_block {n = n} {k = k} {f = f} {l = l} e) (a_block {n = m} {k = j} q) =
     let same : Handle n (Some k) ≡ Handle m (Some j) = sym e ∙ q in
     record { forms_are = ap (λ i. copies i f) (ap length_of same); same_at = ap (λ i. in_block l i) (same_Some k j (ap block_of same)) }
+opens_same (letters {n = n} {k = k} {l = l} e) (letters {n = m} {k = j} q) =
+    let same : Handle n (Some k) ≡ Handle m (Some j) = sym e ∙ q in
+    record { forms_are = ap (λ i. copies i plain) (ap length_of same); same_at = ap (λ i. in_block l i) (same_Some k j (ap block_of same)) }
 
 -- ---- chains
 

@@ -15,7 +15,7 @@ use Rattle.holders.specs.Owned.{Full, Has}
 use Rattle.holders.specs.Sure.{Comes}
 use Rattle.holders.specs.Territory.{Owner, Cells, a_cell, Territory, Among}
 use Rattle.holders.specs.Finding.{Found, steps_of}
-use Rattle.holders.proofs.Guards.{has_whole, read_at, seen_from}
+use Rattle.holders.proofs.Guards.{has_whole, read_there, seen_from}
 use Rattle.holders.proofs.Working.{among_first, works_front}
 use Rattle.holders.proofs.PlainRows.{read_found}
 use Rattle.holders.proofs.Operations.{seen_read}
@@ -26,10 +26,6 @@ use Rattle.holders.specs.Evaluating.{Scene, Hand, empty, holds, Readied, none_re
 use Rattle.holders.specs.Evaluating.{seen_ready, copy_ready, hand_ready, Settled, none_settled, bare, held, lent, found, seen, copied, in_hand}
 use Rattle.holders.specs.Claimed.{NoExit}
 use Rattle.holders.proofs.OperandCopies.{aim_here}
-use Rattle.holders.specs.Finding.{AtCell}
-use Rattle.holders.specs.Asked.{is_character}
-use Rattle.holders.proofs.Finding.{finds_cell, answered_with}
-use Rattle.std.proofs.Common.{false}
 
 module _ (here : Here) (scope : scopes.Here) (limits : Limits) (root : (global : Bool) → ℕ → ℕ) (uses : (position : ℕ) → Use) (ms os : List Owner)
     (world : World) (scene : Scene here scope limits root os world) (t : Territory (ms ++ os) world) where
@@ -52,26 +48,15 @@ module _ (here : Here) (scope : scopes.Here) (limits : Limits) (root : (global :
       let f = form_for here.facts (type_at path) in
       let c = aim_here {ms = ms} (subst (λ w. Scene here scope limits root os w) (sym e) scene) a in
       let there = subst (λ w. Territory (ms ++ os) w) (sym e) t in
-      let May : Type 0 = (may_write limits path ≡ true) × (is_character here.facts path ≡ false) in
-      let Is : Location → World → Type 0 = λ l after.
-      ((after ≡ s.world) × Found (ms ++ os) s.world (may_write limits path) c.position (steps_of aim) f l)
-      × (May → AtCell (ms ++ os) s.world c.position (steps_of aim) f l) in
+      let Is : Location → World → Type 0 = λ l after. (after ≡ s.world)
+      × Found (ms ++ os) s.world (may_write limits path) c.position (steps_of aim) f l in
       comes_then (find aim) (λ l. settle xs >>= (λ ys. give (At l ∷ ys))) Is (SettledSo h (ByPath path rest) i) NoExit s
-      (comes_answered Is NoExit (find aim s)
-      (answered_with (λ l after. (after ≡ s.world) × Found (ms ++ os) s.world (may_write limits path) c.position (steps_of aim) f l)
-      (λ l after. AtCell (ms ++ os) s.world c.position (steps_of aim) f l) (find aim s) (finds s there c.aims)
-      (λ may. finds_cell s there c.aims may.0 (c.whole may.0 may.1))))
+      (comes_answered Is NoExit (find aim s) (finds s there c.aims))
       (λ l mid q. comes_then (settle xs) (λ ys. give (At l ∷ ys)) (SettledSo h rest (suc i)) (SettledSo h (ByPath path rest) i) NoExit mid
-      (settle_so more mid (q.0.0 ∙ e))
+      (settle_so more mid (q.0 ∙ e))
       (λ ys now p. (
         p.0,
-        found {steps = steps_of aim}
-            (subst (λ w. Found (ms ++ os) w (may_write limits path) c.position (steps_of aim) f l) e q.0.1)
-            (λ may. (
-              (c.written may).0,
-              (c.written may).1,
-              λ no_text. subst (λ w. AtCell (ms ++ os) w c.position (steps_of aim) f l) e (q.1 (may, no_text)),
-            )) p.1,
+        found {steps = steps_of aim} (subst (λ w. Found (ms ++ os) w (may_write limits path) c.position (steps_of aim) f l) e q.1) c.written p.1,
       )))
   settle_so (seen_ready purpose h) s e = (e, seen purpose h)
   settle_so (copy_ready purpose hooked f) s e = (e, copied purpose hooked f)
@@ -85,7 +70,7 @@ cell_seen {ms} os {o} {world} t i =
     let w = works_front (among_first os i) t in by w.territory.blocks w.territory.cells
   where
     by : {ps : List Owner} (bs : List ℕ) → Cells world (o ∷ ps) bs → is_seen world o.at ≡ true
-    by _ (a_cell {w = w} c rest) = seen_from (read_at c.at c.is) tt c.has
+    by _ (a_cell {w = w} c rest) = seen_from (read_there c.at c.is) tt c.has
 
 -- a value that is under way, or that none waits for
 abbrev pub HandThere : World → Hand → Type 0

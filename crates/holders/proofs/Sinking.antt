@@ -9,7 +9,7 @@ use Rattle.nim_meaning.specs.Acts.{branch}
 use Rattle.nim_meaning.specs.Deeds.{costs, sees, sets, ◌>>◌}
 use Rattle.nim_meaning.specs.Lifted.{walk, walk_all, each_part, sinking, sunk, bits, ends_at}
 use Rattle.holders.specs.Owned.{IsBase, At, Full, Gaps, Has, a_row, some_parts, of_wrapped, HasEach, none_more, one_more, HasAll, no_parts, a_part}
-use Rattle.holders.specs.Owned.{Apart}
+use Rattle.holders.specs.Owned.{Apart, in_rows}
 use Rattle.holders.specs.Sure.{Sure}
 use Rattle.holders.specs.Holders.{held_by}
 use Rattle.holders.specs.Walks.{Ended, KeepsOnce}
@@ -62,7 +62,7 @@ module _ (to : Location) (w : Value) (world : World) (at : At world to w) (x : V
   pub is_put : IsBase (store world to x) to.base (put_part w to.path x)
   is_put =
       subst (λ y. IsBase (stored world to.base (put_part y to.path x)) to.base (put_part w to.path x)) (sym (whole_is world to.base w at.base))
-      (stored_there world x at.base at.part at.may)
+      (stored_there world x at.base (in_rows at.part) at.may)
 
   pub put_elsewhere : (b : Base) (y : Value) → IsBase world b y → (b ≡ to.base → ⊥) → IsBase (store world to x) b y
   put_elsewhere b y h d = stored_elsewhere world (put_part (whole_at world to.base) to.path x) d at.base h

@@ -36,7 +36,7 @@ nodes_same (t ∷ ts) node slot = by (nat_eq t.node node) (nodes_same ts node sl
     by true rest = refl
     by false rest = ap (λ ns. t.node ∷ ns) rest
 
-set_length : {A : Type 0} (xs : List A) (i : ℕ) (y : A) → length (slice_set xs i y) ≡ length xs
+pub set_length : {A : Type 0} (xs : List A) (i : ℕ) (y : A) → length (slice_set xs i y) ≡ length xs
 set_length [] i y = refl
 set_length (x ∷ xs) zero y = refl
 set_length (x ∷ xs) (suc i) y = ap suc (set_length xs i y)

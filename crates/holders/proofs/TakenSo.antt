@@ -78,7 +78,7 @@ module _ (here : Here) (limits : Limits) (root : (global : Bool) → ℕ → ℕ
       let same : form_for here.facts b ≡ e.form =
       ap (form_for here.facts) (same_type {a = b} {b = element_of (kind_if here.facts a)} q.1 ∙ e.element) ∙ e.form_is in
       let h = subst (λ g. Holding g v r ms os first places nodes old start now) same held in
-      let c = found_chain refl (subst (λ f. Found (ms ++ os) now true n steps f l) e.is found) in
+      let c = found_chain (subst (λ f. Found (ms ++ os) now true n steps f l) e.is found) in
       let P : World → Type 0 = λ after. Moves (ms ++ os) h.under.given h.stage.runs.territory.blocks now after in
       let hooks = has_hooks here.facts r ms os first places nodes old start a e.is refl in
       operated here.facts r ms os first places nodes old start O.Add None (a ∷ b ∷ []) (At l ∷ Given v ∷ []) OutNone now (λ z. seen)

@@ -36,11 +36,10 @@ use Rattle.holders.proofs.PartsInTurn.{in_is}
 use Rattle.holders.specs.Claimed.{NoExit}
 use Rattle.holders.proofs.Constants.{hooked_is}
 use Rattle.holders.specs.Evaluating.{at_nodes, Leaves, empty, root_at, Settled, none_settled, bare, held, lent, found, seen, copied}
-use Rattle.holders.proofs.WaitingTaken.{waiting_node, apart_cells, found_kept, cell_kept, own_numbers, own_rest, own_first, distinct_rest, distinct_one, Taken}
+use Rattle.holders.proofs.WaitingTaken.{waiting_node, apart_cells, found_kept, own_numbers, own_rest, own_first, distinct_rest, distinct_one, Taken}
 use Rattle.holders.proofs.WaitingTaken.{Carries}
 use Rattle.holders.proofs.WaitingTaken.{carried_under, StepUp, no_node, step_up, leaves_left, none_taken, bare_taken, held_taken, lent_taken, place_taken}
 use Rattle.holders.specs.Evaluating.{IsBare}
-use Rattle.holders.specs.Finding.{AtCell}
 use Rattle.holders.specs.Becoming.{times}
 use Rattle.holders.proofs.Ledger.{times_both}
 
@@ -95,13 +94,7 @@ module _ (here : Here) (scope : scopes.Here) (limits : Limits) (root : (global :
       (subst (λ b. Found (ms ++ os) now b n steps (form_for here.facts (type_at path)) l) write.0 there) facts.0 in
       found (subst (λ b. Found (without a ++ os) (changed (LeavesNode here.level node) now) b (length (without a) + root_at root path) steps
       (form_for here.facts (type_at path)) l) (sym write.0) kept)
-      (λ e. (
-        refl,
-        facts.1,
-        λ no_text. cell_kept (Waiting here.level node) (λ k e. no_node here.level node k e)
-            (λ c x h d. (value_leaves now here.level first places node nodes s.active).elsewhere c x h d) ms (without a) os (root_at root path)
-            s.runs.territory off (facts.2 no_text) facts.0,
-      )) (settled_left node a s off apart write.1 more)
+      (λ e. (refl, facts.1)) (settled_left node a s off apart write.1 more)
   settled_left node a s off apart write (seen {i = i} e b) = not_other i e (λ q. omega (arith, q)) (λ q. omega (arith, q))
   settled_left node a s off apart write (copied {i = i} e hooks f) = not_other i e (λ q. omega (arith, q)) (λ q. omega (arith, q))
 
@@ -120,8 +113,6 @@ module _ (here : Here) (scope : scopes.Here) (limits : Limits) (root : (global :
     pub leaves : (before : List ℕ) (ws : List Wait) → Leaves here.level before ws ms nodes → Leaves here.level before ws own later
     pub keeps : {f : Form} (n : ℕ) → (Member n (own_numbers here args) → ⊥) → Among ms (record { form = f; at = at_base (Waiting here.level n) }) →
         Among own (record { form = f; at = at_base (Waiting here.level n) })
-    pub cells_kept : (m : ℕ) {steps : List Step} {f : Form} {l : Location} → AtCell (ms ++ os) world (length ms + m) steps f l →
-        AtCell (own ++ os) now (length own + m) steps f l
     pub places_kept : (m : ℕ) {steps : List Step} {f : Form} {l : Location} → Found (ms ++ os) world true (length ms + m) steps f l →
         Found (own ++ os) now true (length own + m) steps f l
 
@@ -144,7 +135,6 @@ module _ (here : Here) (scope : scopes.Here) (limits : Limits) (root : (global :
         carries = record { has = λ x. x; fewer = λ k m. m; clear = λ given c. c };
         leaves = λ before ws x. x;
         keeps = λ n apart j. j;
-        cells_kept = λ m x. x;
         places_kept = λ m x. x;
       })
   take_all (ByValue value rest) {i = i} ms nodes s st (bare which b more) d within off write act Q h =
@@ -163,7 +153,6 @@ module _ (here : Here) (scope : scopes.Here) (limits : Limits) (root : (global :
         carries = t.carries;
         leaves = t.leaves;
         keeps = λ n apart j. t.keeps n (λ m. apart (own_rest here value rest n m)) j;
-        cells_kept = t.cells_kept;
         places_kept = t.places_kept;
       })))
     where
@@ -188,7 +177,6 @@ module _ (here : Here) (scope : scopes.Here) (limits : Limits) (root : (global :
         carries = t.carries;
         leaves = t.leaves;
         keeps = λ n apart j. t.keeps n (λ m. apart (own_rest here value rest n m)) j;
-        cells_kept = t.cells_kept;
         places_kept = t.places_kept;
       })))
   take_all (ByPath path rest) {i = i} ms nodes s st (found {n = n} {steps = steps} {l = l} there at more) d within off write act Q h =
@@ -204,16 +192,11 @@ module _ (here : Here) (scope : scopes.Here) (limits : Limits) (root : (global :
         out_is = t.out_is;
         taken = place_taken (t.places_kept (root_at root path)
             (subst (λ m. Found (ms ++ os) s.world true m steps (form_for here.facts (type_at path)) l) facts.0
-            (subst (λ b. Found (ms ++ os) s.world b n steps (form_for here.facts (type_at path)) l) write.0 there))) (
-              facts.1,
-              λ no_text. t.cells_kept (root_at root path)
-                  (subst (λ m. AtCell (ms ++ os) s.world m steps (form_for here.facts (type_at path)) l) facts.0 (facts.2 no_text)),
-            ) t.taken;
+            (subst (λ b. Found (ms ++ os) s.world b n steps (form_for here.facts (type_at path)) l) write.0 there))) facts.1 t.taken;
         were = t.were;
         carries = t.carries;
         leaves = t.leaves;
         keeps = t.keeps;
-        cells_kept = t.cells_kept;
         places_kept = t.places_kept;
       }))
   take_all _ ms nodes s st (seen {i = i} e b) d within off write act Q h = not_other i e (λ q. omega (arith, q)) (λ q. omega (arith, q))
@@ -270,8 +253,6 @@ module _ (here : Here) (scope : scopes.Here) (limits : Limits) (root : (global :
             keeps = λ n apart j. t.keeps n (λ m. apart (own_rest here value rest n m))
                 (among_others a j (apart_cells a j (λ e. apart
                 (subst (λ i. Member i (own_numbers here (ByValue value rest))) e (own_first here value rest hooks)))));
-            cells_kept = λ m x. t.cells_kept m (cell_kept (Waiting here.level node) (λ k e. no_node here.level node k e) keeps ms (without a) os m
-                st.runs.territory (off node mine) x refl);
             places_kept = λ m x. t.places_kept m (found_kept (Waiting here.level node) (λ k e. no_node here.level node k e) keeps ms (without a) os m
                 st.runs.territory (off node mine) x refl);
           }

@@ -12,8 +12,8 @@ use Rattle.nim_meaning.specs.Here.{Here, form_for}
 use Rattle.holders.specs.Territory.{Owner, Among, first_owner, later_owner}
 use Rattle.holders.specs.Working.{number}
 use Rattle.holders.specs.Ways.{Step, Differ, Goes, goes_nowhere, arrived, Chain, ChainsPart, Chains, AllPart, targets_of}
-use Rattle.holders.specs.Finding.{AtCell, PlaceOf, own_place, a_name_of}
-use Rattle.holders.specs.Asked.{Limits, NoCharacter}
+use Rattle.holders.specs.Finding.{Found, in_cell, PlaceOf, own_place, a_name_of}
+use Rattle.holders.specs.Asked.{Limits}
 use Rattle.holders.specs.Evaluating.{root_at, path_steps}
 use Rattle.holders.specs.Procedures.{AllPaths}
 use Rattle.holders.proofs.PathLemmas.{ways_back}
@@ -130,39 +130,49 @@ lent_target level ms os world f node a = record {
   has = (refl, omega (arith, number_first os a, number_below a));
 }
 
+-- a cell or a character at the end of a chain
+pub record AtCell (os : List Owner) (world : World) (root : ℕ) (steps : List Step) (f : Form) (l : Location) : Type 0 where
+  pub chain : Chain os world (record { form = f; at = l })
+  pub goes : Goes steps chain.path
+  pub is : number chain.at ≡ root
+
+pub at_cell : {os : List Owner} {world : World} {root : ℕ} {steps : List Step} {f : Form} {l : Location} → Found os world true root steps f l →
+    AtCell os world root steps f l
+at_cell (in_cell c goes) = record { chain = c; goes = goes; is = refl }
+
 abbrev pub place_target : (level : ℕ) (ms os : List Owner) (world : World) (r : ℕ) (steps : List Step) {found_steps : List Step} {f : Form} {l : Location} →
-    AtCell (ms ++ os) world (length ms + r) found_steps f l → found_steps ≡ steps → TargetIn level ms os world
-place_target level ms os world r steps {f = f} {l = l} a same = record {
-  key = at_root r steps;
-  owner = record { form = f; at = l };
-  chain = a.chain;
-  has = (a.is, subst (λ s. Goes s a.chain.path) same a.goes);
-}
+    Found (ms ++ os) world true (length ms + r) found_steps f l → found_steps ≡ steps → TargetIn level ms os world
+place_target level ms os world r steps {f = f} {l = l} found same =
+    let a = at_cell found in
+    record {
+      key = at_root r steps;
+      owner = record { form = f; at = l };
+      chain = a.chain;
+      has = (a.is, subst (λ s. Goes s a.chain.path) same a.goes);
+    }
 
 module _ {here : Here} {limits : Limits} {root : (global : Bool) → ℕ → ℕ} {uses : (position : ℕ) → Use} {ms os : List Owner} {blocks : List ℕ}
     {world : World} where
   abbrev pub targets_in : {args : Args} {i : ℕ} {xs : List Operand} {given : List ℕ} (t : Taken here limits root uses ms os blocks world args i xs given) →
-      NoCharacter here.facts args → List (TargetIn here.level ms os world)
-  targets_in none_taken no_text = []
-  targets_in (bare_taken which b more) no_text = targets_in more no_text
-  targets_in (held_taken purpose u more apart) no_text = targets_in more no_text
-  targets_in (lent_taken {value = value} purpose hooks own a more) no_text =
-      lent_target here.level ms os world (form_for here.facts (type_of value)) (node_of value).number a ∷ targets_in more no_text
-  targets_in (place_taken {path = path} f e more) no_text =
-      place_target here.level ms os world (root_at root path) (path_steps path) (e.1 no_text.0) e.0 ∷ targets_in more no_text.1
+      List (TargetIn here.level ms os world)
+  targets_in none_taken = []
+  targets_in (bare_taken which b more) = targets_in more
+  targets_in (held_taken purpose u more apart) = targets_in more
+  targets_in (lent_taken {value = value} purpose hooks own a more) =
+      lent_target here.level ms os world (form_for here.facts (type_of value)) (node_of value).number a ∷ targets_in more
+  targets_in (place_taken {path = path} f e more) =
+      place_target here.level ms os world (root_at root path) (path_steps path) f e ∷ targets_in more
 
   pub all_in : (P : Key → Type 0) {args : Args} {i : ℕ} {xs : List Operand} {given : List ℕ} → ((n : ℕ) → Member n (own_numbers here args) → P (at_node n)) →
       AllPaths (λ path. P (at_root (root_at root path) (path_steps path))) args →
-      (t : Taken here limits root uses ms os blocks world args i xs given) (no_text : NoCharacter here.facts args) → AllKeys P (targets_in t no_text)
-  all_in P nodes paths none_taken no_text = tt
-  all_in P nodes paths (bare_taken {value = value} {rest = rest} which b more) no_text =
-      all_in P (λ n m. nodes n (own_rest here value rest n m)) paths more no_text
-  all_in P nodes paths (held_taken {value = value} {rest = rest} purpose u more apart) no_text =
-      all_in P (λ n m. nodes n (own_rest here value rest n m)) paths more no_text
-  all_in P nodes paths (lent_taken {value = value} {rest = rest} purpose hooks own a more) no_text =
-      (nodes (node_of value).number (own_first here value rest hooks), all_in P (λ n m. nodes n (own_rest here value rest n m)) paths more no_text)
-  all_in P nodes paths (place_taken {path = path} f e more) no_text =
-      (paths.0, all_in P nodes paths.1 more no_text.1)
+      (t : Taken here limits root uses ms os blocks world args i xs given) → AllKeys P (targets_in t)
+  all_in P nodes paths none_taken = tt
+  all_in P nodes paths (bare_taken {value = value} {rest = rest} which b more) = all_in P (λ n m. nodes n (own_rest here value rest n m)) paths more
+  all_in P nodes paths (held_taken {value = value} {rest = rest} purpose u more apart) =
+      all_in P (λ n m. nodes n (own_rest here value rest n m)) paths more
+  all_in P nodes paths (lent_taken {value = value} {rest = rest} purpose hooks own a more) =
+      (nodes (node_of value).number (own_first here value rest hooks), all_in P (λ n m. nodes n (own_rest here value rest n m)) paths more)
+  all_in P nodes paths (place_taken {path = path} f e more) = (paths.0, all_in P nodes paths.1 more)
 
 -- ---- the globals
 

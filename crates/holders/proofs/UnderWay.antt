@@ -52,7 +52,7 @@ hand_below (z ∷ xs) zero x e = omega arith
 hand_below (z ∷ xs) (suc i) x e = omega (arith, hand_below xs i x e)
 
 -- what stands somewhere isn't the next one under way
-not_next : (world : World) (b : Base) (x : Value) → IsBase world b x → b ≡ InHand (length world.hand) → ⊥
+pub not_next : (world : World) (b : Base) (x : Value) → IsBase world b x → b ≡ InHand (length world.hand) → ⊥
 not_next world b x h e = too_far (subst (λ b. IsBase world b x) e h)
   where
     too_far : IsBase world (InHand (length world.hand)) x → ⊥
@@ -78,10 +78,10 @@ module _ (world after : World) (v x : Value) (is : IsBase after (InHand (length 
   last : Last after.hand x (length world.hand)
   last = last_is after.hand (length world.hand) x (in_hand_is is) (hand ∙ length_more world.hand v)
 
-  popped_stays : (b : Base) (y : Value) → IsBase after b y → (b ≡ InHand (length world.hand) → ⊥) → IsBase (popped after) b y
+  pub popped_stays : (b : Base) (y : Value) → IsBase after b y → (b ≡ InHand (length world.hand) → ⊥) → IsBase (popped after) b y
   popped_stays b y h d = popped_elsewhere after last.others x last.is h (λ e. d (e ∙ ap InHand last.count))
 
-  popped_hand : length (popped after).hand ≡ length world.hand
+  pub popped_hand : length (popped after).hand ≡ length world.hand
   popped_hand = ap (λ (hand : List Value). length (take (length hand - 1) hand)) last.is ∙ ap (λ (hand : List Value). length hand) (before_last last.others x)
       ∙ last.count
 

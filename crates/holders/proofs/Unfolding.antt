@@ -14,8 +14,8 @@ use Rattle.holders.specs.Finding.{ItemForm, of_sequence, of_array, of_text}
 use Rattle.holders.proofs.Bases.{whole_is, loaded}
 use Rattle.holders.proofs.Moving.{owns}
 use Rattle.holders.proofs.Assigning.{row_has}
-use Rattle.holders.proofs.Guards.{read_at}
-use Rattle.holders.proofs.Opening.{all_parts}
+use Rattle.holders.proofs.Guards.{read_there}
+use Rattle.holders.proofs.Openings.{all_parts}
 use Rattle.holders.proofs.Working.{all_at, all_both, all_without, apart_without, among_first}
 use Rattle.holders.proofs.OpenedAt.{OpenAt, open_at, as_it_is, part_among}
 
@@ -93,7 +93,7 @@ unfolded inner {os} {world} level node t i (of_array {n = n} {f = g}) hooks out 
           stands_in = own.stands_in;
           value = own.value;
           blocks = own.mine;
-          from = read_at own.cell.at own.cell.is;
+          from = read_there own.cell.at own.cell.is;
           has = own.cell.has;
           items = λ same j less.
               subst (λ v. Among qs (record { form = g; at = item_of v (at_base (Waiting level node)) j })) (sym h.is) (there j less);
@@ -118,7 +118,7 @@ unfolded inner {os} {world} level node t i (of_sequence {f = g}) hooks out = by 
       stands_in = o.stands_in;
       value = o.value;
       blocks = o.mine;
-      from = read_at o.cell.at o.cell.is;
+      from = read_there o.cell.at o.cell.is;
       has = o.cell.has;
       items = items;
     }

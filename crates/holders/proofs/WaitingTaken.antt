@@ -2,7 +2,7 @@
 use Rattle.std.proofs.Common.{◌≡◌, refl, sym, ap, subst, ◌∙◌, arith, ℕ, suc, ◌+◌, Bool, true, false, inl, inr, ◌⊎◌, List, [], ◌∷◌, ◌++◌, length}
 use Rattle.std.specs.Prelude.{nat_eq}
 use Rattle.std.proofs.lemmas.Bool.{false≢true, eqb-true, eq-eqb}
-use Rattle.nim_types.specs.Forms.{Form, Forms, plain}
+use Rattle.nim_types.specs.Forms.{Form, Forms}
 use Rattle.nim_program.specs.declared.operation.Use.{Use}
 use Rattle.nim_program.specs.declared.operation.Use.TheVariants.{Lent, Held}
 use Rattle.nim_program.specs.Program.{Expr, Path, Args, NoArg, ByValue, ByPath, type_of, type_at, node_of}
@@ -17,8 +17,8 @@ use Rattle.holders.specs.Owned.{Full, Has, IsBase, PartForm}
 use Rattle.holders.specs.Becoming.{Strange, times}
 use Rattle.holders.specs.Territory.{Owner, NoBaseOf, ClearOf, Territory, Among, first_owner, later_owner}
 use Rattle.holders.specs.Working.{number, without}
-use Rattle.holders.specs.Ways.{Step, Opens, an_object, an_array, a_block, Way, arrived, a_step, Chain}
-use Rattle.holders.specs.Finding.{Found, in_cell, a_character}
+use Rattle.holders.specs.Ways.{Step, Opens, an_object, an_array, a_block, letters, Way, arrived, a_step, Chain}
+use Rattle.holders.specs.Finding.{Found, in_cell}
 use Rattle.holders.specs.Handing.{UnderWay}
 use Rattle.holders.specs.Running.{Region, IsOutside}
 use Rattle.holders.specs.Staging.{StageWith}
@@ -34,8 +34,6 @@ use Rattle.holders.specs.Asked.{Limits}
 use Rattle.holders.proofs.PartsInTurn.{without_node_in, without_node_distinct, without_node_gone}
 use Rattle.holders.specs.Evaluating.{IsWaiting, Leaves, Bare, root_at, path_steps}
 use Rattle.holders.specs.Evaluating.{IsBare}
-use Rattle.holders.specs.Finding.{AtCell}
-use Rattle.holders.specs.Asked.{is_character}
 
 -- ---- cells
 
@@ -80,13 +78,11 @@ module _ {world after : World} (b : Base) (block : (k : ℕ) → InBlock k ≡ b
       a_step (a_block (loaded after l own.stands_in (keeps l.base own.stands_in own.cell.at.base off)
       ∙ (sym (loaded world l own.stands_in own.cell.at.base) ∙ e)))
       p (way_kept t (record { from = c.from; at = c.at; path = c.path ++ i ∷ []; way = way_further c.way (a_block e) p }) (λ q. block _ q) w)
-
-  -- what stands there isn't at the base either
-  pub way_off : {o m : Owner} {path : List ℕ} → (o.at.base ≡ b → ⊥) → Way world o m path → m.at.base ≡ b → ⊥
-  way_off off arrived = off
-  way_off off (a_step an_object p w) = way_off off w
-  way_off off (a_step an_array p w) = way_off off w
-  way_off off (a_step (a_block e) p w) = way_off (λ q. block _ q) w
+  way_kept {os} t c off (a_step {i = i} (letters {l = l} e) p w) =
+      let own = chain_owns t c in
+      a_step (letters (loaded after l own.stands_in (keeps l.base own.stands_in own.cell.at.base off)
+      ∙ (sym (loaded world l own.stands_in own.cell.at.base) ∙ e)))
+      p (way_kept t (record { from = c.from; at = c.at; path = c.path ++ i ∷ []; way = way_further c.way (letters e) p }) (λ q. block _ q) w)
 
   -- a place that was looked up
   pub found_kept : (ms ks os : List Owner) (r : ℕ) {n : ℕ} {steps : List Step} {f : Form} {l : Location} → Territory (ms ++ os) world → NoBaseOf b os →
@@ -101,33 +97,6 @@ module _ {world after : World} (b : Base) (block : (k : ℕ) → InBlock k ≡ b
         path = c.path;
         way = way_kept t start (λ q. all_at (λ o. b ≡ o.at.base → ⊥) off second.at (sym q)) c.way;
       }) goes)
-  found_kept ms ks os r {steps = steps} {l = l} t off (a_character {m = m} {k = k} j c e le) q =
-      let second = among_split ms c.at r q in
-      let start : Chain (ms ++ os) world c.from = record { from = c.from; at = c.at; path = []; way = arrived } in
-      let from_off : c.from.at.base ≡ b → ⊥ = λ z. all_at (λ o. b ≡ o.at.base → ⊥) off second.at (sym z) in
-      let own = chain_owns t c in
-      let same = loaded after m own.stands_in (keeps m.base own.stands_in own.cell.at.base (way_off from_off c.way))
-      ∙ sym (loaded world m own.stands_in own.cell.at.base) in
-      subst (λ n. Found (ks ++ os) after true n steps plain (record m { base = InBlock k; path = j ∷ [] }))
-      (number_second ks second.at ∙ ap (λ n. length ks + n) second.is)
-      (a_character j (record { from = c.from; at = among_second ks second.at; path = c.path; way = way_kept t start from_off c.way }) (same ∙ e) le)
-
-  pub cell_kept : (ms ks os : List Owner) (r : ℕ) {n : ℕ} {steps : List Step} {f : Form} {l : Location} → Territory (ms ++ os) world → NoBaseOf b os →
-      AtCell (ms ++ os) world n steps f l → n ≡ length ms + r → AtCell (ks ++ os) after (length ks + r) steps f l
-  cell_kept ms ks os r t off a e =
-      let c = a.chain in
-      let second = among_split ms c.at r (a.is ∙ e) in
-      let start : Chain (ms ++ os) world c.from = record { from = c.from; at = c.at; path = []; way = arrived } in
-      record {
-        chain = record {
-          from = c.from;
-          at = among_second ks second.at;
-          path = c.path;
-          way = way_kept t start (λ q. all_at (λ o. b ≡ o.at.base → ⊥) off second.at (sym q)) c.way;
-        };
-        goes = a.goes;
-        is = number_second ks second.at ∙ ap (λ n. length ks + n) second.is;
-      }
 
 -- ---- operands, where one was taken up
 
@@ -174,9 +143,7 @@ module _ (here : Here) (limits : Limits) (root : (global : Bool) → ℕ → ℕ
         is_text value ≡ false → Among ms (record { form = form_for here.facts (type_of value); at = at_base (Waiting here.level (node_of value).number) }) →
         Taken rest (suc i) xs given → Taken (ByValue value rest) i (At (at_base (Waiting here.level (node_of value).number)) ∷ xs) given
     place_taken : {path : Path} {rest : Args} {i : ℕ} {steps : List Step} {l : Location} {xs : List Operand} {given : List ℕ} →
-        Found (ms ++ os) world true (length ms + root_at root path) steps (form_for here.facts (type_at path)) l →
-        (steps ≡ path_steps path) × (is_character here.facts path ≡ false →
-        AtCell (ms ++ os) world (length ms + root_at root path) steps (form_for here.facts (type_at path)) l) →
+        Found (ms ++ os) world true (length ms + root_at root path) steps (form_for here.facts (type_at path)) l → steps ≡ path_steps path →
         Taken rest (suc i) xs given → Taken (ByPath path rest) i (At l ∷ xs) given
 
 -- values under way stay so

@@ -63,7 +63,7 @@ module _ (here : Here) (scope : scopes.Here) (limits : Limits) (root : (global :
   without_calls : Elsewhere here scope limits root first places os NoCalls
   without_calls =
       all_but_calls here scope limits root first places os NoCalls sorted
-      (λ node ty proc types operands how simple act asked regular fit typed d ready. absurd act.1.1.1)
+      (λ node ty proc types operands how simple act asked regular fit typed d ready. absurd act.1.1)
 
   pub value_comes : (e : Expr) (how : Use) → is_typed (known_at here scope) e ≡ true → Asked here.facts limits NoCalls e → Distinct (value_nodes e) →
       ValueSo here (known_at here scope) limits root first places os e how

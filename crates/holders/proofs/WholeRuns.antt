@@ -133,10 +133,10 @@ module _ (program : Program) (plan : Plan) (typed : IsTyped program) (numbered :
   abbrev procs : List Proc
   procs = program.procs
 
-  abbrev named : (proc g : ℕ) → Bool
+  abbrev pub named : (proc g : ℕ) → Bool
   named = names_of procs
 
-  abbrev kept : List Param → ℕ → Bool
+  abbrev pub kept : List Param → ℕ → Bool
   kept params = lent_params params
 
   -- ---- what typing says
@@ -146,7 +146,7 @@ module _ (program : Program) (plan : Plan) (typed : IsTyped program) (numbered :
       let t = and_parts (are_declared facts types) (are_typed_procs program procs && is_typed_start program program.start) typed.typed in
       (t.0, and_parts (are_typed_procs program procs) (is_typed_start program program.start) t.1)
 
-  declared : are_declared facts types ≡ true
+  pub declared : are_declared facts types ≡ true
   declared = all_typed.0
 
   simple : (ty : Ty) → is_among_types types ty ≡ true → is_unbuilt facts ty ≡ false → Simple facts ty
@@ -298,16 +298,16 @@ module _ (program : Program) (plan : Plan) (typed : IsTyped program) (numbered :
 
   -- ---- scopes
 
-  abbrev InProgram : scopes.Here → Type 0
+  abbrev pub InProgram : scopes.Here → Type 0
   InProgram scope = (filled : ℕ) × ((places : List Placed) × (scope ≡ scope_at program filled places None))
 
-  more_places : (scope : scopes.Here) (place : Declared) → InProgram scope → InProgram (with_place scope place)
+  pub more_places : (scope : scopes.Here) (place : Declared) → InProgram scope → InProgram (with_place scope place)
   more_places scope place k = (k.0, (k.1.0 ++ placed place ∷ [], ap (λ (s : scopes.Here). with_place s place) k.1.1))
 
   more_globals : (scope : scopes.Here) → InProgram scope → InProgram (with_global scope)
   more_globals scope k = (suc k.0, (k.1.0, ap (λ (s : scopes.Here). with_global s) k.1.1))
 
-  abbrev Asks : Limits → ℕ → Args → Type 0
+  abbrev pub Asks : Limits → ℕ → Args → Type 0
   Asks = Of types facts typed.forms declared named
 
   -- ---- bodies, where their calls give what they should
@@ -325,7 +325,7 @@ module _ (program : Program) (plan : Plan) (typed : IsTyped program) (numbered :
         kept_so = λ params. all_kept params;
       }
 
-  calls_at : (level : ℕ) (act : Calls) (caller : Body) → CallsGive program named kept act (suc level) → (first places : ℕ) (scope : scopes.Here) →
+  pub calls_at : (level : ℕ) (act : Calls) (caller : Body) → CallsGive program named kept act (suc level) → (first places : ℕ) (scope : scopes.Here) →
       InProgram scope → (limits : Limits) (root : (global : Bool) → ℕ → ℕ) (os : List Owner) →
       CallsSo (from_level program plan level act caller) scope limits root first places os (Asks limits)
   calls_at level act caller gives first places scope k limits root os =
@@ -367,7 +367,7 @@ module _ (program : Program) (plan : Plan) (typed : IsTyped program) (numbered :
           (among_second types (place_types (param_declared p.params)) (place_types (if_declared body.result) ++ total_of lists own_types body.stmts) t.among))
           k.lent (occur_in_body procs found proc p body e f k.unnamed)
 
-  bodies_so : BodiesSo program named kept plan
+  pub bodies_so : BodiesSo program named kept plan
   bodies_so = record {
     known = λ proc p body e f. proc_so p body (known_at proc p body e f);
     so = λ left level proc p body e f gives. body_so left level proc p body e f gives;

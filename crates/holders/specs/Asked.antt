@@ -8,7 +8,7 @@ use Rattle.nim_program.specs.Program.{Act, Doing, Building, Giving, Calling, Exp
 use Rattle.nim_program.specs.Program.{Args, NoArg, ByValue, ByPath, type_at, Declared, Kind, Stmt, Do, Idle, Give, Leave, Select, Loop, Raise, Try}
 use Rattle.nim_program.specs.Program.{Stmts, Empty, Then, Declare, Defer, Blocks, Otherwise, Block}
 use Rattle.nim_program.specs.Folds.{loop_places}
-use Rattle.nim_program.specs.Kinds.{kind_of, kind_if, is_declared_as, is_held, is_text}
+use Rattle.nim_program.specs.Kinds.{kind_of, kind_if, is_declared_as, is_held}
 use Rattle.lending_laws.specs.Writing.{kept_within}
 use Rattle.holders.specs.Owned.{HasBlocksAlone}
 
@@ -54,16 +54,6 @@ AllWrite limits NoArg = Unit {0}
 AllWrite limits (ByValue value rest) = AllWrite limits rest
 AllWrite limits (ByPath path rest) = (may_write limits path ≡ true) × AllWrite limits rest
 
--- a character of a text
-abbrev pub is_character : Facts → Path → Bool
-is_character facts (Element node ty base index constant) = is_text (kind_if facts (type_at base))
-is_character facts path = false
-
-abbrev pub NoCharacter : Facts → Args → Type 0
-NoCharacter facts NoArg = Unit {0}
-NoCharacter facts (ByValue value rest) = NoCharacter facts rest
-NoCharacter facts (ByPath path rest) = (is_character facts path ≡ false) × NoCharacter facts rest
-
 -- what is asked of a call besides
 module _ (facts : Facts) (limits : Limits) (OfCall : (proc : ℕ) → Args → Type 0) where
   abbrev pub ActAsked : Act → Args → Type 0
@@ -72,7 +62,7 @@ module _ (facts : Facts) (limits : Limits) (OfCall : (proc : ℕ) → Args → T
   ActAsked (Doing operation) operands = AllWrite limits operands
   ActAsked (Building fields) operands = Unit {0}
   ActAsked (Giving literal) operands = Unit {0}
-  ActAsked (Calling proc types) operands = (types ≡ []) × (AllWrite limits operands × (NoCharacter facts operands × OfCall proc operands))
+  ActAsked (Calling proc types) operands = (types ≡ []) × (AllWrite limits operands × OfCall proc operands)
 
   abbrev mutual
     pub Asked : Expr → Type 0

@@ -22,12 +22,12 @@ use Rattle.nim_meaning.specs.Aims.{Aim, Root, Value_of, Waits_at, Ready, Evaluat
 use Rattle.holders.specs.Owned.{Constant, Has, IsBase, Active}
 use Rattle.holders.specs.Territory.{Owner, AllOwners, Territory, Among}
 use Rattle.holders.specs.Ways.{Step, to_field, to_element}
-use Rattle.holders.specs.Finding.{Found, PlaceOf, AimsAt, IsWhole, AtCell, steps_of}
+use Rattle.holders.specs.Finding.{Found, PlaceOf, AimsAt, steps_of}
 use Rattle.holders.specs.Running.{Region, IsOutside}
 use Rattle.holders.specs.Staging.{Stage, Holding}
 use Rattle.holders.specs.Groups.{Ends}
 use Rattle.holders.specs.Used.{WaitsThere}
-use Rattle.holders.specs.Asked.{Limits, may_write_at, may_write, is_character}
+use Rattle.holders.specs.Asked.{Limits, may_write_at, may_write}
 
 -- ---- nodes
 
@@ -171,10 +171,8 @@ IfFresh path P = Unit {0}
 -- from a place that is in scope, or from what the part made
 pub data Aims (here : Here) (scope : scopes.Here) (limits : Limits) (root : (global : Bool) → ℕ → ℕ) (ms os : List Owner) (path : Path) (f : Form)
     (aim : Aim) : Type 0 where
-  at_place : (h : (world : World) → Scene here scope limits root os world → AimsAt os world (may_write limits path) (root_at root path) aim f) →
-      (steps_of aim ≡ path_steps path)
-      × (is_character here.facts path ≡ false → (world : World) (sees : Scene here scope limits root os world) → IsWhole aim (h world sees)) →
-      IfFresh path ⊥ → Aims here scope limits root ms os path f aim
+  at_place : ((world : World) → Scene here scope limits root os world → AimsAt os world (may_write limits path) (root_at root path) aim f) →
+      steps_of aim ≡ path_steps path → IfFresh path ⊥ → Aims here scope limits root ms os path f aim
   at_made : {n : ℕ} → may_write limits path ≡ false → ((world : World) → AimsAt ms world false n aim f) → IfFresh path (IsFreshRoot aim) →
       Aims here scope limits root ms os path f aim
 
@@ -241,8 +239,7 @@ module _ (here : Here) (scope : scopes.Here) (limits : Limits) (root : (global :
         Settled h (ByValue value rest) i (At (at_base (Waiting here.level (node_of value).number)) ∷ xs)
     found : {h : Hand} {path : Path} {rest : Args} {i n : ℕ} {steps : List Step} {l : Location} {xs : List Operand} →
         Found (ms ++ os) now (may_write limits path) n steps (form_for here.facts (type_at path)) l →
-        ((may_write limits path ≡ true) → (n ≡ length ms + root_at root path) × (steps ≡ path_steps path)
-        × (is_character here.facts path ≡ false → AtCell (ms ++ os) now n steps (form_for here.facts (type_at path)) l)) → Settled h rest (suc i) xs →
+        ((may_write limits path ≡ true) → (n ≡ length ms + root_at root path) × (steps ≡ path_steps path)) → Settled h rest (suc i) xs →
         Settled h (ByPath path rest) i (At l ∷ xs)
     seen : {value : Expr} {i : ℕ} {v : Value} {bs : List ℕ} → uses i ≡ Looked → Has now Constant (of_value value) v bs →
         Settled empty (ByValue value NoArg) i (Given v ∷ [])

@@ -1,8 +1,8 @@
--- Where paths lead: to what stands in cells, to a character of a text there, and to what is read alone.
-use Rattle.std.specs.Prelude.{◌≡◌, ◌<◌, ℕ, Bool, false, List, [], ◌∷◌, ◌++◌, Some}
+-- Where paths lead: to what stands in cells, and to what is read alone.
+use Rattle.std.specs.Prelude.{◌≡◌, ℕ, Bool, false, List, [], ◌∷◌, ◌++◌}
 use Rattle.nim_types.specs.Forms.{Form, plain, block, elements, row, parts, Forms}
-use Rattle.nim_meaning.specs.Values.{Value, Handle, Standing, Waiting, InBlock, Made, Location, at_base}
-use Rattle.nim_meaning.specs.State.{World, load}
+use Rattle.nim_meaning.specs.Values.{Value, Standing, Waiting, Made, Location, at_base}
+use Rattle.nim_meaning.specs.State.{World}
 use Rattle.nim_meaning.specs.Aims.{Aim, Root, Value_of, PartOf, ItemOf, ObjectOf, Waits_at}
 use Rattle.holders.specs.Owned.{From, Constant, Has, IsName, PartForm}
 use Rattle.holders.specs.Territory.{Owner, Among}
@@ -13,8 +13,6 @@ use Rattle.holders.specs.Ways.{Step, to_field, to_element, Chain, Goes}
 pub data Found (os : List Owner) (world : World) : (written : Bool) → (root : ℕ) → List Step → Form → Location → Type 0 where
   in_cell : {b : Bool} {steps : List Step} {f : Form} {m : Location} (c : Chain os world (record { form = f; at = m })) → Goes steps c.path →
       Found os world b (number c.at) steps f m
-  a_character : {b : Bool} {steps : List Step} {m : Location} {n k : ℕ} (j : ℕ) (c : Chain os world (record { form = block; at = m })) →
-      load world m ≡ Handle n (Some k) → j < n → Found os world b (number c.at) steps plain (record m { base = InBlock k; path = j ∷ [] })
   to_be_read : {root : ℕ} {steps : List Step} {f : Form} {m : Location} {u v constant : Value} → m.base ≡ Made constant → From world m u v →
       Has world Constant f v [] →
       Found os world false root steps f m
@@ -43,17 +41,6 @@ pub data AimsAt (os : List Owner) (world : World) : (written : Bool) → (root :
   at_field : {b : Bool} {root : ℕ} {aim : Aim} {i : ℕ} {fs : Forms} {f : Form} → AimsAt os world b root aim (parts fs) → PartForm fs i f →
       AimsAt os world b root (PartOf aim i) f
   at_element : {b : Bool} {root : ℕ} {aim : Aim} {z : _} {f g : Form} → AimsAt os world b root aim f → ItemForm f g → AimsAt os world b root (ItemOf aim z) g
-
--- whose last step isn't one to a character of a text
-abbrev pub IsWhole : {os : List Owner} {world : World} {b : Bool} {root : ℕ} (aim : Aim) {f : Form} → AimsAt os world b root aim f → Type 0
-IsWhole (ItemOf aim z) (at_element {f = f} from item) = f ≡ block → ⊥
-IsWhole aim a = Unit {0}
-
--- a cell at the end of a chain
-pub record AtCell (os : List Owner) (world : World) (root : ℕ) (steps : List Step) (f : Form) (l : Location) : Type 0 where
-  pub chain : Chain os world (record { form = f; at = l })
-  pub goes : Goes steps chain.path
-  pub is : number chain.at ≡ root
 
 -- the steps of a path
 abbrev pub steps_of : Aim → List Step

@@ -24,3 +24,4 @@ pub mod Procedures
 pub mod BodyParts
 pub mod Numbered
 pub mod Released
+pub mod Holdings

@@ -169,3 +169,23 @@ pub record Cell (f : Form) (l : Location) (w v : Value) (bs : List ℕ) (world :
   pub has : Has world Full f v bs
   pub distinct : Distinct bs
   pub apart : Apart l.base bs
+
+-- ---- and characters of texts, which may become others as well
+
+pub data MayBecome : Value → List ℕ → Type 0 where
+  in_rows : {w : Value} {path : List ℕ} → HasPart w path → MayBecome w path
+  a_letter : {t : List ℕ} {i : ℕ} → i < length t → MayBecome (Fixed t) (i ∷ [])
+
+-- a location where something stands, in w, and may be another value
+pub record Lies (world : World) (l : Location) (w : Value) : Type 0 where
+  pub base : IsBase world l.base w
+  pub part : MayBecome w l.path
+  pub may : MayStore l.base l.path
+
+-- a cell, or a character
+pub record Keeps (f : Form) (l : Location) (w v : Value) (bs : List ℕ) (world : World) : Type 0 where
+  pub at : Lies world l w
+  pub is : part w l.path ≡ v
+  pub has : Has world Full f v bs
+  pub distinct : Distinct bs
+  pub apart : Apart l.base bs

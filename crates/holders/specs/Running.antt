@@ -5,7 +5,7 @@ use Rattle.nim_meaning.specs.Marks.{Member}
 use Rattle.nim_meaning.specs.State.{World}
 use Rattle.holders.specs.Owned.{IsBase, Apart, IsName, Active}
 use Rattle.holders.specs.Becoming.{taken_in, times, none, LosesNone}
-use Rattle.holders.specs.Territory.{Owner, AllOwners, OtherThan, Territory, StandsAt, RowAt, LeaveRow, NoBaseOf}
+use Rattle.holders.specs.Territory.{Owner, AllOwners, OtherThan, Territory, StandsAt, Shape, RowAt, LeaveRow, NoBaseOf}
 
 -- what isn't of calls from a level on
 abbrev pub IsBelow : ℕ → Base → Type 0
@@ -35,7 +35,7 @@ pub record Wider (r inner : Region) : Type 0 where
 pub record Passes (r : Region) (gs : List Owner) (old : List ℕ) (world after : World) : Type 0 where
   pub bases : (b : Base) (x : Value) → IsBase world b x → IsOutside r b → NoBaseOf b gs → Apart b old → IsBase after b x
   pub parts : (l : Location) (v : Value) → StandsAt world l v → IsOutside r l.base → OtherThan l gs → Apart l.base old → StandsAt after l v
-  pub rows : (l : Location) (n : ℕ) → RowAt world l n → IsOutside r l.base → LeaveRow l gs → Apart l.base old → RowAt after l n
+  pub rows : (l : Location) (shape : Shape) → RowAt world l shape → IsOutside r l.base → LeaveRow l gs → Apart l.base old → RowAt after l shape
   pub grows : taken_in world ≤ taken_in after
   pub hand : length after.hand ≡ length world.hand
   pub names : (l n : ℕ) (to : Location) → IsName world.frames l n to → (l < r.level) ⊎ ((l ≡ r.level) × (r.places n ≡ true → ⊥)) → IsName after.frames l n to

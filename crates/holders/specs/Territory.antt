@@ -1,10 +1,10 @@
 -- What a call may touch: cells that lie apart from one another. All else is as it was.
-use Rattle.std.specs.Prelude.{◌≡◌, ℕ, ◌+◌, ◌≤◌, ◌⊎◌, List, [], ◌∷◌, ◌++◌}
+use Rattle.std.specs.Prelude.{◌≡◌, ℕ, ◌+◌, ◌≤◌, ◌⊎◌, List, [], ◌∷◌, ◌++◌, length}
 use Rattle.nim_types.specs.Forms.{Form}
-use Rattle.nim_meaning.specs.Values.{Value, Parts, Values, count, Base, Location, part}
+use Rattle.nim_meaning.specs.Values.{Value, Parts, Fixed, Values, count, Base, Location, part}
 use Rattle.nim_meaning.specs.Marks.{Member, Distinct}
 use Rattle.nim_meaning.specs.State.{World}
-use Rattle.holders.specs.Owned.{IsBase, HasPart, At, Cell, Apart, Stays}
+use Rattle.holders.specs.Owned.{IsBase, HasPart, Lies, Keeps, Apart, Stays}
 use Rattle.holders.specs.Becoming.{taken_in, times, none, LosesNone, BecomesWith, Strange}
 use Rattle.holders.specs.Beside.{OtherPart}
 
@@ -15,7 +15,7 @@ pub record Owner : Type 0 where
 
 pub data Cells (world : World) : List Owner → (blocks : List ℕ) → Type 0 where
   no_cells : Cells world [] []
-  a_cell : {o : Owner} {os : List Owner} {w v : Value} {bs cs : List ℕ} → Cell o.form o.at w v bs world → Cells world os cs → Cells world (o ∷ os) (bs ++ cs)
+  a_cell : {o : Owner} {os : List Owner} {w v : Value} {bs cs : List ℕ} → Keeps o.form o.at w v bs world → Cells world os cs → Cells world (o ∷ os) (bs ++ cs)
 
 abbrev pub AllOwners : (Owner → Type 0) → List Owner → Type 0
 AllOwners P [] = Unit {0}
@@ -45,19 +45,26 @@ pub record Territory (os : List Owner) (world : World) : Type 0 where
 -- a value stands at a location
 pub record StandsAt (world : World) (l : Location) (v : Value) : Type 0 where
   pub whole : Value
-  pub at : At world l whole
+  pub at : Lies world l whole
   pub is : part whole l.path ≡ v
 
--- a row of so many parts stands at a location
-pub record RowAt (world : World) (l : Location) (n : ℕ) : Type 0 where
+-- a row of so many parts, and a text of so many characters
+pub data Shape : Type 0 where
+  of_parts : (n : ℕ) → Shape
+  of_characters : (n : ℕ) → Shape
+
+pub data HasShape : Shape → Value → Type 0 where
+  is_row : {n : ℕ} {all : Values} → count all ≡ n → HasShape (of_parts n) (Parts all)
+  is_text : {n : ℕ} {t : List ℕ} → length t ≡ n → HasShape (of_characters n) (Fixed t)
+
+-- one stands at a location
+pub record RowAt (world : World) (l : Location) (shape : Shape) : Type 0 where
   pub whole : Value
   pub base : IsBase world l.base whole
   pub part_there : HasPart whole l.path
-  pub all : Values
-  pub is : part whole l.path ≡ Parts all
-  pub count_is : count all ≡ n
+  pub is : HasShape shape (part whole l.path)
 
--- m is a part of what stands at l, or a part of one
+-- m is a part of what stands at l, or a part of one; or a character
 pub record IsUnder (m l : Location) : Type 0 where
   pub base : m.base ≡ l.base
   pub position : ℕ
@@ -74,7 +81,7 @@ NoBaseOf b os = AllOwners (λ o. b ≡ o.at.base → ⊥) os
 pub record Alone (os : List Owner) (old : List ℕ) (world after : World) : Type 0 where
   pub bases : (b : Base) (x : Value) → IsBase world b x → NoBaseOf b os → Apart b old → IsBase after b x
   pub parts : (l : Location) (v : Value) → StandsAt world l v → OtherThan l os → Apart l.base old → StandsAt after l v
-  pub rows : (l : Location) (n : ℕ) → RowAt world l n → LeaveRow l os → Apart l.base old → RowAt after l n
+  pub rows : (l : Location) (shape : Shape) → RowAt world l shape → LeaveRow l os → Apart l.base old → RowAt after l shape
   pub stays : Stays world after
 
 -- The cells may have other values then, some of them given. All else stays, but for what the cells and these had in blocks. Blocks came from elsewhere,
@@ -99,7 +106,7 @@ pub record Owns (os : List Owner) (blocks : List ℕ) (o : Owner) (world : World
   pub stands_in : Value
   pub value : Value
   pub mine : List ℕ
-  pub cell : Cell o.form o.at stands_in value mine world
+  pub cell : Keeps o.form o.at stands_in value mine world
   pub within : (k : ℕ) → Member k mine → Member k blocks
   pub moves : {goes : ℕ → ℕ} (given : List ℕ) (after : World) → Strange given blocks → ClearOf given os →
       BecomesWith goes o.form o.at stands_in given mine world after → MovesWith (λ k. times k given) goes os given blocks world after

@@ -1,6 +1,6 @@
 -- Ways from cells to what stands in them, step by step.
 use Rattle.std.specs.Prelude.{◌≡◌, ◌<◌, ℕ, zero, suc, List, [], ◌∷◌, Some}
-use Rattle.nim_types.specs.Forms.{Form, elements, row, parts, Forms, no_forms, forms}
+use Rattle.nim_types.specs.Forms.{Form, plain, block, elements, row, parts, Forms, no_forms, forms}
 use Rattle.nim_meaning.specs.Values.{Handle, InBlock, Location, deeper}
 use Rattle.nim_meaning.specs.State.{World, load}
 use Rattle.holders.specs.Owned.{PartForm}
@@ -27,16 +27,17 @@ abbrev pub part_owners : Forms → Location → ℕ → List Owner
 part_owners no_forms l i = []
 part_owners (forms f fs) l i = record { form = f; at = deeper l i } ∷ part_owners fs l (suc i)
 
--- the row in the block of what stands at a location
+-- the row or the text in the block of what stands at a location
 abbrev pub in_block : Location → ℕ → Location
 in_block l k = record l { base = InBlock k; path = [] }
 
--- The parts of what a cell holds: their forms, and the location of the row that they are in.
+-- The parts of what a cell holds, or its characters: their forms, and the location of the row or text that they are in.
 pub data Opens (world : World) : Owner → Forms → Location → Type 0 where
   an_object : {fs : Forms} {l : Location} → Opens world (record { form = parts fs; at = l }) fs l
   an_array : {n : ℕ} {f : Form} {l : Location} → Opens world (record { form = row n f; at = l }) (copies n f) l
   a_block : {n k : ℕ} {f : Form} {l : Location} → load world l ≡ Handle n (Some k) →
       Opens world (record { form = elements f; at = l }) (copies n f) (in_block l k)
+  letters : {n k : ℕ} {l : Location} → load world l ≡ Handle n (Some k) → Opens world (record { form = block; at = l }) (copies n plain) (in_block l k)
 
 -- by the positions of parts
 pub data Way (world : World) : Owner → Owner → List ℕ → Type 0 where
@@ -44,7 +45,7 @@ pub data Way (world : World) : Owner → Owner → List ℕ → Type 0 where
   a_step : {o m : Owner} {fs : Forms} {from : Location} {i : ℕ} {f : Form} {path : List ℕ} → Opens world o fs from → PartForm fs i f →
       Way world (record { form = f; at = deeper from i }) m path → Way world o m (i ∷ path)
 
--- a cell that stands in one of the cells
+-- a cell or a character that stands in one of the cells
 pub record Chain (os : List Owner) (world : World) (target : Owner) : Type 0 where
   pub from : Owner
   pub at : Among os from

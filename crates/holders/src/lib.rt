@@ -7,7 +7,7 @@ mod soundness;
 mod territories;
 
 pub use laws::{deeds, parts, sequences, texts, walks};
-pub use soundness::{released, sound};
+pub use soundness::{contents, released, sound};
 pub use territories::{
     brought_back, calls_as_a_whole, cells, entered, expressions, parts_of_bodies, paths,
     rows_on_cells,

@@ -24,7 +24,7 @@ use Rattle.nim_meaning.specs.Acts.{line_of}
 use Rattle.nim_meaning.specs.Texts.{value_text, text_at, texts_of, are_seen}
 use Rattle.nim_meaning.specs.ActTree.{Path, Operands, Operate}
 use Rattle.nim_meaning.specs.Here.{gives_hooked, any_hooked, form_for}
-use Rattle.nim_meaning.specs.Deeds.{Deed, Gives, Works, Changes, Stores, ◌>>=◌, ◌>>◌, give, branch, looks, unless_gone, sees, takes, sets, write}
+use Rattle.nim_meaning.specs.Deeds.{Deed, Errs, Gives, Works, Changes, Stores, ◌>>=◌, ◌>>◌, give, branch, looks, unless_gone, sees, takes, sets, write}
 use Rattle.nim_meaning.specs.Places.{Destination, taken_by, text_for, made_by, kept_if, fetched, may_change, changes, put, exchanged}
 use Rattle.nim_meaning.specs.OwnedRows.{owned}
 use Rattle.nim_meaning.specs.Table.{outcome, default_for, limit_for, converted, measured, step_by, operate, does, constant_for, literal_bytes, acts}
@@ -32,7 +32,7 @@ use Rattle.nim_meaning.specs.ActsOf.{path_of, act_by}
 use Rattle.nim_meaning.specs.Meaning.{row, got_by, handed_by}
 use Rattle.nim_meaning.specs.Steps.{kept_by}
 use Rattle.nim_meaning.specs.AtPoints.{Alike, Within, Writes, answers, ends_run, at_fault, works, says, looks_at_all, stores, At_none, At_first, At_any, DoneAs}
-use Rattle.nim_meaning.specs.AtPoints.{operates, looks_at, gives_to, writes_first, looks_at_blocks, never_goes_on, writes_there}
+use Rattle.nim_meaning.specs.AtPoints.{operates, looks_at, gives_to, goes_on_as, writes_first, looks_at_blocks, never_goes_on, writes_there}
 use Rattle.nim_meaning.specs.AtPoints.{paths_among}
 
 -- the paths of operands by path, each at its position
@@ -235,7 +235,9 @@ module _ (xs : List Operand) (facts : Facts) (ty : Option Ty) (of : List (Option
       (λ a b h. ap₂ (λ s t. unless_gone s (write Output (line_of t))) (seen_any xs a b h) (texts_alike facts of xs a b h))
       (λ world. guarded (At_any xs) (At_any xs) (are_seen world xs) (works (says answers))))) (λ u. answers {x = nothing})
   does_any O.Quit = ends_run
-  does_any O.Assign = within_put (At_any xs) (At_any xs) (location xs 0) (value xs 1) (at_any xs 0)
+  does_any O.Assign =
+      within_sees (At_any xs) (At_any xs) (location xs 0) (λ old. put (location xs 0) (value xs 1)) (at_any xs 0)
+      (λ old. within_put (At_any xs) (At_any xs) (location xs 0) (value xs 1) (at_any xs 0))
   does_any (O.Update operator) =
       within_takes (At_any xs) (At_any xs) (location xs 0) (λ v. Works (bytes v) (operate operator (number_of v) (step_by xs) >>= put (location xs 0)))
       (at_any xs 0)
@@ -301,12 +303,20 @@ pub done_as : (facts : Facts) (to : Destination) (ty : Option Ty) (of : List (Op
     DoneAs (act_by operation operands on) (paths_in operands) (λ xs. row facts (Doing operation) to ty of xs)
 done_as facts to ty of O.Assign (T.ByPath path rest) on plain h e =
     gives_to (λ xs. subst (λ b. Writes Value (At_first xs) (by_types xs b O.Assign)) (sym (all_plain h))
-    (writes_first (writes_first (if_place xs (may_change (location xs 0).base)))))
+    (writes_first (goes_on_as {rest = λ world. over xs (is_seen world (location xs 0))} (λ world. as_one xs (is_seen world (location xs 0)))
+    (writes_first (if_place xs (may_change (location xs 0).base))))))
   where
     by_types : List Operand → Bool → Operation → Deed Value
     by_types xs b o =
         Works 1 (branch b (looks (λ world. unless_gone (are_seen world xs) (owned o facts ty of xs (does o facts ty of xs)))) (does o facts ty of xs))
         >>= kept_if (gives_hooked facts ty) to
+
+    over : List Operand → Bool → Deed Value
+    over xs b = unless_gone b (put (location xs 0) (value xs 1)) >>= kept_if (gives_hooked facts ty) to
+
+    as_one : (xs : List Operand) (b : Bool) → (over xs b ≡ over xs true) ⊎ (over xs b ≡ Errs)
+    as_one xs true = inl refl
+    as_one xs false = inr refl
 
     set : List Operand → Bool → Deed Value
     set xs b = (unless_gone b (Changes (Stores (location xs 0) (value xs 1)) (Gives (tt {0}))) >> give nothing) >>= kept_if (gives_hooked facts ty) to

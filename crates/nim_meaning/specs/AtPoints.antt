@@ -87,10 +87,12 @@ abbrev pub At_any : List Operand → Location → Type 0
 At_any [] l = l ≡ nowhere
 At_any (x ∷ xs) l = (l ≡ location_of x) ⊎ At_any xs l
 
--- it goes on only where it has written one, and it reads none
+-- it goes on only where it has written one, and it reads none, whatever it is at a fault for
 pub data Writes (A : Type 0) (writes : Location → Type 0) : Deed A → Type 0 where
   writes_first : {n : ℕ} {rest : Deed A} → Writes A writes rest → Writes A writes (Works n rest)
   looks_at_blocks : {rest : World → Deed A} → ((a b : World) → a.heap ≡ b.heap → rest a ≡ rest b) → ((world : World) → Writes A writes (rest world)) →
+      Writes A writes (Looks rest)
+  goes_on_as : {rest : World → Deed A} {go : Deed A} → ((world : World) → (rest world ≡ go) ⊎ (rest world ≡ Errs)) → Writes A writes go →
       Writes A writes (Looks rest)
   never_goes_on : Writes A writes Errs
   writes_there : {location : Location} {v : Value} {rest : Deed A} → writes location → Within A At_none writes rest →

@@ -1,22 +1,20 @@
 -- Programs that are built whole. Left out of them are refs, exceptions, objects with hooks of their own, calls with types for type parameters, and
--- what a ref or such an object is in: a value of that type, a place, an operand. So are `readLine(stdin)`, a character of a text as a place, the text of a
--- literal as a place, a constant of a type with texts or sequences in it, but for one text, and the message of an exception. Of these the meaning,
--- which is total, says nothing (`from_heap`, `from_exceptions`).
+-- what a ref or such an object is in: a value of that type, a place, an operand. So are `readLine(stdin)`, a constant of a type with texts or sequences in
+-- it, but for one text, and the message of an exception. Of these the meaning, which is total, says nothing (`from_heap`, `from_exceptions`).
 use Rattle.std.specs.Prelude.{◌≡◌, ℕ, Bool, true, false, not, ◌||◌, nat_lt, List, [], ◌∷◌, ◌++◌, map, Option, Some, None, option_map}
 use Rattle.arc_base.specs.declared.place.Place.{Place}
 use Rattle.nim_types.specs.Types as type
-use Rattle.nim_types.specs.Types.{Ty, Facts, text}
+use Rattle.nim_types.specs.Types.{Ty, Facts}
 use Rattle.nim_program.specs.declared.expr.Node.{Node}
 use Rattle.nim_program.specs.declared.operation.Operation.{Operation}
 use Rattle.nim_program.specs.declared.operation.Operation.TheVariants as O
 use Rattle.nim_program.specs.Program.{Act, Doing, Building, Giving, Calling, Expr, Apply, Read, Early, Choose, Path, Variable, Fresh, Field}
 use Rattle.nim_program.specs.Program.{Element, Deref, Args, NoArg, ByValue, ByPath, Declared, Stmt, Do, Idle, Give, Leave, Select, Loop, Raise, Try}
 use Rattle.nim_program.specs.Program.{Stmts, Empty, Then, Declare, Defer, Blocks, Otherwise, Block, Param, Body, Proc, Program}
-use Rattle.nim_program.specs.Program.{types_in, node_of, node_at, node_in}
+use Rattle.nim_program.specs.Program.{types_in, node_at, node_in}
 use Rattle.nim_program.specs.Folds.{first_some, if_declared, loop_places}
 use Rattle.nim_program.specs.Program.{Literal, Characters, type_at}
 use Rattle.nim_meaning.specs.Here.{gives_hooked}
-use Rattle.nim_meaning.specs.Shapes.{is_text}
 use Rattle.nim_meaning.specs.Unbuilt.{is_unbuilt, gives_unbuilt, any_unbuilt}
 
 -- ---- the table, by what is built
@@ -36,26 +34,14 @@ abbrev pub is_literal_built : Facts → Option Ty → Literal → Bool
 is_literal_built facts ty (Characters characters) = true
 is_literal_built facts ty literal = not (gives_hooked facts ty)
 
--- the text of a literal is among the operands
-abbrev pub any_text : Args → Bool
-any_text NoArg = false
-any_text (ByValue value rest) = is_text value || any_text rest
-any_text (ByPath path rest) = any_text rest
-
--- a call is handed places: the text of a literal has none yet
 abbrev pub is_act_built : Act → Facts → Option Ty → Args → Bool
 is_act_built (Doing operation) facts ty operands = is_built operation facts (types_in operands)
 is_act_built (Building fields) facts ty operands = true
 is_act_built (Giving literal) facts ty operands = is_literal_built facts ty literal
-is_act_built (Calling proc []) facts ty operands = not (any_text operands)
+is_act_built (Calling proc []) facts ty operands = true
 is_act_built (Calling proc (first ∷ types)) facts ty operands = false
 
--- the characters of a text are no places yet
-abbrev pub is_text_type : Option Ty → Bool
-is_text_type (Some text) = true
-is_text_type base = false
-
--- nor has an exception parts yet
+-- an exception has no parts yet
 abbrev pub is_exception_type : Option Ty → Bool
 is_exception_type (Some (type.exception key)) = true
 is_exception_type base = false
@@ -101,11 +87,11 @@ abbrev mutual
 
   pub left_out_in_path : Facts → Path → Option Node
   left_out_in_path facts (Variable node ty place global) = out_if (is_unbuilt facts ty) node
-  left_out_in_path facts (Fresh value) = out_if (is_text value) (node_of value) or_then left_out_in facts value
+  left_out_in_path facts (Fresh value) = left_out_in facts value
   left_out_in_path facts (Field node ty base field) =
       out_if (is_unbuilt facts ty || is_exception_type (type_at base)) node or_then left_out_in_path facts base
   left_out_in_path facts (Element node ty base index constant) =
-      out_if (is_unbuilt facts ty || is_text_type (type_at base)) node or_then left_out_in_path facts base or_then left_out_in facts index
+      out_if (is_unbuilt facts ty) node or_then left_out_in_path facts base or_then left_out_in facts index
   left_out_in_path facts (Deref ty base) = Some (node_at base)
 
   pub left_out_in_args : Facts → Args → Option Node

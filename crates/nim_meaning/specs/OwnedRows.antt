@@ -15,6 +15,7 @@ use Rattle.nim_meaning.specs.State.{World, load, text_of, elements_of, bytes_lef
 use Rattle.nim_meaning.specs.Texts.{shown}
 use Rattle.nim_meaning.specs.Here.{form_for}
 use Rattle.nim_meaning.specs.Deeds.{Deed, Reads, does, give, ◌>>=◌, ◌>>◌, branch, costs, looks, unless_gone, sees, takes, sets, refills, stop}
+use Rattle.nim_meaning.specs.Places.{may_change}
 use Rattle.nim_meaning.specs.Lifted.{fresh, fresh_text, fresh_sequence, resized, each_element, ends_at, under_way, replaced, assigns}
 
 -- ---- types
@@ -147,7 +148,8 @@ owned O.Sequence facts ty of xs otherwise = fresh_sequence (element_of (form_for
 owned O.NewSequence facts ty of xs otherwise =
     counted (number xs 0) (λ n. fresh n (n * size (element_of (form_for facts ty))) (Elements (repeated n (blank (element_of (form_for facts ty))))))
 owned O.ReadLineInto facts ty of xs otherwise = looks λ world. line_into (location xs 0) (bytes_left world)
-owned O.Assign facts ty of xs otherwise = assigns (form_for facts (operand_type of 0)) (location xs 0) (operand xs 1)
+owned O.Assign facts ty of xs otherwise =
+    unless_gone (may_change (location xs 0).base) (assigns (form_for facts (operand_type of 0)) (location xs 0) (operand xs 1))
 owned O.Add facts ty of xs otherwise = added (element_of (form_for facts (operand_type of 0))) (value xs 1) (location xs 0) >> give nothing
 owned O.Append facts ty of xs otherwise = looks λ world. appended (shown facts world (operand_type of 1) (operand xs 1)) (location xs 0) >> give nothing
 owned O.SetLength facts ty of xs otherwise = counted (number xs 1) (λ n. length_to (form_for facts (operand_type of 0)) n (location xs 0))

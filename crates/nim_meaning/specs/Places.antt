@@ -43,9 +43,18 @@ rooted base = costs 1 (looks (λ world. give (root_of base world)))
 abbrev pub to_part : Location → ℕ → Deed Location
 to_part location i = costs 1 (give (deeper location i))
 
+-- The characters of a text that nobody owns are in the program: a place that holds such a text, which none does, has none of them.
+abbrev pub has_items : Value → Base → Bool
+has_items (Fixed text) (Made v) = true
+has_items (Fixed text) base = false
+has_items v base = true
+
+abbrev pub to_one : Value → Location → ℕ → Deed Location
+to_one v location i = unless_gone (has_items v location.base) (give (item_of v location i))
+
 abbrev pub to_item : Location → ℤ → Deed Location
 to_item location z =
-    costs 1 (sees location (λ world v. branch (inside z (length_of v)) (give (item_of v location (unsigned_abs z))) (stop IndexOutOfBounds)))
+    costs 1 (sees location (λ world v. branch (inside z (length_of v)) (to_one v location (unsigned_abs z)) (stop IndexOutOfBounds)))
 
 abbrev pub to_object : Location → Deed Location
 to_object location = looks (λ world. object_of (load world location))
@@ -69,7 +78,7 @@ abbrev pub length_at : Location → Deed ℕ
 length_at location = sees location (λ world v. give (length_of v))
 
 abbrev pub item_at : Location → ℕ → Deed Location
-item_at location i = sees location (λ world v. give (item_of v location i))
+item_at location i = sees location (λ world v. to_one v location i)
 
 abbrev pub fetched_item : Location → ℕ → Deed Value
 fetched_item location i = sees location (λ world v. fetched (item_of v location i))
@@ -130,6 +139,10 @@ changes location v = unless_gone (may_change location.base) (sets location v)
 -- a value becomes that at a location, where one without hooks stood
 abbrev pub put : Location → Value → Deed Value
 put location v = costs (bytes v) (changes location v >> give nothing)
+
+-- the same in place of a value that is there, as in each place of a program that is assigned to
+abbrev pub put_over : Location → Value → Deed Value
+put_over location v = sees location (λ world old. put location v)
 
 -- the value at a location is taken, and another one put in its place
 abbrev pub exchanged : Location → Value → Deed Value

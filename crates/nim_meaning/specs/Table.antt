@@ -17,7 +17,7 @@ use Rattle.nim_meaning.specs.Acts.{line_of}
 use Rattle.nim_meaning.specs.Texts.{texts_of, are_seen}
 use Rattle.nim_meaning.specs.Here.{gives_hooked, any_hooked, form_for}
 use Rattle.nim_meaning.specs.Lifted.{copied}
-use Rattle.nim_meaning.specs.Places.{from_heap, put, exchanged}
+use Rattle.nim_meaning.specs.Places.{from_heap, put, put_over, exchanged}
 use Rattle.nim_meaning.specs.OwnedRows.{owned}
 use Rattle.nim_meaning.specs.Deeds.{Deed, give, ◌>>=◌, ◌>>◌, branch, costs, looks, unless_gone, sees, takes, write, end, stop}
 
@@ -105,7 +105,7 @@ does O.Echo facts ty of xs = costs (length xs)
 does O.Quit facts ty of xs = end (status_of xs)
 does O.ReadLine facts ty of xs = from_heap
 does O.ReadLineInto facts ty of xs = from_heap
-does O.Assign facts ty of xs = put (location xs 0) (value xs 1)
+does O.Assign facts ty of xs = put_over (location xs 0) (value xs 1)
 does (O.Update operator) facts ty of xs = updated (location xs 0) (λ x. operate operator x (step_by xs))
 does O.Add facts ty of xs = from_heap
 does O.Append facts ty of xs = from_heap

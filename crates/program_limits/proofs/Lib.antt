@@ -9,6 +9,6 @@ mod Meets
 mod Distinct
 mod Globals
 mod TypeNames
-mod TextTypes
+mod NoEntries
 pub mod ForCallers
 mod Levels

@@ -1,6 +1,6 @@
 -- Texts that are met from the last one to the first, and those of the whole program.
 use Rattle.std.proofs.Common.{◌≡◌, ◌∙◌, ℕ, ◌+◌, Bool, true, false, List, [], ◌∷◌, ◌++◌, refl, sym, ap, ap₂, append_assoc, append-nil, arith}
-use Rattle.std.specs.Prelude.{◌||◌, if◌then◌else◌}
+use Rattle.std.specs.Prelude.{◌||◌, if◌then◌else◌, Some, length}
 use Rattle.std.specs.HashSet.{contains}
 use Rattle.std.specs.Set.{is_member, unique_keys}
 use Rattle.std.specs.List.{list_any}
@@ -14,7 +14,8 @@ use Rattle.nim_program.specs.Program.{NoArg, constant_in, Body, Program}
 use Rattle.nim_program.specs.Folds.{Standing, Part, Acting, Choosing, Leading, total, total_at, lists, in_bodies, capped}
 use Rattle.nim_program.specs.TextSizes.{text_bytes, all_bytes}
 use Rattle.nim_program.proofs.ForCallers.{Relates, related_of, related_bodies}
-use Rattle.program_limits.specs.Data.{literal_bytes, literal_texts, all_texts, part_texts, own_texts, body_texts, program_texts, texts_size}
+use Rattle.program_limits.specs.Data.{literal_bytes, literal_texts, all_texts, standing_texts, further_bytes, part_texts, own_texts, body_texts}
+use Rattle.program_limits.specs.Data.{program_texts, texts_size}
 use Rattle.program_limits.specs.Data.{label_texts, branch_texts, labels_texts, chooser_texts}
 use Rattle.program_limits.specs.Meeting.{label_before, branch_before, labels_before, chooser_before}
 use Rattle.program_limits.specs.Meeting.{Met, Before, before, literal_before, all_before, standing_before, part_before, own_before, body_before}
@@ -36,49 +37,6 @@ met_again met text other is = by (same_text other text) refl
     by true e =
         ap (λ b. b || is_member same_text met other) e
         ∙ sym (any_same (same_text other) (same_text text) (λ z. nat_list_eq_equiv.congr other text z e) met ∙ is)
-
-pub none_met : (texts : Texts) → texts.kept.keys ≡ [] → texts.bytes ≡ 0 → Met texts []
-none_met texts none zero = record {
-  kept = λ e text. ap (list_any (same_text text)) none;
-  size = λ e. zero;
-}
-
-pub keeps_old : (old : Texts) (met : List (List ℕ)) (text : List ℕ) → contains same_text old.kept text ≡ true → Met old met → Met old (text ∷ met)
-keeps_old old met text is h = record {
-  kept = λ e other. h.kept e other ∙ sym (met_again met text other (among e));
-  size = λ e.
-      h.size e ∙ ap (λ texts. capped MOST_DATA (all_bytes texts)) (sym (cond-true (is_member same_text met text) (unique_keys same_text met) _ (among e)));
-}
-  where
-    among : old.lost ≡ false → is_member same_text met text ≡ true
-    among e = sym (h.kept e text) ∙ is
-
-either : (a b : Bool) → (a || b) ≡ (if a then true else b)
-either true b = refl
-either false b = refl
-
-pub keeps_new : (old new : Texts) (met : List (List ℕ)) (text : List ℕ) (bytes : ℕ) → contains same_text old.kept text ≡ false → new.lost ≡ old.lost →
-    ((other : List ℕ) → contains same_text new.kept other ≡ (if same_text text other then true else contains same_text old.kept other)) →
-    bytes ≡ capped MOST_DATA (text_bytes text) → new.bytes ≡ capped MOST_DATA (old.bytes + bytes) → Met old met → Met new (text ∷ met)
-keeps_new old new met text bytes is same put few sum h = record {
-  kept = λ e other.
-      put other
-      ∙ ap (λ b. if same_text text other then true else b) (h.kept (sym same ∙ e) other)
-      ∙ sym (either (same_text text other) (is_member same_text met other))
-      ∙ ap (λ b. b || is_member same_text met other) (nat_list_eq_equiv.symm text other);
-  size = λ e.
-      let among : is_member same_text met text ≡ false = sym (h.kept (sym same ∙ e) text) ∙ is in
-      let texts : List (List ℕ) = unique_keys same_text met in
-      let before = h.size (sym same ∙ e) in
-      let whole : new.bytes ≡ capped MOST_DATA (all_bytes (text ∷ texts)) = omega (arith, few, sum, before) in
-      whole ∙ ap (λ ts. capped MOST_DATA (all_bytes ts)) (sym (cond-false (is_member same_text met text) texts (text ∷ texts) among));
-}
-
-pub all_lost : (new : Texts) (met : List (List ℕ)) → new.lost ≡ true → Met new met
-all_lost new met lost = record {
-  kept = λ e. absurd (both_ways new.lost e lost);
-  size = λ e. absurd (both_ways new.lost e lost);
-}
 
 -- ---- the list of a tree
 
@@ -116,13 +74,20 @@ chooser_is : (chooser : Chooser) (met : List (List ℕ)) → chooser_before choo
 chooser_is ByConditions met = refl
 chooser_is (ByLabels labels) met = labels_is labels met
 
+standing_is : (l : Literal) (met : List (List ℕ)) → standing_before (Some l) (literal_before l met) ≡ standing_texts l ++ met
+standing_is (Characters text) met = refl
+standing_is (Number z) met = refl
+standing_is NoObject met = refl
+standing_is (PartsOf all) met = ap (λ ts. literal_bytes (PartsOf all) ∷ ts) (literal_is (PartsOf all) met)
+standing_is (ElementsOf all) met = ap (λ ts. literal_bytes (ElementsOf all) ∷ ts) (literal_is (ElementsOf all) met)
+
 abbrev Puts : List (List ℕ) → Before → Type 0
 Puts texts puts = (met : List (List ℕ)) → puts met ≡ texts ++ met
 
 part_puts : (part : Part) → Puts (part_texts part) (part_before part)
 part_puts (Acting (Giving literal)) met = literal_is literal met
 part_puts (Choosing chooser looked) met = chooser_is chooser met
-part_puts (Leading read written (Standing literal)) met = ap (λ ts. literal_bytes literal ∷ ts) (literal_is literal met)
+part_puts (Leading read written (Standing literal)) met = standing_is literal met
 part_puts part met = refl
 
 -- a path that begins with a constant has its bytes beside the value
@@ -145,7 +110,6 @@ program_puts : (program : Program) → Puts (program_texts program) (in_bodies b
 program_puts program = related_bodies lists before body_texts body_before Puts puts.none puts.plus body_puts program
 
 -- the procedures before the start code
-pub all_met : (texts : Texts) (program : Program) → texts.lost ≡ false → Met texts (in_bodies before body_before program []) →
-    texts.bytes ≡ capped MOST_DATA (texts_size (program_texts program))
-all_met texts program kept h =
-    h.size kept ∙ ap (λ ts. capped MOST_DATA (texts_size ts)) (program_puts program [] ∙ append-nil (program_texts program))
+pub all_met : (program : Program) (size : ℕ) → size ≡ capped MOST_DATA (texts_size (in_bodies before body_before program [])) →
+    size ≡ capped MOST_DATA (texts_size (program_texts program))
+all_met program size is = is ∙ ap (λ ts. capped MOST_DATA (texts_size ts)) (program_puts program [] ∙ append-nil (program_texts program))

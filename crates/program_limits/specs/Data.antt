@@ -1,11 +1,12 @@
 -- The data of a program as its size counts (E25): its globals, the names of the members of its enums and of its exceptions, the names of the six
 -- exceptions that every program has, the texts of its constants, literals and labels, and the constants that are read in place, as bytes: of texts and
--- such constants each distinct one once. Each stands with a word for its length, up to whole words. A name counts wherever it is declared, also where a text
--- or another name is equal to it.
+-- such constants each distinct one once. Each stands with a word for its length, up to whole words, and where they are many, each further one with a word
+-- for its place. A name counts wherever it is declared, also where a text or another name is equal to it.
 use Rattle.std.specs.Int.{w32, cast_unsigned, to_le_bytes}
-use Rattle.std.specs.Prelude.{ℕ, ◌+◌, List, [], ◌∷◌, ◌++◌, codes}
+use Rattle.std.specs.Prelude.{ℕ, ◌+◌, ◌*◌, ◌-◌, List, [], ◌∷◌, ◌++◌, length, codes}
 use Rattle.std.specs.Set.{unique_keys}
 use Rattle.nim_types.specs.Types.{Ty, exception, Fact, members, below, Facts, same_text}
+use Rattle.nim_types.specs.declared.types.TheConstants.{WORD_BYTES}
 use Rattle.nim_types.specs.declared.types.TypeDef.{TypeDef}
 use Rattle.nim_types.specs.declared.types.TypeDef.TheVariants as D
 use Rattle.nim_program.specs.Program.{Literal, Literals, Number, Characters, NoObject, PartsOf, ElementsOf, NoLiteral, ALiteral, Giving, Body, Program}
@@ -13,6 +14,7 @@ use Rattle.nim_program.specs.Program.{Label, Ordinals, Exactly, Chooser, ByCondi
 use Rattle.nim_program.specs.Folds.{Standing, Part, Acting, Choosing, Leading, Seen, lists, total_of, in_bodies}
 use Rattle.nim_program.specs.Sizes.{globals_size}
 use Rattle.nim_program.specs.TextSizes.{text_bytes, all_bytes}
+use Rattle.program_limits.specs.declared.texts.TheConstants.{FEW_TEXTS}
 
 -- ---- names
 
@@ -79,10 +81,15 @@ abbrev pub chooser_texts : Chooser → List (List ℕ)
 chooser_texts ByConditions = []
 chooser_texts (ByLabels labels) = labels_texts labels
 
+-- a constant that is read in place: one text, or its bytes and its texts
+abbrev pub standing_texts : Literal → List (List ℕ)
+standing_texts (Characters text) = text ∷ []
+standing_texts literal = literal_bytes literal ∷ literal_texts literal
+
 abbrev pub part_texts : Part → List (List ℕ)
 part_texts (Acting (Giving literal)) = literal_texts literal
 part_texts (Choosing chooser looked) = chooser_texts chooser
-part_texts (Leading read written (Standing literal)) = literal_bytes literal ∷ literal_texts literal
+part_texts (Leading read written (Standing literal)) = standing_texts literal
 part_texts part = []
 
 abbrev pub own_texts : Seen → List (List ℕ)
@@ -95,9 +102,13 @@ body_texts body = total_of lists own_texts body.stmts
 abbrev pub program_texts : Program → List (List ℕ)
 program_texts = in_bodies lists body_texts
 
+-- a word for each beyond so many
+abbrev pub further_bytes : (texts : ℕ) → ℕ
+further_bytes n = WORD_BYTES * (n - FEW_TEXTS)
+
 -- each distinct one once
 abbrev pub texts_size : List (List ℕ) → ℕ
-texts_size texts = all_bytes (unique_keys same_text texts)
+texts_size texts = all_bytes (unique_keys same_text texts) + further_bytes (length (unique_keys same_text texts))
 
 -- ---- all
 

@@ -1,19 +1,21 @@
 -- The texts of a tree as they are met from the last one to the first: before those that were met. No public contract speaks of it.
-use Rattle.std.specs.Prelude.{◌≡◌, ℕ, false, List, [], ◌∷◌, Option, Some, None}
+use Rattle.std.specs.Prelude.{◌≡◌, ℕ, false, List, [], ◌∷◌, length, Option, Some, None}
 use Rattle.std.specs.HashSet.{contains}
-use Rattle.std.specs.Set.{is_member}
+use Rattle.std.specs.Set.{is_member, unique_keys}
 use Rattle.nim_types.specs.Types.{same_text}
 use Rattle.nim_program.specs.declared.text_sizes.TheConstants.{MOST_DATA}
 use Rattle.nim_program.specs.Program.{Literal, Literals, Number, Characters, NoObject, PartsOf, ElementsOf, NoLiteral, ALiteral, Giving, Body}
 use Rattle.nim_program.specs.Program.{Label, Ordinals, Exactly, Chooser, ByConditions, ByLabels}
 use Rattle.nim_program.specs.Folds.{Standing, Part, Acting, Choosing, Leading, Seen, Sum, total_of, capped}
 use Rattle.program_limits.specs.declared.texts.Texts.{Texts}
-use Rattle.program_limits.specs.Data.{literal_bytes, texts_size}
+use Rattle.nim_program.specs.TextSizes.{all_bytes}
+use Rattle.program_limits.specs.Data.{literal_bytes}
 
--- these were met: unless one was lost, each of them is kept, nothing else is, and so many bytes count
+-- these were met: unless one was lost, each of them is kept, nothing else is, and there are so many distinct ones with so many bytes
 pub record Met (texts : Texts) (met : List (List ℕ)) : Type 0 where
   pub kept : texts.lost ≡ false → (text : List ℕ) → contains same_text texts.kept text ≡ is_member same_text met text
-  pub size : texts.lost ≡ false → texts.bytes ≡ capped MOST_DATA (texts_size met)
+  pub many : texts.lost ≡ false → texts.many ≡ capped MOST_DATA (length (unique_keys same_text met))
+  pub size : texts.lost ≡ false → texts.bytes ≡ capped MOST_DATA (all_bytes (unique_keys same_text met))
 
 abbrev pub Before : Type 0
 Before = List (List ℕ) → List (List ℕ)
@@ -33,9 +35,10 @@ abbrev mutual
   all_before NoLiteral met = met
   all_before (ALiteral first rest) met = literal_before first (all_before rest met)
 
--- the bytes of a constant that is read in place
+-- the bytes of a constant that is read in place, which is no text
 abbrev pub standing_before : Option Literal → Before
 standing_before None met = met
+standing_before (Some (Characters text)) met = met
 standing_before (Some literal) met = literal_bytes literal ∷ met
 
 abbrev pub label_before : Label → Before

@@ -13,7 +13,7 @@ ghost use Rattle.program_limits.specs.Data.{texts_size, program_texts};
 ghost use Rattle.program_limits.specs.Meeting.{Met, Before, before, own_before, body_before};
 
 use crate::label_texts::of_branch_labels;
-use crate::texts::{Texts, no_texts, of_expr, of_operand, of_operands, of_path};
+use crate::texts::{Texts, all_size, no_texts, of_expr, of_operand, of_operands, of_path};
 use arc_base::Memory;
 use nim_program::{Body, Branch, CaseBranch, Expr, Handler, Operand, Proc, Program, Stmt};
 use std::alloc::Global;
@@ -186,5 +186,5 @@ pub fn texts_size(alloc: Global, program: &Program) -> Result<u32, Memory>
     if texts.lost {
         return Err(Memory);
     }
-    Ok(texts.bytes)
+    Ok(all_size(&texts))
 }

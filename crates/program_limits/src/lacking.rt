@@ -9,10 +9,9 @@ ghost use Rattle.nim_program.specs.View.{expr_of, path_of, operands_of, operand_
 ghost use Rattle.nim_program.specs.View.{choices_of, picks_of, if_value, if_type};
 ghost use Rattle.nim_meaning.specs.Unbuilt.{any_unbuilt, gives_unbuilt};
 ghost use Rattle.nim_meaning.specs.LeftOut.{left_out_in, left_out_in_path, left_out_in_args};
-ghost use Rattle.nim_meaning.specs.LeftOut.{first_unbuilt, is_built, is_act_built, is_text_type};
+ghost use Rattle.nim_meaning.specs.LeftOut.{first_unbuilt, is_built, is_act_built};
 ghost use Rattle.nim_meaning.specs.LeftOut.{is_exception_type};
-ghost use Rattle.nim_meaning.specs.LeftOut.{is_literal_built, any_text};
-ghost use Rattle.nim_meaning.specs.Shapes.{is_text as is_literal_text};
+ghost use Rattle.nim_meaning.specs.LeftOut.{is_literal_built};
 ghost use Rattle.nim_meaning.specs.LeftOut.{◌or_then◌};
 ghost use Rattle.program_limits.specs.Known.{known_types, known_facts};
 
@@ -86,16 +85,13 @@ fn is_built(known: &Known, operation: Operation, operands: &Vec<Operand>) -> boo
     }
 }
 
-// A call has no types for type parameters, and the text of a literal isn't handed over.
+// A call has no types for type parameters.
 fn is_call_built(known: &Known, types: &[TypeId], operands: &Vec<Operand>) -> bool
     ensures { (proc : ℕ) (facts : Facts) (ty : Option Ty) → result
         ≡ is_act_built (Calling proc (map (type_at (known_types known.now)) types.now)) facts ty
         (operands_of (known_types known.now) operands.now.items) }
 {
-    if types.is_empty() {
-        return !any_text(known, operands);
-    }
-    false
+    types.is_empty()
 }
 
 // ---- texts, and exceptions
@@ -106,6 +102,7 @@ fn means_exception(def: &TypeDef) -> bool
     matches!(def, TypeDef::Exception { .. })
 }
 
+// A number beyond the table counts as an int.
 fn is_exception(known: &Known, ty: TypeId) -> bool
     ensures { result ≡ is_exception_type (Some (type_at (known_types known.now) ty)) }
 {
@@ -125,45 +122,6 @@ fn gives_exception(known: &Known, ty: Option<TypeId>) -> bool
     }
 }
 
-fn is_literal_text(known: &Known, value: &Expr) -> bool
-    ensures { result ≡ is_literal_text (expr_of (known_types known.now) value.now) }
-{
-    match value {
-        Expr::Constant { value, .. } => match value {
-            Literal::Text(_) => true,
-            Literal::Ordinal(_) | Literal::Nil | Literal::Parts(_) | Literal::Elements(_) => false,
-        },
-        Expr::Apply { .. }
-        | Expr::Call { .. }
-        | Expr::Construct { .. }
-        | Expr::Read { .. }
-        | Expr::Early { .. }
-        | Expr::If { .. }
-        | Expr::Case { .. } => false,
-    }
-}
-
-fn operand_text(known: &Known, operand: &Operand) -> bool
-    ensures { (rest : Args) → any_text (operand_before (known_types known.now) operand.now rest)
-        ≡ (result || any_text rest) }
-{
-    match operand {
-        Operand::Value(value) => is_literal_text(known, value),
-        Operand::At(_) => false,
-    }
-}
-
-fn any_text(known: &Known, operands: &Vec<Operand>) -> bool
-    ensures { result ≡ any_text (operands_of (known_types known.now) operands.now.items) }
-{
-    for operand in operands {
-        if operand_text(known, operand) {
-            return true;
-        }
-    }
-    false
-}
-
 // One text, or nothing in which texts or sequences could stand.
 fn is_literal_built(known: &Known, ty: TypeId, literal: &Literal) -> bool
     ensures { result ≡ is_literal_built (known_facts known.now)
@@ -174,26 +132,6 @@ fn is_literal_built(known: &Known, ty: TypeId, literal: &Literal) -> bool
         Literal::Ordinal(_) | Literal::Nil | Literal::Parts(_) | Literal::Elements(_) => {
             !is_hooked(known, ty)
         }
-    }
-}
-
-// A number beyond the table counts as an int.
-fn is_text(known: &Known, ty: TypeId) -> bool
-    ensures { result ≡ is_text_type (Some (type_at (known_types known.now) ty)) }
-{
-    table_entries();
-    match entry(known.types, ty) {
-        Some(def) => matches!(def, TypeDef::Text),
-        None => false,
-    }
-}
-
-fn gives_text(known: &Known, ty: Option<TypeId>) -> bool
-    ensures { result ≡ is_text_type (if_type (known_types known.now) ty) }
-{
-    match ty {
-        None => false,
-        Some(ty) => is_text(known, ty),
     }
 }
 
@@ -291,10 +229,7 @@ pub fn of_path(known: &Known, path: &Path) -> Option<Node>
 {
     match path {
         Path::Variable { node, ty, .. } => if_unbuilt(known, *ty, *node),
-        Path::Fresh { value } => {
-            let here = out_if(is_literal_text(known, &**value), value.node());
-            or_then(here, of_expr(known, &**value))
-        }
+        Path::Fresh { value } => of_expr(known, &**value),
         Path::Field { node, ty, base, .. } => {
             let left_out = either(is_unbuilt(known, *ty), gives_exception(known, base.ty()));
             or_then(out_if(left_out, *node), of_path(known, &**base))
@@ -307,8 +242,7 @@ pub fn of_path(known: &Known, path: &Path) -> Option<Node>
             ..
         } => {
             let inside = or_then(of_path(known, &**base), of_expr(known, &**index));
-            let left_out = either(is_unbuilt(known, *ty), gives_text(known, base.ty()));
-            or_then(out_if(left_out, *node), inside)
+            or_then(if_unbuilt(known, *ty, *node), inside)
         }
         Path::Deref { base, .. } => Some(base.node()),
     }

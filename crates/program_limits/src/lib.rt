@@ -21,3 +21,4 @@ pub use laws::limit_examples;
 pub use limits::{left_out, within};
 pub use shallow::shallow_types;
 pub use summary::MOST_LEVELS;
+pub use texts::FEW_TEXTS;

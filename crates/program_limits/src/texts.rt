@@ -1,29 +1,35 @@
 // The texts of a program's constants, literals and labels, each distinct one once. They are met from the
 // last one to the first, since a part is put before all that stands behind it.
-ghost use Rattle.std.specs.Prelude.{◌≡◌, ◌∷◌, ◌++◌, [], ℕ, Bool, true, List, option_map};
-ghost use Rattle.std.specs.Prelude.{if◌then◌else◌, OnOk};
+ghost use Rattle.std.specs.Prelude.{◌≡◌, ◌∷◌, ◌++◌, [], ℕ, Bool, true, false, List, option_map};
+ghost use Rattle.std.specs.Prelude.{if◌then◌else◌, OnOk, Some};
 ghost use Rattle.std.specs.HashSet.{contains};
 ghost use Rattle.nim_types.specs.Types.{Ty, same_text};
-ghost use Rattle.nim_program.specs.Folds.{total, total_at, totals};
+ghost use Rattle.nim_program.specs.declared.text_sizes.TheConstants.{MOST_DATA};
+ghost use Rattle.nim_program.specs.Folds.{capped, total, total_at, totals};
 ghost use Rattle.nim_program.specs.Program.{Args, constant_in};
 ghost use Rattle.nim_program.specs.View.{literal_of, literals_of, expr_of, path_of};
 ghost use Rattle.nim_program.specs.View.{operand_before, operands_of, choices_of, picks_of};
 ghost use Rattle.nim_program.specs.View.{if_value};
-ghost use Rattle.program_limits.specs.Data.{literal_bytes, parts_bytes};
+ghost use Rattle.program_limits.specs.Data.{literal_bytes, parts_bytes, texts_size};
 ghost use Rattle.program_limits.specs.Meeting.{Met, before, own_before};
 ghost use Rattle.program_limits.specs.Meeting.{literal_before, all_before, standing_before};
 
 use crate::data::plus;
 use crate::label_texts::of_pick_labels;
 use arc_base::{Bytes, Memory};
-use nim_program::{Choice, Expr, Literal, Operand, Path, Pick, text_bytes};
+use nim_program::{Choice, Expr, Literal, MOST_DATA, Operand, Path, Pick, text_bytes};
+use nim_types::WORD_BYTES;
 use std::alloc::Global;
 use std::collections::HashSet;
 
-/// The texts that were met, and their bytes, as far as they matter.
+/// So many texts have handles of their own without counting for them (E25).
+pub const FEW_TEXTS: u32 = 512;
+
+/// The texts that were met, how many they are and their bytes, as far as they matter.
 #[derive(Drop)]
 pub struct Texts {
     pub kept: HashSet<Bytes>,
+    pub many: u32,
     pub bytes: u32,
     /// Whether there was no memory for one.
     pub lost: bool,
@@ -35,6 +41,7 @@ pub fn no_texts(alloc: Global) -> Texts
 {
     Texts {
         kept: HashSet::new(alloc),
+        many: 0,
         bytes: 0,
         lost: false,
     }
@@ -57,9 +64,26 @@ pub fn keep(alloc: Global, texts: &mut Texts, text: &Bytes)
         return;
     }
     match put(alloc, &mut texts.kept, text) {
-        Ok(()) => texts.bytes = plus(texts.bytes, text_bytes(text)),
+        Ok(()) => {
+            texts.many = plus(texts.many, 1);
+            texts.bytes = plus(texts.bytes, text_bytes(text))
+        }
         Err(_) => texts.lost = true,
     }
+}
+
+/// The bytes of those that were met, with a word for each beyond the first `FEW_TEXTS`.
+pub fn all_size(texts: &Texts) -> u32
+    ensures { (met : List (List ℕ)) → texts.now.lost ≡ false → Met texts.now met
+        → result ≡ capped MOST_DATA (texts_size met) }
+{
+    if texts.many <= FEW_TEXTS {
+        return texts.bytes;
+    }
+    if texts.many > MOST_DATA {
+        return MOST_DATA + 1;
+    }
+    plus(texts.bytes, WORD_BYTES * (texts.many - FEW_TEXTS))
 }
 
 #[cycle(literals)]
@@ -113,8 +137,8 @@ fn push_parts(bytes: &mut Bytes, all: &Vec<Literal>) -> Result<(), Memory>
     Ok(())
 }
 
-// A constant that is read in place.
-fn keep_standing(alloc: Global, texts: &mut Texts, literal: &Literal)
+// The bytes of a constant that is read in place.
+fn keep_bytes(alloc: Global, texts: &mut Texts, literal: &Literal)
     ensures { (met : List (List ℕ)) → Met texts.old met
         → Met texts.new (literal_bytes (literal_of literal.now) ∷ met) }
 {
@@ -122,6 +146,19 @@ fn keep_standing(alloc: Global, texts: &mut Texts, literal: &Literal)
     match push_literal(&mut bytes, literal) {
         Ok(()) => keep(alloc, texts, &bytes),
         Err(_) => texts.lost = true,
+    }
+}
+
+// A constant that is read in place: its bytes, unless it is a text.
+fn keep_standing(alloc: Global, texts: &mut Texts, literal: &Literal)
+    ensures { (met : List (List ℕ)) → Met texts.old met
+        → Met texts.new (standing_before (Some (literal_of literal.now)) met) }
+{
+    match literal {
+        Literal::Text(_) => {}
+        Literal::Ordinal(_) | Literal::Nil | Literal::Parts(_) | Literal::Elements(_) => {
+            keep_bytes(alloc, texts, literal)
+        }
     }
 }
 

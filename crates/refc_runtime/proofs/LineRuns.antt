@@ -501,7 +501,8 @@ module _ (law : MemoryLaw) (live : Lives) (procs : List WordProc) (n : ℕ) (gro
             as_line ch next ds w text (state_at (cl (next ∷ ds) awaits) m line_lines v no_words) false true (ne_eqb ch 10 differ) (eq-eqb (next % 256) 10 end)
             (at_end ch small next ds w text m place x beside v has five awaits differ end)
         | inr no_end ↦
-            as_line ch next ds w text (state_at (cl (next ∷ ds) awaits) m line_lines v no_words) false false (ne_eqb ch 10 differ) (ne_eqb (next % 256) 10 no_end)
+            as_line ch next ds w text (state_at (cl (next ∷ ds) awaits) m line_lines v no_words) false false (ne_eqb ch 10 differ)
+            (ne_eqb (next % 256) 10 no_end)
             (one_char ch small next ds w text m place x beside v has five awaits differ (line_from (next % 256) (as_bytes ds)) (behind_line (next % 256) ds)
             (put (put (put v 7 10) 4 1) 6 (next % 256))
             (has_y2 ch small next ds w text m place x beside v has five awaits differ) five refl (got (next % 256) (word_of_byte next)) 7 (omega arith)

@@ -56,7 +56,8 @@ behind_is c [] = by (nat_eq (c % 256) 10)
 behind_is c (d ∷ ds) = by (nat_eq (c % 256) 10) (nat_eq (d % 256) 10) (behind_is d ds)
   where
     by : (b e : Bool) → drop (if e then 1 else suc (up_to_feed (as_bytes ds))) (d ∷ ds) ≡ behind_line (d % 256) ds
-        → drop (if b then 1 else suc (if e then 1 else suc (up_to_feed (as_bytes ds)))) (c ∷ d ∷ ds) ≡ (if b then d ∷ ds else if e then ds else behind_line (d % 256) ds)
+        → drop (if b then 1 else suc (if e then 1 else suc (up_to_feed (as_bytes ds)))) (c ∷ d ∷ ds)
+        ≡ (if b then d ∷ ds else if e then ds else behind_line (d % 256) ds)
     by true e h = refl
     by false true h = refl
     by false false h = h

@@ -387,8 +387,10 @@ module _ (law : MemoryLaw) (live : Lives) (procs : List WordProc) (n : ℕ)
               (5 + (x.lines + 1) + (1 + (1 + (y.lines + (3 + (3 + 2)))))) (omega (arith, few1, few2))
               (then_runs live procs (to_branch (first ∷ behind) is may x fits) (then_runs live procs
               (run_past live procs (c (left (first ∷ behind) is may) 5) m1 k7 y5 no_words test.Equal 5 4 0 five_is refl refl) (then_runs live procs
-              (run_argument live procs (c (left (first ∷ behind) is may) 5) m1 k8 y5 no_words 0 6 (got old (old_small (first ∷ behind) is may))) (then_runs live procs
-              (call_runs live procs (releases own) releasing (c (left (first ∷ behind) is may) 5) m1 y5 (put no_words 0 old) 6 k9 refl refl y) (then_runs live procs
+              (run_argument live procs (c (left (first ∷ behind) is may) 5) m1 k8 y5 no_words 0 6 (got old (old_small (first ∷ behind) is may)))
+              (then_runs live procs
+              (call_runs live procs (releases own) releasing (c (left (first ∷ behind) is may) 5) m1 y5 (put no_words 0 old) 6 k9 refl refl y)
+              (then_runs live procs
               (run_handle live procs d m2 sized2 (put_handle_lines k10) y6 no_words r.to (length text) place handle 2 3 1 (got r.to (omega (arith, l)))
               (got r.to (omega (arith, l))) refl) (then_runs live procs
               (run_put_handle law m2 sized2 u.to (length text) place has2 smalls.0 smalls.1 live procs d k10 y7 calling.given.0 (got (length text) smalls.0)
@@ -407,14 +409,14 @@ module _ (law : MemoryLaw) (live : Lives) (procs : List WordProc) (n : ℕ)
             (reads_it (first ∷ behind) is may) in
             let shown : (reads_line own (ch ∷ cs)).shows r ≡ writes Err (trap_line OutOfMemory)
             = ap (λ b. if b then [] else writes Err (trap_line OutOfMemory)) out in
-            let stops : AlwaysStops (step live procs) (before (first ∷ behind) is may) (writes Err (trap_line OutOfMemory)) ((reads_line own (ch ∷ cs)).lines r) 1
-            (live (as_state x.memory))
-            = subst (λ es. AlwaysStops (step live procs) (before (first ∷ behind) is may) es ((reads_line own (ch ∷ cs)).lines r) 1 (live (as_state x.memory))) shown
-            x.stops in
+            let stops : AlwaysStops (step live procs) (before (first ∷ behind) is may) (writes Err (trap_line OutOfMemory))
+            ((reads_line own (ch ∷ cs)).lines r) 1 (live (as_state x.memory))
+            = subst (λ es. AlwaysStops (step live procs) (before (first ∷ behind) is may) es ((reads_line own (ch ∷ cs)).lines r) 1
+            (live (as_state x.memory))) shown x.stops in
             ends_behind live procs s to rest (reads_text own (ch ∷ cs)) u calling.next 1 (ap (λ b. if b then None else Some 1) out) x.memory
             (subst (λ b. LineLeaves b own u w text s.memory x.memory) (sym out) (beside_data x.memory x.leaves.0, x.leaves.1)) 5
-            ((reads_line own (ch ∷ cs)).lines r) (omega arith) (before (first ∷ behind) is may) (to_read (first ∷ behind) is may) (writes Err (trap_line OutOfMemory))
-            (ap (λ b. if b then [] else writes Err (trap_line OutOfMemory)) out) stops
+            ((reads_line own (ch ∷ cs)).lines r) (omega arith) (before (first ∷ behind) is may) (to_read (first ∷ behind) is may)
+            (writes Err (trap_line OutOfMemory)) (ap (λ b. if b then [] else writes Err (trap_line OutOfMemory)) out) stops
       ]
 
 pub text_read_kept : (law : MemoryLaw) (live : Lives) (procs : List WordProc) (n : ℕ)

@@ -63,7 +63,8 @@ module _ (p : Program) (plan : Plan) where
         (has.agrees fresh heap stack input can);
     size = has.size;
     types = has.types;
-    facts = has.facts;
+    own = λ some. absurd (some refl);
+    typed = has.typed;
     bound = has.bound;
     data_most = has.data_most;
   }

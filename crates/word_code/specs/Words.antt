@@ -401,7 +401,8 @@ if_formed false b = at_fault
 
 -- ---- whole runs
 
--- The start code, before its first line, with no end of units. Behind its places there is room for the arguments of a call, as there is behind those of each call.
+-- The start code, before its first line, with no end of units. Behind its places there is room for the arguments of a call, as there is
+-- behind those of each call.
 unfoldable pub start : WordCode → (heap stack : ℕ) → (input : List ℕ) → WordState
 start code heap stack input = record {
   units = None;

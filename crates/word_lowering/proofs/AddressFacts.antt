@@ -25,15 +25,16 @@ use Rattle.word_lowering.specs.Aliases.{handed_by, places_in, handed_in, is_amon
 use Rattle.word_lowering.proofs.Keeping.{declared_address, location_address, points_there, spot_address, spot_memory, waiting_inside, node_look}
 use Rattle.word_lowering.proofs.Lines.{Basis, IsGood, all_sites, starts}
 use Rattle.word_lowering.proofs.Located.{RowRead, led_row}
+use Rattle.word_lowering.proofs.LetterShapes.{no_letter}
 use Rattle.word_lowering.proofs.MovedLines.{own_plain}
 use Rattle.word_lowering.proofs.Moves.{IsHigh}
 use Rattle.word_lowering.proofs.ReadFacts.{global_root, own_root}
 use Rattle.word_lowering.proofs.Related.{Both, body_of, within}
-use Rattle.word_lowering.proofs.Scenes.{Leads, Filled, IsInValue, IsLedBy, IsNamed, IsRoot, IsThere, Name, Points, address_of, house, LeadsHere}
-use Rattle.word_lowering.proofs.Scenes.{looked}
+use Rattle.word_lowering.proofs.Scenes.{Leads, Filled, IsInValue, IsLedBy, IsNamed, IsRoot, IsThere, Name, Points, address_of, house}
+use Rattle.word_lowering.proofs.Scenes.{Reaches, ReachesHere, looked, reached_so, stored_so}
 use Rattle.word_lowering.proofs.Scenes.{of_location, of_place, of_value, of_waiting}
-use Rattle.word_lowering.proofs.ShapeFacts.{never}
-use Rattle.word_lowering.proofs.Sites.{Housing, InMemory, around, by_address, data_end, in_data, in_places, in_variable, is_one_word, room}
+use Rattle.word_lowering.proofs.ShapeFacts.{never, is_letter}
+use Rattle.word_lowering.proofs.Sites.{Housing, InMemory, around, by_address, data_end, in_data, in_places, in_variable, IsHoused, is_one_word, room}
 use Rattle.word_lowering.proofs.Sites.{type_of, lines_of}
 use Rattle.word_lowering.proofs.SitesApart.{houses}
 use Rattle.word_lowering.proofs.ValueFacts.{has_type, homed_plain, housed_inside, look_of, place_there, value_plain, IsHomed, IsPlain}
@@ -61,24 +62,37 @@ module _ (x : Basis) (g : Both) (line : BlockLine) (rest : List BlockLine) (y : 
     pub points : Points g.call.site.base g.call.vars home address
     pub leads_to : Leads x.table x.blocks (all_sites x g line rest y) g.ground g.world g.call.site g.call.temps there address s
 
+  -- the same of anything, also of what may be a character of a text
+  pub record Reached (h : Housed) (there : Where) (s : Shape) : Type 0 where
+    pub home : Home
+    pub home_is : h.home ≡ home
+    pub lies : is_letter s ≡ false → spot_of h ≡ Lies home
+    pub high_is : IsHigh home
+    pub address : ℕ
+    pub points : Points g.call.site.base g.call.vars home address
+    pub reaches : Reaches x.table x.blocks (all_sites x g line rest y) g.ground g.world g.call.site g.call.temps there address s
+
   -- what is in the variable of a place that has an address
   pub record AddressIn (f : Name) (a : ℕ) : Type 0 where
     pub variable_is : ℕ
     pub home : (house g.call.site f).home ≡ Variable variable_is
-    pub spot : spot_of (house g.call.site f) ≡ Lies (Variable variable_is)
+    pub spot : is_letter (looked x.table g.call.site f) ≡ false → spot_of (house g.call.site f) ≡ Lies (Variable variable_is)
     pub high_is : OWN_FROM ≤ variable_is
     pub points : g.call.vars variable_is ≡ Some a
 
   pub address_in : (f : Name) (a : ℕ) → IsThere g.call.site f → holds_address (house g.call.site f) ≡ true
       → g.call.vars (variable_of (house g.call.site f)) ≡ Some a → AddressIn f a
-  address_in f a there address is = by (houses x.table x.blocks g.call.site f y.linked.0 there).where_is
+  address_in f a there address is = by place_is.where_is
     where
+      place_is : IsHoused x.table x.blocks g.call.site.body (house g.call.site f)
+      place_is = houses x.table x.blocks g.call.site f y.linked.0 there
+
       by : Housing (room (body_of g)) FIXED_BYTES (data_end x.table x.blocks) (body_of g).start (house g.call.site f) → AddressIn f a
       by (in_variable v e plain least w) = never (sym plain ∙ address)
       by (by_address v e k least) = record {
         variable_is = v;
         home = e;
-        spot = spot_address (house g.call.site f) v address e;
+        spot = λ other. spot_address (house g.call.site f) v address (sym place_is.letter ∙ other) e;
         high_is = least;
         points = ap g.call.vars (sym (ap variable_in e)) ∙ is;
       }
@@ -100,7 +114,7 @@ module _ (x : Basis) (g : Both) (line : BlockLine) (rest : List BlockLine) (y : 
         → looked x.table g.call.site (of_value u) ≡ looked x.table g.call.site (of_location t) → InMemory (house g.call.site (of_value u)).home
 
   at_reached : (t : ℕ) (there : Where) → IsNamed g.call.site (of_location t) → IsHomed x g.call.site t → g.call.temps.places t ≡ Some there → IsReached t
-      → AtAddress (location here t) there (looked x.table g.call.site (of_location t))
+      → Reached (location here t) there (looked x.table g.call.site (of_location t))
   at_reached t there n homed e reached = by (house g.call.site (of_location t)).alias refl (y.hold.0.led t there n e)
     where
       s : Shape
@@ -110,11 +124,11 @@ module _ (x : Basis) (g : Both) (line : BlockLine) (rest : List BlockLine) (y : 
       own_ty = type_of x.table (house g.call.site (of_location t))
 
       as_location : (a : Alias) → (house g.call.site (of_location t)).alias ≡ a
-          → AtAddress (named here a (house g.call.site (of_location t))) there s → AtAddress (location here t) there s
-      as_location a is w = subst (λ b. AtAddress (named here b (house g.call.site (of_location t))) there s) (sym is) w
+          → Reached (named here a (house g.call.site (of_location t))) there s → Reached (location here t) there s
+      as_location a is w = subst (λ b. Reached (named here b (house g.call.site (of_location t))) there s) (sym is) w
 
       by_place : (p : ℕ) (global : Bool) → (house g.call.site (of_location t)).alias ≡ alias.Place p global
-          → IsRoot x.table (all_sites x g line rest y) g.world g.call p global there → AtAddress (location here t) there s
+          → IsRoot x.table (all_sites x g line rest y) g.world g.call p global there → Reached (location here t) there s
       by_place p true is r =
           let ty = y.linked.0.aliased t p true n is in
           let filled : Filled g.world 0 p = subst (λ l. Filled g.world l p) r.level r.filled in
@@ -127,15 +141,15 @@ module _ (x : Basis) (g : Both) (line : BlockLine) (rest : List BlockLine) (y : 
           let points : Points g.call.site.base g.call.vars (house site0 (of_place p)).home (address_of site0.base (house site0 (of_place p)).home)
           = subst (λ h. Points g.call.site.base g.call.vars h (address_of site0.base h)) (sym u.global.home) refl in
           as_location (alias.Place p true) is
-          (subst (λ h. AtAddress h there s) same (record {
+          (subst (λ h. Reached h there s) same (record {
             home = (house site0 (of_place p)).home;
             home_is = refl;
-            lies = spot_memory (house site0 (of_place p)) u.root.item.plain u.home;
+            lies = λ other. spot_memory (house site0 (of_place p)) u.root.item.plain u.home;
             high_is = high_in_memory (house site0 (of_place p)).home u.home;
             address = address_of site0.base (house site0 (of_place p)).home;
             points = points;
-            leads_to = subst (λ w. Leads x.table x.blocks (all_sites x g line rest y) g.ground g.world g.call.site g.call.temps w
-                (address_of site0.base (house site0 (of_place p)).home) s) (sym (at_l ∙ ap Located own)) (inl (record {
+            reaches = subst (λ w. Reaches x.table x.blocks (all_sites x g line rest y) g.ground g.world g.call.site g.call.temps w
+                (address_of site0.base (house site0 (of_place p)).home) s) (sym (at_l ∙ ap Located own)) (inl (inl (record {
                   site = site0;
                   among = u.start.among;
                   number = p;
@@ -146,7 +160,7 @@ module _ (x : Basis) (g : Both) (line : BlockLine) (rest : List BlockLine) (y : 
                   offset = 0;
                   path = (refl, ap (shape_of (facts_in x.table)) u.global.typed);
                   address = omega arith;
-                }));
+                })));
           }))
       by_place p false is r =
           let ty = y.linked.0.aliased t p false n is in
@@ -163,20 +177,20 @@ module _ (x : Basis) (g : Both) (line : BlockLine) (rest : List BlockLine) (y : 
               → looked x.table g.call.site (of_place p) ≡ s → Filled g.world g.call.site.level p
               → there ≡ Located (root_of (Standing g.call.site.level p) g.world)
               → (owns (house g.call.site (of_place p)) ≡ true) ⊎ (owns (house g.call.site (of_place p)) ≡ false)
-              → AtAddress (house g.call.site (of_place p)) there s
+              → Reached (house g.call.site (of_place p)) there s
           of_call p is there_is look filled at_l (inl own) =
               let v = (y.hold.0.filled p there_is filled).own own in
               let inside = reached.place p is there_is own look in
               record {
                 home = (house g.call.site (of_place p)).home;
                 home_is = refl;
-                lies = spot_memory (house g.call.site (of_place p)) (own_plain (house g.call.site (of_place p)) own) inside;
+                lies = λ other. spot_memory (house g.call.site (of_place p)) (own_plain (house g.call.site (of_place p)) own) inside;
                 high_is = high_in_memory (house g.call.site (of_place p)).home inside;
                 address = address_of g.call.site.base (house g.call.site (of_place p)).home;
                 points = points_there g.call.site.base g.call.vars (house g.call.site (of_place p)).home inside;
-                leads_to = subst (λ w. Leads x.table x.blocks (all_sites x g line rest y) g.ground g.world g.call.site g.call.temps w
+                reaches = subst (λ w. Reaches x.table x.blocks (all_sites x g line rest y) g.ground g.world g.call.site g.call.temps w
                     (address_of g.call.site.base (house g.call.site (of_place p)).home) s)
-                    (sym (at_l ∙ ap Located (own_root x g line rest y g.call.site.level p v.0 v.1))) (inl (record {
+                    (sym (at_l ∙ ap Located (own_root x g line rest y g.call.site.level p v.0 v.1))) (inl (inl (record {
                       site = g.call.site;
                       among = inl refl;
                       number = p;
@@ -187,7 +201,7 @@ module _ (x : Basis) (g : Both) (line : BlockLine) (rest : List BlockLine) (y : 
                       offset = 0;
                       path = (refl, look);
                       address = omega arith;
-                    }));
+                    })));
               }
           of_call p is there_is look filled at_l (inr no_own) =
               let v = (y.hold.0.filled p there_is filled).other no_own in
@@ -196,15 +210,15 @@ module _ (x : Basis) (g : Both) (line : BlockLine) (rest : List BlockLine) (y : 
               record {
                 home = Variable q.variable_is;
                 home_is = q.home;
-                lies = q.spot;
+                lies = λ other. q.spot (ap is_letter look ∙ other);
                 high_is = q.high_is;
                 address = v.address;
                 points = q.points;
-                leads_to = subst (λ w. Leads x.table x.blocks (all_sites x g line rest y) g.ground g.world g.call.site g.call.temps w v.address s) (sym same)
-                    (subst (λ k. LeadsHere x.table x.blocks (all_sites x g line rest y) g.ground g.world v.location v.address k) look v.leads);
+                reaches = subst (λ w. Reaches x.table x.blocks (all_sites x g line rest y) g.ground g.world g.call.site g.call.temps w v.address s) (sym same)
+                    (subst (λ k. ReachesHere x.table x.blocks (all_sites x g line rest y) g.ground g.world v.location v.address k) look v.leads);
               }
 
-      by_value : (u : ℕ) → (house g.call.site (of_location t)).alias ≡ alias.Value u → IsInValue x.table g.call u there → AtAddress (location here t) there s
+      by_value : (u : ℕ) → (house g.call.site (of_location t)).alias ≡ alias.Value u → IsInValue x.table g.call u there → Reached (location here t) there s
       by_value u is r =
           let typed = has_type x g.call.site (of_value u) own_ty y.linked.0 (y.linked.0.valued t u n is).0 in
           let look = look_of x g.call.site (of_value u) own_ty typed in
@@ -213,11 +227,11 @@ module _ (x : Basis) (g : Both) (line : BlockLine) (rest : List BlockLine) (y : 
           as_location (alias.Value u) is (record {
             home = (house g.call.site (of_value u)).home;
             home_is = refl;
-            lies = spot_memory (house g.call.site (of_value u)) (value_plain (house g.call.site (of_value u)) there_is.kind) inside;
+            lies = λ other. spot_memory (house g.call.site (of_value u)) (value_plain (house g.call.site (of_value u)) there_is.kind) inside;
             high_is = high_in_memory (house g.call.site (of_value u)).home inside;
             address = address_of g.call.site.base (house g.call.site (of_value u)).home;
             points = points_there g.call.site.base g.call.vars (house g.call.site (of_value u)).home inside;
-            leads_to = subst (λ w. Leads x.table x.blocks (all_sites x g line rest y) g.ground g.world g.call.site g.call.temps w
+            reaches = subst (λ w. Reaches x.table x.blocks (all_sites x g line rest y) g.ground g.world g.call.site g.call.temps w
                 (address_of g.call.site.base (house g.call.site (of_value u)).home) s) (sym r.is) (record {
                   there = there_is;
                   home = inside;
@@ -231,18 +245,18 @@ module _ (x : Basis) (g : Both) (line : BlockLine) (rest : List BlockLine) (y : 
           })
 
       by : (a : Alias) → (house g.call.site (of_location t)).alias ≡ a → IsLedBy x.table x.blocks a (all_sites x g line rest y) g.ground g.world g.call t there
-          → AtAddress (location here t) there s
+          → Reached (location here t) there s
       by alias.Own is r =
           let there_is : IsThere g.call.site (of_location t) = record { among = n.among; number = n.number; kind = n.kind; own = is } in
           let q = address_in (of_location t) r.address there_is (location_address (house g.call.site (of_location t)) n.kind) r.holds in
           as_location alias.Own is (record {
             home = Variable q.variable_is;
             home_is = q.home;
-            lies = q.spot;
+            lies = λ other. q.spot other;
             high_is = q.high_is;
             address = r.address;
             points = q.points;
-            leads_to = r.leads;
+            reaches = r.leads;
           })
       by (alias.Place p global) is r = by_place p global is r
       by (alias.Value u) is r = by_value u is r
@@ -251,12 +265,12 @@ module _ (x : Basis) (g : Both) (line : BlockLine) (rest : List BlockLine) (y : 
           as_location (alias.Node m) is (record {
             home = (house g.call.site (of_waiting m)).home;
             home_is = refl;
-            lies = spot_memory (house g.call.site (of_waiting m)) (value_plain (house g.call.site (of_waiting m)) r.is_there.kind) inside;
+            lies = λ other. spot_memory (house g.call.site (of_waiting m)) (value_plain (house g.call.site (of_waiting m)) r.is_there.kind) inside;
             high_is = high_in_memory (house g.call.site (of_waiting m)).home inside;
             address = address_of g.call.site.base (house g.call.site (of_waiting m)).home;
             points = points_there g.call.site.base g.call.vars (house g.call.site (of_waiting m)).home inside;
-            leads_to = subst (λ w. Leads x.table x.blocks (all_sites x g line rest y) g.ground g.world g.call.site g.call.temps w
-                (address_of g.call.site.base (house g.call.site (of_waiting m)).home) s) (sym r.is) (inr (inr (inr (record {
+            reaches = subst (λ w. Reaches x.table x.blocks (all_sites x g line rest y) g.ground g.world g.call.site g.call.temps w
+                (address_of g.call.site.base (house g.call.site (of_waiting m)).home) s) (sym r.is) (inl (inr (inr (inr (record {
                   site = g.call.site;
                   among = inl refl;
                   node = m;
@@ -265,7 +279,7 @@ module _ (x : Basis) (g : Both) (line : BlockLine) (rest : List BlockLine) (y : 
                   offset = 0;
                   path = (refl, node_look x.table g.call.site t m there r);
                   address = omega arith;
-                }))));
+                })))));
           })
       by (alias.Text m size) is r = absurd r
 
@@ -273,11 +287,35 @@ module _ (x : Basis) (g : Both) (line : BlockLine) (rest : List BlockLine) (y : 
   pub at_homed : (t : ℕ) (there : Where) → IsNamed g.call.site (of_location t) → IsHomed x g.call.site t → g.call.temps.places t ≡ Some there
       → is_one_word (looked x.table g.call.site (of_location t)) ≡ false
       → AtAddress (location here t) there (looked x.table g.call.site (of_location t))
-  at_homed t there n homed e many = at_reached t there n homed e (record {
-    place = λ p is there_is own look. in_memory (of_place p) there_is (own_plain (house g.call.site (of_place p)) own) (ap is_one_word look ∙ many);
-    value = λ u is there_is look. in_memory (of_value u) there_is (value_plain (house g.call.site (of_value u)) there_is.kind)
-        (ap is_one_word look ∙ many);
-  })
+  at_homed t there n homed e many =
+      let s : Shape = looked x.table g.call.site (of_location t) in
+      let other = no_letter s many in
+      let r = at_reached t there n homed e (record {
+        place = λ p is there_is own look. in_memory (of_place p) there_is (own_plain (house g.call.site (of_place p)) own) (ap is_one_word look ∙ many);
+        value = λ u is there_is look. in_memory (of_value u) there_is (value_plain (house g.call.site (of_value u)) there_is.kind)
+            (ap is_one_word look ∙ many);
+      }) in
+      record {
+        home = r.home;
+        home_is = r.home_is;
+        lies = r.lies other;
+        high_is = r.high_is;
+        address = r.address;
+        points = r.points;
+        leads_to = stored_so x.table x.blocks (all_sites x g line rest y) g.ground g.world g.call.site g.call.temps there r.address s other r.reaches;
+      }
+
+  -- of what is no character
+  pub as_reached : (h : Housed) (there : Where) (s : Shape) → AtAddress h there s → Reached h there s
+  as_reached h there s a = record {
+    home = a.home;
+    home_is = a.home_is;
+    lies = λ other. a.lies;
+    high_is = a.high_is;
+    address = a.address;
+    points = a.points;
+    reaches = reached_so x.table x.blocks (all_sites x g line rest y) g.ground g.world g.call.site g.call.temps there a.address s a.leads_to;
+  }
 
   pub at_address : (t : ℕ) (there : Where) → IsNamed g.call.site (of_location t) → IsPlain x g.call.site (of_location t)
       → g.call.temps.places t ≡ Some there → is_one_word (looked x.table g.call.site (of_location t)) ≡ false
@@ -287,7 +325,7 @@ module _ (x : Basis) (g : Both) (line : BlockLine) (rest : List BlockLine) (y : 
   -- what may be written, where the line hands on its address
   pub handed_homed : (t : ℕ) (there : Where) → IsNamed g.call.site (of_location t) → IsHomed x g.call.site t → g.call.temps.places t ≡ Some there
       → is_standing (house g.call.site (of_location t)).kind ≡ true → is_among t (places_in (handed_by (block_plain line))) ≡ true
-      → AtAddress (location here t) there (looked x.table g.call.site (of_location t))
+      → Reached (location here t) there (looked x.table g.call.site (of_location t))
   handed_homed t there n homed e standing handed = at_reached t there n homed e (record {
     place = λ p is there_is own look. y.linked.0.addressed p (is_addressed x.table x.blocks (body_of g) y.linked.0 t p n is among)
         (record { among = there_is.among; number = there_is.number; kind = there_is.kind }) own;
@@ -300,7 +338,7 @@ module _ (x : Basis) (g : Both) (line : BlockLine) (rest : List BlockLine) (y : 
   pub handed_at : (t : ℕ) (there : Where) → IsNamed g.call.site (of_location t) → IsPlain x g.call.site (of_location t)
       → g.call.temps.places t ≡ Some there
       → is_standing (house g.call.site (of_location t)).kind ≡ true → is_among t (places_in (handed_by (block_plain line))) ≡ true
-      → AtAddress (location here t) there (looked x.table g.call.site (of_location t))
+      → Reached (location here t) there (looked x.table g.call.site (of_location t))
   handed_at t there n plain e standing handed = handed_homed t there n (homed_plain x g.call.site t y.linked.0 n plain) e standing handed
 
   -- an array there

@@ -27,6 +27,7 @@ use Rattle.word_lowering.specs.Layouts.{free_at, layout_of}
 use Rattle.word_lowering.specs.WaitingCode.{waiter_at, waiting_house}
 use Rattle.word_lowering.proofs.HomesApart.{IsBetween, all_between, grows_all}
 use Rattle.word_lowering.proofs.LayoutBounds.{place_whole, room_whole}
+use Rattle.word_lowering.proofs.LetterShapes.{no_letter}
 use Rattle.word_lowering.proofs.PlaceFacts.{each_among, place_shape_bytes, place_rows, place_parts}
 use Rattle.word_lowering.proofs.ShapeFacts.{never}
 use Rattle.word_lowering.proofs.Sites.{Body, Among, in_places, is_one_word, IsHoused, IsTakenBefore, AreWaiters}
@@ -99,6 +100,7 @@ module _ (table : List TypeDef) (blocks : Code BlockLine) (is_table : IsTable ta
       record {
         bytes = place_shape_bytes table is_table have K.Temp w.ty ∙ sym made.bytes;
         word = no_word w.ty made.hooked;
+        letter = no_letter (shape_of (facts_in table) (type_at (types_in table) w.ty)) (no_word w.ty made.hooked);
         where_is = in_places w.at refl refl made.whole (let end = before.ends in omega (arith, end));
         kept = λ v word. never word;
         numbers = λ h. never (sym h ∙ made.hooked);

@@ -112,7 +112,7 @@ module _ (table : List TypeDef) (sites : List Site) (ground : Ground) (w : World
       home = s.home;
       address = s.address;
       given = address_stays h d g apart s.variable s.address s.home s.given;
-      owned = s.owned;
+      stood = s.stood;
       leads = s.leads;
     }
     slot_stays h d g apart (Lends x from seen) s = absurd s

@@ -29,8 +29,8 @@ use Rattle.word_lowering.proofs.NamedProcs.{all_apart}
 use Rattle.word_lowering.proofs.RoomBounds.{globals_inside, data_small, enums_may, sites_within}
 use Rattle.word_lowering.proofs.DataEnd.{globals_behind, globals_whole}
 use Rattle.word_lowering.proofs.DataSizes.{data_whole, data_within}
-use Rattle.word_lowering.proofs.FirstConstants.{constant_first}
-use Rattle.word_lowering.proofs.Related.{StandsThere}
+use Rattle.word_lowering.proofs.FirstConstants.{constant_first, text_first}
+use Rattle.word_lowering.proofs.Related.{HandleThere, StandsThere}
 use Rattle.word_lowering.proofs.SmallWords.{AllSmall}
 use Rattle.word_lowering.specs.Layouts.{is_empty}
 use Rattle.flat_code.specs.declared.code.CodeProc.{CodeProc}
@@ -41,7 +41,9 @@ use Rattle.flat_code.specs.Sizes.{code_texts}
 use Rattle.nim_types.specs.Types.{same_text}
 use Rattle.std.specs.Set.{is_member}
 use Rattle.std.proofs.lemmas.Bool.{true≢false}
-use Rattle.word_lowering.proofs.FirstMemory.{first_memory, routines_given, letter_first, handles_first}
+use Rattle.word_lowering.specs.declared.may_lower.TheConstants.{MOST_DATA}
+use Rattle.word_lowering.specs.declared.texts.TheConstants.{FIXED_BYTES}
+use Rattle.word_lowering.proofs.FirstMemory.{first_memory, globals, own, routines_given, letter_first, handles_first}
 use Rattle.word_lowering.proofs.TypeDefaults.{type_default, type_blank}
 use Rattle.word_lowering.proofs.TypeRules.{type_compared, type_plain, type_unhooked, type_hooked, type_resource, type_built, type_built_object, type_fields}
 use Rattle.word_lowering.proofs.TypeRules.{type_object, type_converted, type_limit}
@@ -71,22 +73,36 @@ module _ (laws : HookLaws) (table : List TypeDef) (bounds : TableBounds table) (
   pub routines_are : routines_at (joined runtime.heap (lowered table blocks)) ≡ routines table blocks
   routines_are = let l = front_long in omega (arith, l)
 
-  -- constants that stand in the data; code without procedures has none
-  pub constants_first : (heap stack : ℕ) (pieces : List Piece) → AllSmall (piece_words pieces)
-      → is_member same_text (code_texts block_plain blocks.procs) (standing_bytes pieces) ≡ true
-      → StandsThere table blocks (first_memory (with_runtimes runtime (lowered table blocks)) heap stack) pieces
-  constants_first heap stack pieces small among = by (is_empty blocks.procs) refl
-    where
-      none : (procs : List (CodeProc BlockLine)) → is_empty procs ≡ true → is_member same_text (code_texts block_plain procs) (standing_bytes pieces) ≡ true
-          → ⊥
-      none [] e h = absurd (true≢false (sym h))
-      none (p ∷ procs) e h = absurd (true≢false (sym e))
+  -- what stands in the data; code without procedures has none
+  module _ (heap stack : ℕ) where
+    abbrev start : Memory
+    start = first_memory (with_runtimes runtime (lowered table blocks)) heap stack
 
-      by : (b : Bool) → is_empty blocks.procs ≡ b → StandsThere table blocks (first_memory (with_runtimes runtime (lowered table blocks)) heap stack) pieces
-      by true e = absurd (none blocks.procs e among)
-      by false e =
-          constant_first table blocks runtime heap stack (globals_behind table blocks e) (globals_whole table blocks) (data_within table blocks may)
-          pieces small among
+    abbrev IsAmong : List ℕ → Type 0
+    IsAmong text = is_member same_text (code_texts block_plain blocks.procs) text ≡ true
+
+    none_among : (procs : List (CodeProc BlockLine)) (text : List ℕ) → is_empty procs ≡ true
+        → is_member same_text (code_texts block_plain procs) text ≡ true → ⊥
+    none_among [] text e h = absurd (true≢false (sym h))
+    none_among (p ∷ procs) text e h = absurd (true≢false (sym e))
+
+    where_some : (P : Type 0) (text : List ℕ) → IsAmong text
+        → (FIXED_BYTES ≤ globals table blocks → globals table blocks % 4 ≡ 0 → length (own table blocks) ≤ MOST_DATA → P) → P
+    where_some P text among go = by (is_empty blocks.procs) refl
+      where
+        by : (b : Bool) → is_empty blocks.procs ≡ b → P
+        by true e = absurd (none_among blocks.procs text e among)
+        by false e = go (globals_behind table blocks e) (globals_whole table blocks) (data_within table blocks may)
+
+    pub constants_first : (pieces : List Piece) → AllSmall (piece_words pieces) → IsAmong (standing_bytes pieces) → StandsThere table blocks start pieces
+    constants_first pieces small among =
+        where_some (StandsThere table blocks start pieces) (standing_bytes pieces) among
+        (λ least whole most. constant_first table blocks runtime heap stack least whole most pieces small among)
+
+    pub texts_first : (text : List ℕ) → IsAmong text → HandleThere table blocks start text
+    texts_first text among =
+        where_some (HandleThere table blocks start text) text among
+        (λ least whole most. text_first table blocks runtime heap stack least whole most text among)
 
   abbrev pub basis_of : (live : Lives) → Fresh → ((m : Memory) → live (as_state m) ≡ no_objects) → IsTable table → HaveForms table
       → IsFitting table blocks → all_labels blocks.procs ≤ 4294967295 → AreSilent blocks.procs → (heap stack : ℕ) → MemoryLaw → Basis
@@ -128,6 +144,7 @@ module _ (laws : HookLaws) (table : List TypeDef) (bounds : TableBounds table) (
     data_most = data_within table blocks may;
     given_closed = closed;
     constants = λ pieces small among. constants_first heap stack pieces small among;
+    texts = λ text among. texts_first heap stack text among;
     letter = letter_first table blocks runtime heap stack;
     handles = λ least places i size within whole. handles_first table blocks runtime heap stack least places i size within whole;
   }

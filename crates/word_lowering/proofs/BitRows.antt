@@ -1,6 +1,6 @@
 -- Rows that move the bits of what has something to do at its end, as lines: a temporary gets what a type starts at, what stands at a location is taken, and
 -- two locations trade what they have.
-use Rattle.std.proofs.Common.{◌≡◌, ℕ, List, [], ◌∷◌, Option, Some, None, true, false, refl, sym, ap, subst, ◌∙◌, ◌+◌}
+use Rattle.std.proofs.Common.{◌≡◌, ℕ, List, [], ◌∷◌, Option, Some, None, true, false, refl, sym, ap, ap₂, subst, ◌∙◌, ◌+◌}
 use Rattle.word_lowering.proofs.Sites.{Among, around, globals_of, has_hooks, is_one_word, looks, sigs, type_of}
 use Rattle.nim_meaning.specs.Deeds.{Answers, Deed, Stores, behind, costs, does, give, perform, sets, unless_gone, ◌>>=◌, ◌>>◌}
 use Rattle.nim_meaning.specs.Values.{At, Location, Operand, Value, bytes, default_of, location_of, nothing}
@@ -11,18 +11,18 @@ use Rattle.word_lowering.proofs.Related.{Both, body_of, high}
 use Rattle.nim_types.specs.Types.{Facts, Ty}
 use Rattle.word_lowering.proofs.OwnedFits.{FitsRow, OwnedRow, fits_row}
 use Rattle.flat_code.specs.declared.line.From.{From}
-use Rattle.word_lowering.proofs.Scenes.{FromOwned, house, looked, of_location, of_value}
+use Rattle.word_lowering.proofs.Scenes.{FromLiteral, FromOwned, house, looked, of_location, of_value}
 use Rattle.word_lowering.proofs.ValueFacts.{HasType, has_type, look_of, type_in}
 use Rattle.word_lowering.specs.declared.homes.Home.{Home}
 use Rattle.word_lowering.specs.declared.homes.Housed.{Housed}
 use Rattle.word_lowering.specs.declared.spots.Spot.TheVariants.{Lies}
 use Rattle.word_lowering.proofs.OwnedHandles.{OwnedAt, owned_many}
-use Rattle.flat_code.specs.Scene.{Passes, Where, location_at, with_value}
+use Rattle.flat_code.specs.Scene.{Located, Passes, Where, location_at, with_value}
 use Rattle.word_lowering.proofs.SwapBits.{PointsAt, swap_settles}
 use Rattle.flat_code.specs.Shapes.{Shape, shape_of}
 use Rattle.flat_code.specs.declared.line.UseAt.{UseAt}
 use Rattle.nim_meaning.specs.State.{World, is_full_at, is_seen, is_there, is_whole, load, store}
-use Rattle.std.proofs.lemmas.Bool.{and_parts}
+use Rattle.std.proofs.lemmas.Bool.{and_parts, both_ways}
 use Rattle.word_lowering.proofs.ApplyFits.{apply_line}
 use Rattle.word_lowering.proofs.LineFits.{are_of, no_type, same_type}
 use Rattle.nim_meaning.specs.Texts.{are_seen}
@@ -39,7 +39,8 @@ use Rattle.word_lowering.proofs.LocationHouses.{homed_house}
 use Rattle.nim_program.specs.View.{if_type}
 use Rattle.flat_code.specs.Fits.{is_location, is_value}
 use Rattle.word_lowering.specs.LineCode.{location, swap_code}
-use Rattle.word_lowering.proofs.ShapeFacts.{never, shape_bytes}
+use Rattle.word_lowering.proofs.LetterShapes.{no_letter}
+use Rattle.word_lowering.proofs.ShapeFacts.{is_letter, never, shape_bytes}
 use Rattle.word_lowering.proofs.StoreLines.{none_temps}
 use Rattle.word_lowering.proofs.BlankShapes.{of_handles}
 use Rattle.flat_code.specs.Running.{scene_of}
@@ -78,8 +79,11 @@ module _ (x : Basis) (g : Both) (line : BlockLine) (rest : List BlockLine) (y : 
   pub record BitsAt (t : ℕ) (l : Location) (ty : Ty) : Type 0 where
     pub lies : spot_of (location (around x.table x.blocks (body_of g)) t) ≡ Lies (location (around x.table x.blocks (body_of g)) t).home
     pub no_word : (location (around x.table x.blocks (body_of g)) t).is_word ≡ false
+    pub plain_letter : (location (around x.table x.blocks (body_of g)) t).is_letter ≡ false
     pub bytes_are : (location (around x.table x.blocks (body_of g)) t).bytes ≡ shape_bytes (shape_of (facts_in x.table) ty)
-    pub points : PointsAt x g line rest y l (shape_of (facts_in x.table) ty) (location (around x.table x.blocks (body_of g)) t).home
+    -- where it may change
+    pub points : may_change l.base ≡ true
+        → PointsAt x g line rest y l (shape_of (facts_in x.table) ty) (location (around x.table x.blocks (body_of g)) t).home
 
   pub bits_at : (t : ℕ) (there : Where) (ty : Ty) → type_in x is_location (body_of g) t ≡ Some ty
       → fit.may_write (known x) (sigs x.table x.blocks) (globals_of x.table x.blocks) (body_of g).proc.places t ≡ true
@@ -95,20 +99,31 @@ module _ (x : Basis) (g : Both) (line : BlockLine) (rest : List BlockLine) (y : 
       let homed_here = homed x g.call.site y.linked.0 t has.named in
       let a : AtAddress x g line rest y h there (looked x.table g.call.site (of_location t))
       = at_homed x g line rest y t there has.named homed_here at (ap is_one_word look ∙ many) in
-      let o : OwnedAt x g line rest y t there s = owned_many x g line rest y t there has.named (y.linked.0.standing t may) at s many look p.0 p.1 in
       let housed = homed_house x g line rest y t there has.named homed_here at in
       let looks_so : looks x.table h ≡ s = ap (shape_of (facts_in x.table)) (housed.typed ∙ has.typed) in
       record {
         lies = a.lies ∙ ap Lies (sym a.home_is);
         no_word = sym housed.housed.word ∙ (ap is_one_word looks_so ∙ many);
+        plain_letter = sym housed.housed.letter ∙ (ap is_letter looks_so ∙ no_letter s many);
         bytes_are = sym housed.housed.bytes ∙ ap shape_bytes looks_so;
-        points = record {
-          high = o.at_home.high;
-          address = o.address;
-          points = o.at_home.points;
-          owned = subst (λ k. FromOwned x.table (all_sites x g line rest y) g.ground g.world k o.address s) (sym (ap (location_at g.call.temps) o.is)) o.owned;
-        };
+        points = λ changes.
+            let o : OwnedAt x g line rest y t there s
+            = owned_many x g line rest y t there has.named (y.linked.0.standing t may) at s (λ k a is f. no_text changes k a is f) many look p.0 p.1 in
+            record {
+              high = o.at_home.high;
+              address = o.address;
+              points = o.at_home.points;
+              owned = subst (λ k. FromOwned x.table (all_sites x g line rest y) g.ground g.world k o.address s)
+                  (sym (ap (location_at g.call.temps) o.is)) o.owned;
+            };
       }
+    where
+      -- the text of a literal never changes
+      no_text : {s : Shape} → may_change (location_at g.call.temps there).base ≡ true → (k : Location) (a : ℕ) → there ≡ Located k
+          → FromLiteral x.table x.blocks k a s → ⊥
+      no_text changes k a is f =
+          absurd (both_ways (may_change (location_at g.call.temps there).base)
+          (ap (λ w. may_change (location_at g.call.temps w).base) is ∙ ap may_change f.base) changes)
 
 module _ (x : Basis) (g : Both) (rest : List BlockLine) (to : ℕ) (how : UseAt) where
   abbrev type_at_number : Option ℕ → Option Ty
@@ -200,6 +215,7 @@ module _ (x : Basis) (g : Both) (rest : List BlockLine) (to : ℕ) (how : UseAt)
 
       -- both are there all the time, or the meaning is at a fault
       where_seen : (is_full_at g.world one ≡ true → is_full_at g.world other ≡ true → is_there world_then one ≡ true
+          → may_change one.base ≡ true → may_change other.base ≡ true
           → Settles x (starts g swapping rest) rest (Passes (Answers [] (1 + (bytes first + (bytes second + 0))) (with_value to g.call.temps nothing)
           (store world_then one second)))) → gives_swapped (swapped one other)
       where_seen d =
@@ -227,7 +243,7 @@ module _ (x : Basis) (g : Both) (rest : List BlockLine) (to : ℕ) (how : UseAt)
           (λ b. Passes (behind [] 1 (behind [] (bytes first) (perform (((costs (bytes second)
           (unless_gone b (does (Stores one second)) >> give (load world_then one)) >> give nothing) >>= (λ v. give v))
           >>= (λ v. give (with_value to g.call.temps v))) world_then)))) (λ before. tt)
-          (λ live_one. d full full_other live_one)))))))
+          (λ live_one. d full full_other live_one may_one may_other)))))))
 
     swap_two : (y : IsGood x (starts g swapping rest)) (z w : Operand) → fetch g.call.temps (F.Place t) ≡ Some z → fetch g.call.temps (F.Place u) ≡ Some w
         → is_seen g.world (location_of z) ≡ true → is_seen g.world (location_of w) ≡ true → gives_swapped (swapped (location_of z) (location_of w))
@@ -253,10 +269,10 @@ module _ (x : Basis) (g : Both) (rest : List BlockLine) (to : ℕ) (how : UseAt)
         subst (λ v. gives_swapped (swapped (location_of v) (location_of w))) p.is
         (subst (λ v. gives_swapped (swapped (location_at g.call.temps p.there) (location_of v))) q.is
         (where_seen (location_at g.call.temps p.there) (location_at g.call.temps q.there)
-        (λ full full_other live_one. swap_settles x g swapping rest y (location_at g.call.temps p.there) (location_at g.call.temps q.there)
-        (shape_of (facts_in x.table) ty) (home_of t) (home_of u) left.points right.points (with_value to g.call.temps nothing)
+        (λ full full_other live_one may_one may_other. swap_settles x g swapping rest y (location_at g.call.temps p.there) (location_at g.call.temps q.there)
+        (shape_of (facts_in x.table) ty) (home_of t) (home_of u) (left.points may_one) (right.points may_other) (with_value to g.call.temps nothing)
         (none_temps x g swapping rest y to (no_type (value_type x g swapping rest y to) r.given)) full full_other live_one
-        (ap (λ i. swap_code (home_of t) (home_of u) i (code_next x g swapping rest y)) left.bytes_are))))
+        (ap₂ (λ b i. swap_code b (home_of t) (home_of u) i (code_next x g swapping rest y)) left.plain_letter left.bytes_are))))
 
   pub swap_row : (a b : Option ℕ) (n : ℕ) → type_at_number a ≡ Some (type_at (known x).types n)
       → hooked (form_of (facts_in x.table) (type_at (known x).types n)) ≡ true → (from : List From) → OwnedRow x g rest to how O.Swap None (a ∷ b ∷ []) from

@@ -1,5 +1,5 @@
--- What is at locations in blocks: an element of a sequence, or a part of one.
-use Rattle.std.proofs.Common.{◌≡◌, ℕ, ◌+◌, ◌*◌, ◌<◌, ◌≤◌, List, ◌∷◌, length, Some, refl, sym, ap, subst, ◌∙◌, arith}
+-- What is at locations in blocks: an element of a sequence, or a part of one; or a character of a text.
+use Rattle.std.proofs.Common.{◌≡◌, ℕ, ◌+◌, ◌*◌, ◌<◌, ◌≤◌, List, [], ◌∷◌, length, Some, refl, sym, ap, subst, ◌∙◌, arith}
 use Rattle.nim_meaning.specs.Values.{Value, Parts, Values, count, nth, with_nth, part, put_part}
 use Rattle.nim_meaning.specs.Heap.{Contents, Characters, Elements, Object, Block, Heap, block_at}
 use Rattle.nim_meaning.specs.State.{contents_value}
@@ -7,9 +7,9 @@ use Rattle.flat_code.specs.Shapes.{Shape, row}
 use Rattle.word_code.specs.Memory.{Memory}
 use Rattle.word_code.specs.RoutineTable.{IsRewritten}
 use Rattle.heap_memory.specs.HeapState.{Standing}
-use Rattle.word_lowering.proofs.ShapeFacts.{shape_bytes}
+use Rattle.word_lowering.proofs.ShapeFacts.{letter, shape_bytes}
 use Rattle.word_lowering.proofs.ShapePaths.{PathTo}
-use Rattle.word_lowering.proofs.Blocks.{Each, Blocks, AreLater, Stored, AreStored, HasContents, IsBlockThere, IfBlockThere, HasHeap}
+use Rattle.word_lowering.proofs.Blocks.{Bytes, Each, Blocks, AreLater, Stored, AreStored, HasContents, IsBlockThere, IfBlockThere, HasHeap}
 use Rattle.word_lowering.proofs.StoredParts.{path_part, path_put, Spares}
 use Rattle.word_lowering.proofs.CarriedBeside.{rewritten_spares}
 
@@ -38,6 +38,26 @@ leads_later d after ahead k path a t l = record {
   inside = ahead.inside k l.born ∙ l.inside;
   way = l.way;
   address = λ x e. let y = ahead.places k x l.born e in l.address y.0 y.1 ∙ ap (λ p. p + (l.element * shape_bytes l.of + l.offset)) y.2;
+}
+
+-- The character of a text in a block to which a location leads: one byte.
+pub record LeadsInText (d : Blocks) (k : ℕ) (path : List ℕ) (a : ℕ) (t : Shape) : Type 0 where
+  pub position : ℕ
+  pub is : path ≡ position ∷ []
+  pub born : k < d.born
+  pub inside : d.inside k ≡ Bytes
+  pub shape : t ≡ letter
+  pub address : (x : Standing) → d.stands k ≡ Some x → a ≡ x.place + position
+
+pub text_later : (d after : Blocks) → AreLater d after → (k : ℕ) (path : List ℕ) (a : ℕ) (t : Shape) → LeadsInText d k path a t
+    → LeadsInText after k path a t
+text_later d after ahead k path a t l = record {
+  position = l.position;
+  is = l.is;
+  born = let b = l.born in let c = ahead.born in omega (arith, b, c);
+  inside = ahead.inside k l.born ∙ l.inside;
+  shape = l.shape;
+  address = λ x e. let y = ahead.places k x l.born e in l.address y.0 y.1 ∙ ap (λ p. p + l.position) y.2;
 }
 
 module _ (StandsFixed : (place : ℕ) → List ℕ → Type 0) where

@@ -48,6 +48,7 @@ use Rattle.word_lowering.proofs.Options.{none_some, some_same}
 use Rattle.word_lowering.proofs.PlaceFacts.{own_declared, global_is, declared_own, each_among, known_among, all_aligned, comes, IsFound, place_unlent}
 use Rattle.word_lowering.proofs.PlaceFacts.{IsMissing, find, found_there, numbers_within, one_found, ResultAt, result_cases, housing, kept_in_variable}
 use Rattle.word_lowering.proofs.PlaceFacts.{addressed_in_memory, global_home, place_numbers, place_unhooked, place_built, place_many, place_shape_bytes}
+use Rattle.word_lowering.proofs.LetterShapes.{place_is_letter}
 use Rattle.word_lowering.proofs.PlaceFacts.{place_is_word}
 use Rattle.word_lowering.proofs.PlaceFacts.{place_rows, place_parts}
 use Rattle.word_lowering.proofs.ShapeFacts.{never}
@@ -171,6 +172,7 @@ module _ (table : List TypeDef) (blocks : Code BlockLine) where
         record {
           bytes = place_shape_bytes table is_table have p.kind p.ty;
           word = place_is_word table is_table have p.kind p.ty (place_built table is_table have p.kind p.ty (known_here h a));
+          letter = place_is_letter table is_table have p.kind p.ty;
           where_is = housing table start lines (room b) FIXED_BYTES (data_end table blocks) f p least most (omega arith) within (omega arith) ends own
               (each_among _ all h (all_between table start lines least proc.places) a own)
               (each_among _ all h (all_aligned table start lines least proc.places (record { byte = refl; datum = refl })) a own);

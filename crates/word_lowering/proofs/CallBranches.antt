@@ -7,7 +7,7 @@ use Rattle.word_lowering.specs.declared.homes.Home.{Home}
 use Rattle.word_lowering.specs.declared.homes.Home.TheVariants.{Variable, Placed, Static}
 use Rattle.word_lowering.specs.declared.homes.Housed.{Housed}
 use Rattle.word_lowering.specs.declared.spots.Spot.{Spot}
-use Rattle.word_lowering.specs.declared.spots.Spot.TheVariants.{Held, Lies}
+use Rattle.word_lowering.specs.declared.spots.Spot.TheVariants.{Held, Lies, Letter}
 use Rattle.word_lowering.specs.Layouts.{params_in}
 use Rattle.word_lowering.specs.LineCode.{Around, argument_code, arguments_code, called_code, checked_code, word_argument, layout_at}
 use Rattle.word_lowering.specs.Lowered.{any_branches}
@@ -28,6 +28,9 @@ behind_handed n label bytes (Held u) k h = h
 behind_handed n label bytes (Lies (Variable v)) k h = ap (λ b. nat_eq n label || b) h ∙ or_true (nat_eq n label)
 behind_handed n label bytes (Lies (Placed a)) k h = ap (λ b. nat_eq n label || b) h ∙ or_true (nat_eq n label)
 behind_handed n label bytes (Lies (Static a)) k h = ap (λ b. nat_eq n label || b) h ∙ or_true (nat_eq n label)
+behind_handed n label bytes (Letter (Variable v)) k h = h
+behind_handed n label bytes (Letter (Placed a)) k h = h
+behind_handed n label bytes (Letter (Static a)) k h = h
 
 module _ (x : Around) where
   behind_argument : (n label : ℕ) (param : Home) (from : Housed) (k : List WordInstr) → any_branches n k ≡ true

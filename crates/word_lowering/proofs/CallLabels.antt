@@ -12,7 +12,7 @@ use Rattle.word_lowering.specs.declared.homes.Home.{Home}
 use Rattle.word_lowering.specs.declared.homes.Home.TheVariants.{Variable, Placed, Static}
 use Rattle.word_lowering.specs.declared.homes.Housed.{Housed}
 use Rattle.word_lowering.specs.declared.spots.Spot.{Spot}
-use Rattle.word_lowering.specs.declared.spots.Spot.TheVariants.{Held, Lies}
+use Rattle.word_lowering.specs.declared.spots.Spot.TheVariants.{Held, Lies, Letter}
 use Rattle.word_lowering.specs.Spots.{spot_of, address, handed}
 use Rattle.word_lowering.specs.LineCode.{Around, arguments_of, label_before, word_argument, argument_code, arguments_code}
 use Rattle.word_lowering.proofs.Lines.{Basis, IsGood, starts}
@@ -40,6 +40,7 @@ past_address n to (Static a) k = refl
 past_handed : (n label bytes : ℕ) (from : Spot) (k : List WordInstr) → label ≢ n → from_label n (handed label bytes from k) ≡ from_label n k
 past_handed n label bytes (Held u) k apart = refl
 past_handed n label bytes (Lies from) k apart = past_address n SECOND from _ ∙ past_label n label _ apart
+past_handed n label bytes (Letter from) k apart = past_address n SECOND from _
 
 past_word : (n index : ℕ) (from : Home) (k : List WordInstr) → from_label n (word_argument index from k) ≡ from_label n k
 past_word n index (Variable v) k = refl

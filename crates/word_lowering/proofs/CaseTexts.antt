@@ -24,7 +24,6 @@ use Rattle.word_code.specs.Words.{Vars, from_label, no_words}
 use Rattle.word_code.proofs.ForCallers.{Runs, at, then_runs}
 use Rattle.word_lowering.specs.declared.handed.TheConstants.{LEFT_HANDLE_AT, RIGHT_HANDLE_AT}
 use Rattle.word_lowering.specs.declared.homes.TheConstants.{FOURTH}
-use Rattle.word_lowering.specs.declared.homes.Alias.TheVariants as alias
 use Rattle.word_lowering.specs.declared.homes.Home.{Home as Place}
 use Rattle.word_lowering.specs.declared.homes.Home.TheVariants.{Static}
 use Rattle.word_lowering.specs.LineCode.{own_label, value}
@@ -75,7 +74,7 @@ module _ (x : Basis) (labels : LabelsLead x) (said : Writing x) (texts : TextsBu
 
   module _ (y : IsGood x (starts g line rest)) (v : Value) (has : g.call.temps.values from ≡ Some v) (whole : is_whole g.world v ≡ true) where
     among : is_member same_text (lines_texts (lines_of (body_of g))) text ≡ true
-    among = ap (λ l. is_member same_text (lines_texts (map block_plain l)) text) y.stands.whole ∙ text_among line text refl y.stands.before rest
+    among = ap (λ l. is_member same_text (lines_texts (map block_plain l)) text) y.stands.whole ∙ text_among line text [] refl y.stands.before rest
 
     -- the selector has its handle, and then the label's text
     abbrev middle : List WordInstr

@@ -22,7 +22,7 @@ use Rattle.flat_code.specs.declared.line.UseAt.{UseAt}
 use Rattle.flat_code.specs.Fits as fit
 use Rattle.flat_code.specs.Lines.{gives}
 use Rattle.flat_code.specs.Running.{scene_of}
-use Rattle.flat_code.specs.Scene.{Passes, Where, location_at, with_value}
+use Rattle.flat_code.specs.Scene.{Located, Passes, Where, location_at, with_value}
 use Rattle.flat_code.specs.Shapes.{block, shape_of}
 use Rattle.word_code.specs.declared.word.WordInstr.{WordInstr}
 use Rattle.word_lowering.specs.declared.handed.TheConstants.{RIGHT_HANDLE_AT}
@@ -43,7 +43,8 @@ use Rattle.word_lowering.proofs.OwnedFits.{FitsRow, OwnedRow, fits_row}
 use Rattle.word_lowering.proofs.OwnedHandles.{OwnedAt, owned_at}
 use Rattle.word_lowering.proofs.Related.{Both, body_of, high}
 use Rattle.word_lowering.proofs.RowOperands.{HasHandleAt}
-use Rattle.word_lowering.proofs.Scenes.{FromOwned, looked, of_location}
+use Rattle.word_lowering.proofs.LiteralHandles.{literal_load}
+use Rattle.word_lowering.proofs.Scenes.{FromLiteral, FromOwned, looked, of_location}
 use Rattle.word_lowering.proofs.Settling.{code_here, code_next}
 use Rattle.word_lowering.proofs.ShapeFacts.{never}
 use Rattle.word_lowering.proofs.Sites.{around, globals_of, sigs}
@@ -79,7 +80,7 @@ module _ (x : Basis) (g : Both) (line : BlockLine) (rest : List BlockLine) (y : 
       let look : looked x.table g.call.site (of_location t) ≡ block = look_of x g.call.site (of_location t) ty has ∙ is in
       let p = and_parts (is_there g.world (location_at g.call.temps there)) (is_whole g.world (load g.world (location_at g.call.temps there))) seen in
       let o : OwnedAt x g line rest y t there block
-      = owned_at x g line rest y t there has.named (y.linked.0.standing t may) e block tt look p.0 p.1 in
+      = owned_at x g line rest y t there has.named (y.linked.0.standing t may) e block (λ l a at f. no_text l a at f h) tt look p.0 p.1 in
       let same : location_at g.call.temps there ≡ o.location_is = ap (location_at g.call.temps) o.is in
       record {
         is = h.is;
@@ -89,6 +90,16 @@ module _ (x : Basis) (g : Both) (line : BlockLine) (rest : List BlockLine) (y : 
         owned = subst (λ l. FromOwned x.table (all_sites x g line rest y) g.ground g.world l o.address block) (sym same) o.owned;
         at_home = o.at_home;
       }
+    where
+      -- what has a block isn't that of a literal
+      fixed_no_handle : (text : List ℕ) (n : ℕ) (k : Option ℕ) → Fixed text ≡ Handle n k → ⊥
+      fixed_no_handle text n k e = cc
+
+      no_text : (l : Location) (a : ℕ) → there ≡ Located l → FromLiteral x.table x.blocks l a block
+          → IsHandleOf (load g.world (location_at g.call.temps there)) → ⊥
+      no_text l a at f h =
+          fixed_no_handle f.text h.long h.block
+          (sym (ap (λ w. load g.world (location_at g.call.temps w)) at ∙ literal_load x l a block f (starts g line rest) y) ∙ h.is)
 
 -- ---- a row that changes what nobody owns is at a fault: of that nothing is said
 

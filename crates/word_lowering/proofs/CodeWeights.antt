@@ -31,7 +31,7 @@ use Rattle.word_lowering.specs.declared.homes.Housed.{Housed}
 use Rattle.word_lowering.specs.declared.homes.Layout.{Layout}
 use Rattle.word_lowering.specs.declared.homes.Waiter.{Waiter}
 use Rattle.word_lowering.specs.declared.spots.Spot.{Spot}
-use Rattle.word_lowering.specs.declared.spots.Spot.TheVariants.{Held, Lies}
+use Rattle.word_lowering.specs.declared.spots.Spot.TheVariants.{Held, Lies, Letter}
 use Rattle.word_lowering.specs.declared.texts.TheConstants.{LINE_END_AT, FIXED_BYTES}
 use Rattle.word_lowering.specs.Aliases.{is_read}
 use Rattle.word_lowering.specs.Layouts.{is_empty, behind_all, layouts, layout_of, params_in, result_in, free_at, holds_address}
@@ -176,7 +176,7 @@ module _ (x : Around) where
       let h = moves_weigh to there (cleared there.is_word there.bytes (spot_of there) k) in
       let i = clears_weigh there k in
       omega (arith, h, i)
-  row_weighs O.Swap label ty of to hs k = swap_weighs _ _ _ k
+  row_weighs O.Swap label ty of to hs k = swap_weighs _ _ _ _ k
   row_weighs O.Discard label ty of to hs k = omega arith
   row_weighs O.Destroy label ty of to hs k = omega arith
   row_weighs O.Blank label ty of to hs k = omega arith
@@ -215,6 +215,7 @@ module _ (x : Around) where
   entered_weighs : (proc : ℕ) (to : Housed) (spot : Spot) (k : List WordInstr) → length (lines.entered_code x proc to spot k) ≤ 8 + length k
   entered_weighs proc to (Held v) k = omega arith
   entered_weighs proc to (Lies home) k = let h = result_weighs to (result_in (lines.layout_at x proc).all) k in omega (arith, h)
+  entered_weighs proc to (Letter home) k = let h = result_weighs to (result_in (lines.layout_at x proc).all) k in omega (arith, h)
 
   given_weighs : (proc to : ℕ) (k : List WordInstr) → length (lines.given_code x proc to k) ≤ 8 + length k
   given_weighs proc to k = entered_weighs proc (lines.value x to) (spot_of (lines.value x to)) k
@@ -486,6 +487,9 @@ none_weighs (Some r) = by r.is_word (spot_of r)
     by false (Lies (Variable v)) = omega arith
     by false (Lies (Placed at)) = omega arith
     by false (Lies (Static at)) = omega arith
+    by word (Letter (Variable v)) = omega arith
+    by word (Letter (Placed at)) = omega arith
+    by word (Letter (Static at)) = omega arith
 
 any_weighs : (x : Around) (all : List Line) → suc (length (code.code_of x all)) ≤ proc_weight all + 6 + length x.own.waiters
 any_weighs x [] =

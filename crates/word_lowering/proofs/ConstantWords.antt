@@ -67,14 +67,14 @@ text_whole (p ∷ before) line rest =
       ap (λ l. l ++ last) h.1 ∙ (append_assoc texts (own ++ h.0) last ∙ ap (λ l. texts ++ l) (append_assoc own h.0 last)),
     )
 
--- the one text of a line is among all
-pub text_among : (line : BlockLine) (text : List ℕ) → line_texts (block_plain line) ≡ text ∷ [] → (before rest : List BlockLine)
+-- the first text of a line is among all
+pub text_among : (line : BlockLine) (text : List ℕ) (more : List (List ℕ)) → line_texts (block_plain line) ≡ text ∷ more → (before rest : List BlockLine)
     → is_member same_text (lines_texts (map block_plain (before ++ line ∷ rest))) text ≡ true
-text_among line text one [] rest =
-    ap (λ l. is_member same_text (l ++ lines_texts (map block_plain rest)) text) one
-    ∙ ap (λ b. b || is_member same_text (lines_texts (map block_plain rest)) text) (nat_list_eq_equiv.refl text)
-text_among line text one (p ∷ before) rest =
-    has_behind text (line_texts (block_plain p)) (lines_texts (map block_plain (before ++ line ∷ rest))) (text_among line text one before rest)
+text_among line text more first [] rest =
+    ap (λ l. is_member same_text (l ++ lines_texts (map block_plain rest)) text) first
+    ∙ ap (λ b. b || is_member same_text (more ++ lines_texts (map block_plain rest)) text) (nat_list_eq_equiv.refl text)
+text_among line text more first (p ∷ before) rest =
+    has_behind text (line_texts (block_plain p)) (lines_texts (map block_plain (before ++ line ∷ rest))) (text_among line text more first before rest)
 
 abbrev text_behind : Alias → ℕ
 text_behind (alias.Text n size) = n
@@ -163,7 +163,7 @@ module _ (x : Basis) (labels : LabelsLead x) (g : Both) (rest : List BlockLine) 
             whole = ap (λ l. texts_of (map block_plain l)) y.stands.whole ∙ w.1;
             at = refl;
             among = ap (λ l. is_member same_text (lines_texts (map block_plain l)) text) y.stands.whole
-                ∙ text_among naming text refl y.stands.before rest;
+                ∙ text_among naming text [] refl y.stands.before rest;
           }
 
       different : (u : ℕ) → (g.call.site.level ≢ g.call.site.level) ⊎ (of_value u ≢ of_value to) → u ≢ to

@@ -1,6 +1,6 @@
 -- Distinct texts, and where they are laid out.
-use Rattle.std.proofs.Common.{◌≡◌, ◌∙◌, ℕ, ◌+◌, ◌%◌, ◌≤◌, replicate, Bool, true, false, List, [], ◌∷◌, ◌++◌, length, Some, None, refl, sym, ap, ap₂}
-use Rattle.std.proofs.Common.{append_assoc, length-append, arith}
+use Rattle.std.proofs.Common.{◌≡◌, ◌∙◌, ◌⊎◌, inl, inr, ℕ, ◌+◌, ◌%◌, ◌≤◌, replicate, Bool, true, false, List, [], ◌∷◌, ◌++◌, length, Some, None, refl, sym}
+use Rattle.std.proofs.Common.{ap, ap₂, append_assoc, length-append, arith}
 use Rattle.std.specs.Prelude.{◌||◌}
 use Rattle.std.specs.List.{list_any}
 use Rattle.std.specs.Set.{is_member, unique_keys}
@@ -8,9 +8,11 @@ use Rattle.std.proofs.lemmas.Bool.{cond-true, cond-false, both_ways}
 use Rattle.std.proofs.lemmas.Cmp.{nat_list_eq_equiv}
 use Rattle.std.proofs.lemmas.Slice.Eq.{bytes_eq-Decides}
 use Rattle.nim_types.specs.Types.{same_text}
-use Rattle.nim_program.specs.TextSizes.{all_bytes}
-use Rattle.word_lowering.specs.Texts.{missing, padded, laid, place_among}
-use Rattle.word_lowering.proofs.Padding.{padded_whole, padded_most}
+use Rattle.flat_code.specs.Sizes.{handled_bytes}
+use Rattle.rv32_isa.specs.Words.{word_bytes}
+use Rattle.rv32_isa.proofs.ForCallers.{length-word_bytes}
+use Rattle.word_lowering.specs.Texts.{missing, padded, handled, laid, laid_length, or_zero, place_among}
+use Rattle.word_lowering.proofs.Padding.{padded_length, padded_whole}
 use Rattle.word_lowering.proofs.Options.{none_some}
 
 abbrev has : List (List ℕ) → List ℕ → Bool
@@ -58,44 +60,71 @@ unique_has (y ∷ ys) q = by (has ys y) refl (unique_has ys q)
     by true e rest = ap (λ ts. has ts q) (cond-true (has ys y) texts (y ∷ texts) e) ∙ rest ∙ sym (has_again ys y q e)
     by false e rest = ap (λ ts. has ts q) (cond-false (has ys y) texts (y ∷ texts) e) ∙ ap (λ b. same_text q y || b) rest
 
+-- ---- how many bytes they have
+
+pub handled_length : (at : ℕ) (text : List ℕ) → length (handled at text) ≡ 8 + length (padded text)
+handled_length at text =
+    let e = length-append (word_bytes (length text)) (word_bytes (at + 8) ++ padded text) in
+    let f = length-append (word_bytes (at + 8)) (padded text) in
+    let g = length-word_bytes (length text) in
+    let h = length-word_bytes (at + 8) in
+    omega (arith, e, f, g, h)
+
+pub laid_long : (from : ℕ) (texts : List (List ℕ)) → length (laid from texts) ≡ laid_length texts
+laid_long from [] = refl
+laid_long from (text ∷ texts) =
+    let e = length-append (laid from texts) (handled (from + laid_length texts) text) in
+    let f = handled_length (from + laid_length texts) text in
+    let h = laid_long from texts in
+    omega (arith, e, f, h)
+
+laid_whole : (texts : List (List ℕ)) → laid_length texts % 4 ≡ 0
+laid_whole [] = refl
+laid_whole (text ∷ texts) = let h = laid_whole texts in let i = padded_whole text in omega (arith, h, i)
+
+pub laid_most : (texts : List (List ℕ)) → laid_length texts ≤ handled_bytes texts
+laid_most [] = omega arith
+laid_most (text ∷ texts) = let h = laid_most texts in let i = padded_length text in omega (arith, h, i)
+
 -- ---- where a text is
 
-pub record IsLaid (texts : List (List ℕ)) (text : List ℕ) : Type 0 where
+pub record IsLaid (from : ℕ) (texts : List (List ℕ)) (text : List ℕ) : Type 0 where
   pub before : List ℕ
   pub after : List ℕ
   pub place : place_among texts text ≡ Some (length before)
-  pub whole : laid texts ≡ before ++ (text ++ after)
-  -- it begins at a word
+  pub whole : laid from texts ≡ before ++ (word_bytes (length text) ++ (word_bytes (from + length before + 8) ++ (text ++ after)))
+  -- its handle stands at a word
   pub at_word : length before % 4 ≡ 0
 
-pub laid_whole : (texts : List (List ℕ)) → length (laid texts) % 4 ≡ 0
-laid_whole [] = refl
-laid_whole (text ∷ texts) =
-    let e = length-append (laid texts) (padded text) in
-    let h = laid_whole texts in
-    let i = padded_whole text in
-    omega (arith, e, h, i)
+-- four parts, and more behind the last one
+pub more_behind : (a b c d e k : List ℕ) → (a ++ (b ++ (c ++ (d ++ e)))) ++ k ≡ a ++ (b ++ (c ++ (d ++ (e ++ k))))
+more_behind a b c d e k =
+    append_assoc a (b ++ (c ++ (d ++ e))) k
+    ∙ ap (λ l. a ++ l) (append_assoc b (c ++ (d ++ e)) k
+    ∙ ap (λ l. b ++ l) (append_assoc c (d ++ e) k ∙ ap (λ l. c ++ l) (append_assoc d e k)))
 
-pub is_laid : (texts : List (List ℕ)) (text : List ℕ) → has texts text ≡ true → IsLaid texts text
-is_laid [] text h = absurd (both_ways false refl h)
-is_laid (other ∷ texts) text h = by (same_text text other) refl (is_laid texts text)
+pub is_laid : (from : ℕ) (texts : List (List ℕ)) (text : List ℕ) → has texts text ≡ true → IsLaid from texts text
+is_laid from [] text h = absurd (both_ways false refl h)
+is_laid from (other ∷ texts) text h = by (same_text text other) refl (is_laid from texts text)
   where
-    by : (b : Bool) → same_text text other ≡ b → (has texts text ≡ true → IsLaid texts text) → IsLaid (other ∷ texts) text
+    by : (b : Bool) → same_text text other ≡ b → (has texts text ≡ true → IsLaid from texts text) → IsLaid from (other ∷ texts) text
     by true e later = record {
-      before = laid texts;
+      before = laid from texts;
       after = replicate (missing (length text)) 0;
-      place = cond-true (same_text text other) (Some (length (laid texts))) (place_among texts text) e;
-      whole = ap (λ t. laid texts ++ padded t) (sym ((bytes_eq-Decides text other).0 e));
-      at_word = laid_whole texts;
+      place = cond-true (same_text text other) (Some (laid_length texts)) (place_among texts text) e ∙ ap Some (sym (laid_long from texts));
+      whole = ap₂ (λ t n. laid from texts ++ (word_bytes (length t) ++ (word_bytes (from + n + 8) ++ padded t)))
+          (sym ((bytes_eq-Decides text other).0 e)) (sym (laid_long from texts));
+      at_word = let l = laid_long from texts in let w = laid_whole texts in omega (arith, l, w);
     }
     by false e later =
         let rest = later (ap (λ b. b || has texts text) (sym e) ∙ h) in
+        let more : List ℕ = handled (from + laid_length texts) other in
         record {
           before = rest.before;
-          after = rest.after ++ padded other;
-          place = cond-false (same_text text other) (Some (length (laid texts))) (place_among texts text) e ∙ rest.place;
-          whole = ap (λ t. t ++ padded other) rest.whole ∙ append_assoc rest.before (text ++ rest.after) (padded other)
-              ∙ ap (λ t. rest.before ++ t) (append_assoc text rest.after (padded other));
+          after = rest.after ++ more;
+          place = cond-false (same_text text other) (Some (laid_length texts)) (place_among texts text) e ∙ rest.place;
+          whole = ap (λ t. t ++ more) rest.whole
+              ∙ more_behind rest.before (word_bytes (length text)) (word_bytes (from + length rest.before + 8)) text rest.after more;
           at_word = rest.at_word;
         }
 
@@ -105,11 +134,11 @@ no_place [] text h = refl
 no_place (other ∷ texts) text h = by (same_text text other) refl (no_place texts text)
   where
     by : (b : Bool) → same_text text other ≡ b → (place_among texts text ≡ None → has texts text ≡ false) → has (other ∷ texts) text ≡ false
-    by true e later = absurd (none_some (length (laid texts))
-        (sym h ∙ cond-true (same_text text other) (Some (length (laid texts))) (place_among texts text) e))
+    by true e later = absurd (none_some (laid_length texts)
+        (sym h ∙ cond-true (same_text text other) (Some (laid_length texts)) (place_among texts text) e))
     by false e later =
         ap (λ b. b || has texts text) e
-        ∙ later (sym (cond-false (same_text text other) (Some (length (laid texts))) (place_among texts text) e) ∙ h)
+        ∙ later (sym (cond-false (same_text text other) (Some (laid_length texts)) (place_among texts text) e) ∙ h)
 
 pub nowhere : (texts : List (List ℕ)) (text : List ℕ) → has texts text ≡ false → place_among texts text ≡ None
 nowhere [] text h = refl
@@ -118,15 +147,53 @@ nowhere (other ∷ texts) text h = by (same_text text other) refl (nowhere texts
     by : (b : Bool) → same_text text other ≡ b → (has texts text ≡ false → place_among texts text ≡ None) → place_among (other ∷ texts) text ≡ None
     by true e later = absurd (both_ways (has (other ∷ texts) text) h (ap (λ b. b || has texts text) e))
     by false e later =
-        cond-false (same_text text other) (Some (length (laid texts))) (place_among texts text) e
+        cond-false (same_text text other) (Some (laid_length texts)) (place_among texts text) e
         ∙ later (ap (λ b. b || has texts text) (sym e) ∙ h)
 
--- ---- how many bytes they have
+-- ---- handles lie apart
 
-pub laid_most : (texts : List (List ℕ)) → length (laid texts) ≤ all_bytes texts
-laid_most [] = omega arith
-laid_most (text ∷ texts) =
-    let e = length-append (laid texts) (padded text) in
-    let h = laid_most texts in
-    let i = padded_most text in
-    omega (arith, e, h, i)
+abbrev pub place_in : List (List ℕ) → List ℕ → ℕ
+place_in texts text = or_zero (place_among texts text)
+
+before_end : (texts : List (List ℕ)) (text : List ℕ) → has texts text ≡ true → place_in texts text + 8 ≤ laid_length texts
+before_end [] text h = absurd (both_ways false refl h)
+before_end (other ∷ texts) text h = by (same_text text other) refl (before_end texts text)
+  where
+    by : (b : Bool) → same_text text other ≡ b → (has texts text ≡ true → place_in texts text + 8 ≤ laid_length texts)
+        → place_in (other ∷ texts) text + 8 ≤ laid_length (other ∷ texts)
+    by true e later = let is = ap or_zero (cond-true (same_text text other) (Some (laid_length texts)) (place_among texts text) e) in omega (arith, is)
+    by false e later =
+        let is = ap or_zero (cond-false (same_text text other) (Some (laid_length texts)) (place_among texts text) e) in
+        let least = later (ap (λ b. b || has texts text) (sym e) ∙ h) in
+        omega (arith, is, least)
+
+pub handles_apart : (texts : List (List ℕ)) (s t : List ℕ) → has texts s ≡ true → has texts t ≡ true
+    → (s ≡ t) ⊎ ((place_in texts s + 8 ≤ place_in texts t) ⊎ (place_in texts t + 8 ≤ place_in texts s))
+handles_apart [] s t h i = absurd (both_ways false refl h)
+handles_apart (other ∷ texts) s t h i = by (same_text s other) (same_text t other) refl refl (handles_apart texts s t)
+  where
+    here : (text : List ℕ) → same_text text other ≡ true → place_in (other ∷ texts) text ≡ laid_length texts
+    here text e = ap or_zero (cond-true (same_text text other) (Some (laid_length texts)) (place_among texts text) e)
+
+    behind : (text : List ℕ) → same_text text other ≡ false → place_in (other ∷ texts) text ≡ place_in texts text
+    behind text e = ap or_zero (cond-false (same_text text other) (Some (laid_length texts)) (place_among texts text) e)
+
+    further : (text : List ℕ) → same_text text other ≡ false → has (other ∷ texts) text ≡ true → has texts text ≡ true
+    further text e h = ap (λ b. b || has texts text) (sym e) ∙ h
+
+    by : (a b : Bool) → same_text s other ≡ a → same_text t other ≡ b
+        → (has texts s ≡ true → has texts t ≡ true → (s ≡ t) ⊎ ((place_in texts s + 8 ≤ place_in texts t)
+        ⊎ (place_in texts t + 8 ≤ place_in texts s)))
+        → (s ≡ t) ⊎ ((place_in (other ∷ texts) s + 8 ≤ place_in (other ∷ texts) t) ⊎ (place_in (other ∷ texts) t + 8 ≤ place_in (other ∷ texts) s))
+    by true true e f later = inl ((bytes_eq-Decides s other).0 e ∙ sym ((bytes_eq-Decides t other).0 f))
+    by true false e f later =
+        let p = here s e in let q = behind t f in let r = before_end texts t (further t f i) in inr (inr (omega (arith, p, q, r)))
+    by false true e f later =
+        let p = behind s e in let q = here t f in let r = before_end texts s (further s e h) in inr (inl (omega (arith, p, q, r)))
+    by false false e f later = rest (later (further s e h) (further t f i))
+      where
+        rest : (s ≡ t) ⊎ ((place_in texts s + 8 ≤ place_in texts t) ⊎ (place_in texts t + 8 ≤ place_in texts s))
+            → (s ≡ t) ⊎ ((place_in (other ∷ texts) s + 8 ≤ place_in (other ∷ texts) t) ⊎ (place_in (other ∷ texts) t + 8 ≤ place_in (other ∷ texts) s))
+        rest (inl same) = inl same
+        rest (inr (inl less)) = let p = behind s e in let q = behind t f in inr (inl (omega (arith, p, q, less)))
+        rest (inr (inr less)) = let p = behind s e in let q = behind t f in inr (inr (omega (arith, p, q, less)))

@@ -1,7 +1,6 @@
 -- Each line of block code is followed.
 use Rattle.nim_program.specs.declared.expr.Label.TheVariants as C
-use Rattle.nim_meaning.specs.LeftOut.{is_text_type}
-use Rattle.flat_code.specs.Pieces.{is_one_text}
+use Rattle.flat_code.specs.Pieces.{are_one, is_one_text, value_of}
 use Rattle.word_lowering.proofs.PassedOn.{pass_hooked}
 use Rattle.word_lowering.proofs.HookedConstruct.{construct_whole}
 use Rattle.word_lowering.proofs.HouseHooks.{gives_as, homed, hooks_as, hooks_numbers, hooks_type, plain_as, plain_operands, plain_typed, plain_value}
@@ -10,9 +9,9 @@ use Rattle.word_lowering.specs.Aliases.{text_in}
 use Rattle.flat_code.specs.declared.line.From.TheVariants as F
 use Rattle.flat_code.specs.declared.line.Piece.TheVariants as P
 use Rattle.word_lowering.proofs.Options.{some_same, none_some}
-use Rattle.flat_code.specs.Shapes.{shape_of}
+use Rattle.flat_code.specs.Shapes.{has_shape, shape_of}
 use Rattle.nim_meaning.specs.Waiting.{reads_kept}
-use Rattle.flat_code.specs.Fits.{is_location, is_own, is_value, needs_no_type, if_kind, is_standing, place_named, same_bool}
+use Rattle.flat_code.specs.Fits.{is_location, is_own, is_value, needs_no_type, if_kind, is_standing, place_named}
 use Rattle.nim_program.specs.View.{if_type}
 use Rattle.word_lowering.proofs.Sites.{is_one_word, type_of}
 use Rattle.word_lowering.specs.Layouts.{found, word_by}
@@ -22,7 +21,7 @@ use Rattle.word_lowering.specs.Stored.{entry_at, is_word}
 use Rattle.flat_code.specs.Waits.{constant_waits}
 use Rattle.nim_meaning.specs.Here.{any_hooked, gives_hooked, is_hooked}
 use Rattle.nim_program.specs.Kinds as kind
-use Rattle.nim_program.specs.Kinds.{TypeKind, element_of, field_at, has_length, is_bool, is_int, is_of, kind_if, kind_of, same_value, is_sequence}
+use Rattle.nim_program.specs.Kinds.{TypeKind, element_of, field_at, has_length, is_bool, is_int, is_of, kind_if, kind_of, same_value}
 use Rattle.flat_code.specs.declared.place.PlaceKind.{PlaceKind}
 use Rattle.flat_code.specs.declared.place.PlaceKind.TheVariants as K
 use Rattle.flat_code.specs.declared.line.Piece.{Piece}
@@ -32,7 +31,7 @@ use Rattle.word_lowering.proofs.LineFits.{AreOf, are_of, bool_shape, int_shape, 
 use Rattle.nim_plan.specs.declared.plan.Act.{Act}
 use Rattle.std.proofs.lemmas.Bool.{and_parts, not-true}
 use Rattle.std.specs.Prelude.{◌&&◌, ◌||◌}
-use Rattle.std.proofs.Common.{ℕ, List, [], ◌∷◌, Option, Some, None, sym, ◌∙◌, ◌≡◌, Bool, true, false, not, ap, inl, refl, subst, map}
+use Rattle.std.proofs.Common.{ℕ, List, [], ◌∷◌, Option, Some, None, sym, ◌∙◌, ◌≡◌, ◌⊎◌, Bool, true, false, not, ap, inl, inr, refl, subst, map}
 use Rattle.nim_program.specs.declared.operation.Operation.{Operation}
 use Rattle.nim_program.specs.declared.operation.Operation.TheVariants as O
 use Rattle.flat_code.specs.declared.line.UseAt.{UseAt}
@@ -52,7 +51,8 @@ use Rattle.word_lowering.proofs.ConstantLines.{constant_line}
 use Rattle.word_lowering.proofs.ControlLines.{plain, enter_line, jump_line, label_line, turn_if_line, turn_line, unless_line, SettlesHere}
 use Rattle.word_lowering.proofs.ArrayElements.{array_element}
 use Rattle.word_lowering.proofs.TextElements.{element_other}
-use Rattle.word_lowering.proofs.HandledLines.{by_length, by_sequence, element_row}
+use Rattle.word_lowering.proofs.TextItemLines.{item_other}
+use Rattle.word_lowering.proofs.HandledLines.{by_length, by_sequence}
 use Rattle.word_lowering.proofs.TextReads.{length_text, still_text}
 use Rattle.word_lowering.proofs.HookBasis.{HookBasis, sequences_known}
 use Rattle.word_lowering.proofs.HookedRows.{apply_hooked, is_echo}
@@ -296,24 +296,39 @@ module _ (x : Basis) (labels : LabelsLead x) (traps : TrapsStop x) (own : OwnLab
           ) y
 
   standing_whole : (g : Both) (rest : List BlockLine) (to ty : ℕ) (pieces : List Piece) → Whole x g rest (plain (L.Standing to ty pieces))
-  standing_whole g rest to ty pieces y = by (gives_hooked facts (Some (type_at (known x).types ty))) refl
+  standing_whole g rest to ty pieces y =
+      completes_quiet x g line rest (block_does (known x) (scene_of (high x.table x.blocks (starts g line rest))) line) refl
+      (standing_line x labels texts g rest to ty pieces y (by (is_one_text pieces) (gives_hooked facts (Some own_ty)) refl refl n))
     where
       line : BlockLine
       line = plain (L.Standing to ty pieces)
 
-      by : (b : Bool) → gives_hooked facts (Some (type_at (known x).types ty)) ≡ b
-          → Completes x (starts g line rest) rest (block_does (known x) (scene_of (high x.table x.blocks (starts g line rest))) line)
-      by true e =
-          let f = and_parts _ _ (fits_here x.table x.blocks (body_of g) line rest y.stands) in
-          let p = and_parts (is_of (type_in x is_location (body_of g) to) (Some (type_at (known x).types ty))) _ f.1 in
-          let n = (and_parts (not (if_kind is_standing (place_named is_location (body_of g).proc.places to))) _ p.1).1 in
-          never (sym (ap not e) ∙ n)
-      by false e =
-          let f = and_parts _ _ (fits_here x.table x.blocks (body_of g) line rest y.stands) in
-          let v = are_of (type_in x is_location (body_of g) to) (Some (type_at (known x).types ty)) (and_parts _ _ f.1).0 in
-          completes_quiet x g line rest (block_does (known x) (scene_of (high x.table x.blocks (starts g line rest))) line) refl
-          (standing_line x labels g rest to ty pieces
-          (plain_as x g.call.site y.linked.0 (of_location to) (type_at (known x).types ty) (v.is ∙ sym v.is_other) e, tt) y)
+      own_ty : Ty
+      own_ty = type_at (known x).types ty
+
+      typed : Bool
+      typed = is_of (type_in x is_location (body_of g) to) (Some own_ty)
+
+      read_only : Bool
+      read_only = not (if_kind is_standing (place_named is_location (body_of g).proc.places to))
+
+      p : (typed ≡ true) × ((read_only && (is_one_text pieces || not (is_hooked facts own_ty))) ≡ true)
+      p =
+          and_parts typed (read_only && (is_one_text pieces || not (is_hooked facts own_ty)))
+          (and_parts (are_one pieces 0 && has_shape (value_of pieces) (shape_of facts own_ty))
+          (typed && (read_only && (is_one_text pieces || not (is_hooked facts own_ty)))) (fits_here x.table x.blocks (body_of g) line rest y.stands)).1
+
+      n : (is_one_text pieces || not (is_hooked facts own_ty)) ≡ true
+      n = (and_parts read_only (is_one_text pieces || not (is_hooked facts own_ty)) p.1).1
+
+      -- a text, or what has no hooks
+      by : (one hooks : Bool) → is_one_text pieces ≡ one → gives_hooked facts (Some own_ty) ≡ hooks → (one || not hooks) ≡ true
+          → (is_one_text pieces ≡ true) ⊎ IsPlain x g.call.site (of_location to)
+      by true hooks is e h = inl is
+      by false false is e h =
+          let v = are_of (type_in x is_location (body_of g) to) (Some own_ty) p.0 in
+          inr (plain_as x g.call.site y.linked.0 (of_location to) own_ty (v.is ∙ sym v.is_other) e)
+      by false true is e h = never h
 
   -- the kind of a location is that of its word in the table
   location_word : (kind : PlaceKind) (w : Bool) → is_location kind ≡ true → word_by kind w ≡ w
@@ -345,25 +360,6 @@ module _ (x : Basis) (labels : LabelsLead x) (traps : TrapsStop x) (own : OwnLab
   row_looks g line rest y t ty typed row =
       ap no_handle (look_of x g.call.site (of_location t) ty (has_type x g.call.site (of_location t) ty y.linked.0 typed)) ∙ row
 
-  -- no line leads to a character of a text
-  no_item : (g : Both) (rest : List BlockLine) (to from index : ℕ) → IsGood x (starts g (plain (L.Item to from index)) rest)
-      → is_sequence (kind_if facts (type_in x is_location (body_of g) from)) ≡ false → no_handle (looked x.table g.call.site (of_location from)) ≡ true
-  no_item g rest to from index y other =
-      let line = plain (L.Item to from index) in
-      let from_kind : TypeKind = kind_if facts (type_in x is_location (body_of g) from) in
-      let to_may : Bool = if_kind is_standing (place_named is_location (body_of g).proc.places to) in
-      let from_may : Bool = if_kind is_standing (place_named is_location (body_of g).proc.places from) in
-      let f = and_parts (is_of (type_in x is_location (body_of g) to) (element_of from_kind)) _
-      (fits_here x.table x.blocks (body_of g) line rest y.stands) in
-      let v = are_of (type_in x is_location (body_of g) to) (element_of from_kind) f.0 in
-      let s = some_kind facts (type_in x is_location (body_of g) from) (λ k. is_of (Some v.ty) (element_of k)) refl
-      (subst (λ o. is_of o (element_of from_kind) ≡ true) v.is f.0) in
-      let t = and_parts (is_int (kind_if facts (type_in x is_value (body_of g) index))) _ f.1 in
-      let n = (and_parts (same_bool to_may from_may) _ t.1).1 in
-      row_looks g line rest y from s.0 s.1
-      (element_row facts s.0 v.ty s.2 (subst (λ o. is_sequence (kind_if facts o) ≡ false) s.1 other)
-      (subst (λ o. not (is_text_type o) ≡ true) s.1 n))
-
   item_whole : (g : Both) (rest : List BlockLine) (to from index : ℕ) → Whole x g rest (plain (L.Item to from index))
   item_whole g rest to from index y = by (no_handle (looked x.table g.call.site (of_location from))) refl
     where
@@ -387,7 +383,9 @@ module _ (x : Basis) (labels : LabelsLead x) (traps : TrapsStop x) (own : OwnLab
       by false e =
           by_sequence x g rest from line (λ of typed z. completes_quiet x g line rest
           (block_does (known x) (scene_of (high x.table x.blocks (starts g line rest))) line) refl
-          (item_sequence x (sequences_known x b) g rest traps to from index of typed z)) (λ other z. never (sym e ∙ no_item g rest to from index z other)) y
+          (item_sequence x (sequences_known x b) g rest traps to from index of typed z)) (λ other z. completes_quiet x g line rest
+          (block_does (known x) (scene_of (high x.table x.blocks (starts g line rest))) line) refl
+          (item_other x said g rest traps to from index other e z)) y
 
   length_whole : (g : Both) (rest : List BlockLine) (to from : ℕ) → Whole x g rest (plain (L.Length to from))
   length_whole g rest to from y = by (no_handle (looked x.table g.call.site (of_location from))) refl

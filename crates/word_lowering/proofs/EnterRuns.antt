@@ -15,7 +15,7 @@ use Rattle.word_code.specs.Words.{Vars, no_words, put, params_of, WordFrame, Wor
 use Rattle.word_code.proofs.ForCallers.{Within, at, run_argument}
 use Rattle.word_lowering.specs.declared.homes.TheConstants.{LEFT, FIRST}
 use Rattle.word_lowering.specs.declared.spots.Spot.{Spot}
-use Rattle.word_lowering.specs.declared.spots.Spot.TheVariants.{Held, Lies}
+use Rattle.word_lowering.specs.declared.spots.Spot.TheVariants.{Held, Lies, Letter}
 use Rattle.word_lowering.specs.LineCode.{given_code, entered_code, value, proc_number}
 use Rattle.word_lowering.specs.Lowered.{word_proc, kind_of, kind_in, lowered}
 use Rattle.word_lowering.specs.Spots.{spot_of}
@@ -69,6 +69,7 @@ module _ (x : Basis) (g : Both) (line : BlockLine) (rest : List BlockLine) (y : 
           ∷ goes_on x.table x.blocks (body_of g) (value (around x.table x.blocks (body_of g)) to) p proc (code_behind x.table x.blocks (body_of g) rest)
       by (Held v) = refl
       by (Lies home) = refl
+      by (Letter home) = refl
 
   -- the new call
   abbrev pub within_then : Within

@@ -19,7 +19,7 @@ use Rattle.flat_code.specs.declared.line.Piece.{Piece}
 use Rattle.flat_code.specs.Codes.{block_plain}
 use Rattle.flat_code.specs.Pieces.{piece_words, words_bytes, standing_bytes}
 use Rattle.flat_code.specs.Sizes.{code_texts}
-use Rattle.word_code.specs.Memory.{Memory, number_at}
+use Rattle.word_code.specs.Memory.{Memory, number_at, bytes_at}
 use Rattle.word_code.specs.RoutineTable.{Cell}
 use Rattle.word_lowering.specs.declared.texts.TheConstants.{FIXED_BYTES}
 use Rattle.word_lowering.specs.declared.may_lower.TheConstants.{MOST_DATA}
@@ -27,9 +27,10 @@ use Rattle.word_lowering.specs.Lowered.{data_at, lowered}
 use Rattle.word_lowering.specs.Runtimes.{Runtimes, with_runtimes}
 use Rattle.word_lowering.proofs.FirstMemory.{drop_past, first_memory, own_may, own, own_reads, globals}
 use Rattle.word_lowering.proofs.FirstNames.{take_front}
-use Rattle.word_lowering.proofs.LaidData.{LaidAt, laid_at, laid_there}
+use Rattle.word_lowering.proofs.LaidData.{LaidAt, TextAlone, laid_at, laid_there, text_alone}
 use Rattle.word_lowering.proofs.PieceWords.{WordsAt, room_of}
-use Rattle.word_lowering.proofs.Related.{StandsThere}
+use Rattle.word_lowering.proofs.Related.{HandleThere, StandThere, StandsThere}
+use Rattle.word_lowering.proofs.Scenes.{handle_from, text_from}
 use Rattle.word_lowering.proofs.SmallWords.{AllSmall}
 
 little_bytes : (w : ℕ) → to_le_bytes w32 w ≡ word_bytes w
@@ -43,6 +44,13 @@ words_length (w ∷ ws) =
     let f = ap length (little_bytes w) ∙ length-word_bytes w in
     let h = words_length ws in
     omega (arith, e, f, h)
+
+-- two words
+handle_bytes : (n p : ℕ) (k : List ℕ) → words_bytes (n ∷ p ∷ []) ++ k ≡ word_bytes n ++ (word_bytes p ++ k)
+handle_bytes n p k =
+    append_assoc (to_le_bytes w32 n) (words_bytes (p ∷ [])) k
+    ∙ ap₂ (λ a b. a ++ b) (little_bytes n)
+    (append_assoc (to_le_bytes w32 p) [] k ∙ ap (λ a. a ++ k) (little_bytes p))
 
 module _ (table : List TypeDef) (blocks : Code BlockLine) (runtime : Runtimes) (heap stack : ℕ) where
   abbrev start : Memory
@@ -117,28 +125,92 @@ module _ (table : List TypeDef) (blocks : Code BlockLine) (runtime : Runtimes) (
       one here rest (suc (suc (suc (suc o)))) within even =
           subst (Cell start) (omega arith) (rest.cells o (omega (arith, within)) (omega (arith, even)))
 
-  -- ---- constants
+  module _ (least : FIXED_BYTES ≤ globals table blocks) (even : globals table blocks % 4 ≡ 0) (most : length (own table blocks) ≤ MOST_DATA) where
+    -- ---- constants
 
-  pub constant_first : FIXED_BYTES ≤ globals table blocks → globals table blocks % 4 ≡ 0 → length (own table blocks) ≤ MOST_DATA → (pieces : List Piece)
-      → AllSmall (piece_words pieces) → is_member same_text (code_texts block_plain blocks.procs) (standing_bytes pieces) ≡ true
-      → StandsThere table blocks start pieces
-  constant_first least whole most pieces small among =
-      let text : List ℕ = standing_bytes pieces in
-      let l : LaidAt table blocks text = laid_there table blocks runtime heap stack least whole most text among in
-      let at = l.at in
-      let word = l.at_word in
-      let place : data_at + length l.before ≡ data_at + laid_at table blocks text = ap (λ n. data_at + n) at in
-      let s : Stand (data_at + laid_at table blocks text) (piece_words pieces)
-      = subst (λ n. Stand n (piece_words pieces)) place
-      (stand l.before (piece_words pieces) l.after l.whole (omega (arith, at, word)) small) in
-      let n0 = ap length l.whole in
-      let n1 = length-append l.before (text ++ l.after) in
-      let n2 = length-append text l.after in
-      let n3 = words_length (piece_words pieces) in
-      let behind_globals = l.behind_globals in
-      record {
-        words = s.words;
-        cells = s.cells;
-        is_text = (inr (omega (arith, behind_globals), omega (arith, at, n0, n1, n2, n3, most)), inl (omega (arith, at, n0, n1, n2, n3)));
-        whole = omega (arith, word);
-      }
+    pub constant_first : (pieces : List Piece) → AllSmall (piece_words pieces)
+        → is_member same_text (code_texts block_plain blocks.procs) (standing_bytes pieces) ≡ true → StandsThere table blocks start pieces
+    constant_first pieces small among =
+        let text : List ℕ = standing_bytes pieces in
+        let l : TextAlone table blocks text = text_alone table blocks text (laid_there table blocks runtime heap stack least even most text among) in
+        let at = l.at in
+        let word = l.at_word in
+        let place : data_at + length l.before ≡ data_at + laid_at table blocks text = ap (λ n. data_at + n) at in
+        let s : Stand (data_at + laid_at table blocks text) (piece_words pieces)
+        = subst (λ n. Stand n (piece_words pieces)) place
+        (stand l.before (piece_words pieces) l.after l.whole (omega (arith, at, word)) small) in
+        let n0 = ap length l.whole in
+        let n1 = length-append l.before (text ++ l.after) in
+        let n2 = length-append text l.after in
+        let n3 = words_length (piece_words pieces) in
+        let behind_globals = l.behind_globals in
+        record {
+          words = s.words;
+          cells = s.cells;
+          is_text = (inr (omega (arith, behind_globals), omega (arith, at, n0, n1, n2, n3, most)), inl (omega (arith, at, n0, n1, n2, n3)));
+          whole = omega (arith, word);
+        }
+
+    -- ---- handles of texts
+
+    handle_first : (text : List ℕ) → is_member same_text (code_texts block_plain blocks.procs) text ≡ true
+        → StandThere table blocks start (handle_from table blocks text) (length text ∷ text_from table blocks text ∷ [])
+    handle_first text among =
+        let l : LaidAt table blocks text = laid_there table blocks runtime heap stack least even most text among in
+        let place : ℕ = data_at + laid_at table blocks text in
+        let ws : List ℕ = length text ∷ place ∷ [] in
+        let at = l.at in
+        let word = l.at_word in
+        let behind_globals = l.behind_globals in
+        let n : List ℕ = word_bytes (length text) in
+        let p : List ℕ = word_bytes place in
+        let whole : own table blocks ≡ l.before ++ (words_bytes ws ++ (text ++ l.after))
+        = l.whole ∙ ap (λ k. l.before ++ k) (sym (handle_bytes (length text) place (text ++ l.after))) in
+        let n0 = ap length l.whole in
+        let n1 = length-append l.before (n ++ (p ++ (text ++ l.after))) in
+        let n2 = length-append n (p ++ (text ++ l.after)) in
+        let n3 = length-append p (text ++ l.after) in
+        let n4 = length-append text l.after in
+        let n5 = length-word_bytes (length text) in
+        let n6 = length-word_bytes place in
+        let s : Stand (handle_from table blocks text) ws
+        = subst (λ n. Stand n ws) (ap (λ n. data_at + n) at)
+        (stand l.before ws (text ++ l.after) whole (omega (arith, at, word))
+        (omega (arith, n0, n1, n2, n3, n4, n5, n6, most), (omega (arith, at, n0, n1, n2, n3, n4, n5, n6, most), tt))) in
+        record {
+          words = s.words;
+          cells = s.cells;
+          is_text = (
+            inr (omega (arith, behind_globals), omega (arith, at, n0, n1, n2, n3, n4, n5, n6, most)),
+            inl (omega (arith, at, n0, n1, n2, n3, n4, n5, n6)),
+          );
+          whole = omega (arith, word);
+        }
+
+    -- and the texts themselves
+    text_reads : (text : List ℕ) (from : ℕ) → from + length text ≤ length (own table blocks) → take (length text) (drop from (own table blocks)) ≡ text
+        → bytes_at start (data_at + from) (length text) ≡ Some text
+    text_reads [] from within stands = refl
+    text_reads (c ∷ text) from within stands =
+        own_reads table blocks runtime heap stack from (length (c ∷ text)) (omega arith) within ∙ ap Some stands
+
+    pub text_first : (text : List ℕ) → is_member same_text (code_texts block_plain blocks.procs) text ≡ true → HandleThere table blocks start text
+    text_first text among =
+        let l : TextAlone table blocks text = text_alone table blocks text (laid_there table blocks runtime heap stack least even most text among) in
+        let from : ℕ = laid_at table blocks text in
+        let at = l.at in
+        let behind_globals = l.behind_globals in
+        let n0 = ap length l.whole in
+        let n1 = length-append l.before (text ++ l.after) in
+        let n2 = length-append text l.after in
+        let place : from ≡ length l.before + 0 = omega (arith, at) in
+        let stands : take (length text) (drop from (own table blocks)) ≡ text
+        = ap₂ (λ j k. take (length text) (drop j k)) place l.whole
+        ∙ ap (take (length text)) (drop_past l.before (text ++ l.after) 0) ∙ take_front text l.after in
+        record {
+          handle = handle_first text among;
+          behind = let h = (laid_there table blocks runtime heap stack least even most text among).behind_globals in omega (arith, h, least);
+          low = omega (arith, behind_globals);
+          high = omega (arith, at, n0, n1, n2);
+          reads = text_reads text from (omega (arith, at, n0, n1, n2)) stands;
+        }

@@ -17,7 +17,7 @@ use Rattle.word_lowering.proofs.Related.{is_text_of_data}
 use Rattle.word_lowering.proofs.FirstMemory.{drop_past, first_memory, own, globals}
 use Rattle.word_lowering.proofs.FirstNames.{take_front}
 use Rattle.word_lowering.proofs.FirstTexts.{text_bytes}
-use Rattle.word_lowering.proofs.LaidData.{laid_at, laid_there}
+use Rattle.word_lowering.proofs.LaidData.{laid_at, laid_there, text_alone}
 use Rattle.word_lowering.proofs.Lines.{Basis}
 use Rattle.word_lowering.proofs.TextLines.{TextAt}
 
@@ -27,7 +27,7 @@ module _ (x : Basis) (heap stack : ℕ) (is : x.first ≡ first_memory (with_run
   pub text_there : (text : List ℕ) → is_member same_text (code_texts block_plain x.blocks.procs) text ≡ true
       → TextAt x (texts_at x.table (globals x.table x.blocks) + text_place x.blocks.procs text) text
   text_there text among =
-      let there = laid_there x.table x.blocks x.runtimes heap stack least whole most text among in
+      let there = text_alone x.table x.blocks text (laid_there x.table x.blocks x.runtimes heap stack least whole most text among) in
       let from : ℕ = laid_at x.table x.blocks text in
       let at = there.at in
       let behind_globals = there.behind_globals in
@@ -49,7 +49,7 @@ module _ (x : Basis) (heap stack : ℕ) (is : x.first ≡ first_memory (with_run
   pub text_fixed : (text : List ℕ) → is_member same_text (code_texts block_plain x.blocks.procs) text ≡ true → AreBytes text
       → is_text_of_data x.table x.blocks x.first (data_at + (texts_at x.table (globals x.table x.blocks) + text_place x.blocks.procs text)) text ≡ true
   text_fixed text among are =
-      let there = laid_there x.table x.blocks x.runtimes heap stack least whole most text among in
+      let there = text_alone x.table x.blocks text (laid_there x.table x.blocks x.runtimes heap stack least whole most text among) in
       let from : ℕ = laid_at x.table x.blocks text in
       let at = there.at in
       let behind_globals = there.behind_globals in

@@ -27,7 +27,7 @@ use Rattle.word_code.proofs.ForCallers.{Sized}
 use Rattle.word_lowering.specs.declared.handed.TheConstants.{LEFT_HANDLE_AT}
 use Rattle.word_lowering.specs.declared.texts.TheConstants.{FIXED_BYTES}
 use Rattle.word_lowering.specs.declared.may_lower.TheConstants.{MOST_DATA, MOST_ROOM}
-use Rattle.word_lowering.specs.Texts.{missing, fixed_texts, all_names, ends_from, joined_all, laid_texts, data_in, padded}
+use Rattle.word_lowering.specs.Texts.{missing, fixed_texts, all_names, ends_from, joined_all, texts_from, data_in, padded}
 use Rattle.word_lowering.specs.Lowered.{data_at, data_of, globals_end, lowered}
 use Rattle.heap_memory.specs.declared.numbers.TheConstants.{HEAP_DATA}
 use Rattle.word_lowering.specs.Runtimes.{Runtimes, with_runtimes}
@@ -149,7 +149,7 @@ module _ (table : List TypeDef) (blocks : Code BlockLine) where
   fixed = replicate 4 0 ++ fixed_texts
 
   abbrev pub behind : List ℕ
-  behind = ends_from 0 (all_names table) ++ (padded (joined_all (all_names table)) ++ laid_texts blocks.procs)
+  behind = ends_from 0 (all_names table) ++ (padded (joined_all (all_names table)) ++ texts_from table globals blocks.procs)
 
   abbrev pub pad : List ℕ
   pad = replicate (missing (length (data_in table globals blocks.procs))) 0

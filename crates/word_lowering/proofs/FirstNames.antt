@@ -16,7 +16,7 @@ use Rattle.word_code.specs.Memory.{Memory, number_at}
 use Rattle.word_lowering.specs.declared.handed.TheConstants.{LEFT_HANDLE_AT}
 use Rattle.word_lowering.specs.declared.texts.TheConstants.{FIXED_BYTES}
 use Rattle.word_lowering.specs.declared.may_lower.TheConstants.{MOST_DATA}
-use Rattle.word_lowering.specs.Texts.{missing, padded, members_of, all_names, names_before, joined_all, starts_from, ends_from, laid_texts}
+use Rattle.word_lowering.specs.Texts.{missing, padded, members_of, all_names, names_before, joined_all, starts_from, ends_from, texts_from}
 use Rattle.word_lowering.specs.Lowered.{data_at, lowered}
 use Rattle.word_lowering.specs.Runtimes.{Runtimes, with_runtimes}
 use Rattle.word_lowering.proofs.Padding.{zeros_length, padded_length}
@@ -160,7 +160,7 @@ module _ (table : List TypeDef) (blocks : Code BlockLine) (runtime : Runtimes) (
   names = all_names table
 
   abbrev texts : List ℕ
-  texts = laid_texts blocks.procs
+  texts = texts_from table (globals table blocks) blocks.procs
 
   pub past_globals : (o : ℕ) → drop (globals table blocks + o) (own table blocks) ≡ drop o (behind table blocks ++ pad table blocks)
   past_globals o =

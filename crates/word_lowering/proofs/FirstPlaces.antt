@@ -22,7 +22,7 @@ use Rattle.word_lowering.specs.declared.homes.Housed.{Housed}
 use Rattle.word_lowering.specs.Layouts.{found, params_in, result_in, holds_address, kept_in, owns}
 use Rattle.word_lowering.specs.Operations.{word}
 use Rattle.word_lowering.proofs.Sites.{Body, type_of, looks, There, Site, Among}
-use Rattle.word_lowering.proofs.Scenes.{LeadsHere, IsOwned, Ground, is_fixed}
+use Rattle.word_lowering.proofs.Scenes.{ReachesHere, IsStood, Ground, is_fixed}
 use Rattle.word_code.specs.declared.word.TheConstants.{SPARE_ROOM}
 use Rattle.rv32_isa.specs.declared.micro_op.Size.TheVariants.{Word}
 use Rattle.word_lowering.proofs.ShapeFacts.{shape_bytes}
@@ -99,8 +99,8 @@ module _ (table : List TypeDef) where
       pub home : h.home ≡ Variable variable
       pub address : ℕ
       pub given : words variable ≡ Some address
-      pub owned : IsOwned location.base
-      pub leads : LeadsHere table blocks sites ground w location address (looks table h)
+      pub stood : IsStood location.base
+      pub leads : ReachesHere table blocks sites ground w location address (looks table h)
 
     abbrev pub GaveSlot : Slot → Housed → Type 0
     GaveSlot (Holds x) h = GaveValue h x
@@ -171,7 +171,7 @@ module _ (table : List TypeDef) where
       home = g.home;
       address = g.address;
       given = g.given;
-      owned = g.owned;
+      stood = g.stood;
       leads = g.leads;
     }
     slot_still (Lends x from seen) h within g = absurd g

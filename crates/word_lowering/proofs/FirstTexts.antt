@@ -12,7 +12,7 @@ use Rattle.word_lowering.specs.declared.may_lower.TheConstants.{MOST_DATA}
 use Rattle.word_lowering.specs.Layouts.{is_empty}
 use Rattle.word_lowering.specs.MayLower.{def_may, defs_may, none_empty}
 use Rattle.word_lowering.specs.Stored.{base_at, entry_at}
-use Rattle.word_lowering.specs.Texts.{missing, padded, members_of, all_names, names_before, names_at, joined_all, ends_from, laid_texts}
+use Rattle.word_lowering.specs.Texts.{missing, padded, members_of, all_names, names_before, names_at, joined_all, ends_from, texts_from}
 use Rattle.word_lowering.specs.Lowered.{data_at, lowered}
 use Rattle.word_lowering.specs.Runtimes.{with_runtimes}
 use Rattle.word_lowering.proofs.FirstMemory.{drop_past, first_memory, own_reads, own, own_length, globals, pad, line_end_first, false_first, true_first}
@@ -84,7 +84,7 @@ module _ (x : Basis) (heap stack : ℕ) (is : x.first ≡ first_memory (with_run
       let z = name_ends names i text s in
       let m = name_most names (suc i) in
       let e = ends_length 0 (0 + length (joined_all names)) names in
-      let texts : List ℕ = laid_texts x.blocks.procs ++ pad x.table x.blocks in
+      let texts : List ℕ = texts_from x.table (globals x.table x.blocks) x.blocks.procs ++ pad x.table x.blocks in
       let zeros : List ℕ = replicate (missing (length (joined_all names))) 0 in
       let rest : List ℕ = padded (joined_all names) ++ texts in
       let place : from ≡ globals x.table x.blocks + (length (ends_from 0 names) + joined_before names i) = omega (arith, e) in

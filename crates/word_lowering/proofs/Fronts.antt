@@ -13,12 +13,14 @@ use Rattle.word_code.specs.declared.word.Test.TheVariants as test
 use Rattle.word_code.specs.declared.word.WordOperation.TheVariants as operation
 use Rattle.word_code.specs.declared.word.WordInstr.{WordInstr}
 use Rattle.word_code.specs.declared.word.WordInstr.TheVariants.{Label, Constant, Compute, Load, Store, Branch}
-use Rattle.rv32_isa.specs.declared.micro_op.Size.TheVariants.{Word as whole}
+use Rattle.rv32_isa.specs.declared.micro_op.Size.{Size}
+use Rattle.rv32_isa.specs.declared.micro_op.Size.TheVariants.{Byte, Word as whole}
 use Rattle.word_lowering.specs.declared.homes.TheConstants.{FIRST, SECOND, THIRD, FOURTH, FIFTH}
 use Rattle.word_lowering.specs.declared.homes.Home.{Home}
 use Rattle.word_lowering.specs.declared.homes.Home.TheVariants.{Variable, Placed, Static}
 use Rattle.word_lowering.specs.declared.spots.Spot.{Spot}
-use Rattle.word_lowering.specs.declared.spots.Spot.TheVariants.{Held, Lies}
+use Rattle.word_lowering.specs.declared.spots.Spot.TheVariants.{Held, Lies, Letter}
+use Rattle.word_lowering.specs.LineCode.{letter_swap}
 use Rattle.word_lowering.specs.Spots as code
 use Rattle.word_lowering.specs.Operations as operations
 
@@ -96,14 +98,27 @@ module _ (own many : ℕ) where
   copied_front true bytes = record { is = λ k. refl; fine = tt }
   copied_front false bytes = record { is = λ k. refl; fine = tt }
 
+  -- by two addresses
+  carried_front : (to from : Home) (put got : Size)
+      → IsFront own many (λ k. code.address FIRST to ∷ code.address SECOND from ∷ Load THIRD SECOND got ∷ Store FIRST THIRD put ∷ k)
+  carried_front to from put got =
+      front_address FIRST to (λ k. code.address SECOND from ∷ Load THIRD SECOND got ∷ Store FIRST THIRD put ∷ k)
+      (front_address SECOND from (λ k. Load THIRD SECOND got ∷ Store FIRST THIRD put ∷ k) (record { is = λ k. refl; fine = tt }))
+
   pub moved_front : (word : Bool) (bytes : ℕ) (to from : Spot) → IsFront own many (code.moved word bytes to from)
   moved_front word bytes (Held v) (Held u) = record { is = λ k. refl; fine = tt }
   moved_front word bytes (Held v) (Lies from) =
       front_address SECOND from (λ k. Load v SECOND whole ∷ k) (record { is = λ k. refl; fine = tt })
+  moved_front word bytes (Held v) (Letter from) =
+      front_address SECOND from (λ k. Load v SECOND Byte ∷ k) (record { is = λ k. refl; fine = tt })
   moved_front word bytes (Lies to) (Held u) = front_address FIRST to (λ k. Store FIRST u whole ∷ k) (record { is = λ k. refl; fine = tt })
+  moved_front word bytes (Letter to) (Held u) = front_address FIRST to (λ k. Store FIRST u Byte ∷ k) (record { is = λ k. refl; fine = tt })
   moved_front word bytes (Lies to) (Lies from) =
       front_address FIRST to (λ k. code.address SECOND from ∷ code.copied word bytes k)
       (front_address SECOND from (code.copied word bytes) (copied_front word bytes))
+  moved_front word bytes (Lies to) (Letter from) = carried_front to from whole Byte
+  moved_front word bytes (Letter to) (Lies from) = carried_front to from Byte whole
+  moved_front word bytes (Letter to) (Letter from) = carried_front to from Byte Byte
 
   zeros_front : (word : Bool) (bytes : ℕ) → IsFront own many (code.zeros word bytes)
   zeros_front true bytes = record { is = λ k. refl; fine = tt }
@@ -112,10 +127,22 @@ module _ (own many : ℕ) where
   pub cleared_front : (word : Bool) (bytes : ℕ) (to : Spot) → IsFront own many (code.cleared word bytes to)
   cleared_front word bytes (Held v) = record { is = λ k. refl; fine = tt }
   cleared_front word bytes (Lies to) = front_address FIRST to (code.zeros word bytes) (zeros_front word bytes)
+  cleared_front word bytes (Letter to) =
+      front_address FIRST to (λ k. Constant SECOND 0 ∷ Store FIRST SECOND Byte ∷ k) (record { is = λ k. refl; fine = tt })
+
+  -- two characters trade places
+  pub letter_swap_front : (left right : Home) → IsFront own many (letter_swap left right)
+  letter_swap_front left right =
+      front_address FIRST left (λ k. code.address SECOND right ∷ trades k) (front_address SECOND right trades (record { is = λ k. refl; fine = tt }))
+    where
+      trades : Coding
+      trades k = Load THIRD FIRST Byte ∷ Load FOURTH SECOND Byte ∷ Store SECOND THIRD Byte ∷ Store FIRST FOURTH Byte ∷ k
 
   module _ (high : 7 < own) where
     pub handed_front : (i bytes : ℕ) (from : Spot) → i ≤ many → IsFront own many (code.handed (own + 2 * i) bytes from)
     handed_front i bytes (Held u) few = record { is = λ k. refl; fine = tt }
+    handed_front i bytes (Letter from) few =
+        front_address SECOND from (λ k. Load THIRD SECOND Byte ∷ Store FIRST THIRD whole ∷ k) (record { is = λ k. refl; fine = tt })
     handed_front i bytes (Lies from) few = front_address SECOND from words (record {
       is = λ k. refl;
       fine = ((i, few, refl), (inr (omega (arith, high)), tt));
@@ -149,6 +176,22 @@ module _ (own many : ℕ) where
     binary_front binary.BitAnd to left right = record { is = λ k. refl; fine = tt }
     binary_front binary.BitOr to left right = record { is = λ k. refl; fine = tt }
     binary_front binary.BitXor to left right = record { is = λ k. refl; fine = tt }
+
+    -- the number at an address becomes another one
+    pub put_back_front : (operator : Operator) (home : Home) (size : Size) (by : ℕ)
+        → IsFront own many (λ k. code.address SECOND home ∷ Load FOURTH SECOND size
+        ∷ operations.binary_code own operator FOURTH FOURTH by (code.address FIRST home ∷ Store FIRST FOURTH size ∷ k))
+    put_back_front operator home size by =
+        front_on loads (λ k. operations.binary_code own operator FOURTH FOURTH by (stores k))
+        (front_address SECOND home (λ k. Load FOURTH SECOND size ∷ k) (record { is = λ k. refl; fine = tt }))
+        (front_on (operations.binary_code own operator FOURTH FOURTH by) stores (binary_front operator FOURTH FOURTH by)
+        (front_address FIRST home (λ k. Store FIRST FOURTH size ∷ k) (record { is = λ k. refl; fine = tt })))
+      where
+        loads : Coding
+        loads k = code.address SECOND home ∷ Load FOURTH SECOND size ∷ k
+
+        stores : Coding
+        stores k = code.address FIRST home ∷ Store FIRST FOURTH size ∷ k
 
     pub turn_front : (counter last : ℕ) (inclusive : Bool) (label : ℕ)
         → IsFront own many (operations.turn_code own counter last inclusive label)

@@ -23,7 +23,7 @@ use Rattle.word_lowering.specs.Aliases.{handed_by, places_in, is_among}
 use Rattle.word_lowering.specs.Layouts.{params_in, holds_address}
 use Rattle.word_lowering.specs.LineCode.{Around, argument_code, word_argument, location}
 use Rattle.word_lowering.proofs.HeapKept.{SameHeap, heap_same}
-use Rattle.word_lowering.proofs.AddressFacts.{AtAddress, at_homed, high_in_memory, in_memory, handed_homed}
+use Rattle.word_lowering.proofs.AddressFacts.{Reached, as_reached, at_homed, high_in_memory, in_memory, handed_homed}
 use Rattle.word_lowering.proofs.Arguments.{Gives, to_variable, to_place}
 use Rattle.word_lowering.proofs.Callees.{Callee}
 use Rattle.word_lowering.proofs.FirstPlaces.{GivenAt, GaveSlot}
@@ -39,7 +39,8 @@ use Rattle.word_lowering.proofs.OrdinalRuns.{put_here as put_same, AllSame}
 use Rattle.word_lowering.proofs.OutPlaces.{written_at, written_stands}
 use Rattle.word_lowering.proofs.ReadFacts.{ValueRead, item_read, here_near}
 use Rattle.word_lowering.proofs.Related.{Both, body_of, called_by, within, MemoryGood, store_of, store_with}
-use Rattle.word_lowering.proofs.Scenes.{At, Call, site_of, of_value, of_location, house, looked, Leads, Points, LeadsHere, IsOwned, is_owned}
+use Rattle.word_lowering.proofs.Scenes.{At, Call, site_of, of_value, of_location, house, looked, Leads, Points, LeadsHere, Reaches, ReachesHere, IsStood}
+use Rattle.word_lowering.proofs.Scenes.{is_stood}
 use Rattle.word_lowering.proofs.ShapeFacts.{never, bytes_is, values_of_numbers, of_numbers, shape_bytes}
 use Rattle.word_lowering.proofs.Scenes.{IsThere, StoredIn, address_of, is_fixed}
 use Rattle.word_lowering.proofs.Sites.{room, looks, type_of, Among, AmongSites, Housing, in_variable, by_address, in_places, in_data, Site, IsHoused, has_hooks}
@@ -375,8 +376,8 @@ module _ (x : Basis) (g : Both) (line : BlockLine) (rest : List BlockLine) (y : 
 
     -- to a parameter that stands for a location, of something that is owned
     module _ (t : ℕ) (there : Where) (address : holds_address h ≡ true) (typed : type_in x is_location (body_of g) t ≡ Some (type_of x.table h))
-        (l : Location) (l_is : there ≡ Located l) (owned : IsOwned l.base)
-        (reached : AtAddress x g line rest y (location here t) there (looked x.table g.call.site (of_location t))) where
+        (l : Location) (l_is : there ≡ Located l) (stood : IsStood l.base)
+        (reached : Reached x g line rest y (location here t) there (looked x.table g.call.site (of_location t))) where
       abbrev ArguedLocation : Location → Type 0
       ArguedLocation l = Argued (argument_code here label h.home (location here t) k) k (Stands l) h 64
 
@@ -387,10 +388,10 @@ module _ (x : Basis) (g : Both) (line : BlockLine) (rest : List BlockLine) (y : 
       location_to_variable u home =
           let p = names in
           let q = reached in
-          let leads : LeadsHere x.table x.blocks sites g.ground g.world l q.address (looks x.table h)
-          = subst (LeadsHere x.table x.blocks sites g.ground g.world l q.address) p.look
-          (subst (λ z. Leads x.table x.blocks sites g.ground g.world g.call.site g.call.temps z q.address (looked x.table g.call.site (of_location t))) l_is
-          q.leads_to) in
+          let leads : ReachesHere x.table x.blocks sites g.ground g.world l q.address (looks x.table h)
+          = subst (ReachesHere x.table x.blocks sites g.ground g.world l q.address) p.look
+          (subst (λ z. Reaches x.table x.blocks sites g.ground g.world g.call.site g.call.temps z q.address (looked x.table g.call.site (of_location t))) l_is
+          q.reaches) in
           let near = here_near x sites y.linked g.ground g.world l q.address (looks x.table h) leads in
           let small : q.address < 2 ^ 32 = omega (arith, near) in
           let words : Vars = put g.words u q.address in
@@ -410,7 +411,7 @@ module _ (x : Basis) (g : Both) (line : BlockLine) (rest : List BlockLine) (y : 
               home = home;
               address = q.address;
               given = put_same g.words u q.address small;
-              owned = owned;
+              stood = stood;
               leads = leads;
             };
             steps = r.steps;
@@ -456,5 +457,5 @@ module _ (x : Basis) (g : Both) (line : BlockLine) (rest : List BlockLine) (y : 
           = subst (λ z. Leads x.table x.blocks sites g.ground g.world g.call.site g.call.temps z q.address (looked x.table g.call.site (of_location t))) l_is
           q.leads_to in
           located_argument t there address typed l l_is
-          (is_owned x.table x.blocks sites g.ground g.world l q.address (looked x.table g.call.site (of_location t)) (ap of_numbers p.look ∙ blocks_in) leads)
-          q
+          (is_stood x.table x.blocks sites g.ground g.world l q.address (looked x.table g.call.site (of_location t)) (ap of_numbers p.look ∙ blocks_in) leads)
+          (as_reached x g line rest y (location here t) there (looked x.table g.call.site (of_location t)) q)

@@ -1,10 +1,11 @@
 -- What a location leads to, in homes: a place that has a value of its own, or the value of a temporary; or in a block.
 use Rattle.std.proofs.Common.{◌≡◌, ◌⊎◌, inl, inr, ℕ, List, [], ◌∷◌, map, Some, None, true, false, refl, sym, subst, ◌∙◌, Option, ◌+◌, ap}
 use Rattle.std.proofs.lemmas.Bool.{cases_Bool}
-use Rattle.nim_meaning.specs.Values.{Value, Standing, Made, Location, Holds, Vacant, part, Waiting, Stands, Lends, Slot}
+use Rattle.nim_meaning.specs.Values.{Value, Fixed, Standing, Made, Location, Holds, Vacant, part, Waiting, Stands, Lends, Slot}
 use Rattle.nim_meaning.specs.State.{slot_at, temporary_at, awaited, whole_at, is_whole, load}
 use Rattle.flat_code.specs.Scene.{Temps}
-use Rattle.flat_code.specs.Shapes.{Shape, has_shape}
+use Rattle.flat_code.specs.Pieces.{value_of}
+use Rattle.flat_code.specs.Shapes.{Shape, block, has_shape}
 use Rattle.word_code.specs.Words.{Vars}
 use Rattle.word_lowering.specs.declared.texts.TheConstants.{FIXED_BYTES}
 use Rattle.word_lowering.specs.Layouts.{holds_address, owns}
@@ -14,8 +15,8 @@ use Rattle.word_lowering.proofs.Keeping.{AmongCalls, declared_address, waiting_i
 use Rattle.word_lowering.proofs.Lines.{Basis, IsGood}
 use Rattle.word_lowering.proofs.Related.{Both, calls_of, sites_of, store_of}
 use Rattle.word_lowering.proofs.Scenes.{is_fixed, address_of, of_value, of_place, Call, site_of, house, Filled, IsThere, looked, IsItem, FromOwned, FromPlace}
-use Rattle.word_lowering.proofs.Scenes.{FromValue, of_waiting, SaysAt, Says, FromWaiting, FromWaits, LeadsHere, IsOwned}
-use Rattle.word_lowering.proofs.ShapeFacts.{never, of_numbers}
+use Rattle.word_lowering.proofs.Scenes.{FromLiteral, FromValue, of_waiting, SaysAt, Says, FromWaiting, FromWaits, LeadsHere, IsFixedText, IsOwned, IsStood}
+use Rattle.word_lowering.proofs.ShapeFacts.{never, of_numbers, values_of_numbers}
 use Rattle.word_lowering.proofs.Sites.{room, Housing, in_variable, by_address, in_places, in_data, InMemory, Site, AmongSites, data_end, Linked}
 use Rattle.word_lowering.proofs.SitesApart.{houses, site_at}
 
@@ -208,18 +209,49 @@ module _ (x : Basis) (g : Both) (y : IsGood x g) where
 
   -- ---- what is owned
 
+  no_text : (v : Value) (s : Shape) → of_numbers s ≡ true → has_shape v s ≡ true → IsFixedText (Made v) → ⊥
+  no_text (Fixed text) s numbers shaped is = values_of_numbers (Fixed text) s numbers shaped
+  no_text v s numbers shaped is = is
+
+  -- what a place may stand for is owned, or the text of a literal
+  pub owned_or_text : (l : Location) (a : ℕ) (t : Shape) → IsStood l.base → LeadsHere x.table x.blocks (sites_of g) g.ground g.world l a t
+      → IsOwned l.base ⊎ FromLiteral x.table x.blocks l a t
+  owned_or_text l a t (inl is) leads = inl is
+  owned_or_text l a t (inr text) (inl f) = absurd (subst IsFixedText f.base text)
+  owned_or_text l a t (inr text) (inr (inl (inl f))) =
+      absurd (no_text (value_of f.pieces) f.shape f.numbers f.shaped (subst IsFixedText f.base text))
+  owned_or_text l a t (inr text) (inr (inl (inr f))) = inr f
+  owned_or_text l a t (inr text) (inr (inr (inl f))) = absurd (subst IsFixedText f.base text)
+  owned_or_text l a t (inr text) (inr (inr (inr f))) = absurd (subst IsFixedText f.base text)
+
+  -- what is no text is owned
+  pub owned_unless_text : (l : Location) (a : ℕ) (t : Shape) → (t ≡ block → ⊥) → IsStood l.base
+      → LeadsHere x.table x.blocks (sites_of g) g.ground g.world l a t → IsOwned l.base
+  owned_unless_text l a t other is leads = by (owned_or_text l a t is leads)
+    where
+      by : IsOwned l.base ⊎ FromLiteral x.table x.blocks l a t → IsOwned l.base
+      by (inl own) = own
+      by (inr f) = absurd (other f.shape)
+
+  -- so is what is made of numbers
+  pub owned_numbers : (l : Location) (a : ℕ) (t : Shape) → of_numbers t ≡ true → IsStood l.base
+      → LeadsHere x.table x.blocks (sites_of g) g.ground g.world l a t → IsOwned l.base
+  owned_numbers l a t numbers is leads = owned_unless_text l a t (λ e. never (sym (ap of_numbers e) ∙ numbers)) is leads
+
   -- where something is seen
   pub owned_seen : (l : Location) (a : ℕ) (t : Shape) → IsOwned l.base → LeadsHere x.table x.blocks (sites_of g) g.ground g.world l a t
       → is_whole g.world (load g.world l) ≡ true → FromOwned x.table (sites_of g) g.ground g.world l a t
   owned_seen l a t is (inl f) whole = inl f
-  owned_seen l a t is (inr (inl f)) whole = absurd (subst IsOwned f.base is)
+  owned_seen l a t is (inr (inl (inl f))) whole = absurd (subst IsOwned f.base is)
+  owned_seen l a t is (inr (inl (inr f))) whole = absurd (subst IsOwned f.base is)
   owned_seen l a t is (inr (inr (inl f))) whole = inr (inl f)
   owned_seen l a t is (inr (inr (inr f))) whole = inr (inr (waits_there l a t f whole))
 
   pub owned_or_gone : (l : Location) (a : ℕ) (t : Shape) → IsOwned l.base → LeadsHere x.table x.blocks (sites_of g) g.ground g.world l a t
       → FromOwned x.table (sites_of g) g.ground g.world l a t ⊎ FromGone l a t
   owned_or_gone l a t is (inl f) = inl (inl f)
-  owned_or_gone l a t is (inr (inl f)) = absurd (subst IsOwned f.base is)
+  owned_or_gone l a t is (inr (inl (inl f))) = absurd (subst IsOwned f.base is)
+  owned_or_gone l a t is (inr (inl (inr f))) = absurd (subst IsOwned f.base is)
   owned_or_gone l a t is (inr (inr (inl f))) = inl (inr (inl f))
   owned_or_gone l a t is (inr (inr (inr f))) = by (waits_or_gone l a t f)
     where

@@ -1,28 +1,30 @@
 -- Where a hook is called while a value is under way at the home of a temporary, which has none itself: what the hook has around it, and that what is good
 -- before is good behind it.
-use Rattle.std.proofs.Common.{◌≡◌, ◌≢◌, ◌⊎◌, inl, inr, ℕ, ◌+◌, ◌-◌, ◌≤◌, List, [], ◌∷◌, ◌++◌, length, take, Some, None, false}
+use Rattle.std.proofs.Common.{◌≡◌, ◌≢◌, ◌⊎◌, inl, inr, ℕ, ◌+◌, ◌-◌, ◌%◌, ◌≤◌, List, [], ◌∷◌, ◌++◌, length, take, Some, None, true, false}
 use Rattle.std.proofs.Common.{refl, sym, ap, subst, ◌∙◌, arith}
 use Rattle.std.specs.Prelude.{slice_get}
 use Rattle.std.proofs.lemmas.Option.{none-some}
 use Rattle.nim_types.specs.Table.{IsTable}
 use Rattle.rv32_isa.specs.Image.{stack_at}
+use Rattle.rv32_isa.specs.declared.micro_op.Size.TheVariants.{Word}
 use Rattle.nim_meaning.specs.Values.{Value, InHand, Standing, Waiting, at_base}
 use Rattle.nim_meaning.specs.State.{World, load, popped, pushed}
 use Rattle.flat_code.specs.declared.block.BlockLine.{BlockLine}
 use Rattle.flat_code.specs.Scene.{Temps}
 use Rattle.word_code.specs.declared.word.TheConstants.{SPARE_ROOM}
-use Rattle.word_code.specs.Memory.{Memory}
+use Rattle.word_code.specs.Memory.{Memory, may_put}
 use Rattle.word_code.specs.Words.{Vars}
 use Rattle.word_lowering.specs.Stored.{HaveForms}
-use Rattle.word_lowering.proofs.BaseValues.{Differ, in_frame, whole_held}
+use Rattle.word_lowering.proofs.BaseValues.{Differ, IsOwn, in_frame, whole_held}
 use Rattle.word_lowering.proofs.BlockHomes.{Home, home_bytes, SameOrApart, IsAtHome, HomesHold}
 use Rattle.word_lowering.proofs.Blocks.{Blocks, AreLater, Stored}
 use Rattle.word_lowering.proofs.Gets.{SameTemps}
-use Rattle.word_lowering.proofs.GoodHomes.{among_sites, good_homes, home_at, home_is, HomeOf, one_call, outside}
+use Rattle.word_lowering.proofs.GoodHomes.{among_sites, home_at, home_is, HomeOf, one_call, outside}
 use Rattle.word_lowering.proofs.GoodRows.{later_ground_of}
 use Rattle.word_lowering.proofs.HandHomes.{AllHomes, with_hand}
 use Rattle.word_lowering.proofs.HookHomes.{HookHomes, IsHere}
-use Rattle.word_lowering.proofs.HooksGood.{HookedHome, IsAside, IsWithin, good_behind_hooks, home_within, hooked_apart, name_within, no_hand_there}
+use Rattle.word_lowering.proofs.HooksGood.{HookedHome, IsAside, IsWithin, good_behind_hooks, hooked_apart, hooked_lies, hooked_may, hooked_no_hand}
+use Rattle.word_lowering.proofs.HooksGood.{hooked_stands, hooked_under, hooked_whole, name_within, within_may}
 use Rattle.word_lowering.proofs.HookWorlds.{IsLike, IsNoHome, like_itself, memory_itself}
 use Rattle.word_lowering.proofs.Keeping.{name_cases, number_cases}
 use Rattle.word_lowering.proofs.Lines.{Basis, IsGood, changed_later, starts}
@@ -32,6 +34,8 @@ use Rattle.word_code.specs.RoutineTable.{Beside}
 use Rattle.word_lowering.proofs.Scenes.{of_value, HasValue, IsThere, address_of, house, is_fixed, looked}
 use Rattle.word_lowering.proofs.ShapeFacts.{of_numbers}
 use Rattle.word_lowering.proofs.Sites.{InMemory, Site, next_base}
+use Rattle.word_lowering.proofs.TextHomes.{beside_text}
+use Rattle.word_lowering.proofs.Sources.{Lying}
 use Rattle.word_lowering.proofs.SitesApart.{Beside as BesideOf, houses, next_least, next_whole, ranges_apart}
 
 hand_apart : (i : ℕ) → 1 ≤ i → InHand 0 ≢ InHand i
@@ -115,26 +119,43 @@ module _ (x : Basis) (g : Both) (line : BlockLine) (rest : List BlockLine) (y : 
   aside_hand h e =
       subst (IsAside x g line rest y) e (record { lying = hand_within.lying; plain = λ k p numbers. beside_hand k p })
 
+  beside_hooked : (h : Home) → HookedHome x g line rest y h → Beside h.at (home_bytes h) hand_there.at (home_bytes hand_there)
+  beside_hooked h (inl p) = beside_hand h p.home
+  beside_hooked h (inr p) =
+      turned hand_there.at (home_bytes hand_there) h.at (home_bytes h) (beside_text x now y h p hand_there.at (home_bytes hand_there) hand_within.lying)
+
   pub handed_apart : (a b : Home) → HandedHome a → HandedHome b → SameOrApart a b
   handed_apart a b (inl p) (inl q) = hooked_apart x g line rest y a b p q
   handed_apart a b (inl p) (inr e) =
-      let n = no_hand_there x g line rest y a p.home 0 in
-      subst (SameOrApart a) e (inr (record { bases = n.0; bases_turned = n.1.0; ranges = beside_hand a p.home }))
+      let n = hooked_no_hand x g line rest y a p 0 in
+      subst (SameOrApart a) e (inr (record { bases = n.0; bases_turned = n.1.0; ranges = beside_hooked a p }))
   handed_apart a b (inr e) (inl q) =
-      let n = no_hand_there x g line rest y b q.home 0 in
+      let n = hooked_no_hand x g line rest y b q 0 in
       subst (λ k. SameOrApart k b) e (inr (record {
         bases = n.1.0;
         bases_turned = n.0;
-        ranges = turned b.at (home_bytes b) hand_there.at (home_bytes hand_there) (beside_hand b q.home);
+        ranges = turned b.at (home_bytes b) hand_there.at (home_bytes hand_there) (beside_hooked b q);
       }))
   handed_apart a b (inr e) (inr f) = inl (sym e ∙ f)
 
-  pub within_at : (h : Home) → HandedHome h → IsWithin x g line rest y h
-  within_at h (inl p) = home_within x g line rest y h p.home
-  within_at h (inr e) = subst (IsWithin x g line rest y) e hand_within
+  pub under_at : (h : Home) → HandedHome h → h.at + home_bytes h ≤ next_base sites
+  under_at h (inl p) = hooked_under x g line rest y h p
+  under_at h (inr e) = subst (λ k. k.at + home_bytes k ≤ next_base sites) e hand_within.under
+
+  pub lies_at : (h : Home) → HandedHome h → IsOwn h.base → Lying x sites y.linked h.at (home_bytes h)
+  lies_at h (inl p) own = hooked_lies x g line rest y h p own
+  lies_at h (inr e) own = (subst (IsWithin x g line rest y) e hand_within).lying
+
+  pub whole_at : (h : Home) → HandedHome h → h.at % 4 ≡ 0
+  whole_at h (inl p) = hooked_whole x g line rest y h p
+  whole_at h (inr e) = subst (λ (k : Home). k.at % 4 ≡ 0) e hand_within.whole
+
+  pub may_at : (h : Home) → HandedHome h → (k : ℕ) → k + 4 ≤ home_bytes h → k % 4 ≡ 0 → may_put g.memory (h.at + k) Word ≡ true
+  may_at h (inl p) k within even = hooked_may x g line rest y h p k within even
+  may_at h (inr e) k within even = within_may x g line rest y h (subst (IsWithin x g line rest y) e hand_within) k within even
 
   pub others_at : (h : Home) → HandedHome h → (i : ℕ) → 1 ≤ i → Differ h.base (InHand i) × (Differ (InHand i) h.base × (h.base ≢ InHand i))
-  others_at h (inl p) i late = no_hand_there x g line rest y h p.home i
+  others_at h (inl p) i late = hooked_no_hand x g line rest y h p i
   others_at h (inr e) i late =
       subst (λ (k : Home). Differ k.base (InHand i) × (Differ (InHand i) k.base × (k.base ≢ InHand i))) e
       (λ s. absurd (omega (arith, late, s)), (λ s. absurd (omega (arith, late, s)), hand_apart i late))
@@ -151,19 +172,17 @@ module _ (x : Basis) (g : Both) (line : BlockLine) (rest : List BlockLine) (y : 
       Homes = HandedHome;
       apart = handed_apart;
       start = next_base sites;
-      under = λ h p. (within_at h p).under;
+      under = under_at;
       first = 1;
       others = others_at;
-      whole = λ h p. (within_at h p).whole;
+      whole = whole_at;
       start_low = next_least x.table x.blocks sites y.linked;
       limit = stack_at + 268435456 - SPARE_ROOM;
       limit_most = omega arith;
       world = pushed g.world v;
       memory = g.memory;
       reaches = (let e = y.memory.places in omega (arith, e));
-      may = λ h p k within even.
-          let q = within_at h p in let w = q.whole in
-          (y.memory.cells (h.at + k) (omega (arith, w, even)) (q.is_open k within)).may;
+      may = may_at;
       law = x.law;
     }
 
@@ -201,14 +220,14 @@ module _ (x : Basis) (g : Both) (line : BlockLine) (rest : List BlockLine) (y : 
           elsewhere = outside x (starts g line rest) y g.call (of_value t) (inl refl) there inside hand_there.at (home_bytes hand_there) refl size;
         }
 
-        by : (h : Home) → AllHomes (is_fixed g.ground) HandedHome handed_apart (next_base (sites_of (starts g line rest))) (λ h p. (within_at h p).under) 1
+        by : (h : Home) → AllHomes (is_fixed g.ground) HandedHome handed_apart (next_base (sites_of (starts g line rest))) under_at 1
             others_at [] h → IsAtHome (is_fixed g.ground) g.ground.blocks (pushed g.world v) g.memory h
         by h (inl (inl p)) =
-            let at = (good_homes x (starts g line rest) y).homes h p.home in
+            let at = hooked_stands x g line rest y h p in
             record {
               value = at.value;
               holds = with_hand g.world (g.world.hand ++ v ∷ []) h.base at.value
-                  (λ i e. absurd ((no_hand_there x g line rest y h p.home i).1.1 e)) at.holds;
+                  (λ i e. absurd ((hooked_no_hand x g line rest y h p i).1.1 e)) at.holds;
               stored = at.stored;
               elsewhere = at.elsewhere;
             }
@@ -234,7 +253,7 @@ module _ (x : Basis) (g : Both) (line : BlockLine) (rest : List BlockLine) (y : 
             record {
               value = at.value;
               holds = with_hand w (take (length w.hand - 1) w.hand) h.base at.value
-                  (λ i e. absurd ((no_hand_there x g line rest y h p.home i).1.1 e)) at.holds;
+                  (λ i e. absurd ((hooked_no_hand x g line rest y h p i).1.1 e)) at.holds;
               stored = at.stored;
               elsewhere = at.elsewhere;
             };

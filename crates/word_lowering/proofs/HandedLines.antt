@@ -30,7 +30,8 @@ use Rattle.word_lowering.proofs.Scenes.{Points}
 use Rattle.word_lowering.proofs.SitesApart.{InRange, SiteAt, site_at, next_whole}
 use Rattle.word_lowering.proofs.Related.{Both, body_of, within, MemoryGood, IsClosed}
 use Rattle.word_lowering.proofs.Lines.{Basis, all_procs, starts, IsGood, all_sites}
-use Rattle.word_lowering.proofs.Sources.{area_by, Lying, lying_range, lying_area, lying_near, Source, held_in, lies_at}
+use Rattle.word_lowering.proofs.ShapeFacts.{never}
+use Rattle.word_lowering.proofs.Sources.{area_by, Lying, lying_range, lying_area, lying_near, Source, held_in, letter_at, lies_at}
 use Rattle.word_lowering.proofs.ReadFacts.{Read}
 use Rattle.rv32_isa.specs.Image.{stack_at}
 
@@ -256,3 +257,4 @@ module _ (x : Basis) (g : Both) (line : BlockLine) (rest : List BlockLine) (y : 
             (hands_words v r.small home high b points is_at (is_all refl).0 le
             (found ∙ ap (λ l. from_label label (Place FIRST (room (body_of g) + at_next) ∷ l)) code_is
             ∙ hand_label label (bytes v) home (room (body_of g) + at_next) k))
+        by (letter_at home spot high b points is_at near single no_all) = never (sym no_all)

@@ -4,9 +4,7 @@ use Rattle.std.proofs.lemmas.Bool.{cases_Bool}
 use Rattle.nim_types.specs.Types as type
 use Rattle.nim_types.specs.Types.{Facts, Ty, fact_of}
 use Rattle.nim_types.specs.Table.{facts_in}
-use Rattle.nim_program.specs.Kinds.{declared_kind, element_of, has_length, is_of, is_sequence, is_text, kind_if, kind_of}
-use Rattle.nim_meaning.specs.LeftOut.{is_text_type}
-use Rattle.std.specs.Prelude.{not}
+use Rattle.nim_program.specs.Kinds.{declared_kind, has_length, is_sequence, is_text, kind_if, kind_of}
 use Rattle.flat_code.specs.declared.block.BlockLine.{BlockLine}
 use Rattle.flat_code.specs.Fits.{is_location}
 use Rattle.flat_code.specs.Shapes.{block, shape_of}
@@ -21,10 +19,6 @@ use Rattle.word_lowering.proofs.ValueFacts.{type_in}
 -- no declared type has a length
 declared_none : {A : Type 0} (facts : Facts) (ty : Ty) → has_length (declared_kind (fact_of facts ty)) ≡ true → A
 declared_none facts ty h = never (sym (declared_other has_length (λ n. refl) (λ own ts. refl) (λ t. refl) refl refl (fact_of facts ty)) ∙ h)
-
-no_elements : {A : Type 0} (facts : Facts) (ty of : Ty) → is_of (Some of) (element_of (declared_kind (fact_of facts ty))) ≡ true → A
-no_elements facts ty of h =
-    never (sym (declared_other (λ k. is_of (Some of) (element_of k)) (λ n. refl) (λ own ts. refl) (λ t. refl) refl refl (fact_of facts ty)) ∙ h)
 
 -- what has a length and is neither a sequence nor a text is an array
 pub array_row : (facts : Facts) (ty : Ty) → has_length (kind_of facts ty) ≡ true → is_sequence (kind_of facts ty) ≡ false → is_text (kind_of facts ty) ≡ false
@@ -42,23 +36,6 @@ array_row facts (type.enum key) h s t = declared_none facts (type.enum key) h
 array_row facts (type.object key arguments) h s t = declared_none facts (type.object key arguments) h
 array_row facts (type.distinct key) h s t = declared_none facts (type.distinct key) h
 array_row facts (type.exception key) h s t = declared_none facts (type.exception key) h
-
--- what has elements and is neither a sequence nor a text is an array
-pub element_row : (facts : Facts) (ty of : Ty) → is_of (Some of) (element_of (kind_of facts ty)) ≡ true → is_sequence (kind_of facts ty) ≡ false
-    → not (is_text_type (Some ty)) ≡ true → no_handle (shape_of facts ty) ≡ true
-element_row facts (type.array n e) of h s t = refl
-element_row facts type.text of h s t = never t
-element_row facts (type.sequence e) of h s t = never (sym s)
-element_row facts type.int of h s t = never h
-element_row facts type.bool of h s t = never h
-element_row facts type.char of h s t = never h
-element_row facts (type.tuple names ts) of h s t = never h
-element_row facts (type.parameter n) of h s t = never h
-element_row facts (type.ref name e) of h s t = never h
-element_row facts (type.enum key) of h s t = no_elements facts (type.enum key) of h
-element_row facts (type.object key arguments) of h s t = no_elements facts (type.object key arguments) of h
-element_row facts (type.distinct key) of h s t = no_elements facts (type.distinct key) of h
-element_row facts (type.exception key) of h s t = no_elements facts (type.exception key) of h
 
 module _ (x : Basis) (g : Both) (rest : List BlockLine) (from : ℕ) (line : BlockLine) where
   pub by_sequence : ((e : Ty) → type_in x is_location (body_of g) from ≡ Some (type.sequence e) → Whole x g rest line)

@@ -17,10 +17,10 @@ use Rattle.word_lowering.specs.declared.texts.TheConstants.{FIXED_BYTES}
 use Rattle.word_lowering.specs.LineCode.{proc_number, first_hook as first_of}
 use Rattle.word_lowering.specs.Lowered.{all_layouts}
 use Rattle.word_lowering.specs.Stored.{HaveForms}
-use Rattle.word_lowering.proofs.HandGood.{around_hand, within_at}
+use Rattle.word_lowering.proofs.HandGood.{around_hand, lies_at}
 use Rattle.word_lowering.proofs.HandleLines.{heap_kept}
 use Rattle.word_lowering.proofs.HookAll.{hook_routines}
-use Rattle.word_lowering.proofs.HooksGood.{around_hooks, home_within}
+use Rattle.word_lowering.proofs.HooksGood.{around_hooks, hooked_lies}
 use Rattle.word_lowering.proofs.HookSurroundings.{surroundings}
 use Rattle.word_lowering.proofs.HookTexts.{data_alike, fixed_alike}
 use Rattle.word_lowering.proofs.Lines.{Basis, IsGood, all_procs, starts}
@@ -69,10 +69,9 @@ module _ (x : Basis) (b : HookBasis x) (g : Both) (line : BlockLine) (rest : Lis
   pub routines_here : Routines x.table (surroundings (around_hooks x g line rest y b.is_table b.have)) x.live (all_procs x) x.fresh
   routines_here =
       hook_routines (around_hooks x g line rest y b.is_table b.have) x.live x.none (all_procs x) x.fresh (heap_kept x)
-      (λ m like. fixed_alike x g line rest y (around_hooks x g line rest y b.is_table b.have).Homes
-      (λ h p. (home_within x g line rest y h p.home).lying) m like) b.elements_small (routines x.table x.blocks) x.runtimes.others.statics (x.kept Copies)
-      (λ m like. data_alike x g line rest y (around_hooks x g line rest y b.is_table b.have).Homes
-      (λ h p. (home_within x g line rest y h p.home).lying) m like)
+      (λ m like. fixed_alike x g line rest y (around_hooks x g line rest y b.is_table b.have).Homes (hooked_lies x g line rest y) m like)
+      b.elements_small (routines x.table x.blocks) x.runtimes.others.statics (x.kept Copies)
+      (λ m like. data_alike x g line rest y (around_hooks x g line rest y b.is_table b.have).Homes (hooked_lies x g line rest y) m like)
 
   -- while a value is under way at a temporary's home
   pub hand_routines : (t : ℕ) (there : IsThere g.call.site (of_value t)) (inside : InMemory (house g.call.site (of_value t)).home)
@@ -81,9 +80,9 @@ module _ (x : Basis) (b : HookBasis x) (g : Both) (line : BlockLine) (rest : Lis
   hand_routines t there inside none hooked v =
       let z = around_hand x g line rest y t there inside none hooked b.is_table b.have v in
       hook_routines z x.live x.none (all_procs x) x.fresh (heap_kept x)
-      (λ m like. fixed_alike x g line rest y z.Homes (λ h p. (within_at x g line rest y t there inside none hooked h p).lying) m like) b.elements_small
+      (λ m like. fixed_alike x g line rest y z.Homes (lies_at x g line rest y t there inside none hooked) m like) b.elements_small
       (routines x.table x.blocks) x.runtimes.others.statics (x.kept Copies)
-      (λ m like. data_alike x g line rest y z.Homes (λ h p. (within_at x g line rest y t there inside none hooked h p).lying) m like)
+      (λ m like. data_alike x g line rest y z.Homes (lies_at x g line rest y t there inside none hooked) m like)
 
   -- ---- chains and paces of hooks of a type that has at most 64 levels
 

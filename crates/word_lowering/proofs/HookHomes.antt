@@ -1,6 +1,6 @@
 -- What hooks have around them: homes, of which words may be put, and the world and the memory before.
 use Rattle.std.proofs.Common.{◌≡◌, ◌≢◌, ◌⊎◌, inl, inr, ℕ, ◌+◌, ◌*◌, ◌%◌, ◌^◌, ◌<◌, ◌≤◌, Bool, true, List, length}
-use Rattle.std.proofs.Common.{ap, subst, ◌∙◌, arith, mul-le-mul, le_refl}
+use Rattle.std.proofs.Common.{ap, refl, subst, ◌∙◌, arith, mul-le-mul, le_refl}
 use Rattle.std.proofs.lemmas.Bool.{and_from, eq-eqb}
 use Rattle.std.specs.Prelude.{◌==◌}
 use Rattle.nim_types.specs.declared.types.TypeDef.{TypeDef}
@@ -25,7 +25,7 @@ use Rattle.word_lowering.proofs.ShapePaths.{path_within}
 use Rattle.word_lowering.proofs.StoredLater.{shape_whole, times_whole}
 use Rattle.word_lowering.proofs.StoredParts.{path_whole}
 use Rattle.word_lowering.proofs.Blocks.{Blocks, IsBlockThere}
-use Rattle.word_lowering.proofs.BaseValues.{Differ}
+use Rattle.word_lowering.proofs.BaseValues.{Differ, IsOwn}
 use Rattle.word_lowering.proofs.BlockPaths.{block_here, at_place}
 use Rattle.word_lowering.proofs.BlockHomes.{Home, home_bytes, SameOrApart, FromBlock, BlockSeen, block_seen}
 use Rattle.word_lowering.proofs.CallPlaces.{place_cell}
@@ -198,21 +198,21 @@ module _ (z : HookHomes) where
         (path_whole f.home.shape l.path f.offset t f.way) at f.address (home_open f.home f.among)
     led_open own l at t (inr f) live = block_open l at t (record { block = f.block; base = f.base; leads = f.leads }) live
 
-    -- what is no home's and not the heap's lies beside it
-    pub led_beside : (own : Bool) (l : Location) (at : ℕ) (t : Shape) → Led own l at t → is_there w l ≡ true → (b n : ℕ)
+    -- what is no home's and not the heap's lies beside one that is owned
+    pub led_beside : (l : Location) (at : ℕ) (t : Shape) → Led true l at t → is_there w l ≡ true → (b n : ℕ)
         → IsOther z.Homes z.start (length z.memory.heap) b n → Beside b n at (shape_bytes t)
-    led_beside own l at t (inl f) live b n o = by f.among
+    led_beside l at t (inl f) live b n o = by f.among
       where
         narrow : Beside b n f.home.at (home_bytes f.home) → Beside b n at (shape_bytes t)
         narrow (inl h) = let e = f.address in inl (omega (arith, e, h))
         narrow (inr h) = let e = f.address in let i = path_within f.home.shape l.path f.offset t f.way in inr (omega (arith, e, i, h))
 
         by : All f.home → Beside b n at (shape_bytes t)
-        by (inl i) = narrow (o.homes f.home i)
+        by (inl i) = narrow (o.homes f.home i (subst IsOwn f.base (f.owned refl)))
         by (inr i) =
             let r = in_range z.first z.start hand low f.home x.here.up i in let c = r.begins in let e = o.before in
             narrow (inl (omega (arith, c, e)))
-    led_beside own l at t (inr f) live b n o = by o.heap
+    led_beside l at t (inr f) live b n o = by o.heap
       where
         p : InPayload l at t (record { block = f.block; base = f.base; leads = f.leads }) live
         p = in_payload l at t (record { block = f.block; base = f.base; leads = f.leads }) live

@@ -8,6 +8,7 @@ use Rattle.word_code.specs.declared.routine.TheConstants.{SCRATCH_BYTES}
 use Rattle.word_code.specs.Routines.{HasData}
 use Rattle.heap_memory.specs.declared.numbers.TheConstants.{HEAP_DATA}
 use Rattle.heap_memory.specs.TextRoutines.{AreBytes}
+use Rattle.word_lowering.proofs.BaseValues.{IsOwn}
 use Rattle.word_lowering.proofs.BlockHomes.{Home, home_bytes}
 use Rattle.word_lowering.proofs.FixedTexts.{elsewhere, fixed_text}
 use Rattle.word_lowering.proofs.HookWorlds.{IsMemoryLike}
@@ -33,15 +34,15 @@ module _ (x : Basis) (g : Both) (line : BlockLine) (rest : List BlockLine) (y : 
   in_heap b n long (inr h) = inl (omega (arith, h.1))
 
   -- beside homes that lie at names
-  module _ (Homes : Home → Type 0) (lying : (h : Home) → Homes h → Lying x (sites_of (starts g line rest)) y.linked h.at (home_bytes h)) (m : Memory)
-      (like : IsMemoryLike Homes (next_base (sites_of (starts g line rest))) g.memory m) where
+  module _ (Homes : Home → Type 0) (lying : (h : Home) → Homes h → IsOwn h.base → Lying x (sites_of (starts g line rest)) y.linked h.at (home_bytes h))
+      (m : Memory) (like : IsMemoryLike Homes (next_base (sites_of (starts g line rest))) g.memory m) where
     text_alike : (b n : ℕ) → IsText x.table x.blocks b n → bytes_at m b n ≡ bytes_at x.first b n
     text_alike b n text =
         like.beside b n (record {
           before = before b n text.0;
           own = own b n text.0;
           heap = in_heap b n (length g.memory.heap) text.0;
-          homes = λ h p. text_beside x (sites_of (starts g line rest)) y.linked h.at (home_bytes h) b n (lying h p) text;
+          homes = λ h p own. text_beside x (sites_of (starts g line rest)) y.linked h.at (home_bytes h) b n (lying h p own) text;
         }) ∙ y.memory.texts b n text
 
     pub fixed_alike : FixedThere (is_fixed g.ground) m

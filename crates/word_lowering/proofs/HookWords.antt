@@ -215,7 +215,7 @@ module _ (z : HookHomes) (low top : ℕ) (hand : Hand) (d : Blocks) (w : World) 
           ends = (let e = x.ends in let k = written.sizes.stack in omega (arith, e, k));
           like = like_stored z.Homes z.world w _ x.like l.base (may_change l at t f);
           same = memory_written z.Homes z.start z.memory m other at (shape_bytes t) x.same written
-              (λ b n o. led_beside z low top hand d w m x true l at t f live b n o);
+              (λ b n o. led_beside z low top hand d w m x l at t f live b n o);
           bytes = written.sizes.bytes x.bytes;
         };
       }

@@ -12,7 +12,7 @@ use Rattle.rv32_isa.specs.State.{lies_in}
 use Rattle.word_code.specs.Memory.{Memory, bytes_at, may_put, own_data_at}
 use Rattle.word_code.specs.RoutineTable.{Beside, IsRewritten}
 use Rattle.heap_memory.specs.declared.numbers.TheConstants.{HEAP_DATA}
-use Rattle.word_lowering.proofs.BaseValues.{InFrame, HasFrame, HoldsAt, frame_there, frame_away, frames_agree, temporary_away}
+use Rattle.word_lowering.proofs.BaseValues.{InFrame, HasFrame, HoldsAt, IsOwn, frame_there, frame_away, frames_agree, temporary_away}
 use Rattle.word_lowering.proofs.BlockHomes.{Home, home_bytes}
 use Rattle.word_lowering.proofs.CallPlaces.{Grown}
 use Rattle.word_lowering.proofs.Frames.{IsFrame, frame_kept, slot_elsewhere, get_set, get_other, get_inside, length_set}
@@ -188,12 +188,12 @@ module _ (Homes : Home → Type 0) where
 
   -- ---- memory
 
-  -- a range that is no home's, and not the heap's
+  -- a range that is no home's whose value may become another one, and not the heap's
   pub record IsOther (start long b n : ℕ) : Type 0 where
     pub before : b + n ≤ start
     pub own : Beside b n own_data_at HEAP_DATA
     pub heap : Beside b n heap_at long
-    pub homes : (h : Home) → Homes h → Beside b n h.at (home_bytes h)
+    pub homes : (h : Home) → Homes h → IsOwn h.base → Beside b n h.at (home_bytes h)
 
   -- it is as it was
   pub record IsMemoryLike (start : ℕ) (before m : Memory) : Type 0 where
@@ -236,7 +236,7 @@ pub memory_more : (Homes More : Home → Type 0) → ((h : Home) → Homes h →
 memory_more Homes More among start before m x = record {
   statics = x.statics;
   heap = x.heap;
-  beside = λ b n o. x.beside b n (record { before = o.before; own = o.own; heap = o.heap; homes = λ h p. o.homes h (among h p) });
+  beside = λ b n o. x.beside b n (record { before = o.before; own = o.own; heap = o.heap; homes = λ h p own. o.homes h (among h p) own });
 }
 
 -- ---- what may be put

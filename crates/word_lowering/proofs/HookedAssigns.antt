@@ -11,7 +11,7 @@ use Rattle.nim_meaning.specs.Deeds.{Deed, behind, branch, costs, give, looks, pe
 use Rattle.nim_meaning.specs.Here.{any_hooked, gives_hooked}
 use Rattle.nim_meaning.specs.Lifted.{assigns}
 use Rattle.nim_meaning.specs.OwnedRows.{owned}
-use Rattle.nim_meaning.specs.Places.{kept_if}
+use Rattle.nim_meaning.specs.Places.{kept_if, may_change}
 use Rattle.nim_meaning.specs.Table.{does}
 use Rattle.nim_meaning.specs.State.{is_seen}
 use Rattle.nim_meaning.specs.Texts.{are_seen}
@@ -43,7 +43,7 @@ use Rattle.word_lowering.proofs.HookedLines.{small_at, source_at, value_inside, 
 use Rattle.word_lowering.proofs.HookedSources.{led_argument}
 use Rattle.word_lowering.proofs.HookedTypes.{HookedType, chain_few}
 use Rattle.word_lowering.proofs.LineFits.{are_of, same_type}
-use Rattle.word_lowering.proofs.Lines.{Basis, Completes, IsGood, Settles, bound_for, completes_quiet, known, starts, Whole}
+use Rattle.word_lowering.proofs.Lines.{Basis, Completes, IsGood, Settles, bound_for, completes_quiet, known, starts, where_there, Whole}
 use Rattle.word_lowering.proofs.Options.{none_some}
 use Rattle.word_lowering.proofs.OwnedFits.{FitsRow, fits_row}
 use Rattle.word_lowering.proofs.Related.{Both, body_of, high}
@@ -99,6 +99,14 @@ module _ (x : Basis) (b : HookBasis x) (g : Both) (rest : List BlockLine) (to : 
         subst (λ seen. Settles x here rest (Passes (behind [] 1 (perform
         (unless_gone seen deed >>= kept_if false (bound_for g how) >>= (λ v. give (with_value to temps v))) g.world)))) (sym e) (λ before. tt)
 
+    -- the text of a literal, which nothing changes
+    unchanged : (temps : Temps) (deed : Deed Value) (xs : List Operand) → Settles x here rest (Passes (behind [] 1 (perform
+        (unless_gone (are_seen g.world xs) (unless_gone false deed) >>= kept_if false (bound_for g how) >>= (λ v. give (with_value to temps v))) g.world)))
+    unchanged temps deed xs =
+        where_there x here rest (are_seen g.world xs) (λ seen. Passes (behind [] 1 (perform
+        (unless_gone seen (unless_gone false deed) >>= kept_if false (bound_for g how) >>= (λ v. give (with_value to temps v))) g.world)))
+        (λ before. tt) (λ seen before. tt)
+
     -- from a location
     module _ (m : ℕ) (is_place : operand ≡ F.Place m) (m_typed : type_in x is_location (body_of g) m ≡ Some of) (there other : Where)
         (e : g.call.temps.places l ≡ Some there) (f : g.call.temps.places m ≡ Some other)
@@ -107,17 +115,18 @@ module _ (x : Basis) (b : HookBasis x) (g : Both) (rest : List BlockLine) (to : 
       abbrev xs : List Operand
       xs = At (location_at g.call.temps there) ∷ At (location_at g.call.temps other) ∷ []
 
-      abbrev Row : Type 0
-      Row = Settles x here rest (gives (scene_of (high x.table x.blocks here)) to (costs 1 (looks (λ world. unless_gone (are_seen world xs)
-          (assigns (form_in (known_in x.table) n) (location_at g.call.temps there) (At (location_at g.call.temps other)))))
+      -- what it does, if that place may change
+      abbrev Row : Bool → Type 0
+      Row may = Settles x here rest (gives (scene_of (high x.table x.blocks here)) to (costs 1 (looks (λ world. unless_gone (are_seen world xs)
+          (unless_gone may (assigns (form_in (known_in x.table) n) (location_at g.call.temps there) (At (location_at g.call.temps other))))))
           >>= kept_if false (bound_for g how)))
 
-      pub assigns_copy : Row
-      assigns_copy =
+      copies_there : may_change (location_at g.call.temps there).base ≡ true → Row true
+      copies_there may =
           let s = source_at x b g line rest y n h l l_typed there e in
           let u = source_at x b g line rest y n h m m_typed other f in
-          by s u (led_argument x g line rest y b.is_table b.have n h.numbers g.call.site g.call.temps true there s.address s.leads_to)
-          (led_argument x g line rest y b.is_table b.have n h.numbers g.call.site g.call.temps false other u.address u.leads_to)
+          by s u (led_argument x g line rest y b.is_table b.have n h.numbers g.call.site g.call.temps true there s.address may s.leads_to)
+          (led_argument x g line rest y b.is_table b.have n h.numbers g.call.site g.call.temps false other u.address tt u.leads_to)
         where
           deed : Deed Value
           deed = assigns (form_in (known_in x.table) n) (location_at g.call.temps there) (At (location_at g.call.temps other))
@@ -128,7 +137,7 @@ module _ (x : Basis) (b : HookBasis x) (g : Both) (rest : List BlockLine) (to : 
               (location_at g.call.temps there)
               → IsArgument x g line rest y b.is_table b.have false (location_at g.call.temps other) u.address n ⊎ IsUnwaited g.world
               (location_at g.call.temps other)
-              → Row
+              → Row true
           by s u (inl p) (inl q) =
               assign_settles x g line rest y b.is_table b.have b.short (first_hook x) (routines_here x b g line rest y) b.hooks_there n h.def h.entry h.hooks
               h.built (location_at g.call.temps there) (location_at g.call.temps other) s.address u.address s.home u.home p q s.high_is u.high_is s.points
@@ -142,6 +151,14 @@ module _ (x : Basis) (b : HookBasis x) (g : Both) (rest : List BlockLine) (to : 
               unseen g.call.temps deed xs (ap (λ c. is_seen g.world (location_at g.call.temps there) && (c && true))
               (not_seen g.world (location_at g.call.temps other) (nothing_waits g.world (location_at g.call.temps other) gone))
               ∙ none_right (is_seen g.world (location_at g.call.temps there)))
+
+      pub assigns_copy : Row (may_change (location_at g.call.temps there).base)
+      assigns_copy = by (may_change (location_at g.call.temps there).base) refl
+        where
+          by : (may : Bool) → may_change (location_at g.call.temps there).base ≡ may → Row may
+          by true e = copies_there e
+          by false e =
+              unchanged g.call.temps (assigns (form_in (known_in x.table) n) (location_at g.call.temps there) (At (location_at g.call.temps other))) xs
 
     -- from a value, which its temporary has no more
     module _ (t : ℕ) (t_typed : type_in x is_value (body_of g) t ≡ Some of) (t_there : IsThere g.call.site (of_value t)) (there : Where) (v : Value)
@@ -160,20 +177,20 @@ module _ (x : Basis) (b : HookBasis x) (g : Both) (rest : List BlockLine) (to : 
       abbrev gets : List Operand
       gets = At (location_at g.call.temps there) ∷ Given v ∷ []
 
-      abbrev Takes : Type 0
-      Takes = Settles x here rest (gives (record (scene_of (high x.table x.blocks here)) { temps = left.call.temps }) to
+      abbrev Takes : Bool → Type 0
+      Takes may = Settles x here rest (gives (record (scene_of (high x.table x.blocks here)) { temps = left.call.temps }) to
           (costs 1 (looks (λ world. unless_gone (are_seen world gets)
-          (assigns (form_in (known_in x.table) n) (location_at g.call.temps there) (Given v)))) >>= kept_if false (bound_for g how)))
+          (unless_gone may (assigns (form_in (known_in x.table) n) (location_at g.call.temps there) (Given v))))) >>= kept_if false (bound_for g how)))
 
-      pub assigns_given : Takes
-      assigns_given =
+      given_there : may_change (location_at g.call.temps there).base ≡ true → Takes true
+      given_there may =
           let s = source_at x b g line rest y n h l l_typed there e in
           by s (led_argument x left line rest (before_good x g line rest y b.is_table b.have t v has t_there t_inside t_hooked) b.is_table b.have n h.numbers
-          g.call.site g.call.temps true there s.address s.leads_to)
+          g.call.site g.call.temps true there s.address may s.leads_to)
         where
           by : (s : AtAddress x g line rest y (location (around x.table x.blocks (body_of g)) l) there (shape_of (facts_in x.table) of))
               → IsArgument x left line rest (before_good x g line rest y b.is_table b.have t v has t_there t_inside t_hooked) b.is_table b.have true
-              (location_at g.call.temps there) s.address n ⊎ IsUnwaited g.world (location_at g.call.temps there) → Takes
+              (location_at g.call.temps there) s.address n ⊎ IsUnwaited g.world (location_at g.call.temps there) → Takes true
           by s (inl p) =
               assign_given_settles x g line rest y b.is_table b.have t v has t_there t_inside t_hooked b.short (first_hook x)
               (hand_routines x b left line rest (before_good x g line rest y b.is_table b.have t v has t_there t_inside t_hooked) t t_there t_inside
@@ -188,6 +205,13 @@ module _ (x : Basis) (b : HookBasis x) (g : Both) (rest : List BlockLine) (to : 
               unseen left.call.temps (assigns (form_in (known_in x.table) n) (location_at g.call.temps there) (Given v)) gets
               (ap (λ c. c && are_seen g.world (Given v ∷ []))
               (not_seen g.world (location_at g.call.temps there) (nothing_waits g.world (location_at g.call.temps there) gone)))
+
+      pub assigns_given : Takes (may_change (location_at g.call.temps there).base)
+      assigns_given = by (may_change (location_at g.call.temps there).base) refl
+        where
+          by : (may : Bool) → may_change (location_at g.call.temps there).base ≡ may → Takes may
+          by true e = given_there e
+          by false e = unchanged left.call.temps (assigns (form_in (known_in x.table) n) (location_at g.call.temps there) (Given v)) gets
 
 module _ (x : Basis) (b : HookBasis x) (g : Both) (rest : List BlockLine) (to : ℕ) (how : UseAt) where
   abbrev facts : Facts

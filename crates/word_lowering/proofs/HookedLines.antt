@@ -142,7 +142,7 @@ module _ (x : Basis) (b : HookBasis x) (g : Both) (line : BlockLine) (rest : Lis
         let s = source_at x b g line rest y ty h from from_typed there e in
         by s (led_argument x state line rest (ready_good x g line rest y b.is_table b.have to ty to_there to_inside to_hooked
         (value_look x b g line rest y ty h to to_typed))
-        b.is_table b.have ty h.numbers g.call.site g.call.temps false there s.address s.leads_to)
+        b.is_table b.have ty h.numbers g.call.site g.call.temps false there s.address tt s.leads_to)
       where
         by : (s : AtAddress x g line rest y (location (around x.table x.blocks (body_of g)) from) there (shape_of (facts_in x.table) held))
             → IsArgument x state line rest
@@ -237,7 +237,7 @@ module _ (x : Basis) (b : HookBasis x) (g : Both) (line : BlockLine) (rest : Lis
           (costs 1 (assigned (form_in (known_in x.table) ty) (place_at g.call.site.level n) (At from_l)))))
       place_gets_line code =
           let s = source_at x b g line rest y ty h from from_typed there e in
-          by s (led_argument x g line rest y b.is_table b.have ty h.numbers g.call.site g.call.temps false there s.address s.leads_to)
+          by s (led_argument x g line rest y b.is_table b.have ty h.numbers g.call.site g.call.temps false there s.address tt s.leads_to)
         where
           deed : Deed (Unit {0})
           deed = assigned (form_in (known_in x.table) ty) (place_at g.call.site.level n) (At from_l)
@@ -277,7 +277,7 @@ module _ (x : Basis) (b : HookBasis x) (g : Both) (line : BlockLine) (rest : Lis
           let s = source_at x b opening line rest (opened_good x g line rest y b.is_table b.have n ty p.there p.own p.inside p.plain p.look h.numbers) ty h
           from from_typed there e in
           by s (led_argument x opening line rest (opened_good x g line rest y b.is_table b.have n ty p.there p.own p.inside p.plain p.look h.numbers)
-          b.is_table b.have ty h.numbers g.call.site g.call.temps false there s.address s.leads_to)
+          b.is_table b.have ty h.numbers g.call.site g.call.temps false there s.address tt s.leads_to)
         where
           by : (s : AtAddress x opening line rest (opened_good x g line rest y b.is_table b.have n ty p.there p.own p.inside p.plain p.look h.numbers)
               (location (around x.table x.blocks (body_of g)) from) there (shape_of (facts_in x.table) held))

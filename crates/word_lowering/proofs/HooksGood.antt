@@ -4,14 +4,15 @@ use Rattle.std.proofs.Common.{refl, sym, ap, ap₂, subst, ◌∙◌, arith}
 use Rattle.std.proofs.lemmas.Option.{none-some}
 use Rattle.nim_types.specs.Table.{IsTable}
 use Rattle.rv32_isa.specs.Image.{heap_at, stack_at}
-use Rattle.nim_meaning.specs.Values.{Value, Location, Standing, Waiting, InHand, Made, Slot, Holds, Stands, Lends}
+use Rattle.nim_meaning.specs.Values.{Value, Location, Standing, Waiting, InHand, Slot, Holds, Stands, Lends}
 use Rattle.nim_meaning.specs.Places.{root_of, through_slot}
 use Rattle.nim_meaning.specs.State.{World, slot_at, temporary_at}
 use Rattle.flat_code.specs.declared.block.BlockLine.{BlockLine}
 use Rattle.flat_code.specs.Scene.{Temps, Where, Located, Within}
 use Rattle.flat_code.specs.Shapes.{Shape}
 use Rattle.word_code.specs.declared.word.TheConstants.{SPARE_ROOM}
-use Rattle.word_code.specs.Memory.{Memory, own_data_at}
+use Rattle.word_code.specs.Memory.{Memory, may_put, own_data_at}
+use Rattle.rv32_isa.specs.declared.micro_op.Size.TheVariants.{Word}
 use Rattle.word_code.specs.RoutineTable.{Beside}
 use Rattle.word_code.specs.Words.{Vars}
 use Rattle.heap_memory.specs.declared.numbers.TheConstants.{HEAP_DATA}
@@ -28,7 +29,7 @@ use Rattle.word_lowering.specs.LineCode.{variable_in, variable_of}
 use Rattle.word_lowering.specs.Spots.{spot_of}
 use Rattle.word_lowering.specs.Stored.{HaveForms}
 use Rattle.word_lowering.specs.WaitingCode.{waiter_at}
-use Rattle.word_lowering.proofs.BaseValues.{Differ}
+use Rattle.word_lowering.proofs.BaseValues.{Differ, IsOwn}
 use Rattle.word_lowering.proofs.BlockHomes.{Home, home_bytes, AreApart, SameOrApart, IsOutside, IsAtHome, HomesHold}
 use Rattle.word_lowering.proofs.BlockPaths.{leads_later}
 use Rattle.word_lowering.proofs.Blocks.{Blocks, AreLater, Stored}
@@ -48,20 +49,19 @@ use Rattle.word_lowering.proofs.OrdinalRuns.{AllSame}
 use Rattle.word_lowering.proofs.Related.{Both, StandAt, called_by, calls_of, sites_of, store_of, body_of, IsOpen as MayOpen, IsClosed, MemoryGood, AllFrames}
 use Rattle.word_lowering.proofs.RoutineMemory.{same_word}
 use Rattle.word_lowering.proofs.Scenes.{IsLasting, Store, is_fixed, address_of, AtHome, Name, of_value, of_location, of_place, of_waiting, Call, site_of, house}
-use Rattle.word_lowering.proofs.Scenes.{Filled}
+use Rattle.word_lowering.proofs.Scenes.{Filled, letter_later}
 use Rattle.word_lowering.proofs.Scenes.{HasValue, HasVariable, Says, SaysAt, variable_at, asks_shape}
-use Rattle.word_lowering.proofs.Scenes.{FromBlock, IsNamed, IsThere, looked, IsItem, FromPlace, IsFilled, Leads, IsLedBy, IsLed, Holding, AllHold}
+use Rattle.word_lowering.proofs.Scenes.{FromBlock, IsNamed, IsThere, looked, IsItem, FromPlace, IsFilled, Reaches, IsLedBy, IsLed, Holding, AllHold}
 use Rattle.word_lowering.proofs.ShapeFacts.{never, shape_bytes, of_numbers}
 use Rattle.word_lowering.proofs.Sites.{room, Housing, in_variable, by_address, in_places, in_data, InMemory, Site, AmongSites, next_base, data_end}
 use Rattle.word_lowering.proofs.SitesApart.{InRange, in_range, houses, SiteAt, site_at, next_least, next_whole, home_variable}
 use Rattle.word_lowering.proofs.Sources.{Lying, text_beside, address_whole}
 use Rattle.word_lowering.proofs.StoredLater.{stored_kept}
+use Rattle.word_lowering.proofs.TextHomes.{TextHome, at_text, beside_text, made_no_hand, made_standing, made_waiting, text_differs, text_homes_apart, text_may}
+use Rattle.word_lowering.proofs.TextHomes.{text_no_hand, text_not_own, text_not_standing, text_not_waiting, text_under, text_whole}
 
 same_standing : (a b c d : ℕ) → Standing a b ≡ Standing c d → (a ≡ c) × (b ≡ d)
 same_standing a b c d e = (cc, cc)
-
-made_standing : (v : Value) (a b : ℕ) → Made v ≡ Standing a b → ⊥
-made_standing v a b e = cc
 
 no_hand : (a b i : ℕ) → Standing a b ≢ InHand i
 no_hand a b i e = cc
@@ -69,17 +69,11 @@ no_hand a b i e = cc
 same_waiting : (a b c d : ℕ) → Waiting a b ≡ Waiting c d → (a ≡ c) × (b ≡ d)
 same_waiting a b c d e = (cc, cc)
 
-made_waiting : (v : Value) (a b : ℕ) → Made v ≡ Waiting a b → ⊥
-made_waiting v a b e = cc
-
 waiting_standing : (a b c d : ℕ) → Waiting a b ≡ Standing c d → ⊥
 waiting_standing a b c d e = cc
 
 waits_no_hand : (a b i : ℕ) → Waiting a b ≢ InHand i
 waits_no_hand a b i e = cc
-
-made_no_hand : (v : Value) (i : ℕ) → Made v ≢ InHand i
-made_no_hand v i e = cc
 
 holds_same : (v u : Value) → Some (Holds v) ≡ Some (Holds u) → v ≡ u
 holds_same v u e = cc
@@ -92,15 +86,16 @@ module _ (x : Basis) (g : Both) (line : BlockLine) (rest : List BlockLine) (y : 
   sites = sites_of now
 
   -- the home of what may have blocks
-  pub record HookedHome (h : Home) : Type 0 where
+  pub record PlacedHome (h : Home) : Type 0 where
     pub home : HomeOf x now h
     pub hooked : of_numbers h.shape ≡ false
 
+  -- or that of a text of the data, which has no other one
+  abbrev pub HookedHome : Home → Type 0
+  HookedHome h = PlacedHome h ⊎ TextHome x h
+
   among : (c : Call) → AmongCalls c (calls_of now) → AmongSites c.site sites
   among c i = among_sites (calls_of now) c i
-
-  pub hooked_apart : (a b : Home) → HookedHome a → HookedHome b → SameOrApart a b
-  hooked_apart a b p q = homes_apart x now y a b p.home q.home
 
   -- ---- where homes are
 
@@ -167,6 +162,52 @@ module _ (x : Basis) (g : Both) (line : BlockLine) (rest : List BlockLine) (y : 
       by (of_place n) has = (tt, (tt, no_hand p.call.site.level n i))
       by (of_waiting n) has = (tt, (tt, waits_no_hand p.call.site.level n i))
 
+  -- ---- all homes
+
+  pub hooked_apart : (a b : Home) → HookedHome a → HookedHome b → SameOrApart a b
+  hooked_apart a b (inl p) (inl q) = homes_apart x now y a b p.home q.home
+  hooked_apart a b (inr p) (inr q) = text_homes_apart x a b p q
+  hooked_apart a b (inl p) (inr q) =
+      let n = text_differs x b q a.base in
+      inr (record { bases = n.1; bases_turned = n.0; ranges = beside_text x now y b q a.at (home_bytes a) (home_within a p.home).lying })
+  hooked_apart a b (inr p) (inl q) =
+      let n = text_differs x a p b.base in
+      inr (record { bases = n.0; bases_turned = n.1; ranges = turned (beside_text x now y a p b.at (home_bytes b) (home_within b q.home).lying) })
+    where
+      turned : Beside b.at (home_bytes b) a.at (home_bytes a) → Beside a.at (home_bytes a) b.at (home_bytes b)
+      turned (inl e) = inr e
+      turned (inr e) = inl e
+
+  pub hooked_under : (h : Home) → HookedHome h → h.at + home_bytes h ≤ next_base sites
+  hooked_under h (inl p) = (home_within h p.home).under
+  hooked_under h (inr p) = text_under x now y h p
+
+  pub hooked_whole : (h : Home) → HookedHome h → h.at % 4 ≡ 0
+  hooked_whole h (inl p) = (home_within h p.home).whole
+  hooked_whole h (inr p) = text_whole x h p
+
+  pub hooked_no_hand : (h : Home) → HookedHome h → (i : ℕ) → Differ h.base (InHand i) × (Differ (InHand i) h.base × (h.base ≢ InHand i))
+  hooked_no_hand h (inl p) i = no_hand_there h p.home i
+  hooked_no_hand h (inr p) i = text_no_hand x h p i
+
+  -- their words may be put
+  pub within_may : (h : Home) → IsWithin h → (k : ℕ) → k + 4 ≤ home_bytes h → k % 4 ≡ 0 → may_put g.memory (h.at + k) Word ≡ true
+  within_may h q k within even = let w = q.whole in (y.memory.cells (h.at + k) (omega (arith, w, even)) (q.is_open k within)).may
+
+  pub hooked_may : (h : Home) → HookedHome h → (k : ℕ) → k + 4 ≤ home_bytes h → k % 4 ≡ 0 → may_put g.memory (h.at + k) Word ≡ true
+  hooked_may h (inl p) k within even = within_may h (home_within h p.home) k within even
+  hooked_may h (inr p) k within even = text_may x now y h p k within even
+
+  -- what stands there
+  pub hooked_stands : (h : Home) → HookedHome h → IsAtHome (is_fixed g.ground) g.ground.blocks g.world g.memory h
+  hooked_stands h (inl p) = (good_homes x now y).homes h p.home
+  hooked_stands h (inr p) = at_text x now y h p
+
+  -- those whose values may become others are places
+  pub hooked_lies : (h : Home) → HookedHome h → IsOwn h.base → Lying x sites y.linked h.at (home_bytes h)
+  hooked_lies h (inl p) own = (home_within h p.home).lying
+  hooked_lies h (inr p) own = absurd (text_not_own x h p own)
+
   module _ (is_table : IsTable x.table) (have : HaveForms x.table)
     where
       -- what hooks have around them that are called here
@@ -179,19 +220,17 @@ module _ (x : Basis) (g : Both) (line : BlockLine) (rest : List BlockLine) (y : 
         Homes = HookedHome;
         apart = hooked_apart;
         start = next_base sites;
-        under = λ h p. (home_within h p.home).under;
+        under = hooked_under;
         first = 0;
-        others = λ h p i late. no_hand_there h p.home i;
-        whole = λ h p. (home_within h p.home).whole;
+        others = λ h p i late. hooked_no_hand h p i;
+        whole = hooked_whole;
         start_low = next_least x.table x.blocks sites y.linked;
         limit = stack_at + 268435456 - SPARE_ROOM;
         limit_most = omega arith;
         world = g.world;
         memory = g.memory;
         reaches = (let e = y.memory.places in omega (arith, e));
-        may = λ h p k within even.
-            let q = home_within h p.home in let w = q.whole in
-            (y.memory.cells (h.at + k) (omega (arith, w, even)) (q.is_open k within)).may;
+        may = hooked_may;
         law = x.law;
       }
 
@@ -217,9 +256,9 @@ module _ (x : Basis) (g : Both) (line : BlockLine) (rest : List BlockLine) (y : 
         bytes = y.memory.bytes;
       }
         where
-          by : (h : Home) → AllHomes (is_fixed g.ground) HookedHome hooked_apart (next_base sites) (λ h p. (home_within h p.home).under)
-              0 (λ h p i late. no_hand_there h p.home i) [] h → IsAtHome (is_fixed g.ground) g.ground.blocks g.world g.memory h
-          by h (inl p) = (good_homes x now y).homes h p.home
+          by : (h : Home) → AllHomes (is_fixed g.ground) HookedHome hooked_apart (next_base sites) hooked_under 0 (λ h p i late. hooked_no_hand h p i) [] h
+              → IsAtHome (is_fixed g.ground) g.ground.blocks g.world g.memory h
+          by h (inl p) = hooked_stands h p
           by h (inr i) = absurd i
 
   -- ---- behind hooks
@@ -256,7 +295,8 @@ module _ (x : Basis) (g : Both) (line : BlockLine) (rest : List BlockLine) (y : 
       was : slot_at g.world c.site.level n ≡ Some (Holds old)
 
     place_home : (c : Call) (i : AmongCalls c (calls_of now)) (n : ℕ) (h : Home) → HookedHome h → h.base ≡ Standing c.site.level n → IsPlaceHome c n
-    place_home c i n h p base = by p.home.name p.home.there p.home.inside p.home.has p.home.is
+    place_home c i n h (inr p) base = absurd (text_not_standing x h p c.site.level n base)
+    place_home c i n h (inl p) base = by p.home.name p.home.there p.home.inside p.home.has p.home.is
       where
         q : HomeOf x now h
         q = p.home
@@ -284,10 +324,10 @@ module _ (x : Basis) (g : Both) (line : BlockLine) (rest : List BlockLine) (y : 
     -- the home of a place
     the_home : (c : Call) (i : AmongCalls c (calls_of now)) (n : ℕ) → IsThere c.site (of_place n) → (p : IsPlaceHome c n)
         → HookedHome (home_at x now c (of_place n) p.old)
-    the_home c i n there p = record {
+    the_home c i n there p = inl (record {
       home = record { call = c; among = i; name = of_place n; there = there; inside = p.inside; value = p.old; has = p.was; is = refl };
       hooked = p.hooked;
-    }
+    })
 
     -- a place's slot is as it was, or it is the home of what may have blocks
     pub slot_cases : (c : Call) (i : AmongCalls c (calls_of now)) (n : ℕ) → IsThere c.site (of_place n)
@@ -355,7 +395,8 @@ module _ (x : Basis) (g : Both) (line : BlockLine) (rest : List BlockLine) (y : 
       pub stored : Stored (is_fixed g.ground) later m (address_of c.site.base (house c.site (of_waiting n)).home) (looked x.table c.site (of_waiting n)) new
 
     wait_home : (c : Call) (i : AmongCalls c (calls_of now)) (n : ℕ) (h : Home) → HookedHome h → h.base ≡ Waiting c.site.level n → IsWaitHome c n
-    wait_home c i n h p base = by p.home.name p.home.there p.home.has p.home.is
+    wait_home c i n h (inr p) base = absurd (text_not_waiting x h p c.site.level n base)
+    wait_home c i n h (inl p) base = by p.home.name p.home.there p.home.has p.home.is
       where
         q : HomeOf x now h
         q = p.home
@@ -378,7 +419,7 @@ module _ (x : Basis) (g : Both) (line : BlockLine) (rest : List BlockLine) (y : 
             }
 
     the_wait : (c : Call) (i : AmongCalls c (calls_of now)) (n : ℕ) → (p : IsWaitHome c n) → HookedHome (home_at x now c (of_waiting n) p.old)
-    the_wait c i n p = record {
+    the_wait c i n p = inl (record {
       home = record {
         call = c;
         among = i;
@@ -390,7 +431,7 @@ module _ (x : Basis) (g : Both) (line : BlockLine) (rest : List BlockLine) (y : 
         is = refl;
       };
       hooked = p.hooked;
-    }
+    })
 
     -- what waits at a node is as it was, or it is the home of what may have blocks
     pub wait_cases : (c : Call) (i : AmongCalls c (calls_of now)) (n : ℕ)
@@ -461,7 +502,7 @@ module _ (x : Basis) (g : Both) (line : BlockLine) (rest : List BlockLine) (y : 
           before = (let a = is.0 in let b = is.1 in let e = r.under in omega (arith, a, b, e, within));
           own = narrow own_data_at HEAP_DATA out.own;
           heap = narrow heap_at (length g.memory.heap) out.heap;
-          homes = λ h p. part_of h (beside_of h p);
+          homes = λ h p own. part_of h (beside_of h p);
         })) ∙ reads
       where
         home : HomeOf x now (home_at x now c f v)
@@ -487,7 +528,7 @@ module _ (x : Basis) (g : Both) (line : BlockLine) (rest : List BlockLine) (y : 
         plain_shape (of_place n) v has = refl
         plain_shape (of_waiting n) v has = refl
 
-        apart_of : (h : Home) → HookedHome h → AreApart (home_at x now c f v) h
+        apart_of : (h : Home) → PlacedHome h → AreApart (home_at x now c f v) h
         apart_of h p = by (homes_apart x now y (home_at x now c f v) h home p.home)
           where
             by : SameOrApart (home_at x now c f v) h → AreApart (home_at x now c f v) h
@@ -495,7 +536,8 @@ module _ (x : Basis) (g : Both) (line : BlockLine) (rest : List BlockLine) (y : 
             by (inr away) = away
 
         beside_of : (h : Home) → HookedHome h ⊎ More h → Beside (home_at x now c f v).at (home_bytes (home_at x now c f v)) h.at (home_bytes h)
-        beside_of h (inl p) = (apart_of h p).ranges
+        beside_of h (inl (inl p)) = (apart_of h p).ranges
+        beside_of h (inl (inr p)) = beside_text x now y h p (home_at x now c f v).at (home_bytes (home_at x now c f v)) r.lying
         beside_of h (inr q) = (aside h q).plain (home_at x now c f v) home numbers
 
         part_of : (h : Home) → Beside (home_at x now c f v).at (home_bytes (home_at x now c f v)) h.at (home_bytes h)
@@ -637,10 +679,10 @@ module _ (x : Basis) (g : Both) (line : BlockLine) (rest : List BlockLine) (y : 
             where
               at_home : InMemory (house s (of_value t)).home → IsItem x.table store_then then (of_value t) v
               at_home inside =
-                  let at = holds.homes (home_at x now before (of_value t) v) (record {
+                  let at = holds.homes (home_at x now before (of_value t) v) (inl (record {
                     home = record { call = before; among = i; name = of_value t; there = there; inside = inside; value = v; has = has; is = refl };
                     hooked = hooked;
-                  }) in
+                  })) in
                   value_home (of_value t) v there ((old.items (of_value t) v there has).plain) inside hooked
                   ((old.items (of_value t) v there has).shaped)
                   (subst (λ u. Stored (is_fixed g.ground) later m (address_of s.base (house s (of_value t)).home) (looked x.table s (of_value t)) u)
@@ -690,12 +732,13 @@ module _ (x : Basis) (g : Both) (line : BlockLine) (rest : List BlockLine) (y : 
         near = f.near;
       }
 
-      leads_then : (there : Where) (a : ℕ) (t : Shape) → Leads x.table x.blocks from g.ground g.world s temps there a t
-          → Leads x.table x.blocks from store_then.ground w s temps' there a t
-      leads_then (Located l) a t (inl f) = inl (place_leads l a t f)
-      leads_then (Located l) a t (inr (inl f)) = inr (inl f)
-      leads_then (Located l) a t (inr (inr (inl f))) = inr (inr (inl (block_leads l a t f)))
-      leads_then (Located l) a t (inr (inr (inr f))) = inr (inr (inr f))
+      leads_then : (there : Where) (a : ℕ) (t : Shape) → Reaches x.table x.blocks from g.ground g.world s temps there a t
+          → Reaches x.table x.blocks from store_then.ground w s temps' there a t
+      leads_then (Located l) a t (inl (inl f)) = inl (inl (place_leads l a t f))
+      leads_then (Located l) a t (inl (inr (inl f))) = inl (inr (inl f))
+      leads_then (Located l) a t (inl (inr (inr (inl f)))) = inl (inr (inr (inl (block_leads l a t f))))
+      leads_then (Located l) a t (inl (inr (inr (inr f)))) = inl (inr (inr (inr f)))
+      leads_then (Located l) a t (inr f) = inr (letter_later x.table x.blocks g.ground store_then.ground (record { blocks = ahead; fixed = refl }) l a t f)
       leads_then (Within temp path) a t f =
           let v = still temp f.value f.lasting f.has in
           record {
@@ -764,7 +807,7 @@ module _ (x : Basis) (g : Both) (line : BlockLine) (rest : List BlockLine) (y : 
                   slot = e ∙ v.slot;
                   address = v.address;
                   holds = variable_then (of_place n) v.address there (declared_address (house s (of_place n)) there.kind other) v.holds;
-                  owned = v.owned;
+                  stood = v.stood;
                   leads = leads_then (Located v.location) v.address (looked x.table s (of_place n)) v.leads;
                 };
               }
@@ -828,13 +871,13 @@ module _ (x : Basis) (g : Both) (line : BlockLine) (rest : List BlockLine) (y : 
         before = (before b n text.0);
         own = (own b n text.0);
         heap = (in_heap b n text.0);
-        homes = λ h p. text_beside x sites y.linked h.at (home_bytes h) b n (lying_at h p) text;
+        homes = λ h p own. text_beside x sites y.linked h.at (home_bytes h) b n (lying_at h p own) text;
       }) ∙ y.memory.texts b n text;
     }
       where
-        lying_at : (h : Home) → HookedHome h ⊎ More h → Lying x sites y.linked h.at (home_bytes h)
-        lying_at h (inl p) = (home_within h p.home).lying
-        lying_at h (inr q) = (aside h q).lying
+        lying_at : (h : Home) → HookedHome h ⊎ More h → IsOwn h.base → Lying x sites y.linked h.at (home_bytes h)
+        lying_at h (inl p) own = hooked_lies h p own
+        lying_at h (inr q) own = (aside h q).lying
 
         within : (a : ℕ) → MayOpen x.table x.blocks sites a → a + 4 ≤ stack_at + length g.memory.places
         within a (inl h) = let d = x.small in omega (arith, h.1, d)

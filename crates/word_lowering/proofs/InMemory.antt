@@ -3,8 +3,8 @@ use Rattle.std.proofs.Common.{◌≡◌, ℕ, zero, suc, ◌+◌, ◌%◌, ◌�
 use Rattle.std.proofs.lemmas.Bool.{or_parts, true≢false}
 use Rattle.nim_types.specs.Forms.{Form, plain, reference, block, elements, row, parts, resource, wrapped, Forms, no_forms, forms, or_word, hooked, hooked_any}
 use Rattle.nim_meaning.specs.Values.{Value, Number, Parts, Handle, Fixed, Ref, Resource, Gone, Vacant, Values, Nil, More, bytes, bytes_all, blank, blanks}
-use Rattle.nim_meaning.specs.Values.{repeated}
-use Rattle.rv32_isa.specs.declared.micro_op.Size.TheVariants.{Word}
+use Rattle.nim_meaning.specs.Values.{number_of, repeated}
+use Rattle.rv32_isa.specs.declared.micro_op.Size.TheVariants.{Byte, Word}
 use Rattle.word_code.specs.Memory.{Memory, number_at}
 use Rattle.word_code.specs.RoutineTable.{SameWords, ZeroWords, low, LowWords}
 use Rattle.word_code.proofs.ForCallers.{at_same}
@@ -20,6 +20,10 @@ abbrev mutual
   pub AreAt : Memory → ℕ → Values → Type 0
   AreAt m a Nil = Unit {0}
   AreAt m a (More v vs) = IsAt m a v × AreAt m (a + bytes v) vs
+
+-- one that is a character, by its byte
+abbrev pub IsByteAt : Memory → ℕ → Value → Type 0
+IsByteAt m a v = number_at m a Byte ≡ Ok (word (number_of v))
 
 -- values that are made of numbers alone
 abbrev mutual

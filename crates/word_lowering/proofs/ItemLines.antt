@@ -3,7 +3,7 @@ use Rattle.std.proofs.Common.{◌≡◌, ℕ, zero, suc, ◌+◌, ◌*◌, ◌^�
 use Rattle.std.proofs.Common.{false, negsuc, pos, subst, sym, unsigned_abs}
 use Rattle.nim_meaning.specs.Values.{Value, Parts, Number, Handle, Fixed, Ref, Resource, Gone, Vacant, Location, deeper, length_of, number_of}
 use Rattle.nim_meaning.specs.Deeds as deeds
-use Rattle.nim_meaning.specs.Places.{item_of, to_item}
+use Rattle.nim_meaning.specs.Places.{item_of, to_item, to_one}
 use Rattle.nim_program.specs.Ints.{fits as is_int_number}
 use Rattle.std.proofs.Common.{min, length, append-nil}
 use Rattle.std.proofs.lemmas.Int.{ints}
@@ -32,7 +32,7 @@ use Rattle.word_lowering.proofs.Moves.{IsHigh, address_runs, same_first, same_mo
 use Rattle.word_lowering.proofs.OpRuns.{gives_computed, behind_branch, behind_computed, behind_constant, leads_constant, leads_off, same_but}
 use Rattle.word_lowering.proofs.OrdinalRuns.{AllSame, Gives, put_low}
 use Rattle.word_lowering.proofs.Related.{Both, within, body_of, high}
-use Rattle.word_lowering.proofs.Scenes.{Points, IsNamed, IsThere, house, looked, of_location}
+use Rattle.word_lowering.proofs.Scenes.{Points, IsNamed, IsThere, house, looked, of_location, reached_so}
 use Rattle.word_lowering.proofs.Settling.{LabelsLead, TrapsStop, code_next, Comes, code_here, trap_settles}
 use Rattle.word_lowering.proofs.ShapeFacts.{never, shape_bytes}
 use Rattle.word_lowering.proofs.ShapePaths.{shape_some, Step, step_within}
@@ -266,9 +266,12 @@ module _ (x : Basis) (traps : TrapsStop x) (labels : LabelsLead x) (g : Both) (r
           let small : at_is.address + i * each < 2 ^ 32 = (let n = near in omega (arith, n, inner, some)) in
           leads_settles x g item_here rest y to (deeper_in g.call.temps there i) (at_is.address + i * each) 1 (omega arith) there_to
           (part_standing x g item_here rest y to from i there named_from e as_base)
+          (reached_so x.table x.blocks (all_sites x g item_here rest y) g.ground g.world g.call.site
+          (with_place to g.call.temps (deeper_in g.call.temps there i)) (deeper_in g.call.temps there i) (at_is.address + i * each)
+          (looked x.table g.call.site (of_location to))
           (leads_on x (all_sites x g item_here rest y) g.call.site g.ground g.world g.call.temps (with_place to g.call.temps (deeper_in g.call.temps there i))
           (λ t v h. h) there at_is.address (i * each)
-          (looked x.table g.call.site (of_location from)) (looked x.table g.call.site (of_location to)) i step at_is.leads_to)
+          (looked x.table g.call.site (of_location from)) (looked x.table g.call.site (of_location to)) i step at_is.leads_to))
           (run i less (o.word_is ∙ ap Some (ap word is ∙ wi)) small)
 
       item_by : (b : Bool) → inside (number_of w) count ≡ b → Leads_to b
@@ -289,9 +292,9 @@ module _ (x : Basis) (traps : TrapsStop x) (labels : LabelsLead x) (g : Both) (r
       let to_may : Bool = if_kind is_standing (place_named is_location (body_of g).proc.places to) in
       let from_may : Bool = if_kind is_standing (place_named is_location (body_of g).proc.places from) in
       let f = and_parts (is_of (type_in x is_location (body_of g) to) (element_of from_kind))
-      _
+      (is_int (kind_at x g item_here rest y index) && same_bool to_may from_may)
       (fits_here x.table x.blocks (body_of g) item_here rest y.stands) in
-      let r = and_parts (is_int (kind_at x g item_here rest y index)) _ f.1 in
+      let r = and_parts (is_int (kind_at x g item_here rest y index)) (same_bool to_may from_may) f.1 in
       let v = are_of (type_in x is_location (body_of g) to) (element_of from_kind) f.0 in
       let s = some_kind (facts_in x.table) (type_in x is_location (body_of g) from) (λ k. is_of (Some v.ty) (element_of k)) refl
       (subst (λ o. is_of o (element_of from_kind) ≡ true) v.is f.0) in
@@ -308,7 +311,7 @@ module _ (x : Basis) (traps : TrapsStop x) (labels : LabelsLead x) (g : Both) (r
       (λ there e. using_settles x (starts g item_here rest) rest (g.call.temps.values index)
       (λ w. leads (scene_of (high x.table x.blocks (starts g item_here rest))) to there (to_item (location_at g.call.temps there) (number_of w)))
       (λ w h. by y there e p.named (homed p.named) there_to shape.0 look
-      (λ st. y.linked.0.standing from (same_bool_true to_may from_may (and_parts (same_bool to_may from_may) _ r.1).0 (y.linked.0.may_be_standing to st))) w
+      (λ st. y.linked.0.standing from (same_bool_true to_may from_may r.1 (y.linked.0.may_be_standing to st))) w
       (int_read x g item_here rest y index w r.0 h)))
     where
       by : (y : IsGood x (starts g item_here rest)) (there : Where) (e : g.call.temps.places from ≡ Some there)
@@ -324,16 +327,16 @@ module _ (x : Basis) (traps : TrapsStop x) (labels : LabelsLead x) (g : Both) (r
           where_there x (starts g item_here rest) rest (is_seen g.world (location_at g.call.temps there))
           (λ b. leads (scene_of (high x.table x.blocks (starts g item_here rest))) to there
           (costs 1 (unless_gone b (deeds.branch (inside (number_of w) (length_of v))
-          (give (item_of v (location_at g.call.temps there) (unsigned_abs (number_of w)))) (stop IndexOutOfBounds))))) (λ before. tt)
+          (to_one v (location_at g.call.temps there) (unsigned_abs (number_of w))) (stop IndexOutOfBounds))))) (λ before. tt)
           (λ seen. let r = read_row x g item_here rest y from there named_from homed_from e count (looked x.table g.call.site (of_location to)) look seen in
           let long : length_of v ≡ count = ap length_of r.is ∙ r.long in
-          let deep : item_of v (location_at g.call.temps there) (unsigned_abs (number_of w)) ≡ deeper (location_at g.call.temps there)
-          (unsigned_abs (number_of w)) = ap (λ u. item_of u (location_at g.call.temps there) (unsigned_abs (number_of w))) r.is in
+          let deep : to_one v (location_at g.call.temps there) (unsigned_abs (number_of w)) ≡ give (deeper (location_at g.call.temps there)
+          (unsigned_abs (number_of w))) = ap (λ u. to_one u (location_at g.call.temps there) (unsigned_abs (number_of w))) r.is in
           subst (λ n. Settles x (starts g item_here rest) rest (leads (scene_of (high x.table x.blocks (starts g item_here rest))) to there
           (costs 1 (deeds.branch (inside (number_of w) n)
-          (give (item_of v (location_at g.call.temps there) (unsigned_abs (number_of w)))) (stop IndexOutOfBounds))))) (sym long)
-          (subst (λ l. Settles x (starts g item_here rest) rest (leads (scene_of (high x.table x.blocks (starts g item_here rest))) to there
-          (costs 1 (deeds.branch (inside (number_of w) count) (give l) (stop IndexOutOfBounds))))) (sym deep)
+          (to_one v (location_at g.call.temps there) (unsigned_abs (number_of w))) (stop IndexOutOfBounds))))) (sym long)
+          (subst (λ d. Settles x (starts g item_here rest) rest (leads (scene_of (high x.table x.blocks (starts g item_here rest))) to there
+          (costs 1 (deeds.branch (inside (number_of w) count) d (stop IndexOutOfBounds))))) (sym deep)
           (item_by y there e named_from homed_from there_to count look as_base w o (inside (number_of w) count) refl)))
 
   pub item_line : FollowedHere x labels g rest (L.Item to from index)

@@ -5,7 +5,7 @@ use Rattle.nim_meaning.specs.Values.{Value}
 use Rattle.flat_code.specs.Shapes.{Shape, has_shape}
 use Rattle.word_code.specs.Words.{Vars}
 use Rattle.word_lowering.specs.declared.spots.Spot.{Spot}
-use Rattle.word_lowering.specs.declared.spots.Spot.TheVariants.{Held, Lies}
+use Rattle.word_lowering.specs.declared.spots.Spot.TheVariants.{Held, Lies, Letter}
 use Rattle.word_lowering.specs.Spots.{spot_of}
 use Rattle.word_lowering.proofs.NumbersStored.{numbers_at, at_numbers}
 use Rattle.word_lowering.proofs.Scenes.{Store, is_fixed, AtHome, At, Name, of_value, of_location, of_place, asks_shape, Call, IsItem, IsNumbers, looked, house}
@@ -16,11 +16,13 @@ at_plain : (k : Store) (base : ℕ) (vars : Vars) (s : Shape) (spot : Spot) (x :
     → AtHome k base vars s spot x → At k.memory base vars spot x
 at_plain k base vars s (Held v) x o h at = at
 at_plain k base vars s (Lies home) x o h at = (at.0, at.1, numbers_at (is_fixed k.ground) k.ground.blocks k.memory at.0 s x o h at.2)
+at_plain k base vars s (Letter home) x o h at = at
 
 at_home : (k : Store) (base : ℕ) (vars : Vars) (s : Shape) (spot : Spot) (x : Value) → of_numbers s ≡ true → has_shape x s ≡ true
     → At k.memory base vars spot x → AtHome k base vars s spot x
 at_home k base vars s (Held v) x o h at = at
 at_home k base vars s (Lies home) x o h at = (at.0, at.1, at_numbers (is_fixed k.ground) k.ground.blocks k.memory at.0 s x o h at.2)
+at_home k base vars s (Letter home) x o h at = at
 
 asked_numbers : (name : Name) (s : Shape) → of_numbers s ≡ true → asks_shape name s ≡ true
 asked_numbers (of_value t) s o = refl

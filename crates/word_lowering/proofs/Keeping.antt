@@ -27,7 +27,8 @@ use Rattle.word_lowering.specs.declared.homes.Home.{Home}
 use Rattle.word_lowering.specs.declared.homes.Home.TheVariants.{Variable, Placed, Static}
 use Rattle.word_lowering.specs.declared.homes.Housed.{Housed}
 use Rattle.word_lowering.specs.declared.homes.Waiter.{Waiter}
-use Rattle.word_lowering.specs.declared.spots.Spot.TheVariants.{Held, Lies}
+use Rattle.word_lowering.specs.declared.spots.Spot.{Spot}
+use Rattle.word_lowering.specs.declared.spots.Spot.TheVariants.{Held, Lies, Letter}
 use Rattle.word_lowering.specs.declared.texts.TheConstants.{FIXED_BYTES}
 use Rattle.word_lowering.specs.declared.may_lower.TheConstants.{MOST_DATA}
 use Rattle.word_lowering.specs.Layouts.{holds_address, address_by, owns}
@@ -42,7 +43,7 @@ use Rattle.word_lowering.proofs.Sites.{room, Housing, in_variable, by_address, i
 use Rattle.word_lowering.proofs.Scenes.{IsLasting, address_of, Points, At, Name, of_value, of_location, of_place, of_waiting, number_in, Call, house, Filled}
 use Rattle.word_lowering.proofs.Scenes.{HasValue}
 use Rattle.word_lowering.proofs.Scenes.{variable_at, HasVariable, Says, SaysAt, IsAtNode, IsSteady}
-use Rattle.word_lowering.proofs.Scenes.{IsThere, IsNamed, IsLiteral, looked, IsItem, FromBlock, FromPlace, Leads, IsLedBy, IsLed}
+use Rattle.word_lowering.proofs.Scenes.{IsThere, IsNamed, IsLiteral, looked, IsItem, FromBlock, FromPlace, Reaches, IsLedBy, IsLed, letter_later}
 use Rattle.word_lowering.proofs.Scenes.{IsFilled, Holding}
 use Rattle.word_lowering.proofs.Scenes.{site_of, AllHold, Ground, Store, is_fixed, StoredIn, IsLater, AtHome}
 use Rattle.word_lowering.proofs.SitesApart.{Beside, InRange, in_range, houses, home_variable, ranges_apart, SiteAt, site_at, IsPlace}
@@ -53,18 +54,33 @@ use Rattle.nim_types.specs.Table.{facts_in}
 -- ---- spots of places
 
 pub spot_memory : (h : Housed) → holds_address h ≡ false → InMemory h.home → spot_of h ≡ Lies h.home
-spot_memory h plain inside = ap (λ b. spot_by b h.home) plain ∙ by h.home inside
+spot_memory h plain inside = ap (λ b. spot_by b h.is_letter h.home) plain ∙ by h.home inside
   where
-    by : (home : Home) → InMemory home → spot_by false home ≡ Lies home
+    by : (home : Home) → InMemory home → spot_by false h.is_letter home ≡ Lies home
     by (Variable v) i = absurd i
     by (Placed at) i = refl
     by (Static at) i = refl
 
 pub spot_held : (h : Housed) (v : ℕ) → holds_address h ≡ false → h.home ≡ Variable v → spot_of h ≡ Held v
-spot_held h v plain is = ap₂ spot_by plain is
+spot_held h v plain is = ap₂ (λ b home. spot_by b h.is_letter home) plain is
 
-pub spot_address : (h : Housed) (v : ℕ) → holds_address h ≡ true → h.home ≡ Variable v → spot_of h ≡ Lies (Variable v)
-spot_address h v address is = ap₂ spot_by address is
+-- what an address leads to, by whether it is a character
+abbrev pub led_spot : (letter : Bool) → Home → Spot
+led_spot true home = Letter home
+led_spot false home = Lies home
+
+pub spot_led : (h : Housed) → holds_address h ≡ true → spot_of h ≡ led_spot h.is_letter h.home
+spot_led h address = ap (λ b. spot_by b h.is_letter h.home) address ∙ by h.is_letter
+  where
+    by : (letter : Bool) → spot_by true letter h.home ≡ led_spot letter h.home
+    by true = refl
+    by false = refl
+
+pub spot_address : (h : Housed) (v : ℕ) → holds_address h ≡ true → h.is_letter ≡ false → h.home ≡ Variable v → spot_of h ≡ Lies (Variable v)
+spot_address h v address other is = spot_led h address ∙ ap₂ led_spot other is
+
+pub spot_letter : (h : Housed) (v : ℕ) → holds_address h ≡ true → h.is_letter ≡ true → h.home ≡ Variable v → spot_of h ≡ Letter (Variable v)
+spot_letter h v address letter is = spot_led h address ∙ ap₂ led_spot letter is
 
 pub points_is : (base : ℕ) (vars : Vars) (home : Home) (a : ℕ) → InMemory home → Points base vars home a → a ≡ address_of base home
 points_is base vars (Variable v) a i p = absurd i
@@ -431,12 +447,13 @@ module _ (table : List TypeDef) (blocks : Code BlockLine) (small : data_end tabl
 
     leads_kept : (from : List Site) → ((r : Site) → AmongSites r from → AmongSites r sites) → (s : Site) (temps temps' : Temps) (vars vars' : Vars)
         → Kept s temps temps' vars vars'
-        → (there : Where) (a : ℕ) (t : Shape) → Leads table blocks from k.ground w s temps there a t
-        → Leads table blocks from k'.ground w' s temps' there a t
-    leads_kept from up s temps temps' vars vars' kept (Located location) a t (inl x) = inl (from_kept from up location a t x)
-    leads_kept from up s temps temps' vars vars' kept (Located location) a t (inr (inl x)) = inr (inl x)
-    leads_kept from up s temps temps' vars vars' kept (Located location) a t (inr (inr (inl x))) = inr (inr (inl (block_kept location a t x)))
-    leads_kept from up s temps temps' vars vars' kept (Located location) a t (inr (inr (inr x))) = inr (inr (inr x))
+        → (there : Where) (a : ℕ) (t : Shape) → Reaches table blocks from k.ground w s temps there a t
+        → Reaches table blocks from k'.ground w' s temps' there a t
+    leads_kept from up s temps temps' vars vars' kept (Located location) a t (inl (inl x)) = inl (inl (from_kept from up location a t x))
+    leads_kept from up s temps temps' vars vars' kept (Located location) a t (inl (inr (inl x))) = inl (inr (inl x))
+    leads_kept from up s temps temps' vars vars' kept (Located location) a t (inl (inr (inr (inl x)))) = inl (inr (inr (inl (block_kept location a t x))))
+    leads_kept from up s temps temps' vars vars' kept (Located location) a t (inl (inr (inr (inr x)))) = inl (inr (inr (inr x)))
+    leads_kept from up s temps temps' vars vars' kept (Located location) a t (inr x) = inr (letter_later table blocks k.ground k'.ground later location a t x)
     leads_kept from up s temps temps' vars vars' kept (Within temp path) a t x =
         let y = kept.still temp x.value x.lasting x.has in
         record {
@@ -571,7 +588,7 @@ module _ (table : List TypeDef) (blocks : Code BlockLine) (small : data_end tabl
                     address = y.address;
                     holds = variable_kept s temps temps' vars vars' (of_place n) y.address i kept away there
                         (declared_address (house s (of_place n)) there.kind other) y.holds;
-                    owned = y.owned;
+                    stood = y.stood;
                     leads = leads_kept from up s temps temps' vars vars' kept (Located y.location) y.address (looked table s (of_place n)) y.leads;
                   };
                 }

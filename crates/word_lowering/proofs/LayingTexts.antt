@@ -18,11 +18,11 @@ use Rattle.flat_code.specs.declared.line.Piece.{Piece}
 use Rattle.flat_code.specs.declared.line.Piece.TheVariants as P
 use Rattle.flat_code.specs.Codes.{block_plain}
 use Rattle.flat_code.specs.Pieces.{standing_bytes}
-use Rattle.flat_code.specs.Sizes.{pieces_texts, texts_in, lines_texts, code_texts}
+use Rattle.flat_code.specs.Sizes.{pieces_texts, standing_texts, texts_in, lines_texts, code_texts}
 use Rattle.word_lowering.specs.declared.laid_texts.Laying.{Laying}
-use Rattle.word_lowering.specs.Texts.{padded, laid, place_among, texts_in as texts_in_code}
-use Rattle.word_lowering.specs.LaidTexts.{AreLaid, ArePut, pieces_before, line_before, lines_before, procs_before}
-use Rattle.word_lowering.proofs.DistinctTexts.{unique_has, no_place, nowhere}
+use Rattle.word_lowering.specs.Texts.{handled, laid, laid_length, laid_texts, place_among, texts_in as texts_in_code}
+use Rattle.word_lowering.specs.LaidTexts.{AreLaid, ArePut, pieces_before, standing_before, line_before, lines_before, procs_before}
+use Rattle.word_lowering.proofs.DistinctTexts.{laid_long, unique_has, no_place, nowhere}
 
 -- a place is there exactly for a text that is there
 found_there : (texts : List (List ℕ)) (text : List ℕ) → is_some (place_among texts text) ≡ is_member same_text texts text
@@ -34,7 +34,7 @@ found_there texts text = by (is_member same_text texts text) refl (place_among t
     by true k None e = absurd (both_ways (is_member same_text texts text) (no_place texts text e) k)
     by true k (Some n) e = ap is_some e ∙ sym k
 
-module _ (texts : List (List ℕ)) (text : List ℕ) where
+module _ (from : ℕ) (texts : List (List ℕ)) (text : List ℕ) where
   abbrev once : List (List ℕ)
   once = unique_keys same_text texts
 
@@ -42,9 +42,9 @@ module _ (texts : List (List ℕ)) (text : List ℕ) where
   among = is_member same_text texts text
 
   -- one that is there
-  pub laid_again : (laying : Laying) → AreLaid laying texts → is_some (get same_text laying.places text) ≡ true → AreLaid laying (text ∷ texts)
+  pub laid_again : (laying : Laying) → AreLaid from laying texts → is_some (get same_text laying.places text) ≡ true → AreLaid from laying (text ∷ texts)
   laid_again laying h found = record {
-    bytes = λ e. h.bytes e ∙ ap laid (sym (same e));
+    bytes = λ e. h.bytes e ∙ ap (laid from) (sym (same e));
     places = λ e other. h.places e other ∙ ap (λ ts. place_among ts other) (sym (same e));
   }
     where
@@ -55,21 +55,25 @@ module _ (texts : List (List ℕ)) (text : List ℕ) where
       same e = cond-true among once (text ∷ once) (there e)
 
   -- one more, behind all
-  pub laid_more : (old new : Laying) → AreLaid old texts → is_some (get same_text old.places text) ≡ false → new.lost ≡ old.lost →
-      new.bytes ≡ old.bytes ++ padded text →
+  pub laid_more : (old new : Laying) → AreLaid from old texts → is_some (get same_text old.places text) ≡ false → new.lost ≡ old.lost →
+      new.bytes ≡ old.bytes ++ handled (from + length old.bytes) text →
       ((other : List ℕ) → get same_text new.places other ≡ (if same_text text other then Some (length old.bytes) else get same_text old.places other)) →
-      AreLaid new (text ∷ texts)
+      AreLaid from new (text ∷ texts)
   laid_more old new h absent kept more put = record {
-    bytes = λ e. more ∙ ap (λ bs. bs ++ padded text) (h.bytes (was e)) ∙ ap laid (sym (same e));
+    bytes = λ e.
+        more ∙ ap₂ (λ bs n. bs ++ handled (from + n) text) (h.bytes (was e)) (long e) ∙ ap (laid from) (sym (same e));
     places = λ e other.
         put other
-        ∙ ap₂ (λ n o. if same_text text other then Some n else o) (ap length (h.bytes (was e))) (h.places (was e) other)
-        ∙ ap (λ b. if b then Some (length (laid once)) else place_among once other) (nat_list_eq_equiv.symm text other)
+        ∙ ap₂ (λ n o. if same_text text other then Some n else o) (long e) (h.places (was e) other)
+        ∙ ap (λ b. if b then Some (laid_length once) else place_among once other) (nat_list_eq_equiv.symm text other)
         ∙ ap (λ ts. place_among ts other) (sym (same e));
   }
     where
       was : new.lost ≡ false → old.lost ≡ false
       was e = sym kept ∙ e
+
+      long : new.lost ≡ false → length old.bytes ≡ laid_length once
+      long e = ap length (h.bytes (was e)) ∙ laid_long from once
 
       away : new.lost ≡ false → among ≡ false
       away e = sym (unique_has texts text) ∙ sym (found_there once text) ∙ ap is_some (sym (h.places (was e) text)) ∙ absent
@@ -77,7 +81,7 @@ module _ (texts : List (List ℕ)) (text : List ℕ) where
       same : new.lost ≡ false → unique_keys same_text (text ∷ texts) ≡ text ∷ once
       same e = cond-false among once (text ∷ once) (away e)
 
-  pub laid_none : (new : Laying) → new.lost ≡ true → AreLaid new (text ∷ texts)
+  pub laid_none : (new : Laying) → new.lost ≡ true → AreLaid from new (text ∷ texts)
   laid_none new lost = record {
     bytes = λ e. absurd (both_ways new.lost e lost);
     places = λ e. absurd (both_ways new.lost e lost);
@@ -93,9 +97,22 @@ pieces_are (P.Nil ∷ pieces) met = pieces_are pieces met
 pieces_are (P.Parts n ∷ pieces) met = pieces_are pieces met
 pieces_are (P.Elements n ∷ pieces) met = pieces_are pieces met
 
+-- a constant that stands in the data
+more_are : (pieces : List Piece) (met : List (List ℕ)) → standing_bytes pieces ∷ pieces_before pieces met ≡ (standing_bytes pieces ∷ pieces_texts pieces) ++ met
+more_are pieces met = ap (λ ts. standing_bytes pieces ∷ ts) (pieces_are pieces met)
+
+standing_is : (pieces : List Piece) (met : List (List ℕ)) → standing_before pieces met ≡ standing_texts pieces ++ met
+standing_is [] met = refl
+standing_is (P.Text text ∷ []) met = refl
+standing_is (P.Text text ∷ piece ∷ pieces) met = more_are (P.Text text ∷ piece ∷ pieces) met
+standing_is (P.Ordinal z ∷ pieces) met = more_are (P.Ordinal z ∷ pieces) met
+standing_is (P.Nil ∷ pieces) met = more_are (P.Nil ∷ pieces) met
+standing_is (P.Parts n ∷ pieces) met = more_are (P.Parts n ∷ pieces) met
+standing_is (P.Elements n ∷ pieces) met = more_are (P.Elements n ∷ pieces) met
+
 line_is : (line : Line) (met : List (List ℕ)) → line_before line met ≡ texts_in line ++ met
 line_is (L.Constant to how ty pieces) met = pieces_are pieces met
-line_is (L.Standing to ty pieces) met = ap (λ ts. standing_bytes pieces ∷ ts) (pieces_are pieces met)
+line_is (L.Standing to ty pieces) met = standing_is pieces met
 line_is (L.Apply to operation how ty of from) met = refl
 line_is (L.Construct to how ty fields from) met = refl
 line_is (L.Call to how ty proc from) met = refl
@@ -142,15 +159,15 @@ procs_are (p ∷ procs) met =
     ∙ sym (append_assoc (lines_texts (map block_plain p.lines)) (code_texts block_plain procs) met)
 
 -- unless one was lost, they are laid out
-pub all_laid : (procs : List (CodeProc BlockLine)) (laying : Laying) (all : List ℕ) → AreLaid laying (procs_before procs []) → laying.lost ≡ false →
-    all ≡ texts_in_code procs → ArePut procs all laying.bytes laying.places
-all_laid procs laying all h kept e =
-    let same : procs_before procs [] ≡ code_texts block_plain procs = procs_are procs [] ∙ append-nil (code_texts block_plain procs) in
-    record {
-      literals = e;
-      once = h.bytes kept ∙ ap (λ ts. laid (unique_keys same_text ts)) same;
-      finds = λ text. h.places kept text ∙ ap (λ ts. place_among (unique_keys same_text ts) text) same;
-    }
+module _ (from : ℕ) (procs : List (CodeProc BlockLine)) (laying : Laying) (h : AreLaid from laying (procs_before procs [])) (kept : laying.lost ≡ false) where
+  same_texts : procs_before procs [] ≡ code_texts block_plain procs
+  same_texts = procs_are procs [] ∙ append-nil (code_texts block_plain procs)
+
+  pub bytes_laid : laying.bytes ≡ laid_texts from procs
+  bytes_laid = h.bytes kept ∙ ap (λ ts. laid from (unique_keys same_text ts)) same_texts
+
+  pub all_laid : (all : List ℕ) → all ≡ texts_in_code procs → ArePut procs all laying.places
+  all_laid all e = record { literals = e; finds = λ text. h.places kept text ∙ ap (λ ts. place_among (unique_keys same_text ts) text) same_texts }
 
 -- ---- a piece of some bytes
 

@@ -8,7 +8,7 @@ use Rattle.word_lowering.specs.declared.homes.Alias.TheVariants as alias
 use Rattle.word_lowering.proofs.HouseHooks.{hooks_numbers, hooks_type, location_plain}
 use Rattle.word_lowering.proofs.Lines.{Basis, IsGood, all_sites, starts}
 use Rattle.word_lowering.proofs.Related.{Both}
-use Rattle.word_lowering.proofs.Scenes.{IsLedBy, IsNamed, Leads, house, looked, of_location, of_value}
+use Rattle.word_lowering.proofs.Scenes.{IsLedBy, IsNamed, Reaches, house, looked, of_location, of_value}
 use Rattle.word_lowering.proofs.ShapeFacts.{never, of_numbers}
 use Rattle.word_lowering.proofs.ShapePaths.{path_numbers}
 use Rattle.word_lowering.proofs.Sites.{IsBody, Site, Body, IsHoused, looks}
@@ -39,7 +39,7 @@ module _ (x : Basis) (g : Both) (line : BlockLine) (rest : List BlockLine) (y : 
   located_here t named blocks_in there e = by (house s (of_location t)).alias refl (y.hold.0.led t there named e)
     where
       own : (other : Where) → there ≡ other → (a : ℕ)
-          → Leads x.table x.blocks (all_sites x g line rest y) g.ground g.world s g.call.temps other a (looked x.table s (of_location t))
+          → Reaches x.table x.blocks (all_sites x g line rest y) g.ground g.world s g.call.temps other a (looked x.table s (of_location t))
           → (l : Location) × (there ≡ Located l)
       own (Located l) is a leads = (l, is)
       own (Within temp path) is a leads =

@@ -177,7 +177,7 @@ module _ (x : Basis) (said : Writing x) (texts : TextsBuilt x) (g : Both) (rest 
     size = ap shape_bytes (sym look) ∙ (houses x.table x.blocks g.call.site (of_value to) y.linked.0 there).bytes
 
     among : is_member same_text (lines_texts (lines_of (body_of g))) text ≡ true
-    among = ap (λ l. is_member same_text (lines_texts (map block_plain l)) text) y.stands.whole ∙ text_among naming text refl y.stands.before rest
+    among = ap (λ l. is_member same_text (lines_texts (map block_plain l)) text) y.stands.whole ∙ text_among naming text [] refl y.stands.before rest
 
     laid : LaidAt x (text_at (around x.table x.blocks (body_of g)) text) text
     laid = said.literals.laid (body_of g) y.linked.0 text among

@@ -31,6 +31,7 @@ mod BlocksMade
 mod BlockWrites
 mod Bodies
 mod Bounded
+mod ByteWords
 mod CallBranches
 mod CalledHooks
 mod Callees
@@ -161,6 +162,7 @@ mod HookWorlds
 mod HouseHooks
 mod InMemory
 mod ItemLines
+mod ItemRuns
 mod Items
 mod JoinedRoutines
 mod JoinedTypes
@@ -181,6 +183,12 @@ mod LengthLines
 mod LengthRows
 mod LentLocations
 mod LentTexts
+mod LetterReads
+mod LetterRuns
+mod LetterShapes
+mod LetterStores
+mod LetterSwaps
+mod LetterWrites
 mod LineCame
 mod LineFits
 mod LineFronts
@@ -190,6 +198,7 @@ mod Lines
 mod LinesRead
 mod LineUnderWay
 mod LineWorlds
+mod LiteralHandles
 mod Located
 mod LocationHouses
 mod MadeRows
@@ -331,9 +340,13 @@ mod Temporaries
 mod TextBytes
 mod TextConstants
 mod TextElements
+mod TextHomes
+mod TextItemLines
 mod TextLengthLines
+mod TextLetters
 mod TextLines
 mod TextOperands
+mod TextPuts
 mod TextReadRuns
 mod TextReads
 mod TextRoom
@@ -358,6 +371,7 @@ mod TypeShapes
 mod UnhookedRows
 mod UpdateLines
 mod UpdateRuns
+mod UpdateTraps
 mod UsedValues
 mod VacantShapes
 mod ValueFacts

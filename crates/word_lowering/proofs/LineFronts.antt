@@ -17,31 +17,33 @@ use Rattle.flat_code.specs.declared.line.Line.{Line}
 use Rattle.flat_code.specs.declared.line.Line.TheVariants as L
 use Rattle.flat_code.specs.declared.line.Piece.{Piece}
 use Rattle.flat_code.specs.declared.line.Piece.TheVariants as P
+use Rattle.flat_code.specs.Pieces.{piece_words}
 use Rattle.flat_code.specs.Whole.{label_in}
 use Rattle.word_code.specs.declared.word.WordInstr.{WordInstr}
 use Rattle.word_code.specs.declared.word.Test.TheVariants as test
 use Rattle.word_code.specs.declared.word.WordInstr.TheVariants.{Spend, Constant, Argument, Branch, Call, Return, Place, Load, Store}
-use Rattle.rv32_isa.specs.declared.micro_op.Size.TheVariants.{Word as whole}
+use Rattle.rv32_isa.specs.declared.micro_op.Size.TheVariants.{Byte, Word as whole}
 use Rattle.word_code.specs.declared.routine.TheConstants.{SWAP}
-use Rattle.word_lowering.specs.declared.homes.TheConstants.{LEFT, FIRST, SECOND, THIRD, FOURTH, FIFTH}
+use Rattle.word_lowering.specs.declared.homes.TheConstants.{LEFT, FIRST, SECOND, THIRD, FIFTH}
 use Rattle.word_lowering.specs.declared.homes.Alias.{Alias}
 use Rattle.word_lowering.specs.declared.homes.Alias.TheVariants as alias
 use Rattle.word_lowering.specs.declared.homes.Home.{Home}
 use Rattle.word_lowering.specs.declared.homes.Home.TheVariants.{Variable, Placed, Static}
 use Rattle.word_lowering.specs.declared.homes.Housed.{Housed}
 use Rattle.word_lowering.specs.declared.spots.Spot.{Spot}
-use Rattle.word_lowering.specs.declared.spots.Spot.TheVariants.{Held, Lies}
+use Rattle.word_lowering.specs.declared.spots.Spot.TheVariants.{Held, Lies, Letter}
 use Rattle.word_lowering.specs.declared.texts.TheConstants.{LINE_END_AT}
 use Rattle.word_lowering.specs.Aliases.{is_read, text_in}
 use Rattle.word_lowering.specs.Layouts.{params_in, result_in}
-use Rattle.word_lowering.specs.Operations.{word, binary_code, trap_label}
-use Rattle.word_lowering.specs.Spots.{spot_of, shifted, address, moved, moves, passes, cleared, clears, starts, handed}
+use Rattle.word_lowering.specs.Operations.{word, trap_label}
+use Rattle.word_lowering.specs.Spots.{spot_of, shifted, moved, moves, passes, cleared, clears, starts, handed}
 use Rattle.word_lowering.specs.Stored.{part_at, entry_at, base_at, limit_at}
 use Rattle.word_lowering.specs.LineCode as code
 use Rattle.word_lowering.specs.OwnedCode as owned
 use Rattle.word_lowering.specs.RoutineCode.{join_code}
 use Rattle.word_lowering.specs.LineCode.{Around, arguments_of}
 use Rattle.word_lowering.proofs.Fronts.{Coding, IsFront, front_on, front_none, front_more, front_address, moved_front, cleared_front, handed_front}
+use Rattle.word_lowering.proofs.Fronts.{put_back_front, letter_swap_front}
 use Rattle.word_lowering.proofs.Fronts.{binary_front, turn_front, turn_if_front, unary_front, compare_front, narrow_front, unless_front, beyond_front}
 use Rattle.word_lowering.proofs.Fronts.{fits_front}
 use Rattle.word_lowering.proofs.CalledHooks.{assigned_front, got_front}
@@ -91,6 +93,9 @@ module _ (own many : ℕ) where
   constant_at_front to (Lies home) pieces =
       front_on own many (cleared to.is_word to.bytes (Lies home)) (code.pieces_code home pieces)
       (cleared_front own many to.is_word to.bytes (Lies home)) (pieces_front home pieces)
+  constant_at_front to (Letter home) pieces =
+      front_address own many FIRST home (λ k. Constant SECOND (code.first_word (piece_words pieces)) ∷ Store FIRST SECOND Byte ∷ k)
+      (record { is = λ k. refl; fine = tt })
 
   constant_front : (x : Around) (read : Bool) (text : Option (List ℕ)) (to : Housed) (pieces : List Piece)
       → IsFront own many (code.constant_by x read text to pieces)
@@ -116,8 +121,9 @@ module _ (own many : ℕ) where
   item_front to (Placed at) index count bytes = record { is = λ k. refl; fine = (inl (omega arith), tt) }
   item_front to (Static at) index count bytes = record { is = λ k. refl; fine = (inl (omega arith), tt) }
 
-  swap_front : (left right : Home) (bytes : ℕ) → IsFront own many (code.swap_code left right bytes)
-  swap_front left right bytes =
+  swap_front : (letter : Bool) (left right : Home) (bytes : ℕ) → IsFront own many (code.swap_code letter left right bytes)
+  swap_front true left right bytes = letter_swap_front own many left right
+  swap_front false left right bytes =
       front_on own many (code.word_argument 0 left) (λ k. code.word_argument 1 right (called k)) (word_argument_front own many 0 left)
       (front_on own many (code.word_argument 1 right) called (word_argument_front own many 1 right) (record { is = λ k. refl; fine = tt }))
     where
@@ -130,7 +136,10 @@ module _ (own many : ℕ) where
   back_front w (Held v) = record { is = λ k. refl; fine = tt }
   back_front true (Lies home) =
       front_address own many FIRST home (λ k. Load FIRST FIRST whole ∷ Return FIRST ∷ k) (record { is = λ k. refl; fine = tt })
+  back_front true (Letter home) =
+      front_address own many FIRST home (λ k. Load FIRST FIRST Byte ∷ Return FIRST ∷ k) (record { is = λ k. refl; fine = tt })
   back_front false (Lies home) = record { is = λ k. refl; fine = tt }
+  back_front false (Letter home) = record { is = λ k. refl; fine = tt }
 
   text_front : (at bytes : ℕ) → IsFront own many (code.text_code at bytes)
   text_front at zero = front_none own many
@@ -170,17 +179,8 @@ module _ (own many : ℕ) where
   module _ (high : 7 < own) where
     updated_front : (operator : Operator) (spot : Spot) (by : ℕ) → IsFront own many (code.updated_code own operator spot by)
     updated_front operator (Held v) by = binary_front own many high operator v v by
-    updated_front operator (Lies home) by =
-        front_on own many loads (λ k. binary_code own operator FOURTH FOURTH by (stores k))
-        (front_address own many SECOND home (λ k. Load FOURTH SECOND whole ∷ k) (record { is = λ k. refl; fine = tt }))
-        (front_on own many (binary_code own operator FOURTH FOURTH by) stores (binary_front own many high operator FOURTH FOURTH by)
-        (front_address own many FIRST home (λ k. Store FIRST FOURTH whole ∷ k) (record { is = λ k. refl; fine = tt })))
-      where
-        loads : Coding
-        loads k = address SECOND home ∷ Load FOURTH SECOND whole ∷ k
-
-        stores : Coding
-        stores k = address FIRST home ∷ Store FIRST FOURTH whole ∷ k
+    updated_front operator (Lies home) by = put_back_front own many high operator home whole by
+    updated_front operator (Letter home) by = put_back_front own many high operator home Byte by
 
     update_front : (operator : Operator) (hs : List Housed) → IsFront own many (code.update_code own operator hs)
     update_front operator [] = front_none own many
@@ -220,6 +220,9 @@ module _ (own many : ℕ) where
     entered_front : (proc : ℕ) (to : Housed) (spot : Spot) → IsFront own many (code.entered_code x proc to spot)
     entered_front proc to (Held v) = record { is = λ k. refl; fine = tt }
     entered_front proc to (Lies home) =
+        front_more own many (Call FIRST (code.proc_number proc)) (code.result_code x to (result_in (code.layout_at x proc).all)) refl
+        (result_front to (result_in (code.layout_at x proc).all))
+    entered_front proc to (Letter home) =
         front_more own many (Call FIRST (code.proc_number proc)) (code.result_code x to (result_in (code.layout_at x proc).all)) refl
         (result_front to (result_in (code.layout_at x proc).all))
 
@@ -352,7 +355,8 @@ module _ (own many : ℕ) where
     row_front high O.Move ty of to hs few =
         front_on own many (moves to (code.operand_at hs 0)) (clears (code.operand_at hs 0)) (moves_front to (code.operand_at hs 0))
         (clears_front (code.operand_at hs 0))
-    row_front high O.Swap ty of to hs few = swap_front (code.operand_at hs 0).home (code.operand_at hs 1).home (code.operand_at hs 0).bytes
+    row_front high O.Swap ty of to hs few =
+        swap_front (code.operand_at hs 0).is_letter (code.operand_at hs 0).home (code.operand_at hs 1).home (code.operand_at hs 0).bytes
     row_front high O.Discard ty of to hs few = front_none own many
     row_front high O.Destroy ty of to hs few = front_none own many
     row_front high O.Blank ty of to hs few = front_none own many

@@ -22,7 +22,7 @@ use Rattle.rv32_isa.specs.Machine.{Lives}
 use Rattle.word_code.specs.declared.word.WordInstr.{WordInstr}
 use Rattle.word_code.specs.declared.word.WordProc.{WordProc}
 use Rattle.word_code.specs.Memory.{Memory, own_data_at}
-use Rattle.word_code.specs.Words.{Vars, put}
+use Rattle.word_code.specs.Words.{Vars}
 use Rattle.word_code.proofs.ForCallers.{MemoryLaw, Within, at, sizes_same}
 use Rattle.heap_memory.specs.HandleRoutines.{MayHave}
 use Rattle.heap_memory.specs.LineRoutine.{IsKeptOn, empty_text, line_fits, line_then}
@@ -403,9 +403,11 @@ module _ (StandsFixed : (place : ℕ) → List ℕ → Type 0) (Homes : Home →
         })
     by_input (i ∷ is_more) here =
         let input : List ℕ = as_bytes (i ∷ is_more) in
-        done_behind law live procs c from_first m x.sized (reads_text own_data_at input) (kept_now (i ∷ is_more) here) (used input) (may_now (i ∷ is_more) here) lines goes v g
+        done_behind law live procs c from_first m x.sized (reads_text own_data_at input) (kept_now (i ∷ is_more) here) (used input)
+        (may_now (i ∷ is_more) here) lines goes v g
         (Where home ∷ []) (omega arith) ((at_home.points, at_home.high), at_home.small, tt) TEXT_SPARE (behind_line input) LineRead (fits_line input)
-        (record { shows = refl; ends = refl; reads = refl }) (least_line input) (few_lines (i ∷ is_more) here) (perform (line_or_none l input) w) (line_came input)
+        (record { shows = refl; ends = refl; reads = refl }) (least_line input) (few_lines (i ∷ is_more) here) (perform (line_or_none l input) w)
+        (line_came input)
         (λ es q a after e sure other got_word vars same left gave.
         let put_line : IsLinePut own_data_at (used input) (line_then input (to_scratch own_data_at (used input))) (next_line input) m other
         = subst (λ p. LineLeaves p own_data_at (used input) (line_then input (to_scratch own_data_at (used input))) (next_line input) m other) sure left in

@@ -76,7 +76,7 @@ use Rattle.word_lowering.proofs.KeptCode.{none_kept, value_waits}
 use Rattle.word_lowering.proofs.Related.{Both, body_of, called_by, sites_of, with_rest, with_units, procs, low, high, within as call_within, code_behind}
 use Rattle.word_lowering.proofs.Related.{code_past, IsClosed, routines}
 use Rattle.word_lowering.proofs.Related.{MemoryGood}
-use Rattle.word_lowering.proofs.Related.{StandAt, AllFrames, Good, StandsThere, store_of, store_with}
+use Rattle.word_lowering.proofs.Related.{StandAt, AllFrames, Good, HandleThere, StandsThere, store_of, store_with}
 use Rattle.arc_base.proofs.ForCallers.{steps_none, steps_one, steps_on}
 use Rattle.word_code.specs.declared.word.WordInstr.{WordInstr}
 use Rattle.flat_code.specs.declared.line.Piece.{Piece}
@@ -171,6 +171,8 @@ pub record Basis : Type 0 where
   -- the constants that stand in the data
   pub constants : (pieces : List Piece) → AllSmall (piece_words pieces)
       → is_member same_text (code_texts block_plain blocks.procs) (standing_bytes pieces) ≡ true → StandsThere table blocks first pieces
+  -- the handles of texts
+  pub texts : (text : List ℕ) → is_member same_text (code_texts block_plain blocks.procs) text ≡ true → HandleThere table blocks first text
   -- a character may be put at the front of the data
   pub letter : (places : List ℕ) → may_put (record first { places = places }) data_at Byte ≡ true
   -- and handles for operands, in front of the globals

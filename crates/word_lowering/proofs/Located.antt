@@ -11,7 +11,7 @@ use Rattle.word_code.specs.RoutineTable.{Cell, Separate}
 use Rattle.heap_memory.proofs.ForCallers.{heap_open}
 use Rattle.flat_code.specs.Pieces.{value_of, piece_words}
 use Rattle.flat_code.specs.Scene.{Where, Located, Within, if_value, location_at}
-use Rattle.flat_code.specs.Shapes.{Shape, row, has_shape}
+use Rattle.flat_code.specs.Shapes.{Shape, block, row, has_shape}
 use Rattle.word_lowering.proofs.BlockHomes.{LeadsTo, FromBlock as InBlocks, read_at}
 use Rattle.word_lowering.proofs.BlockRanges.{block_range, block_whole}
 use Rattle.word_lowering.proofs.Blocks.{Blocks, Stored}
@@ -29,7 +29,8 @@ use Rattle.word_lowering.proofs.PieceWords.{WordsAt, room_of, words_room, words_
 use Rattle.word_lowering.proofs.Related.{Both, calls_of, sites_of, text_part}
 use Rattle.word_lowering.proofs.Scenes.{is_fixed, address_of, Name, of_value, of_place, Call, house, IsThere, looked, FromBlock, FromOwned, FromPlace}
 use Rattle.word_lowering.proofs.Scenes.{FromValue, of_waiting, FromWaiting}
-use Rattle.word_lowering.proofs.Scenes.{FromConstant, standing_from, Leads}
+use Rattle.word_lowering.proofs.LiteralHandles.{literal_handle, literal_load, literal_readable}
+use Rattle.word_lowering.proofs.Scenes.{FromConstant, FromLiteral, standing_from, Leads}
 use Rattle.word_lowering.proofs.ShapeFacts.{never, of_numbers, bytes_is, shape_bytes, values_of_numbers}
 use Rattle.word_lowering.proofs.ShapePaths.{PathTo, path_in, path_numbers, path_within}
 use Rattle.word_lowering.proofs.Sites.{InMemory, Site, AmongSites, Linked}
@@ -66,6 +67,9 @@ stored_row w F d m a n s (Fixed t) at h = absurd at
 stored_row w F d m a n s (Ref r) at h = absurd at
 stored_row w F d m a n s (Resource vs j) at h = absurd at
 stored_row w F d m a n s (Gone v f) at h = absurd at
+
+no_text : (n : ℕ) (s : Shape) → row n s ≡ block → ⊥
+no_text n s e = cc
 
 -- ---- locations
 
@@ -245,12 +249,22 @@ module _ (x : Basis) (g : Both) (y : IsGood x g) where
         readable = subst (λ n. Readable x sites y.linked g.memory a n) (bytes_is (load g.world l) t r.numbers r.shaped) r.readable;
       }
 
+  -- the text of a literal
+  literal_stored : (l : Location) (a : ℕ) (t : Shape) → FromLiteral x.table x.blocks l a t → IsStoredAt (load g.world l) a t
+  literal_stored l a t f =
+      subst (λ v. IsStoredAt v a t) (sym (literal_load x l a t f g y)) (record {
+        stored = subst (λ s. Stored (is_fixed g.ground) g.ground.blocks g.memory a s (Fixed f.text)) (sym f.shape) (literal_handle x l a t f g y);
+        shaped = subst (λ s. has_shape (Fixed f.text) s ≡ true) (sym f.shape) refl;
+        readable = literal_readable x l a t f g y;
+      })
+
   -- what a line reads at a location, where all of it is there
   pub led_stored : (c : Call) → AmongCalls c (calls_of g) → AmongSites c.site (sites_of g) → (there : Where) (a : ℕ) (t : Shape)
       → is_full_at g.world (location_at c.temps there) ≡ true → Leads x.table x.blocks (sites_of g) g.ground g.world c.site c.temps there a t
       → IsStoredAt (load g.world (location_at c.temps there)) a t
   led_stored c i s (Located location) a t full (inl l) = owned_stored location a t (inl l) full
-  led_stored c i s (Located location) a t full (inr (inl l)) = constant_stored location a t l
+  led_stored c i s (Located location) a t full (inr (inl (inl l))) = constant_stored location a t l
+  led_stored c i s (Located location) a t full (inr (inl (inr l))) = literal_stored location a t l
   led_stored c i s (Located location) a t full (inr (inr (inl l))) = owned_stored location a t (inr (inl l)) full
   led_stored c i s (Located location) a t full (inr (inr (inr l))) =
       leading_stored location a t (inl (waiting_home x g y location a t l (full_there location full).1)) full
@@ -278,7 +292,8 @@ module _ (x : Basis) (g : Both) (y : IsGood x g) where
   pub led_row : (c : Call) → AmongCalls c (calls_of g) → (there : Where) (a n : ℕ) (s : Shape) → is_seen g.world (location_at c.temps there) ≡ true
       → Leads x.table x.blocks (sites_of g) g.ground g.world c.site c.temps there a (row n s) → RowRead (load g.world (location_at c.temps there)) n
   led_row c i (Located location) a n s seen (inl l) = leading_row location a n s (owned_to x g y location a (row n s) (inl l)) seen
-  led_row c i (Located location) a n s seen (inr (inl l)) = row_parts (load g.world location) n s (constant_located location a (row n s) l).shaped
+  led_row c i (Located location) a n s seen (inr (inl (inl l))) = row_parts (load g.world location) n s (constant_located location a (row n s) l).shaped
+  led_row c i (Located location) a n s seen (inr (inl (inr l))) = absurd (no_text n s l.shape)
   led_row c i (Located location) a n s seen (inr (inr (inl l))) = leading_row location a n s (owned_to x g y location a (row n s) (inr (inl l))) seen
   led_row c i (Located location) a n s seen (inr (inr (inr l))) =
       let p = and_parts (is_there g.world location) (is_whole g.world (load g.world location)) seen in

@@ -239,7 +239,7 @@ module _ (x : Basis) (g : Both) (line : BlockLine) (rest : List BlockLine) (y : 
 
   pub move_settles : (l : Location) (from : Housed) (home : Home) → spot_of from ≡ Lies home → from.is_word ≡ false
       → from.bytes ≡ shape_bytes (shape_of (facts_in x.table) (type_at (known x).types ty))
-      → PointsAt x g line rest y l (shape_of (facts_in x.table) (type_at (known x).types ty)) home
+      → (may_change l.base ≡ true → PointsAt x g line rest y l (shape_of (facts_in x.table) (type_at (known x).types ty)) home)
       → code_here x g line rest y ≡ moves (house g.call.site (of_value to)) from (clears from (code_next x g line rest y))
       → Settles x (starts g line rest) rest (gives (scene_of (high x.table x.blocks (starts g line rest))) to
       (costs 1 (exchanged l (default_of (facts_in x.table) (type_at (known x).types ty))) >>= (λ v. give v)))
@@ -253,4 +253,4 @@ module _ (x : Basis) (g : Both) (line : BlockLine) (rest : List BlockLine) (y : 
       (λ may. where_there x (starts g line rest) rest (is_there g.world l)
       (λ b. gives (scene_of (high x.table x.blocks (starts g line rest))) to (costs 1 (costs (bytes start_value)
       (unless_gone b (does (Stores l start_value)) >> give (load g.world l))) >>= (λ v. give v))) (λ before. tt)
-      (λ there. moved_out l from home lies no_word from_size e code full there)))
+      (λ there. moved_out l from home lies no_word from_size (e may) code full there)))

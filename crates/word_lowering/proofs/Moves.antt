@@ -1,28 +1,29 @@
 -- What the code does that moves a value from one place to another.
-use Rattle.std.proofs.Common.{◌≡◌, ℕ, zero, suc, ◌+◌, ◌*◌, ◌%◌, ◌^◌, ◌<◌, ◌≤◌, List, ◌∷◌, Some, ℤ, pos, Bool, true}
+use Rattle.std.proofs.Common.{◌≡◌, ℕ, zero, suc, ◌+◌, ◌*◌, ◌%◌, ◌^◌, ◌<◌, ◌≤◌, List, ◌∷◌, Some, Ok, ℤ, pos, Bool, true}
 use Rattle.std.proofs.Common.{false, refl, sym, subst, ◌∙◌, arith}
-use Rattle.rv32_isa.specs.declared.micro_op.Size.TheVariants.{Word as whole}
+use Rattle.rv32_isa.specs.declared.micro_op.Size.{Size}
+use Rattle.rv32_isa.specs.declared.micro_op.Size.TheVariants.{Byte, Word as whole}
 use Rattle.rv32_isa.specs.Machine.{Lives}
 use Rattle.nim_meaning.specs.Values.{Value, Number, Parts, Values, bytes, number_of}
 use Rattle.word_code.specs.declared.word.WordInstr.{WordInstr}
 use Rattle.word_code.specs.declared.word.WordInstr.TheVariants.{Constant, Place, Datum, Load, Store}
 use Rattle.word_code.specs.declared.word.WordProc.{WordProc}
-use Rattle.word_code.specs.Memory.{Memory, with_number}
+use Rattle.word_code.specs.Memory.{Memory, may_put, number_at, with_number}
 use Rattle.word_code.specs.Words.{Vars, no_words, put}
 use Rattle.word_code.specs.RoutineTable.{Cell, Area, Separate}
 use Rattle.word_code.proofs.ForCallers.{MemoryLaw, Sized, put_here, Changed, changed_word}
 use Rattle.word_code.proofs.ForCallers.{Runs, then_runs, Within, at, run_constant, run_copy, run_place, run_datum, run_load, run_store, got}
 use Rattle.heap_memory.specs.declared.numbers.TheConstants.{HEAP_DATA}
-use Rattle.word_lowering.specs.declared.homes.TheConstants.{OWN_FROM, FIRST, SECOND, THIRD}
+use Rattle.word_lowering.specs.declared.homes.TheConstants.{OWN_FROM, FIRST, SECOND, THIRD, FOURTH}
 use Rattle.word_lowering.specs.declared.homes.Home.{Home}
 use Rattle.word_lowering.specs.declared.homes.Home.TheVariants.{Variable, Placed, Static}
 use Rattle.word_lowering.specs.declared.spots.Spot.{Spot}
-use Rattle.word_lowering.specs.declared.spots.Spot.TheVariants.{Held, Lies}
+use Rattle.word_lowering.specs.declared.spots.Spot.TheVariants.{Held, Lies, Letter}
 use Rattle.word_code.specs.Routines.{HasData}
 use Rattle.word_lowering.specs.declared.homes.Housed.{Housed}
 use Rattle.word_lowering.specs.Spots.{address, copied, moved, moves, passes, zeros, cleared, clears, starts}
 use Rattle.word_lowering.specs.Operations.{word}
-use Rattle.word_lowering.proofs.InMemory.{IsAt, AllZero, bytes_whole, parts_some, zero_at, copied_there, HasWords, HaveWords}
+use Rattle.word_lowering.proofs.InMemory.{IsAt, IsByteAt, AllZero, bytes_whole, parts_some, zero_at, copied_there, HasWords, HaveWords}
 use Rattle.word_lowering.proofs.RoutineCalls.{awaiting, Reaches, copy_called, clear_called}
 use Rattle.word_lowering.proofs.OrdinalRuns.{put_here as var_here, put_low, put_other, AllBut, AllSame, but_one}
 use Rattle.word_lowering.proofs.Scenes.{Points}
@@ -46,6 +47,9 @@ same_second v n = record { others = λ u h. put_low v SECOND n u (omega arith) h
 
 pub same_third : (v : Vars) (n : ℕ) → AllSame v (put v THIRD n)
 same_third v n = record { others = λ u h. put_low v THIRD n u (omega arith) h; left = refl }
+
+pub same_fourth : (v : Vars) (n : ℕ) → AllSame v (put v FOURTH n)
+same_fourth v n = record { others = λ u h. put_low v FOURTH n u (omega arith) h; left = refl }
 
 -- ---- values
 
@@ -82,6 +86,7 @@ abbrev pub MaySpot : Spot → Value → Type 0
 MaySpot (Held v) (Number z) = OWN_FROM ≤ v
 MaySpot (Held v) x = ⊥
 MaySpot (Lies home) x = IsHigh home
+MaySpot (Letter home) x = IsHigh home
 
 -- words that may be read and written
 abbrev pub IsArea : Memory → (at bytes : ℕ) → Type 0
@@ -91,6 +96,7 @@ IsArea m a bytes = (n : ℕ) → 4 * n ≤ bytes → Area m a n
 abbrev pub From : Memory → (base : ℕ) → Vars → Spot → Value → Type 0
 From m base v (Held u) x = v u ≡ Some (single_word x)
 From m base v (Lies home) x = (a : ℕ) × Points base v home a × IsAt m a x × (a + bytes x < 2 ^ 32) × IsArea m a (bytes x)
+From m base v (Letter home) x = (a : ℕ) × Points base v home a × IsByteAt m a x × (a < 2 ^ 32)
 
 -- what is there has bytes
 pub passes_there : (n : ℕ) (to from : Housed) (k : List WordInstr) → 4 ≤ n → passes n to from k ≡ moves to from k
@@ -149,6 +155,26 @@ module _ (law : MemoryLaw) (live : Lives) (procs : List WordProc) (c : Within) (
     pub few : steps ≤ 2
     pub runs : Runs live procs steps (at c m lines v g) (at c m k vars g)
 
+  -- from an address
+  loaded_to : (m : Memory) (k : List WordInstr) (v : Vars) (t : ℕ) → OWN_FROM ≤ t → (z : ℤ) → word z < 2 ^ 32 → (size : Size) (home : Home) (b : ℕ)
+      → Points c.base v home b → b < 2 ^ 32 → number_at m b size ≡ Ok (word z)
+      → ToVariable m (address SECOND home ∷ Load t SECOND size ∷ k) v t (Number z) k
+  loaded_to m k v t high z small size home b points near reads =
+      let v1 : Vars = put v SECOND b in
+      let r1 : Runs live procs 1 (at c m (address SECOND home ∷ Load t SECOND size ∷ k) v g) (at c m (Load t SECOND size ∷ k) v1 g)
+      = address_runs m (Load t SECOND size ∷ k) v SECOND home b points in
+      let r2 : Runs live procs 1 (at c m (Load t SECOND size ∷ k) v1 g) (at c m k (put v1 t (word z)) g)
+      = run_load live procs c m k v1 g t SECOND size (got b near) reads in
+      record {
+        vars = put v1 t (word z);
+        given = var_here v1 t (word z) small;
+        but = but_one v v1 t (word z) high (same_second v b);
+        steps = 2;
+        some = omega arith;
+        few = omega arith;
+        runs = then_runs live procs r1 r2;
+      }
+
   pub number_to_variable : (m : Memory) (k : List WordInstr) (v : Vars) (t : ℕ) → OWN_FROM ≤ t → (z : ℤ) → word z < 2 ^ 32
       → (is_word : Bool) (n : ℕ) (from : Spot) → From m c.base v from (Number z)
       → ToVariable m (moved is_word n (Held t) from k) v t (Number z) k
@@ -161,22 +187,90 @@ module _ (law : MemoryLaw) (live : Lives) (procs : List WordProc) (c : Within) (
     few = omega arith;
     runs = run_copy live procs c m k v g t u e;
   }
-  number_to_variable m k v t high z small is_word n (Lies home) e =
-      let b : ℕ = e.0 in
-      let v1 : Vars = put v SECOND b in
-      let r1 : Runs live procs 1 (at c m (address SECOND home ∷ Load t SECOND whole ∷ k) v g) (at c m (Load t SECOND whole ∷ k) v1 g)
-      = address_runs m (Load t SECOND whole ∷ k) v SECOND home b e.1 in
-      let r2 : Runs live procs 1 (at c m (Load t SECOND whole ∷ k) v1 g) (at c m k (put v1 t (word z)) g)
-      = run_load live procs c m k v1 g t SECOND whole (got b (omega (arith, e.3))) e.2 in
-      record {
-        vars = put v1 t (word z);
-        given = var_here v1 t (word z) small;
-        but = but_one v v1 t (word z) high (same_second v b);
-        steps = 2;
-        some = omega arith;
-        few = omega arith;
-        runs = then_runs live procs r1 r2;
-      }
+  number_to_variable m k v t high z small is_word n (Lies home) e = loaded_to m k v t high z small whole home e.0 e.1 (omega (arith, e.3)) e.2
+  number_to_variable m k v t high z small is_word n (Letter home) e = loaded_to m k v t high z small Byte home e.0 e.1 e.3 e.2
+
+  -- ---- a number to an address: of that size
+
+  pub record NumberPut (m : Memory) (lines : List WordInstr) (v : Vars) (after : Memory) (most : ℕ) (k : List WordInstr) : Type 0 where
+    pub vars : Vars
+    pub same : AllSame v vars
+    pub steps : ℕ
+    pub some : 0 < steps
+    pub few : steps ≤ most
+    pub runs : Runs live procs steps (at c m lines v g) (at c after k vars g)
+
+  module _ (m : Memory) (k : List WordInstr) (v : Vars) (home : Home) (a : ℕ) (points : Points c.base v home a) (near : a < 2 ^ 32) (size : Size)
+      (may : may_put m a size ≡ true) where
+    held_put : (w u : ℕ) → OWN_FROM ≤ u → v u ≡ Some w
+        → NumberPut m (address FIRST home ∷ Store FIRST u size ∷ k) v (with_number m a size w) 4 k
+    held_put w u high e =
+        let v1 : Vars = put v FIRST a in
+        let r1 : Runs live procs 1 (at c m (address FIRST home ∷ Store FIRST u size ∷ k) v g) (at c m (Store FIRST u size ∷ k) v1 g)
+        = address_runs m (Store FIRST u size ∷ k) v FIRST home a points in
+        let e1 : v1 u ≡ Some w = put_low v FIRST a u (omega arith) high ∙ e in
+        let r2 : Runs live procs 1 (at c m (Store FIRST u size ∷ k) v1 g) (at c (with_number m a size w) k v1 g)
+        = run_store live procs c m k v1 g FIRST u size (got a near) e1 may in
+        record { vars = v1; same = same_first v a; steps = 2; some = omega arith; few = omega arith; runs = then_runs live procs r1 r2 }
+
+    -- from another address
+    carried_put : (w : ℕ) → w < 2 ^ 32 → (read : Size) (other : Home) → IsHigh other → (b : ℕ) → Points c.base v other b → b < 2 ^ 32
+        → number_at m b read ≡ Ok w
+        → NumberPut m (address FIRST home ∷ address SECOND other ∷ Load THIRD SECOND read ∷ Store FIRST THIRD size ∷ k) v (with_number m a size w) 4 k
+    carried_put w small read other high b points_b near_b reads =
+        let v1 : Vars = put v FIRST a in
+        let v2 : Vars = put v1 SECOND b in
+        let v3 : Vars = put v2 THIRD w in
+        let k3 : List WordInstr = Store FIRST THIRD size ∷ k in
+        let k2 : List WordInstr = Load THIRD SECOND read ∷ k3 in
+        let r1 : Runs live procs 1 (at c m (address FIRST home ∷ address SECOND other ∷ k2) v g) (at c m (address SECOND other ∷ k2) v1 g)
+        = address_runs m (address SECOND other ∷ k2) v FIRST home a points in
+        let r2 : Runs live procs 1 (at c m (address SECOND other ∷ k2) v1 g) (at c m k2 v2 g)
+        = address_runs m k2 v1 SECOND other b (points_same v v1 other b high (same_first v a) points_b) in
+        let r3 : Runs live procs 1 (at c m k2 v2 g) (at c m k3 v3 g) = run_load live procs c m k3 v2 g THIRD SECOND read (got b near_b) reads in
+        let r4 : Runs live procs 1 (at c m k3 v3 g) (at c (with_number m a size w) k v3 g)
+        = run_store live procs c m k v3 g FIRST THIRD size (got a near) (got w small) may in
+        record {
+          vars = v3;
+          same = same_more v v1 v3 (same_first v a) (same_more v1 v2 v3 (same_second v1 b) (same_third v2 w));
+          steps = 4;
+          some = omega arith;
+          few = omega arith;
+          runs = then_runs live procs (then_runs live procs r1 r2) (then_runs live procs r3 r4);
+        }
+
+    zero_put : NumberPut m (address FIRST home ∷ Constant SECOND 0 ∷ Store FIRST SECOND size ∷ k) v (with_number m a size 0) 4 k
+    zero_put =
+        let v1 : Vars = put v FIRST a in
+        let v2 : Vars = put v1 SECOND 0 in
+        let k2 : List WordInstr = Store FIRST SECOND size ∷ k in
+        let r1 : Runs live procs 1 (at c m (address FIRST home ∷ Constant SECOND 0 ∷ k2) v g) (at c m (Constant SECOND 0 ∷ k2) v1 g)
+        = address_runs m (Constant SECOND 0 ∷ k2) v FIRST home a points in
+        let r2 : Runs live procs 1 (at c m (Constant SECOND 0 ∷ k2) v1 g) (at c m k2 v2 g) = run_constant live procs c m k2 v1 g SECOND 0 in
+        let r3 : Runs live procs 1 (at c m k2 v2 g) (at c (with_number m a size 0) k v2 g)
+        = run_store live procs c m k v2 g FIRST SECOND size (got a near) refl may in
+        record {
+          vars = v2;
+          same = same_more v v1 v2 (same_first v a) (same_second v1 0);
+          steps = 3;
+          some = omega arith;
+          few = omega arith;
+          runs = then_runs live procs (then_runs live procs r1 r2) r3;
+        }
+
+  -- a character at an address
+  module _ (m : Memory) (k : List WordInstr) (v : Vars) (home : Home) (a : ℕ) (points : Points c.base v home a) (near : a < 2 ^ 32)
+      (may : may_put m a Byte ≡ true) where
+    pub number_to_letter : (z : ℤ) → word z < 2 ^ 32 → (is_word : Bool) (n : ℕ) (from : Spot) → MaySpot from (Number z) → From m c.base v from (Number z)
+        → NumberPut m (moved is_word n (Letter home) from k) v (with_number m a Byte (word z)) 4 k
+    number_to_letter z small is_word n (Held u) high e = held_put m k v home a points near Byte may (word z) u high e
+    number_to_letter z small is_word n (Lies other) high e =
+        carried_put m k v home a points near Byte may (word z) small whole other high e.0 e.1 (omega (arith, e.3)) e.2
+    number_to_letter z small is_word n (Letter other) high e =
+        carried_put m k v home a points near Byte may (word z) small Byte other high e.0 e.1 e.3 e.2
+
+    pub zero_to_letter : (is_word : Bool) (n : ℕ) → NumberPut m (cleared is_word n (Letter home) k) v (with_number m a Byte 0) 4 k
+    zero_to_letter is_word n = zero_put m k v home a points near Byte may
 
   -- ---- to memory
 
@@ -194,56 +288,32 @@ module _ (law : MemoryLaw) (live : Lives) (procs : List WordProc) (c : Within) (
     pub runs : Runs live procs steps (at c m lines v g) (at (awaiting c awaits) memory k vars words)
 
   module _ (m : Memory) (sized : Sized m) (k : List WordInstr) (v : Vars) (home : Home) (a : ℕ) (points : Points c.base v home a) where
+    word_put : (z : ℤ) → word z < 2 ^ 32 → Cell m a → (lines : List WordInstr) (most : ℕ) → NumberPut m lines v (with_number m a whole (word z)) most k
+        → ToMemory m lines v a (Number z) most k
+    word_put z small cell lines most r = record {
+      memory = with_number m a whole (word z);
+      vars = r.vars;
+      words = g;
+      awaits = c.awaits;
+      same = r.same;
+      changed = changed_word law m a (word z) sized cell small;
+      there = put_here law m a (word z) sized cell.may small;
+      steps = r.steps;
+      some = r.some;
+      few = r.few;
+      runs = r.runs;
+    }
+
     pub number_to_memory : (z : ℤ) → word z < 2 ^ 32 → Cell m a → a < 2 ^ 32 → (n : ℕ) (from : Spot) → MaySpot from (Number z)
         → From m c.base v from (Number z) → ToMemory m (moved true n (Lies home) from k) v a (Number z) 4 k
     number_to_memory z small cell near n (Held u) may e =
-        let v1 : Vars = put v FIRST a in
-        let r1 : Runs live procs 1 (at c m (address FIRST home ∷ Store FIRST u whole ∷ k) v g) (at c m (Store FIRST u whole ∷ k) v1 g)
-        = address_runs m (Store FIRST u whole ∷ k) v FIRST home a points in
-        let e1 : v1 u ≡ Some (word z) = put_low v FIRST a u (omega arith) may ∙ e in
-        let r2 : Runs live procs 1 (at c m (Store FIRST u whole ∷ k) v1 g) (at c (with_number m a whole (word z)) k v1 g)
-        = run_store live procs c m k v1 g FIRST u whole (got a near) e1 cell.may in
-        record {
-          memory = with_number m a whole (word z);
-          vars = v1;
-          words = g;
-          awaits = c.awaits;
-          same = same_first v a;
-          changed = changed_word law m a (word z) sized cell small;
-          there = put_here law m a (word z) sized cell.may small;
-          steps = 2;
-          some = omega arith;
-          few = omega arith;
-          runs = then_runs live procs r1 r2;
-        }
+        word_put z small cell (moved true n (Lies home) (Held u) k) 4 (held_put m k v home a points near whole cell.may (word z) u may e)
     number_to_memory z small cell near n (Lies other) may e =
-        let b : ℕ = e.0 in
-        let v1 : Vars = put v FIRST a in
-        let v2 : Vars = put v1 SECOND b in
-        let v3 : Vars = put v2 THIRD (word z) in
-        let k3 : List WordInstr = Store FIRST THIRD whole ∷ k in
-        let k2 : List WordInstr = Load THIRD SECOND whole ∷ k3 in
-        let r1 : Runs live procs 1 (at c m (address FIRST home ∷ address SECOND other ∷ k2) v g) (at c m (address SECOND other ∷ k2) v1 g)
-        = address_runs m (address SECOND other ∷ k2) v FIRST home a points in
-        let r2 : Runs live procs 1 (at c m (address SECOND other ∷ k2) v1 g) (at c m k2 v2 g)
-        = address_runs m k2 v1 SECOND other b (points_same v v1 other b may (same_first v a) e.1) in
-        let r3 : Runs live procs 1 (at c m k2 v2 g) (at c m k3 v3 g)
-        = run_load live procs c m k3 v2 g THIRD SECOND whole (got b (omega (arith, e.3))) e.2 in
-        let r4 : Runs live procs 1 (at c m k3 v3 g) (at c (with_number m a whole (word z)) k v3 g)
-        = run_store live procs c m k v3 g FIRST THIRD whole (got a near) (got (word z) small) cell.may in
-        record {
-          memory = with_number m a whole (word z);
-          vars = v3;
-          words = g;
-          awaits = c.awaits;
-          same = same_more v v1 v3 (same_first v a) (same_more v1 v2 v3 (same_second v1 b) (same_third v2 (word z)));
-          changed = changed_word law m a (word z) sized cell small;
-          there = put_here law m a (word z) sized cell.may small;
-          steps = 4;
-          some = omega arith;
-          few = omega arith;
-          runs = then_runs live procs (then_runs live procs r1 r2) (then_runs live procs r3 r4);
-        }
+        word_put z small cell (moved true n (Lies home) (Lies other) k) 4
+        (carried_put m k v home a points near whole cell.may (word z) small whole other may e.0 e.1 (omega (arith, e.3)) e.2)
+    number_to_memory z small cell near n (Letter other) may e =
+        word_put z small cell (moved true n (Lies home) (Letter other) k) 4
+        (carried_put m k v home a points near whole cell.may (word z) small Byte other may e.0 e.1 e.3 e.2)
 
     pub parts_to_memory : (own : ℕ) (statics : List ℕ) → Reaches live procs own statics → HasData own statics m → (vs : Values) → HaveWords vs
         → IsArea m a (bytes (Parts vs)) → a + bytes (Parts vs) < 2 ^ 32 → (other : Home) → IsBehind other
@@ -294,27 +364,7 @@ module _ (law : MemoryLaw) (live : Lives) (procs : List WordProc) (c : Within) (
 
     pub zero_to_memory : (n : ℕ) → Cell m a → a < 2 ^ 32 → ToMemory m (cleared true n (Lies home) k) v a (Number (pos 0)) 4 k
     zero_to_memory n cell near =
-        let v1 : Vars = put v FIRST a in
-        let v2 : Vars = put v1 SECOND 0 in
-        let k2 : List WordInstr = Store FIRST SECOND whole ∷ k in
-        let r1 : Runs live procs 1 (at c m (address FIRST home ∷ Constant SECOND 0 ∷ k2) v g) (at c m (Constant SECOND 0 ∷ k2) v1 g)
-        = address_runs m (Constant SECOND 0 ∷ k2) v FIRST home a points in
-        let r2 : Runs live procs 1 (at c m (Constant SECOND 0 ∷ k2) v1 g) (at c m k2 v2 g) = run_constant live procs c m k2 v1 g SECOND 0 in
-        let r3 : Runs live procs 1 (at c m k2 v2 g) (at c (with_number m a whole 0) k v2 g)
-        = run_store live procs c m k v2 g FIRST SECOND whole (got a near) refl cell.may in
-        record {
-          memory = with_number m a whole 0;
-          vars = v2;
-          words = g;
-          awaits = c.awaits;
-          same = same_more v v1 v2 (same_first v a) (same_second v1 0);
-          changed = changed_word law m a 0 sized cell (omega arith);
-          there = put_here law m a 0 sized cell.may (omega arith);
-          steps = 3;
-          some = omega arith;
-          few = omega arith;
-          runs = then_runs live procs (then_runs live procs r1 r2) r3;
-        }
+        word_put (pos 0) (omega arith) cell (cleared true n (Lies home) k) 4 (zero_put m k v home a points near whole cell.may)
 
     pub zeros_to_memory : (own : ℕ) (statics : List ℕ) → Reaches live procs own statics → HasData own statics m → (vs : Values)
         → AllZero (Parts vs) → IsArea m a (bytes (Parts vs)) → a + bytes (Parts vs) < 2 ^ 32

@@ -27,9 +27,10 @@ use Rattle.word_lowering.specs.declared.homes.Home.{Home}
 use Rattle.word_lowering.specs.declared.homes.Home.TheVariants.{Variable, Placed, Static}
 use Rattle.word_lowering.specs.declared.homes.Housed.{Housed}
 use Rattle.word_lowering.specs.declared.spots.Spot.{Spot}
-use Rattle.word_lowering.specs.declared.spots.Spot.TheVariants.{Held, Lies}
+use Rattle.word_lowering.specs.declared.spots.Spot.TheVariants.{Held, Lies, Letter}
 use Rattle.word_lowering.specs.Layouts.{holds_address}
 use Rattle.word_lowering.specs.Reads.{is_read, reads_in}
+use Rattle.word_lowering.specs.LineCode.{letter_swap}
 use Rattle.word_lowering.specs.Spots as code
 use Rattle.word_lowering.specs.Operations as operations
 use Rattle.word_lowering.proofs.LayoutBounds.{IsBelow}
@@ -53,17 +54,17 @@ none_read (more_named e quiet rest) = let none = ap one_if quiet in omega (arith
 abbrev pub IsSpotBelow : ℕ → Spot → Type 0
 IsSpotBelow n (Held v) = v < n
 IsSpotBelow n (Lies home) = IsBelow n home
+IsSpotBelow n (Letter home) = IsBelow n home
 
-spot_by_below : (n : ℕ) (address : Bool) (home : Home) → IsBelow n home → IsSpotBelow n (code.spot_by address home)
-spot_by_below n false (Variable v) h = h
-spot_by_below n false (Placed at) h = tt
-spot_by_below n false (Static at) h = tt
-spot_by_below n true (Variable v) h = h
-spot_by_below n true (Placed at) h = tt
-spot_by_below n true (Static at) h = tt
+spot_by_below : (n : ℕ) (address letter : Bool) (home : Home) → IsBelow n home → IsSpotBelow n (code.spot_by address letter home)
+spot_by_below n false letter (Variable v) h = h
+spot_by_below n false letter (Placed at) h = tt
+spot_by_below n false letter (Static at) h = tt
+spot_by_below n true false home h = h
+spot_by_below n true true home h = h
 
 pub spot_below : (n : ℕ) (h : Housed) → IsBelow n h.home → IsSpotBelow n (code.spot_of h)
-spot_below n h i = spot_by_below n (holds_address h) h.home i
+spot_below n h i = spot_by_below n (holds_address h) h.is_letter h.home i
 
 pub shifted_below : (n bytes : ℕ) (home : Home) → IsBelow n home → IsBelow n (code.shifted bytes home)
 shifted_below n bytes (Variable v) h = h
@@ -164,12 +165,22 @@ module _ (vars : ℕ) (many : OWN_FROM ≤ vars) where
   copied false bytes rest =
       constant third_is (argument (omega arith) first_is (argument (omega arith) second_is (argument (omega arith) third_is (call first_is rest))))
 
+  carried : (to from : Home) {put got : Size} {k : List WordInstr} → IsBelow vars to → IsBelow vars from → AllNamed vars k
+      → AllNamed vars (code.address FIRST to ∷ code.address SECOND from ∷ Load THIRD SECOND got ∷ Store FIRST THIRD put ∷ k)
+  carried to from t f rest =
+      address FIRST to first_is t (address SECOND from second_is f (load third_is second_is (store first_is third_is rest)))
+
   pub moved : (word : Bool) (bytes : ℕ) (to from : Spot) {k : List WordInstr} → IsSpotBelow vars to → IsSpotBelow vars from → AllNamed vars k
       → AllNamed vars (code.moved word bytes to from k)
   moved word bytes (Held v) (Held u) t f rest = copy t f rest
   moved word bytes (Held v) (Lies from) t f rest = address SECOND from second_is f (load t second_is rest)
+  moved word bytes (Held v) (Letter from) t f rest = address SECOND from second_is f (load t second_is rest)
   moved word bytes (Lies to) (Held u) t f rest = address FIRST to first_is t (store first_is f rest)
+  moved word bytes (Letter to) (Held u) t f rest = address FIRST to first_is t (store first_is f rest)
   moved word bytes (Lies to) (Lies from) t f rest = address FIRST to first_is t (address SECOND from second_is f (copied word bytes rest))
+  moved word bytes (Lies to) (Letter from) t f rest = carried to from t f rest
+  moved word bytes (Letter to) (Lies from) t f rest = carried to from t f rest
+  moved word bytes (Letter to) (Letter from) t f rest = carried to from t f rest
 
   zeros : (word : Bool) (bytes : ℕ) {k : List WordInstr} → AllNamed vars k → AllNamed vars (code.zeros word bytes k)
   zeros true bytes rest = constant second_is (store first_is second_is rest)
@@ -179,10 +190,12 @@ module _ (vars : ℕ) (many : OWN_FROM ≤ vars) where
       → AllNamed vars (code.cleared word bytes to k)
   cleared word bytes (Held v) t rest = constant t rest
   cleared word bytes (Lies to) t rest = address FIRST to first_is t (zeros word bytes rest)
+  cleared word bytes (Letter to) t rest = address FIRST to first_is t (constant second_is (store first_is second_is rest))
 
   pub handed : (label_here bytes : ℕ) (from : Spot) {k : List WordInstr} → IsSpotBelow vars from → AllNamed vars k
       → AllNamed vars (code.handed label_here bytes from k)
   handed label_here bytes (Held u) f rest = store first_is f rest
+  handed label_here bytes (Letter from) f rest = address SECOND from second_is f (load third_is second_is (store first_is third_is rest))
   handed label_here bytes (Lies from) f rest =
       address SECOND from second_is f
       (constant third_is (compute third_is second_is third_is (constant fourth_is
@@ -213,6 +226,24 @@ module _ (vars : ℕ) (many : OWN_FROM ≤ vars) where
   binary_named n binary.BitAnd to left right t l r rest = compute t l r rest
   binary_named n binary.BitOr to left right t l r rest = compute t l r rest
   binary_named n binary.BitXor to left right t l r rest = compute t l r rest
+
+  -- a word at an address is handed back, or becomes another one, and characters trade places
+  pub word_back_named : (home : Home) {size : Size} {k : List WordInstr} → IsBelow vars home → AllNamed vars k
+      → AllNamed vars (code.address FIRST home ∷ Load FIRST FIRST size ∷ Return FIRST ∷ k)
+  word_back_named home h rest = address FIRST home first_is h (load first_is first_is (return first_is rest))
+
+  pub put_back_named : (label_here : ℕ) (operator : Operator) (home : Home) (by : ℕ) {size : Size} {k : List WordInstr} → IsBelow vars home → by < vars
+      → AllNamed vars k → AllNamed vars (code.address SECOND home ∷ Load FOURTH SECOND size
+      ∷ operations.binary_code label_here operator FOURTH FOURTH by (code.address FIRST home ∷ Store FIRST FOURTH size ∷ k))
+  put_back_named label_here operator home by h b rest =
+      address SECOND home second_is h (load fourth_is second_is
+      (binary_named label_here operator FOURTH FOURTH by fourth_is fourth_is b (address FIRST home first_is h (store first_is fourth_is rest))))
+
+  pub letter_swap_named : (left right : Home) {k : List WordInstr} → IsBelow vars left → IsBelow vars right → AllNamed vars k
+      → AllNamed vars (letter_swap left right k)
+  letter_swap_named left right l r rest =
+      address FIRST left first_is l (address SECOND right second_is r
+      (load third_is first_is (load fourth_is second_is (store second_is third_is (store first_is fourth_is rest)))))
 
   pub unary_named : (operator : UnaryOperator) (to from : ℕ) {k : List WordInstr} → to < vars → from < vars → AllNamed vars k
       → AllNamed vars (operations.unary_code operator to from k)

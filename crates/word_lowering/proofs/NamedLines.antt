@@ -27,7 +27,7 @@ use Rattle.word_lowering.specs.declared.homes.Home.TheVariants.{Variable, Placed
 use Rattle.word_lowering.specs.declared.homes.Housed.{Housed}
 use Rattle.word_lowering.specs.declared.homes.Waiter.{Waiter}
 use Rattle.word_lowering.specs.declared.spots.Spot.{Spot}
-use Rattle.word_lowering.specs.declared.spots.Spot.TheVariants.{Held, Lies}
+use Rattle.word_lowering.specs.declared.spots.Spot.TheVariants.{Held, Lies, Letter}
 use Rattle.word_lowering.specs.Layouts.{found, params_in, result_in}
 use Rattle.word_lowering.specs.Spots.{spot_of, shifted, moves, passes, clears, starts}
 use Rattle.word_lowering.specs.Stored.{part_at, entry_at, base_at, limit_at}
@@ -43,9 +43,9 @@ use Rattle.word_lowering.proofs.CalledHooks.{assigned_named, got_named}
 use Rattle.word_lowering.specs.WaitingCode.{gives_hooked}
 use Rattle.word_lowering.proofs.KeptCode.{past_named, owning_named, root_named}
 use Rattle.word_lowering.proofs.LayoutBounds.{IsBelow, IsParamBelow, IsGlobalBelow, found_below, global_below, params_each}
-use Rattle.word_lowering.proofs.NamedCode.{AllNamed, IsSpotBelow, spot_below, shifted_below, first_is, second_is, third_is, fourth_is, fifth_is, left_is}
+use Rattle.word_lowering.proofs.NamedCode.{AllNamed, IsSpotBelow, spot_below, shifted_below, first_is, second_is, third_is, fifth_is, left_is}
 use Rattle.word_lowering.proofs.NamedCode.{binary_named, unary_named, compare_named, narrow_named, unless_named, turn_if_named}
-use Rattle.word_lowering.proofs.NamedCode.{fits_named, beyond_named, turn_named}
+use Rattle.word_lowering.proofs.NamedCode.{fits_named, beyond_named, letter_swap_named, put_back_named, turn_named, word_back_named}
 use Rattle.word_lowering.proofs.NamedCode as named
 use Rattle.word_lowering.proofs.OwnedNames.{AllBelow, added_named, appended_named, at_below, compared_named, element_read_named, enough_named, joined_named}
 use Rattle.word_lowering.proofs.OwnedNames.{measured_named, new_named, owned_element_named, owned_item_named, popped_named, read_named, sequence_named}
@@ -88,6 +88,9 @@ module _ (vars : ℕ) (many : OWN_FROM ≤ vars) where
       → AllNamed vars (lines.constant_at to spot pieces k)
   spot_named to (Held v) pieces h rest = named.constant vars many h rest
   spot_named to (Lies home) pieces h rest = named.cleared vars many to.is_word to.bytes (Lies home) h (pieces_named home pieces h rest)
+  spot_named to (Letter home) pieces h rest =
+      named.address vars many FIRST home (first_is vars many) h
+      (named.constant vars many (second_is vars many) (named.store vars many (first_is vars many) (second_is vars many) rest))
 
   constant_named : (x : Around) (read : Bool) (text : Option (List ℕ)) (to : Housed) (pieces : List Piece) {k : List WordInstr} → IsBelow vars to.home
       → AllNamed vars k → AllNamed vars (lines.constant_by x read text to pieces k)
@@ -121,10 +124,10 @@ module _ (vars : ℕ) (many : OWN_FROM ≤ vars) where
   back_named : (is_word : Bool) (spot : Spot) {k : List WordInstr} → IsSpotBelow vars spot → AllNamed vars k
       → AllNamed vars (lines.back_code is_word spot k)
   back_named w (Held v) h rest = named.return vars many h rest
-  back_named true (Lies home) h rest =
-      named.address vars many FIRST home (first_is vars many) h
-      (named.load vars many (first_is vars many) (first_is vars many) (named.return vars many (first_is vars many) rest))
+  back_named true (Lies home) h rest = word_back_named vars many home h rest
+  back_named true (Letter home) h rest = word_back_named vars many home h rest
   back_named false (Lies home) h rest = named.return vars many (left_is vars many) rest
+  back_named false (Letter home) h rest = named.return vars many (left_is vars many) rest
 
   write_named : {k : List WordInstr} → AllNamed vars k → AllNamed vars (lines.write_code k)
   write_named rest = named.write vars many (first_is vars many) (second_is vars many) rest
@@ -269,6 +272,8 @@ module _ (vars : ℕ) (many : OWN_FROM ≤ vars) where
     entered_named proc to (Held v) t s rest = named.call vars many s rest
     entered_named proc to (Lies home) t s rest =
         named.call vars many (first_is vars many) (result_named to (result_in (lines.layout_at x proc).all) t rest)
+    entered_named proc to (Letter home) t s rest =
+        named.call vars many (first_is vars many) (result_named to (result_in (lines.layout_at x proc).all) t rest)
 
     given_named : (proc to : ℕ) {k : List WordInstr} → AllNamed vars k → AllNamed vars (lines.given_code x proc to k)
     given_named proc t rest =
@@ -335,12 +340,8 @@ module _ (vars : ℕ) (many : OWN_FROM ≤ vars) where
     updated_named : (label : ℕ) (operator : Operator) (spot : Spot) (by : ℕ) {k : List WordInstr} → IsSpotBelow vars spot → by < vars
         → AllNamed vars k → AllNamed vars (lines.updated_code label operator spot by k)
     updated_named label operator (Held v) by s b rest = binary_named vars many label operator v v by s s b rest
-    updated_named label operator (Lies home) by s b rest =
-        let second : SECOND < vars = second_is vars many in
-        let fourth = fourth_is vars many in
-        named.address vars many SECOND home second s (named.load vars many fourth second
-        (binary_named vars many label operator _ _ by fourth fourth b
-        (named.address vars many FIRST home (first_is vars many) s (named.store vars many (first_is vars many) fourth rest))))
+    updated_named label operator (Lies home) by s b rest = put_back_named vars many label operator home by s b rest
+    updated_named label operator (Letter home) by s b rest = put_back_named vars many label operator home by s b rest
 
     update_named : (label : ℕ) (operator : Operator) (hs : List Housed) {k : List WordInstr} → AllBelow vars many hs → AllNamed vars k
         → AllNamed vars (lines.update_code label operator hs k)
@@ -355,9 +356,10 @@ module _ (vars : ℕ) (many : OWN_FROM ≤ vars) where
     quit_named [] e rest = exit_named rest
     quit_named (status ∷ hs) e rest = named.exit vars many (variable_is vars many status e.0) rest
 
-    swap_named : (left right : Home) (bytes : ℕ) {k : List WordInstr} → IsBelow vars left → IsBelow vars right → AllNamed vars k
-        → AllNamed vars (lines.swap_code left right bytes k)
-    swap_named left right bytes l r rest =
+    swap_named : (letter : Bool) (left right : Home) (bytes : ℕ) {k : List WordInstr} → IsBelow vars left → IsBelow vars right → AllNamed vars k
+        → AllNamed vars (lines.swap_code letter left right bytes k)
+    swap_named true left right bytes l r rest = letter_swap_named vars many left right l r rest
+    swap_named false left right bytes l r rest =
         word_argument_named vars many 0 left (omega arith) l (word_argument_named vars many 1 right (omega arith) r
         (named.constant vars many (third_is vars many) (named.argument vars many (omega arith) (third_is vars many)
         (named.call vars many (first_is vars many) rest))))
@@ -447,7 +449,8 @@ module _ (vars : ℕ) (many : OWN_FROM ≤ vars) where
         by O.Pop = enough_named vars many 1 hs _
             (popped_named vars many to (lines.operand_at hs 0).home (owned.size_in x (lines.operand_at hs 0)) t a rest) rest
         by O.Move = moves_named to (lines.operand_at hs 0) t a (clears_named (lines.operand_at hs 0) a rest)
-        by O.Swap = swap_named (lines.operand_at hs 0).home (lines.operand_at hs 1).home (lines.operand_at hs 0).bytes a b rest
+        by O.Swap =
+            swap_named (lines.operand_at hs 0).is_letter (lines.operand_at hs 0).home (lines.operand_at hs 1).home (lines.operand_at hs 0).bytes a b rest
         by O.Discard = rest
         by O.Destroy = rest
         by O.Blank = rest

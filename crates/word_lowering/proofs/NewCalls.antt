@@ -27,7 +27,7 @@ use Rattle.word_lowering.proofs.Lines.{Basis, IsGood, known, starts}
 use Rattle.word_lowering.proofs.MovedLines.{own_plain}
 use Rattle.word_lowering.proofs.Options.{none_some}
 use Rattle.word_lowering.proofs.Related.{AllFrames, Both, body_of, calls_of, sites_of, store_with}
-use Rattle.word_lowering.proofs.Scenes.{address_of, AtHome, Call, FromPlace, HasValue, Holding, house, IsFilled, IsItem, IsThere, looked, Name, LeadsHere}
+use Rattle.word_lowering.proofs.Scenes.{address_of, AtHome, Call, FromPlace, HasValue, Holding, house, IsFilled, IsItem, IsThere, looked, Name, ReachesHere}
 use Rattle.word_lowering.proofs.Scenes.{of_location, StoredIn}
 use Rattle.word_lowering.proofs.Scenes.{of_place, of_value, StandsFor, of_waiting}
 use Rattle.word_lowering.proofs.ShapeFacts.{never}
@@ -188,12 +188,12 @@ module _ (x : Basis) (g : Both) (line : BlockLine) (rest : List BlockLine) (y : 
       address = f.address;
     }
 
-    leads_then : (location : Location) (a : ℕ) (t : Shape) → LeadsHere x.table x.blocks (sites_of g) g.ground g.world location a t
-        → LeadsHere x.table x.blocks sites_then g.ground world_first location a t
-    leads_then location a t (inl f) = inl (from_then location a t f)
-    leads_then location a t (inr (inl f)) = inr (inl f)
-    leads_then location a t (inr (inr (inl f))) = inr (inr (inl f))
-    leads_then location a t (inr (inr (inr f))) = inr (inr (inr (record {
+    leads_then : (location : Location) (a : ℕ) (t : Shape) → ReachesHere x.table x.blocks (sites_of g) g.ground g.world location a t
+        → ReachesHere x.table x.blocks sites_then g.ground world_first location a t
+    leads_then location a t (inl (inl f)) = inl (inl (from_then location a t f))
+    leads_then location a t (inl (inr (inl f))) = inl (inr (inl f))
+    leads_then location a t (inl (inr (inr (inl f)))) = inl (inr (inr (inl f)))
+    leads_then location a t (inl (inr (inr (inr f)))) = inl (inr (inr (inr (record {
       site = f.site;
       among = inr f.among;
       node = f.node;
@@ -202,7 +202,8 @@ module _ (x : Basis) (g : Both) (line : BlockLine) (rest : List BlockLine) (y : 
       offset = f.offset;
       path = f.path;
       address = f.address;
-    })))
+    }))))
+    leads_then location a t (inr f) = inr f
 
     location_stands : (n : ℕ) (l : Location) → IsThere site_then (of_place n) → slot_at world_first (suc g.call.site.level) n ≡ Some (Stands l)
         → IsParameter n (Stands l) → StandsFor x.table x.blocks sites_then g.ground world_first call_then n
@@ -213,7 +214,7 @@ module _ (x : Basis) (g : Both) (line : BlockLine) (rest : List BlockLine) (y : 
           address = r.gave_it.address;
           holds = by r.gave_it.address r.gave_it.variable r.gave_it.home r.gave_it.by_address r.gave_it.given
               (houses x.table x.blocks site_then (of_place n) c.is there).where_is;
-          owned = r.gave_it.owned;
+          stood = r.gave_it.stood;
           leads = leads_then l r.gave_it.address (looked x.table site_then (of_place n)) r.gave_it.leads;
         }
       where

@@ -8,7 +8,8 @@ use Rattle.flat_code.specs.declared.line.From.TheVariants as F
 use Rattle.flat_code.specs.declared.line.Line.TheVariants as L
 use Rattle.flat_code.specs.Scene.{Temps, Passes, Where, location_at, with_value}
 use Rattle.flat_code.specs.Shapes.{Shape, has_shape, shape_of}
-use Rattle.word_code.specs.Memory.{Memory}
+use Rattle.rv32_isa.specs.declared.micro_op.Size.TheVariants.{Byte}
+use Rattle.word_code.specs.Memory.{Memory, with_number}
 use Rattle.word_code.specs.Words.{Vars}
 use Rattle.word_code.specs.declared.word.WordInstr.{WordInstr}
 use Rattle.word_code.proofs.ForCallers.{at, Runs, then_runs}
@@ -21,18 +22,19 @@ use Rattle.word_lowering.proofs.RoutineCalls.{awaiting}
 use Rattle.word_lowering.proofs.Clears.{gets_cleared}
 use Rattle.word_lowering.proofs.Gets.{Gets, SameTemps, good_place, gets_moved, good_value, same_temps}
 use Rattle.word_lowering.proofs.InMemory.{AllZero, blank_zero, bytes_some}
+use Rattle.word_lowering.proofs.LetterStores.{letter_may, letter_near, letter_then}
 use Rattle.word_lowering.proofs.Lines.{reaches, Basis, IsGood, all_procs, all_sites, changed, changed_later, data_there, stands_next, starts, Settles, goes_on}
 use Rattle.word_lowering.proofs.Lines.{known}
 use Rattle.word_lowering.proofs.Lines.{bound_for}
 use Rattle.word_lowering.proofs.Lines.{mapped_settles, where_there}
 use Rattle.word_lowering.proofs.Located.{full_there, owned_readable}
 use Rattle.word_lowering.proofs.MovedLines.{own_plain}
-use Rattle.word_lowering.proofs.Moves.{ToMemory, is_single, zero_to_memory, zeros_to_memory}
-use Rattle.word_lowering.proofs.OutPlaces.{Written, far_written, own_written, written_at}
+use Rattle.word_lowering.proofs.Moves.{ToMemory, is_single, zero_to_letter, zero_to_memory, zeros_to_memory}
+use Rattle.word_lowering.proofs.OutPlaces.{Written, far_written, letter_written, own_written, written_at}
 use Rattle.word_lowering.proofs.ReadFacts.{read_location}
 use Rattle.word_lowering.proofs.Related.{routines, Both, body_of, within, high}
-use Rattle.word_lowering.proofs.Scenes.{Ground, Points, house, looked, of_place, of_location, of_value}
-use Rattle.word_lowering.proofs.ShapeFacts.{bytes_is, never, of_numbers, values_of_numbers}
+use Rattle.word_lowering.proofs.Scenes.{Ground, Points, ReachesHere, house, looked, may_owned, of_place, of_location, of_value}
+use Rattle.word_lowering.proofs.ShapeFacts.{bytes_is, letter as a_letter, letter_is, never, of_numbers, values_of_numbers}
 use Rattle.word_lowering.proofs.Sources.{Readable, more_steps}
 use Rattle.word_lowering.proofs.Stores.{good_written, ground_then}
 use Rattle.flat_code.specs.Fits.{if_kind, is_location, is_standing, place_named}
@@ -48,7 +50,7 @@ use Rattle.flat_code.specs.declared.line.UseAt.{UseAt}
 use Rattle.nim_types.specs.Forms.{form_of}
 use Rattle.nim_types.specs.Table.{facts_in, type_at}
 use Rattle.nim_types.specs.Types.{Ty}
-use Rattle.std.proofs.lemmas.Bool.{and_parts}
+use Rattle.std.proofs.lemmas.Bool.{and_from, and_parts}
 use Rattle.word_lowering.proofs.ApplyFits.{applies, RowHere}
 use Rattle.word_lowering.proofs.ControlLines.{plain, value_type}
 use Rattle.word_lowering.proofs.LineFits.{are_of, same_type, single_is}
@@ -108,8 +110,8 @@ module _ (x : Basis) (g : Both) (line : BlockLine) (rest : List BlockLine) (y : 
         by Vacant zero_value home a points range = absurd zero_value
 
     -- where something is
-    pub cleared_there : is_whole g.world (load g.world l) ≡ true → Written x g line rest y h l s → Cleared h l d temps k
-    cleared_there whole (own_written n there own is look old slot l_is) =
+    pub cleared_there : may_change l.base ≡ true → is_whole g.world (load g.world l) ≡ true → Written x g line rest y h l s → Cleared h l d temps k
+    cleared_there may whole (own_written n there own is look old slot l_is) =
         let shape : has_shape d (looked x.table g.call.site (of_place n)) ≡ true = subst (λ k. has_shape d k ≡ true) (sym look) shaped in
         let plain_is = own_plain (house g.call.site (of_place n)) own in
         let get = subst (λ u. Gets x g line rest y (clears u k) k (of_place n) d (9 + bytes d)) (sym is)
@@ -127,9 +129,9 @@ module _ (x : Basis) (g : Both) (line : BlockLine) (rest : List BlockLine) (y : 
           good = good_place x g line rest y n there own d rest (stands_next x.table x.blocks (body_of g) line rest y.stands) temps same
               (clears h k) k (9 + bytes d) (ap of_numbers look ∙ numbers) shape plain_is get;
         })
-    cleared_there whole (far_written home spot up a points owned leads) =
+    cleared_there may whole (far_written home spot up a points stood leads) =
         let sites = all_sites x g line rest y in
-        let f = owned_seen x (starts g line rest) y l a s owned leads whole in
+        let f = owned_seen x (starts g line rest) y l a s (may_owned l.base stood may) leads whole in
         let range : Readable x sites y.linked g.memory a (bytes d)
         = subst (λ n. Readable x sites y.linked g.memory a n) (sym (bytes_is d s numbers shaped)) (owned_readable x (starts g line rest) y l a s f live) in
         let r = zeros_at home a points range in
@@ -149,6 +151,35 @@ module _ (x : Basis) (g : Both) (line : BlockLine) (rest : List BlockLine) (y : 
           good = good_written x g line rest y l a s numbers live d shaped r.memory r.changed r.there f rest
               (stands_next x.table x.blocks (body_of g) line rest y.stands) temps same r.vars r.words r.awaits r.same;
         }
+    cleared_there may whole (letter_written home spot up a points stood letter leads) =
+        by d (subst (λ u. has_shape d u ≡ true) (letter_is s letter) shaped) zero_value
+      where
+        by : (d : Value) → has_shape d a_letter ≡ true → AllZero d → Cleared h l d temps k
+        by (Number z) fits zero =
+            let seen = and_from (is_there g.world l) (is_whole g.world (load g.world l)) live whole in
+            let reaches = subst (ReachesHere x.table x.blocks (all_sites x g line rest y) g.ground g.world l a) (letter_is s letter) leads in
+            let owned = may_owned l.base stood may in
+            let may_put = letter_may x g line rest y l a owned reaches seen in
+            let put = zero_to_letter x.law x.live (all_procs x) (within x.table x.blocks g) refl g.words g.memory k g.call.vars home a points
+            (letter_near x g line rest y l a owned reaches seen) may_put h.is_word h.bytes in
+            let s = letter_then x g line rest y l a owned reaches seen 0 (omega arith) in
+            let few = put.few in
+            subst (λ u. Cleared h l (Number u) temps k) (sym zero) (record {
+              vars = put.vars;
+              memory = with_number g.memory a Byte 0;
+              words = g.words;
+              awaits = g.awaits;
+              steps = put.steps;
+              some = put.some;
+              few = omega (arith, few);
+              runs = subst (λ c. Runs x.live (all_procs x) put.steps (at (within x.table x.blocks g) g.memory c g.call.vars g.words)
+                  (at (within x.table x.blocks g) (with_number g.memory a Byte 0) k put.vars g.words))
+                  (sym (ap (λ p. cleared h.is_word h.bytes p k) spot)) put.runs;
+              ground = s.ground;
+              good = s.good rest (stands_next x.table x.blocks (body_of g) line rest y.stands) temps same put.vars g.words g.awaits put.same;
+            })
+        by (Parts vs) fits zero = never fits
+        by v fits zero = absurd zero
 
 -- ---- the line
 
@@ -171,10 +202,10 @@ module _ (x : Basis) (labels : LabelsLead x) (g : Both) (rest : List BlockLine) 
         g.call.temps.places from ≡ Some there
         → value_type x g moving rest y to ≡ Some to_type → type_in x is_location (body_of g) from ≡ Some to_type
         → if_kind is_standing (place_named is_location (body_of g).proc.places from) ≡ true
-        → is_full_at g.world (location_at g.call.temps there) ≡ true
+        → is_full_at g.world (location_at g.call.temps there) ≡ true → may_change (location_at g.call.temps there).base ≡ true
         → Settles x (starts g moving rest) rest (Passes (Answers [] (1 + (bytes start_value + 0))
         (with_value to g.call.temps (load g.world (location_at g.call.temps there))) (store g.world (location_at g.call.temps there) start_value)))
-    moved_out names y there e typed from_typed may full =
+    moved_out names y there e typed from_typed may full may_be =
         let t = target x g moving rest y to to_type refl refl typed names.0 in
         let p = pointed x g moving rest y from to_type from_typed in
         let r = read_location x g moving rest y from there p.named names.1.0 e full in
@@ -201,7 +232,7 @@ module _ (x : Basis) (labels : LabelsLead x) (g : Both) (rest : List BlockLine) 
         (ap of_numbers p.look ∙ t.numbers) live start_value
         (subst (λ s. has_shape start_value s ≡ true) (sym p.look) (x.defaults ty))
         (blank_zero (form_of (facts_in x.table) to_type) t.unhooked) (r.read.word ∙ single) (r.read.size ∙ size) (with_value to g.call.temps v)
-        (same_temps x g1 moving rest y1) next seen.1 w.written in
+        (same_temps x g1 moving rest y1) next (subst (λ l. may_change l.base ≡ true) (ap (location_at g.call.temps) w.is) may_be) seen.1 w.written in
         let some = bytes_some v (values_of_numbers v (shape_of (facts_in x.table) to_type) t.numbers v_shaped) in
         subst (λ l. Settles x (starts g moving rest) rest (Passes (Answers [] (1 + (bytes start_value + 0)) (with_value to g.call.temps v)
         (store g.world l start_value)))) (sym (ap (location_at g.call.temps) w.is))
@@ -239,7 +270,7 @@ module _ (x : Basis) (labels : LabelsLead x) (g : Both) (rest : List BlockLine) 
         (λ b. gives (scene_of (high x.table x.blocks (starts g moving rest))) to (costs 1 (costs (bytes start_value)
         (unless_gone b (does (Stores (location_at g.call.temps there) start_value)) >> give (load g.world (location_at g.call.temps there))))
         >>= kept_if false (bound_for g how))) (λ before. tt)
-        (λ h. moved_out names y there e typed from_typed may.0 seen)))))
+        (λ h. moved_out names y there e typed from_typed may.0 seen may_be)))))
 
   pub move_line : (ty : Option ℕ) (of : List (Option ℕ)) (from : List From) → RowHere x g rest to O.Move how ty of from
   move_line (Some ty) (a ∷ []) (F.Place from ∷ []) names y = move_value ty a from names y

@@ -1,11 +1,11 @@
 -- Where what a line writes at a location stands, and that it is written.
-use Rattle.std.proofs.Common.{◌≡◌, inl, inr, ℕ, ◌+◌, ◌*◌, ◌≤◌, List, [], Some, Bool, true, false, refl, sym, ap, subst, ◌∙◌, arith, ◌⊎◌}
-use Rattle.std.proofs.lemmas.Bool.{cases_Bool}
+use Rattle.std.proofs.Common.{◌≡◌, inl, inr, ℕ, ◌+◌, ◌*◌, ◌≤◌, List, [], Some, Bool, true, false, refl, sym, ap, ap₂, subst, ◌∙◌, arith, ◌⊎◌}
+use Rattle.std.proofs.lemmas.Bool.{and_parts, cases_Bool}
 use Rattle.word_code.proofs.ForCallers.{at, Runs}
 use Rattle.word_lowering.proofs.RoutineCalls.{awaiting}
 use Rattle.nim_meaning.specs.Values.{Value, bytes, Location, Standing, Holds}
-use Rattle.nim_meaning.specs.State.{is_there, slot_at, store, with_slot}
-use Rattle.nim_meaning.specs.Places.{place_at, root_of, through_slot}
+use Rattle.nim_meaning.specs.State.{is_seen, is_there, is_whole, load, slot_at, store, with_slot}
+use Rattle.nim_meaning.specs.Places.{may_change, place_at, root_of, through_slot}
 use Rattle.word_lowering.specs.LineCode.{location, named, place, Around, variable_in, variable_of}
 use Rattle.flat_code.specs.declared.block.BlockLine.{BlockLine}
 use Rattle.flat_code.specs.Fits.{is_standing}
@@ -16,25 +16,28 @@ use Rattle.word_lowering.specs.declared.homes.Alias.TheVariants as alias
 use Rattle.word_lowering.specs.declared.homes.Home.{Home}
 use Rattle.word_lowering.specs.declared.homes.Home.TheVariants.{Variable, Static, Placed}
 use Rattle.word_lowering.specs.declared.homes.Housed.{Housed}
-use Rattle.word_lowering.specs.declared.spots.Spot.TheVariants.{Lies}
+use Rattle.word_lowering.specs.declared.spots.Spot.TheVariants.{Lies, Letter}
 use Rattle.word_lowering.specs.Layouts.{holds_address, owns}
 use Rattle.nim_meaning.specs.Deeds.{Answers}
 use Rattle.nim_types.specs.Table.{facts_in}
 use Rattle.word_lowering.proofs.ControlLines.{plain}
 use Rattle.word_lowering.proofs.Gets.{Gets, SameTemps, gets_moved, good_place}
-use Rattle.word_lowering.proofs.Keeping.{declared_address, location_address, spot_address, spot_memory}
+use Rattle.word_lowering.proofs.Keeping.{declared_address, led_spot, location_address, spot_led, spot_memory}
+use Rattle.word_lowering.proofs.InMemory.{bytes_some}
+use Rattle.word_lowering.proofs.LetterStores.{letter_settles}
 use Rattle.word_lowering.proofs.Lines.{Basis, IsGood, Settles, all_procs, all_sites, changed, changed_later, goes_on, stands_next, starts}
 use Rattle.word_lowering.proofs.Located.{owned_readable, waiting_lying}
 use Rattle.word_lowering.proofs.MovedLines.{own_plain}
 use Rattle.word_lowering.proofs.Moves.{IsHigh, ToMemory}
 use Rattle.word_lowering.proofs.ReadFacts.{Read, global_root, own_root}
 use Rattle.word_lowering.proofs.Related.{Both, body_of, within}
-use Rattle.word_lowering.proofs.Scenes.{Leads, IsOwned, Owned, Filled, FromOwned, FromPlace, IsAddressed, IsFilled, IsLedBy, IsNamed, IsRoot, IsThere}
-use Rattle.word_lowering.proofs.Scenes.{Name, Points, address_of, LeadsHere}
+use Rattle.word_lowering.proofs.Scenes.{IsOwned, IsStood, Stood, may_owned, Filled, FromOwned, FromPlace, IsAddressed, IsFilled, IsLedBy, IsNamed, IsRoot}
+use Rattle.word_lowering.proofs.Scenes.{IsThere}
+use Rattle.word_lowering.proofs.Scenes.{Name, Points, address_of, LeadsHere, Reaches, ReachesHere, stored_here}
 use Rattle.word_lowering.proofs.Scenes.{house, looked, of_location, of_place}
 use Rattle.word_lowering.proofs.Settling.{code_here, code_next}
-use Rattle.word_lowering.proofs.ShapeFacts.{bytes_is, never, of_numbers, shape_bytes}
-use Rattle.word_lowering.proofs.Sites.{Housing, InMemory, around, by_address, data_end, in_data, in_places, in_variable, room, type_of, Site}
+use Rattle.word_lowering.proofs.ShapeFacts.{bytes_is, is_letter, letter_is, never, of_numbers, shape_bytes, values_of_numbers}
+use Rattle.word_lowering.proofs.Sites.{Housing, InMemory, around, by_address, data_end, in_data, in_places, in_variable, IsHoused, room, type_of, Site}
 use Rattle.word_lowering.proofs.SitesApart.{houses}
 use Rattle.word_lowering.proofs.Sources.{Readable, separate_turned, to_range_by, lying_readable}
 use Rattle.word_lowering.proofs.Stores.{good_written, ground_then, gone_written}
@@ -60,33 +63,53 @@ module _ (x : Basis) (g : Both) (line : BlockLine) (rest : List BlockLine) (y : 
         → h ≡ house g.call.site (of_place n) → looked x.table g.call.site (of_place n) ≡ s
         → (old : Value) → slot_at g.world g.call.site.level n ≡ Some (Holds old) → l ≡ place_at g.call.site.level n → Written h l s
     far_written : (home : Home) → spot_of h ≡ Lies home → IsHigh home → (a : ℕ) → Points g.call.site.base g.call.vars home a
-        → IsOwned l.base → LeadsHere x.table x.blocks (all_sites x g line rest y) g.ground g.world l a s → Written h l s
+        → IsStood l.base → LeadsHere x.table x.blocks (all_sites x g line rest y) g.ground g.world l a s → Written h l s
+    -- a character at an address, also one of a text: it is written as a byte
+    letter_written : (home : Home) → spot_of h ≡ Letter home → IsHigh home → (a : ℕ) → Points g.call.site.base g.call.vars home a
+        → IsStood l.base → is_letter s ≡ true → ReachesHere x.table x.blocks (all_sites x g line rest y) g.ground g.world l a s → Written h l s
 
-  pub written_stands : {h : Housed} {l : Location} {s : Shape} → Written h l s → IsOwned l.base
-  written_stands (own_written n there own same look old slot at) = subst (λ k. IsOwned k.base) (sym at) tt
-  written_stands (far_written home spot high a points owned leads) = owned
+  pub written_stands : {h : Housed} {l : Location} {s : Shape} → Written h l s → IsStood l.base
+  written_stands (own_written n there own same look old slot at) = inl (subst (λ k. IsOwned k.base) (sym at) tt)
+  written_stands (far_written home spot high a points stood leads) = stood
+  written_stands (letter_written home spot high a points stood letter leads) = stood
 
   -- what is in the variable of a place that has an address
   record AddressIn (f : Name) (a : ℕ) : Type 0 where
     variable_is : ℕ
-    spot : spot_of (house g.call.site f) ≡ Lies (Variable variable_is)
+    spot : spot_of (house g.call.site f) ≡ led_spot (is_letter (looked x.table g.call.site f)) (Variable variable_is)
     high_is : OWN_FROM ≤ variable_is
     points : g.call.vars variable_is ≡ Some a
 
   address_in : (f : Name) (a : ℕ) → IsThere g.call.site f → holds_address (house g.call.site f) ≡ true
       → g.call.vars (variable_of (house g.call.site f)) ≡ Some a → AddressIn f a
-  address_in f a there address is = by (houses x.table x.blocks g.call.site f y.linked.0 there).where_is
+  address_in f a there address is = by place_is.where_is
     where
+      place_is : IsHoused x.table x.blocks g.call.site.body (house g.call.site f)
+      place_is = houses x.table x.blocks g.call.site f y.linked.0 there
+
       by : Housing (room (body_of g)) FIXED_BYTES (data_end x.table x.blocks) (body_of g).start (house g.call.site f) → AddressIn f a
       by (in_variable v e plain least w) = never (sym plain ∙ address)
       by (by_address v e k least) = record {
         variable_is = v;
-        spot = spot_address (house g.call.site f) v address e;
+        spot = spot_led (house g.call.site f) address ∙ ap₂ led_spot (sym place_is.letter) e;
         high_is = least;
         points = ap g.call.vars (sym (ap variable_in e)) ∙ is;
       }
       by (in_places m e plain whole within) = never (sym plain ∙ address)
       by (in_data m e plain whole least within start) = never (sym plain ∙ address)
+
+  -- at the address there
+  at_far : (f : Name) (l : Location) (a : ℕ) (s : Shape) → AddressIn f a → looked x.table g.call.site f ≡ s → IsStood l.base
+      → ReachesHere x.table x.blocks (all_sites x g line rest y) g.ground g.world l a s → Written (house g.call.site f) l s
+  at_far f l a s p look stood leads = by (is_letter s) refl
+    where
+      spot : {b : Bool} → is_letter s ≡ b → spot_of (house g.call.site f) ≡ led_spot b (Variable p.variable_is)
+      spot e = p.spot ∙ ap (λ b. led_spot b (Variable p.variable_is)) (ap is_letter look ∙ e)
+
+      by : (b : Bool) → is_letter s ≡ b → Written (house g.call.site f) l s
+      by true e = letter_written (Variable p.variable_is) (spot e) p.high_is a p.points stood e leads
+      by false e = far_written (Variable p.variable_is) (spot e) p.high_is a p.points stood
+          (stored_here x.table x.blocks (all_sites x g line rest y) g.ground g.world l a s e leads)
 
   pub record WrittenAt (t : ℕ) (there : Where) : Type 0 where
     pub location_is : Location
@@ -104,7 +127,7 @@ module _ (x : Basis) (g : Both) (line : BlockLine) (rest : List BlockLine) (y : 
           → Written (named here a (house g.call.site (of_location t))) l s → Written (location here t) l s
       as_location a l is w = subst (λ b. Written (named here b (house g.call.site (of_location t))) l s) (sym is) w
 
-      far_own : (is : (house g.call.site (of_location t)).alias ≡ alias.Own) (other : Where) → there ≡ other → Owned other
+      far_own : (is : (house g.call.site (of_location t)).alias ≡ alias.Own) (other : Where) → there ≡ other → Stood other
           → IsAddressed x.table x.blocks (all_sites x g line rest y) g.ground g.world g.call t there → WrittenAt t there
       far_own is (Within temp path) at_l of r = absurd of
       far_own is (Located l) at_l of r =
@@ -113,8 +136,8 @@ module _ (x : Basis) (g : Both) (line : BlockLine) (rest : List BlockLine) (y : 
           record {
             location_is = l;
             is = at_l;
-            written = as_location alias.Own l is (far_written (Variable p.variable_is) p.spot p.high_is r.address p.points of
-                (subst (λ w. Leads x.table x.blocks (all_sites x g line rest y) g.ground g.world g.call.site g.call.temps w r.address s) at_l r.leads));
+            written = as_location alias.Own l is (at_far (of_location t) l r.address s p refl of
+                (subst (λ w. Reaches x.table x.blocks (all_sites x g line rest y) g.ground g.world g.call.site g.call.temps w r.address s) at_l r.leads));
           }
 
       by_place : (p : ℕ) (global : Bool) → (house g.call.site (of_location t)).alias ≡ alias.Place p global
@@ -137,7 +160,7 @@ module _ (x : Basis) (g : Both) (line : BlockLine) (rest : List BlockLine) (y : 
             written = as_location (alias.Place p true) l is
                 (subst (λ h. Written h l s) same (far_written (house site0 (of_place p)).home
                 (spot_memory (house site0 (of_place p)) u.root.item.plain u.home) (high_in_memory (house site0 (of_place p)).home u.home) a points
-                (subst (λ (k : Location). IsOwned k.base) (sym own) tt)
+                (inl (subst (λ (k : Location). IsOwned k.base) (sym own) tt))
                 (inl (subst (λ k. FromPlace x.table (all_sites x g line rest y) g.world k a s) (sym own) (record {
                   site = site0;
                   among = u.start.among;
@@ -176,11 +199,12 @@ module _ (x : Basis) (g : Both) (line : BlockLine) (rest : List BlockLine) (y : 
               own_written p there_is own refl look v.0 v.1 (root ∙ own_root x g line rest y g.call.site.level p v.0 v.1)
           of_call p l there_is look f root (inr no_own) =
               let v = f.other no_own in
-              let q = address_in (of_place p) v.address there_is (declared_address (house g.call.site (of_place p)) there_is.kind no_own) v.holds in
+              let address = declared_address (house g.call.site (of_place p)) there_is.kind no_own in
+              let q = address_in (of_place p) v.address there_is address v.holds in
               let same : v.location ≡ l = sym (ap (through_slot (Standing g.call.site.level p)) v.slot) ∙ sym root in
-              far_written (Variable q.variable_is) q.spot q.high_is v.address q.points (subst (λ (k : Location). IsOwned k.base) same v.owned)
-              (subst (λ k. LeadsHere x.table x.blocks (all_sites x g line rest y) g.ground g.world l v.address k) look
-              (subst (λ k. LeadsHere x.table x.blocks (all_sites x g line rest y) g.ground g.world k v.address (looked x.table g.call.site (of_place p)))
+              at_far (of_place p) l v.address s q look (subst (λ (k : Location). IsStood k.base) same v.stood)
+              (subst (λ k. ReachesHere x.table x.blocks (all_sites x g line rest y) g.ground g.world l v.address k) look
+              (subst (λ k. ReachesHere x.table x.blocks (all_sites x g line rest y) g.ground g.world k v.address (looked x.table g.call.site (of_place p)))
               same v.leads))
 
       by : (a : Alias) → (house g.call.site (of_location t)).alias ≡ a → IsLedBy x.table x.blocks a (all_sites x g line rest y) g.ground g.world g.call t there
@@ -193,7 +217,7 @@ module _ (x : Basis) (g : Both) (line : BlockLine) (rest : List BlockLine) (y : 
 
   -- ---- a value is written
 
-  module _ (h : Housed) (l : Location) (s : Shape) (numbers : of_numbers s ≡ true) (live : is_there g.world l ≡ true) (v : Value)
+  module _ (h : Housed) (l : Location) (s : Shape) (numbers : of_numbers s ≡ true) (seen : is_seen g.world l ≡ true) (v : Value)
       (shaped : has_shape v s ≡ true) (from : Housed) (r : Read x g line rest y true from v)
       (code : code_here x g line rest y ≡ moves h from (code_next x g line rest y)) (temps : Temps) (same : SameTemps x g line rest y temps) (work : ℕ)
       (le : 10 + 2 * bytes v ≤ 256 * work) where
@@ -202,6 +226,9 @@ module _ (x : Basis) (g : Both) (line : BlockLine) (rest : List BlockLine) (y : 
 
     abbrev sites : List Site
     sites = all_sites x g line rest y
+
+    live : is_there g.world l ≡ true
+    live = (and_parts (is_there g.world l) (is_whole g.world (load g.world l)) seen).0
 
     -- at an address
     module _ (home : Home) (spot : spot_of h ≡ Lies home) (high : IsHigh home) (a : ℕ) (points : Points g.call.site.base g.call.vars home a) where
@@ -242,8 +269,8 @@ module _ (x : Basis) (g : Both) (line : BlockLine) (rest : List BlockLine) (y : 
           (at (awaiting (within x.table x.blocks g) p.awaits) p.memory next p.vars p.words)) (sym code) p.runs)
           p.some (let k = p.few in omega (arith, k, le)) refl
 
-    pub stored_settles : Written h l s → Stored
-    stored_settles (own_written n there own is look old slot l_is) =
+    pub stored_settles : may_change l.base ≡ true → Written h l s → Stored
+    stored_settles may (own_written n there own is look old slot l_is) =
         let shape : has_shape v (looked x.table g.call.site (of_place n)) ≡ true = subst (λ k. has_shape v k ≡ true) (sym look) shaped in
         let plain_is = own_plain (house g.call.site (of_place n)) own in
         let next = code_next x g line rest y in
@@ -255,8 +282,14 @@ module _ (x : Basis) (g : Both) (line : BlockLine) (rest : List BlockLine) (y : 
         (good_place x g line rest y n there own v rest (stands_next x.table x.blocks (body_of g) line rest y.stands) temps same
         (code_here x g line rest y) next (10 + 2 * bytes v) (ap of_numbers look ∙ numbers) shape plain_is get)
         get.steps work temps (with_slot g.world g.call.site.level n (Some (Holds v))) get.runs get.some (let f = get.few in omega (arith, f, le)) refl)
-    stored_settles (far_written home spot high a points owned leads) = by (owned_or_gone x (starts g line rest) y l a s owned leads)
+    stored_settles may (far_written home spot high a points stood leads) =
+        by (owned_or_gone x (starts g line rest) y l a s (may_owned l.base stood may) leads)
       where
         by : FromOwned x.table (all_sites x g line rest y) g.ground g.world l a s ⊎ FromGone x (starts g line rest) y l a s → Stored
         by (inl f) = far_settles home spot high a points f
         by (inr f) = gone_settles home spot high a points f
+    stored_settles may (letter_written home spot high a points stood letter leads) =
+        letter_settles x g line rest y l a (may_owned l.base stood may)
+        (subst (ReachesHere x.table x.blocks (all_sites x g line rest y) g.ground g.world l a) (letter_is s letter) leads) seen h home spot points v
+        (subst (λ k. has_shape v k ≡ true) (letter_is s letter) shaped) from true r code temps same work
+        (let some = bytes_some v (values_of_numbers v s numbers shaped) in omega (arith, le, some))

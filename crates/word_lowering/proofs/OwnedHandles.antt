@@ -1,5 +1,5 @@
 -- Where the handle of a text or a sequence stands that a row changes: at the address of what a location leads to, which somebody owns.
-use Rattle.std.proofs.Common.{◌≡◌, inl, ℕ, List, Some, Bool, true, false, refl, sym, ap, subst, ◌∙◌, arith}
+use Rattle.std.proofs.Common.{◌≡◌, ◌⊎◌, inl, inr, ℕ, List, Some, Bool, true, false, refl, sym, ap, subst, ◌∙◌, arith}
 use Rattle.nim_meaning.specs.State.{is_there, is_whole, load}
 use Rattle.nim_meaning.specs.Values.{Holds, Location}
 use Rattle.flat_code.specs.declared.block.BlockLine.{BlockLine}
@@ -8,41 +8,36 @@ use Rattle.flat_code.specs.Shapes.{Shape, block, elements}
 use Rattle.word_lowering.specs.declared.homes.Home.{Home as Place}
 use Rattle.word_lowering.specs.declared.homes.Home.TheVariants.{Placed, Static, Variable}
 use Rattle.word_lowering.specs.declared.homes.Housed.{Housed}
-use Rattle.word_lowering.specs.declared.spots.Spot.{Spot}
-use Rattle.word_lowering.specs.declared.spots.Spot.TheVariants.{Held, Lies}
+use Rattle.word_lowering.specs.declared.spots.Spot.TheVariants.{Lies}
 use Rattle.word_lowering.specs.Layouts.{holds_address}
 use Rattle.word_lowering.specs.Operands.{location}
-use Rattle.word_lowering.specs.Spots.{spot_by, spot_of}
+use Rattle.word_lowering.specs.Spots.{home_in, spot_by, spot_of}
 use Rattle.word_lowering.proofs.AddressFacts.{in_memory}
+use Rattle.word_lowering.proofs.LetterShapes.{no_letter}
 use Rattle.word_lowering.proofs.HandleRows.{IsHandled}
 use Rattle.word_lowering.proofs.Keeping.{points_there}
 use Rattle.word_lowering.proofs.MovedLines.{own_plain}
-use Rattle.word_lowering.proofs.GoodLeads.{owned_seen}
+use Rattle.word_lowering.proofs.GoodLeads.{owned_or_text, owned_seen}
 use Rattle.word_lowering.proofs.Lines.{Basis, IsGood, all_sites, starts}
 use Rattle.word_lowering.proofs.Located.{owned_readable}
-use Rattle.word_lowering.proofs.OutPlaces.{Written, far_written, high_in_memory, own_written, written_at}
+use Rattle.word_lowering.proofs.OutPlaces.{Written, far_written, high_in_memory, letter_written, own_written, written_at}
 use Rattle.word_lowering.proofs.Related.{Both, body_of}
-use Rattle.word_lowering.proofs.Scenes.{FromOwned, IsNamed, address_of, house, looked, of_location, of_place}
+use Rattle.word_lowering.proofs.Scenes.{FromLiteral, FromOwned, IsNamed, IsOwned, address_of, house, looked, of_location, of_place}
+use Rattle.word_lowering.proofs.ShapeFacts.{never}
 use Rattle.word_lowering.proofs.Sites.{around, is_one_word}
 use Rattle.word_lowering.proofs.TextRowRuns.{IsAt}
 use Rattle.flat_code.specs.Fits.{is_standing}
 
 -- where a spot lies is where a home is
-home_in : Spot → Place
-home_in (Held v) = Variable v
-home_in (Lies home) = home
-
 pub lies_at : (h : Housed) (home : Place) → spot_of h ≡ Lies home → h.home ≡ home
-unfolding home_in
-lies_at h home e = by (holds_address h) h.home ∙ ap home_in e
+lies_at h home e = by (holds_address h) h.is_letter h.home ∙ ap home_in e
   where
-    by : (b : Bool) (p : Place) → p ≡ home_in (spot_by b p)
-    by false (Variable v) = refl
-    by true (Variable v) = refl
-    by false (Placed at) = refl
-    by true (Placed at) = refl
-    by false (Static at) = refl
-    by true (Static at) = refl
+    by : (address letter : Bool) (p : Place) → p ≡ home_in (spot_by address letter p)
+    by false letter (Variable v) = refl
+    by false letter (Placed at) = refl
+    by false letter (Static at) = refl
+    by true false p = refl
+    by true true p = refl
 
 no_word : (s : Shape) → IsHandled s → is_one_word s ≡ false
 no_word block h = refl
@@ -58,12 +53,17 @@ module _ (x : Basis) (g : Both) (line : BlockLine) (rest : List BlockLine) (y : 
     pub owned : FromOwned x.table (all_sites x g line rest y) g.ground g.world location_is address s
     pub at_home : IsAt g.call.site.base g.call.vars (location (around x.table x.blocks (body_of g)) t).home address
 
+  -- it isn't the text of a literal
+  abbrev pub IsNoText : (there : Where) → Shape → Type 0
+  IsNoText there s = (l : Location) (a : ℕ) → there ≡ Located l → FromLiteral x.table x.blocks l a s → ⊥
+
   -- of what is no word
   pub owned_many : (t : ℕ) (there : Where) → IsNamed g.call.site (of_location t)
-      → is_standing (house g.call.site (of_location t)).kind ≡ true → g.call.temps.places t ≡ Some there → (s : Shape) → is_one_word s ≡ false
+      → is_standing (house g.call.site (of_location t)).kind ≡ true → g.call.temps.places t ≡ Some there → (s : Shape) → IsNoText there s
+      → is_one_word s ≡ false
       → looked x.table g.call.site (of_location t) ≡ s → is_there g.world (location_at g.call.temps there) ≡ true
       → is_whole g.world (load g.world (location_at g.call.temps there)) ≡ true → OwnedAt t there s
-  owned_many t there n standing e s many look live whole =
+  owned_many t there n standing e s no_text many look live whole =
       let w = written_at x g line rest y t there n standing e in
       by w.location_is w.is
       (subst (λ u. Written x g line rest y (location (around x.table x.blocks (body_of g)) t) w.location_is u) look w.written)
@@ -73,6 +73,10 @@ module _ (x : Basis) (g : Both) (line : BlockLine) (rest : List BlockLine) (y : 
 
       live_at : (l : Location) → there ≡ Located l → is_there g.world l ≡ true
       live_at l is = subst (λ w. is_there g.world (location_at g.call.temps w) ≡ true) is live
+
+      own : (l : Location) (a : ℕ) → there ≡ Located l → IsOwned l.base ⊎ FromLiteral x.table x.blocks l a s → IsOwned l.base
+      own l a is (inl owned) = owned
+      own l a is (inr f) = absurd (no_text l a is f)
 
       by : (l : Location) → there ≡ Located l → Written x g line rest y (location (around x.table x.blocks (body_of g)) t) l s → OwnedAt t there s
       by l is (own_written p there_is own same other old slot at) =
@@ -105,9 +109,10 @@ module _ (x : Basis) (g : Both) (line : BlockLine) (rest : List BlockLine) (y : 
               small = omega (arith, near);
             });
           }
+      by l is (letter_written home spot high a points may letter leads) = never (sym (no_letter s many) ∙ letter)
       by l is (far_written home spot high a points may leads) =
           let owned : FromOwned x.table (all_sites x g line rest y) g.ground g.world l a s
-          = owned_seen x (starts g line rest) y l a s may leads
+          = owned_seen x (starts g line rest) y l a s (own l a is (owned_or_text x (starts g line rest) y l a s may leads)) leads
           (subst (λ w. is_whole g.world (load g.world (location_at g.call.temps w)) ≡ true) is whole) in
           let near = (owned_readable x (starts g line rest) y l a s owned (live_at l is)).near in
           record {
@@ -120,7 +125,7 @@ module _ (x : Basis) (g : Both) (line : BlockLine) (rest : List BlockLine) (y : 
           }
 
   pub owned_at : (t : ℕ) (there : Where) → IsNamed g.call.site (of_location t)
-      → is_standing (house g.call.site (of_location t)).kind ≡ true → g.call.temps.places t ≡ Some there → (s : Shape) → IsHandled s
+      → is_standing (house g.call.site (of_location t)).kind ≡ true → g.call.temps.places t ≡ Some there → (s : Shape) → IsNoText there s → IsHandled s
       → looked x.table g.call.site (of_location t) ≡ s → is_there g.world (location_at g.call.temps there) ≡ true
       → is_whole g.world (load g.world (location_at g.call.temps there)) ≡ true → OwnedAt t there s
-  owned_at t there n standing e s handled look live whole = owned_many t there n standing e s (no_word s handled) look live whole
+  owned_at t there n standing e s no_text handled look live whole = owned_many t there n standing e s no_text (no_word s handled) look live whole

@@ -17,7 +17,7 @@ use Rattle.flat_code.specs.Sizes.{pieces_weight}
 use Rattle.rv32_isa.specs.declared.micro_op.Size.TheVariants.{Byte, Word as whole}
 use Rattle.word_code.specs.declared.word.Test.TheVariants as test
 use Rattle.word_code.specs.declared.word.WordInstr.{WordInstr}
-use Rattle.word_code.specs.declared.word.WordInstr.TheVariants.{Branch, Call, Constant, Label, Load, Sum}
+use Rattle.word_code.specs.declared.word.WordInstr.TheVariants.{Branch, Call, Constant, Load, Sum}
 use Rattle.word_lowering.specs.declared.handed.TheConstants.{LEFT_HANDLE_AT, RIGHT_HANDLE_AT}
 use Rattle.word_lowering.specs.declared.handed.Handed.{Handed}
 use Rattle.word_lowering.specs.declared.handed.Handed.TheVariants.{Number, Where}
@@ -28,7 +28,7 @@ use Rattle.word_lowering.specs.declared.homes.Home.{Home}
 use Rattle.word_lowering.specs.declared.homes.Home.TheVariants.{Placed, Static, Variable}
 use Rattle.word_lowering.specs.declared.homes.Housed.{Housed}
 use Rattle.word_lowering.specs.declared.spots.Spot.{Spot}
-use Rattle.word_lowering.specs.declared.spots.Spot.TheVariants.{Held, Lies}
+use Rattle.word_lowering.specs.declared.spots.Spot.TheVariants.{Held, Lies, Letter}
 use Rattle.word_lowering.specs.Operands.{Around, operand_at, text_at, variable_of}
 use Rattle.word_lowering.specs.Aliases.{text_in}
 use Rattle.word_lowering.specs.LineCode as lines
@@ -265,6 +265,7 @@ element_read_weighs true to k = by (spot_of to)
     by : (spot : Spot) → length (Load FIRST FIFTH Byte ∷ moved true to.bytes spot (Held FIRST) k) ≤ 7 + length k
     by (Held v) = omega arith
     by (Lies home) = omega arith
+    by (Letter home) = omega arith
 element_read_weighs false to k = let h = moved_weighs to.is_word to.bytes (spot_of to) (Lies (Variable FIFTH)) k in omega (arith, h)
 
 -- ---- where operands lack nothing stands

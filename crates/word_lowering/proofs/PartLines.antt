@@ -33,9 +33,10 @@ use Rattle.word_lowering.proofs.OpRuns.{gives_sum}
 use Rattle.word_lowering.proofs.OperationRuns.{Given}
 use Rattle.word_lowering.proofs.OrdinalRuns.{but_one, put_here}
 use Rattle.word_lowering.proofs.OutPlaces.{written_at, written_stands}
-use Rattle.word_lowering.proofs.ReadFacts.{constant_near, owned_near, value_near, waiting_near}
+use Rattle.word_lowering.proofs.ReadFacts.{data_near, owned_near, value_near, waiting_near}
 use Rattle.word_lowering.proofs.Related.{Both, body_of, within, high}
-use Rattle.word_lowering.proofs.Scenes.{Ground, Leads, Owned, IsLedBy, IsNamed, IsThere, Points, house, looked, of_location, of_place, of_value, of_waiting}
+use Rattle.word_lowering.proofs.Scenes.{reached_so, Ground, Leads, Reaches, Stood, IsLedBy, IsNamed, IsThere, Points, house, looked, of_location, of_place}
+use Rattle.word_lowering.proofs.Scenes.{of_value, of_waiting}
 use Rattle.word_lowering.proofs.Settling.{code_here, code_next, LabelsLead}
 use Rattle.word_lowering.proofs.ShapeFacts.{never, shape_bytes, nth_shape, of_numbers}
 use Rattle.word_lowering.proofs.ShapePaths.{Step, path_on, shape_some, shapes_before, step_within}
@@ -112,7 +113,8 @@ module _ (x : Basis) (sites : List Site) (s : Site) (ground : Ground) (world : W
     path = path_on (looked x.table f.site (of_waiting f.node)) l.path f.offset t i o u f.path step;
     address = (let e = f.address in omega (arith, e));
   })))
-  leads_on (Located l) a o t u i step (inr (inl f)) = inr (inl (record {
+  leads_on (Located l) a o t u i step (inr (inl (inr f))) = absurd (subst (λ s. Step s i o u) f.shape step)
+  leads_on (Located l) a o t u i step (inr (inl (inl f))) = inr (inl (inl (record {
     pieces = f.pieces;
     one = f.one;
     among = f.among;
@@ -123,7 +125,7 @@ module _ (x : Basis) (sites : List Site) (s : Site) (ground : Ground) (world : W
     offset = f.offset + o;
     path = path_on f.shape l.path f.offset t i o u f.path step;
     address = (let e = f.address in omega (arith, e));
-  }))
+  })))
   leads_on (Within from path) a o t u i step f = record {
     there = f.there;
     home = f.home;
@@ -143,7 +145,7 @@ module _ (x : Basis) (g : Both) (line : BlockLine) (rest : List BlockLine) (y : 
       → Leads x.table x.blocks (all_sites x g line rest y) g.ground g.world g.call.site g.call.temps there a t → a + shape_bytes t < 2 ^ 32
   leads_near (Located l) a t (inr (inr (inl f))) = f.near
   leads_near (Located l) a t (inr (inr (inr f))) = waiting_near x (all_sites x g line rest y) y.linked l a t f
-  leads_near (Located l) a t (inr (inl f)) = constant_near x l a t f
+  leads_near (Located l) a t (inr (inl f)) = data_near x l a t f
   leads_near (Located l) a t (inl f) = owned_near x (all_sites x g line rest y) y.linked g.ground g.world l a t (inl f)
   leads_near (Within from path) a t f = value_near x (all_sites x g line rest y) y.linked g.call.site g.call.temps from path a t (inl refl) f
 
@@ -173,8 +175,8 @@ module _ (x : Basis) (g : Both) (line : BlockLine) (rest : List BlockLine) (y : 
 
   -- a run that gives the address
   pub leads_settles : (t : ℕ) (there : Where) (a work : ℕ) → 1 ≤ work → IsThere g.call.site (of_location t)
-      → (is_standing (house g.call.site (of_location t)).kind ≡ true → Owned there)
-      → Leads x.table x.blocks (all_sites x g line rest y) g.ground g.world g.call.site (with_place t g.call.temps there) there a
+      → (is_standing (house g.call.site (of_location t)).kind ≡ true → Stood there)
+      → Reaches x.table x.blocks (all_sites x g line rest y) g.ground g.world g.call.site (with_place t g.call.temps there) there a
       (looked x.table g.call.site (of_location t))
       → Given x.live (all_procs x) (within x.table x.blocks g) g.memory g.words (code_here x g line rest y) g.call.vars (led_variable t) a
       (code_next x g line rest y)
@@ -232,10 +234,10 @@ module _ (x : Basis) (g : Both) (line : BlockLine) (rest : List BlockLine) (y : 
   pub part_standing : (to from i : ℕ) (there : Where) → IsNamed g.call.site (of_location from) → g.call.temps.places from ≡ Some there
       → (is_standing (house g.call.site (of_location to)).kind ≡ true → is_standing (house g.call.site (of_location from)).kind ≡ true)
       → is_standing (house g.call.site (of_location to)).kind ≡ true
-      → Owned (deeper_in g.call.temps there i)
+      → Stood (deeper_in g.call.temps there i)
   part_standing to from i there n e as_base standing =
       let w = written_at x g line rest y from there n (as_base standing) e in
-      subst (λ t. Owned (deeper_in g.call.temps t i)) (sym w.is) (written_stands x g line rest y w.written)
+      subst (λ t. Stood (deeper_in g.call.temps t i)) (sym w.is) (written_stands x g line rest y w.written)
 
 -- ---- a field
 
@@ -321,10 +323,13 @@ module _ (x : Basis) (labels : LabelsLead x) (g : Both) (rest : List BlockLine) 
           let b = led_home x g part_here rest y to there_to in
           leads_settles x g part_here rest y to (deeper_in g.call.temps there field) (a.address + o) 1 (omega arith) there_to
           (part_standing x g part_here rest y to from field there named_from e as_base)
+          (reached_so x.table x.blocks (all_sites x g part_here rest y) g.ground g.world g.call.site
+          (with_place to g.call.temps (deeper_in g.call.temps there field)) (deeper_in g.call.temps there field) (a.address + o)
+          (looked x.table g.call.site (of_location to))
           (leads_on x (all_sites x g part_here rest y) g.call.site g.ground g.world g.call.temps
           (with_place to g.call.temps (deeper_in g.call.temps there field))
           (λ t v h. h) there a.address o
-          (looked x.table g.call.site (of_location from)) (looked x.table g.call.site (of_location to)) field step a.leads_to)
+          (looked x.table g.call.site (of_location from)) (looked x.table g.call.site (of_location to)) field step a.leads_to))
           (subst (λ l. Given x.live (all_procs x) (within x.table x.blocks g) g.memory g.words l g.call.vars (led_variable x g part_here rest y to)
           (a.address + o) (code_next x g part_here rest y))
           (sym (ap (λ u. part_code (variable_of u) (location (around x.table x.blocks (body_of g)) from).home

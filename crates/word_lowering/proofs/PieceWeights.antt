@@ -13,7 +13,8 @@ use Rattle.nim_program.specs.declared.operation.Comparison.TheVariants as compar
 use Rattle.flat_code.specs.declared.line.Piece.{Piece}
 use Rattle.flat_code.specs.declared.line.Piece.TheVariants as P
 use Rattle.flat_code.specs.Sizes.{piece_weight, pieces_weight}
-use Rattle.rv32_isa.specs.declared.micro_op.Size.TheVariants.{Word as whole}
+use Rattle.rv32_isa.specs.declared.micro_op.Size.{Size}
+use Rattle.rv32_isa.specs.declared.micro_op.Size.TheVariants.{Byte, Word as whole}
 use Rattle.word_code.specs.declared.routine.TheConstants.{SWAP}
 use Rattle.word_code.specs.declared.word.Test.TheVariants as test
 use Rattle.word_code.specs.declared.word.WordInstr.{WordInstr}
@@ -26,7 +27,7 @@ use Rattle.word_lowering.specs.declared.homes.Home.{Home}
 use Rattle.word_lowering.specs.declared.homes.Home.TheVariants.{Variable, Placed, Static}
 use Rattle.word_lowering.specs.declared.homes.Housed.{Housed}
 use Rattle.word_lowering.specs.declared.spots.Spot.{Spot}
-use Rattle.word_lowering.specs.declared.spots.Spot.TheVariants.{Held, Lies}
+use Rattle.word_lowering.specs.declared.spots.Spot.TheVariants.{Held, Lies, Letter}
 use Rattle.heap_memory.specs.declared.numbers.TheConstants.{TEXT_WRITE}
 use Rattle.word_lowering.specs.LineCode as lines
 use Rattle.word_lowering.specs.Operations as operations
@@ -39,18 +40,25 @@ use Rattle.word_lowering.specs.Spots.{spot_of, shifted, address, moved, passes, 
 pub moved_weighs : (word : Bool) (bytes : ℕ) (to from : Spot) (k : List WordInstr) → length (moved word bytes to from k) ≤ 7 + length k
 moved_weighs word bytes (Held v) (Held u) k = omega arith
 moved_weighs word bytes (Held v) (Lies from) k = omega arith
+moved_weighs word bytes (Held v) (Letter from) k = omega arith
 moved_weighs word bytes (Lies to) (Held u) k = omega arith
+moved_weighs word bytes (Letter to) (Held u) k = omega arith
 moved_weighs true bytes (Lies to) (Lies from) k = omega arith
 moved_weighs false bytes (Lies to) (Lies from) k = omega arith
+moved_weighs word bytes (Lies to) (Letter from) k = omega arith
+moved_weighs word bytes (Letter to) (Lies from) k = omega arith
+moved_weighs word bytes (Letter to) (Letter from) k = omega arith
 
 pub cleared_weighs : (word : Bool) (bytes : ℕ) (to : Spot) (k : List WordInstr) → length (cleared word bytes to k) ≤ 5 + length k
 cleared_weighs word bytes (Held v) k = omega arith
 cleared_weighs true bytes (Lies to) k = omega arith
 cleared_weighs false bytes (Lies to) k = omega arith
+cleared_weighs word bytes (Letter to) k = omega arith
 
 pub handed_weighs : (label bytes : ℕ) (from : Spot) (k : List WordInstr) → length (handed label bytes from k) ≤ 10 + length k
 handed_weighs label bytes (Held u) k = omega arith
 handed_weighs label bytes (Lies from) k = omega arith
+handed_weighs label bytes (Letter from) k = omega arith
 
 pub binary_weighs : (label : ℕ) (operator : Operator) (to left right : ℕ) (k : List WordInstr)
     → length (operations.binary_code label operator to left right k) ≤ 8 + length k
@@ -136,6 +144,7 @@ spot_weighs to (Lies home) pieces k =
     let h = cleared_weighs to.is_word to.bytes (Lies home) (lines.pieces_code home pieces k) in
     let i = pieces_weigh home pieces k in
     omega (arith, h, i)
+spot_weighs to (Letter home) pieces k = omega arith
 
 -- ---- addresses, texts and returns
 
@@ -173,6 +182,8 @@ pub back_weighs : (word : Bool) (spot : Spot) (k : List WordInstr) → length (l
 back_weighs word (Held v) k = omega arith
 back_weighs true (Lies home) k = omega arith
 back_weighs false (Lies home) k = omega arith
+back_weighs true (Letter home) k = omega arith
+back_weighs false (Letter home) k = omega arith
 
 -- ---- operations
 
@@ -202,11 +213,16 @@ pub converted_weighs : (limit : Option ℕ) (to from : Housed) (k : List WordIns
 converted_weighs None to from k = moves_weigh to from k
 converted_weighs (Some values) to from k = omega arith
 
+put_back_weighs : (label : ℕ) (operator : Operator) (home : Home) (size : Size) (by : ℕ) (k : List WordInstr)
+    → length (operations.binary_code label operator FOURTH FOURTH by (address FIRST home ∷ Store FIRST FOURTH size ∷ k)) ≤ 10 + length k
+put_back_weighs label operator home size by k =
+    let h = binary_weighs label operator FOURTH FOURTH by (address FIRST home ∷ Store FIRST FOURTH size ∷ k) in omega (arith, h)
+
 updated_weighs : (label : ℕ) (operator : Operator) (spot : Spot) (by : ℕ) (k : List WordInstr)
     → length (lines.updated_code label operator spot by k) ≤ 12 + length k
 updated_weighs label operator (Held v) by k = let h = binary_weighs label operator v v by k in omega (arith, h)
-updated_weighs label operator (Lies home) by k =
-    let h = binary_weighs label operator FOURTH FOURTH by (address FIRST home ∷ Store FIRST FOURTH whole ∷ k) in omega (arith, h)
+updated_weighs label operator (Lies home) by k = let h = put_back_weighs label operator home whole by k in omega (arith, h)
+updated_weighs label operator (Letter home) by k = let h = put_back_weighs label operator home Byte by k in omega (arith, h)
 
 pub update_weighs : (label : ℕ) (operator : Operator) (hs : List Housed) (k : List WordInstr)
     → length (lines.update_code label operator hs k) ≤ 13 + length k
@@ -219,8 +235,10 @@ pub quit_weighs : (hs : List Housed) (k : List WordInstr) → length (lines.quit
 quit_weighs [] k = omega arith
 quit_weighs (status ∷ hs) k = omega arith
 
-pub swap_weighs : (left right : Home) (bytes : ℕ) (k : List WordInstr) → length (lines.swap_code left right bytes k) ≤ 7 + length k
-swap_weighs left right bytes k =
+pub swap_weighs : (letter : Bool) (left right : Home) (bytes : ℕ) (k : List WordInstr)
+    → length (lines.swap_code letter left right bytes k) ≤ 7 + length k
+swap_weighs true left right bytes k = omega arith
+swap_weighs false left right bytes k =
     let rest : List WordInstr = Constant THIRD bytes ∷ Argument 2 THIRD ∷ Call FIRST SWAP ∷ k in
     let h = word_argument_weighs 1 right rest in
     let i = word_argument_weighs 0 left (lines.word_argument 1 right rest) in

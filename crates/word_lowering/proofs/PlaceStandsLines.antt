@@ -18,7 +18,7 @@ use Rattle.word_lowering.specs.declared.homes.Home.TheVariants.{Variable}
 use Rattle.word_lowering.specs.declared.homes.Housed.{Housed}
 use Rattle.word_lowering.specs.Aliases.{is_among, standing}
 use Rattle.word_lowering.specs.Layouts.{owns, holds_address}
-use Rattle.word_lowering.specs.LineCode.{location, variable_of, variable_in}
+use Rattle.word_lowering.specs.LineCode.{variable_of, variable_in}
 use Rattle.word_lowering.specs.Spots.{address}
 use Rattle.word_lowering.proofs.AddressFacts.{at_homed}
 use Rattle.word_lowering.proofs.ControlLines.{SettlesHere, plain}
@@ -36,7 +36,8 @@ use Rattle.word_lowering.proofs.Moves.{address_runs}
 use Rattle.word_lowering.proofs.OrdinalRuns.{put_here, put_other}
 use Rattle.word_lowering.proofs.ReadFacts.{here_near}
 use Rattle.word_lowering.proofs.Related.{Both, StandAt, body_of, within}
-use Rattle.word_lowering.proofs.Scenes.{Filled, HasVariable, IsFilled, IsNamed, IsOwned, IsSteady, IsThere, Leads, LeadsHere, Name, house, is_owned, looked}
+use Rattle.word_lowering.proofs.Scenes.{Filled, HasVariable, IsFilled, IsNamed, IsStood, IsSteady, IsThere, Leads, LeadsHere, Name, ReachesHere, house}
+use Rattle.word_lowering.proofs.Scenes.{is_stood, looked}
 use Rattle.word_lowering.proofs.Scenes.{of_location, of_place}
 use Rattle.word_lowering.proofs.Settling.{LabelsLead, code_next}
 use Rattle.word_lowering.proofs.ShapeFacts.{never, of_numbers}
@@ -129,14 +130,14 @@ module _ (x : Basis) (g : Both) (line : BlockLine) (rest : List BlockLine) (y : 
 
   module _ (vars : Vars) (a : ℕ) (holds : vars (variable_of (house g.call.site (of_place n))) ≡ Some a)
       (others : (f : Name) (u : ℕ) → IsThere g.call.site f → f ≢ of_place n → HasVariable g.call.site f u → vars u ≡ g.call.vars u)
-      (left : vars LEFT ≡ g.call.vars LEFT) (owned : IsOwned l.base)
+      (left : vars LEFT ≡ g.call.vars LEFT) (may : IsStood l.base)
       (leads : LeadsHere x.table x.blocks (all_sites x g line rest y) g.ground g.world l a (looked x.table g.call.site (of_place n))) where
-    leads_then : LeadsHere x.table x.blocks sites g.ground stands_world l a (looked x.table site (of_place n))
+    leads_then : ReachesHere x.table x.blocks sites g.ground stands_world l a (looked x.table site (of_place n))
     leads_then = by leads
       where
         by : LeadsHere x.table x.blocks (all_sites x g line rest y) g.ground g.world l a (looked x.table g.call.site (of_place n))
-            → LeadsHere x.table x.blocks (all_sites x g line rest y) g.ground stands_world l a (looked x.table g.call.site (of_place n))
-        by (inl f) = inl (record {
+            → ReachesHere x.table x.blocks (all_sites x g line rest y) g.ground stands_world l a (looked x.table g.call.site (of_place n))
+        by (inl f) = inl (inl (record {
           site = f.site;
           among = f.among;
           number = f.number;
@@ -147,8 +148,8 @@ module _ (x : Basis) (g : Both) (line : BlockLine) (rest : List BlockLine) (y : 
           offset = f.offset;
           path = f.path;
           address = f.address;
-        })
-        by (inr f) = inr f
+        }))
+        by (inr f) = inl (inr f)
 
     pub good_stands : (after : List BlockLine) → StandAt x.table x.blocks (body_of g) after
         → IsGood x (changed g after g.call.temps vars g.memory g.words g.awaits stands_world)
@@ -164,7 +165,7 @@ module _ (x : Basis) (g : Both) (line : BlockLine) (rest : List BlockLine) (y : 
           filled = λ m e k. subst (λ j. IsFilled x.table x.blocks sites g.ground stands_world (call site g.call.temps vars) j)
               (sym (same_numbers (of_place m) (of_place n) e)) (record {
                 own = λ o. never (sym no_own ∙ o);
-                other = λ o. record { location = l; slot = slot_is; address = a; holds = holds; owned = owned; leads = leads_then };
+                other = λ o. record { location = l; slot = slot_is; address = a; holds = holds; stood = may; leads = leads_then };
               });
           waits = λ m e. absurd (place_no_waiting n m (sym e));
         })
@@ -216,7 +217,7 @@ module _ (x : Basis) (labels : LabelsLead x) (g : Both) (rest : List BlockLine) 
           = subst (LeadsHere x.table x.blocks sites g.ground g.world l a.address) (sym look)
           (subst (λ z. Leads x.table x.blocks sites g.ground g.world g.call.site g.call.temps z a.address (looked x.table g.call.site (of_location t)))
           where_is.1 a.leads_to) in
-          let near = here_near x sites y.linked g.ground g.world l a.address (looked x.table g.call.site (of_place p)) leads in
+          let near = here_near x sites y.linked g.ground g.world l a.address (looked x.table g.call.site (of_place p)) (inl leads) in
           let small : a.address < 2 ^ 32 = omega (arith, near) in
           let u : ℕ = variable_of h in
           let home = stands_home y place_is stands.1 in
@@ -231,7 +232,7 @@ module _ (x : Basis) (labels : LabelsLead x) (g : Both) (rest : List BlockLine) 
           (λ f v other ne has. put_other g.call.vars u a.address v
           (variables_apart x.table x.blocks g.call.site (of_place p) f u v y.linked.0 place_is other (λ s. ne (sym s)) home.0 has))
           (put_other g.call.vars u a.address LEFT (λ s. absurd (let low = home.1 in omega (arith, s, low))))
-          (is_owned x.table x.blocks sites g.ground g.world l a.address (looked x.table g.call.site (of_place p)) blocks_in leads) leads rest
+          (is_stood x.table x.blocks sites g.ground g.world l a.address (looked x.table g.call.site (of_place p)) blocks_in leads) leads rest
           (stands_next x.table x.blocks (body_of g) stands_line rest y.stands))
           1 1 g.call.temps (stands_world x g stands_line rest y p place_is stands.1 stood l)
           (subst (λ z. Runs x.live (all_procs x) 1 (at (within x.table x.blocks g) g.memory (address u z ∷ next) g.call.vars g.words)

@@ -1,11 +1,11 @@
 -- Values that lines read, of temporaries and at locations, and what code is to know of where they are.
-use Rattle.std.proofs.Common.{◌≡◌, ◌⊎◌, inl, inr, ℕ, ◌+◌, ◌%◌, ◌^◌, ◌<◌, ◌≤◌, List, [], ◌∷◌, map, Some, Bool, true, false, refl, sym, ap, subst}
+use Rattle.std.proofs.Common.{◌≡◌, ◌⊎◌, inl, inr, ℕ, ◌+◌, ◌%◌, ◌^◌, ◌<◌, ◌≤◌, List, [], ◌∷◌, map, Some, Ok, Bool, true, false, refl, sym, ap, ap₂, subst}
 use Rattle.std.proofs.Common.{◌∙◌, arith}
 use Rattle.std.proofs.lemmas.Bool.{cases_Bool}
 use Rattle.nim_types.specs.declared.types.TypeDef.{TypeDef}
 use Rattle.nim_types.specs.Types.{Ty}
 use Rattle.nim_types.specs.Table.{facts_in}
-use Rattle.nim_meaning.specs.Values.{Value, bytes, Standing, Location, Holds, at_base, Waiting}
+use Rattle.nim_meaning.specs.Values.{Value, bytes, number_of, Standing, Location, Holds, at_base, Waiting}
 use Rattle.nim_meaning.specs.State.{World, held, load, slot_at, is_full_at, awaited, is_whole}
 use Rattle.nim_meaning.specs.Places.{place_at, through_slot, root_of}
 use Rattle.flat_code.specs.declared.block.BlockLine.{BlockLine}
@@ -21,21 +21,24 @@ use Rattle.word_lowering.specs.declared.spots.Spot.TheVariants.{Lies}
 use Rattle.word_lowering.specs.declared.texts.TheConstants.{FIXED_BYTES}
 use Rattle.word_lowering.specs.Layouts.{holds_address, owns}
 use Rattle.word_lowering.specs.LineCode.{variable_in, variable_of, named, place, location}
-use Rattle.word_lowering.proofs.Scenes.{FromOwned, Ground, of_waiting, FromWaiting, LeadsHere}
-use Rattle.word_lowering.proofs.InMemory.{IsAt, HasWords}
-use Rattle.word_lowering.proofs.ShapeFacts.{never, shape_bytes, of_numbers, bytes_is, values_of_numbers}
+use Rattle.word_lowering.specs.Operations.{word}
+use Rattle.word_lowering.proofs.Scenes.{FromOwned, Ground, of_waiting, FromWaiting, Reaches, ReachesHere, stored_so}
+use Rattle.word_lowering.proofs.InMemory.{IsAt, IsByteAt, HasWords}
+use Rattle.word_lowering.proofs.LetterReads.{LetterAt, letter_led, letter_shaped, letter_word}
+use Rattle.word_lowering.proofs.ShapeFacts.{never, shape_bytes, is_letter, letter_is, of_numbers, bytes_is, values_of_numbers}
 use Rattle.word_lowering.proofs.ShapePaths.{path_within}
 use Rattle.word_lowering.proofs.Moves.{is_single}
 use Rattle.word_lowering.proofs.LineFits.{single_is, has_words}
 use Rattle.word_lowering.proofs.Sites.{room, around, type_of, Housing, in_variable, by_address, in_places, in_data, InMemory, Site, AmongSites}
 use Rattle.word_lowering.proofs.Sites.{data_end, globals_of, IsHoused, IsGlobal, IsBody, Linked}
 use Rattle.word_lowering.proofs.Scenes.{address_of, Name, of_value, of_location, of_place, Call, site_of, house, Filled, IsNamed, IsThere, looked}
-use Rattle.word_lowering.proofs.Scenes.{FromPlace, FromConstant, standing_from, FromValue, IsRoot, IsInValue, IsLedBy, IsFilled, IsNumbers, HasValue}
+use Rattle.word_lowering.proofs.LiteralHandles.{fixed_near, literal_near}
+use Rattle.word_lowering.proofs.Scenes.{FromPlace, FromConstant, FromData, standing_from, FromValue, IsRoot, IsInValue, IsLedBy, IsFilled, IsNumbers, HasValue}
 use Rattle.word_lowering.proofs.SitesApart.{houses, site_at}
-use Rattle.word_lowering.proofs.Keeping.{location_address, declared_address, spot_memory, spot_address, from_memory, waiting_inside, node_look}
+use Rattle.word_lowering.proofs.Keeping.{location_address, declared_address, spot_memory, spot_address, spot_letter, from_memory, waiting_inside, node_look}
 use Rattle.word_lowering.proofs.GoodLeads.{OwnHome, own_home, waiting_value}
 use Rattle.word_lowering.proofs.Located.{IsReadAt, led_located, full_there}
-use Rattle.word_lowering.proofs.Sources.{Lying, lying_all, lying_near, lying_readable, Source, lies_at, item_source, size_is, word_is, small_word}
+use Rattle.word_lowering.proofs.Sources.{Lying, lying_all, lying_near, lying_readable, Source, letter_at, lies_at, item_source, size_is, word_is, small_word}
 use Rattle.word_lowering.proofs.Related.{Both, IsClosed, body_of, called_by, store_of}
 use Rattle.word_lowering.proofs.PieceWords.{room_of, words_room, words_are}
 use Rattle.word_lowering.proofs.SmallWords.{AllSmall, small_words}
@@ -61,6 +64,10 @@ module _ (x : Basis) where
       text_near : (b n : ℕ) → IsClosed x.table x.blocks b n → b + n < 2 ^ 32
       text_near b n (inl c) = omega (arith, c.1)
       text_near b n (inr c) = omega (arith, c.1)
+
+pub data_near : (x : Basis) (l : Location) (a : ℕ) (t : Shape) → FromData x.table x.blocks l a t → a + shape_bytes t < 2 ^ 32
+data_near x l a t (inl f) = constant_near x l a t f
+data_near x l a t (inr f) = literal_near x l a t f
 
 module _ (x : Basis) (sites : List Site) (linked : Linked x.table x.blocks sites) where
   place_near : (from : List Site) (w : World) (location : Location) (a : ℕ) (t : Shape) → ((s : Site) → AmongSites s from → AmongSites s sites)
@@ -94,11 +101,13 @@ module _ (x : Basis) (sites : List Site) (linked : Linked x.table x.blocks sites
   owned_near ground w location a t (inr (inr f)) = waiting_near location a t f.from
 
   pub here_near : (ground : Ground) (w : World) (location : Location) (a : ℕ) (t : Shape)
-      → LeadsHere x.table x.blocks sites ground w location a t → a + shape_bytes t < 2 ^ 32
-  here_near ground w location a t (inl f) = owned_near ground w location a t (inl f)
-  here_near ground w location a t (inr (inl f)) = constant_near x location a t f
-  here_near ground w location a t (inr (inr (inl f))) = f.near
-  here_near ground w location a t (inr (inr (inr f))) = waiting_near location a t f
+      → ReachesHere x.table x.blocks sites ground w location a t → a + shape_bytes t < 2 ^ 32
+  here_near ground w location a t (inl (inl f)) = owned_near ground w location a t (inl f)
+  here_near ground w location a t (inl (inr (inl f))) = data_near x location a t f
+  here_near ground w location a t (inl (inr (inr (inl f)))) = f.near
+  here_near ground w location a t (inl (inr (inr (inr f)))) = waiting_near location a t f
+  here_near ground w location a t (inr (inl f)) = f.near
+  here_near ground w location a t (inr (inr f)) = fixed_near x location a t f
 
   pub value_near : (s : Site) (temps : Temps) (temp : ℕ) (path : List ℕ) (a : ℕ) (t : Shape) → AmongSites s sites
       → FromValue x.table s temps temp path a t → a + shape_bytes t < 2 ^ 32
@@ -167,10 +176,10 @@ module _ (x : Basis) (g : Both) (line : BlockLine) (rest : List BlockLine) (y : 
 
   -- ---- at addresses
 
-  pub read_address : (f : Name) → IsThere g.call.site f → holds_address (house g.call.site f) ≡ true → (v : Value) (a : ℕ)
-      → g.call.vars (variable_of (house g.call.site f)) ≡ Some a → IsReadAt x sites y.linked g.memory v a (looked x.table g.call.site f)
-      → Read false (house g.call.site f) v
-  read_address f there address v a is at = by place_is.where_is
+  read_address : (f : Name) → IsThere g.call.site f → holds_address (house g.call.site f) ≡ true → (v : Value) (a : ℕ)
+      → g.call.vars (variable_of (house g.call.site f)) ≡ Some a → is_letter (looked x.table g.call.site f) ≡ false
+      → IsReadAt x sites y.linked g.memory v a (looked x.table g.call.site f) → Read false (house g.call.site f) v
+  read_address f there address v a is other at = by place_is.where_is
     where
       place_is : IsHoused x.table x.blocks g.call.site.body (house g.call.site f)
       place_is = houses x.table x.blocks g.call.site f y.linked.0 there
@@ -183,9 +192,62 @@ module _ (x : Basis) (g : Both) (line : BlockLine) (rest : List BlockLine) (y : 
         word = sym (single_is v (looked x.table g.call.site f) at.numbers at.shaped ∙ place_is.word);
         size = sym (bytes_is v (looked x.table g.call.site f) at.numbers at.shaped ∙ place_is.bytes);
         small = has_words v (looked x.table g.call.site f) at.shaped;
-        source = lies_at (Variable u) (spot_address (house g.call.site f) u address e) low a (ap g.call.vars (sym (ap variable_in e)) ∙ is) at.is_at at.readable
+        source = lies_at (Variable u) (spot_address (house g.call.site f) u address (sym place_is.letter ∙ other) e) low a
+            (ap g.call.vars (sym (ap variable_in e)) ∙ is) at.is_at at.readable
             (λ no_all. never no_all);
       }
+
+  -- a character there is read as a byte
+  read_letter : (f : Name) → IsThere g.call.site f → holds_address (house g.call.site f) ≡ true → (v : Value) (a : ℕ)
+      → g.call.vars (variable_of (house g.call.site f)) ≡ Some a → is_letter (looked x.table g.call.site f) ≡ true
+      → LetterAt x (starts g line rest) y v a → has_shape v (looked x.table g.call.site f) ≡ true → Read false (house g.call.site f) v
+  read_letter f there address v a is letter at shaped = by place_is.where_is
+    where
+      place_is : IsHoused x.table x.blocks g.call.site.body (house g.call.site f)
+      place_is = houses x.table x.blocks g.call.site f y.linked.0 there
+
+      numbers : of_numbers (looked x.table g.call.site f) ≡ true
+      numbers = ap of_numbers (letter_is (looked x.table g.call.site f) letter)
+
+      byte_is : IsByteAt g.memory a v
+      byte_is = at.reads ∙ ap Ok (sym (letter_word at.code at.small)) ∙ ap (λ u. Ok (word (number_of u))) (sym at.is)
+
+      by : Housing (room (body_of g)) FIXED_BYTES (data_end x.table x.blocks) (body_of g).start (house g.call.site f) → Read false (house g.call.site f) v
+      by (in_variable u e plain low w) = never (sym plain ∙ address)
+      by (in_places n e plain whole within) = never (sym plain ∙ address)
+      by (in_data n e plain whole low within start) = never (sym plain ∙ address)
+      by (by_address u e k low) = record {
+        word = sym (single_is v (looked x.table g.call.site f) numbers shaped ∙ place_is.word);
+        size = sym (bytes_is v (looked x.table g.call.site f) numbers shaped ∙ place_is.bytes);
+        small = has_words v (looked x.table g.call.site f) shaped;
+        source = letter_at (Variable u) (spot_letter (house g.call.site f) u address (sym place_is.letter ∙ letter) e) low a
+            (ap g.call.vars (sym (ap variable_in e)) ∙ is) byte_is at.near (ap is_single at.is) refl;
+      }
+
+  -- where all of it is there
+  record LedRead (f : Name) (v : Value) : Type 0 where
+    shaped : has_shape v (looked x.table g.call.site f) ≡ true
+    read : Read false (house g.call.site f) v
+
+  led_read : (f : Name) → IsThere g.call.site f → holds_address (house g.call.site f) ≡ true → of_numbers (looked x.table g.call.site f) ≡ true
+      → (there : Where) → is_full_at g.world (location_at g.call.temps there) ≡ true → (a : ℕ) → g.call.vars (variable_of (house g.call.site f)) ≡ Some a
+      → Reaches x.table x.blocks sites g.ground g.world g.call.site g.call.temps there a (looked x.table g.call.site f)
+      → LedRead f (load g.world (location_at g.call.temps there))
+  led_read f is_there address numbers there full a is leads = by (is_letter (looked x.table g.call.site f)) refl
+    where
+      v : Value
+      v = load g.world (location_at g.call.temps there)
+
+      by : (b : Bool) → is_letter (looked x.table g.call.site f) ≡ b → LedRead f (load g.world (location_at g.call.temps there))
+      by true letter =
+          let at = letter_led x (starts g line rest) y g.call (inl refl) (inl refl) there a (looked x.table g.call.site f) letter full leads in
+          let shaped : has_shape v (looked x.table g.call.site f) ≡ true
+          = ap₂ has_shape at.is (letter_is (looked x.table g.call.site f) letter) ∙ letter_shaped at.code at.small in
+          record { shaped = shaped; read = read_letter f is_there address v a is letter at shaped }
+      by false other =
+          let at = led_located x (starts g line rest) y g.call (inl refl) (inl refl) there a (looked x.table g.call.site f) numbers full
+          (stored_so x.table x.blocks sites g.ground g.world g.call.site g.call.temps there a (looked x.table g.call.site f) other leads) in
+          record { shaped = at.shaped; read = read_address f is_there address v a is other at }
 
   -- ---- of declared places
 
@@ -227,15 +289,13 @@ module _ (x : Basis) (g : Both) (line : BlockLine) (rest : List BlockLine) (y : 
       other no_own =
           let s = f.other no_own in
           let is : root_of (Standing g.call.site.level n) g.world ≡ s.location = ap (through_slot (Standing g.call.site.level n)) s.slot in
-          let at = led_located x (starts g line rest) y g.call (inl refl) (inl refl) (Located s.location) s.address (looked x.table g.call.site (of_place n))
-          numbers (subst (λ l. is_full_at g.world l ≡ true) is full) s.leads in
+          let at = led_read (of_place n) there (declared_address (house g.call.site (of_place n)) there.kind no_own) numbers (Located s.location)
+          (subst (λ l. is_full_at g.world l ≡ true) is full) s.address s.holds s.leads in
           let same : load g.world s.location ≡ root_value g.call.site.level n = ap (load g.world) (sym is) in
           record {
             shaped = subst (λ u. has_shape u (looked x.table g.call.site (of_place n)) ≡ true) same at.shaped;
             all = false;
-            read = subst (λ u. Read false (house g.call.site (of_place n)) u) same
-                (read_address (of_place n) there (declared_address (house g.call.site (of_place n)) there.kind no_own) (load g.world s.location)
-                s.address s.holds at);
+            read = subst (λ u. Read false (house g.call.site (of_place n)) u) same at.read;
           }
 
       by : (owns (house g.call.site (of_place n)) ≡ true) ⊎ (owns (house g.call.site (of_place n)) ≡ false)
@@ -392,14 +452,12 @@ module _ (x : Basis) (g : Both) (line : BlockLine) (rest : List BlockLine) (y : 
           → LocationRead t there
       by alias.Own is r =
           let there_is : IsThere g.call.site (of_location t) = record { among = n.among; number = n.number; kind = n.kind; own = is } in
-          let at = led_located x (starts g line rest) y g.call (inl refl) (inl refl) there r.address (looked x.table g.call.site (of_location t))
-          (location_of_numbers x g.call.site t y.linked.0 n plain) full r.leads in
+          let at = led_read (of_location t) there_is (location_address (house g.call.site (of_location t)) n.kind)
+          (location_of_numbers x g.call.site t y.linked.0 n plain) there full r.address r.holds r.leads in
           record {
             shaped = at.shaped;
             all = false;
-            read = as_location alias.Own false (located there) is
-                (read_address (of_location t) there_is (location_address (house g.call.site (of_location t)) n.kind) (located there) r.address
-                r.holds at);
+            read = as_location alias.Own false (located there) is at.read;
           }
       by (alias.Place p global) is r = by_place p global is r
       by (alias.Value u) is r = by_value u is r

@@ -73,7 +73,8 @@ use Rattle.word_lowering.proofs.WrittenLines.{Writing}
 -- the runtime's routine keeps what it promises, whatever the program is joined with
 reading_kept : (x : Basis) (input : List ℕ) → IsKeptOn x.live (all_procs x) input (reads_text own_data_at (as_bytes input))
 reading_kept x input =
-    subst (λ c. IsKeptOn x.live c.procs input (reads_text own_data_at (as_bytes input))) (sym (joined_again x.runtimes.heap (lowered x.table x.blocks) x.runtimes.others))
+    subst (λ c. IsKeptOn x.live c.procs input (reads_text own_data_at (as_bytes input)))
+    (sym (joined_again x.runtimes.heap (lowered x.table x.blocks) x.runtimes.others))
     (x.runtimes.is_heap.reads_texts x.live (joined (lowered x.table x.blocks) x.runtimes.others) input)
 
 module _ (x : Basis) (said : Writing x) (g : Both) (line : BlockLine) (rest : List BlockLine) (y : IsGood x (starts g line rest)) (l : Location) (n : ℕ)
@@ -163,7 +164,8 @@ module _ (x : Basis) (said : Writing x) (g : Both) (line : BlockLine) (rest : Li
   read_settles =
       subst (λ done. Settles x here rest (Passes (behind [] 1 done)))
       (sym (value_deed (line_or_none l (bytes_left g.world)) (λ v. with_value to g.call.temps v) g.world))
-      (row_settles x g line rest y goes TEXT_SPARE (λ v. with_value to g.call.temps v) Behind (perform (line_or_none l (bytes_left g.world)) g.world) leaves row)
+      (row_settles x g line rest y goes TEXT_SPARE (λ v. with_value to g.call.temps v) Behind (perform (line_or_none l (bytes_left g.world)) g.world)
+      leaves row)
 
 -- ---- what nobody owns can't be read into: of that nothing is said
 

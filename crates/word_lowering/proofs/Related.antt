@@ -24,7 +24,7 @@ use Rattle.flat_code.specs.Pieces.{piece_words}
 use Rattle.word_lowering.specs.declared.homes.TheConstants.{FIRST}
 use Rattle.word_lowering.specs.declared.homes.Housed.{Housed}
 use Rattle.word_lowering.specs.declared.spots.Spot.{Spot}
-use Rattle.word_lowering.specs.declared.spots.Spot.TheVariants.{Held, Lies}
+use Rattle.word_lowering.specs.declared.spots.Spot.TheVariants.{Held}
 use Rattle.word_lowering.specs.declared.handed.TheConstants.{LEFT_HANDLE_AT}
 use Rattle.word_lowering.specs.declared.texts.TheConstants.{FIXED_BYTES}
 use Rattle.word_lowering.specs.declared.may_lower.TheConstants.{MOST_DATA}
@@ -36,7 +36,7 @@ use Rattle.word_lowering.proofs.Blocks.{HasHeap}
 use Rattle.word_lowering.proofs.Frames.{IsFrame}
 use Rattle.word_lowering.proofs.Sites.{Body, lines_of, looks, Site, data_end, around, word_of, Linked, sigs, globals_of, next_base}
 use Rattle.word_lowering.proofs.PieceWords.{WordsAt, room_of}
-use Rattle.word_lowering.proofs.Scenes.{standing_from}
+use Rattle.word_lowering.proofs.Scenes.{handle_from, standing_from, text_from}
 use Rattle.word_lowering.proofs.Scenes.{of_value, IsNamed, IsThere, looked, Call, site_of, AllHold, Ground, Store, is_fixed}
 use Rattle.word_code.specs.declared.word.TheConstants.{SPARE_ROOM}
 
@@ -119,14 +119,14 @@ module _ (table : List TypeDef) (blocks : Code BlockLine) where
   -- the variable that awaits the result of a call, and the lines that follow it
   abbrev pub awaits_in : Spot → ℕ
   awaits_in (Held v) = v
-  awaits_in (Lies home) = FIRST
+  awaits_in spot = FIRST
 
   abbrev pub awaits_for : Body → ℕ → ℕ
   awaits_for b t = awaits_in (spot_of (value (around table blocks b) t))
 
   abbrev pub goes_on : Body → Housed → Spot → (proc : ℕ) → List WordInstr → List WordInstr
   goes_on b to (Held v) proc k = k
-  goes_on b to (Lies home) proc k = result_code (around table blocks b) to (result_in (layout_at (around table blocks b) proc).all) k
+  goes_on b to spot proc k = result_code (around table blocks b) to (result_in (layout_at (around table blocks b) proc).all) k
 
   abbrev pub left_for : Body → ℕ → (proc : ℕ) → List WordInstr → List WordInstr
   left_for b t proc k = goes_on b (value (around table blocks b) t) (spot_of (value (around table blocks b) t)) proc k
@@ -220,12 +220,24 @@ module _ (table : List TypeDef) (blocks : Code BlockLine) where
       beside (inl c) = inl (omega (arith, c, high))
       beside (inr c) = inr (omega (arith, c, low))
 
-  -- a constant of the data at the start
-  pub record StandsThere (first : Memory) (pieces : List Piece) : Type 0 where
-    pub words : WordsAt first (standing_from table blocks pieces) (piece_words pieces)
-    pub cells : (o : ℕ) → o + 4 ≤ room_of (piece_words pieces) → o % 4 ≡ 0 → Cell first (standing_from table blocks pieces + o)
-    pub is_text : IsText (standing_from table blocks pieces) (room_of (piece_words pieces))
-    pub whole : standing_from table blocks pieces % 4 ≡ 0
+  -- words of the data at the start, which nothing changes
+  pub record StandThere (first : Memory) (at : ℕ) (ws : List ℕ) : Type 0 where
+    pub words : WordsAt first at ws
+    pub cells : (o : ℕ) → o + 4 ≤ room_of ws → o % 4 ≡ 0 → Cell first (at + o)
+    pub is_text : IsText at (room_of ws)
+    pub whole : at % 4 ≡ 0
+
+  -- a constant
+  abbrev pub StandsThere : (first : Memory) → List Piece → Type 0
+  StandsThere first pieces = StandThere first (standing_from table blocks pieces) (piece_words pieces)
+
+  -- the handle of a text, and where the text is
+  pub record HandleThere (first : Memory) (text : List ℕ) : Type 0 where
+    pub handle : StandThere first (handle_from table blocks text) (length text ∷ text_from table blocks text ∷ [])
+    pub behind : data_at + FIXED_BYTES ≤ handle_from table blocks text
+    pub low : data_at + data_end table blocks ≤ text_from table blocks text
+    pub high : text_from table blocks text + length text ≤ routines
+    pub reads : bytes_at first (text_from table blocks text) (length text) ≡ Some text
 
   -- beside the memory at the start, while these calls are active
   pub record MemoryGood (sites : List Site) (first m : Memory) : Type 0 where

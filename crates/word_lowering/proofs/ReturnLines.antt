@@ -21,7 +21,7 @@ use Rattle.word_lowering.proofs.SitesApart.{variable_high}
 use Rattle.word_lowering.proofs.Scenes.{Points, Name, IsThere, HasVariable}
 use Rattle.word_lowering.proofs.Related.{Both, Waits, within, high, code_behind, frame_of, awaits_for, left_for}
 use Rattle.word_lowering.proofs.Lines.{Basis, all_procs, starts, IsGood, all_sites}
-use Rattle.word_lowering.proofs.Sources.{Source, held_in, lies_at}
+use Rattle.word_lowering.proofs.Sources.{Source, held_in, letter_at, lies_at}
 use Rattle.word_lowering.proofs.ReadFacts.{Read}
 use Rattle.word_lowering.proofs.Returned.{called, memory_left}
 
@@ -86,7 +86,7 @@ module _ (x : Basis) (h : Both) (w : Waits) (ws : List Waits) (line : BlockLine)
 
   lies_back : (v : Value) (k : List WordInstr) (home : Home) (b : ℕ) → Points h.call.site.base h.call.vars home b → IsAt h.memory b v
       → b + bytes v < 2 ^ 32 → HasWords v
-      → HandsBack v (word_back (is_single v) home k)
+      → HandsBack v (word_back (is_single v) whole home k)
   lies_back (Number z) k home b points is_at near small =
       let v1 : Vars = put h.call.vars FIRST b in
       let v2 : Vars = put v1 FIRST (single_word (Number z)) in
@@ -125,3 +125,4 @@ module _ (x : Basis) (h : Both) (w : Waits) (ws : List Waits) (line : BlockLine)
       by (lies_at home spot high b points is_at readable is_all) =
           subst (λ l. HandsBack v l) (sym (ap₂ (λ c p. back_code c p k) read.word spot))
           (lies_back v k home b points is_at readable.near read.small)
+      by (letter_at home spot high b points is_at near single no_all) = never (sym no_all)

@@ -11,7 +11,7 @@ use Rattle.flat_code.specs.declared.code.Code.{Code}
 use Rattle.word_code.specs.declared.word.TheConstants.{SPARE_ROOM}
 use Rattle.word_lowering.specs.declared.may_lower.TheConstants.{MOST_ROOM, MOST_DATA, MOST_WAITERS}
 use Rattle.word_lowering.specs.declared.handed.TheConstants.{LEFT_HANDLE_AT}
-use Rattle.word_lowering.specs.Texts.{missing, padded, fixed_texts, all_names, joined_all, ends_from, laid_texts, data_in}
+use Rattle.word_lowering.specs.Texts.{missing, padded, fixed_texts, all_names, joined_all, ends_from, texts_from, data_in}
 use Rattle.word_lowering.specs.Lowered.{all_layouts, globals_end, data_of, lowered, start_layout}
 use Rattle.word_lowering.specs.MayLower.{procs_may, defs_may, labels_may, may_lower}
 use Rattle.word_code.specs.declared.word.WordProc.{WordProc}
@@ -66,7 +66,7 @@ three_parts a b c d =
 globals_within : (table : List TypeDef) (globals_end : ℕ) (procs : List (CodeProc BlockLine)) → globals_end ≤ length (padded (data_in table globals_end procs))
 globals_within table globals_end procs =
     let names : List (List ℕ) = all_names table in
-    let rest : List ℕ = ends_from 0 names ++ (padded (joined_all names) ++ laid_texts procs) in
+    let rest : List ℕ = ends_from 0 names ++ (padded (joined_all names) ++ texts_from table globals_end procs) in
     let h = three_parts (replicate 4 0) fixed_texts (replicate (globals_end - LEFT_HANDLE_AT) 0) rest in
     let z = zeros_length (globals_end - LEFT_HANDLE_AT) in
     let k = zeros_length 4 in

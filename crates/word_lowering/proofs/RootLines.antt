@@ -39,7 +39,7 @@ use Rattle.word_lowering.proofs.OrdinalRuns.{but_one, put_here}
 use Rattle.word_lowering.proofs.PartLines.{led_home, led_variable, leads_settles, own_location}
 use Rattle.word_lowering.proofs.ReadFacts.{here_near, start_site}
 use Rattle.word_lowering.proofs.Related.{Both, body_of, called_by, high, within}
-use Rattle.word_lowering.proofs.Scenes.{Filled, IsNamed, IsSteady, IsThere, LeadsHere, Points, StandsFor, house, looked, of_location, of_place, site_of}
+use Rattle.word_lowering.proofs.Scenes.{Filled, IsNamed, IsSteady, IsThere, ReachesHere, Points, StandsFor, house, looked, of_location, of_place, site_of}
 use Rattle.word_lowering.proofs.Settling.{LabelsLead, code_here, code_next}
 use Rattle.word_lowering.proofs.ShapeFacts.{never}
 use Rattle.word_lowering.proofs.Sites.{AmongSites, Site, around, globals_of, lines_of, sigs}
@@ -156,8 +156,8 @@ module _ (x : Basis) (labels : LabelsLead x) (g : Both) (rest : List BlockLine) 
       stands_settles =
           subst (λ l. Settles x (starts g line rest) rest (Passes (Answers [] 1 (with_place to g.call.temps (Located l)) g.world)))
           (sym (ap (through_slot (Standing g.call.site.level p)) v.slot))
-          (leads_settles x g line rest y to (Located v.location) v.address 1 (omega arith) there_to (λ st. v.owned)
-          (subst (LeadsHere x.table x.blocks (all_sites x g line rest y) g.ground g.world v.location v.address) look v.leads) comes)
+          (leads_settles x g line rest y to (Located v.location) v.address 1 (omega arith) there_to (λ st. v.stood)
+          (subst (ReachesHere x.table x.blocks (all_sites x g line rest y) g.ground g.world v.location v.address) look v.leads) comes)
 
     own_root : is_there (slot_at g.world g.call.site.level p) ≡ true
         → Settles x (starts g line rest) rest (Passes (Answers [] 1 (with_place to g.call.temps (Located (rooted_at g.call.site.level))) g.world))

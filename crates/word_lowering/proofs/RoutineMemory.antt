@@ -68,7 +68,7 @@ module _ (law : MemoryLaw) (m other : Memory) (sizes : KeepsShape (as_state m) (
 pub same_word : (m other : Memory) (b : ℕ) → bytes_at other b 4 ≡ bytes_at m b 4 → number_at other b Word ≡ number_at m b Word
 same_word m other b e = ap (λ o. if b % 4 == 0 then number_of o else Err Misaligned) e
 
-rewritten_changed : MemoryLaw → (m other : Memory) (at n : ℕ) → Sized m → at % 4 ≡ 0 → n % 4 ≡ 0 → IsRewritten m other at n → AreWords other at n
+pub rewritten_changed : MemoryLaw → (m other : Memory) (at n : ℕ) → Sized m → at % 4 ≡ 0 → n % 4 ≡ 0 → IsRewritten m other at n → AreWords other at n
     → Changed m other at n
 rewritten_changed law m other at n sized whole_at whole_n new words = record {
   sized = sized_still law m other new.sizes sized;

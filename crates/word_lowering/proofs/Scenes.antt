@@ -1,11 +1,13 @@
 -- What block code and word code have in common while they run: each value is where its place is, and each location has the address to
 -- which it leads.
-use Rattle.std.proofs.Common.{◌≡◌, ◌⊎◌, inl, inr, sym, subst, ◌∙◌, ℕ, ◌+◌, ◌<◌, ◌^◌, List, [], ◌∷◌, ◌++◌, length, map, Option, Some, None, Bool, true, false}
+use Rattle.std.proofs.Common.{◌≡◌, ◌⊎◌, inl, inr, sym, ap, subst, ◌∙◌, ℕ, ◌+◌, ◌<◌, ◌^◌, List, [], ◌∷◌, ◌++◌, length, map, Option, Some, None, Bool, true}
+use Rattle.std.proofs.Common.{false}
 use Rattle.std.specs.Set.{is_member}
 use Rattle.nim_types.specs.Types.{same_text}
 use Rattle.nim_types.specs.declared.types.TypeDef.{TypeDef}
-use Rattle.nim_meaning.specs.Values.{Value, Fixed, number_of, Base, Made, Location, Standing, Waiting, InBlock, at_base, Slot, Holds, Stands, Lends}
-use Rattle.nim_meaning.specs.Places.{root_of}
+use Rattle.nim_meaning.specs.Values.{Value, Fixed, number_of, Base, Made, Location, Standing, Waiting, InBlock, InHand, InException, at_base, Slot, Holds}
+use Rattle.nim_meaning.specs.Values.{Stands, Lends}
+use Rattle.nim_meaning.specs.Places.{may_change, root_of}
 use Rattle.nim_meaning.specs.State.{World, slot_at, frame_at, temporary_at}
 use Rattle.flat_code.specs.declared.block.BlockLine.{BlockLine}
 use Rattle.flat_code.specs.declared.code.Code.{Code}
@@ -14,7 +16,8 @@ use Rattle.flat_code.specs.declared.place.PlaceKind.{PlaceKind}
 use Rattle.word_code.specs.Memory.{Memory}
 use Rattle.word_code.specs.Words.{Vars}
 use Rattle.flat_code.specs.Scene.{Where, Located, Within, Temps}
-use Rattle.flat_code.specs.Shapes.{Shape, has_shape}
+use Rattle.flat_code.specs.Shapes.{Shape, block as text_block, has_shape}
+use Rattle.rv32_isa.specs.Regions.{AreBytes}
 use Rattle.flat_code.specs.Fits.{is_value, is_location, is_declared, is_standing}
 use Rattle.word_lowering.specs.Lowered.{data_at}
 use Rattle.word_lowering.specs.declared.homes.TheConstants.{LEFT}
@@ -25,7 +28,7 @@ use Rattle.word_lowering.specs.declared.homes.Home.TheVariants.{Variable, Placed
 use Rattle.word_lowering.specs.declared.homes.Housed.{Housed}
 use Rattle.word_lowering.specs.declared.homes.Waiter.{Waiter}
 use Rattle.word_lowering.specs.declared.spots.Spot.{Spot}
-use Rattle.word_lowering.specs.declared.spots.Spot.TheVariants.{Held, Lies}
+use Rattle.word_lowering.specs.declared.spots.Spot.TheVariants.{Held, Lies, Letter}
 use Rattle.flat_code.specs.Codes.{block_plain}
 use Rattle.flat_code.specs.Lines.{level_at}
 use Rattle.flat_code.specs.Pieces.{value_of, are_one, standing_bytes}
@@ -35,12 +38,12 @@ use Rattle.word_lowering.specs.Layouts.{found, holds_address, owns}
 use Rattle.word_lowering.specs.WaitingCode.{waiter_at, waiter_house}
 use Rattle.word_lowering.specs.Spots.{spot_of}
 use Rattle.word_lowering.specs.Operations.{word}
-use Rattle.word_lowering.specs.Texts.{texts_at, standing_place}
+use Rattle.word_lowering.specs.Texts.{texts_at, constant_place, handle_place, text_place}
 use Rattle.word_lowering.specs.LineCode.{variable_of}
-use Rattle.word_lowering.proofs.InMemory.{IsAt}
+use Rattle.word_lowering.proofs.InMemory.{IsAt, IsByteAt}
 use Rattle.word_lowering.proofs.Blocks.{Blocks, AreLater, Stored}
-use Rattle.word_lowering.proofs.BlockPaths.{LeadsInBlock}
-use Rattle.word_lowering.proofs.ShapeFacts.{never, of_numbers, shape_bytes}
+use Rattle.word_lowering.proofs.BlockPaths.{LeadsInBlock, LeadsInText, text_later}
+use Rattle.word_lowering.proofs.ShapeFacts.{never, of_numbers, is_letter, letter, shape_bytes}
 use Rattle.word_lowering.proofs.ShapePaths.{PathTo, path_numbers}
 use Rattle.word_lowering.proofs.Temporaries.{AreOnce}
 use Rattle.word_lowering.proofs.Sites.{Body, type_of, data_end, lines_of, Site, AmongSites, Among, looks, There, InMemory}
@@ -83,11 +86,13 @@ pub record IsLater (ground later : Ground) : Type 0 where
 abbrev pub AtHome : Store → (base : ℕ) → Vars → Shape → Spot → Value → Type 0
 AtHome k base vars s (Held v) x = vars v ≡ Some (word (number_of x))
 AtHome k base vars s (Lies home) x = (a : ℕ) × Points base vars home a × StoredIn k a s x
+AtHome k base vars s (Letter home) x = (a : ℕ) × Points base vars home a × IsByteAt k.memory a x
 
 -- and one that is made of numbers
 abbrev pub At : Memory → (base : ℕ) → Vars → Spot → Value → Type 0
 At m base vars (Held v) x = vars v ≡ Some (word (number_of x))
 At m base vars (Lies home) x = (a : ℕ) × Points base vars home a × IsAt m a x
+At m base vars (Letter home) x = (a : ℕ) × Points base vars home a × IsByteAt m a x
 
 -- ---- what a call has
 
@@ -208,6 +213,11 @@ abbrev pub IsInBlock : Base → Type 0
 IsInBlock (InBlock block) = Unit {0}
 IsInBlock base = ⊥
 
+-- the text of a literal, which nobody owns
+abbrev pub IsFixedText : Base → Type 0
+IsFixedText (Made (Fixed text)) = Unit {0}
+IsFixedText base = ⊥
+
 -- in a place, in what waits or in a block, and in no value or constant
 abbrev pub IsOwned : Base → Type 0
 IsOwned (Standing level number) = Unit {0}
@@ -215,9 +225,22 @@ IsOwned (Waiting level node) = Unit {0}
 IsOwned (InBlock block) = Unit {0}
 IsOwned base = ⊥
 
-abbrev pub Owned : Where → Type 0
-Owned (Located location) = IsOwned location.base
-Owned (Within temp path) = ⊥
+-- of that, or the text of a literal, for which a parameter may stand that is lent; where something may change it is owned
+abbrev pub IsStood : Base → Type 0
+IsStood base = IsOwned base ⊎ IsFixedText base
+
+pub may_owned : (base : Base) → IsStood base → may_change base ≡ true → IsOwned base
+may_owned base (inl is) may = is
+may_owned (Made v) (inr text) may = never may
+may_owned (Standing level number) (inr text) may = absurd text
+may_owned (Waiting level node) (inr text) may = absurd text
+may_owned (InBlock block) (inr text) may = absurd text
+may_owned (InHand block) (inr text) may = absurd text
+may_owned (InException i) (inr text) may = absurd text
+
+abbrev pub Stood : Where → Type 0
+Stood (Located location) = IsStood location.base
+Stood (Within temp path) = ⊥
 
 -- An address is that of a location in a block; it is known while that stands.
 pub record FromBlock (ground : Ground) (location : Location) (a : ℕ) (t : Shape) : Type 0 where
@@ -225,6 +248,22 @@ pub record FromBlock (ground : Ground) (location : Location) (a : ℕ) (t : Shap
   pub base : location.base ≡ InBlock block
   pub leads : LeadsInBlock ground.blocks block location.path a t
   pub near : a + shape_bytes t < 2 ^ 32
+
+-- or of a character of a text in a block
+pub record FromText (ground : Ground) (location : Location) (a : ℕ) (t : Shape) : Type 0 where
+  pub block : ℕ
+  pub base : location.base ≡ InBlock block
+  pub leads : LeadsInText ground.blocks block location.path a t
+  pub near : a + shape_bytes t < 2 ^ 32
+
+text_from_later : (ground later : Ground) → IsLater ground later → (location : Location) (a : ℕ) (t : Shape) → FromText ground location a t
+    → FromText later location a t
+text_from_later ground later ahead location a t x = record {
+  block = x.block;
+  base = x.base;
+  leads = text_later ground.blocks later.blocks ahead.blocks x.block location.path a t x.leads;
+  near = x.near;
+}
 
 module _ (table : List TypeDef) where
   abbrev pub looked : Site → Name → Shape
@@ -324,7 +363,14 @@ module _ (table : List TypeDef) where
     -- ---- constants that stand in the data
 
     abbrev pub standing_from : List Piece → ℕ
-    standing_from pieces = data_at + (texts_at table (data_end table blocks) + standing_place blocks.procs pieces)
+    standing_from pieces = data_at + (texts_at table (data_end table blocks) + constant_place blocks.procs pieces)
+
+    -- the handle of a text, and the text itself
+    abbrev pub handle_from : List ℕ → ℕ
+    handle_from text = data_at + (texts_at table (data_end table blocks) + handle_place blocks.procs text)
+
+    abbrev pub text_from : List ℕ → ℕ
+    text_from text = data_at + (texts_at table (data_end table blocks) + text_place blocks.procs text)
 
     -- an address is that of a location in a constant of the code
     pub record FromConstant (location : Location) (a : ℕ) (t : Shape) : Type 0 where
@@ -339,22 +385,82 @@ module _ (table : List TypeDef) where
       pub path : PathTo shape location.path offset t
       pub address : a ≡ standing_from pieces + offset
 
+    -- or of the text of a literal, by its handle
+    pub record FromLiteral (location : Location) (a : ℕ) (t : Shape) : Type 0 where
+      pub text : List ℕ
+      pub bytes : AreBytes text
+      pub among : is_member same_text (code_texts block_plain blocks.procs) text ≡ true
+      pub base : location.base ≡ Made (Fixed text)
+      pub path : location.path ≡ []
+      pub shape : t ≡ text_block
+      pub address : a ≡ handle_from text
+
+    -- or of a character of that text, which is a byte of it
+    pub record FromFixed (location : Location) (a : ℕ) (t : Shape) : Type 0 where
+      pub text : List ℕ
+      pub bytes : AreBytes text
+      pub among : is_member same_text (code_texts block_plain blocks.procs) text ≡ true
+      pub base : location.base ≡ Made (Fixed text)
+      pub position : ℕ
+      pub path : location.path ≡ position ∷ []
+      pub inside : position < length text
+      pub shape : t ≡ letter
+      pub address : a ≡ text_from text + position
+
+    abbrev pub FromData : Location → (a : ℕ) → Shape → Type 0
+    FromData location a t = FromConstant location a t ⊎ FromLiteral location a t
+
     abbrev pub LeadsHere : (sites : List Site) → Ground → World → Location → ℕ → Shape → Type 0
     LeadsHere sites ground w location a t =
-        FromPlace sites w location a t ⊎ (FromConstant location a t ⊎ (FromBlock ground location a t ⊎ FromWaiting sites location a t))
+        FromPlace sites w location a t ⊎ (FromData location a t ⊎ (FromBlock ground location a t ⊎ FromWaiting sites location a t))
 
     abbrev pub Leads : (sites : List Site) → Ground → World → (s : Site) → Temps → Where → ℕ → Shape → Type 0
     Leads sites ground w s temps (Located location) a t = LeadsHere sites ground w location a t
     Leads sites ground w s temps (Within temp path) a t = FromValue s temps temp path a t
 
+    -- a character of a text
+    abbrev pub FromLetter : Ground → Location → ℕ → Shape → Type 0
+    FromLetter ground location a t = FromText ground location a t ⊎ FromFixed location a t
+
+    -- The same, or a character of a text. Nobody knows which where a character is reached by an address: there it is read and written as a byte.
+    abbrev pub ReachesHere : (sites : List Site) → Ground → World → Location → ℕ → Shape → Type 0
+    ReachesHere sites ground w location a t = LeadsHere sites ground w location a t ⊎ FromLetter ground location a t
+
+    abbrev pub Reaches : (sites : List Site) → Ground → World → (s : Site) → Temps → Where → ℕ → Shape → Type 0
+    Reaches sites ground w s temps (Located location) a t = ReachesHere sites ground w location a t
+    Reaches sites ground w s temps (Within temp path) a t = FromValue s temps temp path a t
+
+    pub letter_later : (ground later : Ground) → IsLater ground later → (location : Location) (a : ℕ) (t : Shape) → FromLetter ground location a t
+        → FromLetter later location a t
+    letter_later ground later ahead location a t (inl x) = inl (text_from_later ground later ahead location a t x)
+    letter_later ground later ahead location a t (inr x) = inr x
+
+    pub reached_so : (sites : List Site) (ground : Ground) (w : World) (s : Site) (temps : Temps) (there : Where) (a : ℕ) (t : Shape)
+        → Leads sites ground w s temps there a t → Reaches sites ground w s temps there a t
+    reached_so sites ground w s temps (Located location) a t l = inl l
+    reached_so sites ground w s temps (Within temp path) a t l = l
+
     -- what isn't made of numbers is no part of a constant
-    pub is_owned : (sites : List Site) (ground : Ground) (w : World) (location : Location) (a : ℕ) (t : Shape) → of_numbers t ≡ false
-        → LeadsHere sites ground w location a t → IsOwned location.base
-    is_owned sites ground w location a t blocks_in (inl f) = subst IsOwned (sym f.base) tt
-    is_owned sites ground w location a t blocks_in (inr (inl f)) =
+    pub is_stood : (sites : List Site) (ground : Ground) (w : World) (location : Location) (a : ℕ) (t : Shape) → of_numbers t ≡ false
+        → LeadsHere sites ground w location a t → IsStood location.base
+    is_stood sites ground w location a t blocks_in (inl f) = inl (subst IsOwned (sym f.base) tt)
+    is_stood sites ground w location a t blocks_in (inr (inl (inl f))) =
         never (sym blocks_in ∙ path_numbers f.shape location.path f.offset t f.numbers f.path)
-    is_owned sites ground w location a t blocks_in (inr (inr (inl f))) = subst IsOwned (sym f.base) tt
-    is_owned sites ground w location a t blocks_in (inr (inr (inr f))) = subst IsOwned (sym f.base) tt
+    is_stood sites ground w location a t blocks_in (inr (inl (inr f))) = inr (subst IsFixedText (sym f.base) tt)
+    is_stood sites ground w location a t blocks_in (inr (inr (inl f))) = inl (subst IsOwned (sym f.base) tt)
+    is_stood sites ground w location a t blocks_in (inr (inr (inr f))) = inl (subst IsOwned (sym f.base) tt)
+
+    -- what is no character leads to what is stored there by its shape
+    pub stored_here : (sites : List Site) (ground : Ground) (w : World) (location : Location) (a : ℕ) (t : Shape) → is_letter t ≡ false
+        → ReachesHere sites ground w location a t → LeadsHere sites ground w location a t
+    stored_here sites ground w location a t other (inl f) = f
+    stored_here sites ground w location a t other (inr (inl f)) = never (sym other ∙ ap is_letter f.leads.shape)
+    stored_here sites ground w location a t other (inr (inr f)) = never (sym other ∙ ap is_letter f.shape)
+
+    pub stored_so : (sites : List Site) (ground : Ground) (w : World) (s : Site) (temps : Temps) (there : Where) (a : ℕ) (t : Shape) → is_letter t ≡ false
+        → Reaches sites ground w s temps there a t → Leads sites ground w s temps there a t
+    stored_so sites ground w s temps (Located location) a t other l = stored_here sites ground w location a t other l
+    stored_so sites ground w s temps (Within temp path) a t other l = l
 
     pub owned_leads : {sites : List Site} {ground : Ground} {w : World} {location : Location} {a : ℕ} {t : Shape} → FromOwned sites ground w location a t
         → LeadsHere sites ground w location a t
@@ -364,14 +470,14 @@ module _ (table : List TypeDef) where
 
     -- ---- places
 
-    -- a filled place: it has a value of its own, or stands for a location, of something that is owned
+    -- a filled place: it has a value of its own, or stands for a location, of something that is owned or of the text of a literal
     pub record StandsFor (sites : List Site) (ground : Ground) (w : World) (c : Call) (n : ℕ) : Type 0 where
       pub location : Location
       pub slot : slot_at w c.site.level n ≡ Some (Stands location)
       pub address : ℕ
       pub holds : c.vars (variable_of (house c.site (of_place n))) ≡ Some address
-      pub owned : IsOwned location.base
-      pub leads : LeadsHere sites ground w location address (looked c.site (of_place n))
+      pub stood : IsStood location.base
+      pub leads : ReachesHere sites ground w location address (looked c.site (of_place n))
 
     pub record IsFilled (sites : List Site) (ground : Ground) (w : World) (c : Call) (n : ℕ) : Type 0 where
       pub own : owns (house c.site (of_place n)) ≡ true → (x : Value) × (slot_at w c.site.level n ≡ Some (Holds x))
@@ -381,11 +487,11 @@ module _ (table : List TypeDef) where
 
     -- with the address in a variable
     pub record IsAddressed (sites : List Site) (ground : Ground) (w : World) (c : Call) (temp : ℕ) (there : Where) : Type 0 where
-      -- one that may be written is of something that is owned
-      pub standing : is_standing (house c.site (of_location temp)).kind ≡ true → Owned there
+      -- one that may be written is of something that is owned, or of the text of a literal
+      pub standing : is_standing (house c.site (of_location temp)).kind ≡ true → Stood there
       pub address : ℕ
       pub holds : c.vars (variable_of (house c.site (of_location temp))) ≡ Some address
-      pub leads : Leads sites ground w c.site c.temps there address (looked c.site (of_location temp))
+      pub leads : Reaches sites ground w c.site c.temps there address (looked c.site (of_location temp))
 
     abbrev pub IsLedBy : Alias → (sites : List Site) → Ground → World → Call → (temp : ℕ) → Where → Type 0
     IsLedBy alias.Own sites ground w c temp there = IsAddressed sites ground w c temp there

@@ -1,5 +1,5 @@
 -- What has a handle and is there has all of it; and where locations lead is behind what is made in the data for operands.
-use Rattle.std.proofs.Common.{◌≡◌, inl, inr, ℕ, ◌+◌, ◌≤◌, List, None, true, false, refl, sym, subst, ◌∙◌, arith}
+use Rattle.std.proofs.Common.{◌≡◌, inl, inr, ℕ, ◌+◌, ◌≤◌, List, None, true, false, refl, sym, ap, subst, ◌∙◌, arith}
 use Rattle.std.proofs.lemmas.Bool.{and_parts, and_from}
 use Rattle.nim_meaning.specs.Values.{Value, Handle, Fixed, Vacant, Location, Made, is_full}
 use Rattle.nim_meaning.specs.State.{World, load, is_full_at, is_seen, is_there, is_whole}
@@ -16,6 +16,7 @@ use Rattle.word_lowering.proofs.GoodLeads.{owned_to, value_home, waiting_home}
 use Rattle.word_lowering.proofs.HandleRows.{IsHandled}
 use Rattle.word_lowering.proofs.Keeping.{AmongCalls}
 use Rattle.word_lowering.proofs.Lines.{Basis, IsGood}
+use Rattle.word_lowering.proofs.LiteralHandles.{literal_behind, literal_load}
 use Rattle.word_lowering.proofs.Located.{Leading, place_lying, value_lying, waiting_lying}
 use Rattle.word_lowering.proofs.Related.{Both, calls_of, sites_of}
 use Rattle.word_lowering.proofs.Scenes.{Call, FromConstant, Leads, is_fixed}
@@ -65,7 +66,9 @@ module _ (x : Basis) (g : Both) (y : IsGood x g) where
       → is_seen g.world (location_at c.temps there) ≡ true → Leads x.table x.blocks (sites_of g) g.ground g.world c.site c.temps there a s
       → is_full_at g.world (location_at c.temps there) ≡ true
   led_full c i (Located location) a s h seen (inl l) = leading_full location a s h (owned_to x g y location a s (inl l)) seen
-  led_full c i (Located location) a s h seen (inr (inl l)) = no_constant location a s h l
+  led_full c i (Located location) a s h seen (inr (inl (inl l))) = no_constant location a s h l
+  led_full c i (Located location) a s h seen (inr (inl (inr l))) =
+      and_from (is_seen g.world location) (is_full (load g.world location)) seen (ap is_full (literal_load x location a s l g y))
   led_full c i (Located location) a s h seen (inr (inr (inl l))) = leading_full location a s h (owned_to x g y location a s (inr (inl l))) seen
   led_full c i (Located location) a s h seen (inr (inr (inr l))) =
       let p = and_parts (is_there g.world location) (is_whole g.world (load g.world location)) seen in
@@ -91,7 +94,8 @@ module _ (x : Basis) (g : Both) (y : IsGood x g) where
       → is_there g.world (location_at c.temps there) ≡ true → Leads x.table x.blocks (sites_of g) g.ground g.world c.site c.temps there a s
       → data_at + FIXED_BYTES ≤ a
   led_behind c i among (Located location) a s h live (inl l) = lying_behind a (shape_bytes s) (place_lying x g y location a s l)
-  led_behind c i among (Located location) a s h live (inr (inl l)) = no_constant location a s h l
+  led_behind c i among (Located location) a s h live (inr (inl (inl l))) = no_constant location a s h l
+  led_behind c i among (Located location) a s h live (inr (inl (inr l))) = literal_behind x location a s l
   led_behind c i among (Located location) a s h live (inr (inr (inl l))) =
       let at : InBlocks (is_fixed g.ground) (HomeOf x g) (homes_apart x g y) g.ground.blocks location a s
       = record { block = l.block; base = l.base; leads = l.leads } in

@@ -1,36 +1,28 @@
 -- An element of a sequence at a location, by its index: the line is followed.
-use Rattle.std.proofs.Common.{◌≡◌, inl, inr, ℕ, ◌+◌, ◌*◌, ◌^◌, ◌<◌, ◌≤◌, List, [], length, Ok, Option, Some, true, refl, sym, ap, subst, ◌∙◌, arith, le_refl}
+use Rattle.std.proofs.Common.{◌≡◌, inl, inr, ℕ, ◌+◌, ◌*◌, ◌^◌, ◌<◌, ◌≤◌, List, [], Ok, Option, Some, true, refl, sym, ap, subst, ◌∙◌, arith, le_refl}
 use Rattle.std.proofs.Common.{mul-le-mul}
 use Rattle.std.proofs.lemmas.Option.{same_Some}
-use Rattle.arc_base.specs.Event.{writes}
-use Rattle.arc_base.specs.declared.outside.Stream.TheVariants.{Err}
-use Rattle.nim_program.specs.Traps.{IndexOutOfBounds, trap_text}
-use Rattle.nim_meaning.specs.Acts.{line_of}
 use Rattle.nim_meaning.specs.Values.{Handle, Location, item_of}
 use Rattle.nim_meaning.specs.State.{is_whole, load}
-use Rattle.nim_meaning.specs.Deeds.{Answers, Finishes}
+use Rattle.nim_meaning.specs.Deeds.{Answers}
 use Rattle.flat_code.specs.declared.block.BlockLine.{BlockLine}
 use Rattle.flat_code.specs.Scene.{Located, Passes, with_place}
 use Rattle.flat_code.specs.Shapes.{Shape, elements}
 use Rattle.rv32_isa.specs.declared.micro_op.Size.TheVariants.{Word}
-use Rattle.word_code.specs.declared.word.WordInstr.{WordInstr}
 use Rattle.word_code.specs.Memory.{number_at, own_data_at}
 use Rattle.heap_memory.specs.HeapState.{Standing}
 use Rattle.heap_memory.proofs.ForCallers.{is_there as block_is_there}
 use Rattle.word_lowering.specs.declared.homes.TheConstants.{OWN_FROM}
 use Rattle.word_lowering.specs.declared.homes.Home.{Home as Place}
-use Rattle.word_lowering.specs.Lowered.{any_branches}
-use Rattle.word_lowering.specs.Operations.{trap_label}
 use Rattle.word_lowering.specs.OwnedCode.{owned_item_code}
 use Rattle.word_lowering.proofs.Blocks.{IsHandle, Stored}
-use Rattle.word_lowering.proofs.HandleReads.{item_got, item_leaps}
-use Rattle.word_lowering.proofs.Lines.{Basis, IsGood, Settles, all_procs, starts}
-use Rattle.word_lowering.proofs.OperationRuns.{Given, Led}
-use Rattle.word_lowering.proofs.PartLines.{leads_settles, led_home, led_variable}
-use Rattle.word_lowering.proofs.Related.{Both, within}
+use Rattle.word_lowering.proofs.ItemRuns.{item_given}
+use Rattle.word_lowering.proofs.Lines.{Basis, IsGood, Settles, starts}
+use Rattle.word_lowering.proofs.PartLines.{leads_settles, led_variable}
+use Rattle.word_lowering.proofs.Related.{Both}
 use Rattle.word_lowering.proofs.Scenes.{FromBlock, IsThere, is_fixed, looked, of_location}
 use Rattle.word_lowering.proofs.SequenceOperands.{SequenceBlock, elements_there, sequence_block}
-use Rattle.word_lowering.proofs.Settling.{TrapsStop, code_here, code_next, code_of_line, trap_settles}
+use Rattle.word_lowering.proofs.Settling.{code_here, code_next}
 use Rattle.word_lowering.proofs.ShapeFacts.{shape_bytes}
 use Rattle.word_lowering.proofs.TextRowRuns.{IsAt}
 
@@ -40,23 +32,6 @@ module _ (x : Basis) (g : Both) (line : BlockLine) (rest : List BlockLine) (y : 
     (home : Place) (at_home : IsAt g.call.site.base g.call.vars home a) where
   pub sequence_is : IsHandle g.ground.blocks g.memory a (elements s) n k
   sequence_is = stored
-
-  module _ (to index : ℕ) (there_to : IsThere g.call.site (of_location to)) (index_high : OWN_FROM ≤ index) (i : ℕ)
-      (index_is : g.call.vars index ≡ Some i) (size_small : shape_bytes s < 2 ^ 32)
-      (code : code_here x g line rest y ≡ owned_item_code (led_variable x g line rest y to) home index (shape_bytes s) (code_next x g line rest y)) where
-    -- past its end the program ends
-    pub item_past : n ≤ i → TrapsStop x
-        → ((lines : List WordInstr) → any_branches (trap_label IndexOutOfBounds) (code_of_line x g line rest lines) ≡ true)
-        → Settles x (starts g line rest) rest
-        (Passes (Finishes (writes Err (line_of (trap_text IndexOutOfBounds))) (1 + length (line_of (trap_text IndexOutOfBounds))) 1 g.world))
-    item_past more traps branches =
-        trap_settles x g line rest y traps IndexOutOfBounds 1 (omega arith) branches
-        (λ there stands.
-        let r = item_leaps x.law x.live (all_procs x) (within x.table x.blocks g) refl g.memory (code_next x g line rest y) g.call.vars g.words home a at_home
-        (led_variable x g line rest y to) index (shape_bytes s) i n sequence_is.place index_high index_is near size_small sequence_is.long
-        sequence_is.few sequence_is.there sequence_is.near more there stands in
-        subst (λ lines. Led x.live (all_procs x) (within x.table x.blocks g) g.memory g.words lines g.call.vars there) (sym code)
-        (record { steps = 3; some = omega arith; few = omega arith; leads = record { vars = r.vars; same = r.same; runs = r.runs } }))
 
 module _ (x : Basis) (g : Both) (line : BlockLine) (rest : List BlockLine) (y : IsGood x (starts g line rest)) (l : Location) (s : Shape) (n k : ℕ)
     (is : load g.world l ≡ Handle n (Some k)) (whole : is_whole g.world (Handle n (Some k)) ≡ true) (a : ℕ)
@@ -110,26 +85,11 @@ module _ (x : Basis) (g : Both) (line : BlockLine) (rest : List BlockLine) (y : 
   module _ (to index : ℕ) (there_to : IsThere g.call.site (of_location to)) (look : looked x.table g.call.site (of_location to) ≡ s)
       (index_high : OWN_FROM ≤ index) (i : ℕ) (less : i < n) (index_is : g.call.vars index ≡ Some i)
       (code : code_here x g line rest y ≡ owned_item_code (led_variable x g line rest y to) home index (shape_bytes s) (code_next x g line rest y)) where
-    given : Given x.live (all_procs x) (within x.table x.blocks g) g.memory g.words
-        (owned_item_code (led_variable x g line rest y to) home index (shape_bytes s) (code_next x g line rest y)) g.call.vars
-        (led_variable x g line rest y to) (place + i * shape_bytes s) (code_next x g line rest y)
-    given =
-        let end = element_end i less in
-        let b = led_home x g line rest y to there_to in
-        let r = item_got x.law x.live (all_procs x) (within x.table x.blocks g) refl g.memory (code_next x g line rest y) g.call.vars g.words home a at_home
-        (led_variable x g line rest y to) index (shape_bytes s) i n place index_high index_is near (omega (arith, end)) handle_is.long handle_is.few
-        place_read (omega (arith, end)) b.high_is less (omega (arith, end)) in
-        record {
-          steps = r.count;
-          some = r.some;
-          few = (let f = r.few in omega (arith, f));
-          gives = record { vars = r.vars; given = r.given; but = r.but; runs = r.runs };
-        }
-
     pub item_settles : Settles x (starts g line rest) rest
         (Passes (Answers [] 1 (with_place to g.call.temps (Located (item_of (Handle n (Some k)) l i))) g.world))
     item_settles =
-        leads_settles x g line rest y to (Located (item_of (Handle n (Some k)) l i)) (place + i * shape_bytes s) 1 (omega arith) there_to (λ e. tt)
-        (inr (inr (inl (subst (FromBlock g.ground (item_of (Handle n (Some k)) l i) (place + i * shape_bytes s)) (sym look) (element_from i less)))))
-        (subst (λ lines. Given x.live (all_procs x) (within x.table x.blocks g) g.memory g.words lines g.call.vars (led_variable x g line rest y to)
-        (place + i * shape_bytes s) (code_next x g line rest y)) (sym code) given)
+        let end = element_end i less in
+        leads_settles x g line rest y to (Located (item_of (Handle n (Some k)) l i)) (place + i * shape_bytes s) 1 (omega arith) there_to (λ e. inl tt)
+        (inl (inr (inr (inl (subst (FromBlock g.ground (item_of (Handle n (Some k)) l i) (place + i * shape_bytes s)) (sym look) (element_from i less))))))
+        (item_given x g line rest y a near n place handle_is.long handle_is.few place_read (omega (arith, end)) home at_home (shape_bytes s)
+        (omega (arith, end)) to index index_high i index_is code there_to less (omega (arith, end)))

@@ -17,7 +17,7 @@ use Rattle.word_code.specs.Memory.{Memory}
 use Rattle.word_lowering.proofs.OwnedHandles.{OwnedAt, owned_at}
 use Rattle.flat_code.specs.declared.place.PlaceKind.{PlaceKind}
 use Rattle.word_lowering.proofs.SequencesThere.{SequenceThere}
-use Rattle.flat_code.specs.Shapes.{Shape, elements, shape_of}
+use Rattle.flat_code.specs.Shapes.{Shape, block, elements, shape_of}
 use Rattle.nim_program.specs.Traps.{Trap}
 use Rattle.word_lowering.proofs.Settling.{TrapStops}
 use Rattle.nim_types.specs.declared.types.TypeDef.{TypeDef}
@@ -170,6 +170,9 @@ module _ (x : Basis) (types : SequencesKnown x) (g : Both) (line : BlockLine) (r
   seen_handle a s (Resource vs i) h w = absurd h
   seen_handle a s (Gone v final) h w = absurd h
 
+  no_text : (s : Shape) → elements s ≡ block → ⊥
+  no_text s e = cc
+
   pub sequence_at : (t : ℕ) (there : Where) (e : Ty) → type_in x is_location (body_of g) t ≡ Some (type.sequence e)
       → fit.may_write (known x) (sigs x.table x.blocks) (globals_of x.table x.blocks) (body_of g).proc.places t ≡ true → g.call.temps.places t ≡ Some there
       → is_seen g.world (location_at g.call.temps there) ≡ true → HasSequence t (location_at g.call.temps there) e
@@ -180,7 +183,7 @@ module _ (x : Basis) (types : SequencesKnown x) (g : Both) (line : BlockLine) (r
       let look : looked x.table g.call.site (of_location t) ≡ elements s = look_of x g.call.site (of_location t) (type.sequence e) has in
       let p = and_parts (is_there g.world l) (is_whole g.world (load g.world l)) seen in
       let o : OwnedAt x g line rest y t there (elements s)
-      = owned_at x g line rest y t there has.named (y.linked.0.standing t may) at (elements s) tt look p.0 p.1 in
+      = owned_at x g line rest y t there has.named (y.linked.0.standing t may) at (elements s) (λ l a is f. no_text s f.shape) tt look p.0 p.1 in
       let same : location_at g.call.temps there ≡ o.location_is = ap (location_at g.call.temps) o.is in
       let owned : FromOwned x.table (all_sites x g line rest y) g.ground g.world l o.address (elements s)
       = subst (λ k. FromOwned x.table (all_sites x g line rest y) g.ground g.world k o.address (elements s)) (sym same) o.owned in

@@ -41,7 +41,7 @@ use Rattle.word_lowering.proofs.SequenceElementLines.{element_settles, still_set
 use Rattle.word_lowering.proofs.SequenceOperands.{elements_there, sequence_block}
 use Rattle.word_lowering.specs.Stored.{entry_at}
 use Rattle.nim_types.specs.Table.{facts_in, type_at, types_in}
-use Rattle.nim_meaning.specs.Places.{fetched, length_at, to_item}
+use Rattle.nim_meaning.specs.Places.{fetched, length_at, to_item, to_one}
 use Rattle.word_lowering.proofs.SequencePlaces.{goes_to, seen_handle, sequence_by}
 use Rattle.word_lowering.proofs.HouseHooks.{homed}
 use Rattle.word_lowering.proofs.LocationHouses.{homed_house}
@@ -64,7 +64,8 @@ use Rattle.word_lowering.specs.Operations.{trap_label, least, word}
 use Rattle.arc_base.specs.declared.outside.Stream.TheVariants.{Err}
 use Rattle.word_lowering.specs.declared.homes.Alias.TheVariants as alias
 use Rattle.word_lowering.proofs.OrdinalChecks.{inside_is}
-use Rattle.word_lowering.proofs.SequenceItemLines.{item_past, item_settles, sequence_is}
+use Rattle.word_lowering.proofs.ItemRuns.{item_past}
+use Rattle.word_lowering.proofs.SequenceItemLines.{item_settles, sequence_is}
 use Rattle.word_lowering.proofs.PartLines.{led_variable, own_location}
 use Rattle.word_lowering.proofs.Targets.{location_alias, own_alias, pointed}
 use Rattle.arc_base.specs.Event.{writes}
@@ -279,11 +280,11 @@ module _ (x : Basis) (types : SequencesKnown x) (g : Both) (rest : List BlockLin
       (λ w h. let o = int_read x g line rest y index w r.0 h in
       seen_settles line (λ b. leads (scene_of (high x.table x.blocks (starts g line rest))) to there
       (costs 1 (unless_gone b (deeds.branch (inside (number_of w) (length_of (load g.world (location_at g.call.temps there))))
-      (give (item_of (load g.world (location_at g.call.temps there)) (location_at g.call.temps there) (unsigned_abs (number_of w))))
+      (to_one (load g.world (location_at g.call.temps there)) (location_at g.call.temps there) (unsigned_abs (number_of w)))
       (stop IndexOutOfBounds))))) (λ z before. tt) (location_at g.call.temps there) y
       (λ seen. subst (λ b. Settles x (starts g line rest) rest (leads (scene_of (high x.table x.blocks (starts g line rest))) to there
       (costs 1 (unless_gone b (deeds.branch (inside (number_of w) (length_of (load g.world (location_at g.call.temps there))))
-      (give (item_of (load g.world (location_at g.call.temps there)) (location_at g.call.temps there) (unsigned_abs (number_of w))))
+      (to_one (load g.world (location_at g.call.temps there)) (location_at g.call.temps there) (unsigned_abs (number_of w)))
       (stop IndexOutOfBounds)))))) (sym seen)
       (found y there w o there_to q.look (reads_at x types g line rest y from there e typed at seen)))))
     where
@@ -306,11 +307,11 @@ module _ (x : Basis) (types : SequencesKnown x) (g : Both) (rest : List BlockLin
           → ReadsAt x types g item_line rest y from (location_at g.call.temps there) e
           → Settles x (starts g item_line rest) rest (leads (scene_of (high x.table x.blocks (starts g item_line rest))) to there
           (costs 1 (deeds.branch (inside (number_of w) (length_of (load g.world (location_at g.call.temps there))))
-          (give (item_of (load g.world (location_at g.call.temps there)) (location_at g.call.temps there) (unsigned_abs (number_of w))))
+          (to_one (load g.world (location_at g.call.temps there)) (location_at g.call.temps there) (unsigned_abs (number_of w)))
           (stop IndexOutOfBounds))))
       found y there w o there_to look r =
           subst (λ v. Settles x (starts g item_line rest) rest (leads (scene_of (high x.table x.blocks (starts g item_line rest))) to there
-          (costs 1 (deeds.branch (inside (number_of w) (length_of v)) (give (item_of v (location_at g.call.temps there) (unsigned_abs (number_of w))))
+          (costs 1 (deeds.branch (inside (number_of w) (length_of v)) (to_one v (location_at g.call.temps there) (unsigned_abs (number_of w)))
           (stop IndexOutOfBounds))))) (sym r.is) (by (inside (number_of w) r.long) refl)
         where
           l : Location
@@ -373,15 +374,16 @@ module _ (x : Basis) (types : SequencesKnown x) (g : Both) (rest : List BlockLin
 
           by : (b : Bool) → inside (number_of w) r.long ≡ b → Leads_on b
           by true h = some_block r.block refl h
-          by false h =
+          by false out =
               let m : min r.long least ≡ r.long = (let c = fits_signed (pos r.long) r.fits in omega (arith, ints)) in
               let past : r.long ≤ word (number_of w)
-              = ltb-false (word (number_of w)) r.long (ap (λ n. nat_lt (word (number_of w)) n) (sym m) ∙ inside_is (number_of w) r.long o.fits ∙ h) in
+              = ltb-false (word (number_of w)) r.long (ap (λ n. nat_lt (word (number_of w)) n) (sym m) ∙ inside_is (number_of w) r.long o.fits ∙ out) in
+              let h = sequence_is x g item_line rest y l s r.long r.block r.is r.address r.near r.stored r.home r.at_home in
               subst (λ d. Settles x (starts g item_line rest) rest d)
               (ap (λ es. Passes (Finishes es (1 + length (line_of (trap_text IndexOutOfBounds))) 1 g.world))
               (sym (append-nil (writes Err (line_of (trap_text IndexOutOfBounds))))))
-              (item_past x g item_line rest y l s r.long r.block r.is r.address r.near r.stored r.home r.at_home to held there_to o.high (word (number_of w))
-              o.word_is r.row.small code past traps
+              (item_past x g item_line rest y r.address r.near r.long h.place h.long h.few h.there h.near r.home r.at_home (shape_bytes s) r.row.small to held
+              o.high (word (number_of w)) o.word_is code past traps
               (λ lines. subst (λ b. any_branches (trap_label IndexOutOfBounds) (item_at here b to from index lines) ≡ true) (sym r.handled)
               (item_branches (variable_of (location here to)) (location here from).home held (each_bytes x.table (entry_at x.table (location here from).ty))
               lines)))

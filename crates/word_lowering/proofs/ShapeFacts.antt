@@ -1,8 +1,8 @@
 -- Shapes that are made of numbers alone, and their values: how many bytes they have, and where their parts are.
 use Rattle.std.proofs.Common.{◌≡◌, ℕ, ℤ, zero, suc, ◌+◌, ◌*◌, ◌<◌, Bool, true, false, Option, Some, None, refl, sym, ap, ap₂}
 use Rattle.std.proofs.Common.{◌∙◌, arith, mul-suc, mul_comm}
-use Rattle.std.specs.Prelude.{◌&&◌}
-use Rattle.std.proofs.lemmas.Bool.{and_parts, true≢false}
+use Rattle.std.specs.Prelude.{◌&&◌, nat_eq}
+use Rattle.std.proofs.lemmas.Bool.{and_parts, eqb-true, true≢false}
 use Rattle.nim_types.specs.Forms.{or_word}
 use Rattle.nim_meaning.specs.Values.{Value, Number, Parts, Handle, Fixed, Ref, Resource, Gone, Vacant, Values, Nil, More, bytes, bytes_all}
 use Rattle.flat_code.specs.Shapes.{Shape, number, reference, block, elements, row, parts, resource, Shapes, no_shapes, shapes, has_shape, are_rows, have_shapes}
@@ -29,6 +29,24 @@ abbrev mutual
   pub all_of_numbers : Shapes → Bool
   all_of_numbers no_shapes = true
   all_of_numbers (shapes s ss) = of_numbers s && all_of_numbers ss
+
+-- what characters look like, and whatever else has as many values
+abbrev pub letter : Shape
+letter = number (Some 256)
+
+abbrev pub is_letter : Shape → Bool
+is_letter (number (Some values)) = nat_eq values 256
+is_letter s = false
+
+pub letter_is : (s : Shape) → is_letter s ≡ true → s ≡ letter
+letter_is (number (Some values)) h = ap (λ n. number (Some n)) (eqb-true values 256 h)
+letter_is (number None) h = never h
+letter_is reference h = never h
+letter_is block h = never h
+letter_is (elements s) h = never h
+letter_is (row n s) h = never h
+letter_is (parts ss) h = never h
+letter_is (resource ss) h = never h
 
 -- an element of an array
 pub row_numbers : (n i : ℕ) (s : Shape) → i < n → of_numbers (row n s) ≡ true → of_numbers s ≡ true

@@ -47,7 +47,7 @@ use Rattle.word_lowering.specs.Texts.{names_at, texts_at, texts_in}
 use Rattle.word_lowering.specs.LineCode.{Around, labels_in}
 use Rattle.word_lowering.specs.WaitingCode.{waiter_at, waiting_house}
 use Rattle.word_lowering.specs.Lowered.{all_layouts, start_layout, globals_end, word_proc}
-use Rattle.word_lowering.proofs.ShapeFacts.{nth_shape, shape_bytes, of_numbers}
+use Rattle.word_lowering.proofs.ShapeFacts.{nth_shape, shape_bytes, is_letter, of_numbers}
 use Rattle.word_lowering.proofs.ShapePaths.{shapes_before}
 use Rattle.word_lowering.proofs.HomesApart.{AllApart}
 use Rattle.word_lowering.proofs.Waiters.{AreApart}
@@ -170,6 +170,7 @@ module _ (table : List TypeDef) (blocks : Code BlockLine) where
   pub record IsHoused (b : Body) (h : Housed) : Type 0 where
     pub bytes : shape_bytes (looks table h) ≡ h.bytes
     pub word : is_one_word (looks table h) ≡ h.is_word
+    pub letter : is_letter (looks table h) ≡ h.is_letter
     pub where_is : Housing (room b) FIXED_BYTES data_end b.start h
     pub kept : is_value h.kind ≡ true → h.is_word ≡ true → InVariable h.home
     -- one whose type has no hooks is made of numbers

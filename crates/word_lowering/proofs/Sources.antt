@@ -15,14 +15,14 @@ use Rattle.word_lowering.specs.declared.homes.Home.{Home}
 use Rattle.word_lowering.specs.declared.homes.Home.TheVariants.{Variable, Placed, Static}
 use Rattle.word_lowering.specs.declared.homes.Housed.{Housed}
 use Rattle.word_lowering.specs.declared.spots.Spot.{Spot}
-use Rattle.word_lowering.specs.declared.spots.Spot.TheVariants.{Held, Lies}
+use Rattle.word_lowering.specs.declared.spots.Spot.TheVariants.{Held, Lies, Letter}
 use Rattle.word_lowering.specs.declared.texts.TheConstants.{FIXED_BYTES}
 use Rattle.rv32_isa.specs.Image.{heap_at}
 use Rattle.word_code.specs.RoutineTable.{Beside as Beside_of}
 use Rattle.word_lowering.specs.Lowered.{data_at}
 use Rattle.word_lowering.specs.Layouts.{holds_address}
 use Rattle.word_lowering.specs.Spots.{spot_of, moved, moves}
-use Rattle.word_lowering.proofs.InMemory.{IsAt, HasWords}
+use Rattle.word_lowering.proofs.InMemory.{IsAt, IsByteAt, HasWords}
 use Rattle.word_lowering.proofs.Moves.{is_single, single_word, IsHigh, MaySpot, IsArea, From, ToVariable, ToMemory, number_to_variable, number_to_memory}
 use Rattle.word_lowering.proofs.Moves.{high_behind, parts_to_memory}
 use Rattle.word_lowering.proofs.LineFits.{single_is, single_number, has_words}
@@ -188,6 +188,15 @@ module _ (x : Basis) (sites : List Site) (linked : Linked x.table x.blocks sites
       held_in : (u : ℕ) → spot_of h ≡ Held u → MaySpot (Held u) v → vars u ≡ Some (single_word v) → Source all h v
       lies_at : (home : Home) → spot_of h ≡ Lies home → IsHigh home → (a : ℕ) → Points base vars home a → IsAt m a v → Readable m a (bytes v)
           → (all ≡ true → WholePlace a (bytes v)) → Source all h v
+      -- a character at an address, which is no whole place
+      letter_at : (home : Home) → spot_of h ≡ Letter home → IsHigh home → (a : ℕ) → Points base vars home a → IsByteAt m a v → a < 2 ^ 32
+          → is_single v ≡ true → all ≡ false → Source all h v
+
+    -- a spot that may be one of this value
+    pub source_may : {all : Bool} {h : Housed} {v : Value} → Source all h v → MaySpot (spot_of h) v
+    source_may {all} {h} {v} (held_in u e may is) = subst (λ p. MaySpot p v) (sym e) may
+    source_may {all} {h} {v} (lies_at home e high a points at readable is_all) = subst (λ p. MaySpot p v) (sym e) high
+    source_may {all} {h} {v} (letter_at home e high a points at near single no_all) = subst (λ p. MaySpot p v) (sym e) high
 
   -- ---- of places
 
@@ -307,6 +316,17 @@ module _ (x : Basis) (sites : List Site) (linked : Linked x.table x.blocks sites
           (number_to_memory x.law x.live (all_procs x) c from_first g m good.sized k vars home a points z small area.0 (omega (arith, near)) 4
           (Held u) may is)
 
+      letter_to_memory : (v : Value) → HasWords v → Readable m a (bytes v) → (other : Home) → IsHigh other → (b : ℕ)
+          → Points c.base vars other b → IsByteAt m b v → b < 2 ^ 32 → is_single v ≡ true
+          → IntoMemory (moved (is_single v) (bytes v) (Lies home) (Letter other) k) a v (10 + 2 * bytes v)
+      letter_to_memory (Number z) small range other high b points' at near_b single =
+          let area = range.area 1 (omega arith) in
+          let near = range.near in
+          more_steps (moved true 4 (Lies home) (Letter other) k) a 4 18 (Number z) (omega arith)
+          (number_to_memory x.law x.live (all_procs x) c from_first g m good.sized k vars home a points z small area.0 (omega (arith, near)) 4
+          (Letter other) high (b, points', at, near_b))
+      letter_to_memory v small range other high b points' at near_b single = never single
+
       lies_to_memory : (v : Value) → HasWords v → Readable m a (bytes v) → (other : Home) → IsHigh other → (b : ℕ)
           → Points c.base vars other b → IsAt m b v
           → Readable m b (bytes v) → Separate a b (bytes v) → IntoMemory (moved (is_single v) (bytes v) (Lies home) (Lies other) k) a v
@@ -341,6 +361,7 @@ module _ (x : Basis) (sites : List Site) (linked : Linked x.table x.blocks sites
       source_from (held_in u e may is) q f = subst (λ p. From m c.base vars p v) (sym e ∙ f) is
       source_from (lies_at home e high a points at readable is_all) q f =
           subst (λ p. From m c.base vars p v) (sym e ∙ f) (a, points, at, readable.near, readable.area)
+      source_from (letter_at home e high a points at near single no_all) q f = subst (λ p. From m c.base vars p v) (sym e ∙ f) (a, points, at, near)
 
       pub to_word_by : (t : ℕ) → spot_of to ≡ Held t → OWN_FROM ≤ t → (z : ℤ) → v ≡ Number z → (all : Bool)
           → Source m c.base vars all from v
@@ -363,6 +384,9 @@ module _ (x : Basis) (sites : List Site) (linked : Linked x.table x.blocks sites
       to_range_by home e a points range all (lies_at other f high b points' at readable is_all) apart =
           subst (λ l. IntoMemory l a v (10 + 2 * bytes v)) (sym (code_is (Lies home) (Lies other) e f))
           (lies_to_memory home a points v small range other high b points' at readable (apart b readable is_all))
+      to_range_by home e a points range all (letter_at other f high b points' at near single no_all) apart =
+          subst (λ l. IntoMemory l a v (10 + 2 * bytes v)) (sym (code_is (Lies home) (Letter other) e f))
+          (letter_to_memory home a points v small range other high b points' at near single)
 
       pub to_bytes_by : (home : Home) → spot_of to ≡ Lies home → (a : ℕ) → Points c.base vars home a → (lying : Lying a (bytes v)) → (all : Bool)
           → Source m c.base vars all from v → (IsAll a (bytes v) lying ⊎ (all ≡ true)) → IntoMemory (moves to from k) a v (10 + 2 * bytes v)

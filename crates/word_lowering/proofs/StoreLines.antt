@@ -4,8 +4,8 @@ use Rattle.std.proofs.lemmas.Bool.{and_parts}
 use Rattle.std.specs.Prelude.{option_map, ◌&&◌}
 use Rattle.nim_program.specs.declared.operation.Operation.TheVariants as O
 use Rattle.nim_meaning.specs.Values.{Value, bytes, nothing, At, Given, value_of, location_of, Location}
-use Rattle.nim_meaning.specs.State.{is_there}
-use Rattle.nim_meaning.specs.Places.{kept_if, may_change, put}
+use Rattle.nim_meaning.specs.State.{is_seen, is_there}
+use Rattle.nim_meaning.specs.Places.{kept_if, may_change, put, put_over}
 use Rattle.flat_code.specs.declared.block.BlockLine.{BlockLine}
 use Rattle.flat_code.specs.declared.line.From.{From}
 use Rattle.flat_code.specs.declared.line.From.TheVariants as F
@@ -100,21 +100,24 @@ module _ (x : Basis) (labels : LabelsLead x) (g : Both) (rest : List BlockLine) 
         let may = and_parts (if_kind is_standing (place_named is_location (body_of g).proc.places at)) true f.written in
         mapped_settles x (starts g assign rest) rest (g.call.temps.places at) (λ place. At (location_at g.call.temps place))
         (λ l. using (option_map Given (g.call.temps.values from)) (λ z. gives (scene_of (high x.table x.blocks (starts g assign rest))) to
-        (costs 1 (put (location_of l) (value_of z)) >>= kept_if false (bound_for g how))))
+        (costs 1 (put_over (location_of l) (value_of z)) >>= kept_if false (bound_for g how))))
         (λ there e. mapped_settles x (starts g assign rest) rest (g.call.temps.values from) Given
         (λ z. gives (scene_of (high x.table x.blocks (starts g assign rest))) to
-        (costs 1 (put (location_at g.call.temps there) (value_of z)) >>= kept_if false (bound_for g how)))
+        (costs 1 (put_over (location_at g.call.temps there) (value_of z)) >>= kept_if false (bound_for g how)))
         (λ z h. let s = writes_at x g assign rest y at there w.ty names.1.0 at_typed may.0 e in
         let r = value_read x g assign rest y from z w.ty from_typed s.numbers h in
         subst (λ l. Settles x (starts g assign rest) rest (gives (scene_of (high x.table x.blocks (starts g assign rest))) to
-        (costs 1 (put l z) >>= kept_if false (bound_for g how)))) (sym s.is)
-        (where_there x (starts g assign rest) rest (may_change s.at.base)
+        (costs 1 (put_over l z) >>= kept_if false (bound_for g how)))) (sym s.is)
+        (where_there x (starts g assign rest) rest (is_seen g.world s.at)
+        (λ b. gives (scene_of (high x.table x.blocks (starts g assign rest))) to
+        (costs 1 (unless_gone b (put s.at z)) >>= kept_if false (bound_for g how))) (λ before. tt)
+        (λ seen. where_there x (starts g assign rest) rest (may_change s.at.base)
         (λ b. gives (scene_of (high x.table x.blocks (starts g assign rest))) to
         (costs 1 (costs (bytes z) (unless_gone b (sets s.at z) >> give nothing)) >>= kept_if false (bound_for g how))) (λ before. tt)
         (λ changes. where_there x (starts g assign rest) rest (is_there g.world s.at)
         (λ b. gives (scene_of (high x.table x.blocks (starts g assign rest))) to
         (costs 1 (costs (bytes z) (unless_gone b (does (Stores s.at z)) >> give nothing)) >>= kept_if false (bound_for g how))) (λ before. tt)
-        (λ seen. stored_settles x g assign rest y (location (around x.table x.blocks (body_of g)) at) s.at (shape_of (facts_in x.table) w.ty) s.numbers
+        (λ live. stored_settles x g assign rest y (location (around x.table x.blocks (body_of g)) at) s.at (shape_of (facts_in x.table) w.ty) s.numbers
         seen z r.1
         (house g.call.site (of_value from)) r.0.read
         (assigned_plain (around x.table x.blocks (body_of g)) (code_hooked x.table a)
@@ -123,7 +126,7 @@ module _ (x : Basis) (labels : LabelsLead x) (g : Both) (rest : List BlockLine) 
         (operands (around x.table x.blocks (body_of g)) (F.Place at ∷ F.Value from ∷ []))) a (F.Place at ∷ F.Value from ∷ []) (code_next x g assign rest y)
         (same_hooks x a ∙ (ap (gives_hooked (facts_in x.table)) w.is_other ∙ unhooked_at x g assign rest y at w.ty names.1.0 at_typed)))
         (with_value to g.call.temps nothing) (none_temps x g assign rest y to none)
-        (1 + (bytes z + 0)) (omega arith) s.written)))))
+        (1 + (bytes z + 0)) (omega arith) changes s.written))))))
 
   pub assign_line : (ty : Option ℕ) (of : List (Option ℕ)) (from : List From) → RowHere x g rest to O.Assign how ty of from
   assign_line None (a ∷ b ∷ []) (F.Place at ∷ F.Value from ∷ []) names y = assign_values a b at from names y

@@ -13,7 +13,7 @@ use Rattle.word_lowering.proofs.Related.{Both, body_of, routines, within}
 use Rattle.word_code.proofs.ForCallers.{Changed, Runs, at}
 use Rattle.word_lowering.specs.declared.homes.TheConstants.{FIRST}
 use Rattle.word_lowering.proofs.Moves.{IsHigh, all_same, words_of}
-use Rattle.std.proofs.Common.{List, [], ap, arith, refl, subst, suc, sym, true, ℕ, ◌*◌, ◌+◌, ◌∙◌, ◌∷◌, ◌≡◌}
+use Rattle.std.proofs.Common.{List, [], ap, arith, false, refl, subst, suc, sym, true, ℕ, ◌*◌, ◌+◌, ◌∙◌, ◌∷◌, ◌≡◌}
 use Rattle.word_code.specs.RoutineTable.{LowWords, Separate}
 use Rattle.word_code.specs.Memory.{Memory, as_state}
 use Rattle.flat_code.specs.Scene.{Passes, Temps}
@@ -146,7 +146,7 @@ module _ (x : Basis) (g : Both) (line : BlockLine) (rest : List BlockLine) (y : 
         bits_put x between line rest good_between l e.address t live_then w read_right.shaped memory second_write w_there
         (first_put.leads l e.address t e.owned)
 
-    trade_settles : code_here x g line rest y ≡ swap_code left right (shape_bytes t) (code_next x g line rest y)
+    trade_settles : code_here x g line rest y ≡ swap_code false left right (shape_bytes t) (code_next x g line rest y)
         → Settles x (starts g line rest) rest (Passes (Answers [] (1 + (bytes v + (bytes w + 0))) temps (store world l w)))
     trade_settles code =
         let long_left = size_left in
@@ -158,11 +158,11 @@ module _ (x : Basis) (g : Both) (line : BlockLine) (rest : List BlockLine) (y : 
         no_words FIRST (all_same called.vars)) called.steps (1 + (bytes v + (bytes w + 0))) temps (store world l w)
         (subst (λ c. Runs x.live (all_procs x) called.steps (at (within x.table x.blocks g) g.memory c g.call.vars g.words)
         (at (awaiting (within x.table x.blocks g) FIRST) memory next called.vars no_words))
-        (sym (code ∙ ap (λ n. swap_code left right n next) words)) called.runs)
+        (sym (code ∙ ap (λ n. swap_code false left right n next) words)) called.runs)
         called.some (omega (arith, long_left, long_right, words, few)) refl
 
   pub swap_settles : is_there (store g.world m (load g.world l)) l ≡ true
-      → code_here x g line rest y ≡ swap_code left right (shape_bytes t) (code_next x g line rest y)
+      → code_here x g line rest y ≡ swap_code false left right (shape_bytes t) (code_next x g line rest y)
       → Settles x (starts g line rest) rest (Passes (Answers []
       (1 + (bytes (load g.world l) + (bytes (load g.world m) + 0))) temps (store (store g.world m (load g.world l)) l (load g.world m))))
   swap_settles live_then code = let n = words_of (shape_bytes t) (shape_whole t) (shape_some t) in trade_settles live_then n.0 n.1 code

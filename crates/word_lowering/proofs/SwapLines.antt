@@ -1,5 +1,5 @@
 -- Values at two locations trade places: what the line does is followed.
-use Rattle.std.proofs.Common.{◌≡◌, ℕ, ◌+◌, List, [], ◌∷◌, Option, Some, None, Bool, true, false, refl, sym, ap, subst, ◌∙◌}
+use Rattle.std.proofs.Common.{◌≡◌, ℕ, ◌+◌, List, [], ◌∷◌, Option, Some, None, Bool, true, false, refl, sym, ap, ap₂, subst, ◌∙◌, arith}
 use Rattle.std.proofs.lemmas.Bool.{and_parts, eq-eqb}
 use Rattle.std.specs.Prelude.{option_map, nat_eq, ◌&&◌, ◌||◌}
 use Rattle.nim_types.specs.Types.{Ty}
@@ -27,6 +27,7 @@ use Rattle.word_lowering.proofs.AddressFacts.{handed_at}
 use Rattle.word_lowering.proofs.ApplyFits.{applies, RowHere}
 use Rattle.word_lowering.proofs.ControlLines.{plain, value_type}
 use Rattle.word_lowering.proofs.Gets.{SameTemps}
+use Rattle.word_lowering.proofs.LetterSwaps.{Trades, letters_trade}
 use Rattle.word_lowering.proofs.LineFits.{are_of, no_type, same_type}
 use Rattle.word_lowering.proofs.Lines.{Basis, IsGood, Settles, all_sites, known, mapped_settles, bound_for, starts, where_there}
 use Rattle.word_lowering.proofs.LocationHouses.{location_house}
@@ -35,11 +36,11 @@ use Rattle.word_lowering.proofs.OutPlaces.{written_at, written_stands}
 use Rattle.word_lowering.proofs.Related.{Both, body_of, high}
 use Rattle.word_lowering.proofs.GoodLeads.{owned_seen}
 use Rattle.word_lowering.proofs.Located.{full_there}
-use Rattle.word_lowering.proofs.Scenes.{FromOwned, Leads, Points, looked, of_location}
+use Rattle.word_lowering.proofs.Scenes.{FromOwned, Reaches, Points, looked, of_location}
 use Rattle.word_lowering.proofs.Settling.{LabelsLead, code_here, code_next}
-use Rattle.word_lowering.proofs.ShapeFacts.{never, of_numbers, shape_bytes}
+use Rattle.word_lowering.proofs.ShapeFacts.{is_letter, letter_is, never, of_numbers, shape_bytes}
 use Rattle.word_lowering.proofs.Sites.{Site, around}
-use Rattle.word_lowering.proofs.Scenes.{IsOwned, LeadsHere}
+use Rattle.word_lowering.proofs.Scenes.{IsStood, ReachesHere, may_owned, stored_here}
 use Rattle.word_lowering.proofs.StoreLines.{none_temps}
 use Rattle.word_lowering.proofs.Targets.{pointed}
 use Rattle.word_lowering.proofs.ValueFacts.{location_of_numbers, type_in, IsPlain}
@@ -66,10 +67,11 @@ module _ (x : Basis) (g : Both) (line : BlockLine) (rest : List BlockLine) (y : 
     pub high_is : IsHigh (house_of t)
     pub address : ℕ
     pub points : Points g.call.site.base g.call.vars (house_of t) address
-    pub owned : IsOwned at_location.base
-    pub leads : LeadsHere x.table x.blocks sites g.ground g.world at_location address shape
+    pub stood : IsStood at_location.base
+    pub leads : ReachesHere x.table x.blocks sites g.ground g.world at_location address shape
     pub numbers : of_numbers shape ≡ true
     pub long : (location (around x.table x.blocks (body_of g)) t).bytes ≡ shape_bytes shape
+    pub letter : (location (around x.table x.blocks (body_of g)) t).is_letter ≡ is_letter shape
 
   end_at : (t : ℕ) (there : Where) → IsPlain x g.call.site (of_location t) → type_in x is_location (body_of g) t ≡ Some ty
       → if_kind is_standing (place_named is_location (body_of g).proc.places t) ≡ true → is_among t (places_in (handed_by (block_plain line))) ≡ true
@@ -80,10 +82,10 @@ module _ (x : Basis) (g : Both) (line : BlockLine) (rest : List BlockLine) (y : 
       let w = written_at x g line rest y t there p.named standing e in
       let l : Location = w.location_is in
       let a = handed_at x g line rest y t there p.named plain e standing handed in
-      let leads : LeadsHere x.table x.blocks sites g.ground g.world l a.address shape
-      = subst (λ s. LeadsHere x.table x.blocks sites g.ground g.world l a.address s) p.look
-      (subst (λ k. Leads x.table x.blocks sites g.ground g.world g.call.site g.call.temps k a.address (looked x.table g.call.site (of_location t))) w.is
-      a.leads_to) in
+      let leads : ReachesHere x.table x.blocks sites g.ground g.world l a.address shape
+      = subst (λ s. ReachesHere x.table x.blocks sites g.ground g.world l a.address s) p.look
+      (subst (λ k. Reaches x.table x.blocks sites g.ground g.world g.call.site g.call.temps k a.address (looked x.table g.call.site (of_location t))) w.is
+      a.reaches) in
       let h = location_house x g line rest y t there p.named plain e in
       record {
         at_location = l;
@@ -91,29 +93,63 @@ module _ (x : Basis) (g : Both) (line : BlockLine) (rest : List BlockLine) (y : 
         high_is = subst IsHigh (sym a.home_is) a.high_is;
         address = a.address;
         points = subst (λ h. Points g.call.site.base g.call.vars h a.address) (sym a.home_is) a.points;
-        owned = written_stands x g line rest y w.written;
+        stood = written_stands x g line rest y w.written;
         leads = leads;
         numbers = sym (ap of_numbers p.look) ∙ location_of_numbers x g.call.site t y.linked.0 p.named plain;
         long = sym h.housed.bytes ∙ ap shape_bytes (ap (shape_of (facts_in x.table)) h.typed ∙ p.look);
+        letter = sym h.housed.letter ∙ ap is_letter (ap (shape_of (facts_in x.table)) h.typed ∙ p.look);
       }
 
   module _ (left right : ℕ) (here there : Where) (e : End left here) (f : End right there) (temps : Temps) (same_at : SameTemps x g line rest y temps)
       (full_left : is_full_at g.world e.at_location ≡ true) (full_right : is_full_at g.world f.at_location ≡ true) where
-    leads_at : {t : ℕ} {where_to : Where} (h : End t where_to) → is_full_at g.world h.at_location ≡ true
+    leads_at : {t : ℕ} {where_to : Where} (h : End t where_to) → may_change h.at_location.base ≡ true → is_full_at g.world h.at_location ≡ true
+        → is_letter shape ≡ false
         → FromOwned x.table sites g.ground g.world h.at_location h.address shape
-    leads_at h full =
-        owned_seen x (starts g line rest) y h.at_location h.address shape h.owned h.leads (full_there x (starts g line rest) y h.at_location full).1
+    leads_at h may full other =
+        owned_seen x (starts g line rest) y h.at_location h.address shape (may_owned h.at_location.base h.stood may)
+        (stored_here x.table x.blocks sites g.ground g.world h.at_location h.address shape other h.leads)
+        (full_there x (starts g line rest) y h.at_location full).1
 
-    pub both_settle : is_there (store g.world f.at_location (load g.world e.at_location)) e.at_location ≡ true → code_here x g line rest y
-        ≡ swap_code (house_of left) (house_of right) (location (around x.table x.blocks (body_of g)) left).bytes (code_next x g line rest y)
+    trades_at : {t : ℕ} {where_to : Where} (h : End t where_to) → may_change h.at_location.base ≡ true → is_full_at g.world h.at_location ≡ true
+        → is_letter shape ≡ true
+        → Trades x g line rest y h.at_location (house_of t)
+    trades_at h may full is = record {
+      high = h.high_is;
+      address = h.address;
+      points = h.points;
+      owned = may_owned h.at_location.base h.stood may;
+      leads = subst (ReachesHere x.table x.blocks sites g.ground g.world h.at_location h.address) (letter_is shape is) h.leads;
+      full = full;
+    }
+
+    pub both_settle : may_change e.at_location.base ≡ true → may_change f.at_location.base ≡ true
+        → is_full_at (store g.world f.at_location (load g.world e.at_location)) e.at_location ≡ true
+        → is_there (store g.world f.at_location (load g.world e.at_location)) e.at_location ≡ true → code_here x g line rest y
+        ≡ swap_code (location (around x.table x.blocks (body_of g)) left).is_letter (house_of left) (house_of right)
+        (location (around x.table x.blocks (body_of g)) left).bytes (code_next x g line rest y)
         → Settles x (starts g line rest) rest (Passes (Answers []
         (1 + (bytes (load g.world e.at_location) + (bytes (load g.world f.at_location) + 0))) temps
         (store (store g.world f.at_location (load g.world e.at_location)) e.at_location (load g.world f.at_location))))
-    both_settle live_then code =
-        swap_settles x g line rest y e.at_location f.at_location shape (house_of left) (house_of right)
-        (record { high = e.high_is; address = e.address; points = e.points; owned = leads_at e full_left })
-        (record { high = f.high_is; address = f.address; points = f.points; owned = leads_at f full_right }) temps same_at full_left full_right live_then
-        (code ∙ ap (λ n. swap_code (house_of left) (house_of right) n (code_next x g line rest y)) e.long)
+    both_settle may_one may_other full_then live_then code =
+        by (is_letter shape) refl
+        (code ∙ ap₂ (λ b n. swap_code b (house_of left) (house_of right) n (code_next x g line rest y)) e.letter e.long)
+      where
+        by : (b : Bool) → is_letter shape ≡ b → code_here x g line rest y
+            ≡ swap_code (is_letter shape) (house_of left) (house_of right) (shape_bytes shape) (code_next x g line rest y)
+            → Settles x (starts g line rest) rest (Passes (Answers []
+            (1 + (bytes (load g.world e.at_location) + (bytes (load g.world f.at_location) + 0))) temps
+            (store (store g.world f.at_location (load g.world e.at_location)) e.at_location (load g.world f.at_location))))
+        by true is lines =
+            letters_trade x g line rest y e.at_location f.at_location (house_of left) (house_of right) (trades_at e may_one full_left is)
+            (trades_at f may_other full_right is) temps same_at full_then
+            (lines ∙ ap (λ b. swap_code b (house_of left) (house_of right) (shape_bytes shape) (code_next x g line rest y)) is)
+            (1 + (bytes (load g.world e.at_location) + (bytes (load g.world f.at_location) + 0))) (omega arith)
+        by false other lines =
+            swap_settles x g line rest y e.at_location f.at_location shape (house_of left) (house_of right)
+            (record { high = e.high_is; address = e.address; points = e.points; owned = leads_at e may_one full_left other })
+            (record { high = f.high_is; address = f.address; points = f.points; owned = leads_at f may_other full_right other }) temps same_at full_left
+            full_right
+            live_then (lines ∙ ap (λ b. swap_code b (house_of left) (house_of right) (shape_bytes shape) (code_next x g line rest y)) other)
 
 -- ---- the line
 
@@ -160,7 +196,8 @@ module _ (x : Basis) (labels : LabelsLead x) (g : Both) (rest : List BlockLine) 
       abbrev Done : Did → Type 0
       Done did = Settles x (starts g swapping rest) rest did
 
-      where_seen : (is_full_at g.world one ≡ true → is_full_at g.world other ≡ true → is_there world_then one ≡ true
+      where_seen : (is_full_at g.world one ≡ true → is_full_at g.world other ≡ true → is_full_at world_then one ≡ true → is_there world_then one ≡ true
+          → may_change one.base ≡ true → may_change other.base ≡ true
           → Done (Passes (Answers [] (1 + (bytes first + (bytes second + 0))) (with_value to g.call.temps nothing) (store world_then one second))))
           → Done (given (swapped one other))
       where_seen d =
@@ -175,11 +212,11 @@ module _ (x : Basis) (labels : LabelsLead x) (g : Both) (rest : List BlockLine) 
           (λ before. tt)
           (λ h. where_there x (starts g swapping rest) rest (is_full_at world_then one)
           (λ b. given_then first second world_then (unless_gone b (changes one second >> give (load world_then one)))) (λ before. tt)
-          (λ h. where_there x (starts g swapping rest) rest (may_change one.base)
+          (λ full_then. where_there x (starts g swapping rest) rest (may_change one.base)
           (λ b. given_then first second world_then (unless_gone b (sets one second) >> give (load world_then one))) (λ before. tt)
           (λ may_one. where_there x (starts g swapping rest) rest (is_there world_then one)
           (λ b. given_then first second world_then (unless_gone b (does (Stores one second)) >> give (load world_then one))) (λ before. tt)
-          (λ live. d full full_other live)))))))
+          (λ live. d full full_other full_then live may_one may_other)))))))
 
     swap_values : RowHere x g rest to O.Swap how None (a ∷ b ∷ []) (F.Place left ∷ F.Place right ∷ [])
     swap_values names y =
@@ -208,8 +245,9 @@ module _ (x : Basis) (labels : LabelsLead x) (g : Both) (rest : List BlockLine) 
         (subst (λ k. Settles x (starts g swapping rest) rest (gives (scene_of (high x.table x.blocks (starts g swapping rest))) to
         (costs 1 (swapped l.at_location k) >>= kept_if false (bound_for g how)))) (sym m.is)
         (where_seen l.at_location m.at_location
-        (λ full full_other live.
-        both_settle x g swapping rest y w.ty left right here there l m (with_value to g.call.temps nothing) none full full_other live refl)))))
+        (λ full full_other full_then live may_one may_other.
+        both_settle x g swapping rest y w.ty left right here there l m (with_value to g.call.temps nothing) none full full_other may_one may_other full_then
+        live refl)))))
 
   pub swap_line : (ty : Option ℕ) (of : List (Option ℕ)) (from : List From) → RowHere x g rest to O.Swap how ty of from
   swap_line None (a ∷ b ∷ []) (F.Place left ∷ F.Place right ∷ []) names y = swap_values a b left right names y

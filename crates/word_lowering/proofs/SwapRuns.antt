@@ -1,5 +1,5 @@
 -- What it does to call the routine by which words at two addresses trade places.
-use Rattle.std.proofs.Common.{◌≡◌, ℕ, suc, ◌+◌, ◌*◌, ◌^◌, ◌<◌, ◌≤◌, List, ◌∷◌, refl, arith}
+use Rattle.std.proofs.Common.{◌≡◌, ℕ, suc, ◌+◌, ◌*◌, ◌^◌, ◌<◌, ◌≤◌, List, ◌∷◌, false, refl, arith}
 use Rattle.rv32_isa.specs.Machine.{Lives}
 use Rattle.word_code.specs.declared.routine.TheConstants.{SWAP}
 use Rattle.word_code.specs.declared.word.WordInstr.{WordInstr}
@@ -60,7 +60,7 @@ module _ (law : MemoryLaw) (live : Lives) (procs : List WordProc) (c : Within) (
     pub steps : ℕ
     pub some : 1 ≤ steps
     pub few : steps ≤ 11 + 8 * suc n
-    pub runs : Runs live procs steps (at c m (swap_code left right (4 * suc n) k) v g) (at (awaiting c FIRST) memory k vars no_words)
+    pub runs : Runs live procs steps (at c m (swap_code false left right (4 * suc n) k) v g) (at (awaiting c FIRST) memory k vars no_words)
 
   pub swap_called : (own : ℕ) (statics : List ℕ) → Reaches live procs own statics → (k : List WordInstr) (n : ℕ) (left right : Home) (a b : ℕ) (v g : Vars)
       → Points c.base v left a → IsHigh right → Points c.base v right b → a + 4 * suc n < 2 ^ 32 → b + 4 * suc n < 2 ^ 32 → Sized m

@@ -5,12 +5,13 @@ use Rattle.std.specs.Set.{is_member}
 use Rattle.nim_types.specs.Types.{same_text}
 use Rattle.nim_types.specs.declared.types.TheConstants.{WORD_BYTES}
 use Rattle.rv32_isa.specs.Regions.{AreBytes}
+use Rattle.rv32_isa.specs.Words.{word_bytes}
 use Rattle.flat_code.specs.Codes.{block_plain}
 use Rattle.flat_code.specs.Sizes.{code_texts, distinct_texts}
 use Rattle.word_lowering.specs.declared.handed.TheConstants.{LEFT_HANDLE_AT}
 use Rattle.word_lowering.specs.Lowered.{data_of, globals_end}
 use Rattle.word_lowering.specs.Stored.{base_at}
-use Rattle.word_lowering.specs.Texts.{all_names, data_in, ends_from, fixed_texts, joined_all, laid_texts, missing, names_before, padded}
+use Rattle.word_lowering.specs.Texts.{all_names, data_in, ends_from, fixed_texts, joined_all, texts_at, texts_from, data_at, missing, names_before, padded}
 use Rattle.word_lowering.proofs.DistinctTexts.{IsLaid, is_laid, unique_has}
 use Rattle.word_lowering.proofs.FirstNames.{name_among}
 use Rattle.word_lowering.proofs.Lines.{Basis}
@@ -43,7 +44,7 @@ module _ (x : Basis) (are : AreBytes (data_of x.table x.blocks.procs)) where
   names = joined_all (all_names x.table)
 
   abbrev laid_out : List ℕ
-  laid_out = laid_texts x.blocks.procs
+  laid_out = texts_from x.table (globals_end x.table x.blocks.procs) x.blocks.procs
 
   abbrev globals : List ℕ
   globals = replicate (globals_end x.table x.blocks.procs - LEFT_HANDLE_AT) 0
@@ -60,9 +61,14 @@ module _ (x : Basis) (are : AreBytes (data_of x.table x.blocks.procs)) where
 
   laid_text : (text : List ℕ) → is_member same_text (code_texts block_plain x.blocks.procs) text ≡ true → AreBytes text
   laid_text text among =
-      let l : IsLaid (distinct_texts block_plain x.blocks.procs) text
-      = is_laid (distinct_texts block_plain x.blocks.procs) text (unique_has (code_texts block_plain x.blocks.procs) text ∙ among) in
-      in_front text l.after (past l.before (text ++ l.after) (subst AreBytes l.whole (past (padded names) laid_out both)))
+      let from : ℕ = data_at + texts_at x.table (globals_end x.table x.blocks.procs) in
+      let l : IsLaid from (distinct_texts block_plain x.blocks.procs) text
+      = is_laid from (distinct_texts block_plain x.blocks.procs) text (unique_has (code_texts block_plain x.blocks.procs) text ∙ among) in
+      let place : List ℕ = word_bytes (from + length l.before + 8) in
+      in_front text l.after
+      (past place (text ++ l.after)
+      (past (word_bytes (length text)) (place ++ (text ++ l.after))
+      (past l.before (word_bytes (length text) ++ (place ++ (text ++ l.after))) (subst AreBytes l.whole (past (padded names) laid_out both)))))
 
   pub texts_built : TextsBuilt x
   texts_built = record {

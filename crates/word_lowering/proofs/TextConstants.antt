@@ -61,7 +61,7 @@ module _ (x : Basis) (said : Writing x) (texts : TextsBuilt x) (g : Both) (rest 
       let t = bits_target x g naming rest y to to_type refl (ap (λ b. text_alias b (texts_behind x g naming rest y) (Some text)) owned)
       (v.is ∙ sym v.is_other) (ap is_one_word shape) in
       let among : is_member same_text (lines_texts (lines_of (body_of g))) text ≡ true
-      = ap (λ l. is_member same_text (lines_texts (map block_plain l)) text) y.stands.whole ∙ text_among naming text refl y.stands.before rest in
+      = ap (λ l. is_member same_text (lines_texts (map block_plain l)) text) y.stands.whole ∙ text_among naming text [] refl y.stands.before rest in
       let home = (house g.call.site (of_value to)).home in
       let h = text_handle x said texts g naming rest y text among (copy_code home (Static LEFT_HANDLE_AT) (code_next x g naming rest y)) in
       let code : text_copy_code (around x.table x.blocks (body_of g)) home text (code_next x g naming rest y) ≡ code_here x g naming rest y

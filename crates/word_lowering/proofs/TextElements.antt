@@ -1,7 +1,7 @@
 -- A temporary gets a character of a text at a location, which is there: the line is followed.
-use Rattle.std.proofs.Common.{◌≡◌, inl, ℕ, List, [], ◌∷◌, ◌++◌, length, take, drop, Some, None, Ok, Err, true, refl, sym, ap, subst, ◌∙◌, arith, suc, zero}
-use Rattle.std.proofs.Common.{inr, min, negsuc, pos, unsigned_abs, ℤ, ◌%◌, ◌*◌, ◌+◌, ◌<◌, ◌^◌, ◌≤◌, ◌⊎◌, Option, false}
-use Rattle.std.specs.Prelude.{int_le, int_lt, ◌==◌}
+use Rattle.std.proofs.Common.{◌≡◌, inl, ℕ, List, [], ◌∷◌, ◌++◌, length, Some, None, Ok, true, refl, sym, ap, subst, ◌∙◌, arith}
+use Rattle.std.proofs.Common.{negsuc, pos, unsigned_abs, ℤ, ◌*◌, ◌+◌, ◌<◌, ◌^◌, Option, false}
+use Rattle.std.specs.Prelude.{int_le, int_lt}
 use Rattle.word_lowering.proofs.OrdinalRuns.{AllSame, but_one, put_here}
 use Rattle.nim_meaning.specs.Acts.{branch}
 use Rattle.nim_meaning.specs.Deeds.{Answers, costs, give, unless_gone}
@@ -25,20 +25,18 @@ use Rattle.word_lowering.proofs.Blocks.{Stored}
 use Rattle.word_lowering.proofs.TextRowRuns.{IsAt}
 use Rattle.word_lowering.proofs.TextOperands.{IsSourceIn, IsText, TextAt, text_at_handle, text_block, text_is}
 use Rattle.word_lowering.proofs.Scenes.{Leads, house, is_fixed, looked, of_location, of_value}
-use Rattle.word_code.specs.Memory.{Memory, bytes_at, number_at}
-use Rattle.rv32_isa.specs.declared.machine.FaultKind.TheVariants.{Misaligned}
+use Rattle.word_code.specs.Memory.{bytes_at, number_at}
 use Rattle.heap_memory.specs.AppendRoutine.{Inside, Outside, Source, source_at, source_bytes}
 use Rattle.flat_code.specs.Scene.{Fails, Passes, Where, location_at, with_value}
-use Rattle.word_code.proofs.ForCallers.{Runs, Sized, Within, at, run_copy, run_load, then_runs}
+use Rattle.word_code.proofs.ForCallers.{Runs, Within, at, run_copy, run_load, then_runs}
 use Rattle.word_lowering.proofs.Targets.{Target, target}
 use Rattle.word_code.specs.Words.{Vars, put}
 use Rattle.word_code.specs.declared.word.WordInstr.{WordInstr}
 use Rattle.word_lowering.proofs.WrittenLines.{Writing}
-use Rattle.std.proofs.lemmas.Bool.{and_from, and_parts, cases_lt, cond-true, eq-eqb, lt-ltb}
+use Rattle.std.proofs.lemmas.Bool.{and_parts}
 use Rattle.word_lowering.proofs.LineFits.{are_of, no_handle, some_kind}
 use Rattle.word_lowering.proofs.Sites.{around, is_one_word}
 use Rattle.flat_code.specs.Shapes.{block, has_shape, number, shape_of}
-use Rattle.rv32_isa.specs.Hooks.{code_at}
 use Rattle.word_lowering.proofs.Settling.{code_here, code_next, gives_settles}
 use Rattle.nim_meaning.specs.State.{contents_value, is_full_at, is_seen, is_there, is_whole, load, object_in, text_of, whole_at}
 use Rattle.word_lowering.specs.OwnedCode.{each_bytes, element_read, has_handle, is_text as is_text_entry, owned_element_code}
@@ -48,28 +46,25 @@ use Rattle.nim_program.specs.Kinds.{element_of, is_int, is_of, kind_if, TypeKind
 use Rattle.word_lowering.specs.Stored.{entry_at}
 use Rattle.nim_types.specs.Table.{facts_in}
 use Rattle.nim_meaning.specs.Places.{fetched}
-use Rattle.word_lowering.proofs.Arithmetic.{fits_signed, signed_fits}
+use Rattle.word_lowering.proofs.Arithmetic.{fits_signed}
 use Rattle.word_lowering.proofs.FixedTexts.{fixed_there}
 use Rattle.word_lowering.proofs.NumberLines.{getting, variable}
 use Rattle.word_lowering.proofs.HouseHooks.{homed, plain_as}
 use Rattle.word_lowering.proofs.LocationHouses.{homed_house}
 use Rattle.nim_program.specs.Ints.{fits as is_int_number, inside}
-use Rattle.word_lowering.proofs.OrdinalChecks.{inside_is}
 use Rattle.word_lowering.proofs.ControlLines.{int_read, kind_at, plain}
 use Rattle.std.proofs.lemmas.Int.{ints}
 use Rattle.flat_code.specs.Fits.{is_location, is_value}
+use Rattle.word_lowering.proofs.LetterReads.{letter_shaped, letter_word}
+use Rattle.word_lowering.proofs.TextLetters.{ByteAt, Letter, byte_at, letter_at}
 use Rattle.word_lowering.proofs.TextsRead.{may_write}
-use Rattle.rv32_isa.specs.Steps.{number_of as bytes_number}
-use Rattle.word_lowering.specs.Operations.{least, word}
+use Rattle.word_lowering.specs.Operations.{word}
 use Rattle.word_lowering.proofs.SeenHandles.{led_full, text_handle}
 use Rattle.word_lowering.proofs.Located.{led_stored}
-use Rattle.rv32_isa.specs.Words.{little}
 use Rattle.word_lowering.specs.LineCode.{element_at as element_code_at, variable_of}
 use Rattle.word_lowering.specs.Operands.{location}
 use Rattle.word_lowering.specs.Spots.{moved}
 use Rattle.word_lowering.proofs.ShapeFacts.{never}
-use Rattle.word_lowering.proofs.Options.{none_some}
-use Rattle.heap_memory.proofs.ForCallers.{nothing_below, part_read, read_in}
 use Rattle.word_lowering.proofs.SequenceRowRuns.{same_fifth}
 use Rattle.word_lowering.proofs.Moves.{same_first, same_more}
 use Rattle.flat_code.specs.Running.{scene_of}
@@ -78,46 +73,6 @@ use Rattle.nim_types.specs.Types.{Fact, Facts, Ty, members, fields, base, below,
 use Rattle.flat_code.specs.declared.line.Line.TheVariants as L
 use Rattle.nim_types.specs.Types as type
 use Rattle.nim_types.specs.declared.types.TypeDef.TheVariants as D
-
--- ---- one character of a text
-
-pub record Letter (text : List ℕ) (i : ℕ) : Type 0 where
-  pub letter : ℕ
-  pub is : nth (characters text) i ≡ Number (pos letter)
-  pub one : take 1 (drop i text) ≡ letter ∷ []
-  pub small : AreBytes text → letter < 256
-
-letter_at : (text : List ℕ) (i : ℕ) → i < length text → Letter text i
-letter_at [] i less = absurd (omega (arith, less))
-letter_at (c ∷ text) zero less = record { letter = c; is = refl; one = refl; small = λ are. are.0 }
-letter_at (c ∷ text) (suc i) less =
-    let r = letter_at text i (omega (arith, less)) in
-    record { letter = r.letter; is = r.is; one = r.one; small = λ are. r.small are.1 }
-
--- its byte is among those of the text
-module _ (m : Memory) (sized : Sized m) where
-  pub record ByteAt (a letter : ℕ) : Type 0 where
-    pub reads : number_at m a Byte ≡ Ok letter
-    pub small : a < 2 ^ 32
-
-  byte_at : (a : ℕ) (letters : List ℕ) → bytes_at m a (length letters) ≡ Some letters → (i : ℕ) → i < length letters → (r : Letter letters i) →
-      ByteAt (a + i) r.letter
-  byte_at a [] here i less r = absurd (omega (arith, less))
-  byte_at a (b ∷ letters) here i less r = by (cases_lt a code_at)
-    where
-      by : (a < code_at) ⊎ (code_at ≤ a) → ByteAt (a + i) r.letter
-      by (inl low) = absurd (none_some (b ∷ letters) (sym (nothing_below m a (length letters) low) ∙ here))
-      by (inr far) =
-          let x = read_in m sized a (length (b ∷ letters)) (b ∷ letters) (omega arith) far here in
-          let p = part_read m sized a (length (b ∷ letters)) (b ∷ letters) x here i 1 (omega (arith, less)) in
-          let ends = x.region.ends in
-          let high = x.high in
-          let little_is : little (r.letter ∷ []) ≡ r.letter = omega arith in
-          record {
-            reads = cond-true ((a + i) % 1 == 0) (bytes_number (bytes_at m (a + i) 1)) (Err Misaligned) (eq-eqb ((a + i) % 1) 0 (omega arith))
-                ∙ ap bytes_number (p ∙ ap Some r.one) ∙ ap Ok little_is;
-            small = omega (arith, less, high, ends);
-          }
 
 -- a part at the end of a path is one of what stands there
 part_last : (v : Value) (path : List ℕ) (i : ℕ) → part v (path ++ i ∷ []) ≡ nth_part (part v path) i
@@ -255,12 +210,8 @@ module _ (x : Basis) (said : Writing x) (g : Both) (rest : List BlockLine) (to f
           let long : number_at g.memory t.address Word ≡ Ok (length text)
           = subst (λ bs. number_at g.memory t.address Word ≡ Ok (length bs)) t.text_at.bytes t.text_at.handle.long in
           let few : length text < 2 ^ 32 = subst (λ bs. length bs < 2 ^ 32) t.text_at.bytes t.text_at.few in
-          let fits : is_int_number (pos r.letter) ≡ true = signed_fits (pos r.letter) (omega (arith, small, ints)) in
-          let low : word (pos r.letter) ≡ r.letter = (let q = fits_signed (pos r.letter) fits in omega (arith, ints)) in
-          let bound : min 256 least ≡ 256 = omega arith in
-          let shaped : has_shape (Number (pos r.letter)) (number (Some 256)) ≡ true
-          = and_from (is_int_number (pos r.letter)) (inside (pos r.letter) 256) fits
-          (sym (inside_is (pos r.letter) 256 fits) ∙ lt-ltb (word (pos r.letter)) (min 256 least) (omega (arith, small, low, bound))) in
+          let low : word (pos r.letter) ≡ r.letter = letter_word r.letter small in
+          let shaped : has_shape (Number (pos r.letter)) (number (Some 256)) ≡ true = letter_shaped r.letter small in
           let got_it = getting x g line rest y to type.char (Some 256) (pos r.letter) target_is refl shaped in
           let z = in_word x g.call.site to y.linked.0 target_is.there got_it.one in
           let reading : List WordInstr = Load FIRST FIFTH Byte ∷ Copy z.variable FIRST ∷ next in
@@ -347,7 +298,7 @@ declared_single (Some (fields all own)) of h = never h
 declared_single (Some (base t)) of h = never h
 declared_single (Some (below parent)) of h = never h
 
-text_by : (facts : Facts) (ty of : Ty) → is_of (Some of) (element_of (kind_of facts ty)) ≡ true → is_sequence (kind_of facts ty) ≡ false
+pub text_by : (facts : Facts) (ty of : Ty) → is_of (Some of) (element_of (kind_of facts ty)) ≡ true → is_sequence (kind_of facts ty) ≡ false
     → no_handle (shape_of facts ty) ≡ false → ty ≡ type.text
 text_by facts type.text of h s n = refl
 text_by facts (type.sequence e) of h s n = never (sym s)

@@ -1,5 +1,6 @@
 -- How long a text is that a location leads to: what lines that ask for it do.
-use Rattle.std.proofs.Common.{◌≡◌, inl, ℕ, ◌<◌, ◌^◌, List, [], ◌∷◌, Ok, Option, Some, None, Bool, true, false, length, pos, ℤ, refl, sym, ap, subst, ◌∙◌, arith}
+use Rattle.std.proofs.Common.{◌≡◌, ◌+◌, inl, ℕ, ◌<◌, ◌^◌, List, [], ◌∷◌, Ok, Option, Some, None, Bool, true, false, length, pos, ℤ, refl, sym, ap, subst}
+use Rattle.std.proofs.Common.{◌∙◌, arith}
 use Rattle.std.proofs.lemmas.Bool.{and_parts}
 use Rattle.std.proofs.lemmas.Int.{ints}
 use Rattle.std.specs.Ordering.{int_eq}
@@ -41,7 +42,8 @@ use Rattle.word_lowering.specs.declared.homes.TheConstants.{FIRST}
 use Rattle.word_lowering.specs.LineCode.{location, measure_code}
 use Rattle.word_lowering.specs.Lowered.{any_branches}
 use Rattle.word_lowering.specs.Operations.{trap_label}
-use Rattle.word_lowering.specs.OwnedCode.{has_handle, measured_code}
+use Rattle.heap_memory.specs.AppendRoutine.{source_at}
+use Rattle.word_lowering.specs.OwnedCode.{each_bytes, has_handle, measured_code}
 use Rattle.word_lowering.specs.Stored.{entry_at}
 use Rattle.word_lowering.proofs.AddressFacts.{AtAddress, at_homed}
 use Rattle.word_lowering.proofs.ApplyFits.{apply_line}
@@ -54,6 +56,7 @@ use Rattle.word_lowering.proofs.HouseHooks.{homed}
 use Rattle.word_lowering.proofs.LengthLines.{counted_settles}
 use Rattle.word_lowering.proofs.LengthRows.{text_house}
 use Rattle.word_lowering.proofs.LineFits.{same_type}
+use Rattle.word_lowering.proofs.LentLocations.{located_here}
 use Rattle.word_lowering.proofs.Lines.{Basis, IsGood, Settles, all_sites, fits_here, known, starts, using_settles, where_there}
 use Rattle.word_lowering.proofs.Located.{led_stored}
 use Rattle.word_lowering.proofs.LocationHouses.{homed_house}
@@ -64,14 +67,15 @@ use Rattle.word_lowering.proofs.OperandTexts.{at_place, typed_parts}
 use Rattle.word_lowering.proofs.OwnedFits.{FitsRow, OwnedRow, fits_row}
 use Rattle.word_lowering.proofs.Related.{Both, body_of, high}
 use Rattle.word_lowering.proofs.RowOperands.{text_short}
-use Rattle.word_lowering.proofs.Scenes.{Leads, is_fixed, looked, of_location}
+use Rattle.word_lowering.proofs.Scenes.{Leads, LeadsHere, is_fixed, looked, of_location}
 use Rattle.word_lowering.proofs.SeenHandles.{led_full, text_handle}
 use Rattle.word_lowering.proofs.SequenceElementLines.{still_counted}
 use Rattle.word_lowering.proofs.Settling.{TrapsStop, code_next}
-use Rattle.word_lowering.proofs.ShapeFacts.{never}
+use Rattle.word_lowering.proofs.ShapeFacts.{never, of_numbers}
 use Rattle.word_lowering.proofs.Sites.{around, is_one_word}
 use Rattle.word_lowering.proofs.TextOperands.{IsText, text_at_handle, text_block, text_is}
 use Rattle.word_lowering.proofs.TextRowRuns.{IsAt}
+use Rattle.word_lowering.proofs.TextsRead.{may_write}
 use Rattle.word_lowering.proofs.ValueFacts.{HasType, has_type, look_of, type_in}
 use Rattle.word_lowering.proofs.WrittenLines.{Writing}
 
@@ -96,6 +100,7 @@ module _ (x : Basis) (said : Writing x) (g : Both) (line : BlockLine) (rest : Li
 
   pub record TextHere (t : ℕ) (l : Location) : Type 0 where
     pub handled : has_handle (entry_at x.table (location (around x.table x.blocks (body_of g)) t).ty) ≡ true
+    pub each : each_bytes x.table (entry_at x.table (location (around x.table x.blocks (body_of g)) t).ty) ≡ 1
     pub home : Place
     pub home_is : (location (around x.table x.blocks (body_of g)) t).home ≡ home
     pub address : ℕ
@@ -104,6 +109,14 @@ module _ (x : Basis) (said : Writing x) (g : Both) (line : BlockLine) (rest : Li
     pub long_is : length_of (load g.world l) ≡ long
     pub long_at : number_at g.memory address Word ≡ Ok long
     pub fits : is_int_number (pos long) ≡ true
+    pub near : address + 4 < 2 ^ 32
+    pub place : ℕ
+    pub place_at : number_at g.memory (address + 4) Word ≡ Ok place
+    pub place_near : place < 2 ^ 32
+    pub stored : Stored (is_fixed g.ground) g.ground.blocks g.memory address block (load g.world l)
+    pub whole : is_whole g.world (load g.world l) ≡ true
+    pub text : IsText (is_fixed g.ground) (load g.world l)
+    pub leads : LeadsHere x.table x.blocks (all_sites x g line rest y) g.ground g.world l address block
 
   pub text_here : (t : ℕ) (there : Where) (ty : Ty) → type_in x is_location (body_of g) t ≡ Some ty → shape_of (facts_in x.table) ty ≡ block
       → g.call.temps.places t ≡ Some there → is_seen g.world (location_at g.call.temps there) ≡ true → TextHere t (location_at g.call.temps there)
@@ -117,6 +130,7 @@ module _ (x : Basis) (said : Writing x) (g : Both) (line : BlockLine) (rest : Li
       = at_homed x g line rest y t there has.named (homed x g.call.site y.linked.0 t has.named) at (ap is_one_word look) in
       let leads : Leads x.table x.blocks (all_sites x g line rest y) g.ground g.world g.call.site g.call.temps there a.address block
       = subst (Leads x.table x.blocks (all_sites x g line rest y) g.ground g.world g.call.site g.call.temps there a.address) look a.leads_to in
+      let m = located_here x g line rest y t has.named (ap of_numbers look) there at in
       let full = led_full x (starts g line rest) y g.call (inl refl) there a.address block tt seen leads in
       let r = led_stored x (starts g line rest) y g.call (inl refl) (inl refl) there a.address block full leads in
       let near = r.readable.near in
@@ -130,6 +144,7 @@ module _ (x : Basis) (said : Writing x) (g : Both) (line : BlockLine) (rest : Li
       = text_house x said (at_house t) (ap (shape_of (facts_in x.table)) (housed.typed ∙ has.typed) ∙ shape) in
       record {
         handled = ap has_handle entry;
+        each = ap (each_bytes x.table) entry;
         home = a.home;
         home_is = a.home_is;
         address = a.address;
@@ -138,6 +153,15 @@ module _ (x : Basis) (said : Writing x) (g : Both) (line : BlockLine) (rest : Li
         long_is = long_as a.address v text r.stored p.1;
         long_at = is_text_at.handle.long ∙ ap (λ t. Ok (length t)) is_text_at.bytes;
         fits = signed_fits (pos (length (text_of g.world v))) (omega (arith, short, ints));
+        near = omega (arith, near);
+        place = source_at is_text_at.source;
+        place_at = is_text_at.handle.there;
+        place_near = (may_write (is_fixed g.ground) g.ground.blocks g.world.heap g.memory y.heap y.memory.sized a.address (text_of g.world v) is_text_at).small;
+        stored = r.stored;
+        whole = p.1;
+        text = text;
+        leads = subst (λ k. LeadsHere x.table x.blocks (all_sites x g line rest y) g.ground g.world k a.address block) (sym (ap (location_at g.call.temps) m.1))
+            (subst (λ z. Leads x.table x.blocks (all_sites x g line rest y) g.ground g.world g.call.site g.call.temps z a.address block) m.1 leads);
       }
 
 module _ (x : Basis) (said : Writing x) (g : Both) (rest : List BlockLine) where

@@ -6,9 +6,11 @@ use Rattle.nim_types.specs.Types.{same_text}
 use Rattle.nim_types.specs.declared.types.TypeDef.{TypeDef}
 use Rattle.flat_code.specs.declared.block.BlockLine.{BlockLine}
 use Rattle.flat_code.specs.declared.line.Piece.{Piece}
+use Rattle.flat_code.specs.declared.line.Piece.TheVariants as P
 use Rattle.flat_code.specs.declared.code.Code.{Code}
 use Rattle.flat_code.specs.declared.code.CodeProc.{CodeProc}
 use Rattle.flat_code.specs.Codes.{block_plain}
+use Rattle.flat_code.specs.Pieces.{standing_bytes}
 use Rattle.flat_code.specs.Sizes.{distinct_texts}
 use Rattle.word_lowering.specs.declared.homes.Layout.{Layout}
 use Rattle.word_lowering.specs.declared.handed.TheConstants.{LEFT_HANDLE_AT}
@@ -20,57 +22,69 @@ use Rattle.word_lowering.specs.LineCode.{Around, no_layout}
 use Rattle.word_lowering.specs.MayLower.{may_lower}
 use Rattle.word_lowering.specs.Scope.{HasRoom}
 use Rattle.word_lowering.specs.Stored.{HaveForms}
-use Rattle.word_lowering.specs.Texts.{padded, fixed_texts, all_names, joined_all, ends_from, laid, laid_texts, data_in, texts_at, text_place}
+use Rattle.word_lowering.specs.Texts.{padded, fixed_texts, all_names, joined_all, ends_from, laid_length, texts_from, data_at, data_in, texts_at, text_place}
 use Rattle.word_lowering.specs.Texts.{place_among, or_zero, place_of, standing_place}
 use Rattle.word_lowering.proofs.CountedLayouts.{layouts_counted, counted_at}
+use Rattle.word_lowering.proofs.DistinctTexts.{laid_long}
 use Rattle.word_lowering.proofs.DataSizes.{six_parts, ends_length, data_within}
 use Rattle.word_lowering.proofs.Padding.{zeros_length, padded_length}
 use Rattle.word_lowering.proofs.WholeCode.{last_is}
 
--- a text begins within what is laid out
-place_within : (texts : List (List ℕ)) (text : List ℕ) → or_zero (place_among texts text) ≤ length (laid texts)
+-- the handle of a text stands within what is laid out
+place_within : (texts : List (List ℕ)) (text : List ℕ) → or_zero (place_among texts text) ≤ laid_length texts
 place_within [] text = omega arith
 place_within (other ∷ texts) text = by (same_text text other) (place_within texts text)
   where
-    by : (b : Bool) → or_zero (place_among texts text) ≤ length (laid texts)
-        → or_zero (if b then Some (length (laid texts)) else place_among texts text) ≤ length (laid texts ++ padded other)
-    by true h = let both = length-append (laid texts) (padded other) in omega (arith, both)
-    by false h = let both = length-append (laid texts) (padded other) in omega (arith, h, both)
+    by : (b : Bool) → or_zero (place_among texts text) ≤ laid_length texts
+        → or_zero (if b then Some (laid_length texts) else place_among texts text) ≤ laid_length texts + (8 + length (padded other))
+    by true h = omega arith
+    by false h = omega (arith, h)
 
-pub literal_within : (procs : List (CodeProc BlockLine)) (offset bytes : ℕ) → place_of procs offset bytes ≤ length (laid_texts procs)
-literal_within procs offset bytes = place_within (distinct_texts block_plain procs) _
+-- and the text right behind
+abbrev Within : List (CodeProc BlockLine) → ℕ → Type 0
+Within procs n = n ≤ 8 + laid_length (distinct_texts block_plain procs)
 
-pub standing_within : (procs : List (CodeProc BlockLine)) (pieces : List Piece) → standing_place procs pieces ≤ length (laid_texts procs)
-standing_within procs pieces = place_within (distinct_texts block_plain procs) _
+pub text_within : (procs : List (CodeProc BlockLine)) (text : List ℕ) → Within procs (text_place procs text)
+text_within procs text = let h = place_within (distinct_texts block_plain procs) text in omega (arith, h)
 
-pub text_within : (procs : List (CodeProc BlockLine)) (text : List ℕ) → text_place procs text ≤ length (laid_texts procs)
-text_within procs text = place_within (distinct_texts block_plain procs) text
+pub literal_within : (procs : List (CodeProc BlockLine)) (offset bytes : ℕ) → Within procs (place_of procs offset bytes)
+literal_within procs offset bytes = text_within procs _
+
+pub standing_within : (procs : List (CodeProc BlockLine)) (pieces : List Piece) → Within procs (standing_place procs pieces)
+standing_within procs [] = text_within procs (standing_bytes [])
+standing_within procs (P.Text text ∷ []) = let h = place_within (distinct_texts block_plain procs) text in omega (arith, h)
+standing_within procs (P.Text text ∷ piece ∷ pieces) = text_within procs (standing_bytes (P.Text text ∷ piece ∷ pieces))
+standing_within procs (P.Ordinal z ∷ pieces) = text_within procs (standing_bytes (P.Ordinal z ∷ pieces))
+standing_within procs (P.Nil ∷ pieces) = text_within procs (standing_bytes (P.Nil ∷ pieces))
+standing_within procs (P.Parts n ∷ pieces) = text_within procs (standing_bytes (P.Parts n ∷ pieces))
+standing_within procs (P.Elements n ∷ pieces) = text_within procs (standing_bytes (P.Elements n ∷ pieces))
 
 -- texts end where the data does
 texts_end : (table : List TypeDef) (globals_end : ℕ) (procs : List (CodeProc BlockLine))
-    → texts_at table globals_end + length (laid_texts procs) ≤ length (padded (data_in table globals_end procs))
+    → texts_at table globals_end + laid_length (distinct_texts block_plain procs) ≤ length (padded (data_in table globals_end procs))
 texts_end table globals_end procs =
     let names : List (List ℕ) = all_names table in
     let e = six_parts (replicate 4 0) fixed_texts (replicate (globals_end - LEFT_HANDLE_AT) 0) (ends_from 0 names) (padded (joined_all names))
-    (laid_texts procs) in
+    (texts_from table globals_end procs) in
+    let m = laid_long (data_at + texts_at table globals_end) (distinct_texts block_plain procs) in
     let f = zeros_length (globals_end - LEFT_HANDLE_AT) in
     let g = ends_length 0 names in
     let h : length fixed_texts ≡ 16 = refl in
     let i = zeros_length 4 in
     let j = padded_length (data_in table globals_end procs) in
-    omega (arith, e, f, g, h, i, j)
+    omega (arith, e, f, g, h, i, j, m)
 
 module _ (table : List TypeDef) (blocks : Code BlockLine) (may : may_lower table blocks ≡ true) (slice : List (CodeProc BlockLine))
     (slices : List Layout) (own : Layout) (same : slice ≡ blocks.procs) (are : slices ≡ all_layouts table blocks.procs)
     (last : slice_get slices (length slices - 1) ≡ Some own) where
-  data_room : texts_at table own.free.datum + length (laid_texts slice) ≤ MOST_DATA
+  data_room : texts_at table own.free.datum + laid_length (distinct_texts block_plain slice) ≤ MOST_DATA
   data_room =
       let within = data_within table blocks may in
       let end : globals_end table blocks.procs ≡ own.free.datum =
       ap (λ (ls : List Layout). (last_of no_layout ls).free.datum) (sym are) ∙ ap (λ (o : Layout). o.free.datum) (last_is no_layout slices own last) in
       let ends = texts_end table (globals_end table blocks.procs) blocks.procs in
       let here = ap (λ n. texts_at table n) end in
-      let texts = ap (λ (ps : List (CodeProc BlockLine)). length (laid_texts ps)) same in
+      let texts = ap (λ (ps : List (CodeProc BlockLine)). laid_length (distinct_texts block_plain ps)) same in
       omega (arith, within, ends, here, texts)
 
   pub texts_small : texts_at table own.free.datum ≤ 4294967295

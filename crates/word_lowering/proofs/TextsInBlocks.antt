@@ -9,7 +9,7 @@ use Rattle.heap_memory.specs.HeapUse.{IsThere}
 use Rattle.word_lowering.proofs.Blocks.{Bytes, Blocks, IsHandle, HasContents, IsBlockThere}
 use Rattle.word_lowering.proofs.BlocksKept.{payload_part}
 
-take_long : (n : ℕ) (xs : List ℕ) → length (take n xs) ≡ n → n ≤ length xs
+pub take_long : (n : ℕ) (xs : List ℕ) → length (take n xs) ≡ n → n ≤ length xs
 take_long zero xs e = omega arith
 take_long (suc n) [] e = absurd (omega (arith, e))
 take_long (suc n) (x ∷ xs) e = let h = take_long n xs (omega (arith, e)) in omega (arith, h)

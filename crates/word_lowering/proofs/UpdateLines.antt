@@ -2,7 +2,7 @@
 use Rattle.std.proofs.Common.{append-nil, ◌≡◌, inl, ℕ, ◌+◌, ◌^◌, ◌<◌, ◌≤◌, List, [], ◌∷◌, ◌++◌, length, map, Ok, Option, Some, None, Bool, true, false, ℤ, pos}
 use Rattle.std.proofs.Common.{refl, sym, ap, subst, ◌∙◌, arith}
 use Rattle.std.proofs.lemmas.Bool.{and_parts}
-use Rattle.std.specs.Prelude.{option_map, ◌&&◌, ◌||◌}
+use Rattle.std.specs.Prelude.{option_map, ◌&&◌}
 use Rattle.arc_base.specs.Event.{writes}
 use Rattle.arc_base.specs.declared.outside.Stream.TheVariants.{Err}
 use Rattle.rv32_isa.specs.declared.micro_op.Size.TheVariants.{Word}
@@ -10,7 +10,6 @@ use Rattle.nim_types.specs.Types.{Ty}
 use Rattle.nim_types.specs.Table.{facts_in}
 use Rattle.nim_program.specs.declared.operation.Operation.TheVariants as O
 use Rattle.nim_program.specs.declared.operation.Operator.{Operator}
-use Rattle.nim_program.specs.declared.operation.Operator.TheVariants as binary
 use Rattle.flat_code.specs.declared.line.UseAt.{UseAt}
 use Rattle.nim_program.specs.Fitting.{steps, updates}
 use Rattle.nim_program.specs.Ints.{Checked, Fine, Trapped, applied, fits as is_int_number}
@@ -48,8 +47,8 @@ use Rattle.word_lowering.specs.declared.spots.Spot.TheVariants.{Held, Lies}
 use Rattle.word_lowering.specs.declared.texts.TheConstants.{FIXED_BYTES}
 use Rattle.word_lowering.specs.Layouts.{holds_address, owns}
 use Rattle.word_lowering.specs.LineCode.{label_before, location, updated_code}
-use Rattle.word_lowering.specs.Lowered.{any_branches, branches_to}
-use Rattle.word_lowering.specs.Operations.{binary_code, trap_label, word}
+use Rattle.word_lowering.specs.Lowered.{any_branches}
+use Rattle.word_lowering.specs.Operations.{binary_code, word}
 use Rattle.word_lowering.specs.Spots.{address, spot_of}
 use Rattle.word_lowering.proofs.HeapKept.{heap_same}
 use Rattle.word_lowering.proofs.ApplyFits.{applies, RowHere}
@@ -66,10 +65,10 @@ use Rattle.word_lowering.proofs.Located.{IsReadAt, full_there, owned_located}
 use Rattle.word_lowering.proofs.MovedLines.{own_plain}
 use Rattle.word_lowering.proofs.Moves.{IsHigh, address_runs, all_same, points_same, same_more, same_second}
 use Rattle.word_lowering.proofs.NumberLines.{variable}
-use Rattle.word_lowering.proofs.OperandLines.{MayTrap, binary_may}
+use Rattle.word_lowering.proofs.OperandLines.{MayTrap}
 use Rattle.word_lowering.proofs.OpRuns.{same_put}
 use Rattle.word_lowering.proofs.OrdinalRuns.{AllSame, beyond, put_here, put_other, put_under}
-use Rattle.word_lowering.proofs.OutPlaces.{Written, far_written, high_in_memory, own_written}
+use Rattle.word_lowering.proofs.OutPlaces.{Written, far_written, high_in_memory, letter_written, own_written}
 use Rattle.word_lowering.proofs.ReadFacts.{item_read}
 use Rattle.word_lowering.proofs.Related.{Both, body_of, high, within}
 use Rattle.word_lowering.proofs.Scenes.{At as IsHeldAt, FromOwned, FromPlace, IsThere, Points, address_of, house, looked, of_place, of_location}
@@ -82,32 +81,8 @@ use Rattle.word_lowering.proofs.StoreLines.{none_temps, writes_at}
 use Rattle.word_lowering.proofs.Stores.{good_written, ground_then}
 use Rattle.word_lowering.proofs.UpdateRuns.{Comes, fourth_stored, update_comes}
 use Rattle.word_lowering.proofs.ValueFacts.{type_in, IsPlain}
-use Rattle.word_lowering.proofs.GoodLeads.{owned_seen}
-
--- ---- traps that code of an update may come to
-
-or_true : (b : Bool) → (b || true) ≡ true
-or_true true = refl
-or_true false = refl
-
-may_map : (leads more : ℕ → Type 0) → ((trap : ℕ) → leads trap → more trap) → (r : Checked) → MayTrap leads r → MayTrap more r
-may_map leads more f (Fine z) h = tt
-may_map leads more f (Trapped trap) h = f (trap_label trap) h
-
-updated_may : (label : ℕ) (operator : Operator) (p : Spot) (by : ℕ) (u v : ℤ)
-    → MayTrap (λ trap. (k : List WordInstr) → any_branches trap (updated_code label operator p by k) ≡ true) (applied operator u v)
-updated_may label operator (Held to) by u v = binary_may label to to by operator u v
-updated_may label operator (Lies home) by u v =
-    may_map (λ trap. (k : List WordInstr) → any_branches trap (binary_code label operator FOURTH FOURTH by k) ≡ true)
-    (λ trap. (k : List WordInstr) → any_branches trap (updated_code label operator (Lies home) by k) ≡ true)
-    (λ trap h k. ap (λ b. branches_to trap (address SECOND home) || b) (h (address FIRST home ∷ Store FIRST FOURTH Word ∷ k))
-    ∙ or_true (branches_to trap (address SECOND home)))
-    (applied operator u v) (binary_may label FOURTH FOURTH by operator u v)
-
-step_updates : (operator : Operator) → steps operator ≡ true → updates operator ≡ true
-step_updates binary.Add h = refl
-step_updates binary.Subtract h = refl
-step_updates operator h = never h
+use Rattle.word_lowering.proofs.GoodLeads.{owned_numbers, owned_seen}
+use Rattle.word_lowering.proofs.UpdateTraps.{may_map, step_updates, updated_may}
 
 module _ (x : Basis) (g : Both) (line : BlockLine) (rest : List BlockLine) (y : IsGood x (starts g line rest)) where
   abbrev sites : List Site
@@ -127,8 +102,10 @@ module _ (x : Basis) (g : Both) (line : BlockLine) (rest : List BlockLine) (y : 
         → FromOwned x.table sites g.ground g.world l a (number None) → WordAt h l
 
   word_at : (h : Housed) (l : Location) → is_whole g.world (load g.world l) ≡ true → Written x g line rest y h l (number None) → WordAt h l
-  word_at h l whole (far_written home spot up a points owned leads) =
+  word_at h l whole (far_written home spot up a points stood leads) =
+      let owned = owned_numbers x (starts g line rest) y l a (number None) refl stood leads in
       lies_at home spot up a points (owned_seen x (starts g line rest) y l a (number None) owned leads whole)
+  word_at h l whole (letter_written home spot up a points owned letter leads) = never letter
   word_at h l whole (own_written n there own is look old slot l_is) = by (houses x.table x.blocks g.call.site (of_place n) y.linked.0 there).where_is
     where
       plain_is : holds_address (house g.call.site (of_place n)) ≡ false

@@ -22,7 +22,7 @@ use Rattle.word_lowering.specs.declared.homes.Housed.{Housed}
 use Rattle.word_lowering.specs.declared.homes.Free.{Free}
 use Rattle.word_lowering.specs.declared.homes.Waiter.{Waiter}
 use Rattle.word_lowering.specs.declared.homes.Layout.{Layout}
-use Rattle.word_lowering.specs.Stored.{bytes_at, entry_at, is_word, is_hooked}
+use Rattle.word_lowering.specs.Stored.{bytes_at, entry_at, is_word, is_letter, is_hooked}
 use Rattle.word_lowering.specs.Aliases.{alias_for, addressed, standing, is_among}
 pub use Rattle.word_lowering.specs.Lookups.{
   nowhere,
@@ -81,6 +81,10 @@ abbrev pub word_by : PlaceKind → Bool → Bool
 word_by K.Counter word = true
 word_by kind word = word
 
+abbrev pub letter_by : PlaceKind → Bool → Bool
+letter_by K.Counter letter = false
+letter_by kind letter = letter
+
 abbrev pub bytes_by : PlaceKind → ℕ → ℕ
 bytes_by K.Counter bytes = WORD_BYTES
 bytes_by kind bytes = bytes
@@ -101,6 +105,9 @@ module _ (table : List TypeDef) (start : Bool) (lines : List Line) where
   abbrev pub place_word : FlatPlace → Bool
   place_word p = word_by p.kind (is_word (entry_at table p.ty))
 
+  abbrev pub place_letter : FlatPlace → Bool
+  place_letter p = letter_by p.kind (is_letter (entry_at table p.ty))
+
   abbrev pub place_bytes : FlatPlace → ℕ
   place_bytes p = bytes_by p.kind (bytes_at table p.ty)
 
@@ -120,6 +127,7 @@ module _ (table : List TypeDef) (start : Bool) (lines : List Line) where
     ty = p.ty;
     bytes = place_bytes p;
     is_word = place_word p;
+    is_letter = place_letter p;
     alias = place_alias p;
     home = home_by (place_alias p) (home_at (is_static start p.kind) (place_kept p) free);
     waits = waits_by p.kind (place_alias p) (is_hooked table p.ty) p.waits;

@@ -16,6 +16,7 @@ use Rattle.nim_program.specs.declared.operation.Use.{Use}
 use Rattle.nim_program.specs.declared.operation.Use.TheVariants.{Looked}
 use Rattle.nim_program.specs.declared.program.TheConstants.{ACTIVE_CALLS}
 use Rattle.nim_program.specs.Traps.{IndexOutOfBounds, LengthChanged, CallDepth}
+use Rattle.rv32_isa.specs.declared.micro_op.Size.{Size}
 use Rattle.rv32_isa.specs.declared.micro_op.Size.TheVariants.{Byte, Word as whole}
 use Rattle.rv32_isa.specs.Values.{subtracted}
 use Rattle.flat_code.specs.declared.code.CodeProc.{CodeProc}
@@ -48,13 +49,13 @@ use Rattle.word_lowering.specs.declared.homes.Housed.{Housed}
 use Rattle.word_lowering.specs.declared.homes.Layout.{Layout}
 use Rattle.word_lowering.specs.declared.homes.Waiter.{Waiter}
 use Rattle.word_lowering.specs.declared.spots.Spot.{Spot}
-use Rattle.word_lowering.specs.declared.spots.Spot.TheVariants.{Held, Lies}
+use Rattle.word_lowering.specs.declared.spots.Spot.TheVariants.{Held, Lies, Letter}
 use Rattle.word_lowering.specs.declared.texts.TheConstants.{LINE_END_AT, FALSE_AT}
 use Rattle.word_lowering.specs.Stored.{base_at, entry_at, part_at, count_in, element_bytes, limit_at}
 use Rattle.word_lowering.specs.HookCalled.{hook_called}
 use Rattle.word_lowering.specs.Layouts.{free_at, holds_address, params_in, result_in, found}
 use Rattle.flat_code.specs.Fits.{is_location}
-use Rattle.word_lowering.specs.Spots.{spot_of, shifted, address, moved, moves, passes, cleared, clears, starts, handed}
+use Rattle.word_lowering.specs.Spots.{spot_of, home_in, size_in, shifted, address, moved, moves, passes, cleared, clears, starts, handed}
 use Rattle.word_lowering.specs.Operations.{word, trap_label, binary_code, unary_code, compare_code, narrow_code, unless_code, turn_if_code, fits_code}
 use Rattle.word_lowering.specs.Operations.{beyond_code, turn_code}
 use Rattle.word_lowering.specs.Aliases.{is_read, text_in}
@@ -117,6 +118,7 @@ first_word (n ∷ ns) = n
 abbrev pub constant_at : Housed → Spot → List Piece → List WordInstr → List WordInstr
 constant_at to (Held v) pieces k = Constant v (first_word (piece_words pieces)) ∷ k
 constant_at to (Lies home) pieces k = cleared to.is_word to.bytes (Lies home) (pieces_code home pieces k)
+constant_at to (Letter home) pieces k = address FIRST home ∷ Constant SECOND (first_word (piece_words pieces)) ∷ Store FIRST SECOND Byte ∷ k
 
 -- ---- locations
 
@@ -149,8 +151,17 @@ abbrev pub item_code : (to : ℕ) → Home → (index count bytes : ℕ) → Lis
 item_code to home index count bytes k =
     Constant FIRST count ∷ Branch test.NotBelow index FIRST (trap_label IndexOutOfBounds) ∷ element_code to home index bytes k
 
-abbrev pub swap_code : (left right : Home) → (bytes : ℕ) → List WordInstr → List WordInstr
-swap_code left right bytes k =
+-- characters, each a byte at its address
+abbrev pub letter_swap : (left right : Home) → List WordInstr → List WordInstr
+letter_swap left right k =
+    address FIRST left ∷ address SECOND right
+    ∷ Load THIRD FIRST Byte ∷ Load FOURTH SECOND Byte ∷ Store SECOND THIRD Byte ∷ Store FIRST FOURTH Byte
+    ∷ k
+
+-- all else by the routine
+abbrev pub swap_code : (letter : Bool) → (left right : Home) → (bytes : ℕ) → List WordInstr → List WordInstr
+swap_code true left right bytes k = letter_swap left right k
+swap_code false left right bytes k =
     word_argument 0 left (word_argument 1 right (Constant THIRD bytes ∷ Argument 2 THIRD ∷ Call FIRST SWAP ∷ k))
 
 -- ---- calls
@@ -182,13 +193,13 @@ checked_code true k = Constant FIRST (ACTIVE_CALLS - 1) ∷ k
 checked_code false k = Copy SECOND LEFT ∷ Sum FIRST SECOND one_less ∷ Branch test.Below SECOND FIRST (trap_label CallDepth) ∷ k
 
 -- a result that is no word stays where it is, and the word says nothing
-abbrev pub word_back : (word : Bool) → Home → List WordInstr → List WordInstr
-word_back true home k = address FIRST home ∷ Load FIRST FIRST whole ∷ Return FIRST ∷ k
-word_back false home k = Return LEFT ∷ k
+abbrev pub word_back : (word : Bool) → Size → Home → List WordInstr → List WordInstr
+word_back true size home k = address FIRST home ∷ Load FIRST FIRST size ∷ Return FIRST ∷ k
+word_back false size home k = Return LEFT ∷ k
 
 abbrev pub back_code : (word : Bool) → Spot → List WordInstr → List WordInstr
 back_code word (Held v) k = Return v ∷ k
-back_code word (Lies home) k = word_back word home k
+back_code word spot k = word_back word (size_in spot) (home_in spot) k
 
 -- ---- writing
 
@@ -244,8 +255,9 @@ converted_code (Some values) to from k = narrow_code (variable_of to) (variable_
 -- the number at a spot becomes another one
 abbrev pub updated_code : (label : ℕ) → Operator → Spot → (by : ℕ) → List WordInstr → List WordInstr
 updated_code label operator (Held v) by k = binary_code label operator v v by k
-updated_code label operator (Lies home) by k =
-    address SECOND home ∷ Load FOURTH SECOND whole ∷ binary_code label operator FOURTH FOURTH by (address FIRST home ∷ Store FIRST FOURTH whole ∷ k)
+updated_code label operator spot by k =
+    address SECOND (home_in spot) ∷ Load FOURTH SECOND (size_in spot)
+    ∷ binary_code label operator FOURTH FOURTH by (address FIRST (home_in spot) ∷ Store FIRST FOURTH (size_in spot) ∷ k)
 
 -- by 1 without a second operand
 abbrev pub update_code : (label : ℕ) → Operator → List Housed → List WordInstr → List WordInstr
@@ -348,7 +360,7 @@ module _ (x : Around) where
 
   abbrev pub entered_code : (proc : ℕ) → (to : Housed) → Spot → List WordInstr → List WordInstr
   entered_code proc to (Held v) k = Call v (proc_number proc) ∷ k
-  entered_code proc to (Lies home) k = Call FIRST (proc_number proc) ∷ result_code to (result_in (layout_at proc).all) k
+  entered_code proc to spot k = Call FIRST (proc_number proc) ∷ result_code to (result_in (layout_at proc).all) k
 
   abbrev pub given_code : (proc to : ℕ) → List WordInstr → List WordInstr
   given_code proc to k = entered_code proc (value x to) (spot_of (value x to)) k
@@ -429,7 +441,8 @@ module _ (x : Around) where
   row_code O.Assign label ty of to hs k = moves (operand_at hs 0) (operand_at hs 1) k
   row_code (O.Update operator) label ty of to hs k = update_code label operator hs k
   row_code O.Move label ty of to hs k = moves to (operand_at hs 0) (clears (operand_at hs 0) k)
-  row_code O.Swap label ty of to hs k = swap_code (operand_at hs 0).home (operand_at hs 1).home (operand_at hs 0).bytes k
+  row_code O.Swap label ty of to hs k =
+      swap_code (operand_at hs 0).is_letter (operand_at hs 0).home (operand_at hs 1).home (operand_at hs 0).bytes k
   row_code operation label ty of to hs k = owned_code x operation label of to hs k
 
   -- ---- elements, of arrays and of what has a handle

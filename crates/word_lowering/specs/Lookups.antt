@@ -14,7 +14,18 @@ use Rattle.word_lowering.specs.declared.homes.Sort.TheVariants.{Value, Location,
 
 -- What isn't there: it has no bytes. Lines of code that fits name it where they have no value.
 abbrev pub nowhere : Housed
-nowhere = record { number = 0; kind = K.Temp; ty = 0; bytes = 0; is_word = true; alias = alias.Own; home = Variable FIRST; waits = None; lent = false }
+nowhere = record {
+  number = 0;
+  kind = K.Temp;
+  ty = 0;
+  bytes = 0;
+  is_word = true;
+  is_letter = false;
+  alias = alias.Own;
+  home = Variable FIRST;
+  waits = None;
+  lent = false;
+}
 
 -- the kinds among which a line seeks a place
 abbrev pub is_sort : Sort → PlaceKind → Bool

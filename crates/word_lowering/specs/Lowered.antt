@@ -17,9 +17,7 @@ use Rattle.word_code.specs.declared.word.ProcKind.{ProcKind}
 use Rattle.word_code.specs.declared.word.ProcKind.TheVariants as kind
 use Rattle.word_code.specs.declared.word.WordProc.{WordProc}
 use Rattle.word_code.specs.declared.word.WordCode.{WordCode}
-use Rattle.word_code.specs.Memory.{own_data_at}
 use Rattle.word_code.specs.RoutineTable.{trap_number}
-use Rattle.heap_memory.specs.declared.numbers.TheConstants.{HEAP_DATA}
 use Rattle.word_lowering.specs.declared.homes.TheConstants.{FIRST, OWN_FROM}
 use Rattle.word_lowering.specs.declared.homes.Housed.{Housed}
 use Rattle.word_lowering.specs.declared.homes.Layout.{Layout}
@@ -29,6 +27,7 @@ use Rattle.word_lowering.specs.Spots.{clears}
 use Rattle.word_lowering.specs.Operations.{trap_label}
 use Rattle.word_lowering.specs.WaitingCode.{none_code}
 use Rattle.word_lowering.specs.Texts.{padded, names_at, texts_at, texts_in, data_in}
+pub use Rattle.word_lowering.specs.Texts.{data_at}
 use Rattle.hook_code.specs.HookCode.{procs_in}
 use Rattle.word_lowering.specs.LineCode.{Around, no_layout, lines_code, proc_number, first_hook}
 
@@ -149,10 +148,6 @@ lowered_procs x procs = word_proc x 0 (last_of no_proc procs) ∷ word_procs x 0
 
 abbrev pub data_of : List TypeDef → List (CodeProc BlockLine) → List ℕ
 data_of table procs = padded (data_in table (globals_end table procs) procs)
-
--- where a program's data begins, behind that of the heap's routines
-abbrev pub data_at : ℕ
-data_at = own_data_at + HEAP_DATA
 
 abbrev pub lowered : List TypeDef → Code BlockLine → WordCode
 lowered table blocks = record {

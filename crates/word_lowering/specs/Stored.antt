@@ -1,5 +1,5 @@
 -- Values in memory: how many bytes those of a type have, by its number in the table, and where their parts stand.
-use Rattle.std.specs.Prelude.{◌<◌, nat_lt, ◌&&◌, ℕ, zero, suc, ◌+◌, Bool, true, false, List, [], ◌∷◌, length, take, Option, Some, None, slice_get}
+use Rattle.std.specs.Prelude.{◌<◌, nat_eq, nat_lt, ◌&&◌, ℕ, zero, suc, ◌+◌, Bool, true, false, List, [], ◌∷◌, length, take, Option, Some, None, slice_get}
 use Rattle.nim_types.specs.declared.types.TypeDef.{TypeDef}
 use Rattle.nim_types.specs.declared.types.TypeDef.TheVariants as D
 use Rattle.nim_types.specs.Table.{type_at, types_in, facts_in}
@@ -44,6 +44,12 @@ is_word (Some (D.Array n ty)) = false
 is_word (Some (D.Tuple names tys)) = false
 is_word (Some (D.Object name at arguments fields own_hooks tys)) = false
 is_word _ = true
+
+-- one of 256 values: a character, or what has as many
+abbrev pub is_letter : Option TypeDef → Bool
+is_letter (Some D.Char) = true
+is_letter (Some (D.Enum name at members)) = nat_eq (length members) 256
+is_letter _ = false
 
 -- the types of the parts of a tuple or an object
 abbrev pub parts_in : Option TypeDef → List ℕ

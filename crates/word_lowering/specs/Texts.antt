@@ -1,5 +1,5 @@
 -- The data of word code: what each program has, then globals, then the names of enums with where each ends, then the distinct texts of constants and
--- the constants that stand in the data, each from a word on.
+-- the constants that stand in the data, each from a word on and behind its handle: how many bytes it has, and their address.
 -- Each procedure's data is all of it. No public contract speaks of it.
 use Rattle.std.specs.Prelude.{ℕ, suc, ◌+◌, ◌*◌, ◌-◌, ◌%◌, if◌then◌else◌, List, [], ◌∷◌, ◌++◌, length, map, take, drop, replicate, codes, Option, Some, None}
 use Rattle.nim_types.specs.Types.{same_text}
@@ -10,10 +10,14 @@ use Rattle.rv32_isa.specs.Words.{word_bytes}
 use Rattle.flat_code.specs.declared.block.BlockLine.{BlockLine}
 use Rattle.flat_code.specs.declared.code.CodeProc.{CodeProc}
 use Rattle.flat_code.specs.declared.line.Piece.{Piece}
+use Rattle.flat_code.specs.declared.line.Piece.TheVariants as P
 use Rattle.flat_code.specs.Codes.{block_plain}
 use Rattle.flat_code.specs.Pieces.{standing_bytes}
 use Rattle.flat_code.specs.Sizes.{distinct_texts}
+use Rattle.word_code.specs.Memory.{own_data_at}
+use Rattle.heap_memory.specs.declared.numbers.TheConstants.{HEAP_DATA}
 use Rattle.word_lowering.specs.declared.handed.TheConstants.{LEFT_HANDLE_AT}
+use Rattle.word_lowering.specs.declared.texts.TheConstants.{HANDLE_BYTES}
 pub use Rattle.word_lowering.specs.Aliases.{text_of, texts_of}
 
 -- ---- what each program has: a word whose first byte is a character that is written, a line end, the names of bools
@@ -63,33 +67,54 @@ texts_in (p ∷ procs) = texts_in procs ++ texts_of (map block_plain p.lines)
 
 -- ---- texts as they are laid out: the last one comes first
 
-abbrev pub laid : List (List ℕ) → List ℕ
-laid [] = []
-laid (text ∷ texts) = laid texts ++ padded text
+-- where a program's data begins, behind that of the heap's routines
+abbrev pub data_at : ℕ
+data_at = own_data_at + HEAP_DATA
 
--- where a text begins
+-- a text behind its handle, which stands at an address
+abbrev pub handled : (at : ℕ) → List ℕ → List ℕ
+handled at text = word_bytes (length text) ++ (word_bytes (at + HANDLE_BYTES) ++ padded text)
+
+abbrev pub laid_length : List (List ℕ) → ℕ
+laid_length [] = 0
+laid_length (text ∷ texts) = laid_length texts + (HANDLE_BYTES + length (padded text))
+
+-- from an address on
+abbrev pub laid : (from : ℕ) → List (List ℕ) → List ℕ
+laid from [] = []
+laid from (text ∷ texts) = laid from texts ++ handled (from + laid_length texts) text
+
+-- where the handle of a text stands
 abbrev pub place_among : List (List ℕ) → (text : List ℕ) → Option ℕ
 place_among [] text = None
-place_among (other ∷ texts) text = if same_text text other then Some (length (laid texts)) else place_among texts text
+place_among (other ∷ texts) text = if same_text text other then Some (laid_length texts) else place_among texts text
 
 abbrev pub or_zero : Option ℕ → ℕ
 or_zero None = 0
 or_zero (Some n) = n
 
-abbrev pub laid_texts : List (CodeProc BlockLine) → List ℕ
-laid_texts procs = laid (distinct_texts block_plain procs)
+abbrev pub laid_texts : (from : ℕ) → List (CodeProc BlockLine) → List ℕ
+laid_texts from procs = laid from (distinct_texts block_plain procs)
+
+abbrev pub handle_place : List (CodeProc BlockLine) → List ℕ → ℕ
+handle_place procs text = or_zero (place_among (distinct_texts block_plain procs) text)
 
 -- where a text is laid out
 abbrev pub text_place : List (CodeProc BlockLine) → List ℕ → ℕ
-text_place procs text = or_zero (place_among (distinct_texts block_plain procs) text)
+text_place procs text = handle_place procs text + HANDLE_BYTES
 
 -- where the literal of so many bytes is laid out that stands at this offset in the code
 abbrev pub place_of : List (CodeProc BlockLine) → (offset bytes : ℕ) → ℕ
 place_of procs offset bytes = text_place procs (take bytes (drop offset (texts_in procs)))
 
--- where a constant is laid out that stands in the data
+-- where a constant is laid out by its bytes
+abbrev pub constant_place : List (CodeProc BlockLine) → List Piece → ℕ
+constant_place procs pieces = text_place procs (standing_bytes pieces)
+
+-- where what a constant that stands in the data leads to is laid out: the handle of a text, or its bytes
 abbrev pub standing_place : List (CodeProc BlockLine) → List Piece → ℕ
-standing_place procs pieces = text_place procs (standing_bytes pieces)
+standing_place procs (P.Text text ∷ []) = handle_place procs text
+standing_place procs pieces = constant_place procs pieces
 
 -- ---- all of it
 
@@ -100,7 +125,15 @@ names_at table globals_end = globals_end + WORD_BYTES * suc (length (all_names t
 abbrev pub texts_at : List TypeDef → ℕ → ℕ
 texts_at table globals_end = names_at table globals_end + length (padded (joined_all (all_names table)))
 
-abbrev pub data_in : List TypeDef → (globals_end : ℕ) → List (CodeProc BlockLine) → List ℕ
-data_in table globals_end procs =
+-- the texts of procedures, where globals end at a byte
+abbrev pub texts_from : List TypeDef → (globals_end : ℕ) → List (CodeProc BlockLine) → List ℕ
+texts_from table globals_end procs = laid_texts (data_at + texts_at table globals_end) procs
+
+-- with texts as they are laid out
+abbrev pub data_with : List TypeDef → (globals_end : ℕ) → (texts : List ℕ) → List ℕ
+data_with table globals_end texts =
     replicate WORD_BYTES 0 ++ (fixed_texts ++ (replicate (globals_end - LEFT_HANDLE_AT) 0
-    ++ (ends_from 0 (all_names table) ++ (padded (joined_all (all_names table)) ++ laid_texts procs))))
+    ++ (ends_from 0 (all_names table) ++ (padded (joined_all (all_names table)) ++ texts))))
+
+abbrev pub data_in : List TypeDef → (globals_end : ℕ) → List (CodeProc BlockLine) → List ℕ
+data_in table globals_end procs = data_with table globals_end (texts_from table globals_end procs)

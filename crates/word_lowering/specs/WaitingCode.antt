@@ -30,6 +30,7 @@ waiting_house w = record {
   ty = w.ty;
   bytes = w.bytes;
   is_word = false;
+  is_letter = false;
   alias = Own;
   home = Placed w.at;
   waits = None;

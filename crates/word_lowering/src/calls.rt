@@ -17,8 +17,8 @@ use crate::locations::emit_word_argument;
 use crate::operations::DEPTH;
 use crate::scope::Scope;
 use crate::spots::{
-    Spot, address, argument, branch, call, constant, emit, emit_handed, emit_moved, load, spot_of,
-    sum, sum_with,
+    Spot, address, argument, branch, call, constant, emit, emit_handed, emit_moved, home_in,
+    load_sized, size_in, spot_of, sum, sum_with,
 };
 use arc_base::{Items, Memory};
 use flat_code::From;
@@ -82,7 +82,7 @@ fn emit_entered(
     let callee = proc_number(proc)?;
     match spot {
         Spot::Held(v) => emit(code, &[call(v, callee)]),
-        Spot::Lies(_) => {
+        _ => {
             emit(code, &[call(FIRST, callee)])?;
             emit_result(code, x, to, result_in(x.places_of(proc)))
         }
@@ -260,15 +260,15 @@ fn emit_back(code: &mut Items<WordInstr>, is_word: bool, spot: Spot) -> Result<(
 {
     match spot {
         Spot::Held(v) => emit(code, &[WordInstr::Return { from: v }]),
-        Spot::Lies(home) if is_word => emit(
+        _ if is_word => emit(
             code,
             &[
-                address(FIRST, home),
-                load(FIRST, FIRST),
+                address(FIRST, home_in(spot)),
+                load_sized(FIRST, FIRST, size_in(spot)),
                 WordInstr::Return { from: FIRST },
             ],
         ),
-        Spot::Lies(_) => emit(code, &[WordInstr::Return { from: LEFT }]),
+        _ => emit(code, &[WordInstr::Return { from: LEFT }]),
     }
 }
 

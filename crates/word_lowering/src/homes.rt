@@ -66,6 +66,9 @@ pub struct Housed {
     pub bytes: u32,
     /// Whether that value is one word: an ordinal.
     pub is_word: bool,
+    /// Whether it is one of 256 values, as a character is: at an address it is read and written as
+    /// a byte, since it may be one of a text.
+    pub is_letter: bool,
     pub alias: Alias,
     pub home: Home,
     /// The node at which it may wait: of a temporary whose type has something to do at its end.

@@ -1,18 +1,19 @@
 // The texts of code and its constants that stand in the data, each distinct one laid out once, from a
-// word on. The last one comes first.
-ghost use Rattle.std.specs.Prelude.{◌≡◌, [], ◌∷◌, ◌++◌, ℕ, List, length, Some, IfOk, OnOk};
+// word on, behind its handle. The last one comes first.
+ghost use Rattle.std.specs.Prelude.{◌≡◌, [], ◌∷◌, ◌++◌, ◌+◌, ℕ, List, length, Some, IfOk, OnOk};
 ghost use Rattle.std.specs.Prelude.{if◌then◌else◌};
 ghost use Rattle.std.specs.HashMap.{get};
 ghost use Rattle.nim_types.specs.Types.{same_text};
 ghost use Rattle.flat_code.specs.Codes.{block_plain};
 ghost use Rattle.flat_code.specs.Pieces.{standing_bytes};
 ghost use Rattle.word_lowering.specs.LaidTexts.{AreLaid, piece_before, pieces_before, line_before};
-ghost use Rattle.word_lowering.specs.LaidTexts.{lines_before, procs_before};
-ghost use Rattle.word_lowering.specs.Texts.{padded, or_zero, laid_texts, place_of, standing_place};
+ghost use Rattle.word_lowering.specs.LaidTexts.{standing_before, lines_before, procs_before};
+ghost use Rattle.word_lowering.specs.Texts.{handled, laid_texts, handle_place, place_of, standing_place};
 ghost use Rattle.word_lowering.specs.Texts.{text_place};
 
+use crate::spots::{more, sum};
 use crate::standing::standing_bytes;
-use crate::texts::{push_padded, push_texts_in};
+use crate::texts::{HANDLE_BYTES, push_padded, push_texts_in, push_word};
 use arc_base::{Bytes, Memory};
 use flat_code::{BlockLine, CodeProc, Line, OwnedLine, Piece};
 use nim_program::Label;
@@ -20,7 +21,7 @@ use std::alloc::Global;
 use std::collections::HashMap;
 use std::marker::Model;
 
-/// Where each text begins.
+/// Where the handle of each text stands.
 pub type Places = HashMap<Bytes, usize>;
 
 /// What is laid out so far.
@@ -33,7 +34,7 @@ pub struct Laying {
 }
 
 fn no_text(alloc: Global) -> Laying
-    ensures { AreLaid result [] }
+    ensures { (from : ℕ) → AreLaid from result [] }
 {
     Laying {
         bytes: Bytes::new(alloc),
@@ -42,9 +43,29 @@ fn no_text(alloc: Global) -> Laying
     }
 }
 
-// Behind all.
-fn add_text(alloc: Global, laying: &mut Laying, text: &Bytes) -> Result<(), Memory>
-    ensures bytes { OnOk result (laying.new.bytes ≡ laying.old.bytes ++ padded text.now) }
+// The address that is so many bytes behind another one.
+fn address(from: u32, behind: usize) -> Result<u32, Memory>
+    ensures { IfOk result (λ at. at ≡ from + behind) }
+{
+    if behind > u32::MAX as usize {
+        return Err(Memory);
+    }
+    sum(from, behind as u32)
+}
+
+// A text behind its handle, which stands at an address.
+fn push_handled(bytes: &mut Bytes, at: u32, text: &[u8]) -> Result<(), Memory>
+    ensures { OnOk result (bytes.new ≡ bytes.old ++ handled at text.now) }
+{
+    push_word(bytes, more(0, text)?)?;
+    push_word(bytes, sum(at, HANDLE_BYTES)?)?;
+    push_padded(bytes, text)
+}
+
+// Behind all, the first of which is at an address.
+fn add_text(alloc: Global, from: u32, laying: &mut Laying, text: &Bytes) -> Result<(), Memory>
+    ensures bytes { OnOk result (laying.new.bytes
+        ≡ laying.old.bytes ++ handled (from + length laying.old.bytes) text.now) }
     ensures places { OnOk result ((other : List ℕ) → get same_text laying.new.places other
         ≡ (if same_text text.now other then Some (length laying.old.bytes)
         else get same_text laying.old.places other)) }
@@ -53,67 +74,80 @@ fn add_text(alloc: Global, laying: &mut Laying, text: &Bytes) -> Result<(), Memo
     let at = laying.bytes.as_slice().len();
     let copy = Bytes::from_slice(alloc, text.as_slice())?;
     laying.places.insert(copy, at)?;
-    push_padded(&mut laying.bytes, text.as_slice())
+    push_handled(&mut laying.bytes, address(from, at)?, text.as_slice())
 }
 
 #[tactic(auto, using(crate::proofs::LayingTexts::laid_again, crate::proofs::LayingTexts::laid_more, crate::proofs::LayingTexts::laid_none))]
-fn put_text(alloc: Global, laying: &mut Laying, text: &Bytes)
-    ensures { (texts : List (List ℕ)) → AreLaid laying.old texts
-        → AreLaid laying.new (text.now ∷ texts) }
+fn put_text(alloc: Global, from: u32, laying: &mut Laying, text: &Bytes)
+    ensures { (texts : List (List ℕ)) → AreLaid from laying.old texts
+        → AreLaid from laying.new (text.now ∷ texts) }
 {
     if laying.places.contains_key(text) {
         return;
     }
-    match add_text(alloc, laying, text) {
+    match add_text(alloc, from, laying, text) {
         Ok(()) => {}
         Err(_) => laying.lost = true,
     }
 }
 
-fn put_piece(alloc: Global, laying: &mut Laying, piece: &Piece)
-    ensures { (texts : List (List ℕ)) → AreLaid laying.old texts
-        → AreLaid laying.new (piece_before piece.now texts) }
+fn put_piece(alloc: Global, from: u32, laying: &mut Laying, piece: &Piece)
+    ensures { (texts : List (List ℕ)) → AreLaid from laying.old texts
+        → AreLaid from laying.new (piece_before piece.now texts) }
 {
     match piece {
-        Piece::Text(text) => put_text(alloc, laying, text),
+        Piece::Text(text) => put_text(alloc, from, laying, text),
         _ => {}
     }
 }
 
-fn put_pieces(alloc: Global, laying: &mut Laying, pieces: &[Piece])
-    ensures { (texts : List (List ℕ)) → AreLaid laying.old texts
-        → AreLaid laying.new (pieces_before pieces.now texts) }
+fn put_pieces(alloc: Global, from: u32, laying: &mut Laying, pieces: &[Piece])
+    ensures { (texts : List (List ℕ)) → AreLaid from laying.old texts
+        → AreLaid from laying.new (pieces_before pieces.now texts) }
 {
     let mut i = pieces.len();
     while i > 0 {
         i -= 1;
-        put_piece(alloc, laying, &pieces[i]);
+        put_piece(alloc, from, laying, &pieces[i]);
     }
 }
 
-// A constant that stands in the data.
+// The bytes of a constant.
 #[tactic(auto, using(crate::proofs::LayingTexts::laid_none))]
-fn put_standing(alloc: Global, laying: &mut Laying, pieces: &[Piece])
-    ensures { (texts : List (List ℕ)) → AreLaid laying.old texts
-        → AreLaid laying.new (standing_bytes pieces.now ∷ texts) }
+fn put_constant(alloc: Global, from: u32, laying: &mut Laying, pieces: &[Piece])
+    ensures { (texts : List (List ℕ)) → AreLaid from laying.old texts
+        → AreLaid from laying.new (standing_bytes pieces.now ∷ texts) }
 {
     match standing_bytes(alloc, pieces) {
-        Ok(bytes) => put_text(alloc, laying, &bytes),
+        Ok(bytes) => put_text(alloc, from, laying, &bytes),
         Err(_) => laying.lost = true,
     }
 }
 
-fn put_line(alloc: Global, laying: &mut Laying, line: &BlockLine)
-    ensures { (texts : List (List ℕ)) → AreLaid laying.old texts
-        → AreLaid laying.new (line_before (block_plain line.now) texts) }
+// A constant that stands in the data: one text, or its bytes and its texts.
+fn put_standing(alloc: Global, from: u32, laying: &mut Laying, pieces: &[Piece])
+    ensures { (texts : List (List ℕ)) → AreLaid from laying.old texts
+        → AreLaid from laying.new (standing_before pieces.now texts) }
+{
+    match pieces.split_first() {
+        Some((Piece::Text(text), rest)) if rest.is_empty() => put_text(alloc, from, laying, text),
+        _ => {
+            put_pieces(alloc, from, laying, pieces);
+            put_constant(alloc, from, laying, pieces)
+        }
+    }
+}
+
+fn put_line(alloc: Global, from: u32, laying: &mut Laying, line: &BlockLine)
+    ensures { (texts : List (List ℕ)) → AreLaid from laying.old texts
+        → AreLaid from laying.new (line_before (block_plain line.now) texts) }
 {
     match line {
         BlockLine::Plain(OwnedLine::Plain(Line::Constant { pieces, .. })) => {
-            put_pieces(alloc, laying, pieces.as_slice())
+            put_pieces(alloc, from, laying, pieces.as_slice())
         }
         BlockLine::Plain(OwnedLine::Plain(Line::Standing { pieces, .. })) => {
-            put_pieces(alloc, laying, pieces.as_slice());
-            put_standing(alloc, laying, pieces.as_slice())
+            put_standing(alloc, from, laying, pieces.as_slice())
         }
         BlockLine::Plain(
             OwnedLine::Plain(
@@ -122,44 +156,50 @@ fn put_line(alloc: Global, laying: &mut Laying, line: &BlockLine)
                     ..
                 },
             ),
-        ) => put_text(alloc, laying, text),
+        ) => put_text(alloc, from, laying, text),
         _ => {}
     }
 }
 
-fn put_lines(alloc: Global, laying: &mut Laying, lines: &[BlockLine])
-    ensures { (texts : List (List ℕ)) → AreLaid laying.old texts
-        → AreLaid laying.new (lines_before lines.now texts) }
+fn put_lines(alloc: Global, from: u32, laying: &mut Laying, lines: &[BlockLine])
+    ensures { (texts : List (List ℕ)) → AreLaid from laying.old texts
+        → AreLaid from laying.new (lines_before lines.now texts) }
 {
     let mut i = lines.len();
     while i > 0 {
         i -= 1;
-        put_line(alloc, laying, &lines[i]);
+        put_line(alloc, from, laying, &lines[i]);
     }
 }
 
-fn put_procs(alloc: Global, laying: &mut Laying, procs: &[CodeProc<BlockLine>])
-    ensures { (texts : List (List ℕ)) → AreLaid laying.old texts
-        → AreLaid laying.new (procs_before procs.now texts) }
+fn put_procs(alloc: Global, from: u32, laying: &mut Laying, procs: &[CodeProc<BlockLine>])
+    ensures { (texts : List (List ℕ)) → AreLaid from laying.old texts
+        → AreLaid from laying.new (procs_before procs.now texts) }
 {
     let mut i = procs.len();
     while i > 0 {
         i -= 1;
-        put_lines(alloc, laying, procs[i].lines.as_slice());
+        put_lines(alloc, from, laying, procs[i].lines.as_slice());
     }
 }
 
 // ---- all
 
-/// The texts of procedures as they are laid out. Contracts see the procedures.
+/// Where the texts of procedures are laid out. Contracts see the procedures.
 #[derive(Drop)]
 pub struct LaidTexts<'a> {
     alloc: Global,
     procs: &'a [CodeProc<BlockLine>],
     // the literals as they stand in the code
     all: Bytes,
-    bytes: Bytes,
     places: Places,
+}
+
+/// As they are laid out, and where.
+#[derive(Drop)]
+pub struct LaidOut<'a> {
+    pub bytes: Bytes,
+    pub texts: LaidTexts<'a>,
 }
 
 impl<'a> Model for LaidTexts<'a> {
@@ -173,50 +213,54 @@ impl<'a> Model for LaidTexts<'a> {
 
     ghost use Rattle.word_lowering.specs.LaidTexts.{ArePut};
 
-    ghost invariant = { λ t. ArePut t.procs.now t.all t.bytes t.places };
+    ghost invariant = { λ t. ArePut t.procs.now t.all t.places };
 }
 
-/// Those of procedures.
-#[tactic(auto, using(crate::proofs::LayingTexts::all_laid))]
+/// Those of procedures, from an address on.
 pub fn laid_texts<'a>(
     alloc: Global,
+    from: u32,
     procs: &'a [CodeProc<BlockLine>],
-) -> Result<LaidTexts<'a>, Memory>
-    ensures { IfOk result (λ texts. texts ≡ procs.now) }
+) -> Result<LaidOut<'a>, Memory>
+    ensures bytes { IfOk result (λ out. out.bytes ≡ laid_texts from procs.now) }
+    ensures texts { IfOk result (λ out. out.texts ≡ procs.now) }
 {
     let mut laying = no_text(alloc);
-    put_procs(alloc, &mut laying, procs);
+    put_procs(alloc, from, &mut laying, procs);
     if laying.lost {
         return Err(Memory);
     }
     let mut all = Bytes::new(alloc);
     push_texts_in(&mut all, procs)?;
     let Laying { bytes, places, .. } = laying;
-    Ok(LaidTexts {
+    let texts = LaidTexts {
         alloc,
         procs,
         all,
-        bytes,
         places,
-    })
+    };
+    Ok(LaidOut { bytes, texts })
 }
 
-// Where a text begins, or 0.
-fn place_in(places: &Places, text: &Bytes) -> usize
-    ensures { result ≡ or_zero (get same_text places.now text.now) }
+// Where a text is laid out, behind its handle.
+fn behind_handle(handle: usize) -> Result<usize, Memory>
+    ensures { IfOk result (λ at. at ≡ handle + HANDLE_BYTES) }
 {
-    match places.get(text) {
-        Some(at) => *at,
-        None => 0,
+    match handle.checked_add(HANDLE_BYTES as usize) {
+        Some(at) => Ok(at),
+        None => Err(Memory),
     }
 }
 
 impl LaidTexts<'_> {
-    /// Their bytes.
-    pub fn bytes(&self) -> &[u8]
-        ensures { result.now ≡ laid_texts self.now }
+    // Where the handle of a text stands, or 0.
+    fn handle(&self, text: &Bytes) -> usize
+        ensures { result ≡ handle_place self.now text.now }
     {
-        self.bytes.as_slice()
+        match self.places.get(text) {
+            Some(at) => *at,
+            None => 0,
+        }
     }
 
     /// Where the literal of so many bytes is laid out that stands at this offset in the code.
@@ -227,7 +271,7 @@ impl LaidTexts<'_> {
         let from = offset.min(all.len());
         let to = (bytes as usize).min(all.len() - from);
         let text = Bytes::from_slice(self.alloc, &all[from..from + to])?;
-        Ok(place_in(&self.places, &text))
+        behind_handle(self.handle(&text))
     }
 
     /// Where a text is laid out.
@@ -235,14 +279,20 @@ impl LaidTexts<'_> {
         ensures { IfOk result (λ at. at ≡ text_place self.now text.now) }
     {
         let text = Bytes::from_slice(self.alloc, text)?;
-        Ok(place_in(&self.places, &text))
+        behind_handle(self.handle(&text))
     }
 
-    /// Where a constant is laid out that stands in the data.
+    /// Where what a constant that stands in the data leads to is laid out: the handle of a text, or
+    /// its bytes.
     pub fn standing_place(&self, pieces: &[Piece]) -> Result<usize, Memory>
         ensures { IfOk result (λ at. at ≡ standing_place self.now pieces.now) }
     {
-        let bytes = standing_bytes(self.alloc, pieces)?;
-        Ok(place_in(&self.places, &bytes))
+        match pieces.split_first() {
+            Some((Piece::Text(text), rest)) if rest.is_empty() => Ok(self.handle(text)),
+            _ => {
+                let bytes = standing_bytes(self.alloc, pieces)?;
+                behind_handle(self.handle(&bytes))
+            }
+        }
     }
 }

@@ -17,7 +17,7 @@ use crate::aliases::put_aliases;
 use crate::homed::homed;
 use crate::homes::{Alias, FIRST, Free, Home, Housed, Layout, OWN_FROM, Sort, Waiter};
 use crate::place_table::places_of;
-use crate::stored::{bytes_at, is_hooked, is_word};
+use crate::stored::{bytes_at, is_hooked, is_letter, is_word};
 use crate::survey::Survey;
 use arc_base::{Items, Memory};
 use flat_code::{BlockLine, CodeProc, FlatPlace, PlaceKind};
@@ -141,6 +141,7 @@ fn housed(
         ty: place.ty,
         bytes,
         is_word: word,
+        is_letter: !counts && is_letter(types, place.ty),
         alias,
         home: home_by(alias, home_at(is_static(start, place.kind), kept, free)),
         waits: waits_by(place.kind, alias, hooked, place.waits),
@@ -390,6 +391,7 @@ pub fn nowhere() -> Housed
         ty: 0,
         bytes: 0,
         is_word: true,
+        is_letter: false,
         alias: Alias::Own,
         home: Home::Variable(FIRST),
         waits: None,

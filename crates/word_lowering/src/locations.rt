@@ -2,14 +2,18 @@
 ghost use Rattle.std.specs.Prelude.{◌≡◌, OnOk};
 ghost use Rattle.word_lowering.specs.Emission.{Puts};
 ghost use Rattle.word_lowering.specs.LineCode.{root_code, part_code, behind_code, element_code, item_code};
-ghost use Rattle.word_lowering.specs.LineCode.{word_argument, swap_code, measure_word};
+ghost use Rattle.word_lowering.specs.LineCode.{word_argument, letter_swap, swap_code, measure_word};
 ghost use Rattle.word_lowering.specs.OwnedCode.{owned_element_code, owned_item_code};
 
-use crate::homes::{Alias, FIRST, Home, SECOND, THIRD};
+use crate::homes::{Alias, FIRST, FOURTH, Home, Housed, SECOND, THIRD};
 use crate::operations::INDEX;
-use crate::spots::{address, argument, branch, call, compute, constant, emit, load, sum, sum_with};
+use crate::spots::{
+    address, argument, branch, call, compute, constant, emit, load, load_sized, store_sized, sum,
+    sum_with,
+};
 use arc_base::{Items, Memory};
 use nim_program::Measure;
+use rv32_isa::Size;
 use word_code::{SWAP, Test, WordInstr, WordOperation};
 
 /// That of a place, unless the location is another name for it.
@@ -111,21 +115,37 @@ pub fn emit_word_argument(code: &mut Items<WordInstr>, index: u32, home: Home) -
     }
 }
 
-/// So many bytes at two homes trade places.
-pub fn emit_swap(
-    code: &mut Items<WordInstr>,
-    left: Home,
-    right: Home,
-    bytes: u32,
-) -> Result<(), Memory>
-    ensures { OnOk result (Puts code.old code.new (swap_code left right bytes)) }
+// Characters at two homes trade places.
+fn emit_letter_swap(code: &mut Items<WordInstr>, left: Home, right: Home) -> Result<(), Memory>
+    ensures { OnOk result (Puts code.old code.new (letter_swap left right)) }
 {
-    emit_word_argument(code, 0, left)?;
+    emit(
+        code,
+        &[
+            address(FIRST, left),
+            address(SECOND, right),
+            load_sized(THIRD, FIRST, Size::Byte),
+            load_sized(FOURTH, SECOND, Size::Byte),
+            store_sized(SECOND, THIRD, Size::Byte),
+            store_sized(FIRST, FOURTH, Size::Byte),
+        ],
+    )
+}
+
+/// What stands at two homes trades places.
+pub fn emit_swap(code: &mut Items<WordInstr>, left: Housed, right: Home) -> Result<(), Memory>
+    ensures { OnOk result (Puts code.old code.new
+        (swap_code left.is_letter left.home right left.bytes)) }
+{
+    if left.is_letter {
+        return emit_letter_swap(code, left.home, right);
+    }
+    emit_word_argument(code, 0, left.home)?;
     emit_word_argument(code, 1, right)?;
     emit(
         code,
         &[
-            constant(THIRD, bytes),
+            constant(THIRD, left.bytes),
             argument(2, THIRD),
             call(FIRST, SWAP),
         ],

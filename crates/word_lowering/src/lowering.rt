@@ -23,7 +23,7 @@ use crate::scope::{Scope, few_labels};
 use crate::setting::Setting;
 use crate::spots::{emit_clears, sum};
 use crate::tails::emit_last;
-use crate::texts::{FIXED_BYTES, data, names_at, text_bytes, texts_at, texts_bytes};
+use crate::texts::{FIXED_BYTES, data, names_at, text_bytes, texts_address, texts_at, texts_bytes};
 use arc_base::{Items, Memory};
 use flat_code::{BlockLine, Blocks, CodeProc};
 use hook_code::{arrays_are_short, elements_are_small, hook_levels, hook_procedures, put_hooks};
@@ -289,11 +289,12 @@ fn words_of(
     let Some(start) = procs.last() else {
         unreachable!()
     };
-    let texts = laid_texts(alloc, procs)?;
-    let statics = data(alloc, types, own.free.datum, &texts)?;
+    let from = texts_address(types, own.free.datum)?;
+    let out = laid_texts(alloc, from, procs)?;
+    let statics = data(alloc, types, own.free.datum, out.bytes.as_slice())?;
     let bytes = statics.as_slice();
     are_bytes(bytes);
-    let x = start_scope(types, &texts, layouts, own);
+    let x = start_scope(types, &out.texts, layouts, own);
     let count = procs.len();
     let mut all = all_procs(alloc, &x, start, procs)?;
     push_hooks(alloc, &mut all, types, shallow, count)?;

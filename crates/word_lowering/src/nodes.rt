@@ -33,6 +33,7 @@ fn waiting_house(w: Waiter) -> Housed
         ty: w.ty,
         bytes: w.bytes,
         is_word: false,
+        is_letter: false,
         alias: Alias::Own,
         home: Home::Placed(w.at),
         waits: None,

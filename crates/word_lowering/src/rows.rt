@@ -16,7 +16,8 @@ use crate::owned_rows::{emit_owned, lacks};
 use crate::scope::{Scope, variable_of};
 use crate::sequence_rows::emit_measured;
 use crate::spots::{
-    Spot, address, constant, emit, emit_clears, emit_moves, emit_starts, load, spot_of, store,
+    Spot, address, constant, emit, emit_clears, emit_moves, emit_starts, home_in, load_sized,
+    size_in, spot_of, store_sized,
 };
 use crate::stored::{count_in, entry_at, limit_at};
 use crate::text_handles::first_type;
@@ -57,10 +58,15 @@ fn emit_updated(
 {
     match spot {
         Spot::Held(v) => emit_binary(code, label, operator, v, v, by),
-        Spot::Lies(home) => {
-            emit(code, &[address(SECOND, home), load(FOURTH, SECOND)])?;
+        _ => {
+            let (home, size) = (home_in(spot), size_in(spot));
+            let there = address(SECOND, home);
+            emit(code, &[there, load_sized(FOURTH, SECOND, size)])?;
             emit_binary(code, label, operator, FOURTH, FOURTH, by)?;
-            emit(code, &[address(FIRST, home), store(FIRST, FOURTH)])
+            emit(
+                code,
+                &[address(FIRST, home), store_sized(FIRST, FOURTH, size)],
+            )
         }
     }
 }
@@ -254,7 +260,7 @@ pub fn emit_row(
             emit_moves(code, to, first)?;
             emit_clears(code, first)
         }
-        Operation::Swap => emit_swap(code, first.home, second.home, first.bytes),
+        Operation::Swap => emit_swap(code, first, second.home),
         _ => emit_owned(code, x, label, operation, of, to, from),
     }
 }

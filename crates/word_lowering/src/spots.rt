@@ -2,8 +2,8 @@
 ghost use Rattle.std.specs.Prelude.{◌+◌, ◌≡◌, ◌++◌, length, IfOk, OnOk};
 ghost use Rattle.word_lowering.specs.Emission.{Puts};
 ghost use Rattle.word_lowering.specs.Layouts.{holds_address};
-ghost use Rattle.word_lowering.specs.Spots.{spot_of, shifted, address, moved, moves, passes};
-ghost use Rattle.word_lowering.specs.Spots.{cleared, clears, starts, handed};
+ghost use Rattle.word_lowering.specs.Spots.{spot_of, home_in, size_in, shifted, address, copied, moved};
+ghost use Rattle.word_lowering.specs.Spots.{moves, passes, cleared, clears, starts, handed};
 
 use crate::homes::{FIFTH, FIRST, FOURTH, Home, Housed, SECOND, THIRD};
 use arc_base::{Items, Memory};
@@ -19,6 +19,8 @@ pub enum Spot {
     Held(u32),
     /// In memory: at an address that a variable has, or where a place is.
     Lies(Home),
+    /// A character at an address: one of a text, or the first byte of a word whose others are 0.
+    Letter(Home),
 }
 
 /// The sum of two numbers, if it has 32 bits.
@@ -69,7 +71,27 @@ pub fn spot_of(place: Housed) -> Spot
 {
     match place.home {
         Home::Variable(v) if !holds_address(place) => Spot::Held(v),
+        home if place.is_letter && holds_address(place) => Spot::Letter(home),
         home => Spot::Lies(home),
+    }
+}
+
+pub fn home_in(spot: Spot) -> Home
+    ensures { result ≡ home_in spot }
+{
+    match spot {
+        Spot::Held(v) => Home::Variable(v),
+        Spot::Lies(home) | Spot::Letter(home) => home,
+    }
+}
+
+/// What is read or written there of a word.
+pub fn size_in(spot: Spot) -> Size
+    ensures { result ≡ size_in spot }
+{
+    match spot {
+        Spot::Letter(_) => Size::Byte,
+        _ => Size::Word,
     }
 }
 
@@ -95,24 +117,32 @@ pub fn address(to: u32, home: Home) -> WordInstr
     }
 }
 
+pub fn load_sized(to: u32, address: u32, size: Size) -> WordInstr
+    ensures { result ≡ WordInstr.Load to address size }
+{
+    WordInstr::Load { to, address, size }
+}
+
 pub fn load(to: u32, address: u32) -> WordInstr
     ensures { result ≡ WordInstr.Load to address Size.Word }
 {
-    WordInstr::Load {
-        to,
+    load_sized(to, address, Size::Word)
+}
+
+pub fn store_sized(address: u32, from: u32, size: Size) -> WordInstr
+    ensures { result ≡ WordInstr.Store address from size }
+{
+    WordInstr::Store {
         address,
-        size: Size::Word,
+        from,
+        size,
     }
 }
 
 pub fn store(address: u32, from: u32) -> WordInstr
     ensures { result ≡ WordInstr.Store address from Size.Word }
 {
-    WordInstr::Store {
-        address,
-        from,
-        size: Size::Word,
-    }
+    store_sized(address, from, Size::Word)
 }
 
 pub fn constant(to: u32, value: u32) -> WordInstr
@@ -161,29 +191,38 @@ pub fn branch(test: Test, left: u32, right: u32, to: u32) -> WordInstr
     }
 }
 
-fn emit_lying(
+// To a variable.
+fn emit_loaded(
     code: &mut Items<WordInstr>,
     is_word: bool,
     bytes: u32,
-    to: Home,
-    from: Home,
+    to: u32,
+    from: Spot,
 ) -> Result<(), Memory>
-    ensures { OnOk result (Puts code.old code.new
-        (moved is_word bytes (Spot.Lies to) (Spot.Lies from))) }
+    ensures { OnOk result (Puts code.old code.new (moved is_word bytes (Spot.Held to) from)) }
 {
-    let onto = address(FIRST, to);
-    let there = address(SECOND, from);
-    if is_word {
-        return emit(
+    match from {
+        Spot::Held(u) => emit(code, &[WordInstr::Copy { to, from: u }]),
+        _ => emit(
             code,
-            &[onto, there, load(THIRD, SECOND), store(FIRST, THIRD)],
-        );
+            &[
+                address(SECOND, home_in(from)),
+                load_sized(to, SECOND, size_in(from)),
+            ],
+        ),
+    }
+}
+
+// From one address to another.
+fn emit_copied(code: &mut Items<WordInstr>, is_word: bool, bytes: u32) -> Result<(), Memory>
+    ensures { OnOk result (Puts code.old code.new (copied is_word bytes)) }
+{
+    if is_word {
+        return emit(code, &[load(THIRD, SECOND), store(FIRST, THIRD)]);
     }
     emit(
         code,
         &[
-            onto,
-            there,
             constant(THIRD, bytes),
             argument(0, FIRST),
             argument(1, SECOND),
@@ -191,6 +230,60 @@ fn emit_lying(
             call(FIRST, COPY),
         ],
     )
+}
+
+// To where a whole value lies.
+fn emit_whole(
+    code: &mut Items<WordInstr>,
+    is_word: bool,
+    bytes: u32,
+    to: Home,
+    from: Spot,
+) -> Result<(), Memory>
+    ensures { OnOk result (Puts code.old code.new (moved is_word bytes (Spot.Lies to) from)) }
+{
+    let onto = address(FIRST, to);
+    match from {
+        Spot::Held(u) => emit(code, &[onto, store(FIRST, u)]),
+        Spot::Lies(home) => {
+            emit(code, &[onto, address(SECOND, home)])?;
+            emit_copied(code, is_word, bytes)
+        }
+        Spot::Letter(home) => emit(
+            code,
+            &[
+                onto,
+                address(SECOND, home),
+                load_sized(THIRD, SECOND, Size::Byte),
+                store(FIRST, THIRD),
+            ],
+        ),
+    }
+}
+
+// To a character at an address.
+fn emit_letter(
+    code: &mut Items<WordInstr>,
+    is_word: bool,
+    bytes: u32,
+    to: Home,
+    from: Spot,
+) -> Result<(), Memory>
+    ensures { OnOk result (Puts code.old code.new (moved is_word bytes (Spot.Letter to) from)) }
+{
+    let onto = address(FIRST, to);
+    match from {
+        Spot::Held(u) => emit(code, &[onto, store_sized(FIRST, u, Size::Byte)]),
+        _ => emit(
+            code,
+            &[
+                onto,
+                address(SECOND, home_in(from)),
+                load_sized(THIRD, SECOND, size_in(from)),
+                store_sized(FIRST, THIRD, Size::Byte),
+            ],
+        ),
+    }
 }
 
 /// A value goes from one spot to another.
@@ -203,11 +296,10 @@ pub fn emit_moved(
 ) -> Result<(), Memory>
     ensures { OnOk result (Puts code.old code.new (moved is_word bytes to from)) }
 {
-    match (to, from) {
-        (Spot::Held(v), Spot::Held(u)) => emit(code, &[WordInstr::Copy { to: v, from: u }]),
-        (Spot::Held(v), Spot::Lies(from)) => emit(code, &[address(SECOND, from), load(v, SECOND)]),
-        (Spot::Lies(to), Spot::Held(u)) => emit(code, &[address(FIRST, to), store(FIRST, u)]),
-        (Spot::Lies(to), Spot::Lies(from)) => emit_lying(code, is_word, bytes, to, from),
+    match to {
+        Spot::Held(v) => emit_loaded(code, is_word, bytes, v, from),
+        Spot::Lies(home) => emit_whole(code, is_word, bytes, home, from),
+        Spot::Letter(home) => emit_letter(code, is_word, bytes, home, from),
     }
 }
 
@@ -257,6 +349,14 @@ pub fn emit_cleared(
                 call(FIRST, CLEAR),
             ],
         ),
+        Spot::Letter(home) => emit(
+            code,
+            &[
+                address(FIRST, home),
+                constant(SECOND, 0),
+                store_sized(FIRST, SECOND, Size::Byte),
+            ],
+        ),
     }
 }
 
@@ -301,6 +401,14 @@ pub fn emit_handed(
                 compute(FIRST, WordOperation::Add, FIRST, FOURTH),
                 compute(SECOND, WordOperation::Add, SECOND, FOURTH),
                 branch(Test::Unequal, SECOND, THIRD, label),
+            ],
+        ),
+        Spot::Letter(home) => emit(
+            code,
+            &[
+                address(SECOND, home),
+                load_sized(THIRD, SECOND, Size::Byte),
+                store(FIRST, THIRD),
             ],
         ),
     }

@@ -1,7 +1,7 @@
 // How many bytes values of the table's types have, and where their parts stand.
 ghost use Rattle.std.specs.Prelude.{◌≡◌, IfOk, option_map, slice_get, take};
 ghost use Rattle.word_lowering.specs.Stored.{bytes_at, bytes_all, base_within, base_at, entry_at};
-ghost use Rattle.word_lowering.specs.Stored.{is_word, part_at, count_in, element_bytes};
+ghost use Rattle.word_lowering.specs.Stored.{is_word, is_letter, part_at, count_in, element_bytes};
 ghost use Rattle.word_lowering.specs.Stored.{limit_in, limit_at, is_hooked, HaveForms};
 
 use crate::spots::sum;
@@ -89,6 +89,17 @@ pub fn is_word(types: &TypeTable, ty: TypeId) -> bool
             | TypeDef::Object { .. },
         ) => false,
         _ => true,
+    }
+}
+
+/// Whether it is one of 256 values.
+pub fn is_letter(types: &TypeTable, ty: TypeId) -> bool
+    ensures { result ≡ is_letter (entry_at types.now ty) }
+{
+    match entry_at(types, ty) {
+        Some(TypeDef::Char) => true,
+        Some(TypeDef::Enum { members, .. }) => members.as_slice().len() == 256,
+        _ => false,
     }
 }
 

@@ -5,15 +5,16 @@ ghost use Rattle.rv32_isa.specs.Words.{word_bytes};
 ghost use Rattle.word_lowering.specs.Emission.{Puts};
 ghost use Rattle.word_lowering.specs.Texts.{texts_of, texts_in, all_names};
 ghost use Rattle.word_lowering.specs.Texts.{joined_all, starts_from, names_before, members_of};
-ghost use Rattle.word_lowering.specs.Texts.{ends_from, names_at, texts_at, data_in, padded};
+ghost use Rattle.word_lowering.specs.Texts.{ends_from, names_at, texts_at, data_at, data_with, padded};
 
 use crate::aliases::text_of;
 use crate::handed::LEFT_HANDLE_AT;
-use crate::laid_texts::LaidTexts;
 use crate::spots::{more, sum};
 use arc_base::{Bytes, Memory};
 use flat_code::{BlockLine, CodeProc};
+use heap_memory::HEAP_DATA;
 use nim_types::{TypeDef, TypeId, TypeTable, WORD_BYTES};
+use rv32_isa::STATICS_AT;
 use std::alloc::Global;
 
 /// Where the line end stands.
@@ -25,6 +26,12 @@ pub const FALSE_AT: u32 = 8;
 /// The bytes of what each program has: these texts, and two handles that are made for operands.
 /// Globals stand behind them.
 pub const FIXED_BYTES: u32 = 44;
+
+/// The bytes of the handle in front of a text: how many bytes that has, and their address.
+pub const HANDLE_BYTES: u32 = 8;
+
+/// Where a program's data begins, behind that of the heap's routines.
+const PROGRAM_DATA_AT: u32 = STATICS_AT + 8 + HEAP_DATA;
 
 /// The word of which the first byte is a character that is written.
 const LETTER_BYTES: usize = 4;
@@ -125,7 +132,7 @@ pub fn names_before(types: &TypeTable, ty: TypeId) -> u32
 }
 
 #[tactic(auto, unfolding(rv32_isa::specs::Words::word_bytes))]
-fn push_word(bytes: &mut Bytes, n: u32) -> Result<(), Memory>
+pub fn push_word(bytes: &mut Bytes, n: u32) -> Result<(), Memory>
     ensures { OnOk result (bytes.new ≡ bytes.old ++ word_bytes n) }
 {
     bytes.append(&n.to_le_bytes())
@@ -220,15 +227,23 @@ pub fn texts_at(types: &TypeTable, globals_end: u32) -> u32
     at + (n + (4 - n % 4) % 4)
 }
 
-/// All data, where globals end at a byte.
+/// Their address.
+pub fn texts_address(types: &TypeTable, globals_end: u32) -> Result<u32, Memory>
+    requires { texts_at types.now globals_end ≤ 4294967295 }
+    ensures { IfOk result (λ at. at ≡ data_at + texts_at types.now globals_end) }
+{
+    sum(PROGRAM_DATA_AT, texts_at(types, globals_end))
+}
+
+/// All data, where globals end at a byte, with texts as they are laid out.
 pub fn data(
     alloc: Global,
     types: &TypeTable,
     globals_end: u32,
-    texts: &LaidTexts,
+    texts: &[u8],
 ) -> Result<Bytes, Memory>
     requires { length (joined_all (all_names types.now)) ≤ 4294967295 }
-    ensures { IfOk result (λ bytes. bytes ≡ padded (data_in types.now globals_end texts.now)) }
+    ensures { IfOk result (λ bytes. bytes ≡ padded (data_with types.now globals_end texts.now)) }
 {
     let mut bytes = Bytes::new(alloc);
     push_zeros(&mut bytes, LETTER_BYTES)?;
@@ -241,7 +256,7 @@ pub fn data(
     let mut names = Bytes::new(alloc);
     push_names(&mut names, types)?;
     push_padded(&mut bytes, names.as_slice())?;
-    bytes.append(texts.bytes())?;
+    bytes.append(texts)?;
     let missing = (4 - bytes.as_slice().len() % 4) % 4;
     push_zeros(&mut bytes, missing)?;
     Ok(bytes)

@@ -15,12 +15,14 @@ use crate::literals::{emit_lent_text, emit_text_copy};
 use crate::scope::Scope;
 use crate::spots::{
     Spot, address, constant, emit, emit_cleared, emit_clears, emit_moved, shifted, spot_of, store,
+    store_sized,
 };
 use crate::stored::part_at;
 use arc_base::{Items, Memory};
 use flat_code::{From, Piece};
 use nim_program::Use;
 use nim_types::TypeId;
+use rv32_isa::Size;
 use word_code::WordInstr;
 
 /// The word of a bool.
@@ -90,6 +92,14 @@ fn emit_constant_at(code: &mut Items<WordInstr>, to: Housed, pieces: &[Piece]) -
             emit_cleared(code, to.is_word, to.bytes, Spot::Lies(home))?;
             emit_pieces(code, home, pieces)
         }
+        Spot::Letter(home) => emit(
+            code,
+            &[
+                address(FIRST, home),
+                constant(SECOND, first_word(pieces)),
+                store_sized(FIRST, SECOND, Size::Byte),
+            ],
+        ),
     }
 }
 

@@ -61,7 +61,7 @@ returns-in-Ok-clause-answers c =
       said ∙ ap unless_large fits,
       λ small. has_code c.agreement.ensures.law c.agreement.ensures.pace program c.args.program.now.types c.args.plan.now c.in_ok-flat.flat c.in_ok-words.words
           c.in_ok-flat.ensures c.in_ok-words.ensures
-          (length image.code) c.in-Ok.ensures.is.from,
+          (length image.code) c.requires.typed c.in-Ok.ensures.is.from,
       refl,
     )
 
@@ -70,7 +70,7 @@ returns-in-Ok-clause-does c =
     let program = program_in c.args.program.now in
     does_program c.agreement.ensures.law c.agreement.ensures.pace program c.args.program.now.types c.args.plan.now c.in_ok-flat.flat c.in_ok-words.words
     c.in_ok-flat.ensures c.in_ok-words.ensures
-    c.args.heap c.requires.heap (image_of c.in-Ok.image) c.in-Ok.ensures.is
+    c.requires.typed c.args.heap c.requires.heap (image_of c.in-Ok.image) c.in-Ok.ensures.is
 
 -- ---- the note or the code is too large
 
@@ -81,7 +81,7 @@ returns-then-not-note_fits-clause-answers c =
     let image = c.in-Ok.image in
     let bytes = length image.code in
     let has = has_code c.agreement.ensures.law c.agreement.ensures.pace program c.args.program.now.types plan c.in_ok-flat.flat c.in_ok-words.words
-    c.in_ok-flat.ensures c.in_ok-words.ensures bytes c.in-Ok.ensures.is.from in
+    c.in_ok-flat.ensures c.in_ok-words.ensures bytes c.requires.typed c.in-Ok.ensures.is.from in
     let said = note_said program plan bytes c.note_fits.result c.in_ok-within_core.ensures image.code_most c.note_fits.ensures in (
       bytes,
       refuses (λ (image : RustImage). tt) (build_limits plan bytes program) TooLarge beginning c.too_large.result c.too_large.ensures
@@ -96,7 +96,7 @@ returns-in-Err-TooLarge-clause-answers c =
     let bytes = c.in-Err-TooLarge.field-0-0 in
     let large = subst (IsTooLarge c.in_ok-words.words) c.in-Err-TooLarge.field-0-is c.in-Err-TooLarge.ensures.fault in
     let has = has_code c.agreement.ensures.law c.agreement.ensures.pace program c.args.program.now.types c.args.plan.now c.in_ok-flat.flat c.in_ok-words.words
-    c.in_ok-flat.ensures c.in_ok-words.ensures bytes large.1 in (
+    c.in_ok-flat.ensures c.in_ok-words.ensures bytes c.requires.typed large.1 in (
       bytes,
       refuses (λ (image : RustImage). tt) (build_limits c.args.plan.now bytes program) TooLarge beginning c.too_large-in-Err-TooLarge.result
           c.too_large-in-Err-TooLarge.ensures

@@ -63,7 +63,7 @@ returns c =
     c.in_ok-owned.owned c.in_ok-blocks.blocks c.in_ok-words.words
     (both_of c.in_ok-runtimes.runtimes.heap c.in_ok-runtimes.runtimes.others c.in_ok-runtimes.ensures)
     (c.in_ok-owned.ensures c.requires.ordered) c.in_ok-blocks.ensures c.in_ok-words.ensures
-    c.owned_codes.ensures.units c.block_codes.ensures.units
+    c.owned_codes.ensures.units c.block_codes.ensures.units c.requires.table c.requires.forms
     (record {
       meaning = c.pruning.ensures.meaning;
       by_units = c.pruning.ensures.by_units;

@@ -1,6 +1,6 @@
 use Rattle.holders.proofs.territories.cells.Goals as goal
 use Rattle.holders.proofs.Working.{works_first, works_front}
-use Rattle.holders.proofs.Opening.{works_open}
+use Rattle.holders.proofs.Openings.{works_open}
 use Rattle.holders.proofs.Separating.{separated, differ_part}
 
 pub returns-clause-alone : goal.returns-clause-alone

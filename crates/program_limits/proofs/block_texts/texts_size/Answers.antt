@@ -9,4 +9,4 @@ returns c =
     let table = c.args.program.now.types in
     let ts = types_in table in
     let start = c.of_block.ensures ts [] c.no_texts-texts.ensures in
-    all_met c.of_procs.new.texts (program_under ts (facts_in table) c.args.program.now) c.if-texts.false (c.of_procs.ensures ts _ start)
+    all_met (program_under ts (facts_in table) c.args.program.now) c.all_size.result (c.all_size.ensures _ c.if-texts.false (c.of_procs.ensures ts _ start))

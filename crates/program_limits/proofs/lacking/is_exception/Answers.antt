@@ -1,7 +1,7 @@
 use Rattle.std.proofs.Common.{◌∙◌, ap, sym, Some}
 use Rattle.nim_types.specs.Table.{types_in}
 use Rattle.nim_meaning.specs.LeftOut.{is_exception_type}
-use Rattle.program_limits.proofs.TextTypes.{no_entry}
+use Rattle.program_limits.proofs.NoEntries.{no_entry}
 use Rattle.program_limits.proofs.lacking.is_exception.Goals as goal
 
 pub returns-in-Some : goal.returns-in-Some

@@ -24,7 +24,8 @@ returns-clause-fronts g c =
     let some = c.requires.some in
     let h = c.in_ok-count.ensures in
     let bound = h.bound in
-    let long : 0 < length c.take.new.into = omega arith in (
-      front_part _ _ _ _ _ _ c.take.new.into _ c.are_bytes.ensures.read bound (gave_take _ _ _ _ _ _ _ _ c.take.new.into h.stays _ h.bytes h.after_end h.gave) c.fill.ensures,
+    let long : 0 < length c.take.new.into = omega arith in
+    let given = gave_take _ _ _ _ _ _ _ _ c.take.new.into h.stays _ h.bytes h.after_end h.gave in (
+      front_part _ _ _ _ _ _ c.take.new.into _ c.are_bytes.ensures.read bound given c.fill.ensures,
       (h.cause.stays, (omega arith, λ none rest may. end_take _ _ _ _ c.take.new.into h.bytes none long (h.end none long) rest may)),
     )

@@ -10,7 +10,7 @@ use Rattle.std.specs.Option.{option_copied}
 use Rattle.word_lowering.specs.declared.texts.TheConstants.{FIXED_BYTES}
 use Rattle.word_lowering.specs.Lowered.{around_start}
 use Rattle.word_lowering.specs.Scope.{around_of, HasRoom}
-use Rattle.word_lowering.specs.Texts.{padded, data_in}
+use Rattle.word_lowering.specs.Texts.{padded, laid_texts, data_with}
 use Rattle.word_lowering.proofs.BlocksFollowed.{lowers_given}
 use Rattle.word_lowering.proofs.TextRoom.{texts_small, names_small, start_room}
 use Rattle.word_lowering.proofs.WholeCode.{last_there, layouts_length, both, whole_by}
@@ -19,7 +19,7 @@ use Rattle.word_lowering.proofs.lowering.words_of.Goals as goal
 pub all_procs-requires : goal.all_procs-requires
 all_procs-requires c =
     subst HasRoom
-    (sym (c.start_scope-x.ensures ∙ ap (λ ps. around_start c.args.types.now ps c.args.layouts.now c.in-Some.own.now) c.in_ok-texts.ensures))
+    (sym (c.start_scope-x.ensures ∙ ap (λ ps. around_start c.args.types.now ps c.args.layouts.now c.in-Some.own.now) c.in_ok-out.ensures.texts))
     (start_room c.args.types.now c.args.blocks.now c.requires.may c.as_slice-procs.result.now c.args.layouts.now c.in-Some.own.now
     c.as_slice-procs.ensures c.requires.layouts (sym c.in-Some.ensures.value) c.requires.forms)
 
@@ -45,6 +45,8 @@ unreachable-requires c =
 pub returns : goal.returns
 returns c =
     let all = c.push_hooks.new.all in
+    -- the texts as they are laid out
+    let texts = c.as_slice.ensures ∙ c.in_ok-out.ensures.bytes ∙ ap (λ n. laid_texts n c.as_slice-procs.result.now) c.in_ok-from.ensures in
     let laws : HookLaws = record {
       formed = c.hook_procedures.ensures.formed;
       unhooked = c.hook_procedures.ensures.unhooked;
@@ -58,10 +60,10 @@ returns c =
     whole_by c.args.types.now c.args.blocks.now c.as_slice-procs.result.now c.args.layouts.now
     c.in-Some.own.now c.in-Some-last.start.now (around_of c.start_scope-x.result) all c.in_ok-statics.statics
     c.as_slice-procs.ensures c.requires.layouts (sym c.in-Some.ensures.value) (sym c.in-Some-last.ensures.value)
-    (c.start_scope-x.ensures ∙ ap (λ ps. around_start c.args.types.now ps c.args.layouts.now c.in-Some.own.now) c.in_ok-texts.ensures)
+    (c.start_scope-x.ensures ∙ ap (λ ps. around_start c.args.types.now ps c.args.layouts.now c.in-Some.own.now) c.in_ok-out.ensures.texts)
     (c.in_ok-push_hooks.ensures
     ∙ ap (λ (l : List WordProc). l ++ procs_in c.args.types.now (proc_number (length c.as_slice-procs.result.now))) c.in_ok-all.ensures)
-    (c.in_ok-statics.ensures ∙ ap (λ ps. padded (data_in c.args.types.now c.in-Some.own.now.free.datum ps)) c.in_ok-texts.ensures)
+    (c.in_ok-statics.ensures ∙ ap (λ ts. padded (data_with c.args.types.now c.in-Some.own.now.free.datum ts)) texts)
     c.requires.may in
     -- the data are bytes, and so is each text in them
     let letters = subst AreBytes (c.as_slice-bytes.ensures ∙ ap (λ (w : WordCode). w.statics) given.is) c.are_bytes.ensures.below in
@@ -72,3 +74,8 @@ returns c =
     (law_by c.memories.ensures.sizes c.memories.ensures.bytes c.memories.ensures.regions c.memories.ensures.stores c.memories.ensures.here
     c.memories.ensures.elsewhere) laws
     (record { short = c.arrays_are_short.ensures; small = c.in_ok-elements_are_small.ensures }) letters few given
+
+pub texts_address-requires : goal.texts_address-requires
+texts_address-requires c =
+    texts_small c.args.types.now c.args.blocks.now c.requires.may c.as_slice-procs.result.now c.args.layouts.now c.in-Some.own.now
+    c.as_slice-procs.ensures c.requires.layouts (sym c.in-Some.ensures.value)

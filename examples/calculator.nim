@@ -1,4 +1,4 @@
-# A calculator: each line of standard input is an expression of numbers, + - * / and parentheses.
+# A calculator: each line of its input is an expression of numbers, + - * / and parentheses.
 type
   Reader = object
     text: string
